@@ -59,15 +59,15 @@ error_only words is (BadProxy text) known = let none : [] ≡ DisplayHelpOnMissi
 pub version_by_long : (program : Text) → AskForVersion (program ∷ codes "--version" ∷ [])
 version_by_long program =
     let words = program ∷ codes "--version" ∷ [] in
-    (no_command words DisplayVersion (long_fault program), version_only words (long_fault program))
+    (no_command words DisplayVersion (long_fault program), λ fault known. version_only words (long_fault program) fault known.0)
 
 pub version_by_short : (program : Text) → AskForVersion (program ∷ codes "-V" ∷ [])
 version_by_short program =
     let words = program ∷ codes "-V" ∷ [] in
-    (no_command words DisplayVersion (short_fault program), version_only words (short_fault program))
+    (no_command words DisplayVersion (short_fault program), λ fault known. version_only words (short_fault program) fault known.0)
 
 pub error_without_words : (program : Text) → AreUsageError (program ∷ [])
 error_without_words program = (
   no_command (program ∷ []) DisplayHelpOnMissingArgumentOrSubcommand (no_words_fault program),
-  error_only (program ∷ []) (no_words_fault program),
+  λ fault known. error_only (program ∷ []) (no_words_fault program) fault known.0,
 )

@@ -130,4 +130,4 @@ only_memory words command places (BadProxy text) asked known =
 pub faultless : (words : List Text) (command : Command) (places : Places) (fault : UsageFault) → AskFor words command places → IsFaultOf words fault
     → fault ≡ NoMemory
 faultless words command places fault asked known =
-    only_memory words command places fault asked (subst (λ (o : Option Text). IsFaultBy o words fault) asked.undashed known)
+    only_memory words command places fault asked (subst (λ (o : Option Text). IsFaultBy o words fault) asked.undashed known).0

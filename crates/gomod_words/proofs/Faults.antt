@@ -1,5 +1,5 @@
 -- What is known about the words at each fault.
-use Rattle.std.proofs.Common.{◌≡◌, ◌≢◌, ◌∙◌, Bool, List, [], Option, None, Result, Ok, Err, IfErr, IfOk, IsOk, true, sym, subst, inl, inr, refl}
+use Rattle.std.proofs.Common.{◌≡◌, ◌≢◌, ◌∙◌, ℕ, Bool, List, [], Option, None, Result, Ok, Err, IfErr, IfOk, IsOk, true, sym, subst, inl, inr, refl}
 use Rattle.clap.specs.Walk.{Row, Text}
 use Rattle.clap.specs.Simple.{App, HasMatchesOf, is_simple, subcommand_of, subcommand_rows_of}
 use Rattle.clap.specs.Faults.{fault_of, is_simple_and_free}
@@ -11,22 +11,24 @@ use Rattle.clap.specs.declared.parser.matches.ArgMatches.{ArgMatches}
 use Rattle.clap.specs.declared.error.kind.ErrorKind.{ErrorKind}
 use Rattle.clap.specs.declared.error.kind.ErrorKind.TheVariants.{DisplayHelp, DisplayVersion, OutOfMemory}
 use Rattle.gomod_words.specs.Dashed.{dashed_in}
-use Rattle.gomod_words.specs.Usage.{AreRecognized, AreAccepted, AskFor, AskForSomething, HasBadPath, HasBadProxy, IsEntriesFault, IsFaultBy, IsFaultOf, IsMeant, IsParserFault, IsReadFault, gomod_app}
+use Rattle.gomod_words.specs.Usage.{AreRecognized, AreAccepted, AskFor, AskForSomething, HasBadPath, HasBadProxy, IsEntriesFault, IsFaultBy, IsFaultOf, IsMeant, IsParserFault, IsReadFault, ShowsLine, ShowsUsage, gomod_app, usage_of}
 use Rattle.gomod_words.specs.declared.usage.Command.{Command}
 use Rattle.gomod_words.specs.declared.usage.Places.{Places}
 use Rattle.gomod_words.specs.declared.usage.UsageFault.{UsageFault}
 use Rattle.gomod_words.specs.declared.usage.UsageFault.TheVariants.{NoMemory, Help, Version, Line, BadPath, BadProxy}
 use Rattle.std.specs.String.{string_bytes}
+use Rattle.gomod_words.proofs.UsageLines.{shows_usage}
 
 -- if no operation has a dash, a fault of the words as the parser reads them is their fault
-pub read_fault : (words : List Text) (fault : UsageFault) → dashed_in words ≡ None → IsReadFault words fault → IsFaultOf words fault
-read_fault words fault undashed known = subst (λ (o : Option Text). IsFaultBy o words fault) (sym undashed) known
+pub read_fault : (words : List Text) (fault : UsageFault) → dashed_in words ≡ None → IsReadFault words fault → ShowsUsage words fault → IsFaultOf words fault
+read_fault words fault undashed known shows = subst (λ (o : Option Text). IsFaultBy o words fault) (sym undashed) (known, shows)
 
 -- the same of a result that may be a fault
-pub read_result : {T : Type 0} (words : List Text) (result : Result T UsageFault) → dashed_in words ≡ None → IfErr result (IsReadFault words)
-    → IfErr result (IsFaultOf words)
-read_result words (Ok value) undashed known = tt
-read_result words (Err fault) undashed known = read_fault words fault undashed known
+pub read_result : {T : Type 0} (words : List Text) (usage : List ℕ) (result : Result T UsageFault) → dashed_in words ≡ None → IfErr result (IsReadFault words)
+    → IfErr result (ShowsLine usage) → usage ≡ usage_of words → IfErr result (IsFaultOf words)
+read_result words usage (Ok value) undashed known shows same = tt
+read_result words usage (Err fault) undashed known shows same =
+    read_fault words fault undashed known (shows_usage words fault (subst (λ (u : List ℕ). ShowsLine u fault) same shows))
 
 -- a fault of the entries is a fault of the words
 entries_fault : (words : List Text) (entered : Option (Text × List Row)) (fault : UsageFault) → AreAccepted words

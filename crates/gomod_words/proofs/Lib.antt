@@ -4,3 +4,4 @@ mod Exclusion
 mod Faults
 mod Limits
 mod Queries
+mod UsageLines

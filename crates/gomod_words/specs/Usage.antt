@@ -1,6 +1,6 @@
 -- What the words of a command line mean: the table of commands that the parser is given, the command that its
 -- entries stand for, and the faults of words that have no meaning.
-use Rattle.std.specs.Prelude.{◌≡◌, ◌≢◌, ◌⊎◌, ◌||◌, ◌∷◌, ◌++◌, not, ℕ, Bool, IfSome, List, [], Option, Some, None, true, false, codes, encode_utf8_all, flat_map, is_some, map, option_map, unwrap_or, String}
+use Rattle.std.specs.Prelude.{◌≡◌, ◌≢◌, ◌⊎◌, ◌||◌, ◌∷◌, ◌++◌, not, ℕ, Bool, IfSome, List, [], Option, Some, None, true, false, codes, encode_utf8_all, flat_map, is_some, map, option_map, unwrap_or, if◌then◌else◌, String}
 use Rattle.std.specs.Char.Escape.{escape_ascii}
 use Rattle.std.specs.List.{list_all}
 use Rattle.std.specs.Option.{option_map_or}
@@ -248,6 +248,25 @@ IsReadFault words (Line text) =
 IsReadFault words (BadPath text) = AreAccepted words × HasBadPath (subcommand_of gomod_app words) (string_bytes text)
 IsReadFault words (BadProxy text) = AreAccepted words × HasBadProxy (subcommand_of gomod_app words) (string_bytes text)
 
+-- the usage line of the command with this name, or that of the program if there is no such command
+abbrev pub usage_line : Text → List ℕ
+usage_line name =
+    if bytes_eq name (codes "fmt") then codes "gomod fmt <FILE>"
+    else (if bytes_eq name (codes "edit") then codes "gomod edit <FILE> <OP>..."
+    else (if bytes_eq name (codes "graph") then codes "gomod graph [OPTIONS] --proxy <DIR>[,DIR|DIR..]"
+    else (if bytes_eq name (codes "list") then codes "gomod list [OPTIONS] --proxy <DIR>[,DIR|DIR..]"
+    else (if bytes_eq name (codes "chain") then codes "gomod chain [OPTIONS] --proxy <DIR>[,DIR|DIR..] <PATH>"
+    else (if bytes_eq name (codes "versions") then codes "gomod versions [OPTIONS] <PATH>"
+    else codes "gomod <COMMAND>")))))
+
+-- The usage line of the words of a command line: that of the command that they name, first or after `help`. The first
+-- word is the program's name.
+abbrev pub usage_of : List Text → List ℕ
+usage_of (program ∷ first ∷ second ∷ words) =
+    if bytes_eq first (codes "help") then usage_line second else usage_line first
+usage_of (program ∷ first ∷ []) = usage_line first
+usage_of _ = codes "gomod <COMMAND>"
+
 -- how a usage error reads: what is wrong, the usage line, and how to get help
 abbrev pub usage_text : List ℕ → List ℕ → List ℕ
 usage_text message usage =
@@ -273,16 +292,25 @@ words_after _ = []
 
 -- the usage error of an operation that was written with a dash in front, among these words
 abbrev pub dashed_text : List ℕ → List Text → List ℕ
-dashed_text operation words =
-    usage_text (dashed_message operation (words_after words)) (codes "gomod edit <FILE> <OP>...")
+dashed_text operation words = usage_text (dashed_message operation (words_after words)) (usage_of words)
+
+-- a usage error shows what is wrong, and this usage line
+abbrev pub ShowsLine : List ℕ → UsageFault → Type 0
+ShowsLine usage (Line text) = (message : List ℕ) × (string_bytes text ≡ usage_text message usage)
+ShowsLine usage _ = Unit {0}
+
+-- A usage error of these words shows their usage line. Without a word after the program's name it is the help.
+abbrev pub ShowsUsage : List Text → UsageFault → Type 0
+ShowsUsage (program ∷ first ∷ words) fault = ShowsLine (usage_of (program ∷ first ∷ words)) fault
+ShowsUsage _ fault = Unit {0}
 
 -- what a fault says about words with this operation with a dash in front, or with none
 abbrev pub IsFaultBy : Option Text → List Text → UsageFault → Type 0
 IsFaultBy (Some operation) words fault = IsLineOf (dashed_text operation words) fault
-IsFaultBy None words fault = IsReadFault words fault
+IsFaultBy None words fault = IsReadFault words fault × ShowsUsage words fault
 
 -- What a fault says about the words: an operation of `edit` has a dash in front; or none has, and the parser reads the
--- words.
+-- words. A usage error shows the usage line of the command that the words name.
 abbrev pub IsFaultOf : List Text → UsageFault → Type 0
 IsFaultOf words fault = IsFaultBy (dashed_in words) words fault
 

@@ -1,8 +1,8 @@
 //! What to type instead of words that the parser refuses: for the go command's words for the same thing, and for
 //! options and operands that a command does not take.
 
-ghost use Rattle.std.specs.Prelude.{◌≡◌, true};
-ghost use Rattle.gomod_words.specs.Usage.{is_line_or_memory};
+ghost use Rattle.std.specs.Prelude.{◌≡◌, map, true};
+ghost use Rattle.gomod_words.specs.Usage.{ShowsLine, is_line_or_memory, usage_of};
 
 use crate::dashed::{begins_with_dash, edit_words, free_word, without_dashes};
 use crate::help::{TRY_HELP, usage_of};
@@ -29,7 +29,7 @@ const ABOUT_GO: &str =
 /// What to type, unless nothing is known that works or memory ran out.
 type Tip = Result<Option<String>, AllocError>;
 
-/// The parser's text on words that it refuses.
+/// What the parser's text says of words that it refuses, without its usage line: `usage_of` says which one is shown.
 #[derive(Clone, Copy)]
 struct Refusal<'t> {
     /// What is wrong.
@@ -37,26 +37,28 @@ struct Refusal<'t> {
     /// The names that are similar to a word, if there are any. The parser's other tips are left out, since what they
     /// say does not work.
     similar: Option<&'t str>,
-    /// The usage line.
-    usage: &'t str,
 }
 
 /// The usage error for words that the parser refuses with an error of this kind and this text. It says what to type,
 /// if that is known.
+#[tactic(auto, using(crate::proofs::UsageLines::line_shows))]
 pub(crate) fn advised(alloc: Global, kind: ErrorKind, text: &str, words: &[&str]) -> UsageFault
-    ensures { is_line_or_memory result ≡ true }
+    ensures kind { is_line_or_memory result ≡ true }
+    ensures usage { ShowsLine (usage_of (map (λ word. word.now) words.now)) result }
 {
-    let refusal = refusal_in(text, words);
+    let refusal = refusal_in(text);
     match tip_for(alloc, kind, refusal, words) {
-        Ok(Some(tip)) => with_tip(alloc, refusal.message, tip.as_str(), refusal.usage),
-        Ok(None) => line(alloc, refusal.message, refusal.usage),
+        Ok(Some(tip)) => with_tip(alloc, refusal.message, tip.as_str(), usage_of(words)),
+        Ok(None) => line(alloc, refusal.message, usage_of(words)),
         Err(_) => UsageFault::NoMemory,
     }
 }
 
 /// The usage error with a tip.
+#[tactic(auto, using(crate::proofs::UsageLines::line_shows))]
 fn with_tip(alloc: Global, message: &str, tip: &str, usage: &str) -> UsageFault
-    ensures { is_line_or_memory result ≡ true }
+    ensures kind { is_line_or_memory result ≡ true }
+    ensures usage { ShowsLine usage.now result }
 {
     match format!(in alloc; "{message}\n\n  tip: {tip}") {
         Ok(message) => line(alloc, message.as_str(), usage),
@@ -64,26 +66,26 @@ fn with_tip(alloc: Global, message: &str, tip: &str, usage: &str) -> UsageFault
     }
 }
 
-/// The parts of the parser's text. It has no usage line if an option has no value.
-fn refusal_in<'t>(text: &'t str, words: &[&str]) -> Refusal<'t> {
+/// The parts of the parser's text.
+fn refusal_in(text: &str) -> Refusal<'_> {
     let front = before_usage(text);
-    let usage = usage_in(text, words);
-    refusal_of(front, usage)
+    match front.split_once("\n\n  tip: ") {
+        Some((message, tips)) => Refusal {
+            message,
+            similar: similar_in(tips),
+        },
+        None => Refusal {
+            message: front,
+            similar: None,
+        },
+    }
 }
 
-/// What the parser's text says before the usage line.
+/// What the parser's text says before the usage line. It has none if an option has no value.
 fn before_usage(text: &str) -> &str {
     match text.split_once(USAGE) {
         Some((front, _)) => front,
         None => before_help(text),
-    }
-}
-
-/// The usage line of the parser's text, or else that of the command that the words name.
-fn usage_in<'t>(text: &'t str, words: &[&str]) -> &'t str {
-    match text.split_once(USAGE) {
-        Some((_, end)) => before_help(end),
-        None => usage_of(words),
     }
 }
 
@@ -92,22 +94,6 @@ fn before_help(text: &str) -> &str {
     match text.strip_suffix(TRY_HELP) {
         Some(front) => front,
         None => text,
-    }
-}
-
-/// The parts of the parser's text before the usage line.
-fn refusal_of<'t>(front: &'t str, usage: &'t str) -> Refusal<'t> {
-    match front.split_once("\n\n  tip: ") {
-        Some((message, tips)) => Refusal {
-            message,
-            similar: similar_in(tips),
-            usage,
-        },
-        None => Refusal {
-            message: front,
-            similar: None,
-            usage,
-        },
     }
 }
 

@@ -9,7 +9,7 @@ ghost use Rattle.clap.specs.Lexer.{strip_byte, without_minus};
 ghost use Rattle.gomod_words.specs.Usage.{IsLineOf, dashed_message, dashed_text, words_after};
 ghost use Rattle.gomod_words.specs.Dashed.{begins_with_dash, dashed_in, edit_words, free_from, is_adding, is_dropping, is_free, is_operation, is_setting, names_value, operation_in, operations_in, takes_value, without_dashes};
 
-use crate::help::EDIT_USAGE;
+use crate::help::usage_of;
 use crate::typed::push_all_typed;
 use crate::usage::{UsageFault, line};
 use std::alloc::{AllocError, Global};
@@ -199,7 +199,7 @@ pub(crate) fn dashed(alloc: Global, operation: &str, words: &[&str]) -> UsageFau
     ensures { IsLineOf (dashed_text operation.now (map (λ word. word.now) words.now)) result }
 {
     match dashed_message(alloc, operation, words_after(words)) {
-        Ok(message) => line(alloc, message.as_str(), EDIT_USAGE),
+        Ok(message) => line(alloc, message.as_str(), usage_of(words)),
         Err(_) => UsageFault::NoMemory,
     }
 }

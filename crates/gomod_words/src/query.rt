@@ -1,14 +1,13 @@
 //! The meaning of the words of `graph`, `list` and `chain`. The three share the options that say where the
 //! module graph comes from, so these are read in one place.
 
-ghost use Rattle.std.specs.Prelude.{◌≡◌, IfErr, IfOk, IfSome, Some, codes, option_map, true, unwrap_or};
+ghost use Rattle.std.specs.Prelude.{◌≡◌, ℕ, IfErr, IfOk, IfSome, List, Some, codes, option_map, true, unwrap_or};
 ghost use Rattle.std.specs.String.{string_bytes};
 ghost use Rattle.clap.specs.Words.{first_of, found_of, rows_of};
 ghost use Rattle.gm_name.specs.Path.{IsPath};
 ghost use Rattle.gomod_words.specs.Limits.{limit_of};
-ghost use Rattle.gomod_words.specs.Usage.{ArePlaces, IsAfterFault, IsEntriesFault, IsLimit, IsLimitFault, IsPlacesFault, IsProxy, Means, is_line_or_memory};
+ghost use Rattle.gomod_words.specs.Usage.{ArePlaces, IsAfterFault, IsEntriesFault, IsLimit, IsLimitFault, IsPlacesFault, IsProxy, Means, ShowsLine, is_line_or_memory};
 
-use crate::help::{CHAIN_USAGE, GRAPH_USAGE, LIST_USAGE};
 use crate::usage::{Command, Places, UsageFault, line, read_path, read_proxy, value_of};
 use clap::ArgMatches;
 use gm_name::{ModPath, has_only_digits};
@@ -31,29 +30,36 @@ fn limit_in(text: &str) -> Option<u32>
 }
 
 /// The fault for a value of `--limit` that is not a valid number of rows.
-fn bad_limit(alloc: Global, text: &str) -> UsageFault
-    ensures { is_line_or_memory result ≡ true }
+#[tactic(auto, using(crate::proofs::UsageLines::line_shows))]
+fn bad_limit(alloc: Global, text: &str, usage: &str) -> UsageFault
+    ensures kind { is_line_or_memory result ≡ true }
+    ensures usage { ShowsLine usage.now result }
 {
     match format!(in alloc;
         "error: invalid value '{text}' for '--limit <N>': not a number from 1 to 4294967295"
     ) {
-        Ok(message) => line(alloc, message.as_str(), LIST_USAGE),
+        Ok(message) => line(alloc, message.as_str(), usage),
         Err(_) => UsageFault::NoMemory,
     }
 }
 
 /// The number of rows that `--limit` asks for, or `None` if the option is not given. An invalid number is
 /// refused with `Line`.
-fn limit_given<'a>(alloc: Global, found: &ArgMatches<'a>) -> Result<Option<u32>, UsageFault>
+fn limit_given<'a>(
+    alloc: Global,
+    found: &ArgMatches<'a>,
+    usage: &str,
+) -> Result<Option<u32>, UsageFault>
     ensures limit { IfOk result (IsLimit (first_of (codes "limit") (rows_of (found_of found.now)))) }
     ensures fault { IfErr result (IsLimitFault (first_of (codes "limit") (rows_of (found_of found.now)))) }
+    ensures usage { IfErr result (ShowsLine usage.now) }
 {
     let Some(text) = value_of(found, "limit") else {
         return Ok(None);
     };
     match limit_in(text) {
         Some(limit) => Ok(Some(limit)),
-        None => Err(bad_limit(alloc, text)),
+        None => Err(bad_limit(alloc, text, usage)),
     }
 }
 
@@ -63,6 +69,7 @@ fn after_given<'a>(alloc: Global, found: &ArgMatches<'a>) -> Result<Option<ModPa
     ensures after { IfOk result (λ after. (first_of (codes "after") (rows_of (found_of found.now)) ≡ after)
         × IfSome after IsPath) }
     ensures fault { IfErr result (IsAfterFault (first_of (codes "after") (rows_of (found_of found.now)))) }
+    ensures usage { (usage : List ℕ) → IfErr result (ShowsLine usage) }
 {
     match value_of(found, "after") {
         Some(text) => Ok(Some(read_path(alloc, text)?)),
@@ -80,6 +87,7 @@ fn proxy_given<'a>(
     ensures proxy { IfOk result (λ list.
         IsProxy (first_of (codes "proxy") (rows_of (found_of found.now))) (Some list)) }
     ensures fault { IfErr result (IsPlacesFault (first_of (codes "proxy") (rows_of (found_of found.now)))) }
+    ensures usage { IfErr result (ShowsLine usage.now) }
 {
     match value_of(found, "proxy") {
         Some(value) => read_proxy(alloc, value),
@@ -113,6 +121,7 @@ fn sums_given<'a>(alloc: Global, found: &ArgMatches<'a>) -> Result<Option<String
 fn read_places<'a>(alloc: Global, found: &ArgMatches<'a>, usage: &str) -> Result<Places, UsageFault>
     ensures places { IfOk result (ArePlaces (rows_of (found_of found.now))) }
     ensures fault { IfErr result (IsPlacesFault (first_of (codes "proxy") (rows_of (found_of found.now)))) }
+    ensures usage { IfErr result (ShowsLine usage.now) }
 {
     let proxy = proxy_given(alloc, found, usage)?;
     let main = main_given(alloc, found)?;
@@ -128,11 +137,13 @@ fn read_places<'a>(alloc: Global, found: &ArgMatches<'a>, usage: &str) -> Result
 pub(crate) fn read_graph<'a>(
     alloc: Global,
     found: &ArgMatches<'a>,
+    usage: &str,
 ) -> Result<(Command, Places), UsageFault>
     ensures read { IfOk result (λ read. Means (codes "graph") (rows_of (found_of found.now)) read.0 read.1) }
     ensures fault { IfErr result (IsEntriesFault (Some (codes "graph", rows_of (found_of found.now)))) }
+    ensures usage { IfErr result (ShowsLine usage.now) }
 {
-    let places = read_places(alloc, found, GRAPH_USAGE)?;
+    let places = read_places(alloc, found, usage)?;
     Ok((Command::Graph, places))
 }
 
@@ -142,13 +153,15 @@ pub(crate) fn read_graph<'a>(
 pub(crate) fn read_list<'a>(
     alloc: Global,
     found: &ArgMatches<'a>,
+    usage: &str,
 ) -> Result<(Command, Places), UsageFault>
     ensures read { IfOk result (λ read. Means (codes "list") (rows_of (found_of found.now)) read.0 read.1) }
     ensures fault { IfErr result (IsEntriesFault (Some (codes "list", rows_of (found_of found.now)))) }
+    ensures usage { IfErr result (ShowsLine usage.now) }
 {
-    let limit = limit_given(alloc, found)?;
+    let limit = limit_given(alloc, found, usage)?;
     let after = after_given(alloc, found)?;
-    let places = read_places(alloc, found, LIST_USAGE)?;
+    let places = read_places(alloc, found, usage)?;
     Ok((Command::List { after, limit }, places))
 }
 
@@ -156,14 +169,16 @@ pub(crate) fn read_list<'a>(
 pub(crate) fn read_chain<'a>(
     alloc: Global,
     found: &ArgMatches<'a>,
+    usage: &str,
 ) -> Result<(Command, Places), UsageFault>
     ensures read { IfOk result (λ read. Means (codes "chain") (rows_of (found_of found.now)) read.0 read.1) }
     ensures fault { IfErr result (IsEntriesFault (Some (codes "chain", rows_of (found_of found.now)))) }
+    ensures usage { IfErr result (ShowsLine usage.now) }
 {
     let Some(text) = value_of(found, "path") else {
-        return Err(line(alloc, "error: no PATH given", CHAIN_USAGE));
+        return Err(line(alloc, "error: no PATH given", usage));
     };
     let path = read_path(alloc, text)?;
-    let places = read_places(alloc, found, CHAIN_USAGE)?;
+    let places = read_places(alloc, found, usage)?;
     Ok((Command::Chain(path), places))
 }

@@ -3,19 +3,19 @@
 //! Every usage error reads the same, whether the parser finds it or this crate: what is wrong, the usage line, and how
 //! to get help.
 
-ghost use Rattle.std.specs.Prelude.{◌≡◌, ◌++◌, IfErr, IfOk, IsOk, OnOk, Some, codes, encode_utf8_all, false, map, true};
+ghost use Rattle.std.specs.Prelude.{◌≡◌, ◌++◌, ℕ, IfErr, IfOk, IsOk, List, OnOk, Some, codes, encode_utf8_all, false, map, true};
 ghost use Rattle.std.specs.Option.{option_copied, option_map};
 ghost use Rattle.clap.specs.Words.{all_of, first_of, found_of, rows_of, subcommand_rows_of};
 ghost use Rattle.std.specs.Char.Escape.{escape_ascii};
 ghost use Rattle.std.specs.String.{string_bytes};
-ghost use Rattle.gomod_words.specs.Usage.{AskFor, AskForSomething, IsEntriesFault, IsFaultOf, IsLineOf, IsMeant, IsParserFault, IsPathFault, IsProxy, IsProxyFault, IsVersionLine, Means, is_given, is_line_or_memory, shown_bytes, texts_in, unreadable_text, usage_text};
+ghost use Rattle.gomod_words.specs.Usage.{AskFor, AskForSomething, IsEntriesFault, IsFaultOf, IsLineOf, IsMeant, IsParserFault, IsPathFault, IsProxy, IsProxyFault, IsVersionLine, Means, ShowsLine, ShowsUsage, is_given, is_line_or_memory, shown_bytes, texts_in, unreadable_text, usage_text};
 ghost use Rattle.gm_name.specs.Path.{IsPath};
 ghost use Rattle.gomod_words.specs.declared.usage.UsageFault.TheVariants.{NoMemory};
 
 use crate::advice::advised;
 use crate::command::gomod_command;
 use crate::dashed::{dashed, dashed_in};
-use crate::help::{EDIT_USAGE, FMT_USAGE, GOMOD_USAGE, TRY_HELP, VERSION, VERSIONS_USAGE};
+use crate::help::{GOMOD_USAGE, TRY_HELP, VERSION, usage_of};
 use crate::query::{read_chain, read_graph, read_list};
 use clap::ArgMatches;
 use clap::error::ErrorKind;
@@ -108,11 +108,12 @@ impl From<AllocError> for UsageFault {
 /// - `Version` if the version is asked for, by `-V` or `--version` as the first word. It holds the line that says
 ///   it, and the kit that the program is proved with.
 /// - `Line` if the words do not match any command, or a command has too few or too many words. It holds the
-///   parser's message. It also comes if the value of `--limit` is not one or more ASCII digits that form a
+///   parser's message, and the usage line of the command that the words name, first or after `help`, or otherwise
+///   that of the program. It also comes if the value of `--limit` is not one or more ASCII digits that form a
 ///   number from 1 to 4,294,967,295. Without a word after the program's name it holds the help. It comes before
-///   anything else if the first word after `edit` that begins with a dash and is more than that is an operation after
-///   one dash or two, which has none: the name of one, `=` and more. The text then has the command to type. Otherwise
-///   it has a command to type only if that asks for a command, or if it is one of go.
+///   anything else if the first word after `edit` that begins with a dash and is more than that is an operation
+///   after one dash or two, which has none: the name of one, `=` and more. The text then has the command to type.
+///   Otherwise it has a command to type only if that asks for a command, or if it is one of go.
 /// - `BadPath` if all of that is valid, but PATH of `versions` or `chain`, or the value of `--after` of
 ///   `list`, is not a module path. It holds that text.
 /// - `BadProxy` if all of that is valid, but the value of `--proxy` has an empty piece between its `,` and
@@ -131,7 +132,7 @@ pub fn read_words<'a>(alloc: Global, words: &'a [&'a str]) -> Result<(Command, P
     }
     let command = gomod_command(alloc)?;
     match command.try_get_matches_from(words) {
-        Ok(matches) => read_matches(alloc, &matches),
+        Ok(matches) => read_matches(alloc, &matches, usage_of(words)),
         Err(error) => Err(fault_of(alloc, &error, words)),
     }
 }
@@ -145,7 +146,7 @@ pub(crate) fn is_command<'a>(alloc: Global, words: &'a [&'a str]) -> Result<bool
     }
     let command = gomod_command(alloc)?;
     match command.try_get_matches_from(words) {
-        Ok(matches) => is_read(read_matches(alloc, &matches)),
+        Ok(matches) => is_read(read_matches(alloc, &matches, usage_of(words))),
         Err(error) => is_taken(error.kind()),
     }
 }
@@ -172,9 +173,10 @@ fn is_taken(kind: ErrorKind) -> Result<bool, AllocError>
 }
 
 /// The fault that a parser's error on these words stands for. The error must be turned into text here, so memory can
-/// run out.
+/// run out. Without a word after the program's name the text is the help.
 fn fault_of(alloc: Global, error: &clap::Error, words: &[&str]) -> UsageFault
-    ensures { IsParserFault error.now result }
+    ensures fault { IsParserFault error.now result }
+    ensures usage { ShowsUsage (map (λ word. word.now) words.now) result }
 {
     let kind = error.kind();
     if matches!(kind, ErrorKind::OutOfMemory) {
@@ -188,10 +190,10 @@ fn fault_of(alloc: Global, error: &clap::Error, words: &[&str]) -> UsageFault
     };
     if matches!(kind, ErrorKind::DisplayHelp) {
         UsageFault::Help(text)
-    } else if text.as_str().starts_with("error: ") {
-        advised(alloc, kind, text.as_str(), words)
-    } else {
+    } else if words.len() < 2 {
         UsageFault::Line(text)
+    } else {
+        advised(alloc, kind, text.as_str(), words)
     }
 }
 
@@ -206,44 +208,50 @@ fn version(alloc: Global) -> UsageFault
 }
 
 /// What the matches of a parse mean. The parser accepts no words without a command, but its types can't say so, and
-/// therefore these are refused with `Line`.
+/// therefore these are refused with `Line`. A usage error shows this usage line.
 fn read_matches<'a>(
     alloc: Global,
     matches: &ArgMatches<'a>,
+    usage: &str,
 ) -> Result<(Command, Places), UsageFault>
     ensures read { IfOk result (λ read. IsMeant (subcommand_rows_of matches.now) read.0 read.1) }
     ensures fault { IfErr result (IsEntriesFault (subcommand_rows_of matches.now)) }
+    ensures usage { IfErr result (ShowsLine usage.now) }
 {
     match matches.subcommand() {
-        Some((name, found)) => read_command(alloc, name, found),
-        None => Err(no_command(alloc)),
+        Some((name, found)) => read_command(alloc, name, found, usage),
+        None => Err(no_command(alloc, usage)),
     }
 }
 
 /// The refusal of words without a command.
-fn no_command(alloc: Global) -> UsageFault
-    ensures { is_line_or_memory result ≡ true }
+fn no_command(alloc: Global, usage: &str) -> UsageFault
+    ensures kind { is_line_or_memory result ≡ true }
+    ensures usage { ShowsLine usage.now result }
 {
-    line(alloc, "error: no command given", GOMOD_USAGE)
+    line(alloc, "error: no command given", usage)
 }
 
-/// What the words of the command with this name mean. Another name than the parser knows is refused with `Line`.
+/// What the words of the command with this name mean. Another name than the parser knows is refused with `Line`. A
+/// usage error shows this usage line.
 fn read_command<'a>(
     alloc: Global,
     name: &str,
     found: &ArgMatches<'a>,
+    usage: &str,
 ) -> Result<(Command, Places), UsageFault>
     ensures read { IfOk result (λ read. Means name.now (rows_of (found_of found.now)) read.0 read.1) }
     ensures fault { IfErr result (IsEntriesFault (Some (name.now, rows_of (found_of found.now)))) }
+    ensures usage { IfErr result (ShowsLine usage.now) }
 {
     match name {
-        "fmt" => read_fmt(alloc, found),
-        "edit" => read_edit(alloc, found),
-        "versions" => read_versions(alloc, found),
-        "graph" => read_graph(alloc, found),
-        "list" => read_list(alloc, found),
-        "chain" => read_chain(alloc, found),
-        _ => Err(no_command(alloc)),
+        "fmt" => read_fmt(alloc, found, usage),
+        "edit" => read_edit(alloc, found, usage),
+        "versions" => read_versions(alloc, found, usage),
+        "graph" => read_graph(alloc, found, usage),
+        "list" => read_list(alloc, found, usage),
+        "chain" => read_chain(alloc, found, usage),
+        _ => Err(no_command(alloc, usage)),
     }
 }
 
@@ -276,6 +284,7 @@ fn is_given<'a>(found: &ArgMatches<'a>, flag: &str) -> bool
 pub(crate) fn read_path(alloc: Global, text: &str) -> Result<ModPath, UsageFault>
     ensures path { IfOk result (λ path. (path ≡ text.now) × IsPath text.now) }
     ensures fault { IfErr result (IsPathFault text.now) }
+    ensures usage { (usage : List ℕ) → IfErr result (ShowsLine usage) }
 {
     match ModPath::parse(alloc, text) {
         Ok(path) => Ok(path),
@@ -288,6 +297,7 @@ pub(crate) fn read_path(alloc: Global, text: &str) -> Result<ModPath, UsageFault
 pub(crate) fn read_proxy(alloc: Global, value: &str) -> Result<ProxyList, UsageFault>
     ensures proxy { IfOk result (λ list. IsProxy (Some value.now) (Some list)) }
     ensures fault { IfErr result (IsProxyFault (Some value.now)) }
+    ensures usage { (usage : List ℕ) → IfErr result (ShowsLine usage) }
 {
     match ProxyList::read(alloc, value) {
         Ok(list) => Ok(list),
@@ -301,6 +311,7 @@ pub(crate) fn read_proxy(alloc: Global, value: &str) -> Result<ProxyList, UsageF
 fn proxy_of<'a>(alloc: Global, found: &ArgMatches<'a>) -> Result<Option<ProxyList>, UsageFault>
     ensures proxy { IfOk result (IsProxy (first_of (codes "proxy") (rows_of (found_of found.now)))) }
     ensures fault { IfErr result (IsProxyFault (first_of (codes "proxy") (rows_of (found_of found.now)))) }
+    ensures usage { (usage : List ℕ) → IfErr result (ShowsLine usage) }
 {
     match value_of(found, "proxy") {
         Some(value) => Ok(Some(read_proxy(alloc, value)?)),
@@ -309,12 +320,17 @@ fn proxy_of<'a>(alloc: Global, found: &ArgMatches<'a>) -> Result<Option<ProxyLis
 }
 
 /// The command and the places that the words of `fmt` stand for.
-fn read_fmt<'a>(alloc: Global, found: &ArgMatches<'a>) -> Result<(Command, Places), UsageFault>
+fn read_fmt<'a>(
+    alloc: Global,
+    found: &ArgMatches<'a>,
+    usage: &str,
+) -> Result<(Command, Places), UsageFault>
     ensures read { IfOk result (λ read. Means (codes "fmt") (rows_of (found_of found.now)) read.0 read.1) }
     ensures fault { IfErr result (IsEntriesFault (Some (codes "fmt", rows_of (found_of found.now)))) }
+    ensures usage { IfErr result (ShowsLine usage.now) }
 {
     let Some(file) = value_of(found, "file") else {
-        return Err(line(alloc, "error: no FILE given", FMT_USAGE));
+        return Err(line(alloc, "error: no FILE given", usage));
     };
     let places = Places {
         main: String::from_str(alloc, file)?,
@@ -336,15 +352,20 @@ fn copied(alloc: Global, words: &[&str]) -> Result<Vec<String>, AllocError>
 }
 
 /// The command and the places that the words of `edit` stand for. The operations are not parsed here.
-fn read_edit<'a>(alloc: Global, found: &ArgMatches<'a>) -> Result<(Command, Places), UsageFault>
+fn read_edit<'a>(
+    alloc: Global,
+    found: &ArgMatches<'a>,
+    usage: &str,
+) -> Result<(Command, Places), UsageFault>
     ensures read { IfOk result (λ read. Means (codes "edit") (rows_of (found_of found.now)) read.0 read.1) }
     ensures fault { IfErr result (IsEntriesFault (Some (codes "edit", rows_of (found_of found.now)))) }
+    ensures usage { IfErr result (ShowsLine usage.now) }
 {
     let Some(file) = value_of(found, "file") else {
-        return Err(line(alloc, "error: no FILE given", EDIT_USAGE));
+        return Err(line(alloc, "error: no FILE given", usage));
     };
     let Some(operations) = values_of(found, "op") else {
-        return Err(line(alloc, "error: no OP given", EDIT_USAGE));
+        return Err(line(alloc, "error: no OP given", usage));
     };
     let operations = copied(alloc, operations)?;
     let main = String::from_str(alloc, file)?;
@@ -358,12 +379,17 @@ fn read_edit<'a>(alloc: Global, found: &ArgMatches<'a>) -> Result<(Command, Plac
 
 /// The command and the places that the words of `versions` stand for. Without `--proxy` all versions are
 /// asked for: there is no file that could retract any.
-fn read_versions<'a>(alloc: Global, found: &ArgMatches<'a>) -> Result<(Command, Places), UsageFault>
+fn read_versions<'a>(
+    alloc: Global,
+    found: &ArgMatches<'a>,
+    usage: &str,
+) -> Result<(Command, Places), UsageFault>
     ensures read { IfOk result (λ read. Means (codes "versions") (rows_of (found_of found.now)) read.0 read.1) }
     ensures fault { IfErr result (IsEntriesFault (Some (codes "versions", rows_of (found_of found.now)))) }
+    ensures usage { IfErr result (ShowsLine usage.now) }
 {
     let Some(text) = value_of(found, "path") else {
-        return Err(line(alloc, "error: no PATH given", VERSIONS_USAGE));
+        return Err(line(alloc, "error: no PATH given", usage));
     };
     let path = read_path(alloc, text)?;
     let proxy = proxy_of(alloc, found)?;

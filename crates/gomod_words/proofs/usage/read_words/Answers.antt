@@ -11,13 +11,15 @@ returns-in-Ok-clause-read c =
 pub returns-in-Ok-clause-fault : goal.returns-in-Ok-clause-fault
 returns-in-Ok-clause-fault c =
     let words = map (λ word. word.now) c.args.words.now in
-    read_result words _ (sym c.in_default.ensures)
+    read_result words _ _ (sym c.in_default.ensures)
     (entries_result words _ _ (accepted_known _ words c.in_ok-command.ensures c.in-Ok.ensures.kinds)
     (entries_known _ words c.in-Ok.matches c.in_ok-command.ensures c.in-Ok.ensures.matches) c.read_matches.ensures.fault)
+    c.read_matches.ensures.usage c.usage_of.ensures
 
 pub returns-in-Err-clause-fault : goal.returns-in-Err-clause-fault
 returns-in-Err-clause-fault c =
     let words = map (λ word. word.now) c.args.words.now in
     read_fault words c.fault_of.result (sym c.in_default.ensures)
     (parser_fault words c.in-Err.error c.fault_of.result (kinds_known _ words c.in-Err.error c.in_ok-command.ensures c.in-Err.ensures.kinds)
-    (passes_known _ words c.in-Err.error c.in_ok-command.ensures c.in-Err.ensures.passes) c.fault_of.ensures)
+    (passes_known _ words c.in-Err.error c.in_ok-command.ensures c.in-Err.ensures.passes) c.fault_of.ensures.fault)
+    c.fault_of.ensures.usage
