@@ -7,7 +7,7 @@ use Rattle.gm_syntax.specs.Document.{Line}
 use Rattle.gm_file.specs.Faults.{is_module}
 use Rattle.gm_file_edit.specs.Edits.{Edit, Set, ModuleIs, GoIs, RequireAt, Drop, Add, Exclude, ReplaceWith, Retract}
 use Rattle.gm_file_edit.specs.About.{about}
-use Rattle.gm_file_edit.specs.Edited.{changed, edited, new_go, with_new}
+use Rattle.gm_file_edit.specs.Edited.{edited, new_go, with_new}
 use Rattle.gm_file_edit.specs.NewWords.{interval_words, pair_words, replace_words}
 use Rattle.gm_file_edit.specs.Verbs.{is_exclude, is_replace, is_require, is_retract}
 use Rattle.gm_file_edit.specs.Pass.{edited_by_pass, put_in}
