@@ -17,7 +17,11 @@
 # The standard input of each command but `versions` without --proxy stays open, so one that reads it doesn't end. If a
 # command hasn't ended after 100 seconds, the script ends.
 #
-# Each command is called by a name that is not UTF-8, which it may not look at.
+# Each command is called by a name that is not UTF-8, which it may not look at. The folder of a case and the one above
+# must have the same files after its commands as before.
+#
+# Of each command the first run that prints is tried once more with /dev/full as its output, and the first that reports
+# with it as its report: the status must be 3, and the other stream empty.
 #
 # If REFUSE_MEMORY names the library that tools/refuse-memory.sh makes, each command runs again with each of its
 # allocations refused in turn: it then has to say that memory ran out, or to have the result of the case.
@@ -55,6 +59,9 @@ LIMIT = 100
 OPEN_INPUT, ITS_WRITER = os.pipe()
 # the address space that a command may have beside FACTOR times the bytes of its words and files
 SPARE, FACTOR = 64 << 20, 100
+# an output that takes no byte
+FULL = open("/dev/full", "wb")
+CUT = b"", b"", 3
 with open("README.md", encoding="utf-8") as file:
     STACK = 1024 * int(re.search(r"`ulimit -s (\d+)`", file.read())[1])
 
@@ -112,6 +119,7 @@ def stack_with(words, environment):
 
 class Run:
     refusals = 0  # how many runs had an allocation refused
+    cut_runs = set()  # the commands that were tried with a stream that takes nothing, each with the stream's name
 
     def __init__(self, line, text):
         self.line, self.text, self.words = line, text, words_of(text)
@@ -137,10 +145,19 @@ class Run:
     def wanted(self):
         return self.out, self.report, self.status
 
+    def stream_to_cut(self):
+        """The stream that the run writes to, unless one of the same command was tried with that stream cut."""
+        stream = "stdout" if self.out else "stderr"
+        tried = b"".join(self.words[1:2]), stream
+        if tried in Run.cut_runs:
+            return None
+        Run.cut_runs.add(tried)
+        return stream
+
     def reads_input(self):
         return self.words[1:2] == [b"versions"] and not any(it.startswith(b"--proxy") for it in self.words)
 
-    def comes_to(self, program, folder, stdin, refused=0, file_bytes=None):
+    def comes_to(self, program, folder, stdin, refused=0, file_bytes=None, cut=None):
         environment = {**os.environ, "LD_PRELOAD": REFUSE_MEMORY, "REFUSE_AT": str(refused)} if refused else os.environ
         words = [NAME, *self.words[1:]]
         stack = stack_with(words, environment)
@@ -152,21 +169,24 @@ class Run:
             resource.setrlimit(resource.RLIMIT_AS, (most, most))
             resource.setrlimit(resource.RLIMIT_STACK, (stack, stack))
 
+        streams = {"stdout": subprocess.PIPE, "stderr": subprocess.PIPE}
+        if cut:
+            streams[cut] = FULL
         given = {"input": stdin} if self.reads_input() else {"stdin": OPEN_INPUT}
         try:
             got = subprocess.run(
                 words,
                 executable=program,
                 cwd=folder,
-                capture_output=True,
                 env=environment,
                 preexec_fn=limit,
                 timeout=LIMIT,
+                **streams,
                 **given,
             )
         except subprocess.TimeoutExpired:
             sys.exit(f"program: line {self.line} has not ended after {LIMIT} seconds: $ {self.text.decode()}")
-        return got.stdout, got.stderr, got.returncode
+        return got.stdout or b"", got.stderr or b"", got.returncode
 
     def refused(self, program, folder, stdin):
         """The result of the command at the first refused allocation that changes it, if there is one."""
@@ -285,6 +305,17 @@ def bytes_below(folder):
     return sum(os.path.getsize(os.path.join(at, name)) for at, _, names in os.walk(folder) for name in names)
 
 
+def files_below(folder):
+    """Each file and folder below one, with its kind, its size, and when it was changed."""
+    found = {}
+    for at, folders, names in os.walk(folder):
+        for name in folders + names:
+            place = os.path.join(at, name)
+            state = os.lstat(place)
+            found[place] = state.st_mode, state.st_size, state.st_mtime_ns
+    return found
+
+
 def told(what, out, report, status):
     print(f"  {what}:")
     for mark, text in ((">", out), ("!", report)):
@@ -303,21 +334,32 @@ def passes(program, path, case):
         for piece in case.pieces:
             if piece.name != b"stdin":
                 piece.lay(folder)
+        files = files_below(root)
         file_bytes = len(stdin) + bytes_below(folder) if case.is_sized else None
         for run in case.runs:
             if run.words[0] != b"gomod":
                 continue
-            over, got = "", run.comes_to(program, folder, stdin, file_bytes=file_bytes)
-            if got == run.wanted() and REFUSE_MEMORY and not case.is_sized:
+            over, wanted, got = "", run.wanted(), run.comes_to(program, folder, stdin, file_bytes=file_bytes)
+            if got == wanted and REFUSE_MEMORY and not case.is_sized:
                 number, got = run.refused(program, folder, stdin) or (0, got)
                 over = f", allocation {number} refused"
-            if got != run.wanted():
+            stream = run.stream_to_cut()
+            if got == wanted and stream:
+                over, wanted, got = f", {stream} is /dev/full", CUT, run.comes_to(program, folder, stdin, cut=stream)
+            if got != wanted:
                 if good:
                     print(f"{path}:{case.line}: {case.title}")
                 good = False
                 print(f"  line {run.line}{over}: $ {run.text.decode()}")
                 told("got", *got)
-                told("wanted", *run.wanted())
+                told("wanted", *wanted)
+        after = files_below(root)
+        changed = [it for it in {**files, **after} if files.get(it) != after.get(it)]
+        if changed:
+            if good:
+                print(f"{path}:{case.line}: {case.title}")
+            good = False
+            print(f"  files that were made, changed or removed: {b' '.join(changed)}")
     finally:
         shutil.rmtree(root)
     return good
