@@ -1,5 +1,5 @@
 -- Lines of which one is rewritten and others are removed come from the lines of the file, each in its block.
-use Rattle.std.proofs.Common.{◌≡◌, ℕ, ◌&&◌, Bool, true, false, List, [], ◌∷◌, ◌++◌, map, Option, Some, None, is_some, is_none, refl, sym, ap, subst, ◌∙◌, append-nil, append_assoc, inl, inr}
+use Rattle.std.proofs.Common.{◌≡◌, ℕ, ◌&&◌, Bool, true, false, List, [], ◌∷◌, map, Option, Some, None, is_some, refl, sym, ap, subst, ◌∙◌, inl, inr}
 use Rattle.std.specs.Prelude.{⊤, ◌⊎◌}
 use Rattle.std.proofs.lemmas.Bool.{cases_Bool}
 use Rattle.gm_syntax.specs.Tokens.{Placed}
@@ -10,7 +10,7 @@ use Rattle.gm_file.specs.Faults.{is_module, item_kinds}
 use Rattle.gm_file.specs.Pairwise.{do_clash}
 use Rattle.gm_file_edit.specs.Fates.{Fate, is_emptied, kept, remaining, widened_from}
 use Rattle.gm_file_edit.specs.Holding.{directive_at, item_of, passes}
-use Rattle.gm_file_edit.proofs.Pairs.{AreLeft, Leaves, Seat, goes, nothing, renewed, stays}
+use Rattle.gm_file_edit.proofs.Pairs.{AreLeft, Leaves, goes, nothing, renewed, stays}
 use Rattle.gm_file_edit.proofs.Seats.{Going, going-gone, going-opened, left_block}
 
 -- ---- lines and their fates

@@ -12,8 +12,7 @@ use Rattle.gm_file.specs.Directives.{Directive, block_after_line, block_after_li
 use Rattle.gm_file_edit.specs.Fates.{Fate, dropped, dropping_from, fate_by, remaining, renewed, renewing_from}
 use Rattle.gm_file_edit.specs.Holding.{IsValidAt, directive_at, passes}
 use Rattle.gm_file_edit.specs.About.{about}
-use Rattle.gm_file_edit.specs.Pass.{edited_by_pass, put_in}
-use Rattle.gm_file_edit.specs.Edited.{changed, edited}
+use Rattle.gm_file_edit.specs.Edited.{changed, edited, put_in}
 use Rattle.gm_file_edit.specs.Edits.{Edit, Set, Drop, Add}
 use Rattle.gm_file_edit.specs.Kinds.{is_drop, set_by}
 use Rattle.gm_file_edit.specs.Renewing.{made_new}
@@ -30,7 +29,6 @@ use Rattle.gm_file_edit.proofs.Packs.{get_or-default}
 use Rattle.gm_file_edit.proofs.PassedOver.{scope-next, target-by}
 use Rattle.gm_file_edit.proofs.Sound.{SoundFrom}
 use Rattle.gm_file_edit.proofs.Walking.{drop-next}
-use Rattle.gm_file_edit.proofs.BySections.{edited-is-pass}
 
 -- ---- the loop that marks lines
 
@@ -278,19 +276,19 @@ adds-changed (Set s) lines e f = absurd cc
 adds-changed (Drop t) lines e f = absurd cc
 adds-changed (Add a) lines e f = refl
 
-pass-there : (edit : Edit) (lines : List (Line Placed)) → first_of (marks_from (about edit) None lines) < length lines → edited_by_pass edit lines ≡ changed edit lines
-unfolding edited_by_pass
+pass-there : (edit : Edit) (lines : List (Line Placed)) → first_of (marks_from (about edit) None lines) < length lines → edited edit lines ≡ changed edit lines
+unfolding edited
 pass-there edit lines lt = rw (some-mark (about edit) None lines lt) refl
 
 pub edited-there : (edit : Edit) (lines : List (Line Placed)) → first_of (marks_from (about edit) None lines) < length lines → edited edit lines ≡ changed edit lines
-edited-there edit lines lt = edited-is-pass edit lines ∙ pass-there edit lines lt
+edited-there edit lines lt = pass-there edit lines lt
 
-pass-new : (edit : Edit) (lines : List (Line Placed)) → length lines ≤ first_of (marks_from (about edit) None lines) → edited_by_pass edit lines ≡ put_in edit lines
-unfolding edited_by_pass
+pass-new : (edit : Edit) (lines : List (Line Placed)) → length lines ≤ first_of (marks_from (about edit) None lines) → edited edit lines ≡ put_in edit lines
+unfolding edited
 pass-new edit lines le = rw (no-mark (about edit) None lines le) refl
 
 pub edited-new : (edit : Edit) (lines : List (Line Placed)) → length lines ≤ first_of (marks_from (about edit) None lines) → edited edit lines ≡ put_in edit lines
-edited-new edit lines le = edited-is-pass edit lines ∙ pass-new edit lines le
+edited-new edit lines le = pass-new edit lines le
 
 -- what is left of lines of which the first with a mark is rewritten
 pub renew-is : (edit : Edit) (lines new : List (Line Placed)) (marks others : List Bool) (first : ℕ) (line : Line Placed)

@@ -1,5 +1,5 @@
 -- Lines of which those with a mark are removed in place, step by step.
-use Rattle.std.proofs.Common.{◌≡◌, ℕ, suc, ◌+◌, ◌-◌, ◌<◌, ◌≤◌, ◌&&◌, not, zero, Bool, true, false, List, [], ◌∷◌, ◌++◌, length, map, take, drop, get_or, set, Option, Some, None, refl, sym, ap, subst, drop-cons, ◌∙◌, append-nil, append_assoc, arith}
+use Rattle.std.proofs.Common.{◌≡◌, ℕ, suc, ◌+◌, ◌-◌, ◌<◌, ◌≤◌, zero, Bool, true, false, List, [], ◌∷◌, ◌++◌, length, take, drop, get_or, set, Some, refl, sym, ap, subst, drop-cons, ◌∙◌, append-nil, append_assoc, arith}
 use Rattle.std.specs.List.{list_any, swap}
 use Rattle.std.proofs.Math.Seq.{drop-append_seam}
 use Rattle.std.proofs.Math.ListN.{get_or-map}
@@ -8,8 +8,8 @@ use Rattle.std.proofs.lemmas.List.{drop_all, drop-drop, drop-map, drop-set-lt, l
 use Rattle.gm_syntax.specs.declared.line.Line as declared
 use Rattle.gm_syntax.specs.LineViews.{line_of, line_views}
 use Rattle.gm_syntax.specs.Tokens.{Placed}
-use Rattle.gm_syntax.specs.Document.{Line, Blank, Comment, Open, Close, Entry}
-use Rattle.gm_file_edit.specs.Fates.{Fate, empties, fate_by, kept, remaining, widened_from}
+use Rattle.gm_syntax.specs.Document.{Line, Blank}
+use Rattle.gm_file_edit.specs.Fates.{Fate, fate_by, kept, remaining, widened_from}
 use Rattle.gm_file_edit.specs.Marks.{line_at, marked}
 use Rattle.gm_file_edit.proofs.Untouched.{all-lines-stay, all_stay}
 use Rattle.gm_file_edit.proofs.Walking.{drop-next}

@@ -1,4 +1,4 @@
-use Rattle.std.proofs.Common.{◌∙◌, Bool, None, ap, false, length, sym}
+use Rattle.std.proofs.Common.{◌∙◌, Bool, None, ap, length, sym}
 use Rattle.gm_syntax.specs.LineViews.{line_of}
 use Rattle.gm_file_edit.specs.About.{about}
 use Rattle.gm_file_edit.specs.Kinds.{is_drop, set_by}
