@@ -1,6 +1,6 @@
 -- The marks of lines, and what removing marked lines leaves.
 use Rattle.std.proofs.Common.{◌≡◌, ◌&&◌, ℕ, suc, ◌+◌, ◌<◌, ◌≤◌, not, Bool, true, false, List, [], ◌∷◌, ◌++◌, length, take, set, replicate, Option, Some, None, is_some, refl, sym, ap, subst, ◌∙◌, append_assoc, arith, inl, inr, drop, get_or}
-use Rattle.std.specs.Prelude.{if◌then◌else◌, take_while}
+use Rattle.std.specs.Prelude.{take_while}
 use Rattle.std.specs.List.{prefix_len}
 use Rattle.std.specs.Option.{option_to_list}
 use Rattle.std.proofs.lemmas.List.{drop_all, length-append}
@@ -220,15 +220,10 @@ no-mark test block (line ∷ lines) le = elim (cases_Bool (passes test (directiv
 
 -- ---- lines of which those with a mark are removed
 
-fate-is : (mark : Bool) (line : Line Placed) → (if mark then None else Some line) ≡ fate_by mark line
-fate-is true line = refl
-fate-is false line = refl
-
 pub dropping-marked : (test : Directive → Bool) (block : Option Placed) (lines : List (Line Placed)) → dropping_from test block lines ≡ marked (marks_from test block lines) lines
 dropping-marked test block [] = refl
 dropping-marked test block (line ∷ lines) =
-    ap (λ (f : Fate). f ∷ dropping_from test (block_after_line block line) lines) (fate-is (passes test (directive_at block line)) line)
-    ∙ ap (λ (fs : List Fate). fate_by (passes test (directive_at block line)) line ∷ fs) (dropping-marked test (block_after_line block line) lines)
+    ap (λ (fs : List Fate). fate_by (passes test (directive_at block line)) line ∷ fs) (dropping-marked test (block_after_line block line) lines)
 
 pub dropped-marked : (test : Directive → Bool) (lines : List (Line Placed)) → dropped test lines ≡ remaining (marked (marks_from test None lines) lines)
 dropped-marked test lines = ap (remaining) (dropping-marked test None lines)

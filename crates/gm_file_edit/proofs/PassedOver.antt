@@ -57,8 +57,8 @@ same-in-file (verb.Added added.Require) (verb.Added added.Require) is = refl
 same-in-file (verb.Added added.Exclude) (verb.Added added.Exclude) is = refl
 same-in-file (verb.Added added.Replace) (verb.Added added.Replace) is = refl
 same-in-file (verb.Added added.Retract) (verb.Added added.Retract) is = refl
-same-in-file verb.Other other is = absurd cc
-same-in-file own other is = refl
+same-in-file verb.Other second is = absurd cc
+same-in-file own second is = refl
 
 own-other : (own : Verb) → IsOwn own → (is_same_verb own verb.Other ≡ false) × (verb_eq (verb_in_file own) ForNothing ≡ false) × (verb_eq (verb_in_file own) Unknown ≡ false)
 own-other verb.Other is = absurd cc

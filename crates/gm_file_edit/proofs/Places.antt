@@ -14,7 +14,7 @@ use Rattle.gm_file.specs.Directives.{Strict, Directive, VersionInterval, Right, 
 use Rattle.gm_file.specs.Faults.{is_go, is_module}
 use Rattle.gm_file_edit.specs.Edits.{Edit, Set, ModuleIs, GoIs, RequireAt, Drop, Add, Exclude, ReplaceWith, Retract}
 use Rattle.gm_file_edit.specs.NewWords.{entry_at, interval_words, left_words, left_words_of, made_mark, made_word, pair_words, replace_words, right_words, single, unplaced}
-use Rattle.gm_file_edit.specs.Fates.{Fate, dropped, dropping_from, empties, is_emptied, kept, remaining, renewed, renewing_from, widened_from}
+use Rattle.gm_file_edit.specs.Fates.{Fate, dropped, dropping_from, empties, fate_by, is_emptied, kept, remaining, renewed, renewing_from, widened_from}
 use Rattle.gm_file_edit.specs.Holding.{directive_at, passes, word_of}
 use Rattle.gm_file_edit.specs.Renewing.{before_arguments, with_arguments, with_last}
 use Rattle.gm_file_edit.specs.About.{about, is_replaced_by, requires_path}
@@ -113,13 +113,19 @@ there-loose test block (line ∷ lines) =
 
 -- ---- the fates of lines
 
+fate-loose : (mark : Bool) (line : Line Placed) → fate_by mark (loose_line line) ≡ loose_fate (fate_by mark line)
+fate-loose true line = refl
+fate-loose false line = refl
+
 dropping-loose : (test : Directive → Bool) (block : Option Placed) (lines : List (Line Placed)) → dropping_from test (loose_block block) (loose_lines lines) ≡ loose_fates (dropping_from test block lines)
 dropping-loose test block [] = refl
 dropping-loose test block (line ∷ lines) =
-    ap (λ (f : Fate). f ∷ dropping_from test (block_after_line (loose_block block) (loose_line line)) (loose_lines lines))
-    (chosen loose_fate (passes test (directive_at (loose_block block) (loose_line line))) (passes test (directive_at block line)) None (Some (loose_line line)) None (Some line) (passes-loose test block line) refl refl)
-    ∙ ap (λ (b : Option Placed). loose_fate (if passes test (directive_at block line) then None else Some line) ∷ dropping_from test b (loose_lines lines)) (behind-loose block line)
-    ∙ ap (λ (fs : List Fate). loose_fate (if passes test (directive_at block line) then None else Some line) ∷ fs) (dropping-loose test (block_after_line block line) lines)
+    let mark : Bool = passes test (directive_at block line) in
+    let behind : Option Placed = block_after_line (loose_block block) (loose_line line) in
+    ap (λ (b : Bool). fate_by b (loose_line line) ∷ dropping_from test behind (loose_lines lines)) (passes-loose test block line)
+    ∙ ap (λ (f : Fate). f ∷ dropping_from test behind (loose_lines lines)) (fate-loose mark line)
+    ∙ ap (λ (b : Option Placed). loose_fate (fate_by mark line) ∷ dropping_from test b (loose_lines lines)) (behind-loose block line)
+    ∙ ap (λ (fs : List Fate). loose_fate (fate_by mark line) ∷ fs) (dropping-loose test (block_after_line block line) lines)
 
 -- a rewrite doesn't depend on source positions
 abbrev IsBlind : (Option Placed → Line Placed → Line Placed) → Type 0

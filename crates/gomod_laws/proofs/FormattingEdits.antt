@@ -30,7 +30,7 @@ use Rattle.gm_file_edit.specs.About.{about, is_replaced_by, requires_path}
 use Rattle.gm_file_edit.specs.Verbs.{is_exclude, is_replace, is_require, is_retract}
 use Rattle.gm_file_edit.specs.Edited.{added, after_closing, after_first_of, after_first_that, after_last_of, changed, edited, put_in}
 use Rattle.gm_file_edit.specs.Edits.{Edit, Set, ModuleIs, GoIs, RequireAt, Drop, Add, Exclude, ReplaceWith, Retract, edit_in, go_text_in, has_byte, left_in, module_of_pair, named, named_in, pair_in, replacing_in, right_in, sides_in, split_at_byte}
-use Rattle.gm_file_edit.specs.Fates.{Fate, dropped, dropping_from, is_emptied, kept, remaining, renewed, renewing_from, widened_from}
+use Rattle.gm_file_edit.specs.Fates.{Fate, dropped, dropping_from, fate_by, is_emptied, kept, remaining, renewed, renewing_from, widened_from}
 use Rattle.gm_file_edit.specs.Holding.{directive_at, passes}
 use Rattle.gm_file_edit.specs.NewWords.{entry_at, interval_words, left_words, made_mark, made_word, pair_words, replace_words, right_words, single}
 use Rattle.gm_file_edit.specs.Renewing.{before_arguments, with_arguments, with_last}
@@ -312,7 +312,7 @@ remaining_good : (fates : List Fate) → AreGoodFates fates → AreGood (remaini
 unfolding remaining
 remaining_good fates are = lines_left_good false false fates are
 
-fate_good : (gone : Bool) (line : Line Placed) → IsGood line → IsGoodFate (if gone then None else Some line)
+fate_good : (gone : Bool) (line : Line Placed) → IsGood line → IsGoodFate (fate_by gone line)
 fate_good true line is = tt
 fate_good false line is = is
 
