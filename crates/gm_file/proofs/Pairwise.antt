@@ -95,7 +95,7 @@ apart-with (x ∷ xs) d ys clear apart =
     (middle-any (do_clash x) xs d ys (clash-mutual x d ∙ parts.0) apart.0, apart-with xs d ys parts.1 apart.1)
 
 -- one clashes with none of the others
-pub apart-but : (xs : List Directive) (d : Directive) (ys : List Directive) → AreApart (xs ++ d ∷ ys) → (list_any (do_clash d) (xs ++ ys) ≡ false) × AreApart (xs ++ ys)
+apart-but : (xs : List Directive) (d : Directive) (ys : List Directive) → AreApart (xs ++ d ∷ ys) → (list_any (do_clash d) (xs ++ ys) ≡ false) × AreApart (xs ++ ys)
 apart-but [] d ys apart = apart
 apart-but (x ∷ xs) d ys apart =
     let here = any-middle (do_clash x) xs d ys apart.0 in
@@ -130,7 +130,7 @@ pub never : (p : Directive → Bool) (ds : List Directive) → ((d : Directive) 
 never p [] none = refl
 never p (d ∷ ds) none = or_from (p d) (list_any p ds) (none d) (never p ds none)
 
-pub directive-parts : (earlier : List Directive) (d : Directive) → directive_kinds Strict earlier d ≡ [] → (directive_kinds Strict [] d ≡ []) × (list_any (do_clash d) earlier ≡ false)
+directive-parts : (earlier : List Directive) (d : Directive) → directive_kinds Strict earlier d ≡ [] → (directive_kinds Strict [] d ≡ []) × (list_any (do_clash d) earlier ≡ false)
 unfolding directive_kinds
 directive-parts earlier (DeclaresModule path) e =
     let parts = nil-parts (path_kinds path) (unless (not (list_any is_module earlier)) Repeated) e in
@@ -146,7 +146,7 @@ directive-parts earlier (Replaces r) e =
 directive-parts earlier (Retracts ends) e = (e, never (do_clash (Retracts ends)) earlier (λ d. refl))
 directive-parts earlier Kept e = (e, never (do_clash Kept) earlier (λ d. refl))
 
-pub directive-whole : (earlier : List Directive) (d : Directive) → directive_kinds Strict [] d ≡ [] → list_any (do_clash d) earlier ≡ false → directive_kinds Strict earlier d ≡ []
+directive-whole : (earlier : List Directive) (d : Directive) → directive_kinds Strict [] d ≡ [] → list_any (do_clash d) earlier ≡ false → directive_kinds Strict earlier d ≡ []
 unfolding directive_kinds
 directive-whole earlier (DeclaresModule path) alone clear =
     both-nil (path_kinds path) (unless (not (list_any is_module earlier)) Repeated) (nil-parts (path_kinds path) [] alone).0 (so-none (list_any is_module earlier) Repeated clear)
@@ -177,7 +177,7 @@ entry-whole : (earlier : List Directive) (verb : Verb) (o : Option Directive) �
 entry-whole earlier verb None alone clear = alone
 entry-whole earlier verb (Some d) alone clear = directive-whole earlier d alone clear
 
-pub item-whole : (earlier : List Directive) (item : Item) → item_kinds Strict [] item ≡ [] → IsClear (directive_in Strict item) earlier → item_kinds Strict earlier item ≡ []
+item-whole : (earlier : List Directive) (item : Item) → item_kinds Strict [] item ≡ [] → IsClear (directive_in Strict item) earlier → item_kinds Strict earlier item ≡ []
 item-whole earlier Silent alone clear = alone
 item-whole earlier (Opening verb) alone clear = alone
 item-whole earlier (Saying verb arguments) alone clear = entry-whole earlier (verb_in Strict verb) (directive_of (verb_in Strict verb) arguments) alone clear
@@ -185,7 +185,7 @@ item-whole earlier (Saying verb arguments) alone clear = entry-whole earlier (ve
 -- ---- line after line
 
 -- each line has no fault after the earlier directives and those of the lines before it
-abbrev pub AreInTurn : List Directive → List (LineInBlock Word) → Type 0
+abbrev AreInTurn : List Directive → List (LineInBlock Word) → Type 0
 AreInTurn earlier [] = ⊤
 AreInTurn earlier (line ∷ lines) = (item_kinds Strict earlier (item_at line) ≡ []) × AreInTurn (earlier ++ option_to_list (said Strict line)) lines
 
@@ -215,7 +215,7 @@ from-turn before earlier (line ∷ lines) is turn =
     (ap (map (λ (kind : DirectiveKind). (length before + 1, kind))) kinds)
     (from-turn (before ++ line ∷ []) (earlier ++ option_to_list (said Strict line)) lines (more-said before line ∙ ap (λ (ds : List Directive). ds ++ option_to_list (said Strict line)) is) turn.1)
 
-pub one-next : (earlier : List Directive) (o : Option Directive) (rest : List Directive) → (earlier ++ option_to_list o) ++ rest ≡ earlier ++ cons_option o rest
+one-next : (earlier : List Directive) (o : Option Directive) (rest : List Directive) → (earlier ++ option_to_list o) ++ rest ≡ earlier ++ cons_option o rest
 one-next earlier None rest = ap (λ (ds : List Directive). ds ++ rest) (append-nil earlier)
 one-next earlier (Some d) rest = append_assoc earlier (d ∷ []) rest
 
@@ -225,12 +225,12 @@ apart-more earlier (Some d) clear apart =
     let same = sym (append-nil earlier) in
     apart-with earlier d [] (subst (λ (ds : List Directive). list_any (do_clash d) ds ≡ false) same clear) (subst AreApart same apart)
 
-pub clear-before : (earlier : List Directive) (o : Option Directive) (rest : List Directive) → AreApart (earlier ++ cons_option o rest) → IsClear o earlier
+clear-before : (earlier : List Directive) (o : Option Directive) (rest : List Directive) → AreApart (earlier ++ cons_option o rest) → IsClear o earlier
 clear-before earlier None rest apart = tt
 clear-before earlier (Some d) rest apart =
     (or_parts (list_any (do_clash d) earlier) (list_any (do_clash d) rest) (sym (list_any-append (do_clash d) earlier rest) ∙ (apart-but earlier d rest apart).0)).0
 
-pub turn-apart : (earlier : List Directive) (lines : List (LineInBlock Word)) → AreApart earlier → AreInTurn earlier lines
+turn-apart : (earlier : List Directive) (lines : List (LineInBlock Word)) → AreApart earlier → AreInTurn earlier lines
     → AllByRecursion IsRightAlone lines × AreApart (earlier ++ filter_map (said Strict) lines)
 turn-apart earlier [] apart turn = (tt, subst AreApart (sym (append-nil earlier)) apart)
 turn-apart earlier (line ∷ lines) apart turn =
@@ -238,7 +238,7 @@ turn-apart earlier (line ∷ lines) apart turn =
     let rest = turn-apart (earlier ++ option_to_list (said Strict line)) lines (apart-more earlier (said Strict line) parts.1 apart) turn.1 in
     ((parts.0, rest.0), subst AreApart (one-next earlier (said Strict line) (filter_map (said Strict) lines)) rest.1)
 
-pub apart-turn : (earlier : List Directive) (lines : List (LineInBlock Word)) → AllByRecursion IsRightAlone lines → AreApart (earlier ++ filter_map (said Strict) lines) → AreInTurn earlier lines
+apart-turn : (earlier : List Directive) (lines : List (LineInBlock Word)) → AllByRecursion IsRightAlone lines → AreApart (earlier ++ filter_map (said Strict) lines) → AreInTurn earlier lines
 apart-turn earlier [] alone apart = tt
 apart-turn earlier (line ∷ lines) alone apart =
     let rest : List Directive = filter_map (said Strict) lines in (

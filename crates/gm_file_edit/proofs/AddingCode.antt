@@ -4,7 +4,7 @@ use Rattle.std.specs.Prelude.{if◌then◌else◌, insert, IfOk}
 use Rattle.std.proofs.lemmas.Bool.{cases_Bool}
 use Rattle.std.proofs.Math.Seq.{take-length}
 use Rattle.std.proofs.lemmas.List.{length-drop, length-map, drop_all, take_all}
-use Rattle.std.specs.Option.{option_map, option_or, option_to_list}
+use Rattle.std.specs.Option.{option_map, option_or}
 use Rattle.gm_syntax.specs.Tokens.{Placed}
 use Rattle.gm_syntax.specs.Document.{Line, Blank, Comment, Open, Close, Entry}
 use Rattle.gm_syntax.specs.declared.line.Line as declared
@@ -27,7 +27,7 @@ use Rattle.gm_file_edit.specs.declared.verb.Verb.{Verb}
 use Rattle.gm_file_edit.specs.declared.verb.Verb.TheVariants as verb
 use Rattle.gm_file_edit.proofs.Packs.{get_or-default}
 use Rattle.gm_file_edit.proofs.PassedOver.{added-said, module-said, scope-inside, scope-next}
-use Rattle.gm_file_edit.proofs.Sound.{SoundFrom}
+use Rattle.gm_file_edit.proofs.Pairs.{AreRightFrom, IsSound}
 use Rattle.gm_file_edit.proofs.Spots.{added-spot, first-spot}
 use Rattle.gm_file_edit.proofs.Targets.{entry-declares, entry-holds}
 use Rattle.gm_file_edit.proofs.Walking.{drop-next}
@@ -52,18 +52,18 @@ shifted-further n spot = let e : n + 1 + spot.before ≡ n + suc spot.before = o
 -- Loop invariant: the rest is valid, and the position in the whole file is the one found in the rest or, if there is
 -- none, the best one so far.
 pub record IsSoughtTo (test : Directive → Bool) (whole rest : List (Line Placed)) (block : Option Placed) (n : ℕ) (best : Option Spot) : Type 0 where
-  pub sound : (earlier : List Directive) × SoundFrom earlier block rest
+  pub right : AreRightFrom block rest
   pub place : option_or (option_map (shifted n) (spot_after_last test block rest)) best ≡ spot_after_last test None whole
 
 or-end : (o : Option Spot) → option_or (option_map (shifted 0) o) None ≡ o
 or-end None = refl
 or-end (Some spot) = ap Some (shifted-not spot)
 
-pub seek-begin : (test : Directive → Bool) (whole : List (Line Placed)) → SoundFrom [] None whole → IsSoughtTo test whole whole None 0 None
-seek-begin test whole sound = record { sound = ([], sound); place = or-end (spot_after_last test None whole) }
+pub seek-begin : (test : Directive → Bool) (whole : List (Line Placed)) → IsSound whole → IsSoughtTo test whole whole None 0 None
+seek-begin test whole sound = record { right = sound.lines_are.right; place = or-end (spot_after_last test None whole) }
 
 pub seek-right : (test : Directive → Bool) (whole rest more : List (Line Placed)) (block : Option Placed) (n : ℕ) (best : Option Spot) (line : Line Placed) → rest ≡ line ∷ more → IsSoughtTo test whole rest block n best → IsValidAt block line
-seek-right test whole rest more block n best line is so = let s = subst (SoundFrom so.sound.0 block) is so.sound.1 in (so.sound.0, s.1)
+seek-right test whole rest more block n best line is so = let right = subst (AreRightFrom block) is so.right in right.0.1
 
 -- the best position after one more line
 abbrev pub better : ℕ → Option Placed → Bool → Option Spot → Option Spot
@@ -79,9 +79,9 @@ place-more n block false best None = refl
 pub seek-more : (test : Directive → Bool) (whole rest more : List (Line Placed)) (block next_block : Option Placed) (n : ℕ) (best next : Option Spot) (line : Line Placed) → rest ≡ line ∷ more → next_block ≡ block_after_line block line
     → next ≡ better n block (passes test (directive_at block line)) best → IsSoughtTo test whole rest block n best → IsSoughtTo test whole more next_block (n + 1) next
 seek-more test whole rest more block next_block n best next line is behind found so =
-    let s = subst (SoundFrom so.sound.0 block) is so.sound.1 in
+    let right = subst (AreRightFrom block) is so.right in
     rw (behind, found) (record {
-      sound = (so.sound.0 ++ option_to_list (directive_at block line), s.2);
+      right = right.1;
       place =
           place-more n block (passes test (directive_at block line)) best (spot_after_last test (block_after_line block line) more)
           ∙ ap (λ (lines : List (Line Placed)). option_or (option_map (shifted n) (spot_after_last test block lines)) best) (sym is) ∙ so.place;
@@ -91,14 +91,14 @@ seek-more test whole rest more block next_block n best next line is behind found
 
 -- Loop invariant: the rest is valid, and the position in the whole file is the one found in the rest.
 pub record IsUnmet (test : Directive → Bool) (whole rest : List (Line Placed)) (block : Option Placed) (n : ℕ) : Type 0 where
-  pub sound : (earlier : List Directive) × SoundFrom earlier block rest
+  pub right : AreRightFrom block rest
   pub place : option_map (shifted n) (spot_after_first test block rest) ≡ spot_after_first test None whole
 
-pub meet-begin : (test : Directive → Bool) (whole : List (Line Placed)) → SoundFrom [] None whole → IsUnmet test whole whole None 0
-meet-begin test whole sound = record { sound = ([], sound); place = shifted-none (spot_after_first test None whole) }
+pub meet-begin : (test : Directive → Bool) (whole : List (Line Placed)) → IsSound whole → IsUnmet test whole whole None 0
+meet-begin test whole sound = record { right = sound.lines_are.right; place = shifted-none (spot_after_first test None whole) }
 
 pub meet-right : (test : Directive → Bool) (whole rest more : List (Line Placed)) (block : Option Placed) (n : ℕ) (line : Line Placed) → rest ≡ line ∷ more → IsUnmet test whole rest block n → IsValidAt block line
-meet-right test whole rest more block n line is so = let s = subst (SoundFrom so.sound.0 block) is so.sound.1 in (so.sound.0, s.1)
+meet-right test whole rest more block n line is so = let right = subst (AreRightFrom block) is so.right in right.0.1
 
 further-all : (n : ℕ) (later : Option Spot) → option_map (shifted (n + 1)) later ≡ option_map (shifted n) (option_map further later)
 further-all n None = refl
@@ -116,9 +116,9 @@ unmet test block line lines n e = rw e (further-all n (spot_after_first test (bl
 pub meet-more : (test : Directive → Bool) (whole rest more : List (Line Placed)) (block next_block : Option Placed) (n : ℕ) (line : Line Placed) → rest ≡ line ∷ more → next_block ≡ block_after_line block line
     → passes test (directive_at block line) ≡ false → IsUnmet test whole rest block n → IsUnmet test whole more next_block (n + 1)
 meet-more test whole rest more block next_block n line is behind fails so =
-    let s = subst (SoundFrom so.sound.0 block) is so.sound.1 in
+    let right = subst (AreRightFrom block) is so.right in
     rw behind (record {
-      sound = (so.sound.0 ++ option_to_list (directive_at block line), s.2);
+      right = right.1;
       place = unmet test block line more n fails ∙ ap (λ (lines : List (Line Placed)). option_map (shifted n) (spot_after_first test block lines)) (sym is) ∙ so.place;
     })
 
@@ -142,7 +142,7 @@ pub record IsLastTo (v : AddedVerb) (whole : List (Line Placed)) (at : Scope) (n
   scope : at ≡ scope_of (verb.Added v) block
   sought : IsSoughtTo (is_of v) whole (drop n whole) block n best
 
-pub last-begin : (v : AddedVerb) (whole : List (Line Placed)) → SoundFrom [] None whole → IsLastTo v whole scope.Outside 0 None
+pub last-begin : (v : AddedVerb) (whole : List (Line Placed)) → IsSound whole → IsLastTo v whole scope.Outside 0 None
 last-begin v whole sound = record { block = None; scope = refl; sought = seek-begin (is_of v) whole sound }
 
 -- the best position after one more line
@@ -182,7 +182,7 @@ pub record IsUnmetTo (whole : List (Line Placed)) (at : Scope) (n : ℕ) : Type 
   scope : at ≡ scope_of verb.Module block
   unmet : IsUnmet is_module whole (drop n whole) block n
 
-pub unmet-begin : (whole : List (Line Placed)) → SoundFrom [] None whole → IsUnmetTo whole scope.Outside 0
+pub unmet-begin : (whole : List (Line Placed)) → IsSound whole → IsUnmetTo whole scope.Outside 0
 unmet-begin whole sound = record { block = None; scope = refl; unmet = meet-begin is_module whole sound }
 
 module-held : (whole : List (Line Placed)) (at : Scope) (n : ℕ) (key : Key) → n < length whole → key ≡ key_of (line_at whole n) → (so : IsUnmetTo whole at n)

@@ -25,7 +25,6 @@ use Rattle.gm_file_edit.specs.NewWords.{entry_at, single}
 use Rattle.gm_file_edit.specs.Holding.{directive_at, item_of, passes}
 use Rattle.gm_file_edit.proofs.Pairs.{IsSound, block-append, held_in, no-block, plain-held, put-line}
 use Rattle.gm_file_edit.proofs.Spots.{added-spot, first-spot}
-use Rattle.gm_file_edit.proofs.Sound.{SoundFrom, in-turn}
 use Rattle.gm_file_edit.proofs.Targets.{added_verb, is-of}
 
 -- ---- the directives of lines
@@ -56,15 +55,6 @@ held-append block (line ∷ front) back =
     let held : List Directive = option_to_list (directive_at block line) in
     ap (λ (ds : List Directive). held ++ ds) (held-append (block_after_line block line) front back)
     ∙ sym (append_assoc held (held_from (block_after_line block line) front) (held_from (block_after_lines (block_after_line block line) front) back))
-
--- ---- the lines after a position, and other lines there
-
-pub back-sound : (earlier : List Directive) (block : Option Placed) (front back : List (Line Placed)) → SoundFrom earlier block (front ++ back) → SoundFrom (earlier ++ held_from block front) (block_after_lines block front) back
-back-sound earlier block [] back sound = subst (λ (ds : List Directive). SoundFrom ds block back) (sym (append-nil earlier)) sound
-back-sound earlier block (line ∷ front) back sound =
-    let held : List Directive = option_to_list (directive_at block line) in
-    subst (λ (ds : List Directive). SoundFrom ds (block_after_lines (block_after_line block line) front) back) (append_assoc earlier held (held_from (block_after_line block line) front))
-    (back-sound (earlier ++ held) (block_after_line block line) front back sound.2)
 
 -- ---- an inserted line
 
@@ -198,27 +188,25 @@ first-in-range test lines spot e = let is = first-is-in test None lines spot e i
 
 -- ---- the position after a block
 
-closed : (earlier : List Directive) (t : Placed) (lines : List (Line Placed)) → SoundFrom earlier (Some t) lines → block_after_lines (Some t) (take (close_len lines) lines) ≡ None
-closed earlier t [] sound = sound.0
-closed earlier t (Blank ∷ lines) sound =
-    closed (earlier ++ option_to_list (directive_at (Some t) Blank)) t lines sound.2
-closed earlier t (Comment text ∷ lines) sound = closed (earlier ++ option_to_list (directive_at (Some t) (Comment text))) t lines sound.2
-closed earlier t (Open opened suffix ∷ lines) sound = closed (earlier ++ option_to_list (directive_at (Some t) (Open opened suffix))) opened lines sound.2
-closed earlier t (Close suffix ∷ lines) sound = refl
-closed earlier t (Entry words suffix ∷ lines) sound = closed (earlier ++ option_to_list (directive_at (Some t) (Entry words suffix))) t lines sound.2
+closed : (verb : Placed) (lines : List (Line Placed)) → block_after_lines (Some verb) lines ≡ None → block_after_lines (Some verb) (take (close_len lines) lines) ≡ None
+closed verb [] e = e
+closed verb (Blank ∷ lines) e = closed verb lines e
+closed verb (Comment text ∷ lines) e = closed verb lines e
+closed verb (Open opened suffix ∷ lines) e = closed opened lines e
+closed verb (Close suffix ∷ lines) e = refl
+closed verb (Entry words suffix ∷ lines) e = closed verb lines e
 
-closed-in : (earlier : List Directive) (block : Option Placed) (lines : List (Line Placed)) → is_some block ≡ true → SoundFrom earlier block lines → block_after_lines block (take (close_len lines) lines) ≡ None
-closed-in earlier None lines e sound = absurd cc
-closed-in earlier (Some t) lines e sound = closed earlier t lines sound
+closed-in : (block : Option Placed) (lines : List (Line Placed)) → is_some block ≡ true → block_after_lines block lines ≡ None → block_after_lines block (take (close_len lines) lines) ≡ None
+closed-in None lines e ends = absurd cc
+closed-in (Some verb) lines e ends = closed verb lines ends
 
-past-inside : (lines : List (Line Placed)) (n : ℕ) → SoundFrom [] None lines → is_some (block_after_lines None (take n lines)) ≡ true → block_after_lines None (take (n + close_len (drop n lines)) lines) ≡ None
+past-inside : (lines : List (Line Placed)) (n : ℕ) → IsSound lines → is_some (block_after_lines None (take n lines)) ≡ true → block_after_lines None (take (n + close_len (drop n lines)) lines) ≡ None
 past-inside lines n sound is =
     let back : List (Line Placed) = drop n lines in
-    let whole : SoundFrom [] None (take n lines ++ back) = subst (SoundFrom [] None) (sym (take-append-drop n lines)) sound in
-    ap (block_after_lines None) (take-add n (close_len back) lines) ∙ block-append None (take n lines) (take (close_len back) back)
-    ∙ closed-in (held_from None (take n lines)) (block_after_lines None (take n lines)) back is (back-sound [] None (take n lines) back whole)
+    let ends : block_after_lines (block_after_lines None (take n lines)) back ≡ None = sym (block-append None (take n lines) back) ∙ ap (block_after_lines None) (take-append-drop n lines) ∙ sound.closed in
+    ap (block_after_lines None) (take-add n (close_len back) lines) ∙ block-append None (take n lines) (take (close_len back) back) ∙ closed-in (block_after_lines None (take n lines)) back is ends
 
-pub past-outside : (lines : List (Line Placed)) (spot : Spot) → SoundFrom [] None lines → IsIn None lines spot → block_after_lines None (take (past_block lines spot) lines) ≡ None
+pub past-outside : (lines : List (Line Placed)) (spot : Spot) → IsSound lines → IsIn None lines spot → block_after_lines None (take (past_block lines spot) lines) ≡ None
 past-outside lines spot sound is = elim (cases_Bool spot.inside) [
   | inl inside ↦ rw inside (past-inside lines spot.before sound (is.inside ∙ inside))
   | inr outside ↦ rw outside (no-block (block_after_lines None (take spot.before lines)) (is.inside ∙ outside))
@@ -280,7 +268,7 @@ put-at new line lines fits fresh sound None is = put-last new lines line fits fr
 put-at new line lines fits fresh sound (Some spot) is =
     let n : ℕ = past_block lines spot in
     let whole : take n lines ++ drop n lines ≡ lines = take-append-drop n lines in
-    put-alone new (take n lines) (drop n lines) line (past-outside lines spot (in-turn lines sound) (is spot refl)) fits
+    put-alone new (take n lines) (drop n lines) line (past-outside lines spot sound (is spot refl)) fits
     (subst (λ (ls : List (Line Placed)). IsNewTo (held_from None ls) new) (sym whole) fresh) (subst IsSound (sym whole) sound)
 
 -- a line outside blocks after the first line that passes the test

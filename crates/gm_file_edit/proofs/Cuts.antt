@@ -3,13 +3,13 @@ use Rattle.std.specs.Borrow.{Bor}
 use Rattle.std.specs.Prelude.{MatchOption}
 use Rattle.gm_file_edit.specs.Views.{split_seen}
 use Rattle.gm_name.proofs.NameTests.{and_both}
-use Rattle.std.proofs.Common.{length-drop, get_or-drop, ◌≡◌, ℕ, ◌+◌, ◌-◌, ◌==◌, ◌&&◌, ◌<◌, ◌≤◌, nat_lt, true, false, List, [], ◌∷◌, length, get_or, drop, take_while, Option, Some, None, inl, inr, refl, subst, ◌∙◌, arith}
+use Rattle.std.proofs.Common.{◌≡◌, ℕ, ◌+◌, ◌-◌, ◌==◌, ◌&&◌, ◌<◌, ◌≤◌, nat_lt, true, false, List, [], ◌∷◌, length, get_or, take_while, Option, Some, None, inl, inr, refl, subst, ◌∙◌, arith}
 use Rattle.std.specs.Prelude.{slice_index}
 use Rattle.std.proofs.lemmas.Bool.{cases_Bool, cases_lt}
 use Rattle.std.proofs.lemmas.Bool.Decides.{nat_tests}
 use Rattle.std.proofs.lemmas.List.Folds.{length-prefix_len}
 use Rattle.std.proofs.lemmas.List.Sums.{prefix_len-le-length, prefix_len_passes}
-use Rattle.std.proofs.lemmas.Str.{IsCharBoundary-start, IsCharBoundary-after_ascii, IsCharBoundary-before_ascii}
+use Rattle.std.proofs.lemmas.Str.{IsCharBoundary-start, IsCharBoundary-after_ascii}
 use Rattle.std.specs.List.{position_or_len, prefix_len, before_first, after_first}
 use Rattle.std.specs.Str.{IsCharBoundary, IsUtf8}
 use Rattle.gm_file_edit.specs.Edits.{split_at_byte, has_byte, is_bracketed, is_space_or_tab}
@@ -67,15 +67,3 @@ open-boundary text utf8 e =
     let at : slice_index text 0 ≡ 91 = grind (arith, nat_tests) in
     let small : get_or text 0 0 < 128 = grind arith in
     IsCharBoundary-after_ascii text 0 utf8 (omega (arith, long)) small
-
-pub close-boundary : (text rest : List ℕ) → rest ≡ drop 1 text → is_bracketed text ≡ true → IsCharBoundary rest (length rest - 1)
-close-boundary text rest is e =
-    let outer = and_both (nat_lt 1 (length text) && (slice_index text 0 == 91)) (slice_index text (length text - 1) == 93) e in
-    let inner = and_both (nat_lt 1 (length text)) (slice_index text 0 == 91) outer.0 in
-    let long : 1 < length text = grind (arith, nat_tests) in
-    let at : slice_index text (length text - 1) ≡ 93 = grind (arith, nat_tests) in
-    let some : length rest ≡ length text - 1 = rw is (length-drop 1 text) in
-    let place : 1 + (length rest - 1) ≡ length text - 1 = omega (arith, some, long) in
-    let read : get_or rest (length rest - 1) 0 ≡ get_or text (1 + (length rest - 1)) 0 = rw is (get_or-drop 1 text (length (drop 1 text) - 1) 0) in
-    let small : get_or rest (length rest - 1) 0 < 128 = rw (read, place) (grind arith) in
-    IsCharBoundary-before_ascii rest (length rest - 1) (omega (arith, some, long)) small

@@ -29,10 +29,9 @@ use Rattle.gm_file_edit.specs.About.{about, is_replaced_by, requires_path}
 use Rattle.gm_file_edit.specs.Adding.{verb_text}
 use Rattle.gm_file_edit.specs.Edited.{changed, edited, put_in}
 use Rattle.gm_file_edit.specs.Kinds.{is_fit}
-use Rattle.gm_file_edit.specs.Fates.{renewed}
 use Rattle.gm_file_edit.specs.Holding.{directive_at, passes}
 use Rattle.gm_file_edit.specs.NewWords.{interval_words, made_word, pair_words, replace_words, single}
-use Rattle.gm_file_edit.specs.Renewing.{made_new, with_arguments, with_last}
+use Rattle.gm_file_edit.specs.Renewing.{with_arguments, with_last}
 use Rattle.gm_file_edit.specs.Searching.{is_there, is_there_from}
 use Rattle.gm_file_edit.specs.Sound.{AreVersions, IsPairOfNames, IsSoundEdit}
 use Rattle.gm_file_edit.proofs.AddingSound.{IsAddition, added-sound, after-first-sound, held_from, single-fits}
@@ -146,22 +145,6 @@ unfolding can_be_bare bare_len is_word_byte is_blank is_bracket_or_comma is_quot
 go-named = refl
 
 -- ---- the lines after an operation
-
-pub module-changed : (path : List ℕ) (lines : List (Line Placed)) → changed (Set (ModuleIs path)) lines ≡ renewed (about (Set (ModuleIs path))) (made_new (Set (ModuleIs path))) lines
-unfolding changed
-module-changed path lines = refl
-
-pub go-changed : (text : List ℕ) (lines : List (Line Placed)) → changed (Set (GoIs text)) lines ≡ renewed (about (Set (GoIs text))) (made_new (Set (GoIs text))) lines
-unfolding changed
-go-changed text lines = refl
-
-pub require-changed : (p : ModuleVersion) (lines : List (Line Placed)) → changed (Set (RequireAt p)) lines ≡ renewed (about (Set (RequireAt p))) (made_new (Set (RequireAt p))) lines
-unfolding changed
-require-changed p lines = refl
-
-pub replace-changed : (r : Replacing) (lines : List (Line Placed)) → changed (Set (ReplaceWith r)) lines ≡ renewed (about (Set (ReplaceWith r))) (made_new (Set (ReplaceWith r))) lines
-unfolding changed
-replace-changed r lines = refl
 
 changed-sound : (edit : Edit) (lines : List (Line Placed)) → IsSoundEdit edit → is_fit edit ≡ true → IsSound lines → IsSound (changed edit lines)
 unfolding changed

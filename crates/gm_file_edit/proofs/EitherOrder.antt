@@ -27,9 +27,6 @@ filter-hit test d ds e = rw e refl
 filter-miss : (test : Directive → Bool) (d : Directive) (ds : List Directive) → test d ≡ false → filter test (d ∷ ds) ≡ filter test ds
 filter-miss test d ds e = rw e refl
 
-not-is : (b c : Bool) → b ≡ c → not b ≡ not c
-not-is b c e = ap not e
-
 first-false : (a b : Bool) → (a && b) ≡ false → b ≡ true → a ≡ false
 first-false true b e f = absurd (true≢false (sym f ∙ e))
 first-false false b e f = refl

@@ -89,10 +89,3 @@ keys-next lines n line keys more key lt is are of pushed =
     pushed ∙ ap (λ (ks : List Key). ks ++ key ∷ []) are
     ∙ ap (λ (k : Key). map key_of (line_views (take n lines)) ++ k ∷ []) (of ∙ ap (λ (l : declared.Line). key_of (line_of l)) is)
     ∙ sym (ap (map key_of) (map_more line_of lines n line lt) ∙ map_push key_of (line_views (take n lines)) (line_of (get_or lines n line)))
-
--- copies of the lines up to and including the next one
-pub copies-next : (lines : List declared.Line) (n : ℕ) (line copy : declared.Line) (copies more : List declared.Line) → n < length lines → line ≡ get_or lines n line → line_views copies ≡ line_views (take n lines)
-    → line_of copy ≡ line_of line → more ≡ copies ++ copy ∷ [] → line_views more ≡ line_views (take (n + 1) lines)
-copies-next lines n line copy copies more lt is are same pushed =
-    ap line_views pushed ∙ map_push line_of copies copy ∙ ap (λ (ls : List (Line Placed)). ls ++ line_of copy ∷ []) are
-    ∙ ap (λ (l : Line Placed). line_views (take n lines) ++ l ∷ []) (same ∙ ap line_of is) ∙ sym (map_more line_of lines n line lt)

@@ -2,7 +2,6 @@
 use Rattle.std.proofs.Common.{◌≡◌, ◌&&◌, ℕ, suc, ◌+◌, ◌<◌, ◌≤◌, not, Bool, true, false, List, [], ◌∷◌, ◌++◌, length, take, set, replicate, Option, Some, None, is_some, refl, sym, ap, subst, ◌∙◌, append_assoc, arith, inl, inr, drop, get_or}
 use Rattle.std.specs.Prelude.{take_while}
 use Rattle.std.specs.List.{prefix_len}
-use Rattle.std.specs.Option.{option_to_list}
 use Rattle.std.proofs.lemmas.List.{drop_all, length-append}
 use Rattle.std.proofs.lemmas.Bool.{cases_Bool}
 use Rattle.gm_syntax.specs.Tokens.{Placed}
@@ -27,7 +26,7 @@ use Rattle.gm_file_edit.specs.Keys.{does_tell, key_of, may_concern, scope_after,
 use Rattle.gm_file_edit.specs.Subjects.{sought_of}
 use Rattle.gm_file_edit.proofs.Packs.{get_or-default}
 use Rattle.gm_file_edit.proofs.PassedOver.{scope-next, target-by}
-use Rattle.gm_file_edit.proofs.Sound.{SoundFrom}
+use Rattle.gm_file_edit.proofs.Pairs.{AreRightFrom, IsSound}
 use Rattle.gm_file_edit.proofs.Walking.{drop-next}
 
 -- ---- the loop that marks lines
@@ -44,7 +43,7 @@ no_marks (line ∷ lines) = false ∷ no_marks lines
 -- Loop invariant: the first marks and those of the rest are the marks of the whole, the other lines have none yet, and
 -- the rest is valid.
 pub record IsMarkedTo (test : Directive → Bool) (whole rest : List (Line Placed)) (block : Option Placed) (n : ℕ) (marks : List Bool) : Type 0 where
-  pub sound : (earlier : List Directive) × SoundFrom earlier block rest
+  pub right : AreRightFrom block rest
   pub front : List Bool
   pub count : length front ≡ n
   pub all : marks ≡ front ++ no_marks rest
@@ -54,16 +53,16 @@ none-so-far : (lines : List (Line Placed)) → replicate (length lines) false �
 none-so-far [] = refl
 none-so-far (line ∷ lines) = ap (λ (ms : List Bool). false ∷ ms) (none-so-far lines)
 
-pub mark-begin : (test : Directive → Bool) (whole : List (Line Placed)) → SoundFrom [] None whole → (marks : List Bool) (n : ℕ) → n ≡ length whole → marks ≡ replicate n false → IsMarkedTo test whole whole None 0 marks
+pub mark-begin : (test : Directive → Bool) (whole : List (Line Placed)) → IsSound whole → (marks : List Bool) (n : ℕ) → n ≡ length whole → marks ≡ replicate n false → IsMarkedTo test whole whole None 0 marks
 mark-begin test whole sound marks n long is =
-    record { sound = ([], sound); front = []; count = refl; all = is ∙ ap (λ (k : ℕ). replicate k false) long ∙ none-so-far whole; left = refl }
+    record { right = sound.lines_are.right; front = []; count = refl; all = is ∙ ap (λ (k : ℕ). replicate k false) long ∙ none-so-far whole; left = refl }
 
 marks-count-of : (lines : List (Line Placed)) → length (no_marks lines) ≡ length lines
 marks-count-of [] = refl
 marks-count-of (line ∷ lines) = ap suc (marks-count-of lines)
 
 pub mark-right : (test : Directive → Bool) (whole rest more : List (Line Placed)) (block : Option Placed) (n : ℕ) (line : Line Placed) (marks : List Bool) → rest ≡ line ∷ more → IsMarkedTo test whole rest block n marks → IsValidAt block line
-mark-right test whole rest more block n line marks is so = let s = subst (SoundFrom so.sound.0 block) is so.sound.1 in (so.sound.0, s.1)
+mark-right test whole rest more block n line marks is so = let right = subst (AreRightFrom block) is so.right in right.0.1
 
 set-next : (front back : List Bool) (mark : Bool) (n : ℕ) → length front ≡ n → set (front ++ false ∷ back) n mark ≡ (front ++ mark ∷ []) ++ back
 set-next front back mark n count = ap (λ (k : ℕ). set (front ++ false ∷ back) k mark) (sym count) ∙ written front
@@ -75,11 +74,11 @@ set-next front back mark n count = ap (λ (k : ℕ). set (front ++ false ∷ bac
 pub mark-more : (test : Directive → Bool) (whole rest more : List (Line Placed)) (block next_block : Option Placed) (n : ℕ) (line : Line Placed) (marks next : List Bool) (mark : Bool) → rest ≡ line ∷ more → next_block ≡ block_after_line block line
     → mark ≡ passes test (directive_at block line) → next ≡ set marks n mark → IsMarkedTo test whole rest block n marks → IsMarkedTo test whole more next_block (n + 1) next
 mark-more test whole rest more block next_block n line marks next mark is behind tested put so =
-    let s = subst (SoundFrom so.sound.0 block) is so.sound.1 in
+    let right = subst (AreRightFrom block) is so.right in
     let long = length-append so.front (mark ∷ []) in
     let count = so.count in
     rw behind (record {
-      sound = (so.sound.0 ++ option_to_list (directive_at block line), s.2);
+      right = right.1;
       front = so.front ++ mark ∷ [];
       count = omega (arith, long, count);
       all =
@@ -105,7 +104,7 @@ mark-read test whole n block next_block line marks next mark lt is behind tested
 
 here-stands : (test : Directive → Bool) (whole : List (Line Placed)) (n : ℕ) (block : Option Placed) (line : Line Placed) (marks : List Bool) → n < length whole → line ≡ line_at whole n
     → IsMarkedTo test whole (drop n whole) block n marks → IsValidLine (is_some block) (plain line)
-here-stands test whole n block line marks lt is so = (subst (SoundFrom so.sound.0 block) (here whole n line lt is) so.sound.1).0
+here-stands test whole n block line marks lt is so = (subst (AreRightFrom block) (here whole n line lt is) so.right).0.0
 
 pub mark-end : (test : Directive → Bool) (whole rest : List (Line Placed)) (block : Option Placed) (n : ℕ) (marks : List Bool) → rest ≡ [] → IsMarkedTo test whole rest block n marks → marks ≡ marks_from test None whole
 mark-end test whole rest block n marks is so =
@@ -140,7 +139,7 @@ pub record AreMarkedTo (edit : Edit) (whole : List (Line Placed)) (at : Scope) (
   scope : at ≡ scope_of (verb_sought edit) block
   marked : IsMarkedTo (about edit) whole (drop n whole) block n marks
 
-pub scan-begin : (edit : Edit) (whole : List (Line Placed)) (at : Scope) → at ≡ scope.Outside → SoundFrom [] None whole → (marks : List Bool) (n : ℕ) → n ≡ length whole → marks ≡ replicate n false → AreMarkedTo edit whole at 0 marks
+pub scan-begin : (edit : Edit) (whole : List (Line Placed)) (at : Scope) → at ≡ scope.Outside → IsSound whole → (marks : List Bool) (n : ℕ) → n ≡ length whole → marks ≡ replicate n false → AreMarkedTo edit whole at 0 marks
 scan-begin edit whole at outside sound marks n long is = record { block = None; scope = outside; marked = mark-begin (about edit) whole sound marks n long is }
 
 -- one more line
@@ -168,9 +167,6 @@ scan-end edit whole at n marks over so = mark-end (about edit) whole (drop n who
 
 pub scan-size : (edit : Edit) (whole : List (Line Placed)) (at : Scope) (n : ℕ) (marks : List Bool) → AreMarkedTo edit whole at n marks → length marks ≡ length whole
 scan-size edit whole at n marks so = mark-size (about edit) whole (drop n whole) so.block n marks so.marked
-
-pub scan-within : (edit : Edit) (whole : List (Line Placed)) (at : Scope) (n : ℕ) (marks : List Bool) → AreMarkedTo edit whole at n marks → n ≤ length whole
-scan-within edit whole at n marks so = mark-within (about edit) whole (drop n whole) so.block n marks so.marked
 
 -- ---- the first mark
 

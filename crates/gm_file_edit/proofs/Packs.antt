@@ -1,10 +1,10 @@
 -- Lines of which those with a mark are removed in place, step by step.
-use Rattle.std.proofs.Common.{◌≡◌, ℕ, suc, ◌+◌, ◌-◌, ◌<◌, ◌≤◌, zero, Bool, true, false, List, [], ◌∷◌, ◌++◌, length, take, drop, get_or, set, Some, refl, sym, ap, subst, drop-cons, ◌∙◌, append-nil, append_assoc, arith}
+use Rattle.std.proofs.Common.{◌≡◌, ℕ, suc, ◌+◌, ◌-◌, ◌<◌, ◌≤◌, zero, Bool, true, false, List, [], ◌∷◌, ◌++◌, length, take, drop, get_or, set, Some, refl, sym, ap, subst, drop-cons, ◌∙◌, append_assoc, arith}
 use Rattle.std.specs.List.{list_any, swap}
 use Rattle.std.proofs.Math.Seq.{drop-append_seam}
 use Rattle.std.proofs.Math.ListN.{get_or-map}
 use Rattle.std.proofs.lemmas.List.Edits.{swap_is}
-use Rattle.std.proofs.lemmas.List.{drop_all, drop-drop, drop-map, drop-set-lt, length-append, length-drop, length-map, length-take-le, take_all, take_more, take_more_set, take-set-le}
+use Rattle.std.proofs.lemmas.List.{drop-drop, drop-map, drop-set-lt, length-append, length-drop, length-map, length-take-le, take_all, take_more, take_more_set, take-set-le}
 use Rattle.gm_syntax.specs.declared.line.Line as declared
 use Rattle.gm_syntax.specs.LineViews.{line_of, line_views}
 use Rattle.gm_syntax.specs.Tokens.{Placed}
@@ -51,9 +51,6 @@ get_or-other [] n c d lt = absurd (omega (arith, lt))
 get_or-other (x ∷ xs) zero c d lt = refl
 get_or-other (x ∷ xs) (suc n) c d lt = get_or-other xs n c d (omega (arith, lt))
 
-pub line-at-is : (xs : List declared.Line) (n : ℕ) (line : declared.Line) → n < length xs → line ≡ get_or xs n line → line_of line ≡ line_at (line_views xs) n
-line-at-is xs n line lt is = ap line_of is ∙ sym (get_or-map line_of xs n line) ∙ get_or-other (line_views xs) n (line_of line) Blank (let e = length-map xs line_of in omega (arith, lt, e))
-
 -- ---- the loop that keeps lines
 
 -- Loop invariant: the lines from an index on are still those of the whole, and with those that are kept so far they
@@ -63,9 +60,6 @@ pub record IsKeptTo (marks : List Bool) (whole : List (Line Placed)) (n count : 
   pub bound : count ≤ n
   pub rest : drop n lines ≡ drop n whole
   pub left : take count lines ++ kept (marked (drop n marks) (drop n whole)) ≡ kept (marked marks whole)
-
-pub keep-begin : (marks : List Bool) (whole : List (Line Placed)) → IsKeptTo marks whole 0 0 whole
-keep-begin marks whole = record { len = refl; bound = omega arith; rest = refl; left = refl }
 
 -- a line that stays is kept, and one that goes is passed over
 left-more : (mark : Bool) (front new : List (Line Placed)) (line : Line Placed) (fates : List Fate) → (mark ≡ true → new ≡ front) → (mark ≡ false → new ≡ front ++ line ∷ []) → new ++ kept fates ≡ front ++ kept (fate_by mark line ∷ fates)
@@ -91,10 +85,6 @@ keep-more marks whole n count next lines new mark lt even is len bound same gone
           ∙ so.left;
     }
 
-pub keep-end : (marks : List Bool) (whole : List (Line Placed)) (n count : ℕ) (lines : List (Line Placed)) → length marks ≤ n → IsKeptTo marks whole n count lines → take count lines ≡ kept (marked marks whole)
-keep-end marks whole n count lines le so =
-    sym (append-nil (take count lines)) ∙ ap (λ (ms : List Bool). take count lines ++ kept (marked ms (drop n whole))) (sym (drop_all n marks le)) ∙ so.left
-
 -- ---- the loop that widens marks
 
 -- Loop invariant: the first marks are widened, and the others are as they were.
@@ -103,9 +93,6 @@ pub record IsWidenedTo (whole : List (Line Placed)) (old : List Bool) (n : ℕ) 
   pub count : length front ≡ n
   pub all : marks ≡ front ++ drop n old
   pub left : marked front (take n whole) ++ widened_from inside goes (marked (drop n old) (drop n whole)) ≡ widened_from false false (marked old whole)
-
-pub widen-begin : (whole : List (Line Placed)) (old : List Bool) → IsWidenedTo whole old 0 false false old
-widen-begin whole old = record { front = []; count = refl; all = refl; left = refl }
 
 marked-more : (front : List Bool) (lines : List (Line Placed)) (mark : Bool) (line : Line Placed) → length front ≡ length lines → marked (front ++ mark ∷ []) (lines ++ line ∷ []) ≡ marked front lines ++ fate_by mark line ∷ []
 marked-more [] [] mark line even = refl
@@ -201,13 +188,6 @@ widen-marked xs old n inside goes seen marks line even lt line_is seen_is has_ma
     let mark_is : true ≡ get_or marks n true = sym has_mark ∙ seen_is ∙ ap (get_or marks n) has_mark in
     widen-more (line_views xs) old n inside goes inside goes true true marks marks (line_of line) (omega (arith, even, long)) (omega (arith, lt, long))
     (ap line_of line_is ∙ sym (get_or-map line_of xs n line)) mark_is (omega (arith, size, even, lt)) (λ fates is. refl) (set-held marks n true (omega (arith, size, even, lt)) mark_is) so
-
-pub widen-end : (whole : List (Line Placed)) (old : List Bool) (n : ℕ) (inside goes : Bool) (marks : List Bool) → length old ≡ length whole → length whole ≤ n → IsWidenedTo whole old n inside goes marks → marked marks whole ≡ widened_from false false (marked old whole)
-widen-end whole old n inside goes marks even le so =
-    let none : drop n old ≡ [] = drop_all n old (omega (arith, even, le)) in
-    let are : marks ≡ so.front = so.all ∙ ap (λ (ms : List Bool). so.front ++ ms) none ∙ append-nil so.front in
-    ap (λ (ms : List Bool). marked ms whole) are ∙ ap (marked so.front) (sym (take_all n whole le)) ∙ sym (append-nil (marked so.front (take n whole)))
-    ∙ ap (λ (ms : List Bool). marked so.front (take n whole) ++ widened_from inside goes (marked ms (drop n whole))) (sym none) ∙ so.left
 
 -- ---- no line with a mark
 

@@ -32,6 +32,10 @@ held_in seats = filter_map held_at seats
 abbrev pub IsRightLine : Seat → Type 0
 IsRightLine seat = IsValidLine (is_some seat.0) (plain seat.1) × (item_kinds Strict [] (item_of seat.0 seat.1) ≡ [])
 
+-- each line from here on is right, given the block that is open before them
+abbrev pub AreRightFrom : Option Placed → List (Line Placed) → Type 0
+AreRightFrom block lines = AllByRecursion IsRightLine (with_blocks_from block lines)
+
 -- each line is right, no two directives clash, and a module is declared
 pub record AreSound (seats : List Seat) : Type 0 where
   pub right : AllByRecursion IsRightLine seats
@@ -44,9 +48,6 @@ pub record IsSound (lines : List (Line Placed)) : Type 0 where
   pub closed : block_after_lines None lines ≡ None
 
 -- ---- the same as a document without a fault
-
-plain_seat : Seat → LineInBlock Word
-plain_seat seat = (option_map word_of seat.0, plain seat.1)
 
 pub block-plain : (block : Option Placed) (line : Line Placed) → block_after_line (option_map word_of block) (plain line) ≡ option_map word_of (block_after_line block line)
 block-plain block Blank = refl
@@ -76,14 +77,14 @@ plain-held block (line ∷ lines) =
     ∙ ap (cons_option (directive_at block line)) (plain-held (block_after_line block line) lines)
 
 right-lines : (inside : Bool) (block : Option Placed) (lines : List (Line Placed)) → inside ≡ is_some block → AreValidFrom inside (plain_lines lines) → inside_after_all inside (plain_lines lines) ≡ false
-    → AreAlone (option_map word_of block) (plain_lines lines) → AllByRecursion IsRightLine (with_blocks_from block lines) × (block_after_lines block lines ≡ None)
+    → AreAlone (option_map word_of block) (plain_lines lines) → AreRightFrom block lines × (block_after_lines block lines ≡ None)
 right-lines inside block [] at stand ends alone = (tt, no-block block (sym at ∙ ends))
 right-lines inside block (line ∷ lines) at stand ends alone =
     let rest = right-lines (inside_after inside (plain line)) (block_after_line block line) lines (inside-plain inside block line at) stand.1 ends
     (subst (λ (b : Option Word). AreAlone b (plain_lines lines)) (block-plain block line) alone.1) in
     (((subst (λ (b : Bool). IsValidLine b (plain line)) at stand.0, alone.0), rest.0), rest.1)
 
-lines-right : (inside : Bool) (block : Option Placed) (lines : List (Line Placed)) → inside ≡ is_some block → AllByRecursion IsRightLine (with_blocks_from block lines) → block_after_lines block lines ≡ None
+lines-right : (inside : Bool) (block : Option Placed) (lines : List (Line Placed)) → inside ≡ is_some block → AreRightFrom block lines → block_after_lines block lines ≡ None
     → (AreValidFrom inside (plain_lines lines) × (inside_after_all inside (plain_lines lines) ≡ false)) × AreAlone (option_map word_of block) (plain_lines lines)
 lines-right inside block [] at right closed = ((tt, at ∙ ap is_some closed), tt)
 lines-right inside block (line ∷ lines) at right closed =

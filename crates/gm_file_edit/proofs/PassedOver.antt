@@ -48,7 +48,7 @@ own-added : (v : AddedVerb) → IsOwn (verb.Added v)
 own-added added.Require = refl
 own-added v = refl
 
-same-in-file : (own other : Verb) → IsOwn own → is_same_verb own other ≡ verb_eq (verb_in_file own) (verb_in_file other)
+same-in-file : (own second : Verb) → IsOwn own → is_same_verb own second ≡ verb_eq (verb_in_file own) (verb_in_file second)
 same-in-file verb.Module verb.Module is = refl
 same-in-file verb.Module (verb.Added added.Require) is = refl
 same-in-file verb.Go verb.Go is = refl
@@ -186,13 +186,13 @@ own-told edit earlier text words good spelled right =
 target-inside : (edit : Edit) (word : Placed) (words : List Placed) (suffix : Option (List ℕ)) (own : Bool) → verb_eq (verb_about edit) (main_verb word.word.spelling) ≡ own → AreWords words → IsValidAt (Some word) (Entry words suffix)
     → (is_entry_by (verb_sought edit) (scope_if own) (words_key words) && does_tell_by (sought_of edit) (scope_if own) words) ≡ passes (about edit) (directive_at (Some word) (Entry words suffix))
 unfolding item_at
-target-inside edit word words suffix true spelled good valid = own-told edit valid.0 word.word.spelling words good spelled valid.1
+target-inside edit word words suffix true spelled good valid = own-told edit [] word.word.spelling words good spelled valid
 target-inside edit word words suffix false spelled good valid = sym (block-other edit word words suffix (other-verb edit word.word.spelling (words_of words) spelled))
 
 target-outside : (edit : Edit) (word : Placed) (words : List Placed) (suffix : Option (List ℕ)) (own : Bool) → verb_eq (verb_about edit) (main_verb word.word.spelling) ≡ own → is_empty_block (words_of words) ≡ false → AreWords words
     → IsValidAt None (Entry (word ∷ words) suffix) → (own && is_told (sought_of edit) (subject_outside (word ∷ words))) ≡ passes (about edit) (directive_at None (Entry (word ∷ words) suffix))
 unfolding item_at
-target-outside edit word words suffix true spelled full good valid = rw full (own-told edit valid.0 word.word.spelling words good spelled (rw full at valid.1))
+target-outside edit word words suffix true spelled full good valid = rw full (own-told edit [] word.word.spelling words good spelled (rw full at valid))
 target-outside edit word words suffix false spelled full good valid = sym (loose-other edit word words suffix (other-verb edit word.word.spelling (words_of words) spelled))
 
 block-passes : (edit : Edit) (word : Placed) (words : List Placed) (suffix : Option (List ℕ)) → is_empty_block (words_of words) ≡ true → passes (about edit) (directive_at None (Entry (word ∷ words) suffix)) ≡ false

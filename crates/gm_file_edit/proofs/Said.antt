@@ -18,10 +18,10 @@ use Rattle.gm_file_edit.specs.NewWords.{entry_at, single}
 use Rattle.gm_file_edit.specs.Fates.{Fate, dropped, dropping_from, kept, remaining, renewed, renewing_from}
 use Rattle.gm_file_edit.specs.Holding.{directive_at, passes}
 use Rattle.gm_file_edit.specs.Searching.{is_there, is_there_from}
-use Rattle.gm_file_edit.proofs.AddingSound.{Fits, IsAddition, IsIn, IsVerbSpot, back-sound, entry-fits, first-is-in, held-append, held_from, last-is, passing-level, past-outside}
+use Rattle.gm_file_edit.proofs.AddingSound.{Fits, IsAddition, IsIn, IsVerbSpot, entry-fits, first-is-in, held-append, held_from, last-is, passing-level, past-outside}
 use Rattle.gm_file_edit.proofs.Leaving.{IsMadeNew}
 use Rattle.gm_file_edit.proofs.Seats.{remaining-seats, seats_from}
-use Rattle.gm_file_edit.proofs.Sound.{SoundFrom}
+use Rattle.gm_file_edit.proofs.Pairs.{AreRightFrom, IsSound}
 use Rattle.gm_file_edit.proofs.Spots.{added-spot, first-spot}
 
 -- ---- lists of directives
@@ -156,46 +156,46 @@ first-held test said make makes block line lines holds stands =
     ∙ ap (λ (ds : List Directive). said ∷ ds) (dropping-held test behind lines)
 
 renewing-others : (test : Directive → Bool) (said : Directive) (make : Option Placed → Line Placed → Line Placed) → test said ≡ true → Makes test said make
-    → (earlier : List Directive) (block : Option Placed) (lines : List (Line Placed)) → SoundFrom earlier block lines
+    → (block : Option Placed) (lines : List (Line Placed)) → AreRightFrom block lines
     → filter (others test) (held_from block (kept (renewing_from test make block lines))) ≡ filter (others test) (held_from block lines)
-renewing-others test said make own makes earlier block [] sound = refl
-renewing-others test said make own makes earlier block (line ∷ lines) sound =
+renewing-others test said make own makes block [] right = refl
+renewing-others test said make own makes block (line ∷ lines) right =
     let behind : Option Placed = block_after_line block line in
     let rest : List Directive = held_from behind lines in
     elim (cases_Bool (passes test (directive_at block line))) [
       | inl holds ↦
-          rw holds (ap (filter (others test)) (first-held test said make makes block line lines holds sound.0) ∙ filter-none (others test) said (filter (others test) rest) (other-false test said own)
+          rw holds (ap (filter (others test)) (first-held test said make makes block line lines holds right.0.0) ∙ filter-none (others test) said (filter (others test) rest) (other-false test said own)
           ∙ others-twice test rest ∙ sym (gone-held test (directive_at block line) rest holds))
       | inr fails ↦
           rw fails (same-front (others test) (option_to_list (directive_at block line)) (held_from behind (kept (renewing_from test make behind lines))) rest
-          (renewing-others test said make own makes (earlier ++ option_to_list (directive_at block line)) behind lines sound.2))
+          (renewing-others test said make own makes behind lines right.1))
     ]
 
 or-second : (a b : Bool) → a ≡ false → (a || b) ≡ true → b ≡ true
 or-second a b e f = ap (λ (x : Bool). x || b) (sym e) ∙ f
 
 renewing-alone : (test : Directive → Bool) (said : Directive) (make : Option Placed → Line Placed → Line Placed) → test said ≡ true → Makes test said make
-    → (earlier : List Directive) (block : Option Placed) (lines : List (Line Placed)) → SoundFrom earlier block lines → is_there_from test block lines ≡ true
+    → (block : Option Placed) (lines : List (Line Placed)) → AreRightFrom block lines → is_there_from test block lines ≡ true
     → filter test (held_from block (kept (renewing_from test make block lines))) ≡ said ∷ []
-renewing-alone test said make own makes earlier block [] sound there = absurd cc
-renewing-alone test said make own makes earlier block (line ∷ lines) sound there =
+renewing-alone test said make own makes block [] right there = absurd cc
+renewing-alone test said make own makes block (line ∷ lines) right there =
     let behind : Option Placed = block_after_line block line in
     let rest : List Directive = held_from behind lines in
     elim (cases_Bool (passes test (directive_at block line))) [
       | inl holds ↦
-          rw holds (ap (filter test) (first-held test said make makes block line lines holds sound.0) ∙ filter-one test said (filter (others test) rest) own ∙ ap (λ (ds : List Directive). said ∷ ds) (none-of-others test rest))
+          rw holds (ap (filter test) (first-held test said make makes block line lines holds right.0.0) ∙ filter-one test said (filter (others test) rest) own ∙ ap (λ (ds : List Directive). said ∷ ds) (none-of-others test rest))
       | inr fails ↦
           rw fails (past-held test (directive_at block line) (held_from behind (kept (renewing_from test make behind lines))) fails
-          ∙ renewing-alone test said make own makes (earlier ++ option_to_list (directive_at block line)) behind lines sound.2 (or-second (passes test (directive_at block line)) (is_there_from test behind lines) fails there))
+          ∙ renewing-alone test said make own makes behind lines right.1 (or-second (passes test (directive_at block line)) (is_there_from test behind lines) fails there))
     ]
 
 pub renewed-others : (test : Directive → Bool) (said : Directive) (make : Option Placed → Line Placed → Line Placed) → test said ≡ true → Makes test said make
-    → (lines : List (Line Placed)) → SoundFrom [] None lines → filter (others test) (held_from None (renewed test make lines)) ≡ filter (others test) (held_from None lines)
-renewed-others test said make own makes lines sound = ap (filter (others test)) (left-held (renewing_from test make None lines)) ∙ renewing-others test said make own makes [] None lines sound
+    → (lines : List (Line Placed)) → IsSound lines → filter (others test) (held_from None (renewed test make lines)) ≡ filter (others test) (held_from None lines)
+renewed-others test said make own makes lines sound = ap (filter (others test)) (left-held (renewing_from test make None lines)) ∙ renewing-others test said make own makes None lines sound.lines_are.right
 
 pub renewed-alone : (test : Directive → Bool) (said : Directive) (make : Option Placed → Line Placed → Line Placed) → test said ≡ true → Makes test said make
-    → (lines : List (Line Placed)) → SoundFrom [] None lines → is_there test lines ≡ true → filter test (held_from None (renewed test make lines)) ≡ said ∷ []
-renewed-alone test said make own makes lines sound there = ap (filter test) (left-held (renewing_from test make None lines)) ∙ renewing-alone test said make own makes [] None lines sound there
+    → (lines : List (Line Placed)) → IsSound lines → is_there test lines ≡ true → filter test (held_from None (renewed test make lines)) ≡ said ∷ []
+renewed-alone test said make own makes lines sound there = ap (filter test) (left-held (renewing_from test make None lines)) ∙ renewing-alone test said make own makes None lines sound.lines_are.right there
 
 -- ---- what is said after an entry is added
 
@@ -234,13 +234,11 @@ alone-put new front back line outside fits =
           ∙ ap (λ (ds : List Directive). held_from None front ++ ds) (blank-first (block_after_lines None front) (line ∷ back) ∙ fits-held new (block_after_lines None front) line back here);
     }
 
-last-put : (new : Directive) (lines : List (Line Placed)) (line : Line Placed) → Fits None new line → SoundFrom [] None lines → IsPutIn new (held_from None lines) (held_from None (lines ++ Blank ∷ line ∷ []))
+last-put : (new : Directive) (lines : List (Line Placed)) (line : Line Placed) → Fits None new line → IsSound lines → IsPutIn new (held_from None lines) (held_from None (lines ++ Blank ∷ line ∷ []))
 last-put new lines line fits sound =
-    let same : lines ≡ lines ++ [] = sym (append-nil lines) in
-    let whole : SoundFrom [] None (lines ++ []) = subst (SoundFrom [] None) same sound in
-    subst (λ (ls : List (Line Placed)). IsPutIn new (held_from None ls) (held_from None (lines ++ Blank ∷ line ∷ []))) (append-nil lines) (alone-put new lines [] line (back-sound [] None lines [] whole).0 fits)
+    subst (λ (ls : List (Line Placed)). IsPutIn new (held_from None ls) (held_from None (lines ++ Blank ∷ line ∷ []))) (append-nil lines) (alone-put new lines [] line sound.closed fits)
 
-added-at-put : (v : AddedVerb) (arguments : List Placed) (new : Directive) (lines : List (Line Placed)) → IsAddition v arguments new → SoundFrom [] None lines
+added-at-put : (v : AddedVerb) (arguments : List Placed) (new : Directive) (lines : List (Line Placed)) → IsAddition v arguments new → IsSound lines
     → (o : Option Spot) → ((spot : Spot) → o ≡ Some spot → IsVerbSpot v None lines spot) → IsPutIn new (held_from None lines) (held_from None (added_at (verb_text v) arguments lines o))
 added-at-put v arguments new lines so sound None is = last-put new lines (single (verb_text v) arguments) (entry-fits v arguments new None tt so) sound
 added-at-put v arguments new lines so sound (Some spot) is =
@@ -251,13 +249,13 @@ added-at-put v arguments new lines so sound (Some spot) is =
     subst (λ (ls : List (Line Placed)). IsPutIn new (held_from None ls) (held_from None (front ++ entry ∷ back))) (take-append-drop spot.before lines)
     (line-put new front back entry (subst (λ (b : Bool). Fits (block_after_lines None front) new (entry_at b (verb_text v) arguments)) here.0.inside (entry-fits v arguments new (block_after_lines None front) here.1 so)))
 
-pub added-put : (v : AddedVerb) (arguments : List Placed) (new : Directive) (lines : List (Line Placed)) → IsAddition v arguments new → SoundFrom [] None lines
+pub added-put : (v : AddedVerb) (arguments : List Placed) (new : Directive) (lines : List (Line Placed)) → IsAddition v arguments new → IsSound lines
     → IsPutIn new (held_from None lines) (held_from None (added (is_of v) (verb_text v) arguments lines))
 added-put v arguments new lines so sound =
     subst (λ (ls : List (Line Placed)). IsPutIn new (held_from None lines) (held_from None ls)) (sym (added-spot (is_of v) (verb_text v) arguments lines))
     (added-at-put v arguments new lines so sound (spot_after_last (is_of v) None lines) (last-is v None lines))
 
-behind-put : (new : Directive) (line : Line Placed) (lines : List (Line Placed)) → Fits None new line → SoundFrom [] None lines
+behind-put : (new : Directive) (line : Line Placed) (lines : List (Line Placed)) → Fits None new line → IsSound lines
     → (o : Option Spot) → ((spot : Spot) → o ≡ Some spot → IsIn None lines spot) → IsPutIn new (held_from None lines) (held_from None (insert_at_spot (Blank ∷ line ∷ []) lines o))
 behind-put new line lines fits sound None is = last-put new lines line fits sound
 behind-put new line lines fits sound (Some spot) is =
@@ -265,7 +263,7 @@ behind-put new line lines fits sound (Some spot) is =
     subst (λ (ls : List (Line Placed)). IsPutIn new (held_from None ls) (held_from None (take n lines ++ Blank ∷ line ∷ drop n lines))) (take-append-drop n lines)
     (alone-put new (take n lines) (drop n lines) line (past-outside lines spot sound (is spot refl)) fits)
 
-pub after-first-put : (test : Directive → Bool) (new : Directive) (line : Line Placed) (lines : List (Line Placed)) → Fits None new line → SoundFrom [] None lines
+pub after-first-put : (test : Directive → Bool) (new : Directive) (line : Line Placed) (lines : List (Line Placed)) → Fits None new line → IsSound lines
     → IsPutIn new (held_from None lines) (held_from None (after_first_that test (Blank ∷ line ∷ []) lines))
 after-first-put test new line lines fits sound =
     subst (λ (ls : List (Line Placed)). IsPutIn new (held_from None lines) (held_from None ls)) (sym (first-spot test (Blank ∷ line ∷ []) lines))

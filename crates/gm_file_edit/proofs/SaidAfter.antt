@@ -1,5 +1,5 @@
 -- What a file says after an operation.
-use Rattle.std.proofs.Common.{◌≡◌, if◌then◌else◌, ℕ, ◌==◌, ◌&&◌, ◌||◌, not, Bool, true, false, List, [], ◌∷◌, ◌++◌, Option, Some, None, refl, sym, ap, ◌∙◌, append-nil, append_assoc, inl, inr}
+use Rattle.std.proofs.Common.{◌≡◌, if◌then◌else◌, ℕ, ◌==◌, ◌&&◌, ◌||◌, not, Bool, true, false, List, [], ◌∷◌, Option, Some, None, refl, sym, ap, ◌∙◌, inl, inr}
 use Rattle.std.specs.Prelude.{codes, filter}
 use Rattle.std.specs.Option.{option_to_list}
 use Rattle.std.specs.List.{list_any}
@@ -23,13 +23,13 @@ use Rattle.gm_file_edit.specs.NewWords.{interval_words, made_word, pair_words, r
 use Rattle.gm_file_edit.specs.Renewing.{with_arguments, with_last}
 use Rattle.gm_file_edit.specs.Searching.{is_there, is_there_from}
 use Rattle.gm_file_edit.specs.Sound.{AreVersions, IsPairOfNames, IsSoundEdit, IsSoundLeft, IsSoundRight}
-use Rattle.gm_file_edit.proofs.AddingSound.{file-held, held_from, single-fits}
+use Rattle.gm_file_edit.proofs.AddingSound.{file-held, held-is, held_from, single-fits}
 use Rattle.gm_file_edit.proofs.EditedSound.{addition, ends-are, ends-says, entry-alone, exclude-says, go-named, none-from, pair-are, passes-list, require-says}
 use Rattle.gm_file_edit.proofs.Feeds.{go-feed, no-feed}
 use Rattle.gm_file_edit.proofs.Made.{AreArguments, one-are}
 use Rattle.gm_file_edit.proofs.Renewals.{go-renewal, go-says, module-renewal, replace-are, replace-renewal, replace-says, require-renewal, version-itself}
 use Rattle.gm_file_edit.proofs.Said.{IsPutIn, added-put, after-first-put, dropped-held, others, others-none, others-twice, put-alone, put-others, renewed-alone, renewed-others}
-use Rattle.gm_file_edit.proofs.Sound.{SoundFrom, sound-file}
+use Rattle.gm_file_edit.proofs.Pairs.{IsSound, document-sound}
 use Rattle.gm_file_edit.proofs.Written.{written-sound}
 
 -- ---- an operation targets what it sets or adds
@@ -65,18 +65,12 @@ there-is test block (line ∷ lines) =
     ∙ sym (list_any-append test held rest)
 
 -- a valid file declares a module
-declares : (earlier : List Directive) (block : Option Placed) (lines : List (Line Placed)) → SoundFrom earlier block lines → list_any is_module (earlier ++ held_from block lines) ≡ true
-declares earlier block [] sound = ap (list_any is_module) (append-nil earlier) ∙ sound.1
-declares earlier block (line ∷ lines) sound =
-    let held : List Directive = option_to_list (directive_at block line) in
-    ap (list_any is_module) (sym (append_assoc earlier held (held_from (block_after_line block line) lines))) ∙ declares (earlier ++ held) (block_after_line block line) lines sound.2
-
-module-there : (P : Type 0) (lines : List (Line Placed)) → SoundFrom [] None lines → is_there is_module lines ≡ false → P
-module-there P lines sound none = absurd (true≢false (sym (declares [] None lines sound) ∙ sym (there-is is_module None lines) ∙ none))
+module-there : (P : Type 0) (lines : List (Line Placed)) → IsSound lines → is_there is_module lines ≡ false → P
+module-there P lines sound none = absurd (true≢false (sym sound.lines_are.declared ∙ ap (list_any is_module) (held-is None lines) ∙ sym (there-is is_module None lines) ∙ none))
 
 -- ---- if no entry is targeted
 
-go-put : (text : List ℕ) (lines : List (Line Placed)) → IsSoundEdit (Set (GoIs text)) → SoundFrom [] None lines → IsPutIn (DeclaresGo text) (held_from None lines) (held_from None (put_in (Set (GoIs text)) lines))
+go-put : (text : List ℕ) (lines : List (Line Placed)) → IsSoundEdit (Set (GoIs text)) → IsSound lines → IsPutIn (DeclaresGo text) (held_from None lines) (held_from None (put_in (Set (GoIs text)) lines))
 unfolding put_in
 go-put text lines good sound =
     let plain_text = go-feed text good in
@@ -85,20 +79,20 @@ go-put text lines good sound =
     let alone = entry-alone (codes "go") arguments (no-feed (λ b. not (b == 10)) refl (codes "go") refl) are in
     after-first-put is_module (DeclaresGo text) (single (codes "go") arguments) lines (single-fits (codes "go") ForGo arguments (DeclaresGo text) go-named refl (go-says text plain_text) alone) sound
 
-require-put : (p : ModuleVersion) (lines : List (Line Placed)) → IsPairOfNames p → SoundFrom [] None lines → IsPutIn (Requires p) (held_from None lines) (held_from None (put_in (Set (RequireAt p)) lines))
+require-put : (p : ModuleVersion) (lines : List (Line Placed)) → IsPairOfNames p → IsSound lines → IsPutIn (Requires p) (held_from None lines) (held_from None (put_in (Set (RequireAt p)) lines))
 unfolding put_in
 require-put p lines good sound = added-put verb.Require (pair_words p) (Requires p) lines (addition verb.Require (pair_words p) (Requires p) (pair-are p good) (require-says p good)) sound
 
-exclude-put : (p : ModuleVersion) (lines : List (Line Placed)) → IsPairOfNames p → SoundFrom [] None lines → IsPutIn (Excludes p) (held_from None lines) (held_from None (put_in (Add (Exclude p)) lines))
+exclude-put : (p : ModuleVersion) (lines : List (Line Placed)) → IsPairOfNames p → IsSound lines → IsPutIn (Excludes p) (held_from None lines) (held_from None (put_in (Add (Exclude p)) lines))
 unfolding put_in
 exclude-put p lines good sound = added-put verb.Exclude (pair_words p) (Excludes p) lines (addition verb.Exclude (pair_words p) (Excludes p) (pair-are p good) (exclude-says p good)) sound
 
-replace-put : (r : Replacing) (lines : List (Line Placed)) → IsSoundLeft r.0 → IsSoundRight r.1 → SoundFrom [] None lines → IsPutIn (Replaces r) (held_from None lines) (held_from None (put_in (Set (ReplaceWith r)) lines))
+replace-put : (r : Replacing) (lines : List (Line Placed)) → IsSoundLeft r.0 → IsSoundRight r.1 → IsSound lines → IsPutIn (Replaces r) (held_from None lines) (held_from None (put_in (Set (ReplaceWith r)) lines))
 unfolding put_in
 replace-put r lines left right sound =
     added-put verb.Replace (replace_words r) (Replaces r) lines (addition verb.Replace (replace_words r) (Replaces r) (replace-are r left right) (replace-says r left right)) sound
 
-retract-put : (ends : VersionInterval) (lines : List (Line Placed)) → AreVersions ends → SoundFrom [] None lines → IsPutIn (Retracts ends) (held_from None lines) (held_from None (put_in (Add (Retract ends)) lines))
+retract-put : (ends : VersionInterval) (lines : List (Line Placed)) → AreVersions ends → IsSound lines → IsPutIn (Retracts ends) (held_from None lines) (held_from None (put_in (Add (Retract ends)) lines))
 unfolding put_in
 retract-put ends lines good sound =
     added-put verb.Retract (interval_words ends) (Retracts ends) lines (addition verb.Retract (interval_words ends) (Retracts ends) (ends-are ends good) (ends-says ends good)) sound
@@ -108,7 +102,7 @@ retract-put ends lines good sound =
 drop-others : (test : Directive → Bool) (lines : List (Line Placed)) (after : List Directive) → after ≡ filter (others test) (held_from None lines) → filter (others test) after ≡ filter (others test) (held_from None lines)
 drop-others test lines after is = ap (filter (others test)) is ∙ others-twice test (held_from None lines)
 
-changed-others : (edit : Edit) (lines : List (Line Placed)) → IsSoundEdit edit → is_fit edit ≡ true → SoundFrom [] None lines
+changed-others : (edit : Edit) (lines : List (Line Placed)) → IsSoundEdit edit → is_fit edit ≡ true → IsSound lines
     → filter (others (about edit)) (held_from None (changed edit lines)) ≡ filter (others (about edit)) (held_from None lines)
 unfolding changed
 changed-others (Set (ModuleIs path)) lines good fit sound = let by = module-renewal path good in renewed-others is_module (DeclaresModule path) (with_last path) refl by.made lines sound
@@ -119,7 +113,7 @@ changed-others (Add a) lines good fit sound = refl
 changed-others (Set (ReplaceWith r)) lines good fit sound =
     let by = replace-renewal r good.0 good.1 fit in renewed-others (is_replaced_by r.0) (Replaces r) (with_arguments (replace_words r)) (replace-itself r) by.made lines sound
 
-put-in-others : (edit : Edit) (lines : List (Line Placed)) → IsSoundEdit edit → SoundFrom [] None lines → filter (others (about edit)) (held_from None (put_in edit lines)) ≡ filter (others (about edit)) (held_from None lines)
+put-in-others : (edit : Edit) (lines : List (Line Placed)) → IsSoundEdit edit → IsSound lines → filter (others (about edit)) (held_from None (put_in edit lines)) ≡ filter (others (about edit)) (held_from None lines)
 unfolding put_in
 put-in-others (Set (ModuleIs path)) lines good sound = refl
 put-in-others (Set (GoIs text)) lines good sound = put-others is_go (DeclaresGo text) (held_from None lines) _ refl (go-put text lines good sound)
@@ -129,7 +123,7 @@ put-in-others (Add (Exclude p)) lines good sound = put-others (excludes_pair p) 
 put-in-others (Set (ReplaceWith r)) lines good sound = put-others (is_replaced_by r.0) (Replaces r) (held_from None lines) _ (replace-itself r) (replace-put r lines good.0 good.1 sound)
 put-in-others (Add (Retract ends)) lines good sound = put-others (retracts_ends ends) (Retracts ends) (held_from None lines) _ (pair-itself ends) (retract-put ends lines good sound)
 
-others-after : (edit : Edit) (lines : List (Line Placed)) → IsSoundEdit edit → is_fit edit ≡ true → SoundFrom [] None lines
+others-after : (edit : Edit) (lines : List (Line Placed)) → IsSoundEdit edit → is_fit edit ≡ true → IsSound lines
     → filter (others (about edit)) (held_from None (edited edit lines)) ≡ filter (others (about edit)) (held_from None lines)
 unfolding edited
 others-after edit lines good fit sound = elim (cases_Bool (is_there (about edit) lines)) [
@@ -160,7 +154,7 @@ gone-after edit lines e = elim (cases_Bool (is_there (about edit) lines)) [
 
 -- ---- what an operation sets
 
-changed-alone : (edit : Edit) (lines : List (Line Placed)) (d : Directive) → IsSoundEdit edit → is_fit edit ≡ true → SoundFrom [] None lines → is_there (about edit) lines ≡ true → set_by edit ≡ Some d
+changed-alone : (edit : Edit) (lines : List (Line Placed)) (d : Directive) → IsSoundEdit edit → is_fit edit ≡ true → IsSound lines → is_there (about edit) lines ≡ true → set_by edit ≡ Some d
     → filter (about edit) (held_from None (changed edit lines)) ≡ d ∷ []
 unfolding changed
 changed-alone (Set (ModuleIs path)) lines d good fit sound there e =
@@ -182,7 +176,7 @@ changed-alone (Set (ReplaceWith r)) lines d good fit sound there e =
 changed-alone (Drop t) lines d good fit sound there e = absurd cc
 changed-alone (Add a) lines d good fit sound there e = absurd cc
 
-put-in-alone : (edit : Edit) (lines : List (Line Placed)) (d : Directive) → IsSoundEdit edit → SoundFrom [] None lines → is_there (about edit) lines ≡ false → set_by edit ≡ Some d
+put-in-alone : (edit : Edit) (lines : List (Line Placed)) (d : Directive) → IsSoundEdit edit → IsSound lines → is_there (about edit) lines ≡ false → set_by edit ≡ Some d
     → filter (about edit) (held_from None (put_in edit lines)) ≡ d ∷ []
 put-in-alone (Set (ModuleIs path)) lines d good sound none e = module-there (filter (about (Set (ModuleIs path))) (held_from None (put_in (Set (ModuleIs path)) lines)) ≡ d ∷ []) lines sound none
 put-in-alone (Set (GoIs text)) lines d good sound none e =
@@ -197,7 +191,7 @@ put-in-alone (Set (ReplaceWith r)) lines d good sound none e =
 put-in-alone (Drop t) lines d good sound none e = absurd cc
 put-in-alone (Add a) lines d good sound none e = absurd cc
 
-alone-after : (edit : Edit) (lines : List (Line Placed)) (d : Directive) → IsSoundEdit edit → is_fit edit ≡ true → SoundFrom [] None lines → set_by edit ≡ Some d
+alone-after : (edit : Edit) (lines : List (Line Placed)) (d : Directive) → IsSoundEdit edit → is_fit edit ≡ true → IsSound lines → set_by edit ≡ Some d
     → filter (about edit) (held_from None (edited edit lines)) ≡ d ∷ []
 unfolding edited
 alone-after edit lines d good fit sound e = elim (cases_Bool (is_there (about edit) lines)) [
@@ -213,7 +207,7 @@ addition-changes-nothing (Add a) lines d e = refl
 addition-changes-nothing (Set s) lines d e = absurd cc
 addition-changes-nothing (Drop t) lines d e = absurd cc
 
-put-in-once : (edit : Edit) (lines : List (Line Placed)) (d : Directive) → IsSoundEdit edit → SoundFrom [] None lines → is_there (about edit) lines ≡ false → added_by edit ≡ Some d
+put-in-once : (edit : Edit) (lines : List (Line Placed)) (d : Directive) → IsSoundEdit edit → IsSound lines → is_there (about edit) lines ≡ false → added_by edit ≡ Some d
     → filter (about edit) (held_from None (put_in edit lines)) ≡ d ∷ []
 put-in-once (Add (Exclude p)) lines d good sound none e =
     let test : Directive → Bool = excludes_pair p in
@@ -229,7 +223,7 @@ put-in-once (Drop t) lines d good sound none e = absurd cc
 abbrev once_or_as_before : Edit → Directive → List Directive → List Directive
 once_or_as_before edit d said = if list_any (about edit) said then filter (about edit) said else d ∷ []
 
-added-after : (edit : Edit) (lines : List (Line Placed)) (d : Directive) → IsSoundEdit edit → SoundFrom [] None lines → added_by edit ≡ Some d
+added-after : (edit : Edit) (lines : List (Line Placed)) (d : Directive) → IsSoundEdit edit → IsSound lines → added_by edit ≡ Some d
     → filter (about edit) (held_from None (edited edit lines)) ≡ once_or_as_before edit d (held_from None lines)
 unfolding edited
 added-after edit lines d good sound e = elim (cases_Bool (is_there (about edit) lines)) [
@@ -241,8 +235,8 @@ added-after edit lines d good sound e = elim (cases_Bool (is_there (about edit) 
 
 -- ---- the laws
 
-pub sound-of : (edit : Edit) (lines : List (Line Placed)) → IsEditOf edit lines → IsSoundEdit edit × SoundFrom [] None lines
-sound-of edit lines is = (written-sound is.0.0 edit is.0.1, sound-file lines is.2 is.3)
+pub sound-of : (edit : Edit) (lines : List (Line Placed)) → IsEditOf edit lines → IsSoundEdit edit × IsSound lines
+sound-of edit lines is = (written-sound is.0.0 edit is.0.1, document-sound lines is.2 is.3)
 
 pub dropped-is-gone : DroppedIsGone
 dropped-is-gone = λ edit lines e. ap (list_any (about edit)) (file-held (edited edit lines)) ∙ gone-after edit lines e

@@ -30,11 +30,6 @@ abbrev put_at : (Bool → Line Placed) → List (Line Placed) → Option Spot �
 put_at new lines None = lines
 put_at new lines (Some spot) = insert lines spot.before (new spot.inside)
 
--- a position behind one more line
-put-further : (new : Bool → Line Placed) (line : Line Placed) (lines : List (Line Placed)) (spot : Option Spot) → put_at new (line ∷ lines) (option_map further spot) ≡ line ∷ put_at new lines spot
-put-further new line lines None = refl
-put-further new line lines (Some spot) = refl
-
 -- some position is found if a line holds such a directive
 record HasSpot (test : Directive → Bool) (block : Option Placed) (lines : List (Line Placed)) : Type 0 where
   pub spot : Spot

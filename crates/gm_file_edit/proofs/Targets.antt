@@ -138,7 +138,7 @@ passes-of v (Some d) = sym (is-of v d)
 
 -- in a valid file the entries of a verb are the lines that hold its directives
 pub entry-holds : (v : AddedVerb) (block : Option Placed) (line : Line Placed) → IsValidAt block line → is_entry_of (added_verb v) (item_of block line) ≡ passes (is_of v) (directive_at block line)
-entry-holds v block line valid = valid-passes (added_verb v) (item_of block line) valid.0 valid.1 ∙ passes-of v (directive_at block line)
+entry-holds v block line valid = valid-passes (added_verb v) (item_of block line) [] valid ∙ passes-of v (directive_at block line)
 
 pub entry-declares : (block : Option Placed) (line : Line Placed) → IsValidAt block line → is_entry_of ForModule (item_of block line) ≡ passes is_module (directive_at block line)
-entry-declares block line valid = valid-passes ForModule (item_of block line) valid.0 valid.1
+entry-declares block line valid = valid-passes ForModule (item_of block line) [] valid

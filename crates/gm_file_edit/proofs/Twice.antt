@@ -24,12 +24,12 @@ use Rattle.gm_file_edit.specs.NewWords.{entry_at, made_word, pair_words, replace
 use Rattle.gm_file_edit.specs.Renewing.{made_new, with_arguments, with_last}
 use Rattle.gm_file_edit.specs.Searching.{is_there, is_there_from}
 use Rattle.gm_file_edit.specs.Twice.{SecondOperationChangesNothing, SecondSettingChangesNothing}
-use Rattle.gm_file_edit.proofs.AddingSound.{IsIn, IsVerbSpot, back-sound, file-held, first-is-in, held_from, last-is, passing-level, past-outside}
+use Rattle.gm_file_edit.proofs.AddingSound.{IsIn, IsVerbSpot, file-held, first-is-in, held_from, last-is, passing-level, past-outside}
 use Rattle.gm_file_edit.proofs.Idle.{second-addition, second-drop, some-filtered, there-said}
 use Rattle.gm_file_edit.proofs.Said.{none-any}
 use Rattle.gm_file_edit.proofs.SaidAfter.{set-stands-alone, there-is}
 use Rattle.gm_file_edit.proofs.Seats.{remaining-seats, seats-append, seats_from}
-use Rattle.gm_file_edit.proofs.Sound.{SoundFrom, sound-file}
+use Rattle.gm_file_edit.proofs.Pairs.{IsSound, document-sound}
 use Rattle.gm_file_edit.proofs.Spots.{added-spot, first-spot}
 use Rattle.gm_file_edit.proofs.Untouched.{all-lines-stay, all_stay, none-dropped-from, or-none}
 
@@ -196,17 +196,14 @@ blank-and-entry : (test : Directive → Bool) (new : Rewriting) (block : Option 
 unfolding item_at
 blank-and-entry test new block line same = only-set test new block line same
 
-pub last-outside : (lines : List (Line Placed)) → SoundFrom [] None lines → block_after_lines None lines ≡ None
-last-outside lines sound = (back-sound [] None lines [] (subst (SoundFrom [] None) (sym (append-nil lines)) sound)).0
-
-at-end-set : (test : Directive → Bool) (new : Rewriting) (text : List ℕ) (arguments : List Placed) (lines : List (Line Placed)) → EntryIsSet new text arguments → SoundFrom [] None lines → is_there test lines ≡ false
+at-end-set : (test : Directive → Bool) (new : Rewriting) (text : List ℕ) (arguments : List Placed) (lines : List (Line Placed)) → EntryIsSet new text arguments → IsSound lines → is_there test lines ≡ false
     → LinesAreSet test new None (lines ++ Blank ∷ single text arguments ∷ [])
 at-end-set test new text arguments lines is sound none =
-    let outside = last-outside lines sound in
+    let outside = sound.closed in
     inserted-set test new None lines (Blank ∷ single text arguments ∷ []) [] (subst (λ (ls : List (Line Placed)). is_there test ls ≡ false) (sym (append-nil lines)) none)
     (subst (λ (b : Option Placed). LinesAreSet test new b (Blank ∷ single text arguments ∷ [])) (sym outside) (blank-and-entry test new None (single text arguments) (is None))) refl
 
-added-at-set : (test : Directive → Bool) (new : Rewriting) (v : AddedVerb) (arguments : List Placed) (lines : List (Line Placed)) → EntryIsSet new (verb_text v) arguments → SoundFrom [] None lines → is_there test lines ≡ false
+added-at-set : (test : Directive → Bool) (new : Rewriting) (v : AddedVerb) (arguments : List Placed) (lines : List (Line Placed)) → EntryIsSet new (verb_text v) arguments → IsSound lines → is_there test lines ≡ false
     → (o : Option Spot) → ((spot : Spot) → o ≡ Some spot → IsVerbSpot v None lines spot) → LinesAreSet test new None (added_at (verb_text v) arguments lines o)
 added-at-set test new v arguments lines is sound none None spot_is = at-end-set test new (verb_text v) arguments lines is sound none
 added-at-set test new v arguments lines is sound none (Some spot) spot_is =
@@ -219,12 +216,12 @@ added-at-set test new v arguments lines is sound none (Some spot) spot_is =
     inserted-set test new None front (entry ∷ []) back (subst (λ (ls : List (Line Placed)). is_there test ls ≡ false) (sym (take-append-drop spot.before lines)) none)
     (only-set test new block entry same) (entry-level block spot.inside (verb_text v) arguments)
 
-added-set : (test : Directive → Bool) (new : Rewriting) (v : AddedVerb) (arguments : List Placed) (lines : List (Line Placed)) → EntryIsSet new (verb_text v) arguments → SoundFrom [] None lines → is_there test lines ≡ false
+added-set : (test : Directive → Bool) (new : Rewriting) (v : AddedVerb) (arguments : List Placed) (lines : List (Line Placed)) → EntryIsSet new (verb_text v) arguments → IsSound lines → is_there test lines ≡ false
     → LinesAreSet test new None (added (is_of v) (verb_text v) arguments lines)
 added-set test new v arguments lines is sound none =
     subst (LinesAreSet test new None) (sym (added-spot (is_of v) (verb_text v) arguments lines)) (added-at-set test new v arguments lines is sound none (spot_after_last (is_of v) None lines) (last-is v None lines))
 
-behind-set : (test : Directive → Bool) (new : Rewriting) (text : List ℕ) (arguments : List Placed) (lines : List (Line Placed)) → EntryIsSet new text arguments → SoundFrom [] None lines → is_there test lines ≡ false
+behind-set : (test : Directive → Bool) (new : Rewriting) (text : List ℕ) (arguments : List Placed) (lines : List (Line Placed)) → EntryIsSet new text arguments → IsSound lines → is_there test lines ≡ false
     → (o : Option Spot) → ((spot : Spot) → o ≡ Some spot → IsIn None lines spot) → LinesAreSet test new None (insert_at_spot (Blank ∷ single text arguments ∷ []) lines o)
 behind-set test new text arguments lines is sound none None spot_is = at-end-set test new text arguments lines is sound none
 behind-set test new text arguments lines is sound none (Some spot) spot_is =
@@ -233,7 +230,7 @@ behind-set test new text arguments lines is sound none (Some spot) spot_is =
     inserted-set test new None (take n lines) (Blank ∷ single text arguments ∷ []) (drop n lines) (subst (λ (ls : List (Line Placed)). is_there test ls ≡ false) (sym (take-append-drop n lines)) none)
     (subst (λ (b : Option Placed). LinesAreSet test new b (Blank ∷ single text arguments ∷ [])) (sym outside) (blank-and-entry test new None (single text arguments) (is None))) refl
 
-go-set : (text : List ℕ) (lines : List (Line Placed)) → SoundFrom [] None lines → is_there is_go lines ≡ false
+go-set : (text : List ℕ) (lines : List (Line Placed)) → IsSound lines → is_there is_go lines ≡ false
     → LinesAreSet is_go (with_last text) None (after_first_that is_module (Blank ∷ single (codes "go") (made_word text ∷ []) ∷ []) lines)
 go-set text lines sound none =
     subst (LinesAreSet is_go (with_last text) None) (sym (first-spot is_module (Blank ∷ single (codes "go") (made_word text ∷ []) ∷ []) lines))
@@ -243,7 +240,7 @@ go-set text lines sound none =
     go-entry None = refl
     go-entry (Some verb) = refl
 
-put-set : (edit : Edit) (lines : List (Line Placed)) (d : Directive) → set_by edit ≡ Some d → SoundFrom [] None lines → is_there (about edit) lines ≡ false → LinesAreSet (about edit) (made_new edit) None (put_in edit lines)
+put-set : (edit : Edit) (lines : List (Line Placed)) (d : Directive) → set_by edit ≡ Some d → IsSound lines → is_there (about edit) lines ≡ false → LinesAreSet (about edit) (made_new edit) None (put_in edit lines)
 unfolding put_in
 put-set (Set (ModuleIs path)) lines d sets sound none = none-set is_module (made_new (Set (ModuleIs path))) None lines none
 put-set (Set (GoIs text)) lines d sets sound none = go-set text lines sound none
@@ -260,14 +257,14 @@ put-set (Set (ReplaceWith r)) lines d sets sound none = added-set (about (Set (R
 put-set (Drop t) lines d sets sound none = absurd cc
 put-set (Add a) lines d sets sound none = absurd cc
 
-pass-set : (edit : Edit) (lines : List (Line Placed)) (d : Directive) → set_by edit ≡ Some d → SoundFrom [] None lines → LinesAreSet (about edit) (made_new edit) None (edited edit lines)
+pass-set : (edit : Edit) (lines : List (Line Placed)) (d : Directive) → set_by edit ≡ Some d → IsSound lines → LinesAreSet (about edit) (made_new edit) None (edited edit lines)
 unfolding edited
 pass-set edit lines d sets sound = elim (cases_Bool (is_there (about edit) lines)) [
   | inl there ↦ rw there (changed-set edit lines d sets)
   | inr none ↦ rw none (put-set edit lines d sets sound none)
 ]
 
-edited-set : (edit : Edit) (lines : List (Line Placed)) (d : Directive) → set_by edit ≡ Some d → SoundFrom [] None lines → LinesAreSet (about edit) (made_new edit) None (edited edit lines)
+edited-set : (edit : Edit) (lines : List (Line Placed)) (d : Directive) → set_by edit ≡ Some d → IsSound lines → LinesAreSet (about edit) (made_new edit) None (edited edit lines)
 edited-set edit lines d sets sound = pass-set edit lines d sets sound
 
 -- ---- such lines stay, if only one of them is targeted
@@ -322,7 +319,7 @@ second-setting edit lines d is sets =
     let alone : filter (about edit) (directives_of after) ≡ d ∷ [] = set-stands-alone edit lines d is sets in
     let there : is_there (about edit) after ≡ true = there-said (about edit) after ∙ some-filtered (about edit) (directives_of after) [] d alone in
     changes-there edit after there
-    ∙ again-changes edit after d sets (edited-set edit lines d sets (sound-file lines is.2 is.3)) (ap (filter (about edit)) (sym (file-held after)) ∙ alone)
+    ∙ again-changes edit after d sets (edited-set edit lines d sets (document-sound lines is.2 is.3)) (ap (filter (about edit)) (sym (file-held after)) ∙ alone)
 
 pub second-operation : SecondOperationChangesNothing
 second-operation (Set s) lines is = second-setting (Set s) lines (directive_set s) is refl

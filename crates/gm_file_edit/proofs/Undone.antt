@@ -31,8 +31,7 @@ use Rattle.gm_file_edit.proofs.EditedSound.{addition, ends-are, ends-says, exclu
 use Rattle.gm_file_edit.proofs.Idle.{there-said}
 use Rattle.gm_file_edit.proofs.Renewals.{replace-are, replace-says, version-itself}
 use Rattle.gm_file_edit.proofs.SaidAfter.{and-both, pair-itself, sound-of, text-itself}
-use Rattle.gm_file_edit.proofs.Sound.{SoundFrom}
-use Rattle.gm_file_edit.proofs.Twice.{last-outside}
+use Rattle.gm_file_edit.proofs.Pairs.{IsSound}
 use Rattle.gm_file_edit.proofs.Untouched.{all-lines-left, all_stay, none-dropped, none-dropped-from, or-none, stay-before}
 
 -- ---- the fates of the lines
@@ -140,18 +139,18 @@ blank-none test block (line ∷ lines) none =
 
 -- what is put in at the end and dropped
 at-end : (test : Directive → Bool) (v : AddedVerb) (arguments : List Placed) (new : Directive) (lines : List (Line Placed)) → IsAddition v arguments new → test new ≡ true
-    → is_there test lines ≡ false → SoundFrom [] None lines → dropped test (lines ++ Blank ∷ single (verb_text v) arguments ∷ []) ≡ lines ++ Blank ∷ []
+    → is_there test lines ≡ false → IsSound lines → dropped test (lines ++ Blank ∷ single (verb_text v) arguments ∷ []) ≡ lines ++ Blank ∷ []
 at-end test v arguments new lines so own none sound =
     let front : List (Line Placed) = lines ++ Blank ∷ [] in
     let entry : Line Placed = single (verb_text v) arguments in
     let fits : Fits None new entry = entry-fits v arguments new None tt so in
-    let outside : block_after_lines None front ≡ None = level-after None lines Blank ∙ last-outside lines sound in
+    let outside : block_after_lines None front ≡ None = level-after None lines Blank ∙ sound.closed in
     let passed : passes test (directive_at (block_after_lines None front) entry) ≡ true = ap (λ (b : Option Placed). passes test (directive_at b entry)) outside ∙ ap (passes test) fits.holds ∙ own in
     let absent : is_there test (front ++ []) ≡ false = ap (is_there test) (append-nil front) ∙ blank-none test None lines none in
     ap (dropped test) (sym (append_assoc lines (Blank ∷ []) (entry ∷ []))) ∙ ap (remaining) (one-gone test None front [] entry absent passed)
     ∙ last-gone front
 
-added-undone : (test : Directive → Bool) (v : AddedVerb) (arguments : List Placed) (new : Directive) (lines : List (Line Placed)) → IsAddition v arguments new → test new ≡ true → is_there test lines ≡ false → SoundFrom [] None lines
+added-undone : (test : Directive → Bool) (v : AddedVerb) (arguments : List Placed) (new : Directive) (lines : List (Line Placed)) → IsAddition v arguments new → test new ≡ true → is_there test lines ≡ false → IsSound lines
     → dropped test (added (is_of v) (verb_text v) arguments lines) ≡ (if is_there (is_of v) lines then lines else lines ++ Blank ∷ [])
 added-undone test v arguments new lines so own none sound = elim (cases_Bool (is_there (is_of v) lines)) [
   | inl there ↦
@@ -217,14 +216,14 @@ fewer-there test other fewer block (line ∷ lines) e =
     miss None f = refl
     miss (Some d) f = fewer d f
 
-undone : (edit : Edit) (t : Target) (v : AddedVerb) (lines : List (Line Placed)) → IsUndone edit t v → SoundFrom [] None lines → verb_added edit ≡ Some (is_of v, verb_text v) → list_any (about edit) (directives_of lines) ≡ false
+undone : (edit : Edit) (t : Target) (v : AddedVerb) (lines : List (Line Placed)) → IsUndone edit t v → IsSound lines → verb_added edit ≡ Some (is_of v, verb_text v) → list_any (about edit) (directives_of lines) ≡ false
     → Undoes edit lines (is_of v) (Drop t)
 undone edit t v lines is sound adds none =
     let absent : is_there (about (Drop t)) lines ≡ false = fewer-there (about edit) (about (Drop t)) is.fewer None lines (there-said (about edit) lines ∙ none) in
     drop-pass t (edited edit lines) ∙ ap (dropped (about (Drop t))) (edited-added edit (is_of v) (verb_text v) lines adds none)
     ∙ added-undone (about (Drop t)) v (arguments_added edit) is.new lines is.so is.own absent sound ∙ ap (λ (b : Bool). if b then lines else lines ++ Blank ∷ []) (there-said (is_of v) lines)
 
-undone-sound : (edit undo : Edit) (test : Directive → Bool) (text : List ℕ) (lines : List (Line Placed)) → IsSoundEdit edit → SoundFrom [] None lines → verb_added edit ≡ Some (test, text) → undone_by edit ≡ Some undo
+undone-sound : (edit undo : Edit) (test : Directive → Bool) (text : List ℕ) (lines : List (Line Placed)) → IsSoundEdit edit → IsSound lines → verb_added edit ≡ Some (test, text) → undone_by edit ≡ Some undo
     → list_any (about edit) (directives_of lines) ≡ false → Undoes edit lines test undo
 undone-sound (Set (ModuleIs path)) undo test text lines good sound adds undoes none = absurd cc
 undone-sound (Set (GoIs version)) undo test text lines good sound adds undoes none = absurd cc

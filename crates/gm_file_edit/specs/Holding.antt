@@ -1,5 +1,5 @@
 -- The directive that a line of a file holds.
-use Rattle.std.specs.Prelude.{◌≡◌, Bool, false, List, [], Option, Some, None}
+use Rattle.std.specs.Prelude.{◌≡◌, Bool, false, [], Option, Some, None}
 use Rattle.std.specs.Option.{option_map}
 use Rattle.gm_syntax.specs.Words.{Word}
 use Rattle.gm_syntax.specs.Tokens.{Placed}
@@ -24,6 +24,6 @@ abbrev pub passes : (Directive → Bool) → Option Directive → Bool
 passes test None = false
 passes test (Some d) = test d
 
--- the line is valid in its block, after some list of earlier directives
+-- the line has no fault by itself in its block
 abbrev pub IsValidAt : Option Placed → Line Placed → Type 0
-IsValidAt block line = (earlier : List Directive) × (item_kinds Strict earlier (item_of block line) ≡ [])
+IsValidAt block line = item_kinds Strict [] (item_of block line) ≡ []

@@ -1,11 +1,11 @@
 use Rattle.std.proofs.Common.{◌≡◌, ◌+◌, ◌∙◌, Bool, Some, ap, arith}
 use Rattle.gm_file_edit.proofs.AddingCode.{better_at, last-begin, last-end, last-more}
-use Rattle.gm_file_edit.proofs.Sound.{sound-file}
+use Rattle.gm_file_edit.proofs.Pairs.{document-sound}
 use Rattle.gm_file_edit.proofs.adding.last_spot.Goals as goal
 use Rattle.gm_file_edit.proofs.adding.last_spot.Goals.{then-is_entry_in, else-is_entry_in}
 
 pub loop-n-init : goal.loop-n-init
-loop-n-init c = last-begin c.args.verb c.args.lines.now (sound-file c.args.lines.now c.requires.document c.requires.sound)
+loop-n-init c = last-begin c.args.verb c.args.lines.now (document-sound c.args.lines.now c.requires.document c.requires.sound)
 
 pub loop-n-preserved : goal.loop-n-preserved
 loop-n-preserved c =

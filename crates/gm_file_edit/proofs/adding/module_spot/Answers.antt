@@ -1,10 +1,10 @@
 use Rattle.std.proofs.Common.{◌∙◌, arith, sym}
 use Rattle.gm_file_edit.proofs.AddingCode.{unmet-begin, unmet-end, unmet-found, unmet-more}
-use Rattle.gm_file_edit.proofs.Sound.{sound-file}
+use Rattle.gm_file_edit.proofs.Pairs.{document-sound}
 use Rattle.gm_file_edit.proofs.adding.module_spot.Goals as goal
 
 pub loop-n-init : goal.loop-n-init
-loop-n-init c = unmet-begin c.args.lines.now (sound-file c.args.lines.now c.requires.document c.requires.sound)
+loop-n-init c = unmet-begin c.args.lines.now (document-sound c.args.lines.now c.requires.document c.requires.sound)
 
 pub loop-n-preserved : goal.loop-n-preserved
 loop-n-preserved c =

@@ -3,12 +3,12 @@ use Rattle.gm_syntax.specs.LineViews.{line_of}
 use Rattle.gm_file_edit.specs.Keys.{does_tell, may_concern, sought_key}
 use Rattle.gm_file_edit.specs.Views.{edit_of}
 use Rattle.gm_file_edit.proofs.Marks.{scan-begin, scan-end, scan-more, scan-size}
-use Rattle.gm_file_edit.proofs.Sound.{sound-file}
+use Rattle.gm_file_edit.proofs.Pairs.{document-sound}
 use Rattle.gm_file_edit.proofs.marking.marks.Goals as goal
 
 pub loop-n-init : goal.loop-n-init
 loop-n-init c =
-    scan-begin (edit_of c.args.change.now) c.args.lines.now _ refl (sound-file c.args.lines.now c.requires.document c.requires.sound) c.in_ok-marks.marks.items c.len.result c.len.ensures
+    scan-begin (edit_of c.args.change.now) c.args.lines.now _ refl (document-sound c.args.lines.now c.requires.document c.requires.sound) c.in_ok-marks.marks.items c.len.result c.len.ensures
     (c.in_ok-marks.ensures.items_if_clones_equal (λ mark same. same))
 
 pub index_mut-requires : goal.index_mut-requires
