@@ -11,8 +11,9 @@ use Rattle.gm_syntax.specs.declared.line.Line as declared
 use Rattle.gm_syntax.specs.LineViews.{line_of, line_views}
 use Rattle.gm_file.specs.Directives.{Directive, block_after_line}
 use Rattle.gm_file.specs.Faults.{is_module}
+use Rattle.gm_file_edit.specs.Edited.{added, after_first_that}
 use Rattle.gm_file_edit.specs.declared.adding.Spot.{Spot}
-use Rattle.gm_file_edit.specs.Adding.{added, added_at, after_first_that, spot_after_first, spot_after_last, spot_after_line, close_len, further, is_of, past_block, insert_at_spot}
+use Rattle.gm_file_edit.specs.Adding.{added_at, spot_after_first, spot_after_last, spot_after_line, close_len, further, is_of, past_block, insert_at_spot}
 use Rattle.gm_file_edit.specs.NewWords.{entry_at, single}
 use Rattle.gm_file_edit.specs.Holding.{IsValidAt}
 use Rattle.gm_file_edit.specs.Holding.{directive_at, passes}
@@ -27,6 +28,7 @@ use Rattle.gm_file_edit.specs.declared.verb.Verb.TheVariants as verb
 use Rattle.gm_file_edit.proofs.Packs.{get_or-default}
 use Rattle.gm_file_edit.proofs.PassedOver.{added-said, module-said, scope-inside, scope-next}
 use Rattle.gm_file_edit.proofs.Pairs.{AreRightFrom, IsSound}
+use Rattle.gm_file_edit.proofs.Spots.{added-spot, first-spot}
 use Rattle.gm_file_edit.proofs.Targets.{entry-declares, entry-holds}
 use Rattle.gm_file_edit.proofs.Walking.{drop-next}
 
@@ -249,16 +251,14 @@ in-lines lines n le = let count = length-map lines line_of in omega (arith, le, 
 
 pub add-there : (test : Directive → Bool) (text : List ℕ) (arguments : List Placed) (lines copies : List (Line Placed)) (line : Line Placed) (o : Option Spot) (spot : Spot)
     → o ≡ spot_after_last test None lines → o ≡ Some spot → copies ≡ lines → line ≡ entry_at spot.inside text arguments → insert copies spot.before line ≡ added test text arguments lines
-unfolding added
 add-there test text arguments lines copies line o spot told is same so =
-    let at : added_at text arguments lines (Some spot) ≡ added_at text arguments lines (spot_after_last test None lines) = ap (added_at text arguments lines) (sym is ∙ told) in
+    let at : added_at text arguments lines (Some spot) ≡ added test text arguments lines = ap (added_at text arguments lines) (sym is ∙ told) ∙ sym (added-spot test text arguments lines) in
     rw (same, so) at
 
 pub add-last : (test : Directive → Bool) (text : List ℕ) (arguments : List Placed) (lines copies : List (Line Placed)) (line : Line Placed) (o : Option Spot)
     → o ≡ spot_after_last test None lines → o ≡ None → copies ≡ lines → line ≡ single text arguments → copies ++ (Blank ∷ line ∷ []) ≡ added test text arguments lines
-unfolding added
 add-last test text arguments lines copies line o told is same so =
-    let at : added_at text arguments lines None ≡ added_at text arguments lines (spot_after_last test None lines) = ap (added_at text arguments lines) (sym is ∙ told) in
+    let at : added_at text arguments lines None ≡ added test text arguments lines = ap (added_at text arguments lines) (sym is ∙ told) ∙ sym (added-spot test text arguments lines) in
     rw (same, so) at
 
 -- lines that are inserted at the end
@@ -271,11 +271,9 @@ at-end lines new n is =
 -- the index of new lines that go after the first line that passes a test
 pub index-there : (test : Directive → Bool) (new lines : List (Line Placed)) (o : Option Spot) (spot : Spot) (n : ℕ)
     → o ≡ spot_after_first test None lines → o ≡ Some spot → n ≡ past_block lines spot → take n lines ++ (new ++ drop n lines) ≡ after_first_that test new lines
-unfolding after_first_that
 index-there test new lines o spot n told is past =
-    ap (λ (k : ℕ). take k lines ++ (new ++ drop k lines)) past ∙ ap (insert_at_spot new lines) (sym is ∙ told)
+    ap (λ (k : ℕ). take k lines ++ (new ++ drop k lines)) past ∙ ap (insert_at_spot new lines) (sym is ∙ told) ∙ sym (first-spot test new lines)
 
 pub index-last : (test : Directive → Bool) (new lines : List (Line Placed)) (o : Option Spot) (n : ℕ)
     → o ≡ spot_after_first test None lines → o ≡ None → n ≡ length lines → take n lines ++ (new ++ drop n lines) ≡ after_first_that test new lines
-unfolding after_first_that
-index-last test new lines o n told is end = at-end lines new n end ∙ ap (insert_at_spot new lines) (sym is ∙ told)
+index-last test new lines o n told is end = at-end lines new n end ∙ ap (insert_at_spot new lines) (sym is ∙ told) ∙ sym (first-spot test new lines)

@@ -16,13 +16,15 @@ use Rattle.gm_file.specs.Faults.{directive_kinds, entry_kinds, item_kinds}
 use Rattle.gm_file.specs.Pairwise.{do_clash}
 use Rattle.gm_file.proofs.DirectiveVerbs.{directive-verb, same-verb}
 use Rattle.gm_file.proofs.Pairwise.{IsClear}
+use Rattle.gm_file_edit.specs.Edited.{added, after_first_that}
 use Rattle.gm_file_edit.specs.declared.adding.AddedVerb.{AddedVerb}
 use Rattle.gm_file_edit.specs.declared.adding.AddedVerb.TheVariants as verb
 use Rattle.gm_file_edit.specs.declared.adding.Spot.{Spot}
-use Rattle.gm_file_edit.specs.Adding.{added, added_at, after_first_that, spot_after_first, spot_after_last, spot_after_line, close_len, further, is_of, past_block, insert_at_spot, verb_text}
+use Rattle.gm_file_edit.specs.Adding.{added_at, spot_after_first, spot_after_last, spot_after_line, close_len, further, is_of, past_block, insert_at_spot, verb_text}
 use Rattle.gm_file_edit.specs.NewWords.{entry_at, single}
 use Rattle.gm_file_edit.specs.Holding.{directive_at, item_of, passes}
 use Rattle.gm_file_edit.proofs.Pairs.{IsSound, block-append, held_in, no-block, plain-held, put-line}
+use Rattle.gm_file_edit.proofs.Spots.{added-spot, first-spot}
 use Rattle.gm_file_edit.proofs.Targets.{added_verb, is-of}
 
 -- ---- the directives of lines
@@ -257,8 +259,8 @@ added-at v arguments new lines so fresh sound (Some spot) is =
 -- an added entry with a verb
 pub added-sound : (v : AddedVerb) (arguments : List Placed) (new : Directive) (lines : List (Line Placed)) → IsAddition v arguments new → IsNewTo (held_from None lines) new
     → IsSound lines → IsSound (added (is_of v) (verb_text v) arguments lines)
-unfolding added
-added-sound v arguments new lines so fresh sound = added-at v arguments new lines so fresh sound (spot_after_last (is_of v) None lines) (last-is v None lines)
+added-sound v arguments new lines so fresh sound =
+    subst IsSound (sym (added-spot (is_of v) (verb_text v) arguments lines)) (added-at v arguments new lines so fresh sound (spot_after_last (is_of v) None lines) (last-is v None lines))
 
 put-at : (new : Directive) (line : Line Placed) (lines : List (Line Placed)) → Fits None new line → IsNewTo (held_from None lines) new → IsSound lines
     → (o : Option Spot) → ((spot : Spot) → o ≡ Some spot → IsIn None lines spot) → IsSound (insert_at_spot (Blank ∷ line ∷ []) lines o)
@@ -272,5 +274,5 @@ put-at new line lines fits fresh sound (Some spot) is =
 -- a line outside blocks after the first line that passes the test
 pub after-first-sound : (test : Directive → Bool) (new : Directive) (line : Line Placed) (lines : List (Line Placed)) → Fits None new line → IsNewTo (held_from None lines) new
     → IsSound lines → IsSound (after_first_that test (Blank ∷ line ∷ []) lines)
-unfolding after_first_that
-after-first-sound test new line lines fits fresh sound = put-at new line lines fits fresh sound (spot_after_first test None lines) (first-is-in test None lines)
+after-first-sound test new line lines fits fresh sound =
+    subst IsSound (sym (first-spot test (Blank ∷ line ∷ []) lines)) (put-at new line lines fits fresh sound (spot_after_first test None lines) (first-is-in test None lines))

@@ -1,24 +1,20 @@
 -- No operation removes, adds or moves a comment line.
-use Rattle.std.proofs.Common.{◌≡◌, ℕ, ◌&&◌, Bool, true, false, List, [], ◌∷◌, ◌++◌, Option, Some, None, refl, sym, ap, ◌∙◌, append-nil, inl, inr, take, drop}
-use Rattle.std.specs.Prelude.{filter, codes}
+use Rattle.std.proofs.Common.{◌≡◌, ℕ, ◌&&◌, not, is_some, Bool, true, false, List, [], ◌∷◌, ◌++◌, Option, Some, None, refl, ap, ◌∙◌, append-nil, inl, inr}
+use Rattle.std.specs.Prelude.{if◌then◌else◌, filter, codes}
 use Rattle.std.proofs.lemmas.Bool.{cases_Bool}
-use Rattle.std.proofs.lemmas.List.{take-append-drop}
 use Rattle.std.proofs.lemmas.List.Elements.{filter-append}
 use Rattle.gm_syntax.specs.Tokens.{Placed}
 use Rattle.gm_syntax.specs.Document.{Line, Blank, Comment, Open, Close, Entry}
-use Rattle.gm_file.specs.Directives.{Directive, item_at}
+use Rattle.gm_file.specs.Directives.{Directive, block_after_line, item_at}
 use Rattle.gm_file_edit.specs.Edits.{Edit, Set, ModuleIs, GoIs, RequireAt, Drop, Add, Exclude, ReplaceWith, Retract}
 use Rattle.gm_file_edit.specs.About.{about}
-use Rattle.gm_file_edit.specs.Adding.{added, added_at, after_first_that, insert_at_spot, past_block, spot_after_first, spot_after_last}
-use Rattle.gm_file_edit.specs.declared.adding.Spot.{Spot}
-use Rattle.gm_file_edit.specs.Edited.{changed}
-use Rattle.gm_file_edit.specs.Pass.{edited_by_pass, put_in}
+use Rattle.gm_file_edit.specs.Edited.{added, after_closing, after_first_of, after_first_that, after_last_of, changed, edited, put_in}
 use Rattle.gm_file_edit.specs.EditLaws.{is_comment_line}
 use Rattle.gm_file_edit.specs.Fates.{Fate, dropped, dropping_from, is_emptied, kept, remaining, renewed, renewing_from, widened_from}
 use Rattle.gm_file_edit.specs.Holding.{directive_at, passes}
 use Rattle.gm_file_edit.specs.NewWords.{entry_at, made_word, single}
 use Rattle.gm_file_edit.specs.Renewing.{made_new}
-use Rattle.gm_file_edit.specs.Searching.{is_there}
+use Rattle.gm_file_edit.specs.Searching.{is_there, is_there_from}
 
 abbrev comments : List (Line Placed) → List (Line Placed)
 comments lines = filter is_comment_line lines
@@ -101,37 +97,60 @@ renewed-comments test new rewrites lines = remaining-comments (renewing_from tes
 
 -- ---- the lines with new entries
 
-parted : (n : ℕ) (lines : List (Line Placed)) → comments (take n lines) ++ comments (drop n lines) ≡ comments lines
-parted n lines = sym (filter-append is_comment_line (take n lines) (drop n lines)) ∙ ap comments (take-append-drop n lines)
+behind-same : (line : Line Placed) (xs ys : List (Line Placed)) → comments xs ≡ comments ys → comments (line ∷ xs) ≡ comments (line ∷ ys)
+behind-same line xs ys e = elim (cases_Bool (is_comment_line line)) [
+  | inl comment ↦ rw comment (ap (λ (ls : List (Line Placed)). line ∷ ls) e)
+  | inr other ↦ rw other e
+]
 
-between : (new : List (Line Placed)) → comments new ≡ [] → (n : ℕ) (lines : List (Line Placed)) → comments (take n lines ++ (new ++ drop n lines)) ≡ comments lines
-between new none n lines =
-    filter-append is_comment_line (take n lines) (new ++ drop n lines)
-    ∙ ap (λ (ls : List (Line Placed)). comments (take n lines) ++ ls) (filter-append is_comment_line new (drop n lines) ∙ ap (λ (ls : List (Line Placed)). ls ++ comments (drop n lines)) none)
-    ∙ parted n lines
+entry-same : (inside : Bool) (verb : List ℕ) (arguments : List Placed) (lines : List (Line Placed)) → comments (entry_at inside verb arguments ∷ lines) ≡ comments lines
+entry-same true verb arguments lines = refl
+entry-same false verb arguments lines = refl
+
+after-last-comments : (test : Directive → Bool) (verb : List ℕ) (arguments : List Placed) (block : Option Placed) (lines : List (Line Placed)) → comments (after_last_of test verb arguments block lines) ≡ comments lines
+after-last-comments test verb arguments block [] = refl
+after-last-comments test verb arguments block (line ∷ lines) =
+    let behind : Option Placed = block_after_line block line in
+    elim (cases_Bool (passes test (directive_at block line) && not (is_there_from test behind lines))) [
+      | inl here ↦ rw here (behind-same line (entry_at (is_some block) verb arguments ∷ lines) lines (entry-same (is_some block) verb arguments lines))
+      | inr later ↦ rw later (behind-same line (after_last_of test verb arguments behind lines) lines (after-last-comments test verb arguments behind lines))
+    ]
 
 at-end : (new : List (Line Placed)) → comments new ≡ [] → (lines : List (Line Placed)) → comments (lines ++ new) ≡ comments lines
 at-end new none lines = filter-append is_comment_line lines new ∙ ap (λ (ls : List (Line Placed)). comments lines ++ ls) none ∙ append-nil (comments lines)
 
-entry-is-none : (inside : Bool) (verb : List ℕ) (arguments : List Placed) → comments (entry_at inside verb arguments ∷ []) ≡ []
-entry-is-none true verb arguments = refl
-entry-is-none false verb arguments = refl
-
-added-at-comments : (verb : List ℕ) (arguments : List Placed) (lines : List (Line Placed)) (spot : Option Spot) → comments (added_at verb arguments lines spot) ≡ comments lines
-added-at-comments verb arguments lines None = at-end (Blank ∷ single verb arguments ∷ []) refl lines
-added-at-comments verb arguments lines (Some spot) = between (entry_at spot.inside verb arguments ∷ []) (entry-is-none spot.inside verb arguments) spot.before lines
-
 added-comments : (test : Directive → Bool) (verb : List ℕ) (arguments : List Placed) (lines : List (Line Placed)) → comments (added test verb arguments lines) ≡ comments lines
 unfolding added
-added-comments test verb arguments lines = added-at-comments verb arguments lines (spot_after_last test None lines)
+added-comments test verb arguments lines = elim (cases_Bool (is_there test lines)) [
+  | inl there ↦ rw there (after-last-comments test verb arguments None lines)
+  | inr none ↦ rw none (at-end (Blank ∷ single verb arguments ∷ []) refl lines)
+]
 
-spot-comments : (new lines : List (Line Placed)) → comments new ≡ [] → (spot : Option Spot) → comments (insert_at_spot new lines spot) ≡ comments lines
-spot-comments new lines none None = at-end new none lines
-spot-comments new lines none (Some spot) = between new none (past_block lines spot) lines
+first-comments : (new lines : List (Line Placed)) → comments new ≡ [] → comments (new ++ lines) ≡ comments lines
+first-comments new lines none = filter-append is_comment_line new lines ∙ ap (λ (ls : List (Line Placed)). ls ++ comments lines) none
+
+closing-comments : (new lines : List (Line Placed)) → comments new ≡ [] → comments (after_closing new lines) ≡ comments lines
+closing-comments new [] none = none
+closing-comments new (Blank ∷ lines) none = closing-comments new lines none
+closing-comments new (Comment text ∷ lines) none = ap (λ (ls : List (Line Placed)). Comment text ∷ ls) (closing-comments new lines none)
+closing-comments new (Open verb suffix ∷ lines) none = closing-comments new lines none
+closing-comments new (Close suffix ∷ lines) none = first-comments new lines none
+closing-comments new (Entry words suffix ∷ lines) none = closing-comments new lines none
+
+first-of-comments : (test : Directive → Bool) (new : List (Line Placed)) (block : Option Placed) (lines : List (Line Placed)) → comments new ≡ [] → comments (after_first_of test new block lines) ≡ comments lines
+first-of-comments test new block [] none = none
+first-of-comments test new block (line ∷ lines) none =
+    behind-same line (if passes test (directive_at block line) then (if is_some block then after_closing new lines else new ++ lines) else after_first_of test new (block_after_line block line) lines) lines (elim (cases_Bool (passes test (directive_at block line))) [
+      | inl here ↦ rw here (elim (cases_Bool (is_some block)) [
+        | inl inside ↦ rw inside (closing-comments new lines none)
+        | inr outside ↦ rw outside (first-comments new lines none)
+      ])
+      | inr later ↦ rw later (first-of-comments test new (block_after_line block line) lines none)
+    ])
 
 after-first-comments : (test : Directive → Bool) (new lines : List (Line Placed)) → comments new ≡ [] → comments (after_first_that test new lines) ≡ comments lines
 unfolding after_first_that
-after-first-comments test new lines none = spot-comments new lines none (spot_after_first test None lines)
+after-first-comments test new lines none = first-of-comments test new None lines none
 
 -- ---- the lines after an operation
 
@@ -154,8 +173,8 @@ put-comments (Add (Exclude p)) lines = added-comments _ _ _ lines
 put-comments (Add (Retract ends)) lines = added-comments _ _ _ lines
 put-comments (Set (ReplaceWith r)) lines = added-comments _ _ _ lines
 
-pub pass-comments : (edit : Edit) (lines : List (Line Placed)) → filter is_comment_line (edited_by_pass edit lines) ≡ filter is_comment_line lines
-unfolding edited_by_pass
+pub pass-comments : (edit : Edit) (lines : List (Line Placed)) → filter is_comment_line (edited edit lines) ≡ filter is_comment_line lines
+unfolding edited
 pass-comments edit lines = elim (cases_Bool (is_there (about edit) lines)) [
   | inl there ↦ rw there (changed-comments edit lines)
   | inr none ↦ rw none (put-comments edit lines)

@@ -1,9 +1,9 @@
 -- The loop that drops entries.
-use Rattle.std.proofs.Common.{◌≡◌, if◌then◌else◌, Bool, true, false, List, [], ◌∷◌, Option, Some, None, refl, sym, ap, subst, ◌∙◌}
+use Rattle.std.proofs.Common.{◌≡◌, Bool, true, false, List, [], ◌∷◌, Option, Some, None, refl, sym, ap, subst, ◌∙◌}
 use Rattle.gm_syntax.specs.Tokens.{Placed}
 use Rattle.gm_syntax.specs.Document.{Line}
 use Rattle.gm_file.specs.Directives.{Directive, Kept, block_after_line}
-use Rattle.gm_file_edit.specs.Fates.{Fate, dropped, dropping_from, remaining}
+use Rattle.gm_file_edit.specs.Fates.{Fate, dropped, dropping_from, fate_by, remaining}
 use Rattle.gm_file_edit.specs.Holding.{directive_at, passes}
 use Rattle.gm_file_edit.proofs.Pairs.{IsSound, left-sound}
 use Rattle.gm_file_edit.proofs.Leaving.{AreMarked, IsGone, Marked, entry-behind, fates_in, lines_in, remaining-lines}
@@ -12,14 +12,10 @@ use Rattle.gm_file.specs.Pairwise.{do_clash}
 use Rattle.std.proofs.Common.{inl, inr}
 use Rattle.std.proofs.lemmas.Bool.{cases_Bool}
 
--- the fate of a line that is removed if it holds a directive that passes the test
-abbrev pub fate_of : (Directive → Bool) → Option Placed → Line Placed → Fate
-fate_of test block line = if passes test (directive_at block line) then None else Some line
-
 -- each line with its fate
 abbrev pub dropping : (Directive → Bool) → Option Placed → List (Line Placed) → List Marked
 dropping test block [] = []
-dropping test block (line ∷ lines) = (line, fate_of test block line) ∷ dropping test (block_after_line block line) lines
+dropping test block (line ∷ lines) = (line, fate_by (passes test (directive_at block line)) line) ∷ dropping test (block_after_line block line) lines
 
 pub dropping-lines : (test : Directive → Bool) (block : Option Placed) (lines : List (Line Placed)) → lines_in (dropping test block lines) ≡ lines
 dropping-lines test block [] = refl
@@ -27,7 +23,7 @@ dropping-lines test block (line ∷ lines) = ap (λ (ls : List (Line Placed)). l
 
 pub dropping-fates : (test : Directive → Bool) (block : Option Placed) (lines : List (Line Placed)) → fates_in (dropping test block lines) ≡ dropping_from test block lines
 dropping-fates test block [] = refl
-dropping-fates test block (line ∷ lines) = ap (λ (fs : List Fate). fate_of test block line ∷ fs) (dropping-fates test (block_after_line block line) lines)
+dropping-fates test block (line ∷ lines) = ap (λ (fs : List Fate). fate_by (passes test (directive_at block line)) line ∷ fs) (dropping-fates test (block_after_line block line) lines)
 
 pub gone-line : (test : Directive → Bool) (block : Option Placed) (line : Line Placed) (held : Option Directive) → directive_at block line ≡ held → passes test held ≡ true → passes is_module held ≡ false → IsGone block line
 gone-line test block line None is e other = absurd cc

@@ -1,5 +1,5 @@
 -- The lines after an operation are a document without a fault.
-use Rattle.std.proofs.Common.{◌≡◌, ℕ, ◌==◌, ◌||◌, not, Bool, true, false, List, [], ◌∷◌, Option, Some, None, refl, sym, ap, ◌∙◌, arith, inl, inr, subst}
+use Rattle.std.proofs.Common.{◌≡◌, ℕ, ◌==◌, ◌||◌, not, Bool, true, false, List, [], ◌∷◌, Option, Some, None, refl, sym, ap, ◌∙◌, arith, inl, inr}
 use Rattle.std.specs.Prelude.{codes}
 use Rattle.std.specs.Option.{option_to_list}
 use Rattle.std.specs.List.{list_any}
@@ -27,8 +27,7 @@ use Rattle.gm_file_edit.specs.declared.adding.AddedVerb.TheVariants as verb
 use Rattle.gm_file_edit.specs.Edits.{Edit, Target, Set, ModuleIs, GoIs, RequireAt, Drop, AnyRequire, Add, Exclude, ReplaceWith, Retract}
 use Rattle.gm_file_edit.specs.About.{about, is_replaced_by, requires_path}
 use Rattle.gm_file_edit.specs.Adding.{verb_text}
-use Rattle.gm_file_edit.specs.Pass.{edited_by_pass, put_in}
-use Rattle.gm_file_edit.specs.Edited.{changed, edited}
+use Rattle.gm_file_edit.specs.Edited.{changed, edited, put_in}
 use Rattle.gm_file_edit.specs.Kinds.{is_fit}
 use Rattle.gm_file_edit.specs.Holding.{directive_at, passes}
 use Rattle.gm_file_edit.specs.NewWords.{interval_words, made_word, pair_words, replace_words, single}
@@ -43,7 +42,6 @@ use Rattle.gm_file_edit.proofs.Renewals.{go-kinds, go-renewal, go-says, module-r
 use Rattle.gm_file_edit.proofs.Renews.{renewed-sound}
 use Rattle.gm_file_edit.proofs.Pairs.{IsSound, document-sound, sound-document}
 use Rattle.gm_file_edit.proofs.Targets.{about-module, added_verb, verb_about}
-use Rattle.gm_file_edit.proofs.BySections.{edited-is-pass}
 
 -- ---- if no entry is targeted
 
@@ -189,15 +187,15 @@ put-sound (Add (Retract ends)) lines good fit none sound =
     added-sound verb.Retract (interval_words ends) (Retracts ends) lines (addition verb.Retract (interval_words ends) (Retracts ends) (ends-are ends good) (ends-says ends good)) (ends-kinds ends good, never (do_clash (Retracts ends)) (held_from None lines) (λ d. refl)) sound
 put-sound (Drop t) lines good fit none sound = sound
 
-pass-sound : (edit : Edit) (lines : List (Line Placed)) → IsSoundEdit edit → is_fit edit ≡ true → IsSound lines → IsSound (edited_by_pass edit lines)
-unfolding edited_by_pass
+pass-sound : (edit : Edit) (lines : List (Line Placed)) → IsSoundEdit edit → is_fit edit ≡ true → IsSound lines → IsSound (edited edit lines)
+unfolding edited
 pass-sound edit lines good fit sound = elim (cases_Bool (is_there (about edit) lines)) [
   | inl there ↦ rw there (changed-sound edit lines good fit sound)
   | inr none ↦ rw none (put-sound edit lines good fit none sound)
 ]
 
 pub edited-sound : (edit : Edit) (lines : List (Line Placed)) → IsSoundEdit edit → is_fit edit ≡ true → IsSound lines → IsSound (edited edit lines)
-edited-sound edit lines good fit sound = subst IsSound (sym (edited-is-pass edit lines)) (pass-sound edit lines good fit sound)
+edited-sound edit lines good fit sound = pass-sound edit lines good fit sound
 
 pub edited-document : (edit : Edit) (lines : List (Line Placed)) → IsSoundEdit edit → is_fit edit ≡ true → IsDocument (plain_lines lines) → fault_of Strict (plain_lines lines) ≡ None
     → IsDocument (plain_lines (edited edit lines)) × (fault_of Strict (plain_lines (edited edit lines)) ≡ None)

@@ -24,8 +24,7 @@ pub mod SaidAfter
 pub mod Idle
 pub mod Comments
 pub mod Untouched
-pub mod SectionAdditions
-pub mod BySections
+pub mod Spots
 pub mod Additions
 pub mod GoPlace
 pub mod Twice

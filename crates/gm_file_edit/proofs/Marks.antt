@@ -1,6 +1,6 @@
 -- The marks of lines, and what removing marked lines leaves.
 use Rattle.std.proofs.Common.{◌≡◌, ◌&&◌, ℕ, suc, ◌+◌, ◌<◌, ◌≤◌, not, Bool, true, false, List, [], ◌∷◌, ◌++◌, length, take, set, replicate, Option, Some, None, is_some, refl, sym, ap, subst, ◌∙◌, append_assoc, arith, inl, inr, drop, get_or}
-use Rattle.std.specs.Prelude.{if◌then◌else◌, take_while}
+use Rattle.std.specs.Prelude.{take_while}
 use Rattle.std.specs.List.{prefix_len}
 use Rattle.std.proofs.lemmas.List.{drop_all, length-append}
 use Rattle.std.proofs.lemmas.Bool.{cases_Bool}
@@ -11,8 +11,7 @@ use Rattle.gm_file.specs.Directives.{Directive, block_after_line, block_after_li
 use Rattle.gm_file_edit.specs.Fates.{Fate, dropped, dropping_from, fate_by, remaining, renewed, renewing_from}
 use Rattle.gm_file_edit.specs.Holding.{IsValidAt, directive_at, passes}
 use Rattle.gm_file_edit.specs.About.{about}
-use Rattle.gm_file_edit.specs.Pass.{edited_by_pass, put_in}
-use Rattle.gm_file_edit.specs.Edited.{changed, edited}
+use Rattle.gm_file_edit.specs.Edited.{changed, edited, put_in}
 use Rattle.gm_file_edit.specs.Edits.{Edit, Set, Drop, Add}
 use Rattle.gm_file_edit.specs.Kinds.{is_drop, set_by}
 use Rattle.gm_file_edit.specs.Renewing.{made_new}
@@ -29,7 +28,6 @@ use Rattle.gm_file_edit.proofs.Packs.{get_or-default}
 use Rattle.gm_file_edit.proofs.PassedOver.{scope-next, target-by}
 use Rattle.gm_file_edit.proofs.Pairs.{AreRightFrom, IsSound}
 use Rattle.gm_file_edit.proofs.Walking.{drop-next}
-use Rattle.gm_file_edit.proofs.BySections.{edited-is-pass}
 
 -- ---- the loop that marks lines
 
@@ -218,15 +216,10 @@ no-mark test block (line ∷ lines) le = elim (cases_Bool (passes test (directiv
 
 -- ---- lines of which those with a mark are removed
 
-fate-is : (mark : Bool) (line : Line Placed) → (if mark then None else Some line) ≡ fate_by mark line
-fate-is true line = refl
-fate-is false line = refl
-
 pub dropping-marked : (test : Directive → Bool) (block : Option Placed) (lines : List (Line Placed)) → dropping_from test block lines ≡ marked (marks_from test block lines) lines
 dropping-marked test block [] = refl
 dropping-marked test block (line ∷ lines) =
-    ap (λ (f : Fate). f ∷ dropping_from test (block_after_line block line) lines) (fate-is (passes test (directive_at block line)) line)
-    ∙ ap (λ (fs : List Fate). fate_by (passes test (directive_at block line)) line ∷ fs) (dropping-marked test (block_after_line block line) lines)
+    ap (λ (fs : List Fate). fate_by (passes test (directive_at block line)) line ∷ fs) (dropping-marked test (block_after_line block line) lines)
 
 pub dropped-marked : (test : Directive → Bool) (lines : List (Line Placed)) → dropped test lines ≡ remaining (marked (marks_from test None lines) lines)
 dropped-marked test lines = ap (remaining) (dropping-marked test None lines)
@@ -274,19 +267,19 @@ adds-changed (Set s) lines e f = absurd cc
 adds-changed (Drop t) lines e f = absurd cc
 adds-changed (Add a) lines e f = refl
 
-pass-there : (edit : Edit) (lines : List (Line Placed)) → first_of (marks_from (about edit) None lines) < length lines → edited_by_pass edit lines ≡ changed edit lines
-unfolding edited_by_pass
+pass-there : (edit : Edit) (lines : List (Line Placed)) → first_of (marks_from (about edit) None lines) < length lines → edited edit lines ≡ changed edit lines
+unfolding edited
 pass-there edit lines lt = rw (some-mark (about edit) None lines lt) refl
 
 pub edited-there : (edit : Edit) (lines : List (Line Placed)) → first_of (marks_from (about edit) None lines) < length lines → edited edit lines ≡ changed edit lines
-edited-there edit lines lt = edited-is-pass edit lines ∙ pass-there edit lines lt
+edited-there edit lines lt = pass-there edit lines lt
 
-pass-new : (edit : Edit) (lines : List (Line Placed)) → length lines ≤ first_of (marks_from (about edit) None lines) → edited_by_pass edit lines ≡ put_in edit lines
-unfolding edited_by_pass
+pass-new : (edit : Edit) (lines : List (Line Placed)) → length lines ≤ first_of (marks_from (about edit) None lines) → edited edit lines ≡ put_in edit lines
+unfolding edited
 pass-new edit lines le = rw (no-mark (about edit) None lines le) refl
 
 pub edited-new : (edit : Edit) (lines : List (Line Placed)) → length lines ≤ first_of (marks_from (about edit) None lines) → edited edit lines ≡ put_in edit lines
-edited-new edit lines le = edited-is-pass edit lines ∙ pass-new edit lines le
+edited-new edit lines le = pass-new edit lines le
 
 -- what is left of lines of which the first with a mark is rewritten
 pub renew-is : (edit : Edit) (lines new : List (Line Placed)) (marks others : List Bool) (first : ℕ) (line : Line Placed)

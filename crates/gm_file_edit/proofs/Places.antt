@@ -1,30 +1,26 @@
 -- The result of an operation doesn't depend on source positions: it commutes with removing the positions of words.
-use Rattle.std.proofs.Common.{◌≡◌, ℕ, suc, ◌+◌, ◌-◌, ◌||◌, ◌&&◌, not, Bool, true, false, List, [], ◌∷◌, ◌++◌, length, map, take, drop, Option, Some, None, is_none, refl, sym, ap, ◌∙◌, inl, inr}
-use Rattle.std.specs.Prelude.{if◌then◌else◌, codes, insert}
-use Rattle.std.specs.Option.{option_map, option_or}
+use Rattle.std.proofs.Common.{◌≡◌, ℕ, ◌-◌, ◌||◌, ◌&&◌, not, Bool, true, false, List, [], ◌∷◌, ◌++◌, length, map, take, Option, Some, None, is_none, is_some, refl, sym, ap, ◌∙◌, inl, inr}
+use Rattle.std.specs.Prelude.{if◌then◌else◌, codes}
+use Rattle.std.specs.Option.{option_map}
 use Rattle.std.specs.Str.{bytes_eq}
 use Rattle.std.proofs.lemmas.Bool.{cases_Bool}
-use Rattle.std.proofs.lemmas.List.{drop-map, length-map, map-append, take-map}
+use Rattle.std.proofs.lemmas.List.{length-map, map-append, take-map}
 use Rattle.gm_syntax.specs.declared.word.Punct.TheVariants.{Arrow}
 use Rattle.gm_syntax.specs.Words.{Word}
 use Rattle.gm_syntax.specs.Tokens.{Placed}
 use Rattle.gm_syntax.specs.Document.{Line, Blank, Comment, Open, Close, Entry, map_line}
 use Rattle.gm_syntax.specs.LineViews.{plain, plain_lines}
-use Rattle.gm_syntax.proofs.Edits.{map-insert}
 use Rattle.gm_file.specs.Directives.{Strict, Directive, VersionInterval, Right, Folder, Module, Replacing, block_after_line, directive_in, item_at}
 use Rattle.gm_file.specs.Faults.{is_go, is_module}
 use Rattle.gm_file_edit.specs.Edits.{Edit, Set, ModuleIs, GoIs, RequireAt, Drop, Add, Exclude, ReplaceWith, Retract}
 use Rattle.gm_file_edit.specs.NewWords.{entry_at, interval_words, left_words, left_words_of, made_mark, made_word, pair_words, replace_words, right_words, single, unplaced}
-use Rattle.gm_file_edit.specs.Fates.{Fate, dropped, dropping_from, empties, is_emptied, kept, remaining, renewed, renewing_from, widened_from}
+use Rattle.gm_file_edit.specs.Fates.{Fate, dropped, dropping_from, empties, fate_by, is_emptied, kept, remaining, renewed, renewing_from, widened_from}
 use Rattle.gm_file_edit.specs.Holding.{directive_at, passes, word_of}
 use Rattle.gm_file_edit.specs.Renewing.{before_arguments, with_arguments, with_last}
 use Rattle.gm_file_edit.specs.About.{about, is_replaced_by, requires_path}
 use Rattle.gm_file_edit.specs.Searching.{is_there, is_there_from}
-use Rattle.gm_file_edit.specs.Adding.{added, added_at, after_first_that, spot_after_first, spot_after_last, spot_after_line, close_len, further, past_block, insert_at_spot}
 use Rattle.gm_file_edit.specs.Verbs.{is_exclude, is_replace, is_require, is_retract}
-use Rattle.gm_file_edit.specs.Pass.{edited_by_pass, put_in}
-use Rattle.gm_file_edit.specs.Edited.{changed, edited}
-use Rattle.gm_file_edit.proofs.BySections.{edited-is-pass}
+use Rattle.gm_file_edit.specs.Edited.{added, after_closing, after_first_of, after_first_that, after_last_of, changed, edited, put_in}
 
 -- ---- lines without source positions
 
@@ -117,13 +113,19 @@ there-loose test block (line ∷ lines) =
 
 -- ---- the fates of lines
 
+fate-loose : (mark : Bool) (line : Line Placed) → fate_by mark (loose_line line) ≡ loose_fate (fate_by mark line)
+fate-loose true line = refl
+fate-loose false line = refl
+
 dropping-loose : (test : Directive → Bool) (block : Option Placed) (lines : List (Line Placed)) → dropping_from test (loose_block block) (loose_lines lines) ≡ loose_fates (dropping_from test block lines)
 dropping-loose test block [] = refl
 dropping-loose test block (line ∷ lines) =
-    ap (λ (f : Fate). f ∷ dropping_from test (block_after_line (loose_block block) (loose_line line)) (loose_lines lines))
-    (chosen loose_fate (passes test (directive_at (loose_block block) (loose_line line))) (passes test (directive_at block line)) None (Some (loose_line line)) None (Some line) (passes-loose test block line) refl refl)
-    ∙ ap (λ (b : Option Placed). loose_fate (if passes test (directive_at block line) then None else Some line) ∷ dropping_from test b (loose_lines lines)) (behind-loose block line)
-    ∙ ap (λ (fs : List Fate). loose_fate (if passes test (directive_at block line) then None else Some line) ∷ fs) (dropping-loose test (block_after_line block line) lines)
+    let mark : Bool = passes test (directive_at block line) in
+    let behind : Option Placed = block_after_line (loose_block block) (loose_line line) in
+    ap (λ (b : Bool). fate_by b (loose_line line) ∷ dropping_from test behind (loose_lines lines)) (passes-loose test block line)
+    ∙ ap (λ (f : Fate). f ∷ dropping_from test behind (loose_lines lines)) (fate-loose mark line)
+    ∙ ap (λ (b : Option Placed). loose_fate (fate_by mark line) ∷ dropping_from test b (loose_lines lines)) (behind-loose block line)
+    ∙ ap (λ (fs : List Fate). loose_fate (fate_by mark line) ∷ fs) (dropping-loose test (block_after_line block line) lines)
 
 -- a rewrite doesn't depend on source positions
 abbrev IsBlind : (Option Placed → Line Placed → Line Placed) → Type 0
@@ -246,40 +248,6 @@ interval-are ends = either-are (bytes_eq ends.0 ends.1) _ _ refl refl
 
 -- ---- added entries
 
-spot-loose : (block : Option Placed) → spot_after_line (loose_block block) ≡ spot_after_line block
-spot-loose None = refl
-spot-loose (Some verb) = refl
-
-last-loose : (test : Directive → Bool) (block : Option Placed) (lines : List (Line Placed)) → spot_after_last test (loose_block block) (loose_lines lines) ≡ spot_after_last test block lines
-last-loose test block [] = refl
-last-loose test block (line ∷ lines) =
-    ap (λ (b : Option Placed). option_or (option_map further (spot_after_last test b (loose_lines lines))) (if passes test (directive_at (loose_block block) (loose_line line)) then Some (spot_after_line (loose_block block)) else None))
-    (behind-loose block line)
-    ∙ ap (λ s. option_or (option_map further s) (if passes test (directive_at (loose_block block) (loose_line line)) then Some (spot_after_line (loose_block block)) else None)) (last-loose test (block_after_line block line) lines)
-    ∙ ap (λ (c : Bool). option_or (option_map further (spot_after_last test (block_after_line block line) lines)) (if c then Some (spot_after_line (loose_block block)) else None)) (passes-loose test block line)
-    ∙ ap (λ s. option_or (option_map further (spot_after_last test (block_after_line block line) lines)) (if passes test (directive_at block line) then Some s else None)) (spot-loose block)
-
-first-loose : (test : Directive → Bool) (block : Option Placed) (lines : List (Line Placed)) → spot_after_first test (loose_block block) (loose_lines lines) ≡ spot_after_first test block lines
-first-loose test block [] = refl
-first-loose test block (line ∷ lines) =
-    ap (λ (b : Option Placed). if passes test (directive_at (loose_block block) (loose_line line)) then Some (spot_after_line (loose_block block)) else option_map further (spot_after_first test b (loose_lines lines)))
-    (behind-loose block line)
-    ∙ ap (λ s. if passes test (directive_at (loose_block block) (loose_line line)) then Some (spot_after_line (loose_block block)) else option_map further s) (first-loose test (block_after_line block line) lines)
-    ∙ ap (λ (c : Bool). if c then Some (spot_after_line (loose_block block)) else option_map further (spot_after_first test (block_after_line block line) lines)) (passes-loose test block line)
-    ∙ ap (λ s. if passes test (directive_at block line) then Some s else option_map further (spot_after_first test (block_after_line block line) lines)) (spot-loose block)
-
-close-loose : (lines : List (Line Placed)) → close_len (loose_lines lines) ≡ close_len lines
-close-loose [] = refl
-close-loose (Blank ∷ lines) = ap suc (close-loose lines)
-close-loose (Comment text ∷ lines) = ap suc (close-loose lines)
-close-loose (Open verb suffix ∷ lines) = ap suc (close-loose lines)
-close-loose (Close suffix ∷ lines) = refl
-close-loose (Entry words suffix ∷ lines) = ap suc (close-loose lines)
-
-past-loose : (lines : List (Line Placed)) (spot : _) → past_block (loose_lines lines) spot ≡ past_block lines spot
-past-loose lines spot =
-    ap (λ (n : ℕ). if spot.inside then spot.before + n else spot.before) (ap close_len (drop-map loose_line spot.before lines) ∙ close-loose (drop spot.before lines))
-
 single-loose : (verb : List ℕ) (arguments : List Placed) → AreLoose arguments → loose_line (single verb arguments) ≡ single verb arguments
 single-loose verb arguments are = ap (λ (ws : List Placed). single verb ws) are
 
@@ -287,29 +255,63 @@ entry-loose : (inside : Bool) (verb : List ℕ) (arguments : List Placed) → Ar
 entry-loose false verb arguments are = single-loose verb arguments are
 entry-loose true verb arguments are = ap (λ (ws : List Placed). Entry ws None) are
 
-at-loose : (verb : List ℕ) (arguments : List Placed) → AreLoose arguments → (lines : List (Line Placed)) (spot : _) → added_at verb arguments (loose_lines lines) spot ≡ loose_lines (added_at verb arguments lines spot)
-at-loose verb arguments are lines None =
-    ap (λ (l : Line Placed). loose_lines lines ++ Blank ∷ l ∷ []) (sym (single-loose verb arguments are)) ∙ sym (map-append loose_line lines (Blank ∷ single verb arguments ∷ []))
-at-loose verb arguments are lines (Some spot) =
-    ap (λ (l : Line Placed). insert (loose_lines lines) spot.before l) (sym (entry-loose spot.inside verb arguments are)) ∙ sym (map-insert loose_line lines spot.before (entry_at spot.inside verb arguments))
+inside-loose : (block : Option Placed) → is_some (loose_block block) ≡ is_some block
+inside-loose None = refl
+inside-loose (Some verb) = refl
+
+behind-there : (test : Directive → Bool) (block : Option Placed) (line : Line Placed) (lines : List (Line Placed)) → is_there_from test (block_after_line (loose_block block) (loose_line line)) (loose_lines lines) ≡ is_there_from test (block_after_line block line) lines
+behind-there test block line lines = ap (λ (b : Option Placed). is_there_from test b (loose_lines lines)) (behind-loose block line) ∙ there-loose test (block_after_line block line) lines
+
+both-same : (a b c d : Bool) → a ≡ c → b ≡ d → (a && not b) ≡ (c && not d)
+both-same a b c d e f = rw (e, f) refl
+
+after-last-loose : (test : Directive → Bool) (verb : List ℕ) (arguments : List Placed) → AreLoose arguments → (block : Option Placed) (lines : List (Line Placed))
+    → after_last_of test verb arguments (loose_block block) (loose_lines lines) ≡ loose_lines (after_last_of test verb arguments block lines)
+after-last-loose test verb arguments are block [] = refl
+after-last-loose test verb arguments are block (line ∷ lines) =
+    let behind : Option Placed = block_after_line block line in
+    let loose_behind : Option Placed = block_after_line (loose_block block) (loose_line line) in
+    chosen loose_lines (passes test (directive_at (loose_block block) (loose_line line)) && not (is_there_from test loose_behind (loose_lines lines))) (passes test (directive_at block line) && not (is_there_from test behind lines))
+    (loose_line line ∷ entry_at (is_some (loose_block block)) verb arguments ∷ loose_lines lines) (loose_line line ∷ after_last_of test verb arguments loose_behind (loose_lines lines))
+    (line ∷ entry_at (is_some block) verb arguments ∷ lines) (line ∷ after_last_of test verb arguments behind lines)
+    (both-same (passes test (directive_at (loose_block block) (loose_line line))) (is_there_from test loose_behind (loose_lines lines)) (passes test (directive_at block line)) (is_there_from test behind lines) (passes-loose test block line) (behind-there test block line lines))
+    (ap (λ (b : Bool). loose_line line ∷ entry_at b verb arguments ∷ loose_lines lines) (inside-loose block) ∙ ap (λ (l : Line Placed). loose_line line ∷ l ∷ loose_lines lines) (sym (entry-loose (is_some block) verb arguments are)))
+    (ap (λ (b : Option Placed). loose_line line ∷ after_last_of test verb arguments b (loose_lines lines)) (behind-loose block line) ∙ ap (λ (ls : List (Line Placed)). loose_line line ∷ ls) (after-last-loose test verb arguments are behind lines))
 
 added-loose : (test : Directive → Bool) (verb : List ℕ) (arguments : List Placed) → AreLoose arguments → (lines : List (Line Placed)) → added test verb arguments (loose_lines lines) ≡ loose_lines (added test verb arguments lines)
 unfolding added
-added-loose test verb arguments are lines = ap (added_at verb arguments (loose_lines lines)) (last-loose test None lines) ∙ at-loose verb arguments are lines (spot_after_last test None lines)
+added-loose test verb arguments are lines =
+    chosen loose_lines (is_there test (loose_lines lines)) (is_there test lines) (after_last_of test verb arguments None (loose_lines lines)) (loose_lines lines ++ Blank ∷ single verb arguments ∷ [])
+    (after_last_of test verb arguments None lines) (lines ++ Blank ∷ single verb arguments ∷ []) (there-loose test None lines) (after-last-loose test verb arguments are None lines)
+    (ap (λ (l : Line Placed). loose_lines lines ++ Blank ∷ l ∷ []) (sym (single-loose verb arguments are)) ∙ sym (map-append loose_line lines (Blank ∷ single verb arguments ∷ [])))
 
-put-loose : (new lines : List (Line Placed)) → loose_lines new ≡ new → (spot : _) → insert_at_spot new (loose_lines lines) spot ≡ loose_lines (insert_at_spot new lines spot)
-put-loose new lines are None = ap (λ (ls : List (Line Placed)). loose_lines lines ++ ls) (sym are) ∙ sym (map-append loose_line lines new)
-put-loose new lines are (Some spot) =
-    ap (λ (n : ℕ). take n (loose_lines lines) ++ (new ++ drop n (loose_lines lines))) (past-loose lines spot)
-    ∙ ap (λ (ls : List (Line Placed)). ls ++ (new ++ drop (past_block lines spot) (loose_lines lines))) (take-map loose_line (past_block lines spot) lines)
-    ∙ ap (λ (ls : List (Line Placed)). loose_lines (take (past_block lines spot) lines) ++ (ls ++ drop (past_block lines spot) (loose_lines lines))) (sym are)
-    ∙ ap (λ (ls : List (Line Placed)). loose_lines (take (past_block lines spot) lines) ++ (loose_lines new ++ ls)) (drop-map loose_line (past_block lines spot) lines)
-    ∙ ap (λ (ls : List (Line Placed)). loose_lines (take (past_block lines spot) lines) ++ ls) (sym (map-append loose_line new (drop (past_block lines spot) lines)))
-    ∙ sym (map-append loose_line (take (past_block lines spot) lines) (new ++ drop (past_block lines spot) lines))
+first-new : (new lines : List (Line Placed)) → loose_lines new ≡ new → new ++ loose_lines lines ≡ loose_lines (new ++ lines)
+first-new new lines are = ap (λ (ls : List (Line Placed)). ls ++ loose_lines lines) (sym are) ∙ sym (map-append loose_line new lines)
+
+closing-loose : (new lines : List (Line Placed)) → loose_lines new ≡ new → after_closing new (loose_lines lines) ≡ loose_lines (after_closing new lines)
+closing-loose new [] are = sym are
+closing-loose new (Blank ∷ lines) are = ap (λ (ls : List (Line Placed)). Blank ∷ ls) (closing-loose new lines are)
+closing-loose new (Comment text ∷ lines) are = ap (λ (ls : List (Line Placed)). Comment text ∷ ls) (closing-loose new lines are)
+closing-loose new (Open verb suffix ∷ lines) are = ap (λ (ls : List (Line Placed)). Open (loose verb) suffix ∷ ls) (closing-loose new lines are)
+closing-loose new (Close suffix ∷ lines) are = ap (λ (ls : List (Line Placed)). Close suffix ∷ ls) (first-new new lines are)
+closing-loose new (Entry words suffix ∷ lines) are = ap (λ (ls : List (Line Placed)). Entry (map loose words) suffix ∷ ls) (closing-loose new lines are)
+
+first-of-loose : (test : Directive → Bool) (new : List (Line Placed)) → loose_lines new ≡ new → (block : Option Placed) (lines : List (Line Placed)) → after_first_of test new (loose_block block) (loose_lines lines) ≡ loose_lines (after_first_of test new block lines)
+first-of-loose test new are block [] = sym are
+first-of-loose test new are block (line ∷ lines) =
+    let behind : Option Placed = block_after_line block line in
+    let loose_behind : Option Placed = block_after_line (loose_block block) (loose_line line) in
+    ap (λ (ls : List (Line Placed)). loose_line line ∷ ls)
+    (chosen loose_lines (passes test (directive_at (loose_block block) (loose_line line))) (passes test (directive_at block line))
+    (if is_some (loose_block block) then after_closing new (loose_lines lines) else new ++ loose_lines lines) (after_first_of test new loose_behind (loose_lines lines))
+    (if is_some block then after_closing new lines else new ++ lines) (after_first_of test new behind lines)
+    (passes-loose test block line)
+    (chosen loose_lines (is_some (loose_block block)) (is_some block) (after_closing new (loose_lines lines)) (new ++ loose_lines lines) (after_closing new lines) (new ++ lines) (inside-loose block) (closing-loose new lines are) (first-new new lines are))
+    (ap (λ (b : Option Placed). after_first_of test new b (loose_lines lines)) (behind-loose block line) ∙ first-of-loose test new are behind lines))
 
 behind-first-loose : (test : Directive → Bool) (new lines : List (Line Placed)) → loose_lines new ≡ new → after_first_that test new (loose_lines lines) ≡ loose_lines (after_first_that test new lines)
 unfolding after_first_that
-behind-first-loose test new lines are = ap (insert_at_spot new (loose_lines lines)) (first-loose test None lines) ∙ put-loose new lines are (spot_after_first test None lines)
+behind-first-loose test new lines are = first-of-loose test new are None lines
 
 -- ---- the lines after an operation
 
@@ -332,8 +334,8 @@ put-in-loose (Add (Exclude p)) lines = added-loose is_exclude (codes "exclude") 
 put-in-loose (Set (ReplaceWith r)) lines = added-loose is_replace (codes "replace") (replace_words r) (replace-are r) lines
 put-in-loose (Add (Retract ends)) lines = added-loose is_retract (codes "retract") (interval_words ends) (interval-are ends) lines
 
-pass-loose : (edit : Edit) (lines : List (Line Placed)) → edited_by_pass edit (loose_lines lines) ≡ loose_lines (edited_by_pass edit lines)
-unfolding edited_by_pass
+pass-loose : (edit : Edit) (lines : List (Line Placed)) → edited edit (loose_lines lines) ≡ loose_lines (edited edit lines)
+unfolding edited
 pass-loose edit lines =
     chosen loose_lines (is_there (about edit) (loose_lines lines)) (is_there (about edit) lines) (changed edit (loose_lines lines)) (put_in edit (loose_lines lines)) (changed edit lines) (put_in edit lines)
     (there-loose (about edit) None lines) (changed-loose edit lines) (put-in-loose edit lines)
@@ -341,8 +343,6 @@ pass-loose edit lines =
 -- an operation gives the same result for lines that differ only in source positions
 pub edited-same : (edit : Edit) (lines others : List (Line Placed)) → plain_lines lines ≡ plain_lines others → plain_lines (edited edit lines) ≡ plain_lines (edited edit others)
 edited-same edit lines others e =
-    ap plain_lines (edited-is-pass edit lines)
-    ∙ sym (plain_lines-loose (edited_by_pass edit lines)) ∙ ap plain_lines (sym (pass-loose edit lines))
-    ∙ ap (λ (ls : List (Line Placed)). plain_lines (edited_by_pass edit ls)) (same-loose lines others e)
-    ∙ ap plain_lines (pass-loose edit others) ∙ plain_lines-loose (edited_by_pass edit others)
-    ∙ ap plain_lines (sym (edited-is-pass edit others))
+    sym (plain_lines-loose (edited edit lines)) ∙ ap plain_lines (sym (pass-loose edit lines))
+    ∙ ap (λ (ls : List (Line Placed)). plain_lines (edited edit ls)) (same-loose lines others e)
+    ∙ ap plain_lines (pass-loose edit others) ∙ plain_lines-loose (edited edit others)

@@ -10,9 +10,10 @@ use Rattle.gm_syntax.specs.Tokens.{Placed}
 use Rattle.gm_syntax.specs.Document.{Line, Blank, IsValidLine}
 use Rattle.gm_syntax.specs.LineViews.{plain}
 use Rattle.gm_file.specs.Directives.{Directive, LineInBlock, block_after_lines, block_after_line, item_at}
+use Rattle.gm_file_edit.specs.Edited.{added, after_first_that}
 use Rattle.gm_file_edit.specs.declared.adding.AddedVerb.{AddedVerb}
 use Rattle.gm_file_edit.specs.declared.adding.Spot.{Spot}
-use Rattle.gm_file_edit.specs.Adding.{added, added_at, after_first_that, spot_after_first, spot_after_last, is_of, past_block, insert_at_spot, verb_text}
+use Rattle.gm_file_edit.specs.Adding.{added_at, spot_after_first, spot_after_last, is_of, past_block, insert_at_spot, verb_text}
 use Rattle.gm_file_edit.specs.NewWords.{entry_at, single}
 use Rattle.gm_file_edit.specs.Fates.{Fate, dropped, dropping_from, kept, remaining, renewed, renewing_from}
 use Rattle.gm_file_edit.specs.Holding.{directive_at, passes}
@@ -21,6 +22,7 @@ use Rattle.gm_file_edit.proofs.AddingSound.{Fits, IsAddition, IsIn, IsVerbSpot, 
 use Rattle.gm_file_edit.proofs.Leaving.{IsMadeNew}
 use Rattle.gm_file_edit.proofs.Seats.{remaining-seats, seats_from}
 use Rattle.gm_file_edit.proofs.Pairs.{AreRightFrom, IsSound}
+use Rattle.gm_file_edit.proofs.Spots.{added-spot, first-spot}
 
 -- ---- lists of directives
 
@@ -249,8 +251,9 @@ added-at-put v arguments new lines so sound (Some spot) is =
 
 pub added-put : (v : AddedVerb) (arguments : List Placed) (new : Directive) (lines : List (Line Placed)) → IsAddition v arguments new → IsSound lines
     → IsPutIn new (held_from None lines) (held_from None (added (is_of v) (verb_text v) arguments lines))
-unfolding added
-added-put v arguments new lines so sound = added-at-put v arguments new lines so sound (spot_after_last (is_of v) None lines) (last-is v None lines)
+added-put v arguments new lines so sound =
+    subst (λ (ls : List (Line Placed)). IsPutIn new (held_from None lines) (held_from None ls)) (sym (added-spot (is_of v) (verb_text v) arguments lines))
+    (added-at-put v arguments new lines so sound (spot_after_last (is_of v) None lines) (last-is v None lines))
 
 behind-put : (new : Directive) (line : Line Placed) (lines : List (Line Placed)) → Fits None new line → IsSound lines
     → (o : Option Spot) → ((spot : Spot) → o ≡ Some spot → IsIn None lines spot) → IsPutIn new (held_from None lines) (held_from None (insert_at_spot (Blank ∷ line ∷ []) lines o))
@@ -262,8 +265,9 @@ behind-put new line lines fits sound (Some spot) is =
 
 pub after-first-put : (test : Directive → Bool) (new : Directive) (line : Line Placed) (lines : List (Line Placed)) → Fits None new line → IsSound lines
     → IsPutIn new (held_from None lines) (held_from None (after_first_that test (Blank ∷ line ∷ []) lines))
-unfolding after_first_that
-after-first-put test new line lines fits sound = behind-put new line lines fits sound (spot_after_first test None lines) (first-is-in test None lines)
+after-first-put test new line lines fits sound =
+    subst (λ (ls : List (Line Placed)). IsPutIn new (held_from None lines) (held_from None ls)) (sym (first-spot test (Blank ∷ line ∷ []) lines))
+    (behind-put new line lines fits sound (spot_after_first test None lines) (first-is-in test None lines))
 
 pub put-others : (test : Directive → Bool) (new : Directive) (before after : List Directive) → test new ≡ true → IsPutIn new before after → filter (others test) after ≡ filter (others test) before
 put-others test new before after own put =

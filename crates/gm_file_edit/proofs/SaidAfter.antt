@@ -15,11 +15,10 @@ use Rattle.gm_file.specs.Faults.{is_go, is_module}
 use Rattle.gm_file_edit.specs.declared.adding.AddedVerb.TheVariants as verb
 use Rattle.gm_file_edit.specs.Edits.{Edit, Set, ModuleIs, GoIs, RequireAt, Drop, Add, Exclude, ReplaceWith, Retract}
 use Rattle.gm_file_edit.specs.About.{about, excludes_pair, is_covered_by, is_replaced_by, requires_path, retracts_ends}
-use Rattle.gm_file_edit.specs.Edited.{changed}
-use Rattle.gm_file_edit.specs.Pass.{edited_by_pass, put_in}
+use Rattle.gm_file_edit.specs.Edited.{changed, edited, put_in}
 use Rattle.gm_file_edit.specs.Kinds.{added_by, is_drop, is_fit, set_by}
 use Rattle.gm_file_edit.specs.Holding.{directive_at, passes}
-use Rattle.gm_file_edit.specs.Laws.{AddedIsThere, DroppedIsGone, IsEditOf, OthersStay, SetStandsAlone, directives_of}
+use Rattle.gm_file_edit.specs.Laws.{AddedIsThere, DroppedIsGone, IsEditOf, OthersStay, SetStandsAlone}
 use Rattle.gm_file_edit.specs.NewWords.{interval_words, made_word, pair_words, replace_words, single}
 use Rattle.gm_file_edit.specs.Renewing.{with_arguments, with_last}
 use Rattle.gm_file_edit.specs.Searching.{is_there, is_there_from}
@@ -32,7 +31,6 @@ use Rattle.gm_file_edit.proofs.Renewals.{go-renewal, go-says, module-renewal, re
 use Rattle.gm_file_edit.proofs.Said.{IsPutIn, added-put, after-first-put, dropped-held, others, others-none, others-twice, put-alone, put-others, renewed-alone, renewed-others}
 use Rattle.gm_file_edit.proofs.Pairs.{IsSound, document-sound}
 use Rattle.gm_file_edit.proofs.Written.{written-sound}
-use Rattle.gm_file_edit.proofs.BySections.{edited-is-pass}
 
 -- ---- an operation targets what it sets or adds
 
@@ -126,8 +124,8 @@ put-in-others (Set (ReplaceWith r)) lines good sound = put-others (is_replaced_b
 put-in-others (Add (Retract ends)) lines good sound = put-others (retracts_ends ends) (Retracts ends) (held_from None lines) _ (pair-itself ends) (retract-put ends lines good sound)
 
 others-after : (edit : Edit) (lines : List (Line Placed)) → IsSoundEdit edit → is_fit edit ≡ true → IsSound lines
-    → filter (others (about edit)) (held_from None (edited_by_pass edit lines)) ≡ filter (others (about edit)) (held_from None lines)
-unfolding edited_by_pass
+    → filter (others (about edit)) (held_from None (edited edit lines)) ≡ filter (others (about edit)) (held_from None lines)
+unfolding edited
 others-after edit lines good fit sound = elim (cases_Bool (is_there (about edit) lines)) [
   | inl there ↦ rw there (changed-others edit lines good fit sound)
   | inr none ↦ rw none (put-in-others edit lines good sound)
@@ -147,8 +145,8 @@ drop-puts-nothing (Drop t) lines e = refl
 drop-puts-nothing (Set s) lines e = absurd cc
 drop-puts-nothing (Add a) lines e = absurd cc
 
-gone-after : (edit : Edit) (lines : List (Line Placed)) → is_drop edit ≡ true → list_any (about edit) (held_from None (edited_by_pass edit lines)) ≡ false
-unfolding edited_by_pass
+gone-after : (edit : Edit) (lines : List (Line Placed)) → is_drop edit ≡ true → list_any (about edit) (held_from None (edited edit lines)) ≡ false
+unfolding edited
 gone-after edit lines e = elim (cases_Bool (is_there (about edit) lines)) [
   | inl there ↦ rw there (changed-gone edit lines e)
   | inr none ↦ rw none (ap (λ (ls : List (Line Placed)). list_any (about edit) (held_from None ls)) (drop-puts-nothing edit lines e) ∙ none-from (about edit) None lines none)
@@ -194,8 +192,8 @@ put-in-alone (Drop t) lines d good sound none e = absurd cc
 put-in-alone (Add a) lines d good sound none e = absurd cc
 
 alone-after : (edit : Edit) (lines : List (Line Placed)) (d : Directive) → IsSoundEdit edit → is_fit edit ≡ true → IsSound lines → set_by edit ≡ Some d
-    → filter (about edit) (held_from None (edited_by_pass edit lines)) ≡ d ∷ []
-unfolding edited_by_pass
+    → filter (about edit) (held_from None (edited edit lines)) ≡ d ∷ []
+unfolding edited
 alone-after edit lines d good fit sound e = elim (cases_Bool (is_there (about edit) lines)) [
   | inl there ↦ rw there (changed-alone edit lines d good fit sound there e)
   | inr none ↦ rw none (put-in-alone edit lines d good sound none e)
@@ -226,8 +224,8 @@ abbrev once_or_as_before : Edit → Directive → List Directive → List Direct
 once_or_as_before edit d said = if list_any (about edit) said then filter (about edit) said else d ∷ []
 
 added-after : (edit : Edit) (lines : List (Line Placed)) (d : Directive) → IsSoundEdit edit → IsSound lines → added_by edit ≡ Some d
-    → filter (about edit) (held_from None (edited_by_pass edit lines)) ≡ once_or_as_before edit d (held_from None lines)
-unfolding edited_by_pass
+    → filter (about edit) (held_from None (edited edit lines)) ≡ once_or_as_before edit d (held_from None lines)
+unfolding edited
 added-after edit lines d good sound e = elim (cases_Bool (is_there (about edit) lines)) [
   | inl there ↦
       let any : list_any (about edit) (held_from None lines) ≡ true = sym (there-is (about edit) None lines) ∙ there in
@@ -241,19 +239,19 @@ pub sound-of : (edit : Edit) (lines : List (Line Placed)) → IsEditOf edit line
 sound-of edit lines is = (written-sound is.0.0 edit is.0.1, document-sound lines is.2 is.3)
 
 pub dropped-is-gone : DroppedIsGone
-dropped-is-gone = λ edit lines e. ap (λ (ls : List (Line Placed)). list_any (about edit) (directives_of ls)) (edited-is-pass edit lines) ∙ ap (list_any (about edit)) (file-held (edited_by_pass edit lines)) ∙ gone-after edit lines e
+dropped-is-gone = λ edit lines e. ap (list_any (about edit)) (file-held (edited edit lines)) ∙ gone-after edit lines e
 
 pub set-stands-alone : SetStandsAlone
 set-stands-alone = λ edit lines d is e.
     let sound = sound-of edit lines is in
-    ap (λ (ls : List (Line Placed)). filter (about edit) (directives_of ls)) (edited-is-pass edit lines) ∙ ap (filter (about edit)) (file-held (edited_by_pass edit lines)) ∙ alone-after edit lines d sound.0 is.1 sound.1 e
+    ap (filter (about edit)) (file-held (edited edit lines)) ∙ alone-after edit lines d sound.0 is.1 sound.1 e
 
 pub added-is-there : AddedIsThere
 added-is-there = λ edit lines d is e.
     let sound = sound-of edit lines is in
-    ap (λ (ls : List (Line Placed)). filter (about edit) (directives_of ls)) (edited-is-pass edit lines) ∙ ap (filter (about edit)) (file-held (edited_by_pass edit lines)) ∙ added-after edit lines d sound.0 sound.1 e ∙ ap (once_or_as_before edit d) (sym (file-held lines))
+    ap (filter (about edit)) (file-held (edited edit lines)) ∙ added-after edit lines d sound.0 sound.1 e ∙ ap (once_or_as_before edit d) (sym (file-held lines))
 
 pub others-stay : OthersStay
 others-stay = λ edit lines is.
     let sound = sound-of edit lines is in
-    ap (λ (ls : List (Line Placed)). filter (others (about edit)) (directives_of ls)) (edited-is-pass edit lines) ∙ ap (filter (others (about edit))) (file-held (edited_by_pass edit lines)) ∙ others-after edit lines sound.0 is.1 sound.1 ∙ ap (filter (others (about edit))) (sym (file-held lines))
+    ap (filter (others (about edit))) (file-held (edited edit lines)) ∙ others-after edit lines sound.0 is.1 sound.1 ∙ ap (filter (others (about edit))) (sym (file-held lines))

@@ -14,9 +14,8 @@ use Rattle.gm_file_edit.specs.declared.adding.AddedVerb.TheVariants as verb
 use Rattle.gm_file_edit.specs.declared.adding.Spot.{Spot}
 use Rattle.gm_file_edit.specs.Edits.{Edit, Set, ModuleIs, GoIs, RequireAt, Drop, Add, ReplaceWith}
 use Rattle.gm_file_edit.specs.About.{about}
-use Rattle.gm_file_edit.specs.Adding.{added, added_at, after_first_that, insert_at_spot, is_of, past_block, spot_after_first, spot_after_last, verb_text}
-use Rattle.gm_file_edit.specs.Pass.{edited_by_pass, put_in}
-use Rattle.gm_file_edit.specs.Edited.{changed, edited}
+use Rattle.gm_file_edit.specs.Adding.{added_at, insert_at_spot, is_of, past_block, spot_after_first, spot_after_last, verb_text}
+use Rattle.gm_file_edit.specs.Edited.{added, after_first_that, changed, edited, put_in}
 use Rattle.gm_file_edit.specs.Fates.{Fate, dropping_from, kept, remaining, renewing_from}
 use Rattle.gm_file_edit.specs.Holding.{directive_at, passes}
 use Rattle.gm_file_edit.specs.Laws.{directives_of}
@@ -31,8 +30,8 @@ use Rattle.gm_file_edit.proofs.Said.{none-any}
 use Rattle.gm_file_edit.proofs.SaidAfter.{set-stands-alone, there-is}
 use Rattle.gm_file_edit.proofs.Seats.{remaining-seats, seats-append, seats_from}
 use Rattle.gm_file_edit.proofs.Pairs.{IsSound, document-sound}
+use Rattle.gm_file_edit.proofs.Spots.{added-spot, first-spot}
 use Rattle.gm_file_edit.proofs.Untouched.{all-lines-stay, all_stay, none-dropped-from, or-none}
-use Rattle.gm_file_edit.proofs.BySections.{edited-is-pass}
 
 -- how an operation rewrites a line, given the verb of its block
 abbrev Rewriting : Type 0
@@ -219,8 +218,8 @@ added-at-set test new v arguments lines is sound none (Some spot) spot_is =
 
 added-set : (test : Directive → Bool) (new : Rewriting) (v : AddedVerb) (arguments : List Placed) (lines : List (Line Placed)) → EntryIsSet new (verb_text v) arguments → IsSound lines → is_there test lines ≡ false
     → LinesAreSet test new None (added (is_of v) (verb_text v) arguments lines)
-unfolding added
-added-set test new v arguments lines is sound none = added-at-set test new v arguments lines is sound none (spot_after_last (is_of v) None lines) (last-is v None lines)
+added-set test new v arguments lines is sound none =
+    subst (LinesAreSet test new None) (sym (added-spot (is_of v) (verb_text v) arguments lines)) (added-at-set test new v arguments lines is sound none (spot_after_last (is_of v) None lines) (last-is v None lines))
 
 behind-set : (test : Directive → Bool) (new : Rewriting) (text : List ℕ) (arguments : List Placed) (lines : List (Line Placed)) → EntryIsSet new text arguments → IsSound lines → is_there test lines ≡ false
     → (o : Option Spot) → ((spot : Spot) → o ≡ Some spot → IsIn None lines spot) → LinesAreSet test new None (insert_at_spot (Blank ∷ single text arguments ∷ []) lines o)
@@ -233,8 +232,9 @@ behind-set test new text arguments lines is sound none (Some spot) spot_is =
 
 go-set : (text : List ℕ) (lines : List (Line Placed)) → IsSound lines → is_there is_go lines ≡ false
     → LinesAreSet is_go (with_last text) None (after_first_that is_module (Blank ∷ single (codes "go") (made_word text ∷ []) ∷ []) lines)
-unfolding after_first_that
-go-set text lines sound none = behind-set is_go (with_last text) (codes "go") (made_word text ∷ []) lines go-entry sound none (spot_after_first is_module None lines) (first-is-in is_module None lines)
+go-set text lines sound none =
+    subst (LinesAreSet is_go (with_last text) None) (sym (first-spot is_module (Blank ∷ single (codes "go") (made_word text ∷ []) ∷ []) lines))
+    (behind-set is_go (with_last text) (codes "go") (made_word text ∷ []) lines go-entry sound none (spot_after_first is_module None lines) (first-is-in is_module None lines))
   where
     go-entry : EntryIsSet (with_last text) (codes "go") (made_word text ∷ [])
     go-entry None = refl
@@ -257,15 +257,15 @@ put-set (Set (ReplaceWith r)) lines d sets sound none = added-set (about (Set (R
 put-set (Drop t) lines d sets sound none = absurd cc
 put-set (Add a) lines d sets sound none = absurd cc
 
-pass-set : (edit : Edit) (lines : List (Line Placed)) (d : Directive) → set_by edit ≡ Some d → IsSound lines → LinesAreSet (about edit) (made_new edit) None (edited_by_pass edit lines)
-unfolding edited_by_pass
+pass-set : (edit : Edit) (lines : List (Line Placed)) (d : Directive) → set_by edit ≡ Some d → IsSound lines → LinesAreSet (about edit) (made_new edit) None (edited edit lines)
+unfolding edited
 pass-set edit lines d sets sound = elim (cases_Bool (is_there (about edit) lines)) [
   | inl there ↦ rw there (changed-set edit lines d sets)
   | inr none ↦ rw none (put-set edit lines d sets sound none)
 ]
 
 edited-set : (edit : Edit) (lines : List (Line Placed)) (d : Directive) → set_by edit ≡ Some d → IsSound lines → LinesAreSet (about edit) (made_new edit) None (edited edit lines)
-edited-set edit lines d sets sound = subst (LinesAreSet (about edit) (made_new edit) None) (sym (edited-is-pass edit lines)) (pass-set edit lines d sets sound)
+edited-set edit lines d sets sound = pass-set edit lines d sets sound
 
 -- ---- such lines stay, if only one of them is targeted
 
@@ -306,12 +306,12 @@ again-changes (Add a) lines d sets are alone = absurd cc
 
 -- ---- the laws
 
-pass-changes : (edit : Edit) (lines : List (Line Placed)) → is_there (about edit) lines ≡ true → edited_by_pass edit lines ≡ changed edit lines
-unfolding edited_by_pass
+pass-changes : (edit : Edit) (lines : List (Line Placed)) → is_there (about edit) lines ≡ true → edited edit lines ≡ changed edit lines
+unfolding edited
 pass-changes edit lines there = rw there refl
 
 changes-there : (edit : Edit) (lines : List (Line Placed)) → is_there (about edit) lines ≡ true → edited edit lines ≡ changed edit lines
-changes-there edit lines there = edited-is-pass edit lines ∙ pass-changes edit lines there
+changes-there edit lines there = pass-changes edit lines there
 
 pub second-setting : SecondSettingChangesNothing
 second-setting edit lines d is sets =

@@ -15,20 +15,18 @@ use Rattle.gm_file_edit.specs.declared.adding.AddedVerb.{AddedVerb}
 use Rattle.gm_file_edit.specs.declared.adding.AddedVerb.TheVariants as verb
 use Rattle.gm_file_edit.specs.Edits.{Edit, Set, ModuleIs, GoIs, RequireAt, ReplaceWith, Add, Exclude, Retract, Drop, Target, AnyRequire, AnyExclude, AnyReplace, AnyRetract}
 use Rattle.gm_file_edit.specs.About.{about, is_covered_by, is_replaced_by, replaces_left}
-use Rattle.gm_file_edit.specs.Adding.{added, is_of, verb_text}
+use Rattle.gm_file_edit.specs.Adding.{is_of, verb_text}
 use Rattle.gm_file_edit.specs.EditLaws.{arguments_added, verb_added}
-use Rattle.gm_file_edit.specs.Edited.{changed, edited}
+use Rattle.gm_file_edit.specs.Edited.{added, changed, edited, put_in}
 use Rattle.gm_file_edit.specs.Fates.{Fate, dropped, dropping_from, kept, remaining, widened_from}
 use Rattle.gm_file_edit.specs.Holding.{directive_at, passes}
 use Rattle.gm_file_edit.specs.Laws.{directives_of}
 use Rattle.gm_file_edit.specs.NewWords.{entry_at, interval_words, pair_words, replace_words, single}
-use Rattle.gm_file_edit.specs.Pass.{edited_by_pass, put_in}
 use Rattle.gm_file_edit.specs.Searching.{is_there, is_there_from}
 use Rattle.gm_file_edit.specs.Sound.{IsSoundEdit}
 use Rattle.gm_file_edit.specs.Undone.{DropUndoes, DropUndoesForLayout, undone_by}
 use Rattle.gm_file_edit.proofs.Additions.{added-after-last, added-at-end, edited-added}
 use Rattle.gm_file_edit.proofs.AddingSound.{Fits, IsAddition, entry-fits, passing-level, passing-verb}
-use Rattle.gm_file_edit.proofs.BySections.{edited-is-pass}
 use Rattle.gm_file_edit.proofs.EditedSound.{addition, ends-are, ends-says, exclude-says, pair-are, require-says}
 use Rattle.gm_file_edit.proofs.Idle.{there-said}
 use Rattle.gm_file_edit.proofs.Renewals.{replace-are, replace-says, version-itself}
@@ -167,8 +165,8 @@ added-undone test v arguments new lines so own none sound = elim (cases_Bool (is
 
 -- ---- the operations
 
-drop-pass : (t : Target) (lines : List (Line Placed)) → edited_by_pass (Drop t) lines ≡ dropped (about (Drop t)) lines
-unfolding edited_by_pass changed put_in
+drop-pass : (t : Target) (lines : List (Line Placed)) → edited (Drop t) lines ≡ dropped (about (Drop t)) lines
+unfolding edited changed put_in
 drop-pass t lines = elim (cases_Bool (is_there (about (Drop t)) lines)) [
   | inl there ↦ rw there refl
   | inr none ↦ rw none (sym (none-dropped (about (Drop t)) lines none))
@@ -222,7 +220,7 @@ undone : (edit : Edit) (t : Target) (v : AddedVerb) (lines : List (Line Placed))
     → Undoes edit lines (is_of v) (Drop t)
 undone edit t v lines is sound adds none =
     let absent : is_there (about (Drop t)) lines ≡ false = fewer-there (about edit) (about (Drop t)) is.fewer None lines (there-said (about edit) lines ∙ none) in
-    edited-is-pass (Drop t) (edited edit lines) ∙ drop-pass t (edited edit lines) ∙ ap (dropped (about (Drop t))) (edited-added edit (is_of v) (verb_text v) lines adds none)
+    drop-pass t (edited edit lines) ∙ ap (dropped (about (Drop t))) (edited-added edit (is_of v) (verb_text v) lines adds none)
     ∙ added-undone (about (Drop t)) v (arguments_added edit) is.new lines is.so is.own absent sound ∙ ap (λ (b : Bool). if b then lines else lines ++ Blank ∷ []) (there-said (is_of v) lines)
 
 undone-sound : (edit undo : Edit) (test : Directive → Bool) (text : List ℕ) (lines : List (Line Placed)) → IsSoundEdit edit → IsSound lines → verb_added edit ≡ Some (test, text) → undone_by edit ≡ Some undo

@@ -1,4 +1,4 @@
--- The lines of a file with an added entry, and where it goes, by positions. No public contract cites it.
+-- Where an added entry goes, by positions. No public contract cites it.
 use Rattle.std.specs.Prelude.{ℕ, suc, ◌+◌, if◌then◌else◌, Bool, List, [], ◌∷◌, ◌++◌, take, drop, insert, codes, Option, Some, None, is_some}
 use Rattle.std.specs.Option.{option_map, option_or}
 use Rattle.gm_syntax.specs.Tokens.{Placed}
@@ -68,17 +68,7 @@ abbrev pub added_at : List ℕ → List Placed → List (Line Placed) → Option
 added_at verb arguments lines None = lines ++ Blank ∷ single verb arguments ∷ []
 added_at verb arguments lines (Some spot) = insert lines spot.before (entry_at spot.inside verb arguments)
 
--- The lines with an added entry. It goes directly after the last line that holds a directive that passes the test, in
--- the same block if that line is in one. If there is no such line, it goes to the end, after a blank line.
-unfoldable pub added : (Directive → Bool) → List ℕ → List Placed → List (Line Placed) → List (Line Placed)
-added test verb arguments lines = added_at verb arguments lines (spot_after_last test None lines)
-
 -- the lines with new ones at a position, moved out of its block, or at the end
 abbrev pub insert_at_spot : List (Line Placed) → List (Line Placed) → Option Spot → List (Line Placed)
 insert_at_spot new lines None = lines ++ new
 insert_at_spot new lines (Some spot) = take (past_block lines spot) lines ++ (new ++ drop (past_block lines spot) lines)
-
--- The lines with new ones directly after the first line that holds a directive that passes the test, or after its
--- whole block if that line is in one. If there is no such line, they go to the end.
-unfoldable pub after_first_that : (Directive → Bool) → List (Line Placed) → List (Line Placed) → List (Line Placed)
-after_first_that test new lines = insert_at_spot new lines (spot_after_first test None lines)

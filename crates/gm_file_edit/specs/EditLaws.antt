@@ -5,8 +5,9 @@ use Rattle.gm_syntax.specs.Tokens.{Placed}
 use Rattle.gm_syntax.specs.Document.{Line, Blank, Comment, Open, Close, Entry}
 use Rattle.gm_file.specs.Directives.{Directive, block_after_lines}
 use Rattle.gm_file_edit.specs.About.{about}
-use Rattle.gm_file_edit.specs.Edited.{edited, holds}
+use Rattle.gm_file_edit.specs.Edited.{edited}
 use Rattle.gm_file_edit.specs.Edits.{Edit, Set, RequireAt, Add, Exclude, ReplaceWith, Retract}
+use Rattle.gm_file_edit.specs.Holding.{directive_at, passes}
 use Rattle.gm_file_edit.specs.Laws.{directives_of, IsEditOf}
 use Rattle.gm_file_edit.specs.Kinds.{added_by, is_drop}
 use Rattle.gm_file_edit.specs.NewWords.{interval_words, pair_words, replace_words, single}
@@ -72,7 +73,7 @@ arguments_added _ = []
 -- may be none.
 pub record IsLastOfVerb (test : Directive → Bool) (front : List (Line Placed)) (line : Line Placed)
     (back : List (Line Placed)) : Type 0 where
-  pub is_of_verb : holds test (block_after_lines None front, line) ≡ true
+  pub is_of_verb : passes test (directive_at (block_after_lines None front) line) ≡ true
   pub none_later : is_there_from test (block_after_lines None (front ++ line ∷ [])) back ≡ false
 
 -- If an operation targets no directive and the file has a directive of its verb, the new entry goes directly after

@@ -1,38 +1,34 @@
 -- What an operation leaves of the lines of a file (go help mod edit).
-use Rattle.std.specs.Prelude.{ℕ, ◌&&◌, not, if◌then◌else◌, Bool, List, [], ◌∷◌, ◌++◌, map, codes, Option, None, is_some}
-use Rattle.std.specs.List.{list_any}
+use Rattle.std.specs.Prelude.{ℕ, ◌&&◌, not, if◌then◌else◌, Bool, List, [], ◌∷◌, ◌++◌, codes, Option, None, is_some}
 use Rattle.gm_syntax.specs.Tokens.{Placed}
-use Rattle.gm_syntax.specs.Document.{Line, Blank, Close, Entry}
-use Rattle.gm_file.specs.Directives.{Directive, LineInBlock, block_after_line, with_blocks}
+use Rattle.gm_syntax.specs.Document.{Line, Blank, Close}
+use Rattle.gm_file.specs.Directives.{Directive, block_after_line}
 use Rattle.gm_file.specs.Faults.{is_module}
 use Rattle.gm_file_edit.specs.About.{about}
-use Rattle.gm_file_edit.specs.Edits.{Edit, Set, Add, Drop, GoIs, RequireAt, ReplaceWith, Exclude, Retract}
+use Rattle.gm_file_edit.specs.Edits.{Edit, Set, Add, Drop, ModuleIs, GoIs, RequireAt, ReplaceWith, Exclude, Retract}
 use Rattle.gm_file_edit.specs.Fates.{dropped, renewed}
 use Rattle.gm_file_edit.specs.Holding.{directive_at, passes}
-use Rattle.gm_file_edit.specs.NewWords.{interval_words, made_word, pair_words, replace_words, single}
+use Rattle.gm_file_edit.specs.NewWords.{entry_at, interval_words, made_word, pair_words, replace_words, single}
 use Rattle.gm_file_edit.specs.Renewing.{made_new}
+use Rattle.gm_file_edit.specs.Searching.{is_there, is_there_from}
 use Rattle.gm_file_edit.specs.Verbs.{is_exclude, is_replace, is_require, is_retract}
-
--- whether a line in its block holds a directive that passes the test
-abbrev pub holds : (Directive → Bool) → LineInBlock Placed → Bool
-holds test line = passes test (directive_at line.0 line.1)
 
 -- ---- where a new entry goes
 
--- The lines with a new entry directly after the last one that holds a directive that passes the test, in the same
--- block if that one is in a block.
-abbrev pub after_last : (Directive → Bool) → List ℕ → List Placed → List (LineInBlock Placed) → List (Line Placed)
-after_last test verb arguments [] = []
-after_last test verb arguments (line ∷ lines) =
-    if holds test line && not (list_any (holds test) lines)
-    then line.1 ∷ (if is_some line.0 then Entry arguments None else single verb arguments)
-    ∷ map (λ other. other.1) lines
-    else line.1 ∷ after_last test verb arguments lines
+-- The lines, given the verb of the open block, if any, with a new entry directly after the last one that holds a
+-- directive that passes the test, in the same block if that one is in a block.
+abbrev pub after_last_of : (Directive → Bool) → List ℕ → List Placed → Option Placed → List (Line Placed)
+    → List (Line Placed)
+after_last_of test verb arguments block [] = []
+after_last_of test verb arguments block (line ∷ lines) =
+    if passes test (directive_at block line) && not (is_there_from test (block_after_line block line) lines)
+    then line ∷ entry_at (is_some block) verb arguments ∷ lines
+    else line ∷ after_last_of test verb arguments (block_after_line block line) lines
 
 -- the same; if there is none, the entry goes to the end, after a blank line
-abbrev pub with_entry : (Directive → Bool) → List ℕ → List Placed → List (Line Placed) → List (Line Placed)
-with_entry test verb arguments lines =
-    if list_any (holds test) (with_blocks lines) then after_last test verb arguments (with_blocks lines)
+unfoldable pub added : (Directive → Bool) → List ℕ → List Placed → List (Line Placed) → List (Line Placed)
+added test verb arguments lines =
+    if is_there test lines then after_last_of test verb arguments None lines
     else lines ++ Blank ∷ single verb arguments ∷ []
 
 -- the rest of the lines of a block with new ones after its closing
@@ -51,6 +47,10 @@ after_first_of test new block (line ∷ lines) =
     then (if is_some block then after_closing new lines else new ++ lines)
     else after_first_of test new (block_after_line block line) lines)
 
+-- the same for lines of a file
+unfoldable pub after_first_that : (Directive → Bool) → List (Line Placed) → List (Line Placed) → List (Line Placed)
+after_first_that test new lines = after_first_of test new None lines
+
 -- a blank line and a go directive outside blocks
 abbrev pub new_go : List ℕ → List (Line Placed)
 new_go text = Blank ∷ single (codes "go") (made_word text ∷ []) ∷ []
@@ -66,17 +66,15 @@ changed (Drop t) lines = dropped (about (Drop t)) lines
 
 -- The lines after an operation that targets none: a directive is put in, after the last one of its verb, but a go
 -- directive after the module directive or its block. No module directive is put in.
-abbrev pub with_new : Edit → List (Line Placed) → List (Line Placed)
-with_new (Set (GoIs text)) lines = after_first_of is_module (new_go text) None lines
-with_new (Set (RequireAt p)) lines = with_entry is_require (codes "require") (pair_words p) lines
-with_new (Set (ReplaceWith r)) lines = with_entry is_replace (codes "replace") (replace_words r) lines
-with_new (Add (Exclude p)) lines = with_entry is_exclude (codes "exclude") (pair_words p) lines
-with_new (Add (Retract ends)) lines = with_entry is_retract (codes "retract") (interval_words ends) lines
-with_new _ lines = lines
+unfoldable pub put_in : Edit → List (Line Placed) → List (Line Placed)
+put_in (Set (ModuleIs path)) lines = lines
+put_in (Set (GoIs text)) lines = after_first_that is_module (new_go text) lines
+put_in (Set (RequireAt p)) lines = added is_require (codes "require") (pair_words p) lines
+put_in (Set (ReplaceWith r)) lines = added is_replace (codes "replace") (replace_words r) lines
+put_in (Add (Exclude p)) lines = added is_exclude (codes "exclude") (pair_words p) lines
+put_in (Add (Retract ends)) lines = added is_retract (codes "retract") (interval_words ends) lines
+put_in (Drop t) lines = lines
 
 -- the lines after the operation
 unfoldable pub edited : Edit → List (Line Placed) → List (Line Placed)
-edited edit lines =
-    if list_any (holds (about edit)) (with_blocks lines)
-    then changed edit lines
-    else with_new edit lines
+edited edit lines = if is_there (about edit) lines then changed edit lines else put_in edit lines

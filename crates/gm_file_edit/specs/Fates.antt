@@ -22,8 +22,7 @@ fate_by false line = Some line
 abbrev pub dropping_from : (Directive → Bool) → Option Placed → List (Line Placed) → List Fate
 dropping_from test block [] = []
 dropping_from test block (line ∷ lines) =
-    (if passes test (directive_at block line) then None else Some line)
-    ∷ dropping_from test (block_after_line block line) lines
+    fate_by (passes test (directive_at block line)) line ∷ dropping_from test (block_after_line block line) lines
 
 -- the lines with the first such line rewritten, and with a mark at each later one
 abbrev pub renewing_from : (Directive → Bool) → (Option Placed → Line Placed → Line Placed) → Option Placed

@@ -6,8 +6,9 @@ use Rattle.gm_syntax.specs.Document.{Line, Close, is_level}
 use Rattle.gm_syntax.specs.LineViews.{plain}
 use Rattle.gm_file.specs.Directives.{block_after_lines}
 use Rattle.gm_file.specs.Faults.{is_go, is_module}
-use Rattle.gm_file_edit.specs.Edited.{edited, holds, new_go}
+use Rattle.gm_file_edit.specs.Edited.{edited, new_go}
 use Rattle.gm_file_edit.specs.Edits.{Set, GoIs}
+use Rattle.gm_file_edit.specs.Holding.{directive_at, passes}
 use Rattle.gm_file_edit.specs.Laws.{directives_of}
 use Rattle.gm_file_edit.specs.Searching.{is_there}
 
@@ -18,7 +19,7 @@ is_loose line = is_level (plain line)
 -- the line holds a module directive, and no line before it does
 pub record IsFirstModule (front : List (Line Placed)) (line : Line Placed) : Type 0 where
   pub none_earlier : is_there is_module front ≡ false
-  pub is_module_line : holds is_module (block_after_lines None front, line) ≡ true
+  pub is_module_line : passes is_module (directive_at (block_after_lines None front) line) ≡ true
 
 -- a new go directive goes after the first module directive, if that one is in no block
 abbrev pub GoFollowsModule : Type 0

@@ -12,7 +12,6 @@ pub mod Sound
 pub mod Subjects
 pub mod Searching
 pub mod Adding
-pub mod Pass
 pub mod Edited
 pub mod Laws
 pub mod EditLaws

@@ -9,10 +9,9 @@ ghost use Rattle.gm_file.specs.Directives.{Strict};
 ghost use Rattle.gm_file.specs.Faults.{fault_of};
 ghost use Rattle.gm_name.specs.Names.{does_fit};
 ghost use Rattle.gm_file_edit.specs.About.{about};
-ghost use Rattle.gm_file_edit.specs.Adding.{added, is_of, verb_text};
-ghost use Rattle.gm_file_edit.specs.Pass.{put_in};
+ghost use Rattle.gm_file_edit.specs.Adding.{is_of, verb_text};
 ghost use Rattle.gm_file_edit.specs.Edits.{Add, Set};
-ghost use Rattle.gm_file_edit.specs.Edited.{changed, edited};
+ghost use Rattle.gm_file_edit.specs.Edited.{added, changed, edited, put_in};
 ghost use Rattle.gm_file_edit.specs.Kinds.{is_fit};
 ghost use Rattle.gm_file_edit.specs.Marks.{marks_from};
 ghost use Rattle.gm_file_edit.specs.NewWords.{pair_words};
@@ -99,7 +98,7 @@ fn add_pair<'a>(
 }
 
 /// Adds the entry of a setting that targets no line, if it adds one. If memory runs out, the lines stay as they are.
-#[tactic(auto, unfolding(crate::specs::Pass::put_in))]
+#[tactic(auto, unfolding(crate::specs::Edited::put_in))]
 fn put_setting<'a>(
     alloc: Global,
     setting: &Setting,
@@ -125,7 +124,7 @@ fn put_setting<'a>(
 }
 
 /// Adds the entry of an addition that targets no line. If memory runs out, the lines stay as they are.
-#[tactic(auto, unfolding(crate::specs::Pass::put_in))]
+#[tactic(auto, unfolding(crate::specs::Edited::put_in))]
 fn put_addition<'a>(
     alloc: Global,
     addition: &Addition,
@@ -149,7 +148,7 @@ fn put_addition<'a>(
 }
 
 /// Adds the entry of an operation that targets no line, if it adds one. If memory runs out, the lines stay as they are.
-#[tactic(auto, unfolding(crate::specs::Pass::put_in))]
+#[tactic(auto, unfolding(crate::specs::Edited::put_in))]
 fn put_in<'a>(alloc: Global, change: &Change, lines: &mut KeyedLines<'a>) -> Result<(), AllocError>
     requires written { IsSoundEdit (edit_of change.now) }
     requires document { IsDocument (plain_lines lines.old) }

@@ -15,7 +15,7 @@ use crate::keyed_lines::KeyedLines;
 use crate::keys::{Key, Scope, SoughtKey, may_concern, scope_after, sought_key};
 use crate::op::Change;
 use crate::subject::Sought;
-use crate::targeting::{does_tell, sought_of, verb_of};
+use crate::targeting::{Aim, aim_of, does_tell};
 use crate::verb::Verb;
 use gm_syntax::Line;
 use std::alloc::{AllocError, Global};
@@ -30,8 +30,7 @@ pub(crate) fn marks(
     requires sound { fault_of Strict (plain_lines lines.now) ≡ None }
     ensures { IfOk result (λ v. v.items ≡ marks_from (about (edit_of change.now)) None lines.now) }
 {
-    let verb = verb_of(change);
-    let sought = sought_of(change);
+    let Aim { verb, sought } = aim_of(change);
     let number = sought_key(sought);
     let mut marks = vec![in alloc; false; lines.len()]?;
     let mut scope = Scope::Outside;

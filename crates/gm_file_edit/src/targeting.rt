@@ -3,36 +3,30 @@
 //! A line's key decides for most. The other lines are compared by their texts, so nothing is read and no memory is
 //! taken.
 
-ghost use Rattle.std.specs.Prelude.{◌≡◌};
+ghost use Rattle.std.specs.Prelude.{◌≡◌, Some};
+ghost use Rattle.gm_file.specs.Views.{interval_view};
 ghost use Rattle.gm_syntax.specs.LineViews.{line_of};
+ghost use Rattle.gm_file_edit.specs.Edits.{Add, Drop, Set};
 ghost use Rattle.gm_file_edit.specs.Keys.{does_tell, verb_sought};
-ghost use Rattle.gm_file_edit.specs.Subjects.{sought_of, sought_of_left, sought_side, sought_view};
-ghost use Rattle.gm_file_edit.specs.Views.{edit_of, left_of_parts};
+ghost use Rattle.gm_file_edit.specs.Subjects.{Both, sought_of, sought_of_left, sought_side, sought_view};
+ghost use Rattle.gm_file_edit.specs.Views.{addition_of, edit_of, setting_of, target_of};
 
 use crate::adding::AddedVerb;
 use crate::keys::Scope;
 use crate::op::{Addition, Change, Setting, Target};
 use crate::subject::{Sought, is_told, subject_inside, subject_outside};
 use crate::verb::Verb;
+use gm_file::Interval;
 use gm_name::{ModPath, ModVersion};
 use gm_syntax::Line;
 
-/// The verb of the directives that an operation targets.
-pub(crate) fn verb_of(change: &Change) -> Verb
-    ensures { result ≡ verb_sought (edit_of change.now) }
-{
-    match change {
-        Change::Set(Setting::Module(_)) => Verb::Module,
-        Change::Set(Setting::Go(_)) => Verb::Go,
-        Change::Set(Setting::Require((_, _))) => Verb::Added(AddedVerb::Require),
-        Change::Drop(Target::Require(_)) => Verb::Added(AddedVerb::Require),
-        Change::Add(Addition::Exclude((_, _))) => Verb::Added(AddedVerb::Exclude),
-        Change::Drop(Target::Exclude((_, _))) => Verb::Added(AddedVerb::Exclude),
-        Change::Set(Setting::Replace(_)) => Verb::Added(AddedVerb::Replace),
-        Change::Drop(Target::Replace(_)) => Verb::Added(AddedVerb::Replace),
-        Change::Add(Addition::Retract(_)) => Verb::Added(AddedVerb::Retract),
-        Change::Drop(Target::Retract(_)) => Verb::Added(AddedVerb::Retract),
-    }
+/// What an operation aims at: entries of a verb that are about something.
+#[derive(Clone, Copy)]
+pub(crate) struct Aim<'c> {
+    /// The verb of the entries.
+    pub(crate) verb: Verb,
+    /// What they are about.
+    pub(crate) sought: Sought<'c>,
 }
 
 /// A left side of a `replace`, with or without a version.
@@ -55,29 +49,96 @@ fn sought_of_left<'c>(path: &'c ModPath, version: &'c Option<ModVersion>) -> Sou
     }
 }
 
-/// What an operation looks for in the entries of its verb.
-pub(crate) fn sought_of<'c>(change: &'c Change) -> Sought<'c>
-    ensures { sought_view result ≡ sought_of (edit_of change.now) }
+/// A path at a version.
+fn sought_pair<'c>(path: &'c ModPath, version: &'c ModVersion) -> Sought<'c>
+    ensures { sought_view result ≡ Both path.now (Some version.now) }
+{
+    Sought::Both(path.as_str(), Some(version.as_str()))
+}
+
+/// An interval of versions.
+fn sought_ends<'c>(ends: &'c Interval) -> Sought<'c>
+    ensures { sought_view result ≡ Both (interval_view ends.now).0 (Some (interval_view ends.now).1) }
+{
+    Sought::Both(ends.low.as_str(), Some(ends.high.as_str()))
+}
+
+/// What a setting aims at.
+fn aim_of_setting<'c>(setting: &'c Setting) -> Aim<'c>
+    ensures verb { result.verb ≡ verb_sought (Set (setting_of setting.now)) }
+    ensures sought { sought_view result.sought ≡ sought_of (Set (setting_of setting.now)) }
+{
+    match setting {
+        Setting::Module(_) => Aim {
+            verb: Verb::Module,
+            sought: Sought::Any,
+        },
+        Setting::Go(_) => Aim {
+            verb: Verb::Go,
+            sought: Sought::Any,
+        },
+        Setting::Require((path, _)) => Aim {
+            verb: Verb::Added(AddedVerb::Require),
+            sought: Sought::First(path.as_str()),
+        },
+        Setting::Replace(replace) => Aim {
+            verb: Verb::Added(AddedVerb::Replace),
+            sought: sought_of_left(&replace.left, &replace.version),
+        },
+    }
+}
+
+/// What an addition aims at.
+fn aim_of_addition<'c>(addition: &'c Addition) -> Aim<'c>
+    ensures verb { result.verb ≡ verb_sought (Add (addition_of addition.now)) }
+    ensures sought { sought_view result.sought ≡ sought_of (Add (addition_of addition.now)) }
+{
+    match addition {
+        Addition::Exclude((path, version)) => Aim {
+            verb: Verb::Added(AddedVerb::Exclude),
+            sought: sought_pair(path, version),
+        },
+        Addition::Retract(ends) => Aim {
+            verb: Verb::Added(AddedVerb::Retract),
+            sought: sought_ends(ends),
+        },
+    }
+}
+
+/// What a drop aims at.
+fn aim_of_target<'c>(target: &'c Target) -> Aim<'c>
+    ensures verb { result.verb ≡ verb_sought (Drop (target_of target.now)) }
+    ensures sought { sought_view result.sought ≡ sought_of (Drop (target_of target.now)) }
+{
+    match target {
+        Target::Require(path) => Aim {
+            verb: Verb::Added(AddedVerb::Require),
+            sought: Sought::First(path.as_str()),
+        },
+        Target::Exclude((path, version)) => Aim {
+            verb: Verb::Added(AddedVerb::Exclude),
+            sought: sought_pair(path, version),
+        },
+        Target::Replace(side) => Aim {
+            verb: Verb::Added(AddedVerb::Replace),
+            sought: sought_side(&side.path, &side.version),
+        },
+        Target::Retract(ends) => Aim {
+            verb: Verb::Added(AddedVerb::Retract),
+            sought: sought_ends(ends),
+        },
+    }
+}
+
+/// What an operation aims at.
+pub(crate) fn aim_of<'c>(change: &'c Change) -> Aim<'c>
+    ensures verb { result.verb ≡ verb_sought (edit_of change.now) }
+    ensures sought { sought_view result.sought ≡ sought_of (edit_of change.now) }
 {
     match change {
-        Change::Set(Setting::Module(_)) => Sought::Any,
-        Change::Set(Setting::Go(_)) => Sought::Any,
-        Change::Set(Setting::Require((path, _))) => Sought::First(path.as_str()),
-        Change::Drop(Target::Require(path)) => Sought::First(path.as_str()),
-        Change::Add(Addition::Exclude((path, version))) => {
-            Sought::Both(path.as_str(), Some(version.as_str()))
-        }
-        Change::Drop(Target::Exclude((path, version))) => {
-            Sought::Both(path.as_str(), Some(version.as_str()))
-        }
-        Change::Set(Setting::Replace(replace)) => sought_of_left(&replace.left, &replace.version),
-        Change::Drop(Target::Replace(side)) => sought_side(&side.path, &side.version),
-        Change::Add(Addition::Retract(ends)) => {
-            Sought::Both(ends.low.as_str(), Some(ends.high.as_str()))
-        }
-        Change::Drop(Target::Retract(ends)) => {
-            Sought::Both(ends.low.as_str(), Some(ends.high.as_str()))
-        }
+        Change::Set(setting) => aim_of_setting(setting),
+        Change::Add(addition) => aim_of_addition(addition),
+        Change::Drop(target) => aim_of_target(target),
     }
 }
 

@@ -1,6 +1,6 @@
 -- The lines that operations make of a document that was read from UTF-8 are UTF-8.
-use Rattle.std.proofs.Common.{◌≡◌, ℕ, zero, suc, ◌-◌, ◌==◌, ◌&&◌, ◌<◌, ◌≤◌, nat_lt, Bool, true, false, List, [], ◌∷◌, ◌++◌, length, get_or, map, take, drop, Option, Some, None, IsUtf8, refl, sym, ap, subst, ◌∙◌, arith, length-append, inl, inr}
-use Rattle.std.specs.Prelude.{if◌then◌else◌, codes, insert}
+use Rattle.std.proofs.Common.{◌≡◌, ℕ, zero, suc, ◌-◌, ◌==◌, ◌&&◌, not, is_some, ◌<◌, ◌≤◌, nat_lt, Bool, true, false, List, [], ◌∷◌, ◌++◌, length, get_or, map, take, drop, Option, Some, None, IsUtf8, refl, sym, ap, subst, ◌∙◌, arith, length-append, inl, inr}
+use Rattle.std.specs.Prelude.{if◌then◌else◌, codes}
 use Rattle.std.specs.List.{AllByRecursion, after_first, before_first, list_all, position_or_len}
 use Rattle.std.specs.Str.{bytes_eq}
 use Rattle.std.proofs.lemmas.Bool.{cases_Bool, eqb-true}
@@ -27,21 +27,18 @@ use Rattle.gm_file.specs.Directives.{Directive, VersionInterval, Left, Right, Fo
 use Rattle.gm_file.specs.Faults.{is_go, is_module}
 use Rattle.gm_file.specs.Values.{is_folder_path}
 use Rattle.gm_file_edit.specs.About.{about, is_replaced_by, requires_path}
-use Rattle.gm_file_edit.specs.Adding.{added, added_at, after_first_that, insert_at_spot, past_block, spot_after_first, spot_after_last, spot_after_line}
 use Rattle.gm_file_edit.specs.Verbs.{is_exclude, is_replace, is_require, is_retract}
-use Rattle.gm_file_edit.specs.Pass.{edited_by_pass, put_in}
-use Rattle.gm_file_edit.specs.Edited.{changed, edited}
+use Rattle.gm_file_edit.specs.Edited.{added, after_closing, after_first_of, after_first_that, after_last_of, changed, edited, put_in}
 use Rattle.gm_file_edit.specs.Edits.{Edit, Set, ModuleIs, GoIs, RequireAt, Drop, Add, Exclude, ReplaceWith, Retract, edit_in, go_text_in, has_byte, left_in, module_of_pair, named, named_in, pair_in, replacing_in, right_in, sides_in, split_at_byte}
-use Rattle.gm_file_edit.specs.Fates.{Fate, dropped, dropping_from, is_emptied, kept, remaining, renewed, renewing_from, widened_from}
+use Rattle.gm_file_edit.specs.Fates.{Fate, dropped, dropping_from, fate_by, is_emptied, kept, remaining, renewed, renewing_from, widened_from}
 use Rattle.gm_file_edit.specs.Holding.{directive_at, passes}
 use Rattle.gm_file_edit.specs.NewWords.{entry_at, interval_words, left_words, made_mark, made_word, pair_words, replace_words, right_words, single}
 use Rattle.gm_file_edit.specs.Renewing.{before_arguments, with_arguments, with_last}
-use Rattle.gm_file_edit.specs.Searching.{is_there}
+use Rattle.gm_file_edit.specs.Searching.{is_there, is_there_from}
 use Rattle.gm_file_edit.specs.Sound.{AreVersions, IsPairOfNames, IsSoundEdit, IsSoundLeft, IsSoundRight, IsSoundVersion}
 use Rattle.gm_file_edit.proofs.Feeds.{if-other, if-some}
 use Rattle.gm_file_edit.proofs.Parts.{both-are, map-some, then-some}
-use Rattle.gomod_laws.proofs.FormattingUtf8.{AreUtf8, AreUtf8Words, BeginsAscii, TypeOf, IsUtf8Line, IsUtf8Suffix, after_ascii, ascii_before, before_ascii, one_ascii}
-use Rattle.gm_file_edit.proofs.BySections.{edited-is-pass}
+use Rattle.gomod_laws.proofs.FormattingUtf8.{AreUtf8, AreUtf8Words, BeginsAscii, IsUtf8Line, IsUtf8Suffix, after_ascii, ascii_before, before_ascii, one_ascii}
 use Rattle.gm_file_edit.proofs.Written.{named-by}
 
 -- ---- the words that an operation makes
@@ -315,7 +312,7 @@ remaining_good : (fates : List Fate) → AreGoodFates fates → AreGood (remaini
 unfolding remaining
 remaining_good fates are = lines_left_good false false fates are
 
-fate_good : (gone : Bool) (line : Line Placed) → IsGood line → IsGoodFate (if gone then None else Some line)
+fate_good : (gone : Bool) (line : Line Placed) → IsGood line → IsGoodFate (fate_by gone line)
 fate_good true line is = tt
 fate_good false line is = is
 
@@ -362,10 +359,6 @@ arguments_good arguments good block (Entry words suffix) is =
 
 -- ---- the lines with a new entry
 
--- the type of a position in a file
-abbrev SpotOf : Type 0
-SpotOf = TypeOf (spot_after_line None)
-
 single_good : (verb : List ℕ) (arguments : List Placed) → IsUtf8 verb → AreGoodWords arguments → IsGood (single verb arguments)
 single_good verb arguments utf8 are = record { words_are = (new_utf8 verb utf8, are); suffix_is = tt }
 
@@ -373,28 +366,44 @@ entry_good : (inside : Bool) (verb : List ℕ) (arguments : List Placed) → IsU
 entry_good true verb arguments utf8 are = record { words_are = are; suffix_is = tt }
 entry_good false verb arguments utf8 are = single_good verb arguments utf8 are
 
-insert_good : (lines : List (Line Placed)) (n : ℕ) (line : Line Placed) → AreGood lines → IsGood line → AreGood (insert lines n line)
-insert_good lines n line are is =
-    let cut = all_cut IsGood n lines are in
-    all_append IsGood (take n lines) (line ∷ drop n lines) cut.front (is, cut.back)
+after_last_good : (test : Directive → Bool) (verb : List ℕ) (arguments : List Placed) (block : Option Placed) (lines : List (Line Placed)) → IsUtf8 verb → AreGoodWords arguments → AreGood lines → AreGood (after_last_of test verb arguments block lines)
+after_last_good test verb arguments block [] utf8 good are = tt
+after_last_good test verb arguments block (line ∷ lines) utf8 good are =
+    by_test (passes test (directive_at block line) && not (is_there_from test (block_after_line block line) lines)) (after_last_good test verb arguments (block_after_line block line) lines utf8 good are.1)
+  where
+    by_test : (here : Bool) → AreGood (after_last_of test verb arguments (block_after_line block line) lines)
+        → AreGood (if here then line ∷ entry_at (is_some block) verb arguments ∷ lines else line ∷ after_last_of test verb arguments (block_after_line block line) lines)
+    by_test true rest = (are.0, (entry_good (is_some block) verb arguments utf8 good, are.1))
+    by_test false rest = (are.0, rest)
 
 added_good : (test : Directive → Bool) (verb : List ℕ) (arguments : List Placed) (lines : List (Line Placed)) → IsUtf8 verb → AreGoodWords arguments → AreGood lines → AreGood (added test verb arguments lines)
 unfolding added
-added_good test verb arguments lines utf8 good are = by_spot (spot_after_last test None lines)
+added_good test verb arguments lines utf8 good are = by_test (is_there test lines)
   where
-    by_spot : (spot : Option SpotOf) → AreGood (added_at verb arguments lines spot)
-    by_spot None = all_append IsGood lines (Blank ∷ single verb arguments ∷ []) are (tt, (single_good verb arguments utf8 good, tt))
-    by_spot (Some spot) = insert_good lines spot.before (entry_at spot.inside verb arguments) are (entry_good spot.inside verb arguments utf8 good)
+    by_test : (there : Bool) → AreGood (if there then after_last_of test verb arguments None lines else lines ++ Blank ∷ single verb arguments ∷ [])
+    by_test true = after_last_good test verb arguments None lines utf8 good are
+    by_test false = all_append IsGood lines (Blank ∷ single verb arguments ∷ []) are (tt, (single_good verb arguments utf8 good, tt))
+
+closing_good : (new lines : List (Line Placed)) → AreGood new → AreGood lines → AreGood (after_closing new lines)
+closing_good new [] good are = good
+closing_good new (Blank ∷ lines) good are = (are.0, closing_good new lines good are.1)
+closing_good new (Comment text ∷ lines) good are = (are.0, closing_good new lines good are.1)
+closing_good new (Open verb suffix ∷ lines) good are = (are.0, closing_good new lines good are.1)
+closing_good new (Close suffix ∷ lines) good are = (are.0, all_append IsGood new lines good are.1)
+closing_good new (Entry words suffix ∷ lines) good are = (are.0, closing_good new lines good are.1)
+
+first_of_good : (test : Directive → Bool) (new : List (Line Placed)) (block : Option Placed) (lines : List (Line Placed)) → AreGood new → AreGood lines → AreGood (after_first_of test new block lines)
+first_of_good test new block [] good are = good
+first_of_good test new block (line ∷ lines) good are = (are.0, by_test (passes test (directive_at block line)) (is_some block) (first_of_good test new (block_after_line block line) lines good are.1))
+  where
+    by_test : (here inside : Bool) → AreGood (after_first_of test new (block_after_line block line) lines) → AreGood (if here then (if inside then after_closing new lines else new ++ lines) else after_first_of test new (block_after_line block line) lines)
+    by_test true true rest = closing_good new lines good are.1
+    by_test true false rest = all_append IsGood new lines good are.1
+    by_test false inside rest = rest
 
 after_first_good : (test : Directive → Bool) (new lines : List (Line Placed)) → AreGood new → AreGood lines → AreGood (after_first_that test new lines)
 unfolding after_first_that
-after_first_good test new lines good are = by_spot (spot_after_first test None lines)
-  where
-    by_spot : (spot : Option SpotOf) → AreGood (insert_at_spot new lines spot)
-    by_spot None = all_append IsGood lines new are good
-    by_spot (Some spot) =
-        let cut = all_cut IsGood (past_block lines spot) lines are in
-        all_append IsGood (take (past_block lines spot) lines) (new ++ drop (past_block lines spot) lines) cut.front (all_append IsGood new (drop (past_block lines spot) lines) good cut.back)
+after_first_good test new lines good are = first_of_good test new None lines good are
 
 -- ---- an operation
 
@@ -421,8 +430,8 @@ put_in_good (Add (Exclude p)) lines sound utf8 are = added_good is_exclude (code
 put_in_good (Set (ReplaceWith r)) lines sound utf8 are = added_good is_replace (codes "replace") (replace_words r) lines (verb_utf8 (codes "replace") refl) (replace_good r sound.0 sound.1 utf8) are
 put_in_good (Add (Retract ends)) lines sound utf8 are = added_good is_retract (codes "retract") (interval_words ends) lines (verb_utf8 (codes "retract") refl) (interval_good ends sound) are
 
-pass_good : (text : List ℕ) (edit : Edit) (lines : List (Line Placed)) → IsUtf8 text → edit_in text ≡ Some edit → IsSoundEdit edit → AreGood lines → AreGood (edited_by_pass edit lines)
-unfolding edited_by_pass
+pass_good : (text : List ℕ) (edit : Edit) (lines : List (Line Placed)) → IsUtf8 text → edit_in text ≡ Some edit → IsSoundEdit edit → AreGood lines → AreGood (edited edit lines)
+unfolding edited
 pass_good text edit lines utf8 written sound are = by_test (is_there (about edit) lines)
   where
     by_test : (there : Bool) → AreGood (if there then changed edit lines else put_in edit lines)
@@ -430,4 +439,4 @@ pass_good text edit lines utf8 written sound are = by_test (is_there (about edit
     by_test false = put_in_good edit lines sound (written_utf8 text edit utf8 written) are
 
 pub edited_good : (text : List ℕ) (edit : Edit) (lines : List (Line Placed)) → IsUtf8 text → edit_in text ≡ Some edit → IsSoundEdit edit → AreGood lines → AreGood (edited edit lines)
-edited_good text edit lines utf8 written sound are = subst AreGood (sym (edited-is-pass edit lines)) (pass_good text edit lines utf8 written sound are)
+edited_good text edit lines utf8 written sound are = pass_good text edit lines utf8 written sound are

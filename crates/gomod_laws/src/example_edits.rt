@@ -19,14 +19,14 @@ pub fn setting_rewrites_the_first()
     ensures { SettingRewritesTheFirst }
 {}
 
-/// `with_entry`: a new exclusion stands after the last one, in its block; a first requirement after a blank line at the
+/// `added`: a new exclusion stands after the last one, in its block; a first requirement after a blank line at the
 /// end.
 pub fn additions_have_a_place()
     ensures block { AdditionGoesIntoTheBlock }
     ensures end { FirstRequirementIsLast }
 {}
 
-/// `after_first_of`: a new go directive stands after the block of the module directive.
+/// `after_first_that`: a new go directive stands after the block of the module directive.
 pub fn go_goes_after_the_block()
     ensures { GoGoesAfterTheBlock }
 {}

@@ -22,9 +22,9 @@ pub loop-n-preserved : goal.loop-n-preserved
 loop-n-preserved c =
     let inside = c.loop-n-test.true in
     let len = c.len-n-end.ensures in
-    scan-more (edit_of c.args.change.now) c.verb_of-verb.result c.sought_key-number.result c.loop-n.scope c.scope_after-scope.result c.args.lines.now c.loop-n.n (line_of c.line.result.now) c.key-key.result c.loop-n.marks.items _ c.is_target.result
-    (omega (arith, inside, len)) c.line.ensures.line c.key-key.ensures c.verb_of-verb.ensures (c.sought_key-number.ensures ∙ ap sought_key c.sought_of-sought.ensures)
-    (c.is_target.ensures ∙ ap (λ s. may_concern c.verb_of-verb.result c.sought_key-number.result c.loop-n.scope c.key-key.result && does_tell s c.loop-n.scope (line_of c.line.result.now)) c.sought_of-sought.ensures)
+    scan-more (edit_of c.args.change.now) c.aim_of-verb.result.verb c.sought_key-number.result c.loop-n.scope c.scope_after-scope.result c.args.lines.now c.loop-n.n (line_of c.line.result.now) c.key-key.result c.loop-n.marks.items _ c.is_target.result
+    (omega (arith, inside, len)) c.line.ensures.line c.key-key.ensures c.aim_of-verb.ensures.verb (c.sought_key-number.ensures ∙ ap sought_key c.aim_of-verb.ensures.sought)
+    (c.is_target.ensures ∙ ap (λ s. may_concern c.aim_of-verb.result.verb c.sought_key-number.result c.loop-n.scope c.key-key.result && does_tell s c.loop-n.scope (line_of c.line.result.now)) c.aim_of-verb.ensures.sought)
     c.scope_after-scope.ensures refl c.loop-n.invariant
 
 pub returns : goal.returns

@@ -1,39 +1,28 @@
--- Where new entries go, by the blocks of lines and by positions.
-use Rattle.std.proofs.Common.{◌≡◌, arith, ℕ, ◌+◌, ◌||◌, Bool, true, false, List, [], ◌∷◌, ◌++◌, map, take, drop, Option, Some, None, is_some, refl, sym, ap, ◌∙◌, append-nil, inl, inr}
+-- Where new entries go, by positions.
+use Rattle.std.proofs.Common.{◌≡◌, arith, ℕ, ◌+◌, ◌||◌, Bool, true, false, List, [], ◌∷◌, ◌++◌, take, drop, Option, Some, None, is_some, refl, sym, ap, ◌∙◌, append-nil, inl, inr}
 use Rattle.std.specs.Prelude.{insert, suc}
-use Rattle.std.specs.List.{list_any}
 use Rattle.std.specs.Option.{option_map}
 use Rattle.std.proofs.lemmas.Bool.{cases_Bool, true≢false}
 use Rattle.gm_syntax.specs.Tokens.{Placed}
 use Rattle.gm_syntax.specs.Document.{Line, Blank, Comment, Open, Close, Entry}
-use Rattle.gm_file.specs.Directives.{Directive, block_after_line, with_blocks, with_blocks_from}
+use Rattle.gm_file.specs.Directives.{Directive, block_after_line}
 use Rattle.gm_file_edit.specs.declared.adding.Spot.{Spot}
-use Rattle.gm_file_edit.specs.Adding.{added, after_first_that, close_len, further, insert_at_spot, past_block, spot_after_first, spot_after_last, spot_after_line}
-use Rattle.gm_file_edit.specs.Edited.{after_closing, after_first_of, after_last, holds, with_entry}
+use Rattle.gm_file_edit.specs.Adding.{added_at, close_len, further, insert_at_spot, past_block, spot_after_first, spot_after_last, spot_after_line}
+use Rattle.gm_file_edit.specs.Edited.{added, after_closing, after_first_of, after_first_that, after_last_of}
 use Rattle.gm_file_edit.specs.Holding.{directive_at, passes}
 use Rattle.gm_file_edit.specs.NewWords.{entry_at}
-use Rattle.gm_file_edit.specs.Searching.{is_there_from}
+use Rattle.gm_file_edit.specs.Searching.{is_there, is_there_from}
 
 or-none : (a b : Bool) → (a || b) ≡ false → (a ≡ false) × (b ≡ false)
 or-none true b e = absurd cc
 or-none false b e = (refl, e)
 
--- ---- whether a directive is there
-
-pub there-from : (test : Directive → Bool) (block : Option Placed) (lines : List (Line Placed)) → list_any (holds test) (with_blocks_from block lines) ≡ is_there_from test block lines
-there-from test block [] = refl
-there-from test block (line ∷ lines) = ap (λ (b : Bool). passes test (directive_at block line) || b) (there-from test (block_after_line block line) lines)
-
-pub lines-in-blocks : (block : Option Placed) (lines : List (Line Placed)) → map (λ other. other.1) (with_blocks_from block lines) ≡ lines
-lines-in-blocks block [] = refl
-lines-in-blocks block (line ∷ lines) = ap (λ (ls : List (Line Placed)). line ∷ ls) (lines-in-blocks (block_after_line block line) lines)
-
 -- ---- after the last directive of a verb
 
-no-spot : (test : Directive → Bool) (block : Option Placed) (lines : List (Line Placed)) → list_any (holds test) (with_blocks_from block lines) ≡ false → spot_after_last test block lines ≡ None
+pub no-spot : (test : Directive → Bool) (block : Option Placed) (lines : List (Line Placed)) → is_there_from test block lines ≡ false → spot_after_last test block lines ≡ None
 no-spot test block [] e = refl
 no-spot test block (line ∷ lines) e =
-    let parts = or-none (passes test (directive_at block line)) (list_any (holds test) (with_blocks_from (block_after_line block line) lines)) e in
+    let parts = or-none (passes test (directive_at block line)) (is_there_from test (block_after_line block line) lines) e in
     rw (no-spot test (block_after_line block line) lines parts.1, parts.0) refl
 
 -- the lines with an entry at a position, if there is one
@@ -46,33 +35,33 @@ record HasSpot (test : Directive → Bool) (block : Option Placed) (lines : List
   pub spot : Spot
   pub is : spot_after_last test block lines ≡ Some spot
 
-has-spot : (test : Directive → Bool) (block : Option Placed) (lines : List (Line Placed)) → list_any (holds test) (with_blocks_from block lines) ≡ true → HasSpot test block lines
+has-spot : (test : Directive → Bool) (block : Option Placed) (lines : List (Line Placed)) → is_there_from test block lines ≡ true → HasSpot test block lines
 has-spot test block [] e = absurd cc
-has-spot test block (line ∷ lines) e = elim (cases_Bool (list_any (holds test) (with_blocks_from (block_after_line block line) lines))) [
+has-spot test block (line ∷ lines) e = elim (cases_Bool (is_there_from test (block_after_line block line) lines)) [
   | inl later ↦ let next = has-spot test (block_after_line block line) lines later in record { spot = further next.spot; is = rw next.is refl }
   | inr none ↦ record { spot = spot_after_line block; is = rw (no-spot test (block_after_line block line) lines none, here none) refl }
 ]
   where
-    here : list_any (holds test) (with_blocks_from (block_after_line block line) lines) ≡ false → passes test (directive_at block line) ≡ true
+    here : is_there_from test (block_after_line block line) lines ≡ false → passes test (directive_at block line) ≡ true
     here none = elim (cases_Bool (passes test (directive_at block line))) [
       | inl hit ↦ hit
       | inr miss ↦ absurd (true≢false (sym e ∙ rw (miss, none) refl))
     ]
 
-after-last-is : (test : Directive → Bool) (verb : List ℕ) (arguments : List Placed) (block : Option Placed) (lines : List (Line Placed)) → list_any (holds test) (with_blocks_from block lines) ≡ true
-    → after_last test verb arguments (with_blocks_from block lines) ≡ put_at (λ within. entry_at within verb arguments) lines (spot_after_last test block lines)
+after-last-is : (test : Directive → Bool) (verb : List ℕ) (arguments : List Placed) (block : Option Placed) (lines : List (Line Placed)) → is_there_from test block lines ≡ true
+    → after_last_of test verb arguments block lines ≡ put_at (λ within. entry_at within verb arguments) lines (spot_after_last test block lines)
 after-last-is test verb arguments block [] e = absurd cc
-after-last-is test verb arguments block (line ∷ lines) e = elim (cases_Bool (list_any (holds test) (with_blocks_from (block_after_line block line) lines))) [
+after-last-is test verb arguments block (line ∷ lines) e = elim (cases_Bool (is_there_from test (block_after_line block line) lines)) [
   | inl later ↦ by_later later (has-spot test (block_after_line block line) lines later) (after-last-is test verb arguments (block_after_line block line) lines later)
   | inr none ↦ by_none none
 ]
   where
-    by_later : list_any (holds test) (with_blocks_from (block_after_line block line) lines) ≡ true → HasSpot test (block_after_line block line) lines
-        → after_last test verb arguments (with_blocks_from (block_after_line block line) lines) ≡ put_at (λ within. entry_at within verb arguments) lines (spot_after_last test (block_after_line block line) lines)
-        → after_last test verb arguments (with_blocks_from block (line ∷ lines)) ≡ put_at (λ within. entry_at within verb arguments) (line ∷ lines) (spot_after_last test block (line ∷ lines))
+    by_later : is_there_from test (block_after_line block line) lines ≡ true → HasSpot test (block_after_line block line) lines
+        → after_last_of test verb arguments (block_after_line block line) lines ≡ put_at (λ within. entry_at within verb arguments) lines (spot_after_last test (block_after_line block line) lines)
+        → after_last_of test verb arguments block (line ∷ lines) ≡ put_at (λ within. entry_at within verb arguments) (line ∷ lines) (spot_after_last test block (line ∷ lines))
     by_later later has next = skipped ∙ ap (λ (ls : List (Line Placed)). line ∷ ls) (next ∙ ap (put_at (λ within. entry_at within verb arguments) lines) has.is) ∙ sym placed
       where
-        skipped : after_last test verb arguments (with_blocks_from block (line ∷ lines)) ≡ line ∷ after_last test verb arguments (with_blocks_from (block_after_line block line) lines)
+        skipped : after_last_of test verb arguments block (line ∷ lines) ≡ line ∷ after_last_of test verb arguments (block_after_line block line) lines
         skipped = elim (cases_Bool (passes test (directive_at block line))) [
           | inl hit ↦ rw (hit, later) refl
           | inr miss ↦ rw miss refl
@@ -81,8 +70,8 @@ after-last-is test verb arguments block (line ∷ lines) e = elim (cases_Bool (l
         placed : put_at (λ within. entry_at within verb arguments) (line ∷ lines) (spot_after_last test block (line ∷ lines)) ≡ line ∷ put_at (λ within. entry_at within verb arguments) lines (Some has.spot)
         placed = rw has.is refl
 
-    by_none : list_any (holds test) (with_blocks_from (block_after_line block line) lines) ≡ false
-        → after_last test verb arguments (with_blocks_from block (line ∷ lines)) ≡ put_at (λ within. entry_at within verb arguments) (line ∷ lines) (spot_after_last test block (line ∷ lines))
+    by_none : is_there_from test (block_after_line block line) lines ≡ false
+        → after_last_of test verb arguments block (line ∷ lines) ≡ put_at (λ within. entry_at within verb arguments) (line ∷ lines) (spot_after_last test block (line ∷ lines))
     by_none none = first ∙ sym placed
       where
         here : passes test (directive_at block line) ≡ true
@@ -91,16 +80,16 @@ after-last-is test verb arguments block (line ∷ lines) e = elim (cases_Bool (l
           | inr miss ↦ absurd (true≢false (sym e ∙ rw (miss, none) refl))
         ]
 
-        first : after_last test verb arguments (with_blocks_from block (line ∷ lines)) ≡ line ∷ entry_at (is_some block) verb arguments ∷ lines
-        first = rw (here, none) (ap (λ (ls : List (Line Placed)). line ∷ entry_at (is_some block) verb arguments ∷ ls) (lines-in-blocks (block_after_line block line) lines))
+        first : after_last_of test verb arguments block (line ∷ lines) ≡ line ∷ entry_at (is_some block) verb arguments ∷ lines
+        first = rw (here, none) refl
 
         placed : put_at (λ within. entry_at within verb arguments) (line ∷ lines) (spot_after_last test block (line ∷ lines)) ≡ line ∷ entry_at (is_some block) verb arguments ∷ lines
         placed = rw (no-spot test (block_after_line block line) lines none, here) refl
 
--- an entry after the last one of its verb is where one pass puts it
-pub entry-by-blocks : (test : Directive → Bool) (verb : List ℕ) (arguments : List Placed) (lines : List (Line Placed)) → with_entry test verb arguments lines ≡ added test verb arguments lines
+-- an added entry, by its position
+pub added-spot : (test : Directive → Bool) (verb : List ℕ) (arguments : List Placed) (lines : List (Line Placed)) → added test verb arguments lines ≡ added_at verb arguments lines (spot_after_last test None lines)
 unfolding added
-entry-by-blocks test verb arguments lines = elim (cases_Bool (list_any (holds test) (with_blocks lines))) [
+added-spot test verb arguments lines = elim (cases_Bool (is_there test lines)) [
   | inl some ↦
       let has = has-spot test None lines some in
       rw (some, has.is) (after-last-is test verb arguments None lines some ∙ ap (put_at (λ within. entry_at within verb arguments) lines) has.is)
@@ -142,7 +131,7 @@ after-first-is test new block (line ∷ lines) = elim (cases_Bool (passes test (
       rw miss (ap (λ (ls : List (Line Placed)). line ∷ ls) (after-first-is test new (block_after_line block line) lines) ∙ sym (insert-further new line lines (spot_after_first test (block_after_line block line) lines)))
 ]
 
--- lines after the first directive are where one pass puts them
-pub first-by-blocks : (test : Directive → Bool) (new lines : List (Line Placed)) → after_first_of test new None lines ≡ after_first_that test new lines
+-- new lines after the first directive, by their position
+pub first-spot : (test : Directive → Bool) (new lines : List (Line Placed)) → after_first_that test new lines ≡ insert_at_spot new lines (spot_after_first test None lines)
 unfolding after_first_that
-first-by-blocks test new lines = after-first-is test new None lines
+first-spot test new lines = after-first-is test new None lines
