@@ -1,6 +1,6 @@
 -- The front of a text: its bytes up to the first that no element can have.
 use Rattle.std.proofs.Common.{◌≡◌, ◌≢◌, ℕ, ◌+◌, ◌-◌, ◌<◌, ◌≤◌, ◌==◌, ◌&&◌, Bool, true, false, List, length, get_or, take, drop, refl, sym, ap, ◌∙◌, inl, inr, arith, length-drop}
-use Rattle.std.proofs.lemmas.Bool.{and_left, cases_eq, cases_lt, eqb-true, false_from_ne_true}
+use Rattle.std.proofs.lemmas.Bool.{and_left, cases_eq, cases_lt, eqb-true, false_from_ne_true, true≢false}
 use Rattle.std.proofs.lemmas.Bool.Decides.{nat_tests}
 use Rattle.std.proofs.lemmas.List.{drop-drop, get_or-drop, get_or-take, take-take, take_all, take_rest}
 use Rattle.std.proofs.lemmas.List.Folds.{length-prefix_len}
@@ -32,9 +32,6 @@ and-true : (b : Bool) → (b && true) ≡ b
 and-true true = refl
 and-true false = refl
 
-true_ne_false : true ≢ false
-true_ne_false e = cc e
-
 -- ---- the parts of the front
 
 -- the bytes of a front pass its test
@@ -51,7 +48,7 @@ stem-within text = elim (cases_lt (prefix_len is_path_byte text) (prefix_len is_
       let bound = prefix_len-le-length is_stem_byte text in
       let stops = prefix_len_stops is_path_byte text 0 (omega arith) in
       let passes = stem_byte-path (get_or text (prefix_len is_path_byte text) 0) (prefix_len_passes is_stem_byte text (prefix_len is_path_byte text) 0 beyond) in
-      absurd (true_ne_false (sym passes ∙ stops))
+      absurd (true≢false (sym passes ∙ stops))
   | inr within ↦ within
 ]
 
@@ -120,7 +117,7 @@ pub at-other : (text : List ℕ) → prefix_len is_path_byte text < length text 
 at-other text inside other = false_from_ne_true (list_all is_element (elements text)) (λ all.
     let byte = AllPass-from_list_all is_byte_of_path text (elements-bytes text all) (prefix_len is_path_byte text) 0 inside in
     let bad = neither _ (prefix_len_stops is_path_byte text 0 inside) other in
-    absurd (true_ne_false (sym byte ∙ bad)))
+    absurd (true≢false (sym byte ∙ bad)))
 
 -- the front is no element
 pub no-element : (text : List ℕ) → is_element (take_while is_path_byte text) ≡ false → list_all is_element (elements text) ≡ false

@@ -1,7 +1,7 @@
 -- The tests `is_path`, `is_version` and `does_fit` agree with the facts `IsPath`, `IsVersion` and `Fits`.
 use Rattle.std.proofs.Common.{◌≡◌, ◌≢◌, ◌↔◌, ℕ, ◌-◌, ◌==◌, ◌&&◌, ◌||◌, ◌^◌, ◌<◌, ◌≤◌, nat_lt, nat_eq, Bool, true, false, not, List, [], ◌∷◌, ◌++◌, length, get_or, take, drop, codes, Option, Some, None, Result, Ok, Err, is_some, IfSome, IfNone, refl, sym, ap, subst, ◌∙◌, inl, inr, arith, rules, IsTrue}
-pub use Rattle.std.proofs.lemmas.Bool.{and_parts as and_both}
-use Rattle.std.proofs.lemmas.Bool.{eq-eqb, eqb-true}
+pub use Rattle.std.proofs.lemmas.Bool.{and_parts as and_both, not-true as not_true}
+use Rattle.std.proofs.lemmas.Bool.{and_from, eq-eqb, eqb-true, or_cases, or_left, or_right}
 use Rattle.std.proofs.lemmas.Bool.Decides.{Decides-eqb, nat_tests}
 use Rattle.std.proofs.lemmas.Fmt.{decimal-digits_value, digits_value-decimal}
 use Rattle.std.proofs.lemmas.List.{nil_from_length}
@@ -12,7 +12,7 @@ use Rattle.std.specs.Cmp.Lexicographic.{same_text}
 use Rattle.std.specs.Fmt.{decimal}
 use Rattle.std.specs.List.{ends_with, list_all, starts_with}
 use Rattle.std.specs.Option.{option_map, option_map_or}
-use Rattle.std.specs.Prelude.{if◌then◌else◌, option_and_then, ◌⊎◌}
+use Rattle.std.specs.Prelude.{if◌then◌else◌, option_and_then}
 use Rattle.std.specs.Str.{bytes_eq}
 use Rattle.std.specs.Str.Parse.{digits_value}
 use Rattle.semver.proofs.Grammar.{version_parts-complete, version_parts-sound}
@@ -36,14 +36,6 @@ use Rattle.gm_name.proofs.Paths.{path-elements, path-from}
 abbrev pub Tells : {X : Type 0} → Option X → (X → Type 0) → Type 0
 Tells (Some x) P = P x
 Tells {X} None P = (x : X) → ¬ (P x)
-
-or-cases : (a b : Bool) → (a || b) ≡ true → (a ≡ true) ⊎ (b ≡ true)
-or-cases true b e = inl refl
-or-cases false b e = inr e
-
-pub not_true : (a : Bool) → not a ≡ true → a ≡ false
-not_true true e = absurd cc
-not_true false e = refl
 
 pub digits : IsNumeralModel (λ ds. list_all is_ascii_digit ds ≡ true) (digits_value 10)
 digits = numerals_by_value (λ ds. list_all is_ascii_digit ds ≡ true) (search rules)
@@ -209,7 +201,7 @@ path-tested text = (
 
 build-by : (parts : Parts) → has_plain_build (Ok parts) ≡ true ↔ HasPlainBuild parts
 build-by parts = (
-  λ e. elim (or-cases (length parts.4 == 0) (bytes_eq parts.4 (codes "incompatible")) e) [
+  λ e. elim (or_cases (length parts.4 == 0) (bytes_eq parts.4 (codes "incompatible")) e) [
     | inl none ↦ inl (nil_from_length parts.4 (eqb-true _ _ none))
     | inr word ↦ inr (same_text parts.4 (codes "incompatible") (sym word))
   ],
@@ -264,16 +256,6 @@ small-by version false is =
       ],
     )
 
-and-true : (a b : Bool) → a ≡ true → b ≡ true → (a && b) ≡ true
-and-true a b e f = rw (e, f) refl
-
-or-left : (a b : Bool) → a ≡ true → (a || b) ≡ true
-or-left a b e = rw e refl
-
-or-right : (a b : Bool) → b ≡ true → (a || b) ≡ true
-or-right true b e = refl
-or-right false b e = e
-
 eqb-is : (a b : ℕ) → a ≡ b → (a == b) ≡ true
 eqb-is a b e = eq-eqb a b e
 
@@ -281,21 +263,21 @@ major-fit : (version : List ℕ) (major : Major) → fits_major version major �
 major-fit version NoSuffix = small-by version (nat_lt (major_of version) 2) refl
 major-fit version (Slash n) = (
   λ e. let p = and_both (major_of version == n) (has_no_build version) e in (eqb-true _ _ p.0, (no-build version).0 p.1),
-  λ fit. and-true _ _ (eqb-is _ _ fit.0) ((no-build version).1 fit.1),
+  λ fit. and_from _ _ (eqb-is _ _ fit.0) ((no-build version).1 fit.1),
 )
 major-fit version (Dot n) =
     let begins = starts_is Decides-eqb version (codes "v0.0.0-") (starts_with nat_eq version (codes "v0.0.0-")) refl in (
       λ e.
           let p = and_both ((major_of version == n) || ((n == 1) && starts_with nat_eq version (codes "v0.0.0-"))) (has_no_build version) e in
-          elim (or-cases (major_of version == n) ((n == 1) && starts_with nat_eq version (codes "v0.0.0-")) p.0) [
+          elim (or_cases (major_of version == n) ((n == 1) && starts_with nat_eq version (codes "v0.0.0-")) p.0) [
             | inl same ↦ (inl (eqb-true _ _ same), (no-build version).0 p.1)
             | inr zeros ↦
                 let q = and_both (n == 1) (starts_with nat_eq version (codes "v0.0.0-")) zeros in
                 (inr (eqb-true _ _ q.0, drop 7 version, begins.0 q.1), (no-build version).0 p.1)
           ],
       λ fit. elim fit.0 [
-        | inl same ↦ and-true _ _ (or-left _ _ (eqb-is _ _ same)) ((no-build version).1 fit.1)
-        | inr zeros ↦ and-true _ _ (or-right (major_of version == n) _ (and-true _ _ (eqb-is _ _ zeros.0) (begins.1 zeros.1 zeros.2))) ((no-build version).1 fit.1)
+        | inl same ↦ and_from _ _ (or_left _ _ (eqb-is _ _ same)) ((no-build version).1 fit.1)
+        | inr zeros ↦ and_from _ _ (or_right (major_of version == n) _ (and_from _ _ (eqb-is _ _ zeros.0) (begins.1 zeros.1 zeros.2))) ((no-build version).1 fit.1)
       ],
     )
 

@@ -16,9 +16,9 @@ or_rest : (b : Bool) (place : ℕ) (held rest : Option ℕ) → (b ≡ true → 
 or_rest true place held rest none = ap (λ (o : Option ℕ). option_or o (Some place)) (none refl)
 or_rest false place held rest none = refl
 
-neither : (held rest : Option ℕ) → option_or held rest ≡ None → held ≡ None
-neither None rest e = refl
-neither (Some place) rest e = absurd (cc e)
+held_no_place : (held rest : Option ℕ) → option_or held rest ≡ None → held ≡ None
+held_no_place None rest e = refl
+held_no_place (Some place) rest e = absurd (cc e)
 
 -- The bucket that a tag without a place chooses holds none under it.
 pub bucket_free : (buckets : List Bucket) (bucket : Bucket) (at tag : ℕ) (rest : Option ℕ) → at ≡ bucket_of tag (length buckets) → at < length buckets
@@ -26,7 +26,7 @@ pub bucket_free : (buckets : List Bucket) (bucket : Bucket) (at tag : ℕ) (rest
 bucket_free buckets bucket at tag rest chosen within is free =
     sym (value_there place_in_bucket buckets bucket at tag within is)
     ∙ ap (λ (m : ℕ). value_at place_in_bucket buckets m tag) chosen
-    ∙ neither (place_in_buckets buckets tag) rest free
+    ∙ held_no_place (place_in_buckets buckets tag) rest free
 
 -- A place that is put in the bucket of its tag is put in the index.
 pub put_or : (buckets : List Bucket) (old new : Bucket) (at tag place : ℕ) → at ≡ bucket_of tag (length buckets) → at < length buckets

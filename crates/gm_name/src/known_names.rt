@@ -275,15 +275,6 @@ impl KnownNames {
         ensures bad { IsErrOf result PathFault.BadPath ↔ ¬ (IsPath text.now) }
         ensures memory { IsErrOf result PathFault.NoMemory → IsPath text.now }
     {
-        self.read_path(text)
-    }
-
-    /// The path in a text: the expected one, or that which is known under the text's number, or a new one.
-    fn read_path(&mut self, text: &str) -> Result<ModPath, PathFault>
-        ensures kept { KeepsAll self.old self.new }
-        ensures within { IsWithinRoom self.new }
-        ensures read { PathReading text.now result }
-    {
         if let Some(path) = self.expected_path(text) {
             return Ok(path);
         }

@@ -23,8 +23,8 @@ put-apart n m i place old new puts none is = by-test (nat_eq n m) refl
     by-test false e = puts ∙ ap (λ (b : Bool). cond b (Some place) old) e ∙ is
 
 -- A tag that has a place isn't one without.
-pub taken : (held : Option ℕ) (place : ℕ) → held ≡ Some place → held ≡ None → ⊥
-taken held place is none = absurd (cc (is, none))
+pub has-place : (held : Option ℕ) (place : ℕ) → held ≡ Some place → held ≡ None → ⊥
+has-place held place is none = absurd (cc (is, none))
 
 -- A tag that has a place still has one, after any tag got one.
 still-taken : (n m place : ℕ) (old new : Option ℕ) → new ≡ cond (nat_eq n m) (Some place) old → (old ≡ None → ⊥) → new ≡ None → ⊥

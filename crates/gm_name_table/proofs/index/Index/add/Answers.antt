@@ -5,7 +5,7 @@ use Rattle.gm_name.specs.Buckets.{PutsIn}
 use Rattle.gm_name.specs.ModuleVersion.{ModuleVersion, pair_cmp}
 use Rattle.gm_name.specs.TagIndex.{place_under}
 use Rattle.gm_name_table.specs.Index.{pair_tag}
-use Rattle.gm_name_table.proofs.Indexes.{added-first, added-other, taken}
+use Rattle.gm_name_table.proofs.Indexes.{added-first, added-other, has-place}
 use Rattle.gm_name_table.proofs.index.Index.add.Goals as goal
 
 pub returns-in_ok-put-in-None-clause-ok : goal.returns-in_ok-put-in-None-clause-ok
@@ -19,7 +19,7 @@ pub returns-in_ok-insert-in-Some-clause-ok : goal.returns-in_ok-insert-in-Some-c
 returns-in_ok-insert-in-Some-clause-ok c =
     let old = c.args.self.now in
     added-other old.first old.others c.insert.new.self c.args.pairs.now c.args.pair.now c.requires.indexed c.requires.absent
-    (taken (place_under old.first (pair_tag c.args.pair.now)) c.in-Some.field-0
+    (has-place (place_under old.first (pair_tag c.args.pair.now)) c.in-Some.field-0
     (ap (λ (t : ℕ). place_under old.first t) (sym c.requires.tag) ∙ sym c.requires.first ∙ c.in-Some.is))
     (subst (λ (key : ModuleVersion). (p : ModuleVersion)
     → map.get pair_cmp c.insert.new.self p ≡ cond (is_eq (pair_cmp key p)) (Some (length c.args.pairs.now)) (map.get pair_cmp old.others p))

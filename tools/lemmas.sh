@@ -1,0 +1,92 @@
+#!/usr/bin/env bash
+# Counts the lemmas of crates/*/proofs that restate one of the toolchain's standard library, and the names that three or
+# more lemmas have which say different things.
+#
+#   tools/lemmas.sh            both counts
+#   tools/lemmas.sh --list     also each such lemma, with the standard library's, and each such name
+#   tools/lemmas.sh CRATE..    the same for these crates
+#
+# A lemma restates another if their types are the same text once all variables are renamed in the order in which they
+# come, and brackets and blanks are left out. So one with other premises, or over another type, isn't counted. The
+# standard library's lemmas are those on the pages of the toolchain's std/lemmas, which any crate may cite. Answers to
+# goals (proofs/MODULE/FUNCTION) are no lemmas. It needs rt, python3, and two seconds.
+set -euo pipefail
+cd "$(dirname "$0")/.."
+# shellcheck source=tools/lib.sh
+. tools/lib.sh
+help_if_asked tools/lemmas.sh "$@"
+command -v rt > /dev/null || refuse_arguments tools/lemmas.sh "there is no rt: put the toolchain's bin/ on the PATH"
+exec python3 - "$(dirname "$(rt doc)")" "$@" << 'PYTHON'
+import collections
+import pathlib
+import re
+import sys
+
+DECLARED = re.compile(r"(?:pub )?([^\s:(){}]+) : (.+)")
+NAME = re.compile(r"[^\s(){}\[\],;.]+")
+# variables that a type binds: `(x y : T)`, `{x y : T}`, `λ (x : T).`, `λ x y.`
+BINDER = re.compile(r"[({]((?:[^\s(){}:]+ )+):|λ ((?:[^\s().]+ ?)+)\.")
+
+
+def lemmas_of(path):
+    """The declarations at the margin of a file, or of a page's examples: (name, type)."""
+    found, now = [], None
+    for line in path.read_text(encoding="utf-8").split("\n"):
+        if now and line.startswith((" ", "\t")) and line.strip():
+            now[1] += " " + line.strip()
+            continue
+        if now:
+            found.append(tuple(now))
+            now = None
+        if line.startswith(("use ", "pub use ", "abbrev ", "record ", "data ", "--", "mod ", "pub mod ", "unfolding")):
+            continue
+        if declared := DECLARED.fullmatch(line):
+            now = [declared[1], declared[2]]
+    return found + ([tuple(now)] if now else [])
+
+
+def plain(statement):
+    """A type without what doesn't change its sense: names of variables, blanks, and which arguments are implicit."""
+    bound = [name for binder in BINDER.finditer(statement) for name in (binder[1] or binder[2]).split()]
+    renamed = {}
+    for word in NAME.findall(statement):
+        if word in bound:
+            renamed.setdefault(word, f"v{len(renamed)}")
+    words = NAME.sub(lambda word: renamed.get(word[0], word[0]), statement)
+    return re.sub(r"[\s(){}]+", " ", words).strip()
+
+
+def main():
+    kit, *words = sys.argv[1:]
+    is_listed = "--list" in words
+    chosen = [word for word in words if word != "--list"]
+    for word in chosen:
+        if not pathlib.Path("crates", word).is_dir():
+            sys.exit(f"lemmas: there is no crate {word}")
+    known = {}
+    pages = pathlib.Path(kit, "rattle", "std", "lemmas")
+    for path in sorted(pages.rglob("*.md")):
+        for name, statement in lemmas_of(path):
+            known.setdefault(plain(statement), f"{name} ({path.relative_to(pages)})")
+    restated, meanings = [], collections.defaultdict(set)
+    for path in sorted(pathlib.Path("crates").glob("*/proofs/*.antt")):
+        crate = path.parts[1]
+        if chosen and crate not in chosen:
+            continue
+        for name, statement in lemmas_of(path):
+            said = plain(statement)
+            meanings[name].add(said)
+            if said in known:
+                restated.append((crate, path.stem, name, known[said]))
+    shared = sorted((-len(said), name) for name, said in meanings.items() if len(said) >= 3)
+    if is_listed:
+        for crate, file, name, of in restated:
+            print(f"{crate}/proofs/{file}: {name} restates {of}")
+        for many, name in shared:
+            print(f"{name}: {-many} different lemmas")
+    print(f"{len(restated)} lemmas restate one of the standard library")
+    print(f"{len(shared)} names have three or more lemmas that differ")
+
+
+main()
+PYTHON
