@@ -1,107 +1,50 @@
 -- Valid main files that hold the same directives say the same.
-use Rattle.std.proofs.Common.{◌≡◌, ◌∙◌, ◌⊎◌, ◌++◌, ℕ, Bool, true, false, cond, not, List, [], ◌∷◌, filter, Option, Some, None, Contains, sym, ap, ap₂, refl, subst, inl, inr, append-nil}
-use Rattle.std.specs.Prelude.{◌||◌, find, option_and_then, unwrap_or}
+use Rattle.std.proofs.Common.{◌≡◌, ◌∙◌, ◌⊎◌, ℕ, Bool, true, false, cond, not, List, [], ◌∷◌, filter, Option, Some, None, Contains, sym, ap, ap₂, refl, subst, inl, inr}
+use Rattle.std.specs.Prelude.{find, option_and_then, unwrap_or}
 use Rattle.std.specs.Cmp.Lexicographic.{nat_list_eq_equiv, same_text}
 use Rattle.std.specs.List.{cons_option, filter_map, list_any}
-use Rattle.std.specs.Option.{option_map, option_or, option_to_list}
+use Rattle.std.specs.Option.{option_map, option_or}
 use Rattle.std.specs.Str.{bytes_eq}
-use Rattle.std.proofs.lemmas.Bool.{and_parts as and_both, cases_Bool, false≢true}
-use Rattle.std.proofs.lemmas.List.Elements.{Contains-append_left, Contains-push}
+use Rattle.std.proofs.lemmas.Bool.{and_parts as and_both, cases_Bool, false≢true, or_left, or_right}
 use Rattle.gm_name.specs.ModuleVersion.{ModuleVersion, pair_eq}
 use Rattle.gm_syntax.specs.Document.{Line}
 use Rattle.gm_syntax.specs.LineViews.{plain_lines}
 use Rattle.gm_syntax.specs.Tokens.{Placed}
-use Rattle.gm_syntax.specs.Words.{Word}
-use Rattle.gm_file.specs.declared.fault.DirectiveKind.{DirectiveKind}
-use Rattle.gm_file.specs.declared.fault.DirectiveKind.TheVariants.{ConflictingReplace, Repeated}
-use Rattle.gm_file.specs.Directives.{Strict, Directive, DeclaresModule, DeclaresGo, Requires, Excludes, Replaces, Retracts, Kept, Folder, Item, Left, Module, Opening, Replacing, Right, Saying, Silent, block_after_line, directive_in, directives, item_at, left_with, left_without, said, verb_in, with_blocks_from}
-use Rattle.gm_file.specs.Faults.{conflicts, directive_kinds, entry_kinds, fault_of, go_in, is_go, is_module, is_same_left, is_same_right, is_same_version, item_kinds, path_kinds, sides_kinds, unless}
+use Rattle.gm_file.specs.Directives.{Strict, Directive, DeclaresModule, DeclaresGo, Replaces, Folder, Left, Module, Replacing, Right, directives, left_with, left_without}
+use Rattle.gm_file.specs.Faults.{fault_of, go_in, is_same_left, is_same_right, is_same_version}
+use Rattle.gm_file.specs.Pairwise.{do_clash}
+use Rattle.gm_file.proofs.Pairwise.{AreApart, clash-mutual, faultless-apart}
 use Rattle.gm_file.specs.Fields.{as_exclusion, as_go, as_module, as_replacing, as_requirement, first, right_for}
-use Rattle.gm_file.proofs.Pairwise.{nil-parts}
 use Rattle.gm_graph.specs.Main.{is_excluded, is_pruned_by, main_of}
 use Rattle.gm_graph_select.proofs.Ascending.{member_cases, member_head, member_tail, no_member}
 use Rattle.gomod_laws.specs.LineOrderLaws.{HoldTheSame, LinesInAnyOrder}
-use Rattle.gomod_laws.proofs.FormattingBlanks.{AreFaultless, faultless_lines, main_said, seat_of}
+use Rattle.gomod_laws.proofs.FormattingBlanks.{main_said}
 use Rattle.gomod_laws.proofs.LineOrderProofs.{queries_move}
 use Rattle.gomod_laws.proofs.LineOrderRuns.{same_outcome}
 use Rattle.gomod_laws.proofs.LineOrderSame.{SayTheSame, same_any}
 
--- ---- directives in turn
-
--- each directive is without a fault after those before it
-abbrev AreInTurn : List Directive → List Directive → Type 0
-AreInTurn earlier [] = Unit {0}
-AreInTurn earlier (d ∷ ds) = (directive_kinds Strict earlier d ≡ []) × AreInTurn (earlier ++ d ∷ []) ds
-
-kinds_of : (earlier : List Directive) (item : Item) (d : Directive) → directive_in Strict item ≡ Some d → item_kinds Strict earlier item ≡ [] → directive_kinds Strict earlier d ≡ []
-kinds_of earlier Silent d says none = absurd cc
-kinds_of earlier (Opening verb) d says none = absurd cc
-kinds_of earlier (Saying verb words) d says none = sym (ap (entry_kinds Strict earlier (verb_in Strict verb)) says) ∙ none
-
-in_turn : (earlier : List Directive) (block : Option Word) (lines : List (Line Word)) → AreFaultless earlier block lines → AreInTurn earlier (filter_map (said Strict) (with_blocks_from block lines))
-in_turn earlier block [] are = tt
-in_turn earlier block (line ∷ lines) are = by_said (said Strict (seat_of block line)) refl are.1 (λ ds more. in_turn ds (block_after_line block line) lines more)
-  where
-    by_said : (o : Option Directive) → said Strict (seat_of block line) ≡ o → AreFaultless (earlier ++ option_to_list o) (block_after_line block line) lines
-        → ((ds : List Directive) → AreFaultless ds (block_after_line block line) lines → AreInTurn ds (filter_map (said Strict) (with_blocks_from (block_after_line block line) lines)))
-        → AreInTurn earlier (cons_option o (filter_map (said Strict) (with_blocks_from (block_after_line block line) lines)))
-    by_said None is more rest = rest earlier (subst (λ (ds : List Directive). AreFaultless ds (block_after_line block line) lines) (append-nil earlier) more)
-    by_said (Some d) is more rest = (kinds_of earlier (item_at (seat_of block line)) d is are.0, rest (earlier ++ d ∷ []) more)
-
--- the second directive can't follow the first
-abbrev Blocks : Directive → Directive → Type 0
-Blocks d e = (before : List Directive) → Contains before d → directive_kinds Strict before e ≡ [] → ⊥
-
-follows : (earlier ds : List Directive) (d e : Directive) → AreInTurn earlier ds → Contains earlier d → Contains ds e → Blocks d e → ⊥
-follows earlier [] d e are inside there blocks = no_member e there
-follows earlier (x ∷ ds) d e are inside there blocks = elim (member_cases x e ds there) [
-  | inl is ↦ blocks earlier inside (subst (λ (y : Directive). directive_kinds Strict earlier y ≡ []) is are.0)
-  | inr later ↦ follows (earlier ++ x ∷ []) ds d e are.1 (Contains-append_left earlier (x ∷ []) d inside) later blocks
-]
-
--- two directives of which neither can follow the other are one
-one_of_two : (earlier ds : List Directive) (d e : Directive) → AreInTurn earlier ds → Contains ds d → Contains ds e → Blocks d e → Blocks e d → d ≡ e
-one_of_two earlier [] d e are here there into back = absurd (no_member d here)
-one_of_two earlier (x ∷ ds) d e are here there into back = by_places (member_cases x d ds here) (member_cases x e ds there) (λ a b. one_of_two (earlier ++ x ∷ []) ds d e are.1 a b into back)
-  where
-    by_places : (x ≡ d) ⊎ Contains ds d → (x ≡ e) ⊎ Contains ds e → (Contains ds d → Contains ds e → d ≡ e) → d ≡ e
-    by_places (inl a) (inl b) rest = sym a ∙ b
-    by_places (inl a) (inr b) rest = absurd (follows (earlier ++ x ∷ []) ds d e are.1 (subst (Contains (earlier ++ x ∷ [])) a (Contains-push earlier x)) b into)
-    by_places (inr a) (inl b) rest = absurd (follows (earlier ++ x ∷ []) ds e d are.1 (subst (Contains (earlier ++ x ∷ [])) b (Contains-push earlier x)) a back)
-    by_places (inr a) (inr b) rest = rest a b
-
--- ---- which directives can't follow which
-
-unless_true : (test : Bool) (kind : DirectiveKind) → unless test kind ≡ [] → test ≡ true
-unless_true true kind e = refl
-unless_true false kind e = absurd cc
-
-not_true : (b : Bool) → b ≡ true → not b ≡ true → ⊥
-not_true true e f = cc
-not_true false e f = cc
+-- ---- directives that clash
 
 any_of : (test : Directive → Bool) (ds : List Directive) (d : Directive) → Contains ds d → test d ≡ true → list_any test ds ≡ true
 any_of test [] d there holds = absurd (no_member d there)
 any_of test (x ∷ ds) d there holds = elim (member_cases x d ds there) [
-  | inl is ↦ let first : test x ≡ true = ap test is ∙ holds in rw first refl
-  | inr later ↦ let rest = any_of test ds d later holds in or_true (test x) (list_any test ds) rest
+  | inl is ↦ or_left (test x) (list_any test ds) (ap test is ∙ holds)
+  | inr later ↦ or_right (test x) (list_any test ds) (any_of test ds d later holds)
 ]
+
+-- two directives that clash are one
+one_of_two : (ds : List Directive) (d e : Directive) → AreApart ds → Contains ds d → Contains ds e → do_clash d e ≡ true → d ≡ e
+one_of_two [] d e apart here there clash = absurd (no_member d here)
+one_of_two (x ∷ ds) d e apart here there clash = by_places (member_cases x d ds here) (member_cases x e ds there) (λ a b. one_of_two ds d e apart.1 a b clash)
   where
-    or_true : (a b : Bool) → b ≡ true → (a || b) ≡ true
-    or_true true b e = refl
-    or_true false b e = e
+    never : (y : Directive) → Contains ds y → do_clash x y ≡ true → ⊥
+    never y inside holds = false≢true (sym apart.0 ∙ any_of (do_clash x) ds y inside holds)
 
-second_module : (p q : List ℕ) → Blocks (DeclaresModule p) (DeclaresModule q)
-unfolding directive_kinds
-second_module p q before there none =
-    let parts = nil-parts (path_kinds q) (unless (not (list_any is_module before)) Repeated) none in
-    not_true (list_any is_module before) (any_of is_module before (DeclaresModule p) there refl) (unless_true (not (list_any is_module before)) Repeated parts.1)
-
-second_go : (p q : List ℕ) → Blocks (DeclaresGo p) (DeclaresGo q)
-unfolding directive_kinds
-second_go p q before there none =
-    let parts = nil-parts (unless (not (list_any is_go before)) Repeated) _ none in
-    not_true (list_any is_go before) (any_of is_go before (DeclaresGo p) there refl) (unless_true (not (list_any is_go before)) Repeated parts.0)
+    by_places : (x ≡ d) ⊎ Contains ds d → (x ≡ e) ⊎ Contains ds e → (Contains ds d → Contains ds e → d ≡ e) → d ≡ e
+    by_places (inl a) (inl b) rest = sym a ∙ b
+    by_places (inl a) (inr b) rest = absurd (never e b (ap (λ (y : Directive). do_clash y e) a ∙ clash))
+    by_places (inr a) (inl b) rest = absurd (never d a (ap (λ (y : Directive). do_clash y d) b ∙ clash-mutual e d ∙ clash))
+    by_places (inr a) (inr b) rest = rest a b
 
 -- ---- texts and sides
 
@@ -133,14 +76,6 @@ same_right (Module p v) (Folder b) e = absurd cc
 same_right (Module p v) (Module q w) e =
     let s = and_both (bytes_eq p q) (bytes_eq v w) e in
     ap₂ Module (same_text p q (sym s.0)) (same_text v w (sym s.1))
-
-other_right : (r s : Replacing) → s.0 ≡ r.0 → is_same_right s.1 r.1 ≡ false → Blocks (Replaces r) (Replaces s)
-unfolding directive_kinds
-other_right r s left right before there none =
-    let parts = nil-parts (sides_kinds s.0 s.1) (unless (not (list_any (conflicts s) before)) ConflictingReplace) none in
-    let same : is_same_left s.0 r.0 ≡ true = subst (λ (x : Left). is_same_left s.0 x ≡ true) left (left_itself s.0) in
-    let clash : conflicts s (Replaces r) ≡ true = rw (same, right) refl in
-    not_true (list_any (conflicts s) before) (any_of (conflicts s) before (Replaces r) there clash) (unless_true (not (list_any (conflicts s) before)) ConflictingReplace parts.1)
 
 -- ---- lists with the same members
 
@@ -257,44 +192,29 @@ filter_into test other same xs ys into x there =
 
 module_is : (d : Directive) (p : List ℕ) → as_module d ≡ Some p → d ≡ DeclaresModule p
 module_is (DeclaresModule q) p e = let same : q ≡ p = cc in ap DeclaresModule same
-module_is (DeclaresGo text) p e = absurd cc
-module_is (Requires x) p e = absurd cc
-module_is (Excludes x) p e = absurd cc
-module_is (Replaces r) p e = absurd cc
-module_is (Retracts ends) p e = absurd cc
-module_is Kept p e = absurd cc
+module_is d p e = absurd cc
 
 go_is : (d : Directive) (p : List ℕ) → as_go d ≡ Some p → d ≡ DeclaresGo p
-go_is (DeclaresModule q) p e = absurd cc
 go_is (DeclaresGo text) p e = let same : text ≡ p = cc in ap DeclaresGo same
-go_is (Requires x) p e = absurd cc
-go_is (Excludes x) p e = absurd cc
-go_is (Replaces r) p e = absurd cc
-go_is (Retracts ends) p e = absurd cc
-go_is Kept p e = absurd cc
+go_is d p e = absurd cc
 
 replace_is : (d : Directive) (r : Replacing) → as_replacing d ≡ Some r → d ≡ Replaces r
-replace_is (DeclaresModule q) r e = absurd cc
-replace_is (DeclaresGo text) r e = absurd cc
-replace_is (Requires x) r e = absurd cc
-replace_is (Excludes x) r e = absurd cc
 replace_is (Replaces s) r e = let same : s ≡ r = cc in ap Replaces same
-replace_is (Retracts ends) r e = absurd cc
-replace_is Kept r e = absurd cc
+replace_is d r e = absurd cc
 
-module _ (ds : List Directive) (are : AreInTurn [] ds) where
+module _ (ds : List Directive) (are : AreApart ds) where
   one_module : (p q : List ℕ) → Contains (filter_map as_module ds) p → Contains (filter_map as_module ds) q → p ≡ q
   one_module p q here there =
       let (d, in_d, is_d) = some_part as_module ds p here in
       let (e, in_e, is_e) = some_part as_module ds q there in
-      let one : DeclaresModule p ≡ DeclaresModule q = one_of_two [] ds (DeclaresModule p) (DeclaresModule q) are (subst (Contains ds) (module_is d p is_d) in_d) (subst (Contains ds) (module_is e q is_e) in_e) (second_module p q) (second_module q p) in
+      let one : DeclaresModule p ≡ DeclaresModule q = one_of_two ds (DeclaresModule p) (DeclaresModule q) are (subst (Contains ds) (module_is d p is_d) in_d) (subst (Contains ds) (module_is e q is_e) in_e) refl in
       cc
 
   one_go : (p q : List ℕ) → Contains (filter_map as_go ds) p → Contains (filter_map as_go ds) q → p ≡ q
   one_go p q here there =
       let (d, in_d, is_d) = some_part as_go ds p here in
       let (e, in_e, is_e) = some_part as_go ds q there in
-      let one : DeclaresGo p ≡ DeclaresGo q = one_of_two [] ds (DeclaresGo p) (DeclaresGo q) are (subst (Contains ds) (go_is d p is_d) in_d) (subst (Contains ds) (go_is e q is_e) in_e) (second_go p q) (second_go q p) in
+      let one : DeclaresGo p ≡ DeclaresGo q = one_of_two ds (DeclaresGo p) (DeclaresGo q) are (subst (Contains ds) (go_is d p is_d) in_d) (subst (Contains ds) (go_is e q is_e) in_e) refl in
       cc
 
   one_replaced : (left : Left) (r s : Replacing) → Contains (filter_map as_replacing ds) r → Contains (filter_map as_replacing ds) s → is_same_left left r.0 ≡ true → is_same_left left s.0 ≡ true → r.1 ≡ s.1
@@ -306,18 +226,17 @@ module _ (ds : List Directive) (are : AreInTurn [] ds) where
       let lefts : r.0 ≡ s.0 = sym (same_left left r.0 is_r) ∙ same_left left s.0 is_s in
       elim (cases_Bool (is_same_right r.1 s.1)) [
         | inl same ↦ same_right r.1 s.1 same
-        | inr apart ↦ elim (cases_Bool (is_same_right s.1 r.1)) [
-          | inl back ↦ sym (same_right s.1 r.1 back)
-          | inr other ↦
-              let one : Replaces r ≡ Replaces s = one_of_two [] ds (Replaces r) (Replaces s) are first_in second_in (other_right r s (sym lefts) other) (other_right s r lefts apart) in
-              let both : r ≡ s = cc in
-              ap (λ (x : Replacing). x.1) both
-        ]
+        | inr apart ↦
+            let same : is_same_left r.0 s.0 ≡ true = subst (λ (x : Left). is_same_left r.0 x ≡ true) lefts (left_itself r.0) in
+            let clash : do_clash (Replaces r) (Replaces s) ≡ true = rw (same, apart) refl in
+            let one : Replaces r ≡ Replaces s = one_of_two ds (Replaces r) (Replaces s) are first_in second_in clash in
+            let both : r ≡ s = cc in
+            ap (λ (x : Replacing). x.1) both
       ]
 
 -- ---- two files
 
-module _ (ds es : List Directive) (one : AreInTurn [] ds) (other : AreInTurn [] es) (into : AreMembers ds es) (back : AreMembers es ds) where
+module _ (ds es : List Directive) (one : AreApart ds) (other : AreApart es) (into : AreMembers ds es) (back : AreMembers es ds) where
   modules : first (filter_map as_module ds) ≡ first (filter_map as_module es)
   modules = one_first (filter_map as_module ds) (filter_map as_module es) (parts_into as_module ds es into) (parts_into as_module es ds back) (one_module es other)
 
@@ -350,10 +269,10 @@ module _ (ds es : List Directive) (one : AreInTurn [] ds) (other : AreInTurn [] 
 -- valid lines that hold the same directives say the same
 say_the_same : (lines also : List (Line Placed)) → fault_of Strict (plain_lines lines) ≡ None → fault_of Strict (plain_lines also) ≡ None → HoldTheSame (plain_lines lines) (plain_lines also) → SayTheSame (main_of lines) (main_of also)
 say_the_same lines also none nothing hold =
+    let one = faultless-apart (plain_lines lines) none in
+    let other = faultless-apart (plain_lines also) nothing in
     said_alike (directives Strict (plain_lines lines)) (directives Strict (plain_lines also))
-    (in_turn [] None (plain_lines lines) (faultless_lines (plain_lines lines) none))
-    (in_turn [] None (plain_lines also) (faultless_lines (plain_lines also) nothing))
-    (λ d. (hold d).0) (λ d. (hold d).1)
+    one.apart other.apart (λ d. (hold d).0) (λ d. (hold d).1)
 
 pub lines_in_any_order : LinesInAnyOrder
 lines_in_any_order command file other lines also sums asked answered a b query is too hold alike one two =
