@@ -1,9 +1,8 @@
 -- The steps of reading a dependency's file from its bytes.
-use Rattle.std.proofs.Common.{◌≡◌, ℕ, ◌+◌, List, [], ◌∷◌, ◌++◌, length, Option, Some, None, Ok, Err, refl, sym, ap, subst, ◌∙◌, arith, append-nil, Bor}
+use Rattle.std.proofs.Common.{◌≡◌, ℕ, ◌+◌, List, [], ◌∷◌, ◌++◌, length, Option, Some, None, Ok, Err, refl, sym, ap, subst, ◌∙◌, arith, Bor}
 use Rattle.std.proofs.lemmas.List.{length-append, length-map, map-append, map_push}
 use Rattle.std.specs.Prelude.{unwrap_or}
-use Rattle.std.specs.Option.{option_copied, option_map, option_to_list}
-use Rattle.std.specs.Global.{Vec}
+use Rattle.std.specs.Option.{option_copied, option_map}
 use Rattle.gm_syntax.specs.Words.{Word}
 use Rattle.gm_syntax.specs.Tokens.{Placed}
 use Rattle.gm_syntax.specs.Document.{Line}
@@ -16,17 +15,14 @@ use Rattle.gm_file.specs.declared.dep_lines.DepLines.{DepLines}
 use Rattle.gm_file.specs.declared.fault.LineFault.{LineFault}
 use Rattle.gm_file.specs.declared.fault.LineFault.TheVariants as line
 use Rattle.gm_file.specs.declared.fields.Fields.{Fields}
-use Rattle.gm_file.specs.declared.replace.Interval.{Interval}
 use Rattle.gm_file.specs.DepLines.{AreAllRead, AreDepLines, HasNextFault, IsDependencyIn, IsMisread}
-use Rattle.gm_file.specs.Directives.{Item, Lax, VersionInterval, block_after_line, item_at}
+use Rattle.gm_file.specs.Directives.{Item, Lax, block_after_line, item_at}
 use Rattle.gm_file.specs.Faults.{fault_of}
 use Rattle.gm_file.specs.Fields.{Dependency}
 use Rattle.gm_file.specs.Holding.{AreFound, AreReadTo, Holds, IsLineAdded}
 use Rattle.gm_file.specs.ReadFaults.{read_by_file, read_by_syntax}
-use Rattle.gm_file.specs.Retracting.{retraction_at}
-use Rattle.gm_file.specs.Views.{file_fault_at, interval_views}
+use Rattle.gm_file.specs.Views.{file_fault_at}
 use Rattle.gm_file.proofs.Lines.{fault-reported, read-more, read-none}
-use Rattle.gm_file.proofs.Retracted.{AreRetracted, retracted-more}
 use Rattle.gm_file.proofs.Whole.{dependency, dependency-is, lax-sound}
 
 -- the word of a block's verb
@@ -38,30 +34,24 @@ word-behind None = refl
 word-behind (Some t) = refl
 
 -- before the first line
-pub dep-none : (fields : Fields) (retracts : Vec Interval) → Holds Lax [] fields → AreFound fields → retracts.items ≡ []
-    → AreDepLines [] (record { block = None; fields = fields; retracts = retracts })
-dep-none fields retracts holds found none = record { read = read-none Lax fields holds found; retracted = ap interval_views none }
+pub dep-none : (fields : Fields) → Holds Lax [] fields → AreFound fields → AreDepLines [] (record { block = None; fields = fields })
+dep-none fields holds found = read-none Lax fields holds found
 
 -- one more line without a fault
 pub dep-more : (lines : List (Line Word)) (here : Line Word) (block : Option Word) (old new : DepLines) → AreDepLines lines old → block ≡ word_of old.block → AreFound new.fields
     → IsLineAdded Lax old.fields new.fields (item_at (block, here)) (Ok tt)
-    → interval_views new.retracts.items ≡ interval_views old.retracts.items ++ option_to_list (retraction_at (item_at (block, here)))
     → word_of new.block ≡ block_after_line (word_of old.block) here
     → AreDepLines (lines ++ here ∷ []) new
-dep-more lines here block old new so is found added retracts after =
-    let read : AreReadTo Lax lines block old.fields = subst (λ (b : Option Word). AreReadTo Lax lines b old.fields) (sym is) so.read in
-    let kept : AreRetracted lines block (interval_views old.retracts.items) = record { open_is = read.open_is; are = so.retracted } in
+dep-more lines here block old new so is found added after =
+    let read : AreReadTo Lax lines block old.fields = subst (λ (b : Option Word). AreReadTo Lax lines b old.fields) (sym is) so in
     let now : word_of new.block ≡ block_after_line block here = after ∙ ap (λ (b : Option Word). block_after_line b here) (sym is) in
-    record {
-      read = subst (λ (b : Option Word). AreReadTo Lax (lines ++ here ∷ []) b new.fields) (sym now) (read-more Lax lines block here old.fields new.fields read found added);
-      retracted = (retracted-more lines block here (interval_views old.retracts.items) (interval_views new.retracts.items) kept retracts).are;
-    }
+    subst (λ (b : Option Word). AreReadTo Lax (lines ++ here ∷ []) b new.fields) (sym now) (read-more Lax lines block here old.fields new.fields read found added)
 
 -- the next line has a fault
 pub dep-fault : (lines : List (Line Word)) (here : Line Word) (block : Option Word) (old : DepLines) (new : Fields) (fault : LineFault) → AreDepLines lines old → block ≡ word_of old.block
     → IsLineAdded Lax old.fields new (item_at (block, here)) (Err fault) → HasNextFault lines here fault
 dep-fault lines here block old new fault so is told = λ later.
-    let read : AreReadTo Lax lines block old.fields = subst (λ (b : Option Word). AreReadTo Lax lines b old.fields) (sym is) so.read in
+    let read : AreReadTo Lax lines block old.fields = subst (λ (b : Option Word). AreReadTo Lax lines b old.fields) (sym is) so in
     fault-reported Lax lines block here later ((lines ++ here ∷ []) ++ later) (length lines + 1) old.fields new fault read refl refl told
 
 -- a fault of the text comes first
@@ -86,18 +76,16 @@ misread-line left lines here number (line.Kind kind) is told rest =
 
 -- all lines have been read
 pub dep-whole : (bytes : List ℕ) (said : DepLines) (file : Dependency) → AreAllRead bytes said
-    → file ≡ dependency said.fields.declared (unwrap_or said.fields.go (1, 16)) said.fields.requirements.items (interval_views said.retracts.items) → IsDependencyIn bytes file
+    → file ≡ dependency said.fields.declared (unwrap_or said.fields.go (1, 16)) said.fields.requirements.items → IsDependencyIn bytes file
 dep-whole bytes said file all is = (
   all.0,
   all.1,
-  lax-sound (plain_lines all.0) said.fields all.2.read.read,
-  sym (is ∙ dependency-is (plain_lines all.0) said.fields (unwrap_or said.fields.go (1, 16)) (interval_views said.retracts.items) all.2.read.read refl all.2.retracted),
+  lax-sound (plain_lines all.0) said.fields all.2.read,
+  sym (is ∙ dependency-is (plain_lines all.0) said.fields (unwrap_or said.fields.go (1, 16)) all.2.read refl),
 )
 
 -- a line that says nothing but may open or close a block, without a fault
-pub level-more : (lines : List (Line Word)) (here : Line Word) (item : Item) (old : DepLines) (block : Option Placed) → item_at (word_of old.block, here) ≡ item → retraction_at item ≡ None → AreDepLines lines old
+pub level-more : (lines : List (Line Word)) (here : Line Word) (item : Item) (old : DepLines) (block : Option Placed) → item_at (word_of old.block, here) ≡ item → AreDepLines lines old
     → IsLineAdded Lax old.fields old.fields item (Ok tt) → word_of block ≡ block_after_line (word_of old.block) here → AreDepLines (lines ++ here ∷ []) (record old { block = block })
-level-more lines here item old block is none so added after =
-    let intervals = interval_views old.retracts.items in
-    dep-more lines here (word_of old.block) old (record old { block = block }) so refl so.read.read.found (subst (λ (i : Item). IsLineAdded Lax old.fields old.fields i (Ok tt)) (sym is) added)
-    (sym (ap (λ (o : Option VersionInterval). intervals ++ option_to_list o) (ap retraction_at is ∙ none) ∙ append-nil intervals)) after
+level-more lines here item old block is so added after =
+    dep-more lines here (word_of old.block) old (record old { block = block }) so refl so.read.found (subst (λ (i : Item). IsLineAdded Lax old.fields old.fields i (Ok tt)) (sym is) added) after

@@ -1,5 +1,5 @@
 -- The retractions of a dependency's file.
-use Rattle.std.proofs.Common.{◌≡◌, ℕ, ◌||◌, not, Bool, true, false, List, [], ◌∷◌, ◌++◌, length, codes, Option, Some, None, Ok, Err, refl, sym, ap, ◌∙◌, arith, inl, inr}
+use Rattle.std.proofs.Common.{◌≡◌, ℕ, ◌||◌, not, Bool, true, false, List, [], ◌∷◌, ◌++◌, length, codes, Option, Some, None, Ok, Err, refl, sym, ap, subst, ◌∙◌, arith, inl, inr}
 use Rattle.std.specs.Prelude.{◌==◌, if◌then◌else◌, option_and_then}
 use Rattle.std.proofs.lemmas.Bool.{cases_Bool}
 use Rattle.std.proofs.lemmas.Bool.Decides.{Decides-eqb}
@@ -10,6 +10,10 @@ use Rattle.std.specs.List.{cons_option, filter_map}
 use Rattle.std.specs.Str.{bytes_eq}
 use Rattle.gm_syntax.specs.Words.{Word}
 use Rattle.gm_syntax.specs.Document.{Line}
+use Rattle.gm_syntax.specs.LineReading.{HasRead, Unread}
+use Rattle.gm_syntax.specs.LineViews.{plain, plain_lines}
+use Rattle.gm_syntax.specs.Tokens.{Placed}
+use Rattle.std.proofs.lemmas.List.{map_push}
 use Rattle.gm_file.specs.Directives.{Strict, Verb, ForModule, ForGo, ForRequire, ForExclude, ForReplace, ForRetract, ForNothing, Unknown, VersionInterval, Directive, DeclaresModule, DeclaresGo, Requires, Excludes, Replaces, Retracts, Item, Saying, block_after_lines, block_after_line, directive_in, directive_of, directives, ends_of, item_at, main_verb, one_of, pair_of, replacing_of}
 use Rattle.gm_file.specs.declared.fault.DirectiveKind.{DirectiveKind}
 use Rattle.gm_file.specs.declared.fault.DirectiveKind.TheVariants.{WrongArguments}
@@ -17,9 +21,11 @@ use Rattle.gm_file.specs.declared.fault.LineFault.TheVariants as line
 use Rattle.gm_file.specs.Faults.{ends_kinds}
 use Rattle.gm_file.specs.Fields.{first, lax_retracts_of, valid_ends, valid_interval}
 use Rattle.gm_file.specs.Reading.{IsRead}
-use Rattle.gm_file.specs.Retracting.{retraction_at, retraction_in}
+use Rattle.gm_file.specs.Retracting.{AreRetracted, AreRetractionsOf, retraction_at, retraction_in}
+use Rattle.gm_file.specs.declared.retractions.Retractions.{Retractions}
 use Rattle.gm_file.specs.declared.replace.Interval.{Interval}
-use Rattle.gm_file.specs.Views.{interval_view}
+use Rattle.gm_file.specs.Views.{interval_view, interval_views}
+use Rattle.gm_file.proofs.DepReading.{word_of}
 use Rattle.gm_file.proofs.Lines.{block-snoc, said-once}
 
 is_retract : Verb → Bool
@@ -90,11 +96,6 @@ pub not-false : (a : Bool) → not a ≡ false → a ≡ true
 not-false true e = refl
 not-false false e = cc e
 
--- the intervals that the lines so far retract, with the verb of the block that is open after them
-pub record AreRetracted (lines : List (Line Word)) (block : Option Word) (intervals : List VersionInterval) : Type 0 where
-  pub open_is : block ≡ block_after_lines None lines
-  pub are : intervals ≡ lax_retracts_of lines
-
 -- after one more line
 pub retracted-more : (lines : List (Line Word)) (block : Option Word) (line : Line Word) (intervals more : List VersionInterval) → AreRetracted lines block intervals
     → more ≡ intervals ++ option_to_list (retraction_at (item_at (block, line))) → AreRetracted (lines ++ line ∷ []) (block_after_line block line) more
@@ -104,6 +105,26 @@ retracted-more lines block line intervals more so is = record {
       ∙ ap (λ (b : Option Word). lax_retracts_of lines ++ option_to_list (retraction_at (item_at (b, line)))) so.open_is
       ∙ sym (retracts-snoc lines line);
 }
+
+pub retractions-more : (lines : List (Line Word)) (here : Line Word) (block : Option Word) (old new : Retractions) → AreRetractionsOf lines old → block ≡ word_of old.block
+    → interval_views new.intervals.items ≡ interval_views old.intervals.items ++ option_to_list (retraction_at (item_at (block, here)))
+    → word_of new.block ≡ block_after_line (word_of old.block) here → AreRetractionsOf (lines ++ here ∷ []) new
+retractions-more lines here block old new so is added after =
+    let intervals = interval_views old.intervals.items in
+    let more = interval_views new.intervals.items in
+    let before : AreRetracted lines block intervals = subst (λ (b : Option Word). AreRetracted lines b intervals) (sym is) so in
+    let now : word_of new.block ≡ block_after_line block here = after ∙ ap (λ (b : Option Word). block_after_line b here) (sym is) in
+    subst (λ (b : Option Word). AreRetracted (lines ++ here ∷ []) b more) (sym now) (retracted-more lines block here intervals more before added)
+
+-- some lines of a text have been read, and these are their retractions
+abbrev pub AreRetractedSofar : Unread → Retractions → Type 0
+AreRetractedSofar left said = (lines : List (Line Placed)) × HasRead left lines × AreRetractionsOf (plain_lines lines) said
+
+-- after one more line
+pub retracted-sofar : (left : Unread) (lines : List (Line Placed)) (here : Line Placed) (said : Retractions) → HasRead left (lines ++ here ∷ [])
+    → AreRetractionsOf (plain_lines lines ++ plain here ∷ []) said → AreRetractedSofar left said
+retracted-sofar left lines here said read so =
+    (lines ++ here ∷ [], read, subst (λ (ls : List (Line Word)). AreRetractionsOf ls said) (sym (map_push plain lines here)) so)
 
 -- an interval that was read
 pub ends-read : (part : Option VersionInterval) (interval : Interval) → IsRead interval_view WrongArguments ends_kinds part (Ok interval) → Some (interval_view interval) ≡ option_and_then valid_ends part

@@ -1,7 +1,6 @@
 -- Lines that are read without a list of words, in a block of `require` and outside blocks.
-use Rattle.std.proofs.Common.{◌≡◌, ℕ, true, false, List, [], ◌∷◌, ◌++◌, codes, Option, Some, None, Result, Ok, Err, is_some, OnOk, refl, sym, ap, subst, ◌∙◌, append-nil}
+use Rattle.std.proofs.Common.{◌≡◌, ℕ, true, false, List, [], ◌∷◌, ◌++◌, codes, Option, Some, None, Result, Ok, Err, is_some, OnOk, refl, sym, ap, subst, append-nil}
 use Rattle.std.specs.Prelude.{IfSome}
-use Rattle.std.specs.Option.{option_to_list}
 use Rattle.std.proofs.lemmas.List.{map_push}
 use Rattle.std.specs.Str.{bytes_eq}
 use Rattle.gm_syntax.specs.Words.{Word}
@@ -16,15 +15,13 @@ use Rattle.gm_file.specs.declared.fault.LineFault.{LineFault}
 use Rattle.gm_file.specs.declared.fault.LineFault.TheVariants as line
 use Rattle.gm_file.specs.declared.fields.Fields.{Fields}
 use Rattle.gm_file.specs.DepLines.{AreDepLines, HasNextFault, IsNextLineOf}
-use Rattle.gm_file.specs.Directives.{Directive, DeclaresGo, DeclaresModule, Item, Kept, Silent, Opening, Saying, VersionInterval, Lax, directive_in, directive_of, item_at, verb_in}
+use Rattle.gm_file.specs.Directives.{Directive, DeclaresGo, DeclaresModule, Item, Kept, Silent, Opening, Saying, Lax, directive_in, directive_of, item_at, verb_in}
 use Rattle.gm_file.specs.Faults.{directive_kinds, item_kinds, opening_kinds, pair_kinds, path_kinds}
 use Rattle.gm_file.specs.Fields.{first}
 use Rattle.gm_file.specs.Holding.{AreFound, Holds, IsLineAdded}
 use Rattle.gm_file.specs.Reading.{IsRead}
 use Rattle.gm_file.specs.SimpleLines.{AreReadSofar, IsLineSaid, TakesSimple, require_item, single_item}
 use Rattle.gm_file.specs.Requirements.{Requirements}
-use Rattle.gm_file.specs.Retracting.{retraction_at}
-use Rattle.gm_file.specs.Views.{interval_views}
 use Rattle.gm_file.proofs.Arrows.{first-append}
 use Rattle.gm_file.proofs.DepReading.{dep-fault, dep-more, level-more, word_of}
 use Rattle.gm_file.proofs.Saying.{say-requirement}
@@ -41,11 +38,6 @@ require-added old now path version (Ok u) items told = λ ds holds.
     (rw items (say-requirement holds (path, version)), told.1)
 require-added old now path version (Err line.NoMemory) items told = tt
 require-added old now path version (Err (line.Kind kind)) items told = λ ds holds. told
-
--- it retracts nothing
-no-retraction : (path version : List ℕ) → retraction_at (require_item path version) ≡ None
-unfolding directive_of
-no-retraction path version = refl
 
 -- ---- the content of such a line in the open block, which is one of `require`, or outside blocks
 
@@ -91,10 +83,8 @@ module _ (lines : List (Line Word)) (path version : List ℕ) (words : List Word
   requires-more : (fields : Fields) → AreFound fields → IsLineAdded Lax old.fields fields (require_item path version) (Ok tt) → AreDepLines (lines ++ Entry words suffix ∷ []) (record old { fields = fields })
   requires-more fields found added =
       let here : Line Word = Entry words suffix in
-      let none : option_to_list (retraction_at (item_at (word_of old.block, here))) ≡ [] = ap (λ (i : Item). option_to_list (retraction_at i)) item ∙ ap option_to_list (no-retraction path version) in
       dep-more lines here (word_of old.block) old (record old { fields = fields }) so refl found
-      (subst (λ (i : Item). IsLineAdded Lax old.fields fields i (Ok tt)) (sym item) added)
-      (sym (ap (λ (l : List VersionInterval). interval_views old.retracts.items ++ l) none ∙ append-nil (interval_views old.retracts.items))) refl
+      (subst (λ (i : Item). IsLineAdded Lax old.fields fields i (Ok tt)) (sym item) added) refl
 
   requires-fault : (new : Fields) (fault : LineFault) → IsLineAdded Lax old.fields new (require_item path version) (Err fault) → HasNextFault lines (Entry words suffix) fault
   requires-fault new fault told =
@@ -132,17 +122,12 @@ unfolding directive_of directive_kinds
 single-bad old new verb value line.NoMemory is told = tt
 single-bad old new verb value (line.Kind kind) is told = rw is (λ ds holds. first-append (path_kinds value) _ kind told)
 
-pub single-more : (lines : List (Line Word)) (verb value : List ℕ) (suffix : Option (List ℕ)) (old new : DepLines) → is_some old.block ≡ false → new.block ≡ old.block → AreDepLines lines old → AreFound new.fields
-    → IsLineAdded Lax old.fields new.fields (single_item verb value) (Ok tt) → interval_views new.retracts.items ≡ interval_views old.retracts.items ++ option_to_list (retraction_at (single_item verb value))
-    → AreDepLines (lines ++ pair_line verb value suffix ∷ []) new
-single-more lines verb value suffix old new none same so found added retracts =
-    let item = pair-outside old.block verb value suffix none in
-    dep-more lines (pair_line verb value suffix) (word_of old.block) old new so refl found (subst (λ (i : Item). IsLineAdded Lax old.fields new.fields i (Ok tt)) (sym item) added)
-    (retracts ∙ ap (λ (i : Item). interval_views old.retracts.items ++ option_to_list (retraction_at i)) (sym item)) (ap word_of same)
-
-pub single-fault : (lines : List (Line Word)) (verb value : List ℕ) (suffix : Option (List ℕ)) (old : DepLines) (new : Fields) (fault : LineFault) → is_some old.block ≡ false → AreDepLines lines old
-    → IsLineAdded Lax old.fields new (single_item verb value) (Err fault) → HasNextFault lines (pair_line verb value suffix) fault
-single-fault lines verb value suffix old new fault none so told =
+pub single-next : (lines : List (Line Word)) (verb value : List ℕ) (suffix : Option (List ℕ)) (old : DepLines) (new : Fields) (result : Result (Unit {0}) LineFault) → is_some old.block ≡ false → AreDepLines lines old
+    → OnOk result (AreFound new) → IsLineAdded Lax old.fields new (single_item verb value) result → IsNextLineOf lines (pair_line verb value suffix) (record old { fields = new }) result
+single-next lines verb value suffix old new (Ok u) none so found added =
+    dep-more lines (pair_line verb value suffix) (word_of old.block) old (record old { fields = new }) so refl found
+    (subst (λ (i : Item). IsLineAdded Lax old.fields new i (Ok tt)) (sym (pair-outside old.block verb value suffix none)) added) refl
+single-next lines verb value suffix old new (Err fault) none so found told =
     dep-fault lines (pair_line verb value suffix) (word_of old.block) old new fault so refl
     (subst (λ (i : Item). IsLineAdded Lax old.fields new i (Err fault)) (sym (pair-outside old.block verb value suffix none)) told)
 
@@ -168,7 +153,7 @@ module _ (lines : List (Line Placed)) (left : Unread) (said : DepLines) (so : Ar
   blank-said read = (
     Blank,
     read,
-    level-more (plain_lines lines) Blank Silent said said.block (blank-item (word_of said.block)) refl so (λ ds holds. (same-fields said.fields ds holds, refl)) refl,
+    level-more (plain_lines lines) Blank Silent said said.block (blank-item (word_of said.block)) so (λ ds holds. (same-fields said.fields ds holds, refl)) refl,
   )
 
   pub opening-said : (verb : Placed) → verb.word.spelling ≡ codes "require" → IsOpeningRead left lines verb → IsLineSaid left lines (record said { block = Some verb }) (Ok tt)
@@ -176,14 +161,14 @@ module _ (lines : List (Line Placed)) (left : Unread) (said : DepLines) (so : Ar
       let kinds : opening_kinds (verb_in Lax verb.word.spelling) ≡ [] = ap (λ (text : List ℕ). opening_kinds (verb_in Lax text)) spelled in (
         Open verb suffix,
         read,
-        level-more (plain_lines lines) (Open verb.word suffix) (Opening verb.word.spelling) said (Some verb) (opening-item (word_of said.block) verb.word suffix) refl so (λ ds holds. (same-fields said.fields ds holds, kinds)) refl,
+        level-more (plain_lines lines) (Open verb.word suffix) (Opening verb.word.spelling) said (Some verb) (opening-item (word_of said.block) verb.word suffix) so (λ ds holds. (same-fields said.fields ds holds, kinds)) refl,
       )
 
   pub closing-said : HasRead left (lines ++ Close None ∷ []) → IsLineSaid left lines (record said { block = None }) (Ok tt)
   closing-said read = (
     Close None,
     read,
-    level-more (plain_lines lines) (Close None) Silent said None (closing-item (word_of said.block)) refl so (λ ds holds. (same-fields said.fields ds holds, refl)) refl,
+    level-more (plain_lines lines) (Close None) Silent said None (closing-item (word_of said.block)) so (λ ds holds. (same-fields said.fields ds holds, refl)) refl,
   )
 
 -- a line of words, whatever its comment

@@ -7,9 +7,9 @@ use Rattle.gm_syntax.specs.Words.{Word}
 use Rattle.gm_syntax.specs.Document.{Line}
 use Rattle.gm_file.specs.declared.fault.DirectiveKind.TheVariants.{NoModule}
 use Rattle.gm_file.specs.declared.fields.Fields.{Fields}
-use Rattle.gm_file.specs.Directives.{Mode, Strict, Lax, VersionInterval, directives}
+use Rattle.gm_file.specs.Directives.{Mode, Strict, Lax, directives}
 use Rattle.gm_file.specs.Faults.{Fault, fault_of, first_of, missing_module}
-use Rattle.gm_file.specs.Fields.{Dependency, dependency_of, go_of, lax_retracts_of, module_of, requirements_of}
+use Rattle.gm_file.specs.Fields.{Dependency, dependency_of, go_of, module_of}
 use Rattle.gm_file.specs.Held.{AreMainFields}
 use Rattle.gm_file.specs.Holding.{AreRead}
 
@@ -44,14 +44,12 @@ main-held lines f path go read is go-is = record {
 pub lax-sound : (lines : List (Line Word)) (f : Fields) → AreRead Lax lines f → fault_of Lax lines ≡ None
 lax-sound lines f read = only-missing Lax lines f read
 
-abbrev pub dependency : Option (List ℕ) → ℕ × ℕ → List ModuleVersion → List ModuleVersion → Dependency
-dependency declared go requirements retracts = record { declared = declared; go = go; requirements = requirements; retracts = retracts }
+abbrev pub dependency : Option (List ℕ) → ℕ × ℕ → List ModuleVersion → Dependency
+dependency declared go requirements = record { declared = declared; go = go; requirements = requirements }
 
-pub dependency-is : (lines : List (Line Word)) (f : Fields) (go : ℕ × ℕ) (retracts : List VersionInterval) → AreRead Lax lines f → go ≡ unwrap_or f.go (1, 16) → retracts ≡ lax_retracts_of lines
-    → dependency f.declared go f.requirements.items retracts ≡ dependency_of lines
-dependency-is lines f go retracts read go-is retracts-are =
+pub dependency-is : (lines : List (Line Word)) (f : Fields) (go : ℕ × ℕ) → AreRead Lax lines f → go ≡ unwrap_or f.go (1, 16) → dependency f.declared go f.requirements.items ≡ dependency_of lines
+dependency-is lines f go read go-is =
     let number : go ≡ go_of Lax lines = go-is ∙ sym (ap (λ (o : Option (ℕ × ℕ)). unwrap_or o (1, 16)) read.holds.go_is) in
-    ap (λ (d : Option (List ℕ)). dependency d go f.requirements.items retracts) (sym read.holds.declared_is)
-    ∙ ap (λ (g : ℕ × ℕ). dependency (module_of Lax lines) g f.requirements.items retracts) number
-    ∙ ap (λ (r : List ModuleVersion). dependency (module_of Lax lines) (go_of Lax lines) r retracts) (sym read.holds.requirements_are)
-    ∙ ap (λ (t : List VersionInterval). dependency (module_of Lax lines) (go_of Lax lines) (requirements_of Lax lines) t) retracts-are
+    ap (λ (d : Option (List ℕ)). dependency d go f.requirements.items) (sym read.holds.declared_is)
+    ∙ ap (λ (g : ℕ × ℕ). dependency (module_of Lax lines) g f.requirements.items) number
+    ∙ ap (λ (r : List ModuleVersion). dependency (module_of Lax lines) (go_of Lax lines) r) (sym read.holds.requirements_are)

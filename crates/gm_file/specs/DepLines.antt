@@ -11,16 +11,21 @@ use Rattle.gm_file.specs.declared.dep_lines.DepLines.{DepLines}
 use Rattle.gm_file.specs.declared.fault.LineFault.{LineFault}
 use Rattle.gm_file.specs.declared.fault.ReadFault.{ReadFault}
 use Rattle.gm_file.specs.declared.fault.ReadFault.TheVariants as read
-use Rattle.gm_file.specs.Directives.{Lax}
+use Rattle.gm_file.specs.Directives.{Lax, VersionInterval}
 use Rattle.gm_file.specs.Faults.{fault_of}
 use Rattle.gm_file.specs.Fields.{Dependency, dependency_of, lax_retracts_of}
 use Rattle.gm_file.specs.Holding.{AreReadTo}
-use Rattle.gm_file.specs.Views.{ReportsFault, file_fault_at, interval_views}
+use Rattle.gm_file.specs.Views.{ReportsFault, file_fault_at}
 
 -- the bytes are a document without a fault, and these are its fields
 abbrev pub IsDependencyIn : List ℕ → Dependency → Type 0
 IsDependencyIn bytes file = (doc : List (Line Placed)) × IsParsedAs bytes (Ok doc)
     × (fault_of Lax (plain_lines doc) ≡ None) × (dependency_of (plain_lines doc) ≡ file)
+
+-- the bytes are a document, and its well-formed `retract` entries are these
+abbrev pub AreRetractedIn : List ℕ → List VersionInterval → Type 0
+AreRetractedIn bytes intervals = (doc : List (Line Placed)) × IsParsedAs bytes (Ok doc)
+    × (lax_retracts_of (plain_lines doc) ≡ intervals)
 
 -- the fault of the bytes: that of the text if it has one, otherwise that of the document
 abbrev pub IsMisread : List ℕ → ReadFault → Type 0
@@ -32,9 +37,8 @@ IsMisread bytes (read.Directive line kind) = (doc : List (Line Placed)) × IsPar
     × (fault_of Lax (plain_lines doc) ≡ Some (line, kind))
 
 -- the lines so far have no fault, and this is what they say
-pub record AreDepLines (lines : List (Line Word)) (said : DepLines) : Type 0 where
-  pub read : AreReadTo Lax lines (option_map (λ t. t.word) said.block) said.fields
-  pub retracted : interval_views said.retracts.items ≡ lax_retracts_of lines
+abbrev pub AreDepLines : List (Line Word) → DepLines → Type 0
+AreDepLines lines said = AreReadTo Lax lines (option_map (λ t. t.word) said.block) said.fields
 
 -- the next line has this fault, whatever lines follow
 abbrev pub HasNextFault : List (Line Word) → Line Word → LineFault → Type 0

@@ -75,20 +75,23 @@ valid_interval _ = None
 abbrev pub lax_retracts_of : List (Line Word) → List VersionInterval
 lax_retracts_of lines = filter_map valid_interval (directives Strict lines)
 
--- the fields of a dependency's file
+-- the fields of a dependency's file that a build needs
 pub record Dependency : Type 0 where
   pub declared : Option (List ℕ)
   pub go : ℕ × ℕ
   pub requirements : List ModuleVersion
-  pub retracts : List VersionInterval
 
 abbrev pub dependency_of : List (Line Word) → Dependency
 dependency_of lines = record {
   declared = module_of Lax lines;
   go = go_of Lax lines;
   requirements = requirements_of Lax lines;
-  retracts = lax_retracts_of lines;
 }
+
+-- the same with the intervals that the file retracts, which a build does not need
+pub record DependencyFile : Type 0 where
+  pub dependency : Dependency
+  pub retracts : List VersionInterval
 
 -- ---- lookups
 

@@ -3,14 +3,12 @@ use Rattle.std.specs.Prelude.{ℕ, List, Option}
 use Rattle.gm_name.specs.ModuleVersion.{ModuleVersion}
 use Rattle.gm_name_table.specs.Listed.{Appends, NumberedList}
 use Rattle.gm_file.specs.DepLines.{IsDependencyIn}
-use Rattle.gm_file.specs.Directives.{VersionInterval}
 use Rattle.gm_file.specs.Fields.{Dependency}
 
 -- what a dependency's file says, other than its requirements
 pub record Head : Type 0 where
   pub declared : Option (List ℕ)
   pub go : ℕ × ℕ
-  pub retracts : List VersionInterval
 
 -- what it says, with these requirements
 abbrev pub with_requirements : Head → List ModuleVersion → Dependency
@@ -18,7 +16,6 @@ with_requirements head requirements = record {
   declared = head.declared;
   go = head.go;
   requirements = requirements;
-  retracts = head.retracts;
 }
 
 -- The bytes can be read as a dependency's file, whose requirements were put to the end of a list.

@@ -4,10 +4,10 @@ ghost use Rattle.std.specs.Prelude.{◌≡◌, [], IfOk, IfErr, OnErr, None, unw
 ghost use Rattle.std.specs.Option.{option_copied};
 ghost use Rattle.gm_syntax.specs.LineViews.{plain_lines};
 ghost use Rattle.gm_name_table.specs.Listed.{Appends};
-ghost use Rattle.gm_file.specs.DepLines.{IsDependencyIn, IsMisread};
+ghost use Rattle.gm_file.specs.DepLines.{AreRetractedIn, IsDependencyIn, IsMisread};
 ghost use Rattle.gm_file.specs.Directives.{Lax};
 ghost use Rattle.gm_file.specs.Faults.{fault_of};
-ghost use Rattle.gm_file.specs.Fields.{dependency_of};
+ghost use Rattle.gm_file.specs.Fields.{dependency_of, lax_retracts_of};
 ghost use Rattle.gm_file.specs.Listed.{IsListedFrom};
 ghost use Rattle.gm_file.specs.Views.{ReportsFault, interval_views};
 
@@ -17,6 +17,7 @@ use crate::fields::Fields;
 use crate::listed_file::ListedFile;
 use crate::replace::Interval;
 use crate::required::Required;
+use crate::retractions::{retractions_of_bytes, retractions_of_lines};
 use gm_name::{KnownNames, ModPath, ModVer};
 use gm_name_table::ModuleList;
 use gm_syntax::{Doc, LineReader};
@@ -43,15 +44,13 @@ pub struct DepFile {
 }
 
 impl Model for DepFile {
-    ghost use Rattle.gm_file.specs.Fields.{Dependency};
+    ghost use Rattle.gm_file.specs.Fields.{DependencyFile};
     ghost use Rattle.gm_file.specs.Views.{interval_views};
 
-    ghost Value = { Dependency };
+    ghost Value = { DependencyFile };
 
     ghost view = { λ f. record {
-      declared = f.declared;
-      go = f.go;
-      requirements = f.requirements.items;
+      dependency = record { declared = f.declared; go = f.go; requirements = f.requirements.items };
       retracts = interval_views f.retracts.items;
     } };
 }
@@ -66,22 +65,21 @@ impl DepFile {
     /// entry that strict reading would refuse retracts nothing. `NoMemory` may replace any result, when memory runs
     /// out.
     pub fn read(alloc: Global, doc: &Doc) -> Result<DepFile, FileFault>
-        ensures ok { IfOk result (λ file. (file ≡ dependency_of (plain_lines doc.now))
+        ensures ok { IfOk result (λ file. (file.dependency ≡ dependency_of (plain_lines doc.now))
             × (fault_of Lax (plain_lines doc.now) ≡ None)) }
+        ensures retracts { IfOk result (λ file. file.retracts ≡ lax_retracts_of (plain_lines doc.now)) }
         ensures fault { IfErr result (ReportsFault Lax (plain_lines doc.now)) }
     {
         let mut names = KnownNames::new(alloc, 0);
         let mut said = DepLines::over(alloc, Required::own(Vec::new(alloc)));
         read_document(alloc, &mut names, doc.lines(), &mut said)?;
-        let DepLines {
-            fields,
-            retracts,
-            ..
-        } = said;
+        let retracts = retractions_of_lines(alloc, &mut names, doc.lines())?;
+        let DepLines { fields, .. } = said;
         Ok(DepFile::of_fields(fields, retracts))
     }
 
-    /// Reads the bytes of a file: the result is that of `Doc::parse` and then `read`, but no document is kept.
+    /// Reads the bytes of a file: the result is that of `Doc::parse` and then `read`, but no document is kept. A second
+    /// pass reads the retractions.
     ///
     /// A fault of the text comes first, on whichever line it is: the bytes are read to the end even if a directive
     /// before it is at fault. `NoMemory` may replace any result, when memory runs out.
@@ -93,23 +91,21 @@ impl DepFile {
         names: &mut KnownNames,
         bytes: &[u8],
     ) -> Result<DepFile, ReadFault>
-        ensures ok { IfOk result (IsDependencyIn bytes.now) }
+        ensures ok { IfOk result (λ file. IsDependencyIn bytes.now file.dependency) }
+        ensures retracts { IfOk result (λ file. AreRetractedIn bytes.now file.retracts) }
         ensures fault { IfErr result (IsMisread bytes.now) }
     {
         let mut reader = LineReader::new(alloc, bytes)?;
         let pairs = Vec::with_capacity(alloc, bytes.len() / BYTES_OF_ONE)?;
         let mut said = DepLines::over(alloc, Required::own(pairs));
         read_all(alloc, names, &mut reader, &mut said)?;
-        let DepLines {
-            fields,
-            retracts,
-            ..
-        } = said;
+        let retracts = retractions_of_bytes(alloc, names, bytes)?;
+        let DepLines { fields, .. } = said;
         Ok(DepFile::of_fields(fields, retracts))
     }
 
     /// Reads the bytes of a file as `read_bytes` does, but puts the requirements to the end of a list of modules. On a
-    /// refusal the list is as it was, but more modules may have numbers.
+    /// refusal the list is as it was, but more modules may have numbers. Retractions are passed over.
     ///
     /// A module that was in the list before is not stored again, nor tested again if its words are bare.
     pub fn read_listed(
@@ -127,12 +123,8 @@ impl DepFile {
         let list = mem::replace(modules, ModuleList::new(alloc));
         let mut said = DepLines::over(alloc, Required::at_end(list));
         let read = read_all(alloc, names, &mut reader, &mut said);
-        let DepLines {
-            fields,
-            retracts,
-            ..
-        } = said;
-        let file = ListedFile::of_fields(fields, retracts, modules);
+        let DepLines { fields, .. } = said;
+        let file = ListedFile::of_fields(fields, modules);
         match read {
             Ok(()) => Ok(file),
             Err(fault) => {
@@ -145,12 +137,12 @@ impl DepFile {
     /// The file with these fields and retractions.
     fn of_fields(fields: Fields, retracts: Vec<Interval>) -> DepFile
         requires { fields.requirements.before ≡ None }
-        ensures { result ≡ record {
+        ensures dependency { result.dependency ≡ record {
           declared = fields.declared;
           go = unwrap_or fields.go (1, 16);
           requirements = fields.requirements.items;
-          retracts = interval_views retracts.items;
         } }
+        ensures retracts { result.retracts ≡ interval_views retracts.items }
     {
         let Fields {
             declared,
@@ -168,7 +160,7 @@ impl DepFile {
 
     /// The path of the `module` directive, if there is one.
     pub fn module(&self) -> Option<&ModPath>
-        ensures { option_copied result ≡ self.now.declared }
+        ensures { option_copied result ≡ self.now.dependency.declared }
     {
         self.declared.as_ref()
     }
@@ -176,14 +168,14 @@ impl DepFile {
     /// The first two numbers of the `go` directive's version, or 1 and 16 if the file has no `go` directive (Go
     /// Modules Reference, go directive).
     pub fn go(&self) -> (u32, u32)
-        ensures { result ≡ self.now.go }
+        ensures { result ≡ self.now.dependency.go }
     {
         self.go
     }
 
     /// The modules of the `require` lines, in the order of the lines and with duplicates.
     pub fn requirements(&self) -> &[ModVer]
-        ensures { result.now ≡ self.now.requirements }
+        ensures { result.now ≡ self.now.dependency.requirements }
     {
         self.requirements.as_slice()
     }

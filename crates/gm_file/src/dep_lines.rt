@@ -16,9 +16,7 @@ ghost use Rattle.gm_file.specs.Views.{ReportsFault};
 
 use crate::fault::{DirectiveKind, FileFault, LineFault, ReadFault};
 use crate::fields::Fields;
-use crate::replace::Interval;
 use crate::required::Required;
-use crate::retractions::{add_retraction, add_single_retraction};
 use crate::verb::Mode;
 use gm_name::KnownNames;
 use gm_syntax::{Line, LineReader, SimpleLine, Token};
@@ -31,12 +29,10 @@ pub(crate) struct DepLines<'a> {
     pub(crate) block: Option<Token<'a>>,
     /// The fields.
     pub(crate) fields: Fields,
-    /// The intervals of the well-formed `retract` entries, in order.
-    pub(crate) retracts: Vec<Interval>,
 }
 
 /// Sets the verb of the open block to that of the one that is open after a line.
-fn pass_line<'a>(
+pub(crate) fn pass_line<'a>(
     alloc: Global,
     block: &mut Option<Token<'a>>,
     line: &Line<'a>,
@@ -70,7 +66,6 @@ impl<'a> DepLines<'a> {
         DepLines {
             block: None,
             fields: Fields::over(alloc, requirements),
-            retracts: Vec::new(alloc),
         }
     }
 
@@ -89,7 +84,6 @@ impl<'a> DepLines<'a> {
     {
         let block = self.block.as_ref();
         self.fields.read_line(alloc, names, Mode::Lax, block, line)?;
-        add_retraction(alloc, names, &mut self.retracts, block, line)?;
         pass_line(alloc, &mut self.block, line)?;
         Ok(())
     }
@@ -122,9 +116,7 @@ impl<'a> DepLines<'a> {
         if self.block.is_some() {
             return self.fields.read_requirement(names, first, second);
         }
-        self.fields.read_single(names, first, second)?;
-        add_single_retraction(names, &mut self.retracts, first, second)?;
-        Ok(())
+        self.fields.read_single(names, first, second)
     }
 
     /// Reads the next line, which is `require` and these two bare words.

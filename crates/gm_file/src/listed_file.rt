@@ -5,46 +5,37 @@
 ghost use Rattle.std.specs.Prelude.{◌≡◌, Some, unwrap_or};
 ghost use Rattle.std.specs.Option.{option_copied};
 ghost use Rattle.gm_name_table.specs.Listed.{Appends, NumberedList};
-ghost use Rattle.gm_file.specs.Views.{interval_views};
 
 use crate::fields::Fields;
-use crate::replace::Interval;
 use gm_name::ModPath;
 use gm_name_table::ModuleList;
 use std::marker::Model;
 
-/// What a dependency's file says, read laxly, other than its requirements, which are in a list of modules.
+/// What a build needs of a dependency's file, read laxly, other than its requirements, which are in a list of modules.
+/// It has no retractions.
 #[derive(Drop)]
 pub struct ListedFile {
     /// The path of the `module` directive, if there is one.
     declared: Option<ModPath>,
     /// The first two numbers of the go version, or 1 and 16.
     go: (u32, u32),
-    /// The intervals of the well-formed `retract` entries, in order.
-    retracts: Vec<Interval>,
 }
 
 impl Model for ListedFile {
     ghost use Rattle.gm_file.specs.Listed.{Head};
-    ghost use Rattle.gm_file.specs.Views.{interval_views};
 
     ghost Value = { Head };
 
-    ghost view = { λ f. record { declared = f.declared; go = f.go; retracts = interval_views f.retracts.items } };
+    ghost view = { λ f. record { declared = f.declared; go = f.go } };
 }
 
 impl ListedFile {
-    /// The file with these fields and retractions. The list of modules that its requirements went to the end of is put
+    /// The file with these fields. The list of modules that its requirements went to the end of is put
     /// instead of this one.
-    pub(crate) fn of_fields(
-        fields: Fields,
-        retracts: Vec<Interval>,
-        modules: &mut ModuleList,
-    ) -> ListedFile
+    pub(crate) fn of_fields(fields: Fields, modules: &mut ModuleList) -> ListedFile
         ensures file { result ≡ record {
           declared = fields.declared;
           go = unwrap_or fields.go (1, 16);
-          retracts = interval_views retracts.items;
         } }
         ensures modules { (before : NumberedList) → fields.requirements.before ≡ Some before
             → Appends before modules.new fields.requirements.items }
@@ -59,7 +50,6 @@ impl ListedFile {
         ListedFile {
             declared,
             go: go.unwrap_or((1, 16)),
-            retracts,
         }
     }
 

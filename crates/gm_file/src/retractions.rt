@@ -1,20 +1,24 @@
-//! The retractions of a dependency's file. Their faults don't count, so they are read apart from the directives whose
-//! faults do.
+//! The retractions of a dependency's file. Their faults don't count and a build doesn't need them, so they are read in
+//! a pass of their own.
 
-ghost use Rattle.std.specs.Prelude.{◌≡◌, ◌++◌, IfOk, OnOk};
+ghost use Rattle.std.specs.Prelude.{◌≡◌, ◌∷◌, ◌++◌, [], IfErr, IfOk, List, OnOk};
 ghost use Rattle.std.specs.Option.{option_map, option_to_list};
-ghost use Rattle.gm_syntax.specs.LineViews.{line_of, plain};
+ghost use Rattle.gm_syntax.specs.Document.{Line as LineOf};
+ghost use Rattle.gm_syntax.specs.LineViews.{line_of, line_views, plain, plain_lines};
 ghost use Rattle.gm_syntax.specs.Tokens.{words_of};
+ghost use Rattle.gm_syntax.specs.Words.{Word};
+ghost use Rattle.gm_file.specs.DepLines.{AreRetractedIn, IsMisread};
 ghost use Rattle.gm_file.specs.Directives.{item_at};
-ghost use Rattle.gm_file.specs.SimpleLines.{single_item};
-ghost use Rattle.gm_file.specs.Retracting.{IsEntryRead, retraction_at, retraction_in};
+ghost use Rattle.gm_file.specs.Fields.{lax_retracts_of};
+ghost use Rattle.gm_file.specs.Retracting.{AreRetractionsOf, IsEntryRead, retraction_at, retraction_in};
 ghost use Rattle.gm_file.specs.Views.{interval_view, interval_views};
 
-use crate::fault::LineFault;
-use crate::part::{interval_of_texts, is_empty_block, read_interval};
+use crate::dep_lines::pass_line;
+use crate::fault::{LineFault, ReadFault};
+use crate::part::{is_empty_block, read_interval};
 use crate::replace::Interval;
 use gm_name::KnownNames;
-use gm_syntax::{Line, Token};
+use gm_syntax::{Line, LineReader, Token};
 use std::alloc::{AllocError, Global};
 
 /// The verb and the arguments of an entry, or `None` for a line that is not an entry. `block` is the verb of the open
@@ -79,7 +83,7 @@ fn retraction_at(
 }
 
 /// Adds the interval that a line retracts, if it retracts one. `block` is the verb of the open block, if any.
-pub(crate) fn add_retraction(
+fn add_retraction(
     alloc: Global,
     names: &mut KnownNames,
     intervals: &mut Vec<Interval>,
@@ -96,39 +100,77 @@ pub(crate) fn add_retraction(
     Ok(())
 }
 
-/// The interval that a line outside blocks retracts, if it retracts one and is these two bare words.
-fn single_retraction(
-    names: &mut KnownNames,
-    verb: &str,
-    value: &str,
-) -> Result<Option<Interval>, AllocError>
-    ensures { IfOk result (λ interval. option_map interval_view interval
-        ≡ retraction_at (single_item verb.now value.now)) }
-{
-    if verb != "retract" {
-        return Ok(None);
+/// The retractions of the lines so far.
+#[derive(Drop)]
+struct Retractions<'a> {
+    /// The verb of the block that is open, if any.
+    block: Option<Token<'a>>,
+    /// The intervals of the well-formed `retract` entries, in order.
+    intervals: Vec<Interval>,
+}
+
+impl<'a> Retractions<'a> {
+    /// The retractions of no lines.
+    fn none(alloc: Global) -> Retractions<'a>
+        ensures { AreRetractionsOf [] result }
+    {
+        Retractions {
+            block: None,
+            intervals: Vec::new(alloc),
+        }
     }
-    match interval_of_texts(names, value, value) {
-        Ok(interval) => Ok(Some(interval)),
-        Err(fault) => match fault {
-            LineFault::NoMemory => Err(AllocError),
-            LineFault::Kind(_) => Ok(None),
-        },
+
+    /// Reads the next line.
+    fn read_line(
+        &mut self,
+        alloc: Global,
+        names: &mut KnownNames,
+        line: &Line<'a>,
+    ) -> Result<(), AllocError>
+        ensures { (lines : List (LineOf Word)) → AreRetractionsOf lines self.old
+            → OnOk result (AreRetractionsOf (lines ++ plain (line_of line.now) ∷ []) self.new) }
+    {
+        let block = self.block.as_ref();
+        add_retraction(alloc, names, &mut self.intervals, block, line)?;
+        pass_line(alloc, &mut self.block, line)?;
+        Ok(())
     }
 }
 
-/// Adds the interval that a line outside blocks retracts, if it retracts one and is these two bare words.
-pub(crate) fn add_single_retraction(
+/// The intervals that the lines of a document retract.
+pub(crate) fn retractions_of_lines(
+    alloc: Global,
     names: &mut KnownNames,
-    intervals: &mut Vec<Interval>,
-    verb: &str,
-    value: &str,
-) -> Result<(), AllocError>
-    ensures { OnOk result (interval_views intervals.new.items
-        ≡ interval_views intervals.old.items ++ option_to_list (retraction_at (single_item verb.now value.now))) }
+    lines: &[Line],
+) -> Result<Vec<Interval>, AllocError>
+    ensures { IfOk result (λ intervals. interval_views intervals.items
+        ≡ lax_retracts_of (plain_lines (line_views lines.now))) }
 {
-    if let Some(interval) = single_retraction(names, verb, value)? {
-        intervals.push(interval)?;
+    let mut said = Retractions::none(alloc);
+    for line in lines {
+        said.read_line(alloc, names, line)?;
     }
-    Ok(())
+    let Retractions { intervals, .. } = said;
+    Ok(intervals)
+}
+
+/// The intervals that the lines of a file's bytes retract. The lines are read in one pass, and none is kept.
+pub(crate) fn retractions_of_bytes(
+    alloc: Global,
+    names: &mut KnownNames,
+    bytes: &[u8],
+) -> Result<Vec<Interval>, ReadFault>
+    ensures ok { IfOk result (λ intervals. AreRetractedIn bytes.now (interval_views intervals.items)) }
+    ensures fault { IfErr result (IsMisread bytes.now) }
+{
+    let mut reader = LineReader::new(alloc, bytes)?;
+    let mut said = Retractions::none(alloc);
+    loop {
+        let Some(line) = reader.next()? else {
+            let Retractions { intervals, .. } = said;
+            return Ok(intervals);
+        };
+        said.read_line(alloc, names, &line)?;
+        reader.recycle(line);
+    }
 }

@@ -6,15 +6,15 @@ use Rattle.gm_syntax.specs.LineViews.{plain_lines}
 use Rattle.gm_syntax.specs.Parsed.{IsText}
 use Rattle.gm_syntax.specs.Reader.{IsOnlyText}
 use Rattle.std.specs.Str.{IsUtf8}
-use Rattle.gm_file.specs.Directives.{Lax}
+use Rattle.gm_file.specs.Directives.{Lax, VersionInterval}
 use Rattle.gm_file.specs.Faults.{Fault, fault_of}
-use Rattle.gm_file.specs.Fields.{Dependency, dependency_of}
+use Rattle.gm_file.specs.Fields.{Dependency, dependency_of, lax_retracts_of}
 use Rattle.gm_store.specs.Asked.{Name, Reply, bytes, absent, too_long}
 use Rattle.gm_store_sums.specs.Sums.{Sums}
 use Rattle.gm_graph.specs.declared.cache.class.Class.{Class}
 use Rattle.gm_graph.specs.declared.cache.class.Class.TheVariants.{NotFetchable, Missing, TooLong, NoSum, SumDiffers, Malformed, WrongPath}
 use Rattle.gm_graph.specs.declared.cache.class.Misreading.TheVariants as misreading
-use Rattle.gm_graph.specs.Reading.{IsContentReading, IsFileReading, IsReadUnless, sum_fault}
+use Rattle.gm_graph.specs.Reading.{AreRetractedBy, IsContentReading, IsFileReading, IsReadUnless, sum_fault}
 
 -- what bytes are: not text, or lines that end in a given state
 data Seen : Type 0 where
@@ -72,3 +72,10 @@ pub one_reading : (sums : Option Sums) (name : Name) (reply : Reply) (a b : Resu
 one_reading sums name absent a b is other = is ∙ sym other
 one_reading sums name too_long a b is other = is ∙ sym other
 one_reading sums name (bytes content) a b is other = one_unless (sum_fault sums name content) content a b is other
+
+pub one_retracted : (reply : Reply) (a b : List VersionInterval) → AreRetractedBy reply a → AreRetractedBy reply b → a ≡ b
+one_retracted absent a b is other = absurd is
+one_retracted too_long a b is other = absurd is
+one_retracted (bytes content) a b is other =
+    let same : plain_lines is.0 ≡ plain_lines other.0 = sym (is.1.1.only (plain_lines other.0) Whole other.1.1.reads).0 in
+    sym is.2 ∙ ap lax_retracts_of same ∙ other.2

@@ -9,9 +9,9 @@ use Rattle.gm_syntax.specs.Document.{Line}
 use Rattle.gm_syntax.specs.LineViews.{plain_lines}
 use Rattle.gm_syntax.specs.Parsed.{IsParsedAs}
 use Rattle.gm_syntax.specs.declared.fault.SyntaxFault.TheVariants as syntax
-use Rattle.gm_file.specs.Directives.{Lax, Right, Folder, Module}
+use Rattle.gm_file.specs.Directives.{Lax, Right, Folder, Module, VersionInterval}
 use Rattle.gm_file.specs.Faults.{fault_of}
-use Rattle.gm_file.specs.DepLines.{IsDependencyIn}
+use Rattle.gm_file.specs.DepLines.{AreRetractedIn, IsDependencyIn}
 use Rattle.gm_file.specs.Fields.{Dependency}
 use Rattle.gm_store.specs.Asked.{Name, Reply, mod_file, folder_file, list_file, bytes, absent, too_long, answer_in}
 use Rattle.gm_store_sums.specs.Sums.{Sums, check_in}
@@ -82,6 +82,11 @@ abbrev pub IsFileReading : Option Sums → Name → Reply → Result Dependency 
 IsFileReading sums name absent reading = reading ≡ Err Missing
 IsFileReading sums name too_long reading = reading ≡ Err TooLong
 IsFileReading sums name (bytes content) reading = IsReadUnless (sum_fault sums name content) content reading
+
+-- The reply to a name is a file that retracts these intervals.
+abbrev pub AreRetractedBy : Reply → List VersionInterval → Type 0
+AreRetractedBy (bytes content) intervals = AreRetractedIn content intervals
+AreRetractedBy _ intervals = ⊥
 
 -- ---- what the files say that were asked for
 

@@ -13,12 +13,19 @@ use Rattle.gm_graph.specs.declared.cache.summary.Kept.{Kept}
 use Rattle.gm_graph.specs.declared.cache.summary.Kept.TheVariants.{Valid, Faulty}
 use Rattle.gm_graph.specs.declared.cache.summary.ListSpan.{ListSpan}
 use Rattle.gm_graph.specs.declared.cache.summary.Summary.{Summary}
+use Rattle.gm_store.specs.Asked.{Reply}
 use Rattle.gm_graph.specs.Main.{Main, without_excluded}
+use Rattle.gm_graph.specs.Reading.{AreRetractedBy}
 
 -- what an answer says, as a reading
 abbrev pub reading_of : FileReading → Result Dependency Class
-reading_of (read.Valid file) = Ok file
+reading_of (read.Valid file) = Ok file.dependency
 reading_of (read.Faulty class) = Err class
+
+-- a valid file has the retractions of the reply that it is read from
+abbrev pub RetractsBy : Reply → FileReading → Type 0
+RetractsBy reply (read.Valid file) = AreRetractedBy reply file.retracts
+RetractsBy reply (read.Faulty class) = ⊤
 
 -- what an answer says, as a reading, with the requirements that it put into the list of modules
 abbrev pub listed_reading : List ModuleVersion → ListedReading → Result Dependency Class

@@ -1,17 +1,15 @@
 -- What the law of `versions` concludes is false of outputs that contradict it.
-use Rattle.std.proofs.Common.{◌≡◌, ◌∙◌, ◌∷◌, ℕ, true, false, List, [], Some, None, Result, Ok, Contains, ap, codes, inl, inr, not, refl, subst, sym}
+use Rattle.std.proofs.Common.{◌≡◌, ◌∙◌, ◌∷◌, ℕ, true, false, List, [], Some, None, Contains, ap, codes, inl, inr, not, refl, subst, sym}
 use Rattle.std.specs.Ordering.{is_gt}
 use Rattle.std.specs.declared.cmp.Ordering.{Ordering}
 use Rattle.std.proofs.lemmas.Bool.{false≢true}
 use Rattle.gm_name.specs.Version.{IsVersion}
 use Rattle.gm_file.specs.Directives.{VersionInterval, pair}
-use Rattle.gm_file.specs.Fields.{Dependency}
 use Rattle.gm_file.specs.Shown.{is_at_most, is_retracted, shown_of}
-use Rattle.gm_store.specs.Asked.{Name, Reply, bytes, mod_file}
+use Rattle.gm_store.specs.Asked.{Name, Reply, bytes}
 use Rattle.gm_store.specs.Listed.{IsListed}
-use Rattle.gm_graph.specs.declared.cache.class.Class.{Class}
-use Rattle.gm_graph.specs.Reading.{IsFileReading}
-use Rattle.gm_graph.proofs.OneReading.{one_reading}
+use Rattle.gm_graph.specs.Reading.{AreRetractedBy}
+use Rattle.gm_graph.proofs.OneReading.{one_retracted}
 use Rattle.gm_graph_select.proofs.Ascending.{member_cases, member_head, no_member}
 use Rattle.gomod_run.specs.Outcome.{Outcome, printed}
 use Rattle.gomod_run.specs.Versions.{versions_line}
@@ -75,16 +73,11 @@ module _ (asked : List (Name × Reply)) (one other : Outcome) (law : LeavesOutRe
 same_answer : (a b : Reply) → Some a ≡ Some b → a ≡ b
 same_answer a b e = cc e
 
-same_file : (a b : Dependency) → ◌≡◌ {A = Result Dependency Class} (Ok a) (Ok b) → a ≡ b
-same_file a b e = cc e
-
 -- the latest version's file retracts one thing
 retracts_once : (asked : List (Name × Reply)) (path version : List ℕ) (xs ys : List VersionInterval) → Retracts asked path version xs → Retracts asked path version ys → xs ≡ ys
 retracts_once asked path version xs ys (reply, file, answered, finds, are) (other, also, known, says, is) =
     let same : reply ≡ other = same_answer reply other (sym answered ∙ known) in
-    let read : IsFileReading None (mod_file path version) other (Ok file) = subst (λ (r : Reply). IsFileReading None (mod_file path version) r (Ok file)) same finds in
-    let one : file ≡ also = same_file file also (one_reading None (mod_file path version) other (Ok file) (Ok also) read says) in
-    sym are ∙ ap (λ (f : Dependency). f.retracts) one ∙ is
+    one_retracted other xs ys (subst (λ (r : Reply). AreRetractedBy r xs) same are) is
 
 is_none : {A : Type 0} (x : A) (xs : List A) → x ∷ xs ≡ [] → ⊥
 is_none x xs e = cc e

@@ -25,7 +25,7 @@ use Rattle.gomod_run.proofs.OneQueryStore.{Agrees, alike_back, opened, stores_ag
 use Rattle.gomod_words.specs.declared.usage.Command.{Command}
 use Rattle.gomod_words.specs.declared.usage.Command.TheVariants.{Fmt, Edit, Versions, Graph, List as Rows, Chain}
 use Rattle.gomod_run.specs.Runs.{Needs, is_query}
-use Rattle.gomod_run.specs.Versions.{IsListedOutcome, IsShownOutcome, IsVersionsOutcome, VersionsNeed, shown_by}
+use Rattle.gomod_run.specs.Versions.{IsListedOutcome, IsShownOutcome, IsShownBy, IsVersionsOutcome, VersionsNeed}
 use Rattle.gomod_run.proofs.AllAsked.{done_answers}
 use Rattle.gomod_run.proofs.Answering.{answered_in}
 use Rattle.gomod_run.proofs.OneStore.{one_for_stores}
@@ -88,9 +88,9 @@ versions_grow path all one other keeps name (may, inr (list, versions, latest, s
 
 module _ (path : List ℕ) (all : Bool) (told : AnswersByName) (outcome : Outcome) (prints : HasPrinted outcome) where
   shown_from_file : (versions : List (List ℕ)) (latest : List ℕ) (reply : Reply) → IsShownOutcome path versions latest reply outcome → IsFile reply
-  shown_from_file versions latest reply shows = by shows.reading shows.says shows.outcome_is
+  shown_from_file versions latest reply shows = by shows.reading shows.says shows.shows
     where
-      by : (reading : Result Dependency Class) → IsFileReading None (mod_file path latest) reply reading → outcome ≡ shown_by path versions latest reading → IsFile reply
+      by : (reading : Result Dependency Class) → IsFileReading None (mod_file path latest) reply reading → IsShownBy path versions latest reply reading outcome → IsFile reply
       by (Ok file) says is = read_is_file None (mod_file path latest) reply file says
       by (Err class) says is = absurd (refusal_prints_nothing outcome _ is prints)
 

@@ -13,7 +13,7 @@ use Rattle.gomod_run.specs.Outcome.{Outcome, printed, refused}
 use Rattle.gomod_run.specs.Needs.{AnswersByName}
 use Rattle.gomod_words.specs.declared.usage.Command.TheVariants.{Versions}
 use Rattle.gomod_run.specs.Runs.{IsRunOutcome, Needs, StatesOutcome}
-use Rattle.gomod_run.specs.Versions.{IsListedOutcome, IsOutcomeByList, IsVersionsOutcome, shown_by, versions_line}
+use Rattle.gomod_run.specs.Versions.{IsListedOutcome, IsOutcomeByList, IsShownBy, IsVersionsOutcome, versions_line}
 use Rattle.gomod_run.proofs.Uniqueness.{listed_once}
 use Rattle.gomod_laws.specs.Runs.{HasOutcome, HasPrinted}
 use Rattle.gomod_laws.specs.VersionLaws.{AreUnretracted, RetractedAreLeftOut}
@@ -67,12 +67,12 @@ shown_printed : (path : List ℕ) (asked : Pairs) (versions : List (List ℕ)) (
     → (shown : List (List ℕ)) × AreUnretracted asked path versions shown × (outcome ≡ printed (versions_line path shown))
 shown_printed path asked versions outcome prints (inl (inl every, says)) = absurd (false≢true every)
 shown_printed path asked versions outcome prints (inl (inr none, says)) = (versions, inl (none, none), says)
-shown_printed path asked versions outcome prints (inr (latest, reply, some, is, answered, shows)) = by shows.reading shows.says shows.outcome_is
+shown_printed path asked versions outcome prints (inr (latest, reply, some, is, answered, shows)) = by shows.reading shows.says shows.shows
   where
-    by : (reading : Result Dependency Class) → IsFileReading None (mod_file path latest) reply reading → outcome ≡ shown_by path versions latest reading
+    by : (reading : Result Dependency Class) → IsFileReading None (mod_file path latest) reply reading → IsShownBy path versions latest reply reading outcome
         → (shown : List (List ℕ)) × AreUnretracted asked path versions shown × (outcome ≡ printed (versions_line path shown))
-    by (Ok file) says outcome_is =
-        (shown_of file.retracts versions, inr (latest, file.retracts, is, (reply, file, answered, says, refl), refl), outcome_is)
+    by (Ok file) says (intervals, are, outcome_is) =
+        (shown_of intervals versions, inr (latest, intervals, is, (reply, file, answered, says, are), refl), outcome_is)
     by (Err class) says outcome_is = absurd (refusal_prints_nothing outcome _ outcome_is prints)
 
 -- with `--retracted`, each listed version is printed

@@ -54,9 +54,9 @@ world = record {
 abbrev pub unpruned_world : Main
 unpruned_world = record world { go = (1, 16) }
 
--- a file with these contents that retracts nothing
+-- a file with these contents
 abbrev pub saying : Option (List ℕ) → ℕ × ℕ → List ModuleVersion → Dependency
-saying declared go requirements = record { declared = declared; go = go; requirements = requirements; retracts = [] }
+saying declared go requirements = record { declared = declared; go = go; requirements = requirements }
 
 -- top.org is unpruned, and requires a later mid.org and an excluded low.org
 abbrev pub top_file : Dependency

@@ -8,7 +8,7 @@ use Rattle.gm_file.specs.Shown.{shown_of}
 use Rattle.gm_store.specs.Asked.{Name, Reply, answer_in, bytes, list_file, mod_file}
 use Rattle.gm_store.specs.Latest.{IsLatest}
 use Rattle.gm_store.specs.Listed.{AreListed}
-use Rattle.gm_graph.specs.Reading.{IsFileReading}
+use Rattle.gm_graph.specs.Reading.{AreRetractedBy, IsFileReading}
 use Rattle.gomod_run.specs.ListingLaws.{AnswerAlike}
 use Rattle.gomod_run.specs.Outcome.{Outcome, printed}
 use Rattle.gomod_words.specs.declared.usage.Command.TheVariants.{Versions}
@@ -35,7 +35,7 @@ Retracts asked path version intervals =
     (reply : Reply) × (file : Dependency)
     × (answer_in asked (mod_file path version) ≡ Some reply)
     × IsFileReading None (mod_file path version) reply (Ok file)
-    × (file.retracts ≡ intervals)
+    × AreRetractedBy reply intervals
 
 -- Of these versions, the shown ones are those that no retraction of the latest one's file contains, in the same
 -- order. The latest is the greatest release, or the greatest version if there is no release.

@@ -1,5 +1,5 @@
 -- A command has one outcome.
-use Rattle.std.proofs.Common.{◌≡◌, ◌⊎◌, ◌∙◌, ℕ, Bool, true, false, List, [], ◌∷◌, Option, Some, None, Ok, Err, ap, arith, inl, inr, refl, subst, sym}
+use Rattle.std.proofs.Common.{◌≡◌, ◌⊎◌, ◌∙◌, ℕ, Bool, true, false, List, [], ◌∷◌, Option, Some, None, Result, Ok, Err, ap, arith, inl, inr, refl, subst, sym}
 use Rattle.std.specs.List.{filter_map}
 use Rattle.gm_syntax.specs.declared.fault.SyntaxFault.{SyntaxFault}
 use Rattle.gm_syntax.specs.declared.fault.SyntaxFault.TheVariants as faults
@@ -9,6 +9,10 @@ use Rattle.gm_syntax.specs.LineViews.{plain_lines}
 use Rattle.gm_syntax.specs.Parsed.{IsParsedAs}
 use Rattle.gm_syntax.specs.Tokens.{Placed}
 use Rattle.gm_syntax.specs.Words.{Word}
+use Rattle.gm_file.specs.Directives.{VersionInterval}
+use Rattle.gm_file.specs.Fields.{Dependency}
+use Rattle.gm_file.specs.Shown.{shown_of}
+use Rattle.gm_graph.specs.declared.cache.class.Class.{Class}
 use Rattle.gm_file_edit.specs.Edited.{edited}
 use Rattle.gm_file_edit.specs.Edits.{Edit as Change, edit_in}
 use Rattle.gm_file_edit.proofs.Places.{edited-same}
@@ -17,14 +21,14 @@ use Rattle.gm_store.specs.Latest.{IsLatest}
 use Rattle.gomod_words.specs.Usage.{texts_in}
 use Rattle.gomod_words.specs.declared.usage.Command.{Command}
 use Rattle.gomod_words.specs.declared.usage.Command.TheVariants.{Fmt, Edit, Versions, Graph, List as Rows, Chain}
-use Rattle.gm_graph.proofs.OneReading.{one_reading}
+use Rattle.gm_graph.proofs.OneReading.{one_reading, one_retracted}
 use Rattle.gomod_run.specs.Outcome.{Outcome, printed, refused}
 use Rattle.gomod_run.specs.Reports.{FaultPlace, main_line, syntax_place}
 use Rattle.gomod_run.specs.Needs.{AnswersByName}
 use Rattle.gomod_run.proofs.OneRead.{misread_or_lines, one_place, same_lines}
 use Rattle.gomod_run.specs.Editing.{IsEditOutcome, edited_in_turn, edits_outcome, refusals_from}
 use Rattle.gomod_run.specs.Runs.{IsFmtOutcome, StatesOutcome}
-use Rattle.gomod_run.specs.Versions.{IsOutcomeByList, IsListedOutcome, IsShownOutcome, IsVersionsOutcome, shown_by}
+use Rattle.gomod_run.specs.Versions.{IsOutcomeByList, IsListedOutcome, IsShownOutcome, IsVersionsOutcome, IsShownBy, versions_line}
 use Rattle.gomod_run.proofs.Uniqueness.{latest_once, listed_once, none_latest}
 
 -- ---- fmt
@@ -89,7 +93,13 @@ same_answer answer one other a b = cc
 shown_once : (path : List ℕ) (versions : List (List ℕ)) (latest : List ℕ) (reply : Reply) (one other : Outcome)
     → IsShownOutcome path versions latest reply one → IsShownOutcome path versions latest reply other → one ≡ other
 shown_once path versions latest reply one other a b =
-    a.outcome_is ∙ ap (shown_by path versions latest) (one_reading None (mod_file path latest) reply a.reading b.reading a.says b.says) ∙ sym b.outcome_is
+    let same : a.reading ≡ b.reading = one_reading None (mod_file path latest) reply a.reading b.reading a.says b.says in
+    by b.reading (subst (λ (r : Result Dependency Class). IsShownBy path versions latest reply r one) same a.shows) b.shows
+  where
+    by : (reading : Result Dependency Class) → IsShownBy path versions latest reply reading one → IsShownBy path versions latest reply reading other → one ≡ other
+    by (Ok file) x y =
+        x.2 ∙ ap (λ (intervals : List VersionInterval). printed (versions_line path (shown_of intervals versions))) (one_retracted reply x.0 y.0 x.1 y.1) ∙ sym y.2
+    by (Err class) x y = x ∙ sym y
 
 not_all : (all : Bool) (versions : List (List ℕ)) (latest : List ℕ) → (all ≡ true) ⊎ (versions ≡ []) → all ≡ false → IsLatest versions latest → ⊥
 not_all all versions latest (inl every) some is = let e = sym every ∙ some in cc

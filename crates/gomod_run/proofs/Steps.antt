@@ -14,7 +14,7 @@ use Rattle.gm_file.specs.Fields.{Dependency}
 use Rattle.gm_graph.specs.declared.cache.class.Class.{Class}
 use Rattle.gm_graph.specs.declared.cache.reading.FileReading.{FileReading}
 use Rattle.gm_graph.specs.Reading.{IsContentReading, IsFileReading}
-use Rattle.gm_graph.specs.Summaries.{reading_of}
+use Rattle.gm_graph.specs.Summaries.{RetractsBy, reading_of}
 use Rattle.gomod_run.specs.Outcome.{OrNoMemory, Outcome, failed, out_of_memory, outcome_view, printed, refused, report_outcome}
 use Rattle.gomod_run.specs.declared.reports.report.Report.{Report}
 use Rattle.gomod_run.specs.declared.reports.report.Report.TheVariants as report
@@ -25,7 +25,7 @@ use Rattle.gm_store.specs.States.{StoreState}
 use Rattle.gomod_run.specs.Needs.{AnsweredAll, AnswersByName, AskedInTurn, FailsInTurn}
 use Rattle.gomod_run.proofs.InTurn.{IsWanted, none_in_turn}
 use Rattle.gomod_run.specs.Runs.{IsRunOutcome}
-use Rattle.gomod_run.specs.Versions.{IsEndByList, IsRefusedList, IsShownOutcome, IsUnfetchable, IsVersionsOutcome, NeedsFile, VersionsNeed, shown_by, versions_line}
+use Rattle.gomod_run.specs.Versions.{IsEndByList, IsRefusedList, IsShownBy, IsShownOutcome, IsUnfetchable, IsVersionsOutcome, NeedsFile, VersionsNeed, versions_line}
 use Rattle.gomod_run.proofs.Answering.{file_answer, list_answer}
 use Rattle.gomod_run.proofs.Uniqueness.{latest_once, listed_once, none_latest}
 
@@ -416,12 +416,17 @@ pub answer_says : {E : Type 0} (name : Name) (reply : Reply) (content : List ℕ
 answer_says name reply content (Err e) is says = tt
 answer_says name reply content (Ok read) is says = subst (λ (r : Reply). IsWithinLimit r → IsFileReading None name r (reading_of read)) (sym is) says
 
+-- the retractions of an answer, by those of its bytes
+pub answer_retracts : {E : Type 0} (reply : Reply) (content : List ℕ) (result : Result FileReading E) → reply ≡ bytes content → IfOk result (RetractsBy (bytes content))
+    → IfOk result (RetractsBy reply)
+answer_retracts reply content result is retracts = subst (λ (r : Reply). IfOk result (RetractsBy r)) (sym is) retracts
+
 -- the outcome by what the latest version's go.mod says, or what is wrong with it
 pub shown_read : (path : List ℕ) (versions : List (List ℕ)) (latest : List ℕ) (reply : Reply) (read reading : Result Dependency Class) (outcome : Outcome)
-    → IsFileReading None (mod_file path latest) reply read → read ≡ reading → outcome ≡ shown_by path versions latest reading
+    → IsFileReading None (mod_file path latest) reply read → read ≡ reading → IsShownBy path versions latest reply reading outcome
     → IsShownOutcome path versions latest reply outcome
 shown_read path versions latest reply read reading outcome says is shows =
-    record { reading = reading; says = subst (IsFileReading None (mod_file path latest) reply) is says; outcome_is = shows }
+    record { reading = reading; says = subst (IsFileReading None (mod_file path latest) reply) is says; shows = shows }
 
 -- ---- the go.mod of the latest version
 

@@ -6,10 +6,11 @@ use Rattle.gm_name.specs.Path.{is_fetchable}
 use Rattle.gm_store.specs.Asked.{Name, Reply, absent, bytes, list_file, mod_file, too_long}
 use Rattle.gm_store.specs.Latest.{IsLatest}
 use Rattle.gm_store.specs.Listed.{AreListed}
+use Rattle.gm_file.specs.Directives.{VersionInterval}
 use Rattle.gm_file.specs.Fields.{Dependency}
 use Rattle.gm_file.specs.Shown.{shown_of}
 use Rattle.gm_graph.specs.declared.cache.class.Class.{Class}
-use Rattle.gm_graph.specs.Reading.{IsFileReading}
+use Rattle.gm_graph.specs.Reading.{AreRetractedBy, IsFileReading}
 use Rattle.gomod_run.specs.Outcome.{Outcome, printed, refused}
 use Rattle.gomod_run.specs.Reports.{fault_line, list_line}
 use Rattle.gomod_run.specs.Needs.{AnswersByName}
@@ -18,19 +19,20 @@ use Rattle.gomod_run.specs.Needs.{AnswersByName}
 abbrev pub versions_line : List ℕ → List (List ℕ) → List ℕ
 versions_line path versions = join_with_byte 32 (path ∷ versions) ++ codes "\n"
 
--- the listed versions, given what the go.mod of the latest one says or what is wrong with it: the versions that its
--- retractions do not contain, or the report of its fault
-abbrev pub shown_by : List ℕ → List (List ℕ) → List ℕ → Result Dependency Class → Outcome
-shown_by path versions latest (Ok dependency) =
-    printed (versions_line path (shown_of dependency.retracts versions))
-shown_by path versions latest (Err class) = refused (fault_line (path, latest) class)
+-- the listed versions, given the answer for the go.mod of the latest one and what it says or what is wrong with it: the
+-- versions that its retractions do not contain, or the report of its fault
+abbrev pub IsShownBy : List ℕ → List (List ℕ) → List ℕ → Reply → Result Dependency Class → Outcome → Type 0
+IsShownBy path versions latest reply (Ok dependency) outcome = (intervals : List VersionInterval)
+    × AreRetractedBy reply intervals
+    × (outcome ≡ printed (versions_line path (shown_of intervals versions)))
+IsShownBy path versions latest reply (Err class) outcome = outcome ≡ refused (fault_line (path, latest) class)
 
 -- the listed versions, given the answer for the go.mod of the latest one. No hash is checked.
 pub record IsShownOutcome (path : List ℕ) (versions : List (List ℕ)) (latest : List ℕ) (reply : Reply)
     (outcome : Outcome) : Type 0 where
   pub reading : Result Dependency Class
   pub says : IsFileReading None (mod_file path latest) reply reading
-  pub outcome_is : outcome ≡ shown_by path versions latest reading
+  pub shows : IsShownBy path versions latest reply reading outcome
 
 -- the listed versions: all of them if all are asked for or there are none, otherwise according to the latest one's
 -- go.mod

@@ -10,7 +10,7 @@ ghost use Rattle.gm_file.specs.Shown.{shown_of};
 ghost use Rattle.gm_store.specs.Asked.{IsWithinLimit, Name, answer_in, bytes, mod_file, reply_of};
 ghost use Rattle.gm_store.specs.States.{HasServed};
 ghost use Rattle.gm_graph.specs.Reading.{IsFileReading};
-ghost use Rattle.gm_graph.specs.Summaries.{reading_of};
+ghost use Rattle.gm_graph.specs.Summaries.{RetractsBy, reading_of};
 ghost use Rattle.gomod_run.specs.Outcome.{OrNoMemory, Outcome, failed, out_of_memory, outcome_view, report_outcome};
 ghost use Rattle.gomod_run.specs.Reports.{device_line};
 ghost use Rattle.gm_store.specs.Latest.{IsLatest};
@@ -112,8 +112,9 @@ fn list_copy<'p>(alloc: Global, path: &'p ModPath, answer: &Answer) -> Result<Ve
 
 /// What the answer for a go.mod says, or what is wrong with it. No hash is checked.
 fn read_answer(alloc: Global, answer: &Answer) -> Result<FileReading, NoMemory>
-    ensures { (name : Name) → IfOk result (λ read. IsWithinLimit (reply_of answer.now)
+    ensures reading { (name : Name) → IfOk result (λ read. IsWithinLimit (reply_of answer.now)
         → IsFileReading None name (reply_of answer.now) (reading_of read)) }
+    ensures retracts { IfOk result (RetractsBy (reply_of answer.now)) }
 {
     match answer {
         Answer::Bytes(file) => {

@@ -4,9 +4,9 @@ ghost use Rattle.std.specs.Prelude.{◌≡◌, ◌≤◌, ◌<◌, ℕ, List, dr
 ghost use Rattle.gm_name_table.specs.Listed.{listed};
 ghost use Rattle.gm_file.specs.DepLines.{IsMisread};
 ghost use Rattle.std.specs.Option.{option_copied};
-ghost use Rattle.gm_store.specs.Asked.{IsWithinLimit, name_of, reply_of};
+ghost use Rattle.gm_store.specs.Asked.{IsWithinLimit, bytes, name_of, reply_of};
 ghost use Rattle.gm_graph.specs.Reading.{IsContentReading, IsFileReading, class_of_sum, sum_fault};
-ghost use Rattle.gm_graph.specs.Summaries.{Grows, listed_reading, reading_of};
+ghost use Rattle.gm_graph.specs.Summaries.{Grows, RetractsBy, listed_reading, reading_of};
 
 use crate::cache::class::{Class, Misreading};
 use gm_file::{DepFile, ListedFile, ReadFault};
@@ -44,6 +44,7 @@ impl FileReading {
     ) -> Result<FileReading, NoMemory>
         ensures reading { IfOk result (λ read. length content.now ≤ 16777216
             → IsContentReading content.now (reading_of read)) }
+        ensures retracts { IfOk result (RetractsBy (bytes content.now)) }
         ensures too_many { IfOk result (λ read. 16777216 < length content.now
             → reading_of read ≡ Err (Class.Malformed 0 Misreading.TooMany)) }
     {

@@ -16,12 +16,15 @@ returns-in_err-line-in-Valid c = λ within. inr (no_memory c.from_residual-in_er
 
 pub returns-in_ok-line-in-Valid : goal.returns-in_ok-line-in-Valid
 returns-in_ok-line-in-Valid c = λ within. inl
-    (shown_read c.args.path.now c.args.versions.now c.args.latest (reply_of c.args.answer.now) (reading_of c.in_ok-dependency.field-0) (Ok c.in-Valid.dependency) _
-    (c.in_ok-dependency.ensures (mod_file c.args.path.now c.args.latest) within) (ap reading_of c.in-Valid.is)
-    (ap printed c.in_ok-line-in-Valid.ensures
-    ∙ ap (λ (rs : List VersionInterval). printed (versions_line c.args.path.now (shown_of rs c.args.versions.now))) c.retracts.ensures))
+    (shown_read c.args.path.now c.args.versions.now c.args.latest (reply_of c.args.answer.now) (reading_of c.in_ok-dependency.field-0) (Ok c.in-Valid.dependency.dependency) _
+    (c.in_ok-dependency.ensures.reading (mod_file c.args.path.now c.args.latest) within) (ap reading_of c.in-Valid.is) (
+      c.in-Valid.dependency.retracts,
+      rw c.in-Valid.is at c.in_ok-dependency.ensures.retracts,
+      ap printed c.in_ok-line-in-Valid.ensures
+          ∙ ap (λ (rs : List VersionInterval). printed (versions_line c.args.path.now (shown_of rs c.args.versions.now))) c.retracts.ensures,
+    ))
 
 pub returns-in-Faulty : goal.returns-in-Faulty
 returns-in-Faulty c = λ within. inl
     (shown_read c.args.path.now c.args.versions.now c.args.latest (reply_of c.args.answer.now) (reading_of c.in_ok-dependency.field-0) (Err c.in-Faulty.class) _
-    (c.in_ok-dependency.ensures (mod_file c.args.path.now c.args.latest) within) (ap reading_of c.in-Faulty.is) refl)
+    (c.in_ok-dependency.ensures.reading (mod_file c.args.path.now c.args.latest) within) (ap reading_of c.in-Faulty.is) refl)

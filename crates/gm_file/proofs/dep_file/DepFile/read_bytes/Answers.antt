@@ -8,4 +8,4 @@ returns-clause-ok c =
     let said = c.read_all.new.said in
     let all : AreAllRead c.args.bytes.now said =
     subst (λ (s : List ℕ). AreAllRead s said) c.in_ok-reader.ensures.source c.in_ok-read_all.ensures.ok in
-    dep-whole c.args.bytes.now said c.of_fields.result all c.of_fields.ensures
+    dep-whole c.args.bytes.now said c.of_fields.result.dependency all c.of_fields.ensures.dependency

@@ -16,5 +16,5 @@ pub returns-clause-read : goal.returns-clause-read
 returns-clause-read c = λ lines so.
     let block = option_map (λ t. t.now.word) c.as_ref-block.result in
     let same : block ≡ word_of c.args.self.now.block = word-behind c.as_ref-block.result ∙ ap word_of c.as_ref-block.ensures.value in
-    dep-more lines (plain (line_of c.args.line.now)) block c.args.self.now (record { block = c.pass_line.new.block; fields = c.read_line.new.self; retracts = c.add_retraction.new.intervals }) so same
-    c.in_ok-read_line.ensures.found c.in_ok-read_line.ensures.added c.in_ok-add_retraction.ensures c.in_ok-pass_line.ensures
+    dep-more lines (plain (line_of c.args.line.now)) block c.args.self.now (record { block = c.pass_line.new.block; fields = c.read_line.new.self }) so same
+    c.in_ok-read_line.ensures.found c.in_ok-read_line.ensures.added c.in_ok-pass_line.ensures

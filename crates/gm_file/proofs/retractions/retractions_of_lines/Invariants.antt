@@ -1,0 +1,7 @@
+use Rattle.std.proofs.Common.{take}
+use Rattle.gm_syntax.specs.LineViews.{line_views, plain_lines}
+use Rattle.gm_file.specs.Retracting.{AreRetractionsOf}
+use Rattle.gm_file.proofs.retractions.retractions_of_lines.Given as goal
+
+abbrev pub invariant-loop-line : goal.invariant-loop-line
+invariant-loop-line l = AreRetractionsOf (take l.line-index (plain_lines (line_views l.lines))) l.said
