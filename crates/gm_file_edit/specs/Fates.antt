@@ -7,7 +7,8 @@ use Rattle.gm_syntax.specs.Document.{Line, Blank, Open, Close}
 use Rattle.gm_file.specs.Directives.{Directive, block_after_line}
 use Rattle.gm_file_edit.specs.Holding.{directive_at, passes}
 
--- the fate of a line: the line that stays in its place, as is or rewritten, or `None` for a line with a mark, which goes
+-- the fate of a line: the line that stays in its place, as is or rewritten, or `None` for a line with a mark, which
+-- goes
 abbrev pub Fate : Type 0
 Fate = Option (Line Placed)
 
@@ -56,7 +57,8 @@ widened_from inside goes [] = []
 widened_from inside goes (None ∷ fates) = None ∷ widened_from inside goes fates
 widened_from inside goes (Some Blank ∷ fates) = fate_by goes Blank ∷ widened_from inside (inside && goes) fates
 widened_from inside goes (Some (Open verb suffix) ∷ fates) =
-    fate_by (is_emptied inside suffix fates) (Open verb suffix) ∷ widened_from true (is_emptied inside suffix fates) fates
+    fate_by (is_emptied inside suffix fates) (Open verb suffix)
+    ∷ widened_from true (is_emptied inside suffix fates) fates
 widened_from inside goes (Some (Close suffix) ∷ fates) =
     fate_by (inside && goes) (Close suffix) ∷ widened_from false (inside && goes) fates
 widened_from inside goes (Some line ∷ fates) = Some line ∷ widened_from inside false fates

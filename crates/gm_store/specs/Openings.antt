@@ -11,8 +11,8 @@ use Rattle.gm_store.specs.Found.{result_for_bytes}
 use Rattle.gm_store.specs.Pieces.{IsReadingFault}
 use Rattle.gm_store.specs.Steps.{Seen, absent, failed}
 
--- a file was opened, whose bytes are these if its reader reports them, and of which a read may fail if the flag says so;
--- or none was, for an error of this kind
+-- a file was opened, whose bytes are these if its reader reports them, and of which a read may fail if the flag says
+-- so; or none was, for an error of this kind
 pub data Opening : Type 0 where
   opened : Option (List ℕ) → Bool → Opening
   refused : ErrorKind → Opening
@@ -48,9 +48,9 @@ MayShow (refused kind) seen = IsRefusedLookup kind seen
 abbrev pub MayLookUp : (Opening → Type 0) → Seen → Type 0
 MayLookUp may_open seen = (opening : Opening) × may_open opening × MayShow opening seen
 
--- The results that reading a file up to one byte more than 16 MiB may have. A file that was opened can't be read only if
--- a read of it may fail, or memory ran out. One that was not opened is not read, and that memory ran out is told apart
--- from other errors.
+-- The results that reading a file up to one byte more than 16 MiB may have. A file that was opened can't be read only
+-- if a read of it may fail, or memory ran out. One that was not opened is not read, and that memory ran out is told
+-- apart from other errors.
 abbrev pub IsReadFrom : Opening → Result (Vec ℕ) InputFault → Type 0
 IsReadFrom (opened known may_fail) (Ok bytes) = IfSome known (λ all. bytes.items ≡ take 16777217 all)
 IsReadFrom (opened known may_fail) (Err fault) = IsReadingFault may_fail fault
