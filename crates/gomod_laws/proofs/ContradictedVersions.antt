@@ -1,5 +1,5 @@
 -- What the law of `versions` concludes is false of outputs that contradict it.
-use Rattle.std.proofs.Common.{◌≡◌, ◌∙◌, ◌∷◌, ℕ, true, false, List, [], Some, None, Contains, ap, codes, inl, inr, not, refl, subst, sym}
+use Rattle.std.proofs.Common.{◌≡◌, ◌∙◌, ◌∷◌, ℕ, true, false, List, [], Some, Contains, ap, codes, inl, inr, not, refl, subst, sym}
 use Rattle.std.specs.Ordering.{is_gt}
 use Rattle.std.specs.declared.cmp.Ordering.{Ordering}
 use Rattle.std.proofs.lemmas.Bool.{false≢true}
