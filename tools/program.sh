@@ -11,8 +11,8 @@
 #
 # Of a case with a range of sizes it runs the greatest, of one with a list each. Each command then has an address space
 # of 64 MiB and a hundred times the bytes of its words and of the files of the case, which is the bound of COMMANDS.md:
-# a command that reserves more runs out of memory. All commands run with the stack that README.md names, and room for
-# their arguments.
+# a command that reserves more runs out of memory. A case with a line `% memory N` gives N MiB instead. All commands run
+# with the stack that README.md names, and room for their arguments.
 #
 # The standard input of each command but `versions` without --proxy stays open, so one that reads it doesn't end. If a
 # command hasn't ended after 100 seconds, the script ends.
@@ -157,13 +157,15 @@ class Run:
     def reads_input(self):
         return self.words[1:2] == [b"versions"] and not any(it.startswith(b"--proxy") for it in self.words)
 
-    def comes_to(self, program, folder, stdin, refused=0, file_bytes=None, cut=None):
+    def comes_to(self, program, folder, stdin, refused=0, file_bytes=None, memory=None, cut=None):
         environment = {**os.environ, "LD_PRELOAD": REFUSE_MEMORY, "REFUSE_AT": str(refused)} if refused else os.environ
         words = [NAME, *self.words[1:]]
         stack = stack_with(words, environment)
         most = resource.RLIM_INFINITY
         if file_bytes is not None:
             most = SPARE + FACTOR * (file_bytes + sum(map(len, words)))
+        if memory is not None:
+            most = memory
 
         def limit():
             resource.setrlimit(resource.RLIMIT_AS, (most, most))
@@ -253,7 +255,7 @@ class Piece:
 
 class Case:
     def __init__(self, line, title):
-        self.line, self.title, self.runs, self.pieces, self.is_sized = line, title, [], [], False
+        self.line, self.title, self.runs, self.pieces, self.is_sized, self.memory = line, title, [], [], False, None
 
     def is_left_out(self):
         return any(it.name.startswith(b"/") or (it.kind == b"mode" and not os.geteuid()) for it in self.pieces)
@@ -273,6 +275,8 @@ class Case:
             self.pieces.append(Piece(line[3:-3]))
         elif self.pieces:
             self.pieces[-1].lines.append(line)
+        elif line.startswith(b"% memory "):
+            self.memory = int(line[9:]) << 20
         elif line.startswith(b"$ "):
             self.runs.append(Run(number, line[2:]))
         elif self.runs:
@@ -339,7 +343,8 @@ def passes(program, path, case):
         for run in case.runs:
             if run.words[0] != b"gomod":
                 continue
-            over, wanted, got = "", run.wanted(), run.comes_to(program, folder, stdin, file_bytes=file_bytes)
+            got = run.comes_to(program, folder, stdin, file_bytes=file_bytes, memory=case.memory)
+            over, wanted = "", run.wanted()
             if got == wanted and REFUSE_MEMORY and not case.is_sized:
                 number, got = run.refused(program, folder, stdin) or (0, got)
                 over = f", allocation {number} refused"
