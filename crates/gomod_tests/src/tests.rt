@@ -3,6 +3,7 @@
 //!
 //! The tests run with ample memory. A test that runs out of it anyway ends, and says that this is the reason.
 
+mod caching;
 mod documents;
 mod loading;
 mod opened_files;
