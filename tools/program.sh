@@ -146,10 +146,10 @@ class Run:
         return self.out, self.report, self.status
 
     def stream_to_cut(self):
-        """The stream that the run writes to, unless one of the same command was tried with that stream cut."""
+        """The stream that the run writes to, if any, unless the same command was tried with that stream cut."""
         stream = "stdout" if self.out else "stderr"
         tried = b"".join(self.words[1:2]), stream
-        if tried in Run.cut_runs:
+        if not (self.out or self.report) or tried in Run.cut_runs:
             return None
         Run.cut_runs.add(tried)
         return stream
