@@ -248,9 +248,9 @@ apart-turn earlier (line ∷ lines) alone apart =
 
 -- ---- whole files
 
-or-none : {X : Type 0} (a b : Option X) → option_or a b ≡ None → (a ≡ None) × (b ≡ None)
-or-none None b e = (refl, e)
-or-none (Some x) b e = absurd cc
+option_or_parts : {X : Type 0} (a b : Option X) → option_or a b ≡ None → (a ≡ None) × (b ≡ None)
+option_or_parts None b e = (refl, e)
+option_or_parts (Some x) b e = absurd cc
 
 none-missing : (fault : Fault) (b : Bool) → (if b then None else Some fault) ≡ None → b ≡ true
 none-missing fault true e = refl
@@ -265,7 +265,7 @@ pub record AreRightApart (lines : List (LineInBlock Word)) : Type 0 where
 pub faultless-apart : (lines : List (Line Word)) → fault_of Strict lines ≡ None → AreRightApart (with_blocks lines)
 unfolding fault_of faults
 faultless-apart lines none =
-    let parts = or-none (first_of (faults Strict lines)) (missing_module Strict (directives Strict lines)) none in
+    let parts = option_or_parts (first_of (faults Strict lines)) (missing_module Strict (directives Strict lines)) none in
     let right = turn-apart [] (with_blocks lines) tt (in-turn [] [] (with_blocks lines) refl (first-none (faults Strict lines) parts.0)) in
     record { alone = right.0; apart = right.1; declared = none-missing (0, NoModule) (list_any is_module (directives Strict lines)) parts.1 }
 

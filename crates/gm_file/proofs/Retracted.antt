@@ -92,10 +92,6 @@ retracts-snoc lines line =
     ∙ filter_map-append valid_interval (directives Strict lines) (option_to_list (directive_in Strict (item_at (block_after_lines None lines, line))))
     ∙ ap (λ (ps : List VersionInterval). lax_retracts_of lines ++ ps) (to-list (directive_in Strict (item_at (block_after_lines None lines, line))))
 
-pub not-false : (a : Bool) → not a ≡ false → a ≡ true
-not-false true e = refl
-not-false false e = cc e
-
 -- after one more line
 pub retracted-more : (lines : List (Line Word)) (block : Option Word) (line : Line Word) (intervals more : List VersionInterval) → AreRetracted lines block intervals
     → more ≡ intervals ++ option_to_list (retraction_at (item_at (block, line))) → AreRetracted (lines ++ line ∷ []) (block_after_line block line) more
