@@ -20,7 +20,7 @@ use Rattle.gm_file_edit.specs.declared.keys.Key.{Key}
 use Rattle.gm_file_edit.specs.declared.keys.Scope.{Scope}
 use Rattle.gm_file_edit.specs.declared.keys.Scope.TheVariants as scope
 use Rattle.gm_file_edit.specs.declared.keys.SoughtKey.{SoughtKey}
-use Rattle.gm_file_edit.specs.declared.verb.Verb.{Verb}
+use Rattle.gm_file.specs.declared.verb.Verb.{Verb}
 use Rattle.gm_file_edit.specs.Keys.{does_tell, key_of, may_concern, scope_after, scope_of, sought_key, verb_sought}
 use Rattle.gm_file_edit.specs.Subjects.{sought_of}
 use Rattle.gm_file_edit.proofs.Packs.{first-is, first_of, get_or-default}

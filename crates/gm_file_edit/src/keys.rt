@@ -7,12 +7,12 @@
 ghost use Rattle.std.specs.Prelude.{◌≡◌, ◌%◌, ◌^◌};
 ghost use Rattle.std.specs.Option.{option_map};
 ghost use Rattle.gm_syntax.specs.LineViews.{line_of};
-ghost use Rattle.gm_file_edit.specs.Keys.{changes_block, hash, hash_at, hashes_of, key_of, may_concern, may_tell, scope_after, is_entry_in, is_same_verb, scope_if, sought_key, verb_outside, words_key};
+ghost use Rattle.gm_file.specs.Directives.{verb_eq};
+ghost use Rattle.gm_file_edit.specs.Keys.{changes_block, hash, hash_at, hashes_of, key_of, may_concern, may_tell, scope_after, is_entry_in, scope_if, sought_key, verb_outside, words_key};
 ghost use Rattle.gm_file_edit.specs.Subjects.{sought_view, subject_view};
 
 use crate::subject::{Sought, Subject, subject_inside, subject_outside};
-use crate::verb::{Verb, is_same_verb, verb_named};
-use gm_file::is_empty_block;
+use gm_file::{Verb, is_empty_block, main_verb};
 use gm_name::fingerprint;
 use gm_syntax::{Line, Token};
 
@@ -119,12 +119,12 @@ fn verb_outside(words: &[Token]) -> Verb
     ensures { result ≡ verb_outside words.now }
 {
     match words {
-        [] => Verb::Other,
+        [] => Verb::Unknown,
         [first, arguments @ ..] => {
             if is_empty_block(arguments) {
-                return Verb::Other;
+                return Verb::Unknown;
             }
-            verb_named(first.spelling())
+            main_verb(first.spelling())
         }
     }
 }
@@ -147,7 +147,7 @@ pub(crate) fn key_of(line: &Line) -> Key
     match line {
         Line::Blank => Key::Blank,
         Line::Comment(_) => Key::Comment,
-        Line::Open(verb, _) => Key::Open(verb_named(verb.spelling())),
+        Line::Open(verb, _) => Key::Open(main_verb(verb.spelling())),
         Line::Close(_) => Key::Close,
         Line::Entry(words, _) => Key::Entry(words_key(words.as_slice())),
     }
@@ -162,9 +162,9 @@ pub(crate) fn changes_block(key: Key) -> bool
 
 /// The scope in a block of this verb.
 fn scope_in(own: Verb, verb: Verb) -> Scope
-    ensures { result ≡ scope_if (is_same_verb own verb) }
+    ensures { result ≡ scope_if (verb_eq own verb) }
 {
-    if is_same_verb(own, verb) {
+    if own == verb {
         Scope::Own
     } else {
         Scope::Other
@@ -188,7 +188,7 @@ pub(crate) fn is_entry_in(own: Verb, scope: Scope, key: Key) -> bool
 {
     match key {
         Key::Entry(entry) => match scope {
-            Scope::Outside => is_same_verb(own, entry.verb),
+            Scope::Outside => own == entry.verb,
             Scope::Own => true,
             Scope::Other => false,
         },
@@ -213,7 +213,7 @@ pub(crate) fn may_concern(own: Verb, sought: SoughtKey, scope: Scope, key: Key) 
 {
     match key {
         Key::Entry(entry) => match scope {
-            Scope::Outside => may_tell(sought, entry.outside) && is_same_verb(own, entry.verb),
+            Scope::Outside => may_tell(sought, entry.outside) && own == entry.verb,
             Scope::Own => may_tell(sought, entry.inside),
             Scope::Other => false,
         },
