@@ -4,7 +4,9 @@ use Rattle.std.specs.List.{list_any}
 use Rattle.gm_file.specs.declared.fault.DirectiveKind.{DirectiveKind}
 use Rattle.gm_file.specs.declared.fault.DirectiveKind.TheVariants.{UnknownVerb, WrongArguments, BadPath, BadVersion, Misfit, Repeated, ConflictingReplace, BadGo}
 use Rattle.gm_name.specs.Names.{does_fit, is_path, is_version}
-use Rattle.gm_file.specs.Directives.{Mode, Verb, ForModule, ForGo, ForRequire, ForExclude, ForReplace, ForRetract, ForNothing, Unknown, verb_in, Left, Right, Folder, Module, Item, Silent, Opening, Saying, Directive, DeclaresModule, DeclaresGo, Requires, Excludes, Replaces, Retracts, Kept, directive_of}
+use Rattle.gm_file.specs.declared.verb.Verb.{Verb}
+use Rattle.gm_file.specs.declared.verb.Verb.TheVariants.{Module as ForModule, Go as ForGo, Require as ForRequire, Exclude as ForExclude, Replace as ForReplace, Retract as ForRetract, Nothing as ForNothing, Unknown}
+use Rattle.gm_file.specs.Directives.{Mode, verb_in, Left, Right, Folder, Module, Item, Silent, Opening, Saying, Directive, DeclaresModule, DeclaresGo, Requires, Excludes, Replaces, Retracts, Kept, directive_of}
 use Rattle.gm_file.specs.Faults.{conflicts, directive_kinds, does_left_fit, ends_kinds, go_in, is_go, is_module, item_kinds, left_version_kinds, opening_kinds, pair_kinds, path_kinds, rank, right_path_kinds, right_version_kinds, entry_kinds, sides_kinds, unless, malformed_entry_kind, version_kinds}
 use Rattle.gm_file.specs.Fields.{first}
 use Rattle.gm_file.proofs.Told.{IsOneKind, NoneFirst}

@@ -13,7 +13,8 @@ use Rattle.gm_syntax.specs.Words.{Word}
 use Rattle.gm_syntax.specs.Document.{Line}
 use Rattle.gm_file.specs.declared.fault.DirectiveKind.{DirectiveKind}
 use Rattle.gm_file.specs.declared.fault.DirectiveKind.TheVariants.{BadGo, ConflictingReplace, NoModule, Repeated}
-use Rattle.gm_file.specs.Directives.{Strict, Verb, Left, Right, Folder, Module, Replacing, Directive, DeclaresModule, DeclaresGo, Requires, Excludes, Replaces, Retracts, Kept, LineInBlock, Item, Silent, Opening, Saying, directive_in, directive_of, directives, item_at, said, verb_in, with_blocks}
+use Rattle.gm_file.specs.declared.verb.Verb.{Verb}
+use Rattle.gm_file.specs.Directives.{Strict, Left, Right, Folder, Module, Replacing, Directive, DeclaresModule, DeclaresGo, Requires, Excludes, Replaces, Retracts, Kept, LineInBlock, Item, Silent, Opening, Saying, directive_in, directive_of, directives, item_at, said, verb_in, with_blocks}
 use Rattle.gm_file.specs.Faults.{Fault, conflicts, directive_kinds, entry_kinds, fault_of, faults, faults_after, first_of, go_in, is_conflict, is_go, is_module, is_same_left, is_same_right, is_same_version, item_kinds, missing_module, path_kinds, sides_kinds, unless, with_before_from}
 use Rattle.gm_file.specs.Pairwise.{ClashIsMutual, FaultlessIsPairwise, IsRightAlone, do_clash}
 use Rattle.gm_file.proofs.First.{first-none}

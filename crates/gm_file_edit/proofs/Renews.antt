@@ -6,8 +6,8 @@ use Rattle.std.proofs.lemmas.Bool.{cases_Bool, or_parts}
 use Rattle.gm_syntax.specs.Tokens.{Placed}
 use Rattle.gm_syntax.specs.Document.{Line, IsValidLine}
 use Rattle.gm_syntax.specs.LineViews.{plain}
-use Rattle.gm_file.specs.Directives.{Directive, DeclaresModule, block_after_line, with_blocks_from}
-use Rattle.gm_file.specs.Faults.{is_module}
+use Rattle.gm_file.specs.Directives.{Strict, Directive, DeclaresModule, block_after_line, with_blocks_from}
+use Rattle.gm_file.specs.Faults.{directive_kinds, is_module}
 use Rattle.gm_file.specs.Pairwise.{do_clash}
 use Rattle.gm_file.proofs.Pairwise.{AreApart}
 use Rattle.gm_file_edit.specs.Fates.{Fate, remaining, renewed, renewing_from}
@@ -37,10 +37,15 @@ renewing-fates test new block (line ∷ lines) = elim (cases_Bool (passes test (
   | inr fails ↦ rw fails (ap (λ (fs : List Fate). Some line ∷ fs) (renewing-fates test new (block_after_line block line) lines))
 ]
 
--- How an operation rewrites the entries that it targets: the others don't clash with what it sets, and it targets
--- module directives only to set one.
+-- a directive without a fault, which an operation targets, and which clashes with none that it doesn't target
+pub record IsWanted (test : Directive → Bool) (new : Directive) : Type 0 where
+  pub kinds : directive_kinds Strict [] new ≡ []
+  pub mild : (d : Directive) → test d ≡ false → do_clash new d ≡ false
+  pub own : test new ≡ true
+
+-- How an operation rewrites the entries that it targets. It targets module directives only to set one.
 pub record IsRenewal (test : Directive → Bool) (said : Directive) (make : Option Placed → Line Placed → Line Placed) : Type 0 where
-  pub mild : (d : Directive) → test d ≡ false → do_clash said d ≡ false
+  pub wanted : IsWanted test said
   pub made : (block : Option Placed) (line : Line Placed) (d : Directive) → directive_at block line ≡ Some d → test d ≡ true → IsValidLine (is_some block) (plain line) → IsMadeNew said block line (make block line)
   pub other : (d : Directive) → test d ≡ true → is_module d ≡ is_module said
 
@@ -67,7 +72,7 @@ later-marked test said make by block (line ∷ lines) none =
     let rest = later-marked test said make by (block_after_line block line) lines parts.1 in
     elim (cases_Bool (passes test held)) [
       | inl holds ↦ rw holds (gone-line test block line held refl holds (parts.0 holds), rest)
-      | inr fails ↦ rw fails (inl (refl, mild-held test said by.mild held fails, rest))
+      | inr fails ↦ rw fails (inl (refl, mild-held test said by.wanted.mild held fails, rest))
     ]
 
 held-some : (test : Directive → Bool) (held : Option Directive) → passes test held ≡ true → (d : Directive) × (held ≡ Some d) × (test d ≡ true)
@@ -94,7 +99,7 @@ renewing-marked test said make by block (line ∷ lines) right apart =
           ] in
           rw holds (inr (refl, by.made block line h.0 h.1 h.2 right.0.0, later-marked test said make by (block_after_line block line) lines none))
       | inr fails ↦
-          rw fails (inl (refl, mild-held test said by.mild (directive_at block line) fails, renewing-marked test said make by (block_after_line block line) lines right.1 (apart-tail (directive_at block line) behind apart)))
+          rw fails (inl (refl, mild-held test said by.wanted.mild (directive_at block line) fails, renewing-marked test said make by (block_after_line block line) lines right.1 (apart-tail (directive_at block line) behind apart)))
     ]
 
 pub renewed-sound : (test : Directive → Bool) (said : Directive) (make : Option Placed → Line Placed → Line Placed) → IsRenewal test said make → (lines : List (Line Placed)) → IsSound lines → IsSound (renewed test make lines)

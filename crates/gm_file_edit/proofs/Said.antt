@@ -10,10 +10,9 @@ use Rattle.gm_syntax.specs.Tokens.{Placed}
 use Rattle.gm_syntax.specs.Document.{Line, Blank, IsValidLine}
 use Rattle.gm_syntax.specs.LineViews.{plain}
 use Rattle.gm_file.specs.Directives.{Directive, LineInBlock, block_after_lines, block_after_line, item_at}
-use Rattle.gm_file_edit.specs.Edited.{added, after_first_that}
-use Rattle.gm_file_edit.specs.declared.adding.AddedVerb.{AddedVerb}
+use Rattle.gm_file_edit.specs.Edited.{added, after_first_that, has_verb}
 use Rattle.gm_file_edit.specs.declared.adding.Spot.{Spot}
-use Rattle.gm_file_edit.specs.Adding.{added_at, spot_after_first, spot_after_last, is_of, past_block, insert_at_spot, verb_text}
+use Rattle.gm_file_edit.specs.Adding.{added_at, spot_after_first, spot_after_last, past_block, insert_at_spot}
 use Rattle.gm_file_edit.specs.NewWords.{entry_at, single}
 use Rattle.gm_file_edit.specs.Fates.{Fate, dropped, dropping_from, kept, remaining, renewed, renewing_from}
 use Rattle.gm_file_edit.specs.Holding.{directive_at, passes}
@@ -238,22 +237,22 @@ last-put : (new : Directive) (lines : List (Line Placed)) (line : Line Placed) �
 last-put new lines line fits sound =
     subst (λ (ls : List (Line Placed)). IsPutIn new (held_from None ls) (held_from None (lines ++ Blank ∷ line ∷ []))) (append-nil lines) (alone-put new lines [] line sound.closed fits)
 
-added-at-put : (v : AddedVerb) (arguments : List Placed) (new : Directive) (lines : List (Line Placed)) → IsAddition v arguments new → IsSound lines
-    → (o : Option Spot) → ((spot : Spot) → o ≡ Some spot → IsVerbSpot v None lines spot) → IsPutIn new (held_from None lines) (held_from None (added_at (verb_text v) arguments lines o))
-added-at-put v arguments new lines so sound None is = last-put new lines (single (verb_text v) arguments) (entry-fits v arguments new None tt so) sound
+added-at-put : (v : List ℕ) (arguments : List Placed) (new : Directive) (lines : List (Line Placed)) → IsAddition v arguments new → IsSound lines
+    → (o : Option Spot) → ((spot : Spot) → o ≡ Some spot → IsVerbSpot v None lines spot) → IsPutIn new (held_from None lines) (held_from None (added_at v arguments lines o))
+added-at-put v arguments new lines so sound None is = last-put new lines (single v arguments) (entry-fits v arguments new None tt so) sound
 added-at-put v arguments new lines so sound (Some spot) is =
     let front : List (Line Placed) = take spot.before lines in
     let back : List (Line Placed) = drop spot.before lines in
     let here = is spot refl in
-    let entry : Line Placed = entry_at spot.inside (verb_text v) arguments in
+    let entry : Line Placed = entry_at spot.inside v arguments in
     subst (λ (ls : List (Line Placed)). IsPutIn new (held_from None ls) (held_from None (front ++ entry ∷ back))) (take-append-drop spot.before lines)
-    (line-put new front back entry (subst (λ (b : Bool). Fits (block_after_lines None front) new (entry_at b (verb_text v) arguments)) here.0.inside (entry-fits v arguments new (block_after_lines None front) here.1 so)))
+    (line-put new front back entry (subst (λ (b : Bool). Fits (block_after_lines None front) new (entry_at b v arguments)) here.0.inside (entry-fits v arguments new (block_after_lines None front) here.1 so)))
 
-pub added-put : (v : AddedVerb) (arguments : List Placed) (new : Directive) (lines : List (Line Placed)) → IsAddition v arguments new → IsSound lines
-    → IsPutIn new (held_from None lines) (held_from None (added (is_of v) (verb_text v) arguments lines))
+pub added-put : (v : List ℕ) (arguments : List Placed) (new : Directive) (lines : List (Line Placed)) → IsAddition v arguments new → IsSound lines
+    → IsPutIn new (held_from None lines) (held_from None (added v arguments lines))
 added-put v arguments new lines so sound =
-    subst (λ (ls : List (Line Placed)). IsPutIn new (held_from None lines) (held_from None ls)) (sym (added-spot (is_of v) (verb_text v) arguments lines))
-    (added-at-put v arguments new lines so sound (spot_after_last (is_of v) None lines) (last-is v None lines))
+    subst (λ (ls : List (Line Placed)). IsPutIn new (held_from None lines) (held_from None ls)) (sym (added-spot v arguments lines))
+    (added-at-put v arguments new lines so sound (spot_after_last (has_verb v) None lines) (last-is v None lines))
 
 behind-put : (new : Directive) (line : Line Placed) (lines : List (Line Placed)) → Fits None new line → IsSound lines
     → (o : Option Spot) → ((spot : Spot) → o ≡ Some spot → IsIn None lines spot) → IsPutIn new (held_from None lines) (held_from None (insert_at_spot (Blank ∷ line ∷ []) lines o))
