@@ -34,3 +34,4 @@ pub mod Quotes
 pub mod Told
 pub mod PassedOver
 pub mod KeyedChanges
+pub mod Tails
