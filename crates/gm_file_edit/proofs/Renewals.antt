@@ -3,7 +3,7 @@ use Rattle.std.proofs.Common.{◌≡◌, ℕ, ◌&&◌, not, Bool, true, false, 
 use Rattle.std.specs.Option.{option_map}
 use Rattle.std.specs.List.{after_first, before_first}
 use Rattle.std.specs.Str.{bytes_eq}
-use Rattle.std.proofs.lemmas.Bool.{and_from, cases_Bool}
+use Rattle.std.proofs.lemmas.Bool.{and_from, and_left, cases_Bool}
 use Rattle.std.proofs.lemmas.Slice.Eq.{bytes_eq-Decides}
 use Rattle.gm_syntax.specs.declared.word.Punct.TheVariants.{Arrow}
 use Rattle.gm_syntax.specs.Lines.{HasNoLineFeed}
@@ -140,19 +140,16 @@ require-made p names fit block line d held e stands = absurd cc
 
 -- ---- a replace
 
-and-none : (a b : Bool) → (a ≡ false) → (a && b) ≡ false
-and-none a b e = rw e refl
-
 pub version-itself : (v : Option (List ℕ)) → is_same_version v v ≡ true
 version-itself None = refl
 version-itself (Some v) = (bytes_eq-Decides v v).1 refl
 
 not-covered : (left other : Left) (v : Option (List ℕ)) → is_covered_by left v other ≡ false → is_same_left other left ≡ false
-not-covered left other None e = and-none (bytes_eq other.path left.path) (is_same_version other.version left.version) e
+not-covered left other None e = and_left (bytes_eq other.path left.path) (is_same_version other.version left.version) e
 not-covered left other (Some version) e = e
 
 replace-mild : (r : Replacing) (d : Directive) → is_replaced_by r.0 d ≡ false → do_clash (Replaces r) d ≡ false
-replace-mild r (Replaces q) e = and-none (is_same_left r.0 q.0) (not (is_same_right r.1 q.1)) (same-left r.0 q.0 ∙ not-covered r.0 q.0 r.0.version e)
+replace-mild r (Replaces q) e = and_left (is_same_left r.0 q.0) (not (is_same_right r.1 q.1)) (same-left r.0 q.0 ∙ not-covered r.0 q.0 r.0.version e)
 replace-mild r d e = refl
 
 right-path-right : (right : Right) → IsSoundRight right → right_path_kinds right ≡ []

@@ -3,7 +3,7 @@ use Rattle.std.proofs.Common.{◌≡◌, ℕ, ◌||◌, not, Bool, true, false, 
 use Rattle.std.specs.Prelude.{filter}
 use Rattle.std.specs.Option.{option_map, option_to_list}
 use Rattle.std.specs.List.{cons_option, filter_map, list_any}
-use Rattle.std.proofs.lemmas.Bool.{cases_Bool}
+use Rattle.std.proofs.lemmas.Bool.{cases_Bool, or_from, or_parts}
 use Rattle.std.proofs.lemmas.List.{take-append-drop}
 use Rattle.std.proofs.lemmas.List.Elements.{filter-append}
 use Rattle.gm_syntax.specs.Tokens.{Placed}
@@ -56,18 +56,11 @@ none-of-others test (d ∷ ds) = elim (cases_Bool (test d)) [
   | inr fails ↦ rw fails (filter-none test d (filter (others test) ds) fails ∙ none-of-others test ds)
 ]
 
-or-none : (a b : Bool) → (a || b) ≡ false → (a ≡ false) × (b ≡ false)
-or-none true b e = absurd cc
-or-none false b e = (refl, e)
-
-or-neither : (a b : Bool) → a ≡ false → b ≡ false → (a || b) ≡ false
-or-neither a b e f = rw (e, f) refl
-
 pub none-any : (test : Directive → Bool) (ds : List Directive) → filter test ds ≡ [] → list_any test ds ≡ false
 none-any test [] e = refl
 none-any test (d ∷ ds) e = elim (cases_Bool (test d)) [
   | inl holds ↦ let wrong : d ∷ filter test ds ≡ [] = sym (filter-one test d ds holds) ∙ e in absurd cc
-  | inr fails ↦ or-neither (test d) (list_any test ds) fails (none-any test ds (sym (filter-none test d ds fails) ∙ e))
+  | inr fails ↦ or_from (test d) (list_any test ds) fails (none-any test ds (sym (filter-none test d ds fails) ∙ e))
 ]
 
 pub others-none : (test : Directive → Bool) (ds : List Directive) → list_any test (filter (others test) ds) ≡ false
@@ -75,7 +68,7 @@ others-none test ds = none-any test (filter (others test) ds) (none-of-others te
 
 pub no-filter : (test : Directive → Bool) (ds : List Directive) → list_any test ds ≡ false → filter test ds ≡ []
 no-filter test [] e = refl
-no-filter test (d ∷ ds) e = let parts = or-none (test d) (list_any test ds) e in filter-none test d ds parts.0 ∙ no-filter test ds parts.1
+no-filter test (d ∷ ds) e = let parts = or_parts (test d) (list_any test ds) e in filter-none test d ds parts.0 ∙ no-filter test ds parts.1
 
 -- the same with the directive that a line holds, if any
 gone-held : (test : Directive → Bool) (held : Option Directive) (rest : List Directive) → passes test held ≡ true → filter (others test) (option_to_list held ++ rest) ≡ filter (others test) rest

@@ -3,7 +3,7 @@ use Rattle.std.proofs.Common.{◌≡◌, ℕ, ◌-◌, Bool, true, false, List, 
 use Rattle.std.specs.Prelude.{codes, filter}
 use Rattle.std.specs.Option.{option_map, option_to_list}
 use Rattle.std.specs.List.{AllByRecursion}
-use Rattle.std.proofs.lemmas.Bool.{cases_Bool, false≢true}
+use Rattle.std.proofs.lemmas.Bool.{cases_Bool, false≢true, or_parts}
 use Rattle.std.proofs.lemmas.List.{take-append-drop, take_at}
 use Rattle.gm_syntax.specs.Tokens.{Placed}
 use Rattle.gm_syntax.specs.Document.{Line, Blank, Comment, Open, Close, Entry}
@@ -31,7 +31,7 @@ use Rattle.gm_file_edit.proofs.Seats.{fewer-all, remaining-left}
 use Rattle.gm_file.proofs.Snoc.{with_blocks-snoc}
 use Rattle.gm_file_edit.proofs.Pairs.{IsSound, document-sound}
 use Rattle.gm_file_edit.proofs.Spots.{added-spot, first-spot}
-use Rattle.gm_file_edit.proofs.Untouched.{all-lines-stay, all_stay, none-dropped-from, or-none}
+use Rattle.gm_file_edit.proofs.Untouched.{all-lines-stay, all_stay, none-dropped-from}
 use Rattle.std.proofs.lemmas.Option.{same_Some}
 
 -- how an operation rewrites a line, given the verb of its block
@@ -62,7 +62,7 @@ missed test new block line miss = λ e. absurd (false≢true (sym miss ∙ e))
 none-set : (test : Directive → Bool) (new : Rewriting) (block : Option Placed) (lines : List (Line Placed)) → is_there_from test block lines ≡ false → LinesAreSet test new block lines
 none-set test new block [] none = tt
 none-set test new block (line ∷ lines) none =
-    let parts = or-none (passes test (directive_at block line)) (is_there_from test (block_after_line block line) lines) none in
+    let parts = or_parts (passes test (directive_at block line)) (is_there_from test (block_after_line block line) lines) none in
     (missed test new block line parts.0, none-set test new (block_after_line block line) lines parts.1)
 
 -- ---- the lines that a setting leaves, if it targets some
@@ -151,7 +151,7 @@ inserted-set test new block [] more back none are level =
     subst (AreSet test new) (sym (with_blocks-snoc block more back))
     (set-append test new (with_blocks_from block more) (with_blocks_from (block_after_lines block more) back) are (subst (λ (b : Option Placed). LinesAreSet test new b back) (sym level) (none-set test new block back none)))
 inserted-set test new block (line ∷ front) more back none are level =
-    let parts = or-none (passes test (directive_at block line)) (is_there_from test (block_after_line block line) (front ++ back)) none in
+    let parts = or_parts (passes test (directive_at block line)) (is_there_from test (block_after_line block line) (front ++ back)) none in
     (missed test new block line parts.0, inserted-set test new (block_after_line block line) front more back parts.1 are level)
 
 -- an entry that is new in its block is rewritten to itself
