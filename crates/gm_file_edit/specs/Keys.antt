@@ -41,7 +41,7 @@ verb_outside (word ∷ words) = if is_empty_block (words_of words) then verb.Unk
 
 -- the hash of a text
 abbrev pub hash : List ℕ → ℕ
-hash text = fingerprint 0 text % 2 ^ 32
+hash text = fingerprint 0 text % 2 ^ 16
 
 -- the hash of a text, or of the empty text if there is none
 abbrev pub hash_at : Option (List ℕ) → ℕ
@@ -62,11 +62,19 @@ words_key words =
 
 -- the key of a line
 abbrev pub key_of : Line Placed → Key
-key_of Blank = key.Silent
-key_of (Comment text) = key.Silent
+key_of Blank = key.Blank
+key_of (Comment text) = key.Comment
 key_of (Open word suffix) = key.Open (main_verb word.word.spelling)
 key_of (Close suffix) = key.Close
 key_of (Entry words suffix) = key.Entry (words_key words)
+
+-- whether the line with a key opens or closes a block
+abbrev pub changes_block : Key → Bool
+changes_block key.Blank = false
+changes_block key.Comment = false
+changes_block (key.Open verb) = true
+changes_block key.Close = true
+changes_block (key.Entry entry) = false
 
 -- the hashes of what an operation looks for
 abbrev pub sought_key : Sought → SoughtKey
@@ -86,7 +94,8 @@ scope_of own (Some word) = scope_if (verb_eq own (main_verb word.word.spelling))
 
 -- the scope after the line with a key
 abbrev pub scope_after : Verb → Scope → Key → Scope
-scope_after own before key.Silent = before
+scope_after own before key.Blank = before
+scope_after own before key.Comment = before
 scope_after own before (key.Open other) = scope_if (verb_eq own other)
 scope_after own before key.Close = scope.Outside
 scope_after own before (key.Entry entry) = before
