@@ -243,10 +243,6 @@ rest-is lines n = let rest = length-drop n lines in take_all (length lines - n) 
 
 -- ---- the lines with new ones
 
-pub if-ok : {X E : Type 0} (r : Result X E) (P Q : X → Type 0) → ((x : X) → P x → Q x) → IfOk r P → IfOk r Q
-if-ok (Ok x) P Q h p = h x p
-if-ok (Err e) P Q h p = tt
-
 pub in-lines : (lines : List declared.Line) (n : ℕ) → n ≤ length (line_views lines) → n ≤ length lines
 in-lines lines n le = let count = length-map lines line_of in omega (arith, le, count)
 
