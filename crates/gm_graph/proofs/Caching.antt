@@ -8,7 +8,7 @@ use Rattle.gm_store_sums.specs.Sums.{Sums}
 use Rattle.gm_graph.specs.declared.cache.Cache.{Cache}
 use Rattle.gm_graph.specs.declared.cache.depth.Turn.{Turn}
 use Rattle.gm_graph.specs.Cached.{AddsTurn, Knows, LentSame, held_of, main_in, modules_in, numbered}
-use Rattle.gm_graph.specs.Main.{Main, main_of}
+use Rattle.gm_file.specs.Main.{Main, main_of}
 use Rattle.gm_graph.specs.Reading.{Held, KeepsHeld, Readings, Tells, readings_by}
 use Rattle.gm_graph.proofs.Keeping.{held_same, main_same}
 use Rattle.gm_graph.specs.declared.graph_builder.GraphBuilder.{GraphBuilder}

@@ -10,7 +10,7 @@ use Rattle.gm_graph.specs.declared.cache.depth.Turn.{Turn}
 use Rattle.gm_graph.specs.declared.cache.finding.Finding.{Finding}
 use Rattle.gm_graph.specs.declared.cache.finding.Finding.TheVariants.{Fault, Sound}
 use Rattle.gm_graph.specs.Cached.{AddsTurn, IsFinding, IsSound, KeepsSound, LendsKept, LentSame, held_of, main_in, modules_in}
-use Rattle.gm_graph.specs.Main.{Main}
+use Rattle.gm_file.specs.Main.{Main}
 use Rattle.gm_graph.specs.Reading.{KeepsHeld, Readings, vertex_requirements}
 use Rattle.gm_graph.specs.Turns.{turn, AddsAll}
 use Rattle.gm_graph.specs.declared.followed.Followed.{Followed}

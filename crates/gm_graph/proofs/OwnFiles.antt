@@ -11,7 +11,7 @@ use Rattle.gm_graph.specs.declared.cache.summary.Kept.{Kept}
 use Rattle.gm_graph.specs.declared.cache.Cache.{Cache}
 use Rattle.gm_graph.specs.Cached.{main_in, modules_in, numbered}
 use Rattle.gm_graph.specs.FileTable.{PutsFile, IsFileOf, kept_at, replacing_place}
-use Rattle.gm_graph.specs.Main.{replacement_in}
+use Rattle.gm_file.specs.Main.{replacement_in}
 use Rattle.gm_graph.specs.Reading.{file_named, file_of}
 
 -- The file of a module is that of a replacement, or its own.

@@ -11,7 +11,7 @@ use Rattle.gm_graph.specs.declared.cache.finding.Finding.{Finding}
 use Rattle.gm_graph.specs.declared.cache.finding.Finding.TheVariants.{Fault, Sound}
 use Rattle.gm_graph.specs.Cached.{held_of, main_in, modules_in, sums_in, turns_in}
 use Rattle.gm_graph.specs.Turns.{turn, AreFirstTurns, VisitOverflows, Visits}
-use Rattle.gm_graph.specs.Main.{Main}
+use Rattle.gm_file.specs.Main.{Main}
 use Rattle.gm_graph.specs.Reading.{Held, KeepsHeld, Readings, Tells, vertex_fault, readings_by}
 use Rattle.gm_graph.specs.declared.cache.class.Class.{Class}
 use Rattle.gm_graph_select.specs.declared.step.Edge.{Edge}

@@ -11,7 +11,7 @@ use Rattle.gm_file.specs.Faults.{fault_of, go_in, is_module}
 use Rattle.gm_file.specs.Fields.{as_exclusion, as_go, as_module, as_replacing, as_requirement, first}
 use Rattle.gm_file.specs.Pairwise.{IsRightAlone}
 use Rattle.gm_file.proofs.Pairwise.{AreApart, apart-faultless, faultless-apart}
-use Rattle.gm_graph.specs.Main.{Main}
+use Rattle.gm_file.specs.Main.{Main}
 
 -- each line has no fault by itself
 abbrev AreAlone : Option Word → List (Line Word) → Type 0

@@ -1,6 +1,6 @@
 use Rattle.std.proofs.Common.{◌∙◌, ap, subst, sym}
 use Rattle.gm_graph.specs.Cached.{IsFinding, held_of, main_in, numbered}
-use Rattle.gm_graph.specs.Main.{main_of}
+use Rattle.gm_file.specs.Main.{main_of}
 use Rattle.gm_graph.specs.Reading.{file_of, readings_by}
 use Rattle.gm_graph.specs.declared.cache.finding.Finding.{Finding}
 use Rattle.gm_graph.proofs.Keeping.{holds_after, keeps_same, knows_still}
