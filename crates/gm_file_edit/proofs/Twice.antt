@@ -12,7 +12,6 @@ use Rattle.gm_file.specs.Faults.{is_go, is_module}
 use Rattle.gm_file_edit.specs.declared.adding.Spot.{Spot}
 use Rattle.gm_file_edit.specs.Edits.{Edit, Set, Setting, ModuleIs, GoIs, RequireAt, Drop, Add, ReplaceWith}
 use Rattle.gm_file_edit.specs.About.{about}
-use Rattle.gm_file_edit.specs.Adding.{added_at, insert_at_spot, past_block, spot_after_first, spot_after_last}
 use Rattle.gm_file_edit.specs.Edited.{added, after_first_that, changed, edited, has_verb, new_entry, new_go, put_in}
 use Rattle.gm_file_edit.specs.Fates.{Fate, dropping_from, kept, remaining, renewing_from}
 use Rattle.gm_file_edit.specs.Holding.{directive_at, passes}
@@ -29,7 +28,7 @@ use Rattle.gm_file_edit.proofs.Said.{none-any}
 use Rattle.gm_file_edit.proofs.SaidAfter.{set-stands-alone, there-is}
 use Rattle.gm_file_edit.proofs.Seats.{remaining-seats, seats-append, seats_from}
 use Rattle.gm_file_edit.proofs.Pairs.{IsSound, document-sound}
-use Rattle.gm_file_edit.proofs.Spots.{added-spot, first-spot}
+use Rattle.gm_file_edit.proofs.Spots.{added-spot, added_at, first-spot, insert_at_spot, past_block, spot_after_first, spot_after_last}
 use Rattle.gm_file_edit.proofs.Untouched.{all-lines-stay, all_stay, none-dropped-from, or-none}
 use Rattle.std.proofs.lemmas.Option.{same_Some}
 
