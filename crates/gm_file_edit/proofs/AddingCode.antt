@@ -1,13 +1,12 @@
 -- The loops that find the position of a new entry, and the insertion of lines.
-use Rattle.std.proofs.Common.{◌≡◌, ℕ, suc, ◌+◌, ◌-◌, ◌<◌, ◌≤◌, Bool, true, false, List, [], ◌∷◌, ◌++◌, length, take, drop, Option, Some, None, Result, Ok, Err, is_some, refl, sym, ap, subst, ◌∙◌, append-nil, append_assoc, arith, inl, inr}
-use Rattle.std.specs.Prelude.{if◌then◌else◌, insert, IfNone, IfOk, IfSome}
+use Rattle.std.proofs.Common.{◌≡◌, ℕ, suc, ◌+◌, ◌<◌, ◌≤◌, Bool, true, false, List, [], ◌∷◌, ◌++◌, length, take, drop, Option, Some, None, is_some, refl, sym, ap, subst, ◌∙◌, append-nil, append_assoc, arith, inl, inr}
+use Rattle.std.specs.Prelude.{if◌then◌else◌, insert, IfNone, IfSome}
 use Rattle.std.proofs.lemmas.Bool.{cases_Bool}
 use Rattle.std.proofs.Math.Seq.{take-length}
 use Rattle.std.proofs.lemmas.List.{drop_all, take_all, take_more}
 use Rattle.std.specs.Option.{option_map, option_or}
 use Rattle.gm_syntax.specs.Tokens.{Placed}
-use Rattle.gm_syntax.specs.Document.{Line, Blank, Comment, Open, Close, Entry}
-
+use Rattle.gm_syntax.specs.Document.{Line, Blank}
 use Rattle.gm_file.specs.Directives.{Directive, block_after_line, is_of_verb, main_verb}
 use Rattle.gm_file.specs.Faults.{is_module}
 use Rattle.gm_file_edit.specs.Edited.{added, after_closing, after_first_of, after_first_that, has_verb}
@@ -36,10 +35,6 @@ shifted n spot = record { before = n + spot.before; inside = spot.inside }
 
 shifted-not : (spot : Spot) → shifted 0 spot ≡ spot
 shifted-not spot = let e : 0 + spot.before ≡ spot.before = omega arith in ap (λ (n : ℕ). record { before = n; inside = spot.inside }) e
-
-shifted-none : (o : Option Spot) → option_map (shifted 0) o ≡ o
-shifted-none None = refl
-shifted-none (Some spot) = ap Some (shifted-not spot)
 
 -- one step of the loop: a line moves from the rest to the lines before the position
 shifted-further : (n : ℕ) (spot : Spot) → shifted (n + 1) spot ≡ shifted n (further spot)
@@ -216,10 +211,6 @@ abbrev pub IsOpenTo : List (Line Placed) → ℕ → ℕ → Type 0
 IsOpenTo whole from n = (new : List (Line Placed)) → take n whole ++ after_closing new (drop n whole) ≡ take from whole ++ after_closing new (drop from whole)
 
 -- ---- the lines with new ones
-
-pub if-ok : {X E : Type 0} (r : Result X E) (P Q : X → Type 0) → ((x : X) → P x → Q x) → IfOk r P → IfOk r Q
-if-ok (Ok x) P Q h p = h x p
-if-ok (Err e) P Q h p = tt
 
 -- the position after the last directive of a verb is where an entry is added
 pub place-of : (own : Verb) (lines : List (Line Placed)) (o : Option Spot) → o ≡ spot_after_last (is_of_verb own) None lines → IfSome o (λ s. IsPlaceOf own lines s)

@@ -1,5 +1,5 @@
 -- Where an operation puts a new entry.
-use Rattle.std.proofs.Common.{◌≡◌, ℕ, ◌&&◌, ◌||◌, not, Bool, true, false, List, [], ◌∷◌, ◌++◌, Option, Some, None, is_some, refl, sym, ap, ◌∙◌}
+use Rattle.std.proofs.Common.{◌≡◌, ℕ, ◌&&◌, not, Bool, true, false, List, [], ◌∷◌, ◌++◌, Option, Some, None, is_some, refl, sym, ap, ◌∙◌}
 use Rattle.std.specs.List.{list_any}
 use Rattle.gm_syntax.specs.Tokens.{Placed}
 use Rattle.gm_syntax.specs.Document.{Line, Blank}
@@ -15,15 +15,12 @@ use Rattle.gm_file_edit.specs.Searching.{is_there, is_there_from}
 use Rattle.gm_file_edit.proofs.EditedSound.{by-put}
 use Rattle.gm_file_edit.proofs.Idle.{there-said}
 use Rattle.std.proofs.lemmas.Option.{same_Some}
-
-or-right : (a b : Bool) → b ≡ true → (a || b) ≡ true
-or-right true b e = refl
-or-right false b e = e
+use Rattle.std.proofs.lemmas.Bool.{or_right}
 
 -- the line stands somewhere behind
 there-behind : (test : Directive → Bool) (block : Option Placed) (front back : List (Line Placed)) (line : Line Placed) → passes test (directive_at (block_after_lines block front) line) ≡ true → is_there_from test block (front ++ line ∷ back) ≡ true
 there-behind test block [] back line hit = let held : passes test (directive_at block line) ≡ true = hit in rw held refl
-there-behind test block (x ∷ front) back line hit = or-right (passes test (directive_at block x)) (is_there_from test (block_after_line block x) (front ++ line ∷ back)) (there-behind test (block_after_line block x) front back line hit)
+there-behind test block (x ∷ front) back line hit = or_right (passes test (directive_at block x)) (is_there_from test (block_after_line block x) (front ++ line ∷ back)) (there-behind test (block_after_line block x) front back line hit)
 
 and-none : (a : Bool) → (a && not true) ≡ false
 and-none true = refl

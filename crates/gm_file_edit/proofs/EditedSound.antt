@@ -32,11 +32,10 @@ use Rattle.gm_file_edit.specs.Renewing.{made_new}
 use Rattle.gm_file_edit.specs.Searching.{is_there, is_there_from}
 use Rattle.gm_file_edit.specs.Sound.{AreVersions, IsPairOfNames, IsSoundEdit}
 use Rattle.gm_file_edit.proofs.AddingSound.{Fits, IsAddition, IsNewTo, added-sound, after-first-sound, held_from, single-fits}
-use Rattle.gm_file_edit.proofs.Drops.{dropped-sound}
+use Rattle.gm_file_edit.proofs.Drops.{dropped-sound, renewed-sound}
 use Rattle.gm_file_edit.proofs.Feeds.{byte-feed, go-feed, path-feed, version-feed}
 use Rattle.gm_file_edit.proofs.Made.{AreArguments, made-no-mark, made-stands, made-value, one-are, open-behind}
 use Rattle.gm_file_edit.proofs.Renewals.{go-says, put_by, renewal, replace-are, replace-says, wanted}
-use Rattle.gm_file_edit.proofs.Renews.{renewed-sound}
 use Rattle.gm_file_edit.proofs.Pairs.{IsSound, document-sound, sound-document}
 use Rattle.gm_file_edit.specs.Keys.{verb_sought}
 use Rattle.gm_file_edit.proofs.Targets.{about-module}
@@ -170,11 +169,11 @@ by-put P lines module_is go_is entry drop (Drop t) = drop t
 
 -- ---- the lines after an operation
 
-changed-sound : (edit : Edit) (lines : List (Line Placed)) → IsSoundEdit edit → is_fit edit ≡ true → IsSound lines → IsSound (changed edit lines)
+changed-sound : (edit : Edit) (lines : List (Line Placed)) → IsSoundEdit edit → is_fit edit ≡ true → is_there (about edit) lines ≡ true → IsSound lines → IsSound (changed edit lines)
 unfolding changed
-changed-sound (Set s) lines good fit sound = renewed-sound (about (Set s)) (directive_set s) (made_new (Set s)) (renewal s good fit) lines sound
-changed-sound (Add a) lines good fit sound = sound
-changed-sound (Drop t) lines good fit sound = dropped-sound (about (Drop t)) (λ d e. about-module (Drop t) d e ∙ no-module t) lines sound
+changed-sound (Set s) lines good fit there sound = renewed-sound (about (Set s)) lines sound (directive_set s) (made_new (Set s)) (renewal s good fit) there
+changed-sound (Add a) lines good fit there sound = sound
+changed-sound (Drop t) lines good fit there sound = dropped-sound (about (Drop t)) lines sound (λ d e. about-module (Drop t) d e ∙ no-module t)
   where
     no-module : (t : Target) → verb_eq ForModule (verb_sought (Drop t)) ≡ false
     no-module (AnyRequire path) = refl
@@ -205,7 +204,7 @@ put-sound lines sound = by-put (λ edit after. IsSoundEdit edit → is_fit edit 
 pass-sound : (edit : Edit) (lines : List (Line Placed)) → IsSoundEdit edit → is_fit edit ≡ true → IsSound lines → IsSound (edited edit lines)
 unfolding edited
 pass-sound edit lines good fit sound = elim (cases_Bool (is_there (about edit) lines)) [
-  | inl there ↦ rw there (changed-sound edit lines good fit sound)
+  | inl there ↦ rw there (changed-sound edit lines good fit there sound)
   | inr none ↦ rw none (put-sound lines sound edit good fit none)
 ]
 

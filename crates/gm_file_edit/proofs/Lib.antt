@@ -1,7 +1,6 @@
 pub mod Cuts
 pub mod Names
 pub mod Pairs
-pub mod Leaving
 pub mod Walking
 pub mod Drops
 pub mod Packs

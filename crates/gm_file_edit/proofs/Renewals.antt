@@ -1,9 +1,9 @@
 -- The operations that rewrite an entry.
-use Rattle.std.proofs.Common.{◌≡◌, ℕ, ◌&&◌, not, Bool, true, false, List, [], ◌∷◌, ◌++◌, Option, Some, None, is_some, refl, sym, ap, subst, ◌∙◌, arith, inl, inr}
+use Rattle.std.proofs.Common.{◌≡◌, ℕ, ◌&&◌, not, true, false, List, [], ◌∷◌, ◌++◌, Option, Some, None, is_some, refl, sym, ap, subst, ◌∙◌, arith, inl, inr}
 use Rattle.std.specs.Option.{option_map}
 use Rattle.std.specs.List.{after_first, before_first}
 use Rattle.std.specs.Str.{bytes_eq}
-use Rattle.std.proofs.lemmas.Bool.{and_from, cases_Bool}
+use Rattle.std.proofs.lemmas.Bool.{and_from, and_left, cases_Bool}
 use Rattle.std.proofs.lemmas.Slice.Eq.{bytes_eq-Decides}
 use Rattle.gm_syntax.specs.declared.word.Punct.TheVariants.{Arrow}
 use Rattle.gm_syntax.specs.Lines.{HasNoLineFeed}
@@ -30,11 +30,10 @@ use Rattle.gm_file_edit.specs.Renewing.{made_new, with_arguments, with_last}
 use Rattle.gm_file_edit.specs.Sound.{AreVersions, IsPairOfNames, IsSoundEdit, IsSoundLeft, IsSoundRight, IsSoundVersion}
 use Rattle.gm_file_edit.proofs.Feeds.{byte-feed, go-feed, path-feed, version-feed}
 use Rattle.gm_file_edit.proofs.Folders.{path-no-folder}
-use Rattle.gm_file_edit.proofs.Leaving.{IsMadeNew}
 use Rattle.gm_file_edit.proofs.Made.{AreArguments, IsFront, all-arguments, entry-made, held-by, made-no-mark, made-stands, made-value, one-are, one-argument, one-last, two-are, two-arguments, two-last}
 use Rattle.gm_file_edit.proofs.Parts.{map-some}
 use Rattle.std.proofs.lemmas.Option.{same_Some}
-use Rattle.gm_file_edit.proofs.Renews.{IsRenewal, IsWanted}
+use Rattle.gm_file_edit.proofs.Renews.{IsMadeNew, IsRenewal, IsWanted}
 use Rattle.gm_file_edit.proofs.Targets.{about-module}
 use Rattle.gm_file_edit.specs.Edits.{Edit, Set, Setting, ModuleIs, GoIs, RequireAt, ReplaceWith, Add, Exclude, Retract, Drop}
 use Rattle.gm_file_edit.specs.Kinds.{directive_added, directive_set, is_fit}
@@ -57,7 +56,7 @@ unfolding directive_of
 held-one words path e = let m = map-some DeclaresModule (one_of words) (DeclaresModule path) e in (m.0, m.1)
 
 module-made : (path : List ℕ) → is_path path ≡ true → (block : Option Placed) (line : Line Placed) (d : Directive) → directive_at block line ≡ Some d → is_module d ≡ true → IsValidLine (is_some block) (plain line)
-    → IsMadeNew (DeclaresModule path) block line (with_last path block line)
+    → IsMadeNew (DeclaresModule path) block (with_last path block line)
 module-made path h block line (DeclaresModule old) held e stands =
     let plain = path-feed path h in
     let by = held-by block line (DeclaresModule old) held in
@@ -65,8 +64,8 @@ module-made path h block line (DeclaresModule old) held e stands =
     let one = held-one (words_of by.arguments) old (rw verb at by.says) in
     let a = one-argument by.arguments one.0 one.1 in
     let is : line ≡ Entry (by.front ++ a.0 ∷ []) by.suffix = by.is ∙ ap (λ (ws : List Placed). Entry (by.front ++ ws) by.suffix) a.1 in
-    entry-made (DeclaresModule path) (DeclaresModule old) block line (with_last path block line) by (made_word path ∷ []) held
-    (one-last block by.verb by.front line by.suffix path a.0 by.at is) stands (one-are path plain) (rw verb (module-says path plain)) (λ e. refl) (module-kinds path h)
+    entry-made (DeclaresModule path) (DeclaresModule old) block line (with_last path block line) by (made_word path ∷ [])
+    (one-last block by.verb by.front line by.suffix path a.0 by.at is) stands (one-are path plain) (rw verb (module-says path plain)) (module-kinds path h)
 module-made path h block line d held e stands = absurd cc
 
 -- ---- the go version
@@ -84,7 +83,7 @@ unfolding directive_of
 held-go words text e = let m = map-some DeclaresGo (one_of words) (DeclaresGo text) e in (m.0, m.1)
 
 go-made : (text : List ℕ) → is_some (strict_go text) ≡ true → (block : Option Placed) (line : Line Placed) (d : Directive) → directive_at block line ≡ Some d → is_go d ≡ true → IsValidLine (is_some block) (plain line)
-    → IsMadeNew (DeclaresGo text) block line (with_last text block line)
+    → IsMadeNew (DeclaresGo text) block (with_last text block line)
 go-made text h block line (DeclaresGo old) held e stands =
     let plain = go-feed text h in
     let by = held-by block line (DeclaresGo old) held in
@@ -92,8 +91,8 @@ go-made text h block line (DeclaresGo old) held e stands =
     let one = held-go (words_of by.arguments) old (rw verb at by.says) in
     let a = one-argument by.arguments one.0 one.1 in
     let is : line ≡ Entry (by.front ++ a.0 ∷ []) by.suffix = by.is ∙ ap (λ (ws : List Placed). Entry (by.front ++ ws) by.suffix) a.1 in
-    entry-made (DeclaresGo text) (DeclaresGo old) block line (with_last text block line) by (made_word text ∷ []) held
-    (one-last block by.verb by.front line by.suffix text a.0 by.at is) stands (one-are text plain) (rw verb (go-says text plain)) (λ w. absurd cc) (go-kinds text h)
+    entry-made (DeclaresGo text) (DeclaresGo old) block line (with_last text block line) by (made_word text ∷ [])
+    (one-last block by.verb by.front line by.suffix text a.0 by.at is) stands (one-are text plain) (rw verb (go-says text plain)) (go-kinds text h)
 go-made text h block line d held e stands = absurd cc
 
 -- ---- a requirement
@@ -125,7 +124,7 @@ kept-word (Some v) verb front others suffix a line at is stands =
     entry.are_words.0
 
 require-made : (p : ModuleVersion) → IsPairOfNames p → does_fit p.0 p.1 ≡ true → (block : Option Placed) (line : Line Placed) (d : Directive) → directive_at block line ≡ Some d → requires_path p.0 d ≡ true → IsValidLine (is_some block) (plain line)
-    → IsMadeNew (Requires p) block line (with_last p.1 block line)
+    → IsMadeNew (Requires p) block (with_last p.1 block line)
 require-made p names fit block line (Requires q) held e stands =
     let plain_version = version-feed p.1 names.1 in
     let by = held-by block line (Requires q) held in
@@ -135,25 +134,22 @@ require-made p names fit block line (Requires q) held e stands =
     let path : argument two.0.word ≡ Some p.0 = two.3 ∙ ap Some same in
     let is : line ≡ Entry (by.front ++ two.0 ∷ two.1 ∷ []) by.suffix = by.is ∙ ap (λ (ws : List Placed). Entry (by.front ++ ws) by.suffix) two.2 in
     let word : IsWord two.0.word = kept-word block by.verb by.front (two.1 ∷ []) by.suffix two.0 line by.at is stands in
-    entry-made (Requires p) (Requires q) block line (with_last p.1 block line) by (two.0 ∷ made_word p.1 ∷ []) held
-    (two-last block by.verb by.front line by.suffix p.1 two.0 two.1 by.at is) stands (two-are two.0 p.0 p.1 word path plain_version) (subst (λ (v : Verb). directive_of v (words_of (two.0 ∷ made_word p.1 ∷ [])) ≡ Some (Requires p)) (sym verb) (require-says two.0 p path plain_version)) (λ w. absurd cc) (require-kinds p names fit)
+    entry-made (Requires p) (Requires q) block line (with_last p.1 block line) by (two.0 ∷ made_word p.1 ∷ [])
+    (two-last block by.verb by.front line by.suffix p.1 two.0 two.1 by.at is) stands (two-are two.0 p.0 p.1 word path plain_version) (subst (λ (v : Verb). directive_of v (words_of (two.0 ∷ made_word p.1 ∷ [])) ≡ Some (Requires p)) (sym verb) (require-says two.0 p path plain_version)) (require-kinds p names fit)
 require-made p names fit block line d held e stands = absurd cc
 
 -- ---- a replace
-
-and-none : (a b : Bool) → (a ≡ false) → (a && b) ≡ false
-and-none a b e = rw e refl
 
 pub version-itself : (v : Option (List ℕ)) → is_same_version v v ≡ true
 version-itself None = refl
 version-itself (Some v) = (bytes_eq-Decides v v).1 refl
 
 not-covered : (left other : Left) (v : Option (List ℕ)) → is_covered_by left v other ≡ false → is_same_left other left ≡ false
-not-covered left other None e = and-none (bytes_eq other.path left.path) (is_same_version other.version left.version) e
+not-covered left other None e = and_left (bytes_eq other.path left.path) (is_same_version other.version left.version) e
 not-covered left other (Some version) e = e
 
 replace-mild : (r : Replacing) (d : Directive) → is_replaced_by r.0 d ≡ false → do_clash (Replaces r) d ≡ false
-replace-mild r (Replaces q) e = and-none (is_same_left r.0 q.0) (not (is_same_right r.1 q.1)) (same-left r.0 q.0 ∙ not-covered r.0 q.0 r.0.version e)
+replace-mild r (Replaces q) e = and_left (is_same_left r.0 q.0) (not (is_same_right r.1 q.1)) (same-left r.0 q.0 ∙ not-covered r.0 q.0 r.0.version e)
 replace-mild r d e = refl
 
 right-path-right : (right : Right) → IsSoundRight right → right_path_kinds right ≡ []
@@ -243,12 +239,12 @@ pub replace-are : (r : Replacing) → IsSoundLeft r.0 → IsSoundRight r.1 → A
 replace-are r left right = replace-are-of r.0.path r.0.version r.1 left.0 left.1 right
 
 replace-made : (r : Replacing) → IsSoundLeft r.0 → IsSoundRight r.1 → does_left_fit r.0.path r.0.version ≡ true → (block : Option Placed) (line : Line Placed) (d : Directive)
-    → directive_at block line ≡ Some d → is_replaced_by r.0 d ≡ true → IsValidLine (is_some block) (plain line) → IsMadeNew (Replaces r) block line (with_arguments (replace_words r) block line)
+    → directive_at block line ≡ Some d → is_replaced_by r.0 d ≡ true → IsValidLine (is_some block) (plain line) → IsMadeNew (Replaces r) block (with_arguments (replace_words r) block line)
 replace-made r left right fit block line (Replaces q) held e stands =
     let by = held-by block line (Replaces q) held in
     let verb : main_verb by.verb ≡ ForReplace = sym (directive-verb (main_verb by.verb) (words_of by.arguments) (Replaces q) by.says) in
-    entry-made (Replaces r) (Replaces q) block line (with_arguments (replace_words r) block line) by (replace_words r) held
-    (all-arguments block by.verb by.front by.arguments line by.suffix (replace_words r) by.at by.is) stands (replace-are r left right) (rw verb (replace-says r left right)) (λ w. absurd cc)
+    entry-made (Replaces r) (Replaces q) block line (with_arguments (replace_words r) block line) by (replace_words r)
+    (all-arguments block by.verb by.front by.arguments line by.suffix (replace_words r) by.at by.is) stands (replace-are r left right) (rw verb (replace-says r left right))
     (replace-kinds r left right fit)
 replace-made r left right fit block line d held e stands = absurd cc
 

@@ -1,8 +1,8 @@
 -- Where new entries go, by positions.
-use Rattle.std.proofs.Common.{◌≡◌, ◌≤◌, arith, length, subst, ℕ, ◌+◌, ◌||◌, Bool, true, false, List, [], ◌∷◌, ◌++◌, take, drop, Option, Some, None, is_some, refl, sym, ap, ◌∙◌, append-nil, inl, inr}
+use Rattle.std.proofs.Common.{◌≡◌, ◌≤◌, arith, length, subst, ℕ, ◌+◌, Bool, true, false, List, [], ◌∷◌, ◌++◌, take, drop, Option, Some, None, is_some, refl, sym, ap, ◌∙◌, append-nil, inl, inr}
 use Rattle.std.specs.Prelude.{insert, suc, if◌then◌else◌}
 use Rattle.std.specs.Option.{option_map, option_or}
-use Rattle.std.proofs.lemmas.Bool.{cases_Bool, true≢false}
+use Rattle.std.proofs.lemmas.Bool.{cases_Bool, or_parts, true≢false}
 use Rattle.gm_syntax.specs.Tokens.{Placed}
 use Rattle.gm_syntax.specs.Document.{Line, Blank, Comment, Open, Close, Entry}
 use Rattle.gm_file.specs.Directives.{Directive, block_after_line}
@@ -58,16 +58,12 @@ abbrev pub insert_at_spot : List (Line Placed) → List (Line Placed) → Option
 insert_at_spot new lines None = lines ++ new
 insert_at_spot new lines (Some spot) = take (past_block lines spot) lines ++ (new ++ drop (past_block lines spot) lines)
 
-or-none : (a b : Bool) → (a || b) ≡ false → (a ≡ false) × (b ≡ false)
-or-none true b e = absurd cc
-or-none false b e = (refl, e)
-
 -- ---- after the last directive of a verb
 
 pub no-spot : (test : Directive → Bool) (block : Option Placed) (lines : List (Line Placed)) → is_there_from test block lines ≡ false → spot_after_last test block lines ≡ None
 no-spot test block [] e = refl
 no-spot test block (line ∷ lines) e =
-    let parts = or-none (passes test (directive_at block line)) (is_there_from test (block_after_line block line) lines) e in
+    let parts = or_parts (passes test (directive_at block line)) (is_there_from test (block_after_line block line) lines) e in
     rw (no-spot test (block_after_line block line) lines parts.1, parts.0) refl
 
 -- the lines with an entry at a position, if there is one

@@ -1,13 +1,13 @@
 -- An operation that follows itself leaves the lines as they are.
 use Rattle.std.proofs.Common.{◌≡◌, ℕ, ◌-◌, Bool, true, false, List, [], ◌∷◌, ◌++◌, length, take, drop, Option, Some, None, is_some, refl, sym, ap, subst, ◌∙◌, append-nil, arith, length-append, inl, inr}
 use Rattle.std.specs.Prelude.{codes, filter}
-use Rattle.std.specs.Option.{option_map, option_to_list}
+use Rattle.std.specs.Option.{option_to_list}
 use Rattle.std.specs.List.{AllByRecursion}
-use Rattle.std.proofs.lemmas.Bool.{cases_Bool, false≢true}
+use Rattle.std.proofs.lemmas.Bool.{cases_Bool, false≢true, or_parts}
 use Rattle.std.proofs.lemmas.List.{take-append-drop, take_at}
 use Rattle.gm_syntax.specs.Tokens.{Placed}
 use Rattle.gm_syntax.specs.Document.{Line, Blank, Comment, Open, Close, Entry}
-use Rattle.gm_file.specs.Directives.{Directive, LineInBlock, block_after_line, block_after_lines, item_at}
+use Rattle.gm_file.specs.Directives.{Directive, LineInBlock, block_after_line, block_after_lines, item_at, with_blocks_from}
 use Rattle.gm_file.specs.Faults.{is_go, is_module}
 use Rattle.gm_file_edit.specs.declared.adding.Spot.{Spot}
 use Rattle.gm_file_edit.specs.Edits.{Edit, Set, Setting, ModuleIs, GoIs, RequireAt, Drop, Add, ReplaceWith}
@@ -26,10 +26,11 @@ use Rattle.gm_file_edit.proofs.EditedSound.{by-put}
 use Rattle.gm_file_edit.proofs.Idle.{second-addition, second-drop, some-filtered, there-said}
 use Rattle.gm_file_edit.proofs.Said.{none-any}
 use Rattle.gm_file_edit.proofs.SaidAfter.{set-stands-alone, there-is}
-use Rattle.gm_file_edit.proofs.Seats.{remaining-seats, seats-append, seats_from}
+use Rattle.gm_file_edit.proofs.Seats.{fewer-all, remaining-left}
+use Rattle.gm_file.proofs.Snoc.{with_blocks-snoc}
 use Rattle.gm_file_edit.proofs.Pairs.{IsSound, document-sound}
 use Rattle.gm_file_edit.proofs.Spots.{added-spot, added_at, first-spot, insert_at_spot, past_block, spot_after_first, spot_after_last}
-use Rattle.gm_file_edit.proofs.Untouched.{all-lines-stay, all_stay, none-dropped-from, or-none}
+use Rattle.gm_file_edit.proofs.Untouched.{all-lines-stay, all_stay, none-dropped-from}
 use Rattle.std.proofs.lemmas.Option.{same_Some}
 
 -- how an operation rewrites a line, given the verb of its block
@@ -47,32 +48,11 @@ AreSet test new seats = AllByRecursion (IsSet test new) seats
 
 -- the same of lines, given the verb of the block that is open before them
 abbrev LinesAreSet : (Directive → Bool) → Rewriting → Option Placed → List (Line Placed) → Type 0
-LinesAreSet test new block lines = AreSet test new (seats_from block lines)
+LinesAreSet test new block lines = AreSet test new (with_blocks_from block lines)
 
 set-append : (test : Directive → Bool) (new : Rewriting) (xs ys : List (LineInBlock Placed)) → AreSet test new xs → AreSet test new ys → AreSet test new (xs ++ ys)
 set-append test new [] ys one two = two
 set-append test new (x ∷ xs) ys one two = (one.0, set-append test new xs ys one.1 two)
-
--- one more line before the others
-line-set : (test : Directive → Bool) (new : Rewriting) (block : Option Placed) (line : Line Placed) (lines : List (Line Placed)) → IsSet test new (block, line)
-    → LinesAreSet test new (block_after_line block line) lines → LinesAreSet test new block (line ∷ lines)
-line-set test new block line lines is are = by_directive (directive_at block line)
-  where
-    by_directive : (held : Option Directive) → AreSet test new (option_to_list (option_map (λ d. (block, line)) held) ++ seats_from (block_after_line block line) lines)
-    by_directive None = are
-    by_directive (Some d) = (is, are)
-
-record FirstIsSet (test : Directive → Bool) (new : Rewriting) (block : Option Placed) (line : Line Placed) (lines : List (Line Placed)) : Type 0 where
-  pub line_is : IsSet test new (block, line)
-  pub lines_are : LinesAreSet test new (block_after_line block line) lines
-
-first-set : (test : Directive → Bool) (new : Rewriting) (block : Option Placed) (line : Line Placed) (lines : List (Line Placed)) → LinesAreSet test new block (line ∷ lines) → FirstIsSet test new block line lines
-first-set test new block line lines are = by_directive (directive_at block line) refl are
-  where
-    by_directive : (held : Option Directive) → directive_at block line ≡ held → AreSet test new (option_to_list (option_map (λ d. (block, line)) held) ++ seats_from (block_after_line block line) lines)
-        → FirstIsSet test new block line lines
-    by_directive None is all = record { line_is = λ e. absurd (false≢true (sym (ap (passes test) is) ∙ e)); lines_are = all }
-    by_directive (Some d) is all = record { line_is = all.0; lines_are = all.1 }
 
 missed : (test : Directive → Bool) (new : Rewriting) (block : Option Placed) (line : Line Placed) → passes test (directive_at block line) ≡ false → IsSet test new (block, line)
 missed test new block line miss = λ e. absurd (false≢true (sym miss ∙ e))
@@ -81,8 +61,8 @@ missed test new block line miss = λ e. absurd (false≢true (sym miss ∙ e))
 none-set : (test : Directive → Bool) (new : Rewriting) (block : Option Placed) (lines : List (Line Placed)) → is_there_from test block lines ≡ false → LinesAreSet test new block lines
 none-set test new block [] none = tt
 none-set test new block (line ∷ lines) none =
-    let parts = or-none (passes test (directive_at block line)) (is_there_from test (block_after_line block line) lines) none in
-    line-set test new block line lines (missed test new block line parts.0) (none-set test new (block_after_line block line) lines parts.1)
+    let parts = or_parts (passes test (directive_at block line)) (is_there_from test (block_after_line block line) lines) none in
+    (missed test new block line parts.0, none-set test new (block_after_line block line) lines parts.1)
 
 -- ---- the lines that a setting leaves, if it targets some
 
@@ -97,7 +77,7 @@ dropping-set test new block (line ∷ lines) =
     let rest = dropping-set test new (block_after_line block line) lines in
     elim (cases_Bool (passes test (directive_at block line))) [
       | inl hit ↦ rw hit (subst (λ (b : Option Placed). LinesAreSet test new b (kept (dropping_from test (block_after_line block line) lines))) (passing-level test block line hit) rest)
-      | inr miss ↦ rw miss (line-set test new block line (kept (dropping_from test (block_after_line block line) lines)) (missed test new block line miss) rest)
+      | inr miss ↦ rw miss (missed test new block line miss, rest)
     ]
 
 renewing-set : (test : Directive → Bool) (new : Rewriting) → IsSetting test new → (block : Option Placed) (lines : List (Line Placed)) → LinesAreSet test new block (kept (renewing_from test new block lines))
@@ -105,11 +85,8 @@ renewing-set test new sets block [] = tt
 renewing-set test new sets block (line ∷ lines) =
     let behind : Option Placed = block_after_line block line in
     elim (cases_Bool (passes test (directive_at block line))) [
-      | inl hit ↦
-          rw hit
-          (line-set test new block (new block line) (kept (dropping_from test behind lines)) (λ e. sets.again block line hit)
-          (subst (λ (b : Option Placed). LinesAreSet test new b (kept (dropping_from test behind lines))) (sym (sets.level block line)) (dropping-set test new behind lines)))
-      | inr miss ↦ rw miss (line-set test new block line (kept (renewing_from test new behind lines)) (missed test new block line miss) (renewing-set test new sets behind lines))
+      | inl hit ↦ rw hit ((λ e. sets.again block line hit), subst (λ (b : Option Placed). LinesAreSet test new b (kept (dropping_from test behind lines))) (sym (sets.level block line)) (dropping-set test new behind lines))
+      | inr miss ↦ rw miss (missed test new block line miss, renewing-set test new sets behind lines)
     ]
 
 -- ---- rewriting twice
@@ -156,7 +133,7 @@ setting-sets (RequireAt p) = record { level = last-level p.1; again = λ block l
 setting-sets (ReplaceWith r) = record { level = arguments-level (replace_words r); again = arguments-again (about (Set (ReplaceWith r))) (replace_words r) }
 
 remaining-set : (test : Directive → Bool) (new : Rewriting) → IsSetting test new → (lines : List (Line Placed)) → LinesAreSet test new None (remaining (renewing_from test new None lines))
-remaining-set test new sets lines = subst (AreSet test new) (sym (remaining-seats (renewing_from test new None lines))) (renewing-set test new sets None lines)
+remaining-set test new sets lines = fewer-all (IsSet test new) (remaining-left (renewing_from test new None lines)).0 (renewing-set test new sets None lines)
 
 changed-set : (edit : Edit) (lines : List (Line Placed)) (d : Directive) → set_by edit ≡ Some d → LinesAreSet (about edit) (made_new edit) None (changed edit lines)
 unfolding changed
@@ -170,11 +147,11 @@ changed-set (Add a) lines d sets = absurd cc
 inserted-set : (test : Directive → Bool) (new : Rewriting) (block : Option Placed) (front more back : List (Line Placed)) → is_there_from test block (front ++ back) ≡ false
     → LinesAreSet test new (block_after_lines block front) more → block_after_lines (block_after_lines block front) more ≡ block_after_lines block front → LinesAreSet test new block (front ++ (more ++ back))
 inserted-set test new block [] more back none are level =
-    subst (AreSet test new) (sym (seats-append block more back))
-    (set-append test new (seats_from block more) (seats_from (block_after_lines block more) back) are (subst (λ (b : Option Placed). LinesAreSet test new b back) (sym level) (none-set test new block back none)))
+    subst (AreSet test new) (sym (with_blocks-snoc block more back))
+    (set-append test new (with_blocks_from block more) (with_blocks_from (block_after_lines block more) back) are (subst (λ (b : Option Placed). LinesAreSet test new b back) (sym level) (none-set test new block back none)))
 inserted-set test new block (line ∷ front) more back none are level =
-    let parts = or-none (passes test (directive_at block line)) (is_there_from test (block_after_line block line) (front ++ back)) none in
-    line-set test new block line (front ++ (more ++ back)) (missed test new block line parts.0) (inserted-set test new (block_after_line block line) front more back parts.1 are level)
+    let parts = or_parts (passes test (directive_at block line)) (is_there_from test (block_after_line block line) (front ++ back)) none in
+    (missed test new block line parts.0, inserted-set test new (block_after_line block line) front more back parts.1 are level)
 
 -- an entry that is new in its block is rewritten to itself
 abbrev EntryIsSet : Rewriting → List ℕ → List Placed → Type 0
@@ -185,12 +162,12 @@ entry-level block true text arguments = refl
 entry-level block false text arguments = refl
 
 only-set : (test : Directive → Bool) (new : Rewriting) (block : Option Placed) (line : Line Placed) → new block line ≡ line → LinesAreSet test new block (line ∷ [])
-only-set test new block line same = line-set test new block line [] (λ e. same) tt
+only-set test new block line same = ((λ e. same), tt)
 
 -- a blank line and an entry outside blocks
 blank-and-entry : (test : Directive → Bool) (new : Rewriting) (block : Option Placed) (line : Line Placed) → new block line ≡ line → LinesAreSet test new block (Blank ∷ line ∷ [])
 unfolding item_at
-blank-and-entry test new block line same = only-set test new block line same
+blank-and-entry test new block line same = ((λ e. absurd cc), only-set test new block line same)
 
 at-end-set : (test : Directive → Bool) (new : Rewriting) (text : List ℕ) (arguments : List Placed) (lines : List (Line Placed)) → EntryIsSet new text arguments → IsSound lines → is_there test lines ≡ false
     → LinesAreSet test new None (lines ++ Blank ∷ single text arguments ∷ [])
@@ -285,12 +262,11 @@ renewing-stays test new d block [] are alone = refl
 renewing-stays test new d block (line ∷ lines) are alone =
     let behind : Option Placed = block_after_line block line in
     let rest : List Directive = held_from behind lines in
-    let first = first-set test new block line lines are in
     elim (cases_Bool (passes test (directive_at block line))) [
       | inl hit ↦
           let none : is_there_from test behind lines ≡ false = there-is test behind lines ∙ none-any test rest (rest-none test (directive_at block line) rest d hit alone) in
-          rw (hit, first.line_is hit, none-dropped-from test behind lines none) refl
-      | inr miss ↦ rw miss (ap (λ (fs : List Fate). Some line ∷ fs) (renewing-stays test new d behind lines first.lines_are (sym (rest-same test (directive_at block line) rest miss) ∙ alone)))
+          rw (hit, are.0 hit, none-dropped-from test behind lines none) refl
+      | inr miss ↦ rw miss (ap (λ (fs : List Fate). Some line ∷ fs) (renewing-stays test new d behind lines are.1 (sym (rest-same test (directive_at block line) rest miss) ∙ alone)))
     ]
 
 stays : (test : Directive → Bool) (new : Rewriting) (d : Directive) (lines : List (Line Placed)) → LinesAreSet test new None lines → filter test (held_from None lines) ≡ d ∷ []

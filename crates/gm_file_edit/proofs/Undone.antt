@@ -1,7 +1,7 @@
 -- A drop of what an operation put in leaves the lines as they were.
 use Rattle.std.proofs.Common.{◌≡◌, ℕ, ◌||◌, if◌then◌else◌, Bool, true, false, List, [], ◌∷◌, ◌++◌, Option, Some, None, is_some, refl, sym, ap, subst, ◌∙◌, append-nil, append_assoc, inl, inr}
 use Rattle.std.specs.List.{list_any}
-use Rattle.std.proofs.lemmas.Bool.{cases_Bool, true≢false}
+use Rattle.std.proofs.lemmas.Bool.{cases_Bool, or_parts, true≢false}
 use Rattle.std.proofs.lemmas.List.{map-append}
 use Rattle.gm_syntax.specs.Layout.{initial_state, is_blank_line, layout, layout_from, line_with_gap, state_after}
 use Rattle.gm_syntax.specs.LineViews.{plain, plain_lines}
@@ -27,7 +27,7 @@ use Rattle.gm_file_edit.proofs.Idle.{there-said}
 use Rattle.gm_file_edit.proofs.Renewals.{left-itself, pair-itself, put_by, text-itself}
 use Rattle.gm_file_edit.proofs.SaidAfter.{sound-of}
 use Rattle.gm_file_edit.proofs.Pairs.{IsSound}
-use Rattle.gm_file_edit.proofs.Untouched.{all-lines-left, all_stay, none-dropped, none-dropped-from, or-none, stay-before}
+use Rattle.gm_file_edit.proofs.Untouched.{all-lines-left, all_stay, none-dropped, none-dropped-from, stay-before}
 use Rattle.std.proofs.lemmas.Option.{same_Some}
 
 -- ---- the fates of the lines
@@ -40,7 +40,7 @@ one-gone test block [] back entry none hit =
     let held : passes test (directive_at block entry) ≡ true = hit in
     rw (held, level) (ap (λ (fs : List Fate). None ∷ fs) (none-dropped-from test block back none))
 one-gone test block (line ∷ front) back entry none hit =
-    let parts = or-none (passes test (directive_at block line)) (is_there_from test (block_after_line block line) (front ++ back)) none in
+    let parts = or_parts (passes test (directive_at block line)) (is_there_from test (block_after_line block line) (front ++ back)) none in
     rw parts.0 (ap (λ (fs : List Fate). Some line ∷ fs) (one-gone test (block_after_line block line) front back entry parts.1 hit))
 
 -- ---- what is left
@@ -130,7 +130,7 @@ blank-none : (test : Directive → Bool) (block : Option Placed) (lines : List (
 unfolding item_at
 blank-none test block [] none = refl
 blank-none test block (line ∷ lines) none =
-    let parts = or-none (passes test (directive_at block line)) (is_there_from test (block_after_line block line) lines) none in
+    let parts = or_parts (passes test (directive_at block line)) (is_there_from test (block_after_line block line) lines) none in
     rw (parts.0, blank-none test (block_after_line block line) lines parts.1) refl
 
 -- what is put in at the end and dropped
