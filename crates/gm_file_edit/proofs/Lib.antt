@@ -33,3 +33,4 @@ pub mod Quotes
 pub mod Told
 pub mod PassedOver
 pub mod KeyedChanges
+pub mod Tails

@@ -16,7 +16,7 @@ drop-next {X} xs n x lt is =
 -- ---- the open block
 
 -- a line that neither opens nor closes a block
-level-line : (block : Option Placed) (line : Line Placed) → changes_block (key_of line) ≡ false → block_after_line block line ≡ block
+pub level-line : (block : Option Placed) (line : Line Placed) → changes_block (key_of line) ≡ false → block_after_line block line ≡ block
 level-line block Blank level = refl
 level-line block (Comment text) level = refl
 level-line block (Open verb suffix) level = absurd cc

@@ -2,7 +2,7 @@
 //!
 //! A new entry goes next to its own kind, so that the file keeps its grouping.
 
-ghost use Rattle.std.specs.Prelude.{◌≡◌, ◌∷◌, ◌++◌, ◌≤◌, [], false, length, take, drop, List, IfOk, OnErr, OnOk, None, codes};
+ghost use Rattle.std.specs.Prelude.{◌≡◌, ◌∷◌, ◌++◌, ◌≤◌, [], false, length, take, drop, List, IfOk, IfSome, OnErr, OnOk, None, Some, codes};
 ghost use Rattle.gm_syntax.specs.Document.{Blank, IsDocument, Line as LineOf};
 ghost use Rattle.gm_syntax.specs.Tokens.{Placed};
 ghost use Rattle.gm_syntax.specs.LineViews.{line_of, line_views, plain_lines};
@@ -16,7 +16,7 @@ ghost use Rattle.gm_file_edit.specs.NewWords.{entry_at, made_word, single};
 ghost use Rattle.gm_file_edit.specs.Keys.{is_inside};
 
 use crate::keyed_lines::KeyedLines;
-use crate::keys::{Scope, is_entry_in, scope_after};
+use crate::keys::{Scope, changes_block, is_entry_in, scope_after};
 use crate::new_words::one_word;
 use gm_file::{Verb, main_verb};
 use gm_syntax::{Line, Token};
@@ -61,6 +61,40 @@ fn last_spot(own: Verb, lines: &KeyedLines) -> Option<Spot>
         scope = scope_after(own, scope, key);
     }
     spot
+}
+
+/// The position directly after the last entry with this verb, if no line after it opens or closes a block. It is looked
+/// for from the end, so that an entry which follows another of its kind needs no look at the lines before.
+fn tail_spot(own: Verb, lines: &KeyedLines) -> Option<Spot>
+    requires known { verb_eq own Unknown ≡ false }
+    requires document { IsDocument (plain_lines lines.now) }
+    requires sound { fault_of Strict (plain_lines lines.now) ≡ None }
+    ensures { IfSome result (λ spot. spot_after_last (is_of_verb own) None lines.now ≡ Some spot) }
+{
+    let mut n = lines.len();
+    while n > 0 && !changes_block(lines.key(n - 1)) {
+        if is_entry_in(own, Scope::Outside, lines.key(n - 1)) {
+            return Some(Spot {
+                before: n,
+                inside: false,
+            });
+        }
+        n -= 1;
+    }
+    None
+}
+
+/// The position at which an entry with this verb is added next to others, if there are any: directly after the last.
+fn added_spot(own: Verb, lines: &KeyedLines) -> Option<Spot>
+    requires known { verb_eq own Unknown ≡ false }
+    requires document { IsDocument (plain_lines lines.now) }
+    requires sound { fault_of Strict (plain_lines lines.now) ≡ None }
+    ensures { result ≡ spot_after_last (is_of_verb own) None lines.now }
+{
+    match tail_spot(own, lines) {
+        Some(spot) => Some(spot),
+        None => last_spot(own, lines),
+    }
 }
 
 /// The position directly after the entry that declares the module path, if any.
@@ -167,7 +201,7 @@ pub(crate) fn add<'a>(
     ensures ok { OnOk result (lines.new ≡ added verb.now arguments.entry.items lines.old) }
     ensures err { OnErr result (lines.new ≡ lines.old) }
 {
-    match last_spot(main_verb(verb), lines) {
+    match added_spot(main_verb(verb), lines) {
         Some(spot) => {
             let entry = entry_at(alloc, spot.inside, verb, arguments)?;
             lines.insert(spot.before, entry)
