@@ -3,6 +3,7 @@ use Rattle.std.proofs.Common.{◌≡◌, ◌∙◌, ◌<◌, ℕ, Bool, cond, Li
 use Rattle.std.specs.Prelude.{IsSome}
 use Rattle.std.specs.List.{IsDistinct}
 use Rattle.gm_name.specs.ModuleVersion.{ModuleVersion, pair_eq}
+use Rattle.gm_name.specs.declared.place.OptionalPlace.{OptionalPlace}
 use Rattle.gm_file.specs.Directives.{Right}
 use Rattle.gm_store.proofs.NameOrder.{name_itself}
 use Rattle.gm_store.specs.Asked.{Name, mod_file}
@@ -28,7 +29,7 @@ is_file_of cache number name distinct within is = record {
     apart : replacing_place cache.files name ≡ None
         → IsSome (replacing_place cache.files (file_of (main_in cache) (numbered cache number))) → ⊥
     apart none some =
-        let never = subst (λ (o : Option ℕ). IsSome o) (ap (replacing_place cache.files) (sym is) ∙ none) some in cc
+        let never = subst (λ (o : Option OptionalPlace). IsSome o) (ap (replacing_place cache.files) (sym is) ∙ none) some in cc
 
     own_named : (o : Option Right) → (IsSome o → ⊥)
         → file_named (numbered cache number) o ≡ mod_file (numbered cache number).0 (numbered cache number).1

@@ -6,6 +6,7 @@ use Rattle.std.specs.Map.{lookup}
 use Rattle.std.specs.Option.{IfSome, IsSome, option_map, option_or}
 use Rattle.std.proofs.lemmas.List.Elements.{All-head, All-more, All-tail, All-weaker}
 use Rattle.gm_name.specs.ModuleVersion.{ModuleVersion}
+use Rattle.gm_name.specs.declared.place.OptionalPlace.{OptionalPlace}
 use Rattle.gm_file.specs.Directives.{Left, Replacing, Right, left_with, left_without}
 use Rattle.gm_file.specs.Faults.{is_same_left}
 use Rattle.gm_file.specs.Fields.{replacement_of, right_for}
@@ -19,38 +20,38 @@ use Rattle.gm_file.specs.Main.{Main, replacement_in}
 use Rattle.gm_graph.specs.Reading.{file_named, file_of}
 
 -- A place is noted for the file of a name.
-abbrev pub HasName : List (FileName × ℕ) → Name → Type 0
+abbrev pub HasName : List (FileName × OptionalPlace) → Name → Type 0
 HasName entries name = IsSome (lookup (λ file. same_name name (name_of file)) entries)
 
 -- A place is noted for the file of this replacement, whatever it replaces.
-abbrev pub HasRight : List (FileName × ℕ) → Right → Type 0
+abbrev pub HasRight : List (FileName × OptionalPlace) → Right → Type 0
 HasRight entries right = (x : ModuleVersion) → HasName entries (file_named x (Some right))
 
 -- A place is noted for the file of a `replace` line.
-abbrev pub HasLine : List (FileName × ℕ) → Replace → Type 0
+abbrev pub HasLine : List (FileName × OptionalPlace) → Replace → Type 0
 HasLine entries line = HasRight entries (right_view line.right)
 
 -- ---- one more name
 
 -- What was found is found still, if one place more is put.
-pub some_still : (b : Bool) (r : Option ℕ) (place : ℕ) → IsSome r → IsSome (cond b (Some place) r)
+pub some_still : (b : Bool) (r : Option OptionalPlace) (place : OptionalPlace) → IsSome r → IsSome (cond b (Some place) r)
 some_still true r place some = refl
 some_still false r place some = some
 
-has_still : (entries : List (FileName × ℕ)) (key : FileName) (place : ℕ) (name : Name) → HasName entries name
+has_still : (entries : List (FileName × OptionalPlace)) (key : FileName) (place : OptionalPlace) (name : Name) → HasName entries name
     → HasName (insert_entry cmp-value.it entries key place) name
 has_still entries key place name has =
-    subst (λ (r : Option ℕ). IsSome r) (sym (held_inserted entries key place name))
+    subst (λ (r : Option OptionalPlace). IsSome r) (sym (held_inserted entries key place name))
     (some_still (same_name name (name_of key)) (lookup (λ file. same_name name (name_of file)) entries) place has)
 
-has_itself : (entries : List (FileName × ℕ)) (key : FileName) (place : ℕ) (name : Name) → name_of key ≡ name
+has_itself : (entries : List (FileName × OptionalPlace)) (key : FileName) (place : OptionalPlace) (name : Name) → name_of key ≡ name
     → HasName (insert_entry cmp-value.it entries key place) name
 has_itself entries key place name is =
-    subst (λ (r : Option ℕ). IsSome r) (sym (held_inserted entries key place name))
+    subst (λ (r : Option OptionalPlace). IsSome r) (sym (held_inserted entries key place name))
     (subst (λ (b : Bool). IsSome (cond b (Some place) (lookup (λ file. same_name name (name_of file)) entries)))
     (sym (same_from_equal name (name_of key) (sym is))) refl)
 
-pub one_more_line : (entries : List (FileName × ℕ)) (lines : List Replace) (i : ℕ) (line : Replace) (key : FileName) (place : ℕ)
+pub one_more_line : (entries : List (FileName × OptionalPlace)) (lines : List Replace) (i : ℕ) (line : Replace) (key : FileName) (place : OptionalPlace)
     → i < length lines → line ≡ get_or lines i line → ((x : ModuleVersion) → name_of key ≡ file_named x (Some (right_view line.right)))
     → All (HasLine entries) (take i lines) → All (HasLine (insert_entry cmp-value.it entries key place)) (take (i + 1) lines)
 one_more_line entries lines i line key place within is named all =
@@ -76,12 +77,12 @@ either : (P : Right → Type 0) (a b : Option Right) → IfSome a P → IfSome b
 either P None b one two = two
 either P (Some right) b one two = one
 
-named : (entries : List (FileName × ℕ)) (x : ModuleVersion) (o : Option Right) → IfSome o (HasRight entries) → IsSome o
+named : (entries : List (FileName × OptionalPlace)) (x : ModuleVersion) (o : Option Right) → IfSome o (HasRight entries) → IsSome o
     → HasName entries (file_named x o)
 named entries x None has some = absurd (cc some)
 named entries x (Some right) has some = has x
 
-pub has_replacing : (main : Main) (entries : List (FileName × ℕ)) (lines : List Replace) → replace_views lines ≡ main.replaces
+pub has_replacing : (main : Main) (entries : List (FileName × OptionalPlace)) (lines : List Replace) → replace_views lines ≡ main.replaces
     → All (HasLine entries) lines → (x : ModuleVersion) → IsSome (replacement_in main x) → HasName entries (file_of main x)
 has_replacing main entries lines is all x =
     subst (λ (rs : List Replacing). IsSome (replacement_of rs x) → HasName entries (file_named x (replacement_of rs x))) is

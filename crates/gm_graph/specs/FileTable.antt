@@ -2,37 +2,39 @@
 use Rattle.std.specs.Prelude.{◌≡◌, ◌==◌, ◌<◌, ◌≤◌, if◌then◌else◌, ℕ, List, [], ◌∷◌, Option, Some, None, IsSome, length, slice_get, slice_index_or, unwrap_or}
 use Rattle.std.specs.List.{IsDistinct}
 use Rattle.std.specs.Map.{lookup}
+use Rattle.std.specs.Option.{option_and_then}
 use Rattle.gm_name.specs.ModuleVersion.{ModuleVersion, module_at, pair_eq}
+use Rattle.gm_name.specs.OptionalPlaces.{no_place, place_in}
+use Rattle.gm_name.specs.declared.place.OptionalPlace.{OptionalPlace}
 use Rattle.gm_store.specs.Asked.{Name, mod_file, folder_file, list_file, name_of, same_name}
 use Rattle.gm_graph.specs.declared.cache.file_table.FileTable.{FileTable}
 use Rattle.gm_graph.specs.declared.cache.summary.Kept.{Kept}
 use Rattle.gm_file.specs.Main.{Main, replacement_in}
-use Rattle.gm_graph.specs.Places.{no_place}
 use Rattle.gm_graph.specs.Reading.{file_of}
 
 -- the place beside a module, in a list of places by the modules' numbers, of which the last ones may be left out
-abbrev pub place_beside : List ModuleVersion → List ℕ → ModuleVersion → ℕ
+abbrev pub place_beside : List ModuleVersion → List OptionalPlace → ModuleVersion → OptionalPlace
 place_beside [] places x = no_place
 place_beside (y ∷ modules) [] x = no_place
 place_beside (y ∷ modules) (place ∷ places) x = if pair_eq y x then place else place_beside modules places x
 
 -- the place of a module's own file
-abbrev pub own_place : List ModuleVersion → FileTable → Name → ℕ
+abbrev pub own_place : List ModuleVersion → FileTable → Name → OptionalPlace
 own_place modules files (mod_file path version) = place_beside modules files.own.items (path, version)
 own_place modules files (folder_file text) = no_place
 own_place modules files (list_file path) = no_place
 
 -- the place of a replacement's file, if the name is that of one
-abbrev pub replacing_place : FileTable → Name → Option ℕ
+abbrev pub replacing_place : FileTable → Name → Option OptionalPlace
 replacing_place files name = lookup (λ file. same_name name (name_of file)) files.replacing.entries
 
 -- the place of the file of a name
-abbrev pub place_of : List ModuleVersion → FileTable → Name → ℕ
+abbrev pub place_of : List ModuleVersion → FileTable → Name → OptionalPlace
 place_of modules files name = unwrap_or (replacing_place files name) (own_place modules files name)
 
 -- what is kept of the file of a name
 abbrev pub kept_at : List ModuleVersion → FileTable → Name → Option Kept
-kept_at modules files name = slice_get files.files.items (place_of modules files name)
+kept_at modules files name = option_and_then (slice_get files.files.items) (place_in (place_of modules files name))
 
 -- The file of each replaced vertex is one of those of the replacements.
 abbrev pub HasReplacing : Main → FileTable → Type 0
@@ -64,7 +66,7 @@ KeepsFiles modules old new = (name : Name) → kept_at modules new name ≡ kept
 -- ---- what changes of the places
 
 -- The place for this number is this one now, and those for the other numbers stay.
-abbrev pub PutsOwn : FileTable → FileTable → ℕ → ℕ → Type 0
+abbrev pub PutsOwn : FileTable → FileTable → ℕ → OptionalPlace → Type 0
 PutsOwn old new number place = (other : ℕ) → slice_index_or new.own.items other no_place
     ≡ (if number == other then place else slice_index_or old.own.items other no_place)
 
@@ -78,7 +80,7 @@ abbrev pub IsOwnWithin : ℕ → FileTable → FileTable → Type 0
 IsOwnWithin number old new = (count : ℕ) → number < count → length old.own.items ≤ count → length new.own.items ≤ count
 
 -- This is the place of the file of a replacement with this name, and those of the other replacements' files stay.
-abbrev pub PutsReplacing : FileTable → FileTable → Name → ℕ → Type 0
+abbrev pub PutsReplacing : FileTable → FileTable → Name → OptionalPlace → Type 0
 PutsReplacing old new name place = (other : Name)
     → replacing_place new other ≡ (if same_name other name then Some place else replacing_place old other)
 
@@ -91,7 +93,7 @@ abbrev pub KeepsOthers : FileTable → FileTable → Type 0
 KeepsOthers old new = (new.files ≡ old.files) × (new.replacing ≡ old.replacing)
 
 -- The place of the file of this name is this one now, and those of the other names stay.
-abbrev pub NotesPlace : List ModuleVersion → FileTable → FileTable → Name → ℕ → Type 0
+abbrev pub NotesPlace : List ModuleVersion → FileTable → FileTable → Name → OptionalPlace → Type 0
 NotesPlace modules old new name place = (other : Name)
     → place_of modules new other ≡ (if same_name other name then place else place_of modules old other)
 

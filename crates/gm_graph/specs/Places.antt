@@ -1,10 +1,8 @@
 -- Places in a list.
-use Rattle.std.specs.Prelude.{◌≢◌, ◌<◌, ℕ}
-
--- the number that stands for no place
-abbrev pub no_place : ℕ
-no_place = 4294967295
+use Rattle.std.specs.Prelude.{◌≡◌, ◌<◌, ℕ, Some}
+use Rattle.gm_name.specs.OptionalPlaces.{place_in}
+use Rattle.gm_name.specs.declared.place.OptionalPlace.{OptionalPlace}
 
 -- one of so many places, or none
-abbrev pub IsPlace : ℕ → ℕ → Type 0
-IsPlace count place = place ≢ no_place → place < count
+abbrev pub IsPlace : ℕ → OptionalPlace → Type 0
+IsPlace count place = (number : ℕ) → place_in place ≡ Some number → number < count

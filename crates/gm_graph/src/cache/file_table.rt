@@ -10,24 +10,20 @@ ghost use Rattle.gm_graph.specs.Places.{IsPlace};
 use crate::cache::naming::right_name;
 use crate::cache::summary::{Kept, ListSpan};
 use gm_file::MainFile;
-use gm_name::NoMemory;
+use gm_name::{NoMemory, OptionalPlace};
 use gm_store::FileName;
 use std::alloc::Global;
 use std::collections::BTreeMap;
-
-/// The number that stands for no place. It keeps an entry at four bytes, half of an `Option<u32>`.
-const NO_PLACE: u32 = 4_294_967_295;
 
 /// What is kept of the files that were read.
 #[derive(Drop)]
 pub(crate) struct FileTable {
     /// What is kept of each file, in the order in which they were read.
     files: Vec<Kept>,
-    /// For each module, by its number, the place of its own file in `files`, or `NO_PLACE`. The last ones may be left
-    /// out.
-    own: Vec<u32>,
-    /// The names of the files of all replacements, with their places in `files`, or `NO_PLACE`.
-    replacing: BTreeMap<FileName, u32>,
+    /// For each module, by its number, the place of its own file in `files`, if any. The last ones may be left out.
+    own: Vec<OptionalPlace>,
+    /// The names of the files of all replacements, with their places in `files`, if any.
+    replacing: BTreeMap<FileName, OptionalPlace>,
     ghost few: { length files.items ≤ 4294967295 },
     ghost own_places: { All (IsPlace (length files.items)) own.items },
     ghost replacing_places: { All (IsPlace (length files.items)) (values replacing) },
@@ -41,7 +37,7 @@ impl FileTable {
     ghost use Rattle.gm_graph.specs.FileTable.{PutsFile, HasReplacing, IsFileOf, IsOwnWithin, IsPlaceOf, KeepsFiles, KeepsOthers, KeepsOwn, KeepsPlaces, KeepsReplacing, PutsOwn, NotesPlace, PutsReplacing, kept_at, replacing_place};
     ghost use Rattle.gm_file.specs.Main.{Main, main_of};
     ghost use Rattle.gm_name.specs.ModuleVersion.{ModuleVersion};
-    ghost use Rattle.gm_graph.specs.Places.{no_place};
+    ghost use Rattle.gm_name.specs.OptionalPlaces.{no_place};
     ghost use Rattle.gm_graph.specs.Summaries.{span_found};
 
     /// No files, for a main file with these replacements. The only refusal is `NoMemory`.
@@ -54,7 +50,7 @@ impl FileTable {
     {
         let mut replacing = BTreeMap::new(alloc);
         for replace in main.replaces() {
-            replacing.insert(right_name(alloc, &replace.right)?, NO_PLACE)?;
+            replacing.insert(right_name(alloc, &replace.right)?, OptionalPlace::none())?;
         }
         Ok(FileTable {
             files: Vec::new(alloc),
@@ -63,19 +59,19 @@ impl FileTable {
         })
     }
 
-    /// The place of the own file of the module with a number, or `NO_PLACE`.
-    fn own_place(&self, number: u32) -> u32
+    /// The place of the own file of the module with a number, if any.
+    fn own_place(&self, number: u32) -> OptionalPlace
         ensures { result ≡ slice_index_or self.now.own.items number no_place }
     {
         match self.own.get(number as usize) {
-            None => NO_PLACE,
+            None => OptionalPlace::none(),
             Some(place) => *place,
         }
     }
 
     /// The place noted for the name of a replacement's file, or otherwise for the own file of the module with a number,
-    /// or `NO_PLACE`.
-    fn noted_place(&self, name: &FileName, number: u32) -> u32
+    /// if any.
+    fn noted_place(&self, name: &FileName, number: u32) -> OptionalPlace
         ensures { result ≡ unwrap_or (replacing_place self.now (name_of name.now))
             (slice_index_or self.now.own.items number no_place) }
     {
@@ -91,11 +87,7 @@ impl FileTable {
         ensures { (modules : List ModuleVersion) → IsFileOf modules self.now number (name_of name.now)
             → IsPlaceOf modules self.now (name_of name.now) result }
     {
-        let place = self.noted_place(name, number);
-        if place == NO_PLACE {
-            return None;
-        }
-        Some(place)
+        self.noted_place(name, number).get()
     }
 
     /// What is kept of the file at a place.
@@ -130,14 +122,14 @@ impl FileTable {
         if number < self.own.len() {
             return Ok(());
         }
-        self.own.resize(number + 1, NO_PLACE)?;
+        self.own.resize(number + 1, OptionalPlace::none())?;
         Ok(())
     }
 
     /// Notes the place of the own file of the module with a number. The only refusal is `NoMemory`, after which no
     /// place was noted.
-    fn put_own(&mut self, number: u32, place: u32) -> Result<(), NoMemory>
-        requires { place < length self.old.files.items }
+    fn put_own(&mut self, number: u32, place: OptionalPlace) -> Result<(), NoMemory>
+        requires { IsPlace (length self.old.files.items) place }
         ensures puts { OnOk result (PutsOwn self.old self.new number place) }
         ensures err { OnErr result (KeepsOwn self.old self.new) }
         ensures others { KeepsOthers self.old self.new }
@@ -149,8 +141,8 @@ impl FileTable {
     }
 
     /// Notes the place of the file of a replacement, if the name is that of one, and reports whether it is.
-    fn put_replacing(&mut self, name: &FileName, place: u32) -> bool
-        requires { place < length self.old.files.items }
+    fn put_replacing(&mut self, name: &FileName, place: OptionalPlace) -> bool
+        requires { IsPlace (length self.old.files.items) place }
         ensures puts { result ≡ true → PutsReplacing self.old self.new (name_of name.now) place }
         ensures none { result ≡ false → replacing_place self.old (name_of name.now) ≡ None }
         ensures keeps { result ≡ false → KeepsReplacing self.old self.new }
@@ -168,8 +160,13 @@ impl FileTable {
 
     /// Notes the place of the file of a name, as `place_of` finds it. The only refusal is `NoMemory`, after which no
     /// place was noted.
-    fn put(&mut self, name: &FileName, number: u32, place: u32) -> Result<(), NoMemory>
-        requires { place < length self.old.files.items }
+    fn put(
+        &mut self,
+        name: &FileName,
+        number: u32,
+        place: OptionalPlace,
+    ) -> Result<(), NoMemory>
+        requires { IsPlace (length self.old.files.items) place }
         ensures puts { (modules : List ModuleVersion) → IsFileOf modules self.old number (name_of name.now)
             → OnOk result (NotesPlace modules self.old self.new (name_of name.now) place) }
         ensures err { (modules : List ModuleVersion) → OnErr result (KeepsPlaces modules self.old self.new) }
@@ -200,7 +197,7 @@ impl FileTable {
     {
         let place = self.files.len() as u32;
         self.files.push(kept)?;
-        self.put(name, number, place)?;
+        self.put(name, number, OptionalPlace::some(place))?;
         Ok(place)
     }
 }

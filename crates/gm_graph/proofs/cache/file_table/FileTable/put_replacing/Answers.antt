@@ -1,9 +1,10 @@
-use Rattle.std.proofs.Common.{◌∙◌, ℕ, List, Option, ap, length, refl, subst, sym}
-use Rattle.std.specs.BTreeMap.{is_at}
+use Rattle.std.proofs.Common.{◌∙◌, List, Option, ap, length, refl, subst, sym}
+use Rattle.std.specs.BTreeMap.{BTreeMap, is_at, values}
 use Rattle.std.specs.List.{All}
 use Rattle.std.specs.Map.{lookup, values_of}
 use Rattle.std.specs.Option.{IsSome}
 use Rattle.std.proofs.lemmas.Map.Views.{All-values-set_value}
+use Rattle.gm_name.specs.declared.place.OptionalPlace.{OptionalPlace}
 use Rattle.gm_store.proofs.NameOrder.{found_by}
 use Rattle.gm_store.specs.Asked.{name_of, same_name}
 use Rattle.gm_store.specs.contracts.files.FileNameOrd.TheImpl.{cmp-value}
@@ -12,12 +13,21 @@ use Rattle.gm_graph.proofs.PuttingPlaces.{replacing_set}
 use Rattle.gm_graph.specs.Places.{IsPlace}
 use Rattle.gm_graph.proofs.cache.file_table.FileTable.put_replacing.Goals as goal
 
+pub invariant_of-self-clause-own_places : goal.invariant_of-self-clause-own_places
+invariant_of-self-clause-own_places c = c.args.self.now.own_places
+
+pub invariant_of-self-clause-replacing_places : goal.invariant_of-self-clause-replacing_places
+invariant_of-self-clause-replacing_places c =
+    let old = c.args.self.now in
+    subst (λ (places : BTreeMap FileName OptionalPlace). All (IsPlace (length old.files.items)) (values places)) (sym c.get_mut.follows.holds-at-none)
+    old.replacing_places
+
 pub invariant_of-self-in-Some-clause-replacing_places : goal.invariant_of-self-in-Some-clause-replacing_places
 invariant_of-self-in-Some-clause-replacing_places c =
     let old = c.args.self.now in
-    subst (λ (es : List (FileName × ℕ)). All (IsPlace (length old.files.items)) (values_of es)) (sym (c.get_mut.follows.holds c.args.place).0)
+    subst (λ (es : List (FileName × OptionalPlace)). All (IsPlace (length old.files.items)) (values_of es)) (sym (c.get_mut.follows.holds c.args.place).0)
     (All-values-set_value (is_at (cmp-value.it c.args.name.now)) (IsPlace (length old.files.items)) old.replacing.entries c.args.place
-    old.replacing_places (λ some. c.requires))
+    old.replacing_places c.requires)
 
 pub returns-in-None-clause-none : goal.returns-in-None-clause-none
 returns-in-None-clause-none c = λ _. sym (c.in-None.ensures.value ∙ found_by c.args.name.now c.args.self.now.replacing.entries)
@@ -25,6 +35,6 @@ returns-in-None-clause-none c = λ _. sym (c.in-None.ensures.value ∙ found_by 
 pub returns-in-Some-clause-puts : goal.returns-in-Some-clause-puts
 returns-in-Some-clause-puts c = λ _ other.
     let old = c.args.self.now in
-    ap (λ (es : List (FileName × ℕ)). lookup (λ file. same_name other (name_of file)) es) (c.get_mut.follows.holds c.args.place).0
+    ap (λ (es : List (FileName × OptionalPlace)). lookup (λ file. same_name other (name_of file)) es) (c.get_mut.follows.holds c.args.place).0
     ∙ replacing_set old.replacing.entries c.args.name.now c.args.place other
-    (subst (λ (o : Option ℕ). IsSome o) c.in-Some.ensures.value refl)
+    (subst (λ (o : Option OptionalPlace). IsSome o) c.in-Some.ensures.value refl)
