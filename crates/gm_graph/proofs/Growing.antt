@@ -1,7 +1,7 @@
 -- A list of modules that grows at its end: the numbers stand for the same modules.
 use Rattle.std.proofs.Common.{◌≡◌, ◌<◌, ◌≤◌, ◌&&◌, ◌++◌, ◌∷◌, ◌∙◌, [], ℕ, Bool, false, All, List, Option, None, Some, ap, ap₂, arith, inl, inr, length, length-append, map, refl, subst, sym}
 use Rattle.std.specs.List.{IsDistinct, list_any}
-use Rattle.std.proofs.lemmas.Bool.{cases_lt}
+use Rattle.std.proofs.lemmas.Bool.{and_left, cases_lt}
 use Rattle.std.proofs.lemmas.List.{get_or_append_left, get_or_past}
 use Rattle.std.proofs.lemmas.List.Elements.{All-head, All-map, All-tail, All-weaker}
 use Rattle.std.proofs.lemmas.List.Folds.{list_any_none}
@@ -100,9 +100,6 @@ module _ (count more : ℕ) (grows : count ≤ more) where
 
 -- ---- the new modules
 
-both_false : (a b : Bool) → a ≡ false → (a && b) ≡ false
-both_false a b e = ap (λ (x : Bool). x && b) e
-
 module _ (modules more : List ModuleVersion) (distinct : IsDistinct pair_eq (modules ++ more)) where
   -- A new one is none of those that had a number.
   another : (new old : ℕ) → length modules ≤ new → new < length (modules ++ more) → old < length modules
@@ -122,7 +119,7 @@ module _ (modules more : List ModuleVersion) (distinct : IsDistinct pair_eq (mod
       list_any_none (same_turn (turn x d)) (map (turn_of modules) turns)
       (All-map (λ (one : Turn). same_turn (turn x d) one ≡ false) (turn_of modules) turns
       (All-weaker (IsOneBelow (length modules)) (λ one. same_turn (turn x d) (turn_of modules one) ≡ false)
-      (λ one under. both_false (pair_eq x (module_at modules one.number)) (same_depth d one.depth)
+      (λ one under. and_left (pair_eq x (module_at modules one.number)) (same_depth d one.depth)
       (another new one.number past within under)) turns below))
 
 -- ---- marks past the end

@@ -2,7 +2,7 @@
 use Rattle.std.proofs.Common.{◌≡◌, ◌⊎◌, ◌+◌, ◌<◌, ◌≤◌, ◌&&◌, ◌||◌, ◌++◌, ◌∷◌, ◌∙◌, [], ℕ, Bool, true, false, All, List, Contains, ap, ap₂, arith, get_or, inl, if◌then◌else◌, inr, length, length-append, map, refl, replicate, set, subst, suc, sym, take, zero}
 use Rattle.std.specs.List.{IsDistinct, list_any}
 use Rattle.std.specs.Cmp.{both_ways}
-use Rattle.std.proofs.lemmas.Bool.{cases_eq, cases_lt}
+use Rattle.std.proofs.lemmas.Bool.{cases_eq, cases_lt, or_cases}
 use Rattle.std.proofs.lemmas.List.Elements.{All-nil, All-push}
 use Rattle.std.proofs.lemmas.List.Folds.{list_any-append}
 use Rattle.std.proofs.lemmas.List.{get_or-replicate, get_or-set_other, get_or-set_same, get_or_past, get_or_read, length-replicate, length-set, map-append, take_all}
@@ -108,10 +108,6 @@ found_vertex : (vertices : List ModuleVersion) (x : ModuleVersion) → Contains 
     → list_any (pair_eq x) vertices ≡ true
 found_vertex vertices x h = list_any-from_Contains pairs-equivalence x vertices h
 
-either_true : (a b : Bool) → (a || b) ≡ true → (a ≡ true) ⊎ (b ≡ true)
-either_true true b h = inl refl
-either_true false b h = inr h
-
 any_true : (marks : Marks) (d : Depth) → is_marked marks d ≡ true → (marks.top || marks.deep) ≡ true
 any_true marks Top h = ap (λ (b : Bool). b || marks.deep) h
 any_true marks Deep h = ap (λ (b : Bool). marks.top || b) h ∙ or_true marks.top
@@ -130,7 +126,7 @@ module _ (vertices : List ModuleVersion) (turns : List Turn) (x : ModuleVersion)
   -- It has one exactly if it has a mark.
   vertex_by_marks : (marks.top || marks.deep) ≡ list_any (pair_eq x) vertices
   vertex_by_marks = both_ways (marks.top || marks.deep) (list_any (pair_eq x) vertices)
-      (λ h. elim (either_true marks.top marks.deep h) [
+      (λ h. elim (or_cases marks.top marks.deep h) [
         | inl top ↦ turn_vertex Top top
         | inr deep ↦ turn_vertex Deep deep
       ])
