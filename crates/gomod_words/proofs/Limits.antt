@@ -1,5 +1,6 @@
 -- The number that the value of `--limit` stands for, by way of `parse`.
 use Rattle.std.proofs.Common.{◌≡◌, ◌≢◌, ℕ, ◌∷◌, [], ◌&&◌, ◌^◌, ◌<◌, ◌≤◌, ◌∙◌, ap, subst, nat_lt, Bool, true, false, List, length, get_or, Some, None, Result, Ok, Err, refl, arith, sym}
+use Rattle.std.proofs.lemmas.Bool.{and_from, and_left}
 use Rattle.std.proofs.lemmas.Bool.Decides.{nat_tests}
 use Rattle.std.proofs.lemmas.Str.Parse.{parse_plain}
 use Rattle.std.specs.Char.{is_ascii_digit}
@@ -35,14 +36,6 @@ none_by text true true all some below e = cc e
 none_by text true false all some below e = rw (all, ← some, ← below) refl
 none_by text false b all some below e = rw (all, ← some) refl
 
-both_true : (a b : Bool) → a ≡ true → b ≡ true → (a && b) ≡ true
-both_true true b e f = f
-both_true false b e f = cc e
-
-zero_first : (a b : Bool) → a ≡ false → (a && b) ≡ false
-zero_first true b e = cc e
-zero_first false b e = refl
-
 -- a number other than 0 has digits
 has_some : (text : List ℕ) → true ≡ nat_lt 0 (digits_value 10 text) → 0 < length text
 has_some [] e = cc e
@@ -56,7 +49,7 @@ limit_read {E} text n all r is parsed some =
     let value : 0 < digits_value 10 text = subst (λ (m : ℕ). 0 < m) same some in
     let first : nat_lt 0 (digits_value 10 text) ≡ true = grind (arith, nat_tests) in
     let second : nat_lt (digits_value 10 text) (2 ^ 32) ≡ true = grind (arith, nat_tests) in
-    ap Some same ∙ sym (limit_by text (nat_lt 0 (digits_value 10 text)) (nat_lt (digits_value 10 text) (2 ^ 32)) all refl refl (both_true _ _ first second))
+    ap Some same ∙ sym (limit_by text (nat_lt 0 (digits_value 10 text)) (nat_lt (digits_value 10 text) (2 ^ 32)) all refl refl (and_from _ _ first second))
 
 pub limit_zero : {E : Type 0} (text : List ℕ) (n : ℕ) → list_all is_ascii_digit text ≡ true → (r : Result ℕ E) → r ≡ Ok n → ParsesUnsigned 32 10 text r → n ≤ 0 → None ≡ limit_of text
 limit_zero {E} text n all r is parsed none =
@@ -64,7 +57,7 @@ limit_zero {E} text n all r is parsed none =
     let same : n ≡ digits_value 10 text = known.1 in
     let value : digits_value 10 text ≤ 0 = subst (λ (m : ℕ). m ≤ 0) same none in
     let first : nat_lt 0 (digits_value 10 text) ≡ false = grind (arith, nat_tests) in
-    sym (none_by text (nat_lt 0 (digits_value 10 text)) (nat_lt (digits_value 10 text) (2 ^ 32)) all refl refl (zero_first _ _ first))
+    sym (none_by text (nat_lt 0 (digits_value 10 text)) (nat_lt (digits_value 10 text) (2 ^ 32)) all refl refl (and_left _ _ first))
 
 unread_by : (text : List ℕ) (a b : Bool) → list_all is_ascii_digit text ≡ true → a ≡ nat_lt 0 (digits_value 10 text) → b ≡ nat_lt (digits_value 10 text) (2 ^ 32)
     → ¬ ((list_all is_ascii_digit text ≡ true) × (0 < length text) × (digits_value 10 text < 2 ^ 32)) → limit_of text ≡ None

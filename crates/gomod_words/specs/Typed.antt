@@ -15,12 +15,12 @@ abbrev pub quoted_char : ℕ → List ℕ
 quoted_char c = if c == 39 then codes "'\\''" else encode_utf8 c
 
 -- a text between two `'`
-abbrev pub quoted : Text → List ℕ
-quoted word = codes "'" ++ flat_map quoted_char (chars word) ++ codes "'"
+abbrev pub quoted_text : Text → List ℕ
+quoted_text word = codes "'" ++ flat_map quoted_char (chars word) ++ codes "'"
 
 -- a word: as it is if a shell takes all of it as it is, otherwise between two `'`
 abbrev pub typed_word : Text → List ℕ
-typed_word word = if nat_lt 0 (length word) && list_all is_unquoted_byte word then word else quoted word
+typed_word word = if nat_lt 0 (length word) && list_all is_unquoted_byte word then word else quoted_text word
 
 -- words after others: a space before each
 abbrev pub typed_words : List Text → List ℕ

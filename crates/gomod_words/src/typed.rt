@@ -4,7 +4,7 @@ ghost use Rattle.std.specs.Prelude.{◌≡◌, ◌++◌, OnOk, flat_map, map};
 ghost use Rattle.std.specs.List.{list_all};
 ghost use Rattle.std.specs.Str.{chars};
 ghost use Rattle.std.specs.String.{string_bytes};
-ghost use Rattle.gomod_words.specs.Typed.{is_unquoted_byte, quoted, quoted_char, typed_word, typed_words};
+ghost use Rattle.gomod_words.specs.Typed.{is_unquoted_byte, quoted_text, quoted_char, typed_word, typed_words};
 
 use std::alloc::AllocError;
 
@@ -50,7 +50,7 @@ fn push_quoted_chars(text: &mut String, word: &str) -> Result<(), AllocError>
 
 /// Appends a word between two `'`.
 fn push_quoted(text: &mut String, word: &str) -> Result<(), AllocError>
-    ensures { OnOk result (string_bytes text.new ≡ string_bytes text.old ++ quoted word.now) }
+    ensures { OnOk result (string_bytes text.new ≡ string_bytes text.old ++ quoted_text word.now) }
 {
     text.push_str("'")?;
     push_quoted_chars(text, word)?;
