@@ -1,5 +1,6 @@
 -- The answers of a store, in the order of the asks.
 use Rattle.std.proofs.Common.{◌≡◌, ◌<◌, ◌&&◌, suc, ℕ, Bool, true, false, if◌then◌else◌, List, [], ◌∷◌, length, Some, Contains, ap, ap₂, arith, refl, sym}
+use Rattle.std.proofs.lemmas.Bool.{and_parts}
 use Rattle.std.specs.Str.{bytes_eq}
 use Rattle.std.proofs.lemmas.Slice.Eq.{bytes_eq-Decides}
 use Rattle.gm_store.specs.Asked.{Name, Reply, answer_in, folder_file, list_file, mod_file, same_name}
@@ -10,14 +11,9 @@ same_bytes t = (bytes_eq-Decides t t).1 refl
 pub same_bytes_only : (t u : List ℕ) → bytes_eq t u ≡ true → t ≡ u
 same_bytes_only t u e = (bytes_eq-Decides t u).0 e
 
-both_true : (a b : Bool) → (a && b) ≡ true → (a ≡ true) × (b ≡ true)
-both_true true true e = (e, e)
-both_true true false e = cc e
-both_true false b e = cc e
-
 pub same_name_only : (a b : Name) → same_name a b ≡ true → a ≡ b
 same_name_only (mod_file p v) (mod_file q w) e =
-    let parts = both_true (bytes_eq p q) (bytes_eq v w) e in ap₂ mod_file (same_bytes_only p q parts.0) (same_bytes_only v w parts.1)
+    let parts = and_parts (bytes_eq p q) (bytes_eq v w) e in ap₂ mod_file (same_bytes_only p q parts.0) (same_bytes_only v w parts.1)
 same_name_only (mod_file p v) (folder_file u) e = cc e
 same_name_only (mod_file p v) (list_file q) e = cc e
 same_name_only (folder_file t) (mod_file q w) e = cc e

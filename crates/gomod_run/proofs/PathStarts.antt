@@ -7,6 +7,7 @@ use Rattle.std.proofs.lemmas.Bool.Decides.{nat_tests}
 use Rattle.gm_name.specs.Element.{has_outer_dot, is_dotted_name, is_element, is_path_byte, is_reserved, is_shortened, stem}
 use Rattle.gm_name.specs.Path.{IsPath}
 use Rattle.gm_name.proofs.NameTests.{and_both, not_true}
+use Rattle.gm_name.proofs.Paths.{path_byte-no_slash}
 use Rattle.gm_file.specs.Values.{is_folder_path}
 
 -- the text starts with a byte that is neither a dot nor a slash
@@ -16,12 +17,6 @@ record BeginsAside (text : List ℕ) : Type 0 where
   pub is : text ≡ byte ∷ rest
   pub no_dot : (byte == 46) ≡ false
   pub no_slash : (byte == 47) ≡ false
-
-no_slash : (b : ℕ) → is_path_byte b ≡ true → (b == 47) ≡ false
-no_slash b h = elim (cases_Bool (b == 47)) [
-  | inl e ↦ let is : b ≡ 47 = grind (arith, nat_tests) in absurd (true≢false (sym h ∙ ap is_path_byte is))
-  | inr e ↦ e
-]
 
 or_none : (a b : Bool) → (a || b) ≡ false → a ≡ false
 or_none true b e = absurd cc
@@ -38,7 +33,7 @@ element_begins (b ∷ e) h =
     let parts = and_both front (not (has_outer_dot (b ∷ e))) inner.0 in
     let bytes = and_both (nat_lt 0 (length (b ∷ e))) (list_all is_path_byte (b ∷ e)) parts.0 in
     let byte = and_both (is_path_byte b) (list_all is_path_byte e) bytes.1 in
-    record { byte = b; rest = e; is = refl; no_dot = or_none (b == 46) _ (not_true (has_outer_dot (b ∷ e)) parts.1); no_slash = no_slash b byte.0 }
+    record { byte = b; rest = e; is = refl; no_dot = or_none (b == 46) _ (not_true (has_outer_dot (b ∷ e)) parts.1); no_slash = path_byte-no_slash b byte.0 }
 
 more_begins : (text more : List ℕ) → BeginsAside text → BeginsAside (text ++ more)
 more_begins text more b =
