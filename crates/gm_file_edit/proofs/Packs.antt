@@ -44,11 +44,6 @@ first-same xs ys n in_xs in_ys same =
 next-rest : (xs ys : List (Line Placed)) (n : ℕ) → drop n xs ≡ drop n ys → drop (n + 1) xs ≡ drop (n + 1) ys
 next-rest xs ys n same = sym (drop-drop 1 n xs) ∙ ap (drop 1) same ∙ drop-drop 1 n ys
 
-pub get_or-other : {X : Type 0} (xs : List X) (n : ℕ) (c d : X) → n < length xs → get_or xs n c ≡ get_or xs n d
-get_or-other [] n c d lt = absurd (omega (arith, lt))
-get_or-other (x ∷ xs) zero c d lt = refl
-get_or-other (x ∷ xs) (suc n) c d lt = get_or-other xs n c d (omega (arith, lt))
-
 -- ---- the loop that keeps lines
 
 -- Loop invariant: the lines from an index on are still those of the whole, and with those that are kept so far they

@@ -3,7 +3,7 @@ use Rattle.std.proofs.Common.{◌≡◌, ℕ, zero, suc, ◌<◌, Bool, true, fa
 use Rattle.std.specs.Prelude.{◌⊎◌, ◌||◌, ◌==◌, if◌then◌else◌}
 use Rattle.std.specs.List.{AllByRecursion, flat_map}
 use Rattle.std.specs.Str.{IsCharBoundary}
-use Rattle.std.proofs.lemmas.Bool.{eqb-true}
+use Rattle.std.proofs.lemmas.Bool.{eqb-true, or_cases}
 use Rattle.std.proofs.lemmas.List.{drop_at, get_or_at, take_at}
 use Rattle.std.proofs.lemmas.Str.{IsCharBoundary-after_ascii, IsCharBoundary-before_ascii, IsUtf8-append, IsUtf8-drop, IsUtf8-from_ascii, IsUtf8-nil, IsUtf8-take}
 use Rattle.gm_syntax.specs.declared.word.Kind.{Kind}
@@ -63,31 +63,27 @@ up_to_ascii xs b rest low utf8 =
 
 -- ---- the ASCII bytes of a line
 
-or_true : (a b : Bool) → (a || b) ≡ true → (a ≡ true) ⊎ (b ≡ true)
-or_true true b e = inl refl
-or_true false b e = inr e
-
 is_low : (b n : ℕ) → n < 128 → (b == n) ≡ true → b < 128
 is_low b n low e = omega (arith, eqb-true b n e, low)
 
 blank_ascii : (b : ℕ) → is_blank b ≡ true → b < 128
 unfolding is_blank
 blank_ascii b h =
-    elim (or_true (b == 32) ((b == 9) || (b == 13)) h) [
+    elim (or_cases (b == 32) ((b == 9) || (b == 13)) h) [
       | inl e ↦ is_low b 32 (omega arith) e
-      | inr more ↦ elim (or_true (b == 9) (b == 13) more) [ inl e ↦ is_low b 9 (omega arith) e | inr e ↦ is_low b 13 (omega arith) e ]
+      | inr more ↦ elim (or_cases (b == 9) (b == 13) more) [ inl e ↦ is_low b 9 (omega arith) e | inr e ↦ is_low b 13 (omega arith) e ]
     ]
 
 bracket_ascii : (b : ℕ) → is_bracket_or_comma b ≡ true → b < 128
 unfolding is_bracket_or_comma
 bracket_ascii b h =
-    elim (or_true (b == 40) ((b == 41) || ((b == 91) || ((b == 93) || (b == 44)))) h) [
+    elim (or_cases (b == 40) ((b == 41) || ((b == 91) || ((b == 93) || (b == 44)))) h) [
       | inl e ↦ is_low b 40 (omega arith) e
-      | inr two ↦ elim (or_true (b == 41) ((b == 91) || ((b == 93) || (b == 44))) two) [
+      | inr two ↦ elim (or_cases (b == 41) ((b == 91) || ((b == 93) || (b == 44))) two) [
         | inl e ↦ is_low b 41 (omega arith) e
-        | inr three ↦ elim (or_true (b == 91) ((b == 93) || (b == 44)) three) [
+        | inr three ↦ elim (or_cases (b == 91) ((b == 93) || (b == 44)) three) [
           | inl e ↦ is_low b 91 (omega arith) e
-          | inr four ↦ elim (or_true (b == 93) (b == 44) four) [ inl e ↦ is_low b 93 (omega arith) e | inr e ↦ is_low b 44 (omega arith) e ]
+          | inr four ↦ elim (or_cases (b == 93) (b == 44) four) [ inl e ↦ is_low b 93 (omega arith) e | inr e ↦ is_low b 44 (omega arith) e ]
         ]
       ]
     ]

@@ -1,5 +1,6 @@
 -- Main files that say the same have the same graph.
 use Rattle.std.proofs.Common.{◌≡◌, ◌↔◌, ◌∙◌, ◌⊎◌, Bool, true, false, not, List, [], ◌∷◌, filter, Option, Some, None, IsSome, Result, Err, Contains, sym, ap, refl, subst, inl, inr}
+use Rattle.std.proofs.lemmas.Bool.{or_cases}
 use mathlib.Core.Path.{fun_ext}
 use Rattle.std.specs.List.{list_any}
 use Rattle.std.specs.Prelude.{◌||◌}
@@ -55,13 +56,9 @@ or_true true b e = refl
 or_true false b (inl e) = absurd cc
 or_true false b (inr e) = e
 
-true_or : (a b : Bool) → a || b ≡ true → (a ≡ true) ⊎ (b ≡ true)
-true_or true b e = inl refl
-true_or false b e = inr e
-
 any_member : (test : ModuleVersion → Bool) (xs : List ModuleVersion) → list_any test xs ≡ true → (x : ModuleVersion) × Contains xs x × (test x ≡ true)
 any_member test [] e = absurd cc
-any_member test (x ∷ xs) e = elim (true_or (test x) (list_any test xs) e) [
+any_member test (x ∷ xs) e = elim (or_cases (test x) (list_any test xs) e) [
   | inl here ↦ (x, member_head x xs, here)
   | inr later ↦ (let (y, there, holds) = any_member test xs later in (y, member_tail x y xs there, holds))
 ]

@@ -1,7 +1,8 @@
 use Rattle.std.proofs.Common.{◌+◌, ◌∙◌, arith, false, refl, sym, true}
-use Rattle.gm_file_edit.proofs.Packs.{get_or-other, keep-more}
+use Rattle.gm_file_edit.proofs.Packs.{keep-more}
 use Rattle.gm_file_edit.proofs.packing.keep_unmarked.Goals as goal
 use Rattle.gm_file_edit.proofs.packing.keep_unmarked.Goals.{then-not-goes, else-not-goes}
+use Rattle.std.proofs.lemmas.List.{get_or_default}
 
 pub loop-n-preserved : goal.loop-n-preserved
 loop-n-preserved c =
@@ -16,6 +17,6 @@ loop-n-preserved c =
           (λ e. absurd cc) (λ e. w.keep.ensures.front) c.loop-n.invariant)
       | else-not-goes w ↦
           rw (w.lines-is, w.count-is)
-          (keep-more marks c.args.lines.now n c.loop-n.count c.loop-n.count c.loop-n.lines c.loop-n.lines true (omega (arith, inside)) c.requires (sym (get_or-other marks n true false (omega (arith, inside)) ∙ w.if-not-goes.false)) refl (omega (arith, bound)) refl
+          (keep-more marks c.args.lines.now n c.loop-n.count c.loop-n.count c.loop-n.lines c.loop-n.lines true (omega (arith, inside)) c.requires (sym (get_or_default marks n true false (omega (arith, inside)) ∙ w.if-not-goes.false)) refl (omega (arith, bound)) refl
           (λ e. refl) (λ e. absurd cc) c.loop-n.invariant)
     ]
