@@ -4,12 +4,13 @@
 #
 #   tools/lemmas.sh            both counts
 #   tools/lemmas.sh --list     also each such lemma, with the standard library's, and each such name
-#   tools/lemmas.sh CRATE..    the same for these crates
+#   tools/lemmas.sh --check    the same, with status 1 if there is such a lemma, or more than 20 such names
+#   tools/lemmas.sh CRATE..    both counts for these crates
 #
 # A lemma restates another if their types are the same text once all variables are renamed in the order in which they
 # come, and brackets and blanks are left out. So one with other premises, or over another type, isn't counted. The
 # standard library's lemmas are those on the pages of the toolchain's std/lemmas, which any crate may cite. Answers to
-# goals (proofs/MODULE/FUNCTION) are no lemmas. It needs rt, python3, and two seconds.
+# goals (proofs/MODULE/FUNCTION) are no lemmas. It needs rt, python3, and two seconds. .ci/run runs it with --check.
 set -euo pipefail
 cd "$(dirname "$0")/.."
 # shellcheck source=tools/lib.sh
@@ -22,6 +23,7 @@ import pathlib
 import re
 import sys
 
+MOST_SHARED = 20
 DECLARED = re.compile(r"(?:pub )?([^\s:(){}]+) : (.+)")
 NAME = re.compile(r"[^\s(){}\[\],;.]+")
 # variables that a type binds: `(x y : T)`, `{x y : T}`, `λ (x : T).`, `λ x y.`
@@ -58,8 +60,9 @@ def plain(statement):
 
 def main():
     kit, *words = sys.argv[1:]
-    is_listed = "--list" in words
-    chosen = [word for word in words if word != "--list"]
+    is_checked = "--check" in words
+    is_listed = is_checked or "--list" in words
+    chosen = [word for word in words if word not in ("--check", "--list")]
     for word in chosen:
         if not pathlib.Path("crates", word).is_dir():
             sys.exit(f"lemmas: there is no crate {word}")
@@ -86,6 +89,8 @@ def main():
             print(f"{name}: {-many} different lemmas")
     print(f"{len(restated)} lemmas restate one of the standard library")
     print(f"{len(shared)} names have three or more lemmas that differ")
+    if is_checked and (restated or len(shared) > MOST_SHARED):
+        sys.exit(f"lemmas: cite the standard library's lemmas, and let at most {MOST_SHARED} names be shared")
 
 
 main()
