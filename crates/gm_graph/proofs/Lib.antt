@@ -36,6 +36,7 @@ pub mod Lending
 pub mod OneReading
 pub mod Keeping
 pub mod ReadingIf
+pub mod RunReadings
 pub mod FilePlaces
 pub mod PuttingPlaces
 pub mod Replacements

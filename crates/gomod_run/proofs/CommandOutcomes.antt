@@ -18,7 +18,8 @@ use Rattle.gm_graph_select.proofs.Same.{same_chain}
 use Rattle.gm_graph.specs.declared.fault.Fault.{Fault}
 use Rattle.gm_graph.specs.Graph.{IsEdge}
 use Rattle.gm_graph.specs.Loading.{AreTooMany, IsDue, Told}
-use Rattle.gm_graph.specs.Outcome.{AreFaults, IsLoaded, LoadedGraph as Loaded}
+use Rattle.gm_graph.specs.Outcome.{AreFaults, LoadedGraph as Loaded}
+use Rattle.gm_graph.proofs.RunReadings.{IsLoadedBy as IsLoaded}
 use Rattle.gomod_run.specs.declared.reports.report.Report.{Report}
 use Rattle.gomod_run.specs.FromFaults.{report_by_load}
 use Rattle.gomod_run.specs.Outcome.{OrNoMemory, Outcome, failed, printed, refused, report_outcome}

@@ -2,6 +2,7 @@ use Rattle.std.proofs.lemmas.Result.{err_from_is_err_and}
 use Rattle.std.specs.Option.{option_copied}
 use Rattle.gm_store.proofs.Serving.{nothing_served}
 use Rattle.gm_graph.specs.Main.{main_of}
+use Rattle.gm_graph.proofs.RunReadings.{asks_held, due_held, loaded_if, many_held}
 use Rattle.gomod_run.specs.Outcome.{outcome_view}
 use Rattle.gomod_run.specs.Needs.{GraphNeeds}
 use Rattle.gomod_run.proofs.CommandOutcomes.{answered, both_ok, broken, not_broken, not_loaded, refused_read, unasked}
@@ -30,7 +31,7 @@ returns-in_err-loaded-clause-comes g c =
     (not_loaded c.args.query c.args.file.now (option_copied c.args.sums) (main_of c.in_ok-read.read.main) c.in_ok-read.read.table
     (g.F.Asks.state c.args.files.now) (g.F.Asks.state c.load.new.files) c.load.result c.in_err-loaded.field-0.0 c.in_err-loaded.was
     (both_ok c.args.file.now (option_copied c.args.sums) c.read_files.result c.in_ok-read.read c.in_ok-read.was c.read_files.ensures)
-    load.too_many load.device load.refused)
+    (λ e. let many = load.too_many e in many_held _ _ _ many.0 many.1) (λ name e. due_held _ _ _ _ (load.device name e)) load.refused)
 
 pub returns-in_err-loaded-clause-device : goal.returns-in_err-loaded-clause-device
 returns-in_err-loaded-clause-device g c = λ name grown.
@@ -44,14 +45,14 @@ returns-in_err-loaded-clause-asks g c =
     let load = rw c.as_ref.ensures.value at c.load.ensures in
     due_in_turn c.args.file.now (option_copied c.args.sums) (main_of c.in_ok-read.read.main) c.in_ok-read.read.table
     (both_ok c.args.file.now (option_copied c.args.sums) c.read_files.result c.in_ok-read.read c.in_ok-read.was c.read_files.ensures)
-    load.asks
+    (asks_held _ _ load.asks)
 
 pub returns-in_err-loaded-clause-fails : goal.returns-in_err-loaded-clause-fails
 returns-in_err-loaded-clause-fails g c =
     let load = rw c.as_ref.ensures.value at c.load.ensures in
     load_fails c.args.file.now (option_copied c.args.sums) (main_of c.in_ok-read.read.main) c.in_ok-read.read.table
     (both_ok c.args.file.now (option_copied c.args.sums) c.read_files.result c.in_ok-read.read c.in_ok-read.was c.read_files.ensures)
-    (g.F.Asks.state c.args.files.now) (g.F.Asks.state c.load.new.files) c.load.result load.refused load.device
+    (g.F.Asks.state c.args.files.now) (g.F.Asks.state c.load.new.files) c.load.result load.refused (λ name e. due_held _ _ _ _ (load.device name e))
 
 pub returns-clause-comes : goal.returns-clause-comes
 returns-clause-comes g c =
@@ -60,7 +61,7 @@ returns-clause-comes g c =
     (g.F.Asks.state c.args.files.now) (g.F.Asks.state c.load.new.files) c.load.result c.in_ok-loaded.loaded (outcome_view c.tell.result)
     c.in_ok-loaded.was
     (both_ok c.args.file.now (option_copied c.args.sums) c.read_files.result c.in_ok-read.read c.in_ok-read.was c.read_files.ensures)
-    load.loaded load.refused c.tell.ensures
+    (loaded_if _ _ _ _ load.loaded) load.refused c.tell.ensures
 
 pub returns-clause-device : goal.returns-clause-device
 returns-clause-device g c = λ name grown.
@@ -72,14 +73,14 @@ returns-clause-asks g c =
     let load = rw c.as_ref.ensures.value at c.load.ensures in
     due_in_turn c.args.file.now (option_copied c.args.sums) (main_of c.in_ok-read.read.main) c.in_ok-read.read.table
     (both_ok c.args.file.now (option_copied c.args.sums) c.read_files.result c.in_ok-read.read c.in_ok-read.was c.read_files.ensures)
-    load.asks
+    (asks_held _ _ load.asks)
 
 pub returns-clause-fails : goal.returns-clause-fails
 returns-clause-fails g c =
     let load = rw c.as_ref.ensures.value at c.load.ensures in
     load_fails c.args.file.now (option_copied c.args.sums) (main_of c.in_ok-read.read.main) c.in_ok-read.read.table
     (both_ok c.args.file.now (option_copied c.args.sums) c.read_files.result c.in_ok-read.read c.in_ok-read.was c.read_files.ensures)
-    (g.F.Asks.state c.args.files.now) (g.F.Asks.state c.load.new.files) c.load.result load.refused load.device
+    (g.F.Asks.state c.args.files.now) (g.F.Asks.state c.load.new.files) c.load.result load.refused (λ name e. due_held _ _ _ _ (load.device name e))
 
 pub returns-in_err-read-clause-served : goal.returns-in_err-read-clause-served
 returns-in_err-read-clause-served g c = nothing_served _ (g.F.Asks.state c.args.files.now)
