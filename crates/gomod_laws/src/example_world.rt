@@ -90,23 +90,23 @@ pub fn files_are_read()
     ensures { FilesAreRead }
 {}
 
-/// `IsListOutcome`: on `module m` alone `list` prints `m` and nothing else; on an empty file it reports
+/// `ListEnds`: on `module m` alone `list` prints `m` and nothing else; on an empty file it reports
 /// `go.mod:0: NoModule`.
 pub fn one_is_listed()
     ensures alone { IsListedAlone }
     ensures empty { EmptyIsRefused }
 {}
 
-/// `IsRefusedRead`, `AreInvalidSums`, `IsFirstInvalid`: beside a go.sum that is the line `a b`, `list` on `module m`
+/// `ListEnds`, `AreInvalidSums`, `IsFirstInvalid`: beside a go.sum that is the line `a b`, `list` on `module m`
 /// alone reports `go.sum:1: BadSum` and nothing else.
 pub fn bad_sum_is_refused()
     ensures { BadSumIsRefused }
 {}
 
-/// `IsDue`, `AreKnown`, `AreAsked`, `IsStopped`, `IsOutcomeOver`: on the two lines `list` reports
-/// `top.org@v1.0.0: Missing` if that is the answer, and `gomod: device at top.org@v1.0.0` if the device failed. Without
-/// either it has no outcome; nor has it one if the device failed on another file, or on one that was answered, or if
-/// another file was asked for as well, or the same one twice.
+/// `IsDue`, `AreKnown`, `AreAsked`, `ListEnds`: on the two lines `list` reports `top.org@v1.0.0: Missing` if that is the
+/// answer, and `gomod: device at top.org@v1.0.0` if the device failed. Without either it has no outcome; nor has it one if
+/// the device failed on another file, or on one that was answered, or if another file was asked for as well, or the same
+/// one twice.
 pub fn required_is_asked()
     ensures { RequiredIsAsked }
 {}

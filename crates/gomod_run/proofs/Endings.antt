@@ -1,25 +1,22 @@
 -- Facts about how the program ends.
-use Rattle.std.proofs.Common.{◌≡◌, ◌∙◌, ◌++◌, ◌∷◌, MatchBool, ℕ, Bool, Bor, List, [], Option, None, Some, Contains, ap, codes, false, inl, inr, map, subst, sym, true}
+use Rattle.std.proofs.Common.{◌≡◌, ◌∙◌, ◌∷◌, ℕ, Bor, List, [], Option, None, Contains, ap, codes, inl, inr, map, subst, sym}
 use Rattle.std.specs.Str.{IsUtf8}
-use Rattle.gm_store.specs.Asked.{Name, Reply, answer_in, list_file, reply_for}
+use Rattle.gm_store.specs.Asked.{Name, Reply, list_file, reply_for}
 use Rattle.gm_store.specs.Memory.{may_give}
 use Rattle.gm_store.specs.Openings.{Opening}
-use Rattle.gm_store.specs.declared.fallback.proxy_list.ProxyList.{ProxyList}
 use Rattle.gm_store.specs.declared.files.memory.MemoryFiles.{MemoryFiles}
-use Rattle.gomod_words.specs.declared.usage.Command.TheVariants.{Fmt, Edit, Versions, Graph, List as Rows, Chain}
 use Rattle.gomod_words.specs.Usage.{AskFor, IsFaultOf, IsLineOf, unreadable_text}
 use Rattle.gomod_words.specs.declared.usage.UsageFault.{UsageFault}
 use Rattle.gomod_words.specs.declared.usage.UsageFault.TheVariants.{NoMemory, Help, Version, Line, BadPath, BadProxy}
 use Rattle.gomod_words.specs.declared.usage.Command.{Command}
 use Rattle.gomod_words.specs.declared.usage.Places.{Places}
-use Rattle.gomod_run.specs.Outcomes.{IsAnswerOver, longest}
+use Rattle.gomod_run.specs.Outcomes.{answers, given, longest}
 use Rattle.gomod_run.specs.Outcome.{Outcome}
 use Rattle.gomod_run.specs.Held.{HoldsOne}
-use Rattle.gomod_run.specs.Program.{AreOfOneFile, IsFolderOutcome, IsInputOutcome, IsUnreadableWords, IsProgramOutcome, IsProgramStatus, IsServed, IsWordsOutcome, MayBeTold, usage_outcome}
+use Rattle.gomod_run.specs.Program.{IsInputOutcome, IsStoreRun, IsUnreadableWords, IsProgramOutcome, IsProgramStatus, IsServed, IsWordsOutcome, usage_outcome}
 use Rattle.gm_store.specs.States.{StoreState}
-use Rattle.gomod_run.specs.Runs.{IsRunOutcome, Needs, StatesOutcome, is_over_file, is_query}
-use Rattle.gomod_run.specs.Queries.{PrintsOf, RunsTo}
-use Rattle.gomod_run.proofs.Answering.{answered_in}
+use Rattle.gomod_run.specs.Runs.{RunEnds, run_between, told_between}
+use Rattle.gomod_run.proofs.CommandOutcomes.{none_failed}
 use Rattle.gomod_run.specs.Written.{EndsAsStated}
 use Rattle.gm_store.specs.Taken.{SinkState}
 
@@ -80,67 +77,20 @@ program_status may_open out out' report report' status ends = elim ends.written 
   | inr part ↦ inr part.1
 ]
 
--- `fmt` and `edit` need no file of the store, so their outcome follows from the bytes alone
-pub by_bytes : (command : Command) (file : List ℕ) (sums : Option (List ℕ)) (old new : StoreState) (outcome : Outcome) → is_over_file command ≡ true
-    → RunsTo command file sums old new outcome → StatesOutcome command file None (λ name. None) outcome
-by_bytes Fmt file sums old new outcome over (inl stated) = stated.0
-by_bytes Fmt file sums old new outcome over (inr refused) = absurd refused.2
-by_bytes (Edit operations) file sums old new outcome over (inl stated) = stated.0
-by_bytes (Edit operations) file sums old new outcome over (inr refused) = absurd refused.2
-by_bytes (Versions path all) file sums old new outcome over runs = cc over
-by_bytes Graph file sums old new outcome over runs = cc over
-by_bytes (Rows after limit) file sums old new outcome over runs = cc over
-by_bytes (Chain path) file sums old new outcome over runs = cc over
-
--- a store that has one file answers with it, and with nothing else
-of_one : (path list : List ℕ) (store : MemoryFiles) (asked : List (Name × Reply)) → HoldsOne (list_file path) list store
-    → ((name : Name) (reply : Reply) → Contains asked (name, reply) → may_give store name reply) → AreOfOneFile (list_file path) list (answer_in asked)
-of_one path list store asked held allowed = λ name reply e.
-    allowed name reply (answered_in asked name reply e) ∙ ap (reply_for longest) (held name)
-
--- a store in memory never fails, so the outcome follows from its answers
+-- a store in memory has one file and never fails, so the outcome follows from its answers
 pub input_weaken : (command : Command) (path list : List ℕ) (store : MemoryFiles) (asked : List (Name × Reply)) (old new : StoreState) → new.asked ≡ asked
     → old.refused ≡ [] → new.refused ≡ [] → HoldsOne (list_file path) list store
     → ((name : Name) (reply : Reply) → Contains asked (name, reply) → may_give store name reply)
-    → (outcome : Outcome) → IsRunOutcome (Needs command [] None) (StatesOutcome command [] None) old new outcome → IsInputOutcome command path list outcome
-input_weaken command path list store asked old new same none still held allowed outcome (inl stated) = (
-  answer_in asked,
-  of_one path list store asked held allowed,
-  subst (λ (a : List (Name × Reply)). StatesOutcome command [] None (answer_in a) outcome) same stated.0,
+    → (outcome : Outcome) → RunEnds command (run_between [] None old new) outcome → IsInputOutcome command path list outcome
+input_weaken command path list store asked old new same none still held allowed outcome is = (
+  asked,
+  λ name reply there. allowed name reply there ∙ ap (reply_for longest) (held name),
+  subst (λ (pairs : List (Name × Reply)). RunEnds command (given [] None (answers pairs [])) outcome) same
+      (subst (λ (names : List Name). RunEnds command (given [] None (answers new.asked names)) outcome) (none_failed old.refused new.refused (still ∙ sym none)) is),
 )
-input_weaken command path list store asked old new same none still held allowed outcome (inr refused) =
-    let grown : [] ≡ refused.0 ∷ [] = sym still ∙ refused.4 ∙ ap (λ (names : List Name). names ++ refused.0 ∷ []) none in absurd (cc)
 
--- `RunsTo` with the test as a variable
-abbrev RunsAs : Bool → Command → List ℕ → Option (List ℕ) → StoreState → StoreState → Outcome → Type 0
-RunsAs query command main sums old new outcome = MatchBool query
-    (IsAnswerOver (PrintsOf command) main sums old new outcome)
-    (IsRunOutcome (Needs command main sums) (StatesOutcome command main sums) old new outcome)
-
--- the outcomes of `graph`, `list` and `chain` are those of `IsAnswerOver`
-pub query_runs : (command : Command) (main : List ℕ) (sums : Option (List ℕ)) (old new : StoreState) (outcome : Outcome) → is_query command ≡ true
-    → RunsTo command main sums old new outcome → IsAnswerOver (PrintsOf command) main sums old new outcome
-query_runs command main sums old new outcome query runs = subst (λ (query : Bool). RunsAs query command main sums old new outcome) query runs
-
--- and the reverse
-pub runs_query : (command : Command) (main : List ℕ) (sums : Option (List ℕ)) (old new : StoreState) (outcome : Outcome) → is_query command ≡ true
-    → IsAnswerOver (PrintsOf command) main sums old new outcome → RunsTo command main sums old new outcome
-runs_query command main sums old new outcome query runs = subst (λ (query : Bool). RunsAs query command main sums old new outcome) (sym query) runs
-
--- the outcomes of `fmt`, `edit` and `versions` are those of `IsRunOutcome`
-pub plain_runs : (command : Command) (main : List ℕ) (sums : Option (List ℕ)) (old new : StoreState) (outcome : Outcome) → is_query command ≡ false
-    → RunsTo command main sums old new outcome → IsRunOutcome (Needs command main sums) (StatesOutcome command main sums) old new outcome
-plain_runs command main sums old new outcome plain runs = subst (λ (query : Bool). RunsAs query command main sums old new outcome) plain runs
-
-folders_come : (may_open : List ℕ → Opening → Type 0) (folders : ProxyList) (command : Command) (old new : StoreState) (outcome : Outcome)
-    → ((name : Name) (reply : Reply) → Contains new.asked (name, reply) → MayBeTold may_open (codes ".") (Some folders) name reply)
-    → IsRunOutcome (Needs command [] None) (StatesOutcome command [] None) old new outcome → IsFolderOutcome may_open folders command outcome
-folders_come may_open folders command old new outcome told (inl stated) = inl (answer_in new.asked, λ name reply e. told name reply (answered_in new.asked name reply e), stated.0)
-folders_come may_open folders command old new outcome told (inr refused) = inr (answer_in new.asked, λ name reply e. told name reply (answered_in new.asked name reply e), refused.0, refused.2, refused.1)
-
--- the outcome of a run over proxy folders follows from some answers of theirs
-pub folder_weaken : (may_open : List ℕ → Opening → Type 0) (folders : ProxyList) (command : Command) (old new : StoreState) → is_query command ≡ false
-    → ((name : Name) (reply : Reply) → Contains new.asked (name, reply) → MayBeTold may_open (codes ".") (Some folders) name reply)
-    → (outcome : Outcome) → RunsTo command [] None old new outcome → IsFolderOutcome may_open folders command outcome
-folder_weaken may_open folders command old new plain told outcome runs =
-    folders_come may_open folders command old new outcome told (plain_runs command [] None old new outcome plain runs)
+-- the outcome of a run over a store follows from what it answered
+pub store_weaken : (may_answer : Name → Reply → Type 0) (command : Command) (main : List ℕ) (sums : Option (List ℕ)) (old new : StoreState)
+    → ((name : Name) (reply : Reply) → Contains new.asked (name, reply) → may_answer name reply) → (outcome : Outcome)
+    → RunEnds command (run_between main sums old new) outcome → IsStoreRun may_answer command main sums outcome
+store_weaken may_answer command main sums old new told outcome is = (told_between old new, told, is)

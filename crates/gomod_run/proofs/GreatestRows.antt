@@ -15,6 +15,7 @@ use Rattle.gm_graph_select.specs.Order.{IsAscending}
 use Rattle.gm_graph_select.proofs.Ascending.{less_itself, member_cases, no_member, pairs_head, pairs_tail}
 use Rattle.gm_graph.specs.Graph.{IsEdge}
 use Rattle.gomod_run.specs.ListingLaws.{AreGreatest, BuildListIsListed}
+use Rattle.gomod_run.specs.Outcomes.{no_fault}
 
 -- two versions are the same if neither is greater
 same_version : (v w : List ℕ) → is_gt (version_cmp v w) ≡ false → is_gt (version_cmp w v) ≡ false → v ≡ w
@@ -65,14 +66,4 @@ module _ (main : Main) (readings : Readings) (selected : List ModuleVersion)
 
 pub build_list_is_listed : BuildListIsListed
 build_list_is_listed run main held selected found greatest =
-    inr (
-      main,
-      found.table,
-      found.read,
-      inr (
-        held,
-        found.known,
-        found.sound,
-        (main_entry ∷ map (entry_of main.replaces) selected, as_build_list main (readings_by main held) selected greatest, refl),
-      ),
-    )
+    no_fault main held found (main_entry ∷ map (entry_of main.replaces) selected, as_build_list main (readings_by main held) selected greatest, refl)

@@ -1,5 +1,5 @@
 -- How a command ends that was served with what was read for it.
-use Rattle.std.proofs.Common.{◌≡◌, ◌≢◌, ◌∙◌, ◌∷◌, ℕ, zero, suc, arith, Contains, IfErr, IfOk, List, [], MatchResult, Option, Some, None, Result, Ok, Err, ap, codes, inl, inr, option_map, refl, subst, sym, true}
+use Rattle.std.proofs.Common.{◌≡◌, ◌≢◌, ◌∙◌, ◌∷◌, ℕ, zero, suc, arith, Contains, IfErr, IfOk, List, [], MatchResult, Option, Some, None, Result, Ok, Err, ap, codes, inl, inr, option_map, refl, subst, sym}
 use Rattle.std.proofs.lemmas.Bool.Decides.{eqb_tells}
 use Rattle.std.specs.Global.{Vec}
 use Rattle.std.specs.Result.{IsErr, IsErrAnd}
@@ -15,17 +15,16 @@ use Rattle.gm_store.specs.declared.fallback.proxy_list.ProxyList.{ProxyList}
 use Rattle.gomod_words.specs.declared.usage.Command.{Command}
 use Rattle.gomod_words.specs.declared.usage.Command.TheVariants.{Fmt, Edit, Versions, Graph, List as Rows, Chain}
 use Rattle.gomod_words.specs.declared.usage.Places.{Places}
-use Rattle.gomod_run.specs.Outcomes.{answers, longest}
+use Rattle.gomod_run.specs.Outcomes.{longest}
 use Rattle.gomod_run.specs.Outcome.{OrNoMemory, Outcome, code_of, report_outcome}
 use Rattle.gomod_run.specs.declared.reports.report.Report.{Report}
 use Rattle.gomod_run.specs.declared.reports.status.Status.{Status}
 use Rattle.gomod_run.specs.declared.inputs.Inputs.{Inputs}
-use Rattle.gomod_run.specs.Program.{IsInputServed, IsMainServed, IsQueryRun, IsServed, IsSumsServed, MayBeTold}
-use Rattle.gomod_run.specs.Queries.{RunsTo}
+use Rattle.gomod_run.specs.Program.{IsInputServed, IsMainServed, IsServed, IsStoreRun, IsSumsServed, MayBeTold}
 use Rattle.gomod_run.specs.Reads.{AreBothRead, AreInputs, AreSumsInput, AreSumsUnread, HoldsInput, HoldsNothing, IsOneUnread, IsStoreFolder, IsUnreadInput, IsUnreadList, versions_path, with_proxy}
-use Rattle.gomod_run.specs.Runs.{is_query}
+use Rattle.gomod_run.specs.Runs.{RunEnds, run_between}
 use Rattle.gomod_run.specs.Written.{EndsAsStated, IsWritten}
-use Rattle.gomod_run.proofs.Endings.{by_bytes, ends_weaken, folder_weaken, input_weaken, query_runs}
+use Rattle.gomod_run.proofs.Endings.{ends_weaken, input_weaken, store_weaken}
 
 -- ---- the inputs
 
@@ -38,16 +37,9 @@ sums_passed_on may_open places main told (Err passed) none same may is =
     inr (main, may, subst (λ (told : Report). AreSumsUnread may_open (option_map string_bytes places.sums) (report_outcome told)) (sym same) is)
 sums_passed_on may_open places main told (Ok inputs) none same may is = absurd (cc none)
 
--- the outcome of a query follows from what its store answered
-query_weaken : (may_answer : Name → Reply → Type 0) (command : Command) (main : List ℕ) (sums : Option (List ℕ)) (old new : StoreState) → is_query command ≡ true
-    → ((name : Name) (reply : Reply) → Contains new.asked (name, reply) → may_answer name reply) → (outcome : Outcome)
-    → RunsTo command main sums old new outcome → IsQueryRun may_answer command main sums outcome
-query_weaken may_answer command main sums old new query told outcome runs =
-    let (failed, grown, is) = query_runs command main sums old new outcome query runs in (answers new.asked failed, told, is)
-
 -- a query that runs with what was read of the named go.sum
 sums_served : (may_open : List ℕ → Opening → Type 0) (may_answer : Name → Reply → Type 0) (command : Command) (name : Option (List ℕ)) (main : List ℕ) (sums : Option (Vec ℕ)) (outcome : Outcome)
-    → AreSumsInput may_open name sums → IsQueryRun may_answer command main (option_map (λ sums. sums.items) sums) outcome → IsSumsServed may_open may_answer command name main outcome
+    → AreSumsInput may_open name sums → IsStoreRun may_answer command main (option_map (λ sums. sums.items) sums) outcome → IsSumsServed may_open may_answer command name main outcome
 sums_served may_open may_answer command None main None outcome read runs = runs
 sums_served may_open may_answer command (Some name) main (Some sums) outcome read runs = (Ok sums, read, runs)
 sums_served may_open may_answer command None main (Some sums) outcome read runs = absurd read
@@ -91,20 +83,20 @@ a_folder (byte ∷ file) = let rest = a_folder file in one_longer byte file rest
 
 -- a run over slices of what was read is one over what was read
 pub same_run : (command : Command) (inputs : Inputs) (main : List ℕ) (sums : Option (List ℕ)) (old new : StoreState) → main ≡ inputs.main.items → sums ≡ option_map (λ sums. sums.items) inputs.sums
-    → (outcome : Outcome) → RunsTo command main sums old new outcome → RunsTo command inputs.main.items (option_map (λ sums. sums.items) inputs.sums) old new outcome
+    → (outcome : Outcome) → RunEnds command (run_between main sums old new) outcome → RunEnds command (run_between inputs.main.items (option_map (λ sums. sums.items) inputs.sums) old new) outcome
 same_run command inputs main sums old new same_main same_sums outcome runs =
-    subst (λ (sums : Option (List ℕ)). RunsTo command inputs.main.items sums old new outcome) same_sums
-    (subst (λ (main : List ℕ). RunsTo command main sums old new outcome) same_main runs)
+    subst (λ (sums : Option (List ℕ)). RunEnds command (run_between inputs.main.items sums old new) outcome) same_sums
+    (subst (λ (main : List ℕ). RunEnds command (run_between main sums old new) outcome) same_main runs)
 
 -- a command over proxy folders
 pub folders_served : (may_open : List ℕ → Opening → Type 0) (command : Command) (places : Places) (folders : ProxyList) (folder : List ℕ) (inputs : Inputs) (old new : StoreState)
     → AreInputs may_open command places inputs → IsStoreFolder command (string_bytes places.main) folder
     → ((name : Name) (reply : Reply) → Contains new.asked (name, reply) → MayBeTold may_open folder (Some folders) name reply)
-    → (outcome : Outcome) → RunsTo command inputs.main.items (option_map (λ sums. sums.items) inputs.sums) old new outcome → IsServed may_open command (with_proxy places (Some folders)) outcome
-folders_served may_open Fmt places folders folder inputs old new read is told outcome runs = (Ok inputs.main, read.0, by_bytes Fmt inputs.main.items (option_map (λ sums. sums.items) inputs.sums) old new outcome refl runs)
-folders_served may_open (Edit operations) places folders folder inputs old new read is told outcome runs = (Ok inputs.main, read.0, by_bytes (Edit operations) inputs.main.items (option_map (λ sums. sums.items) inputs.sums) old new outcome refl runs)
+    → (outcome : Outcome) → RunEnds command (run_between inputs.main.items (option_map (λ sums. sums.items) inputs.sums) old new) outcome → IsServed may_open command (with_proxy places (Some folders)) outcome
+folders_served may_open Fmt places folders folder inputs old new read is told outcome runs = (Ok inputs.main, read.0, runs)
+folders_served may_open (Edit operations) places folders folder inputs old new read is told outcome runs = (Ok inputs.main, read.0, runs)
 folders_served may_open (Versions path all) places folders folder inputs old new read is told outcome runs =
-    folder_weaken may_open folders (Versions path all) old new refl
+    store_weaken (MayBeTold may_open (codes ".") (Some folders)) (Versions path all) [] None old new
     (λ name reply k. subst (λ (folder : List ℕ). MayBeTold may_open folder (Some folders) name reply) is (told name reply k)) outcome runs
 folders_served may_open Graph places folders folder inputs old new read is told outcome runs = (
   folder,
@@ -113,7 +105,7 @@ folders_served may_open Graph places folders folder inputs old new read is told 
     Ok inputs.main,
     read.0,
     sums_served may_open (MayBeTold may_open folder (Some folders)) Graph (option_map string_bytes places.sums) inputs.main.items inputs.sums outcome read.1
-        (query_weaken (MayBeTold may_open folder (Some folders)) Graph inputs.main.items (option_map (λ sums. sums.items) inputs.sums) old new refl told outcome runs),
+        (store_weaken (MayBeTold may_open folder (Some folders)) Graph inputs.main.items (option_map (λ sums. sums.items) inputs.sums) old new told outcome runs),
   ),
 )
 folders_served may_open (Rows after limit) places folders folder inputs old new read is told outcome runs = (
@@ -123,7 +115,7 @@ folders_served may_open (Rows after limit) places folders folder inputs old new 
     Ok inputs.main,
     read.0,
     sums_served may_open (MayBeTold may_open folder (Some folders)) (Rows after limit) (option_map string_bytes places.sums) inputs.main.items inputs.sums outcome read.1
-        (query_weaken (MayBeTold may_open folder (Some folders)) (Rows after limit) inputs.main.items (option_map (λ sums. sums.items) inputs.sums) old new refl told outcome runs),
+        (store_weaken (MayBeTold may_open folder (Some folders)) (Rows after limit) inputs.main.items (option_map (λ sums. sums.items) inputs.sums) old new told outcome runs),
   ),
 )
 folders_served may_open (Chain path) places folders folder inputs old new read is told outcome runs = (
@@ -133,7 +125,7 @@ folders_served may_open (Chain path) places folders folder inputs old new read i
     Ok inputs.main,
     read.0,
     sums_served may_open (MayBeTold may_open folder (Some folders)) (Chain path) (option_map string_bytes places.sums) inputs.main.items inputs.sums outcome read.1
-        (query_weaken (MayBeTold may_open folder (Some folders)) (Chain path) inputs.main.items (option_map (λ sums. sums.items) inputs.sums) old new refl told outcome runs),
+        (store_weaken (MayBeTold may_open folder (Some folders)) (Chain path) inputs.main.items (option_map (λ sums. sums.items) inputs.sums) old new told outcome runs),
   ),
 )
 
@@ -143,16 +135,16 @@ empty_told : (store : MemoryFiles) (asked : List (Name × Reply)) → ((name : N
 empty_told store asked empty allowed name reply k = allowed name reply k ∙ ap (reply_for longest) (empty name)
 
 -- a query over an empty store
-query_in_memory : (may_open : List ℕ → Opening → Type 0) (command : Command) (places : Places) (inputs : Inputs) (before after : MemoryFiles) → is_query command ≡ true
+query_in_memory : (may_open : List ℕ → Opening → Type 0) (command : Command) (places : Places) (inputs : Inputs) (before after : MemoryFiles)
     → AreBothRead may_open places inputs → ((name : Name) → held_at before name ≡ None)
     → ((name : Name) (reply : Reply) → Contains (pairs_of after) (name, reply) → may_give before name reply) → (folder : List ℕ)
-    → (outcome : Outcome) → RunsTo command inputs.main.items (option_map (λ sums. sums.items) inputs.sums) (memory_files_state before) (memory_files_state after) outcome
+    → (outcome : Outcome) → RunEnds command (run_between inputs.main.items (option_map (λ sums. sums.items) inputs.sums) (memory_files_state before) (memory_files_state after)) outcome
     → IsMainServed may_open (MayBeTold may_open folder None) command (string_bytes places.main) (option_map string_bytes places.sums) outcome
-query_in_memory may_open command places inputs before after query read empty allowed folder outcome runs = (
+query_in_memory may_open command places inputs before after read empty allowed folder outcome runs = (
   Ok inputs.main,
   read.0,
   sums_served may_open (MayBeTold may_open folder None) command (option_map string_bytes places.sums) inputs.main.items inputs.sums outcome read.1
-      (query_weaken (MayBeTold may_open folder None) command inputs.main.items (option_map (λ sums. sums.items) inputs.sums) (memory_files_state before) (memory_files_state after) query
+      (store_weaken (MayBeTold may_open folder None) command inputs.main.items (option_map (λ sums. sums.items) inputs.sums) (memory_files_state before) (memory_files_state after)
       (empty_told before (pairs_of after) empty allowed) outcome runs),
 )
 
@@ -160,22 +152,22 @@ query_in_memory may_open command places inputs before after query read empty all
 pub memory_served : (may_open : List ℕ → Opening → Type 0) (command : Command) (places : Places) (inputs : Inputs) (before after : MemoryFiles)
     → versions_path command ≡ None → AreInputs may_open command places inputs → HoldsNothing before
     → ((name : Name) (reply : Reply) → Contains (pairs_of after) (name, reply) → may_give before name reply)
-    → (outcome : Outcome) → RunsTo command inputs.main.items (option_map (λ sums. sums.items) inputs.sums) (memory_files_state before) (memory_files_state after) outcome
+    → (outcome : Outcome) → RunEnds command (run_between inputs.main.items (option_map (λ sums. sums.items) inputs.sums) (memory_files_state before) (memory_files_state after)) outcome
     → IsServed may_open command (with_proxy places None) outcome
-memory_served may_open Fmt places inputs before after other read holds allowed outcome runs = (Ok inputs.main, read.0, by_bytes Fmt inputs.main.items (option_map (λ sums. sums.items) inputs.sums) (memory_files_state before) (memory_files_state after) outcome refl runs)
-memory_served may_open (Edit operations) places inputs before after other read holds allowed outcome runs = (Ok inputs.main, read.0, by_bytes (Edit operations) inputs.main.items (option_map (λ sums. sums.items) inputs.sums) (memory_files_state before) (memory_files_state after) outcome refl runs)
+memory_served may_open Fmt places inputs before after other read holds allowed outcome runs = (Ok inputs.main, read.0, runs)
+memory_served may_open (Edit operations) places inputs before after other read holds allowed outcome runs = (Ok inputs.main, read.0, runs)
 memory_served may_open (Versions path all) places inputs before after other read holds allowed outcome runs = cc other
 memory_served may_open Graph places inputs before after other read holds allowed outcome runs =
-    let folder = a_folder (string_bytes places.main) in (folder.0, folder.1, query_in_memory may_open Graph places inputs before after refl read holds allowed folder.0 outcome runs)
+    let folder = a_folder (string_bytes places.main) in (folder.0, folder.1, query_in_memory may_open Graph places inputs before after read holds allowed folder.0 outcome runs)
 memory_served may_open (Rows after' limit) places inputs before after other read holds allowed outcome runs =
-    let folder = a_folder (string_bytes places.main) in (folder.0, folder.1, query_in_memory may_open (Rows after' limit) places inputs before after refl read holds allowed folder.0 outcome runs)
+    let folder = a_folder (string_bytes places.main) in (folder.0, folder.1, query_in_memory may_open (Rows after' limit) places inputs before after read holds allowed folder.0 outcome runs)
 memory_served may_open (Chain path) places inputs before after other read holds allowed outcome runs =
-    let folder = a_folder (string_bytes places.main) in (folder.0, folder.1, query_in_memory may_open (Chain path) places inputs before after refl read holds allowed folder.0 outcome runs)
+    let folder = a_folder (string_bytes places.main) in (folder.0, folder.1, query_in_memory may_open (Chain path) places inputs before after read holds allowed folder.0 outcome runs)
 
 -- `versions` over standard input
 pub input_served : (command : Command) (path : List ℕ) (before after : MemoryFiles) → versions_path command ≡ Some path → HoldsInput path before
     → ((name : Name) (reply : Reply) → Contains (pairs_of after) (name, reply) → may_give before name reply)
-    → (outcome : Outcome) → RunsTo command [] None (memory_files_state before) (memory_files_state after) outcome → IsInputServed command path outcome
+    → (outcome : Outcome) → RunEnds command (run_between [] None (memory_files_state before) (memory_files_state after)) outcome → IsInputServed command path outcome
 input_served (Versions path all) own before after is holds allowed outcome runs =
     (Ok holds.0, input_weaken (Versions path all) own holds.0.items before (pairs_of after) (memory_files_state before) (memory_files_state after) refl refl refl holds.1 allowed outcome runs)
 input_served Fmt own before after is holds allowed outcome runs = cc is

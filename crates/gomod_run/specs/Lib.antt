@@ -4,7 +4,6 @@ pub mod Held
 pub mod Laws
 pub mod Listing
 pub mod Program
-pub mod Queries
 pub mod Reads
 pub mod Refusals
 pub mod Runs

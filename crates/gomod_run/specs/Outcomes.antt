@@ -1,7 +1,7 @@
 -- The outcomes of `graph`, `list` and `chain`, given the bytes of a main module's file, those of a go.sum and
 -- the answers of a store: Go Modules Reference, "Minimal version selection", "go.mod files", "go.sum files",
 -- "go mod graph", "go list -m".
-use Rattle.std.specs.Prelude.{◌≡◌, ◌<◌, ◌≤◌, ◌⊎◌, ◌++◌, ℕ, List, [], ◌∷◌, length, Option, Some, None, Ok, ⊤}
+use Rattle.std.specs.Prelude.{◌≡◌, ◌<◌, ◌≤◌, ◌⊎◌, ℕ, List, [], ◌∷◌, length, Option, Some, None, Ok, ⊤}
 use Rattle.gm_syntax.specs.Document.{Line}
 use Rattle.gm_syntax.specs.Tokens.{Placed}
 use Rattle.gm_syntax.specs.LineViews.{plain_lines}
@@ -9,7 +9,6 @@ use Rattle.gm_syntax.specs.Parsed.{IsParsedAs}
 use Rattle.gm_file.specs.Directives.{Strict}
 use Rattle.gm_file.specs.Faults.{fault_of}
 use Rattle.gm_store.specs.Asked.{Name, Reply, names_in}
-use Rattle.gm_store.specs.States.{StoreState}
 use Rattle.gm_store_sums.specs.Sums.{HasValidLines, IsFirstInvalid, ReadsAs, Sums}
 use Rattle.gm_graph.specs.Main.{Main, main_of}
 use Rattle.gm_name.specs.ModuleVersion.{ModuleVersion}
@@ -24,12 +23,9 @@ use Rattle.gm_graph.specs.declared.fault.Fault.{Fault}
 use Rattle.gm_graph.specs.Graph.{IsEdge, IsOpened}
 use Rattle.gm_graph.specs.Loading.{AreAsked, AreFew, AreTooMany, IsAnswered, IsDue, Told}
 use Rattle.gm_graph.specs.Outcome.{AreEdges, AreFaults, AreRows}
-use Rattle.gomod_run.specs.declared.listing.query.Query.{Query}
-use Rattle.gomod_run.specs.declared.listing.query.Query.TheVariants.{Graph, List as Rows, Chain}
 use Rattle.gomod_run.specs.ListingTexts.{chain_text, graph_text, limited, list_text}
 use Rattle.gomod_run.specs.Outcome.{Outcome, failed, printed, refused}
 use Rattle.gomod_run.specs.Reports.{FaultPlace, bad_sum_line, device_line, faults_text, long_sums_line, main_line, not_listed_line, too_many_line}
-use Rattle.std.specs.Option.{option_copied}
 
 -- What a store answered: the names that it was asked for with its answers, and the names on which its device
 -- failed.
@@ -112,46 +108,44 @@ pub record AreKnown (main : Main) (table : Option Sums) (told : Answers) (held :
   pub few : AreFew main (readings_by main held)
   pub none_failed : told.failed ≡ []
 
--- Why nothing is printed although both files are valid; no two of these apply.
-pub data IsStopped (main : Main) (table : Option Sums) (told : Answers) (outcome : Outcome) : Type 0 where
-  -- more than 65,536 modules are opened, and the device did not fail
-  too_many : Told main table told.asked (AreTooMany main) → told.failed ≡ []
-      → outcome ≡ refused too_many_line → IsStopped main table told outcome
-  -- the store's device failed on the file of an opened module
-  device : (name : Name) → IsDue main table told.asked name → told.failed ≡ name ∷ []
-      → outcome ≡ failed (device_line name) → IsStopped main table told outcome
-  -- the files of the opened modules are known, and some have faults: exactly these are reported
-  faulty : (held : Held) (first : Fault) (others : List Fault) → AreKnown main table told held
-      → AreFaults main (readings_by main held) (first ∷ others)
-      → outcome ≡ refused (faults_text (first ∷ others)) → IsStopped main table told outcome
+-- Both files are valid, and the files of the opened modules were asked for, each once, are known, and have no
+-- faults.
+pub record AllFilesAreValid (run : Given) (main : Main) (held : Held) : Type 0 where
+  pub table : Option Sums
+  pub read : FilesReadAs run.file run.sums main table
+  pub known : AreKnown main table run.told held
+  pub sound : AreFaults main (readings_by main held) []
 
 -- What a command prints: a relation between what the main file says, what the files of modules say, and the
 -- outcome.
 abbrev pub Prints : Type 1
 Prints = Main → Readings → Outcome → Type 0
 
--- The outcome of a run when both files are valid: either loading stops or finds faults, or the files of the
--- opened modules are known, none has a fault, and the command prints.
-abbrev pub IsOutcomeOver : Prints → Main → Option Sums → Answers → Outcome → Type 0
-IsOutcomeOver prints main table told outcome =
-    IsStopped main table told outcome
-    ⊎ ((held : Held) × AreKnown main table told held × AreFaults main (readings_by main held) []
-    × prints main (readings_by main held) outcome)
-
--- Why nothing is asked for and nothing is printed: the main module's file is invalid, or it is valid and the
--- go.sum is invalid.
-abbrev pub IsRefusedRead : List ℕ → Option (List ℕ) → Outcome → Type 0
-IsRefusedRead file sums outcome =
-    ((place : FaultPlace) × IsMalformedMain file place × (outcome ≡ refused (main_line place)))
-    ⊎ ((main : Main) × (report : List ℕ) × IsMainFile file main × AreInvalidSums sums report
-    × (outcome ≡ refused report))
-
--- The outcome of a run.
-abbrev pub IsOutcome : Prints → Given → Outcome → Type 0
-IsOutcome prints run outcome =
-    (IsRefusedRead run.file run.sums outcome × IsUnasked run.told)
-    ⊎ ((main : Main) × (table : Option Sums) × FilesReadAs run.file run.sums main table
-    × IsOutcomeOver prints main table run.told outcome)
+-- How `graph`, `list` and `chain` end, if memory doesn't run out. They differ in what they print of a module graph
+-- without faults.
+pub data QueryEnds (prints : Prints) (run : Given) (outcome : Outcome) : Type 0 where
+  -- the main file is invalid, which is reported, and no file is asked for
+  bad_main : (place : FaultPlace) → IsMalformedMain run.file place → IsUnasked run.told
+      → outcome ≡ refused (main_line place) → QueryEnds prints run outcome
+  -- the main file is valid and the go.sum is not, likewise
+  bad_sums : (main : Main) (report : List ℕ) → IsMainFile run.file main → AreInvalidSums run.sums report
+      → IsUnasked run.told → outcome ≡ refused report → QueryEnds prints run outcome
+  -- the store's device failed on the file of an opened module
+  device : (main : Main) (table : Option Sums) (name : Name) → FilesReadAs run.file run.sums main table
+      → IsDue main table run.told.asked name → run.told.failed ≡ name ∷ []
+      → outcome ≡ failed (device_line name) → QueryEnds prints run outcome
+  -- more than 65,536 modules are opened
+  too_many : (main : Main) (table : Option Sums) → FilesReadAs run.file run.sums main table
+      → Told main table run.told.asked (AreTooMany main) → run.told.failed ≡ []
+      → outcome ≡ refused too_many_line → QueryEnds prints run outcome
+  -- some of the opened modules have faults: these are reported, and no others
+  faulty : (main : Main) (table : Option Sums) (held : Held) (first : Fault) (others : List Fault)
+      → FilesReadAs run.file run.sums main table → AreKnown main table run.told held
+      → AreFaults main (readings_by main held) (first ∷ others)
+      → outcome ≡ refused (faults_text (first ∷ others)) → QueryEnds prints run outcome
+  -- no opened module has a fault, and the command prints
+  no_fault : (main : Main) (held : Held) → AllFilesAreValid run main held → prints main (readings_by main held) outcome
+      → QueryEnds prints run outcome
 
 -- ---- graph
 
@@ -160,9 +154,9 @@ abbrev pub PrintsGraph : Prints
 PrintsGraph main readings outcome =
     (edges : List Edge) × AreEdges main readings edges × (outcome ≡ printed (graph_text main.path edges))
 
--- the outcome of `graph`
-abbrev pub IsGraphOutcome : Given → Outcome → Type 0
-IsGraphOutcome run outcome = IsOutcome PrintsGraph run outcome
+-- how `graph` ends
+abbrev pub GraphEnds : Given → Outcome → Type 0
+GraphEnds = QueryEnds PrintsGraph
 
 -- ---- list
 
@@ -183,9 +177,9 @@ abbrev pub PrintsList : Option (List ℕ) → Option ℕ → Prints
 PrintsList after limit main readings outcome =
     (rows : List Entry) × AreRows main readings rows × PrintsRows main rows after limit outcome
 
--- the outcome of `list`
-abbrev pub IsListOutcome : Option (List ℕ) → Option ℕ → Given → Outcome → Type 0
-IsListOutcome after limit run outcome = IsOutcome (PrintsList after limit) run outcome
+-- how `list` ends
+abbrev pub ListEnds : Option (List ℕ) → Option ℕ → Given → Outcome → Type 0
+ListEnds after limit = QueryEnds (PrintsList after limit)
 
 -- ---- chain
 
@@ -202,23 +196,6 @@ abbrev pub PrintsChain : List ℕ → Prints
 PrintsChain path main readings outcome = (rows : List Entry) × AreRows main readings rows
     × ShowsChain path main (IsEdge main readings) rows outcome
 
--- the outcome of `chain`
-abbrev pub IsChainOutcome : List ℕ → Given → Outcome → Type 0
-IsChainOutcome path run outcome = IsOutcome (PrintsChain path) run outcome
-
--- ---- each command
-
--- what the command for a query prints
-abbrev pub PrintsFor : Query → Prints
-PrintsFor Graph = PrintsGraph
-PrintsFor (Rows after limit) = PrintsList (option_copied after) limit
-PrintsFor (Chain path) = PrintsChain path.now
-
--- ---- over a store
-
--- the outcome of a run over these files and a store: given the files that the store was asked for, its answers, and the
--- files at which its device failed in the run
-abbrev pub IsAnswerOver : Prints → List ℕ → Option (List ℕ) → StoreState → StoreState → Outcome → Type 0
-IsAnswerOver prints file sums old new outcome =
-    (failed : List Name) × (new.refused ≡ old.refused ++ failed)
-    × IsOutcome prints (given file sums (answers new.asked failed)) outcome
+-- how `chain` ends
+abbrev pub ChainEnds : List ℕ → Given → Outcome → Type 0
+ChainEnds path = QueryEnds (PrintsChain path)

@@ -17,14 +17,12 @@ use Rattle.gomod_words.specs.declared.usage.Command.TheVariants.{Fmt, Edit, Vers
 use Rattle.gomod_words.specs.declared.usage.Places.{Places}
 use Rattle.gomod_words.specs.declared.usage.UsageFault.{UsageFault}
 use Rattle.gomod_words.specs.declared.usage.UsageFault.TheVariants as usage
-use Rattle.gomod_run.specs.Outcomes.{Answers as Told, given, longest}
-use Rattle.gomod_run.specs.Needs.{AnswersByName}
+use Rattle.gomod_run.specs.Outcomes.{Answers as Told, answers, given, longest}
 use Rattle.gomod_run.specs.Outcome.{Outcome, code_of, failed, out_of_memory, printed}
-use Rattle.gomod_run.specs.Reports.{cannot_read_line, device_line}
+use Rattle.gomod_run.specs.Reports.{cannot_read_line}
 use Rattle.gomod_run.specs.declared.ending.Ending.{Ending}
 use Rattle.gomod_run.specs.declared.ending.Ending.TheVariants.{Run, Usage}
-use Rattle.gomod_run.specs.Runs.{Needs, StatesOutcome}
-use Rattle.gomod_run.specs.Queries.{IsQueryOutcome}
+use Rattle.gomod_run.specs.Runs.{RunEnds}
 
 -- the report of a usage error, which no run ends with
 abbrev pub usage_error : List ℕ → Outcome
@@ -49,17 +47,15 @@ abbrev pub IsReadOutcome : List ℕ → (List ℕ → Outcome → Type 0) → Re
 IsReadOutcome name states (Ok content) outcome = states content.items outcome
 IsReadOutcome name states (Err fault) outcome = outcome ≡ unread_outcome name fault
 
--- the answers are those of a store that has one file and no other
-abbrev pub AreOfOneFile : Name → List ℕ → AnswersByName → Type 0
-AreOfOneFile file content answers = (name : Name) (reply : Reply) → answers name ≡ Some reply
+-- each answer is that of a store that has one file and no other
+abbrev pub AreOfOneFile : Name → List ℕ → List (Name × Reply) → Type 0
+AreOfOneFile file content asked = (name : Name) (reply : Reply) → Contains asked (name, reply)
     → reply ≡ reply_for longest (if same_name name file then Some content else None)
 
 -- `versions PATH` without proxy folders: over the list that was read from standard input
 abbrev pub IsInputOutcome : Command → List ℕ → List ℕ → Outcome → Type 0
-IsInputOutcome command path list outcome =
-    (answers : AnswersByName)
-    × AreOfOneFile (list_file path) list answers
-    × StatesOutcome command [] None answers outcome
+IsInputOutcome command path list outcome = (asked : List (Name × Reply)) × AreOfOneFile (list_file path) list asked
+    × RunEnds command (given [] None (answers asked [])) outcome
 
 -- In what follows `may_open` says what may come of opening the file at a path. This one is of a file system of which
 -- nothing is known.
@@ -73,17 +69,12 @@ MayBeTold may_open main None name reply = reply ≡ absent
 MayBeTold may_open main (Some folders) name reply =
     MayAnswer may_open main (folders_in folders) (marks_in folders) name reply
 
--- each answer is one that these proxy folders may give
-abbrev pub AreOfFolders : (List ℕ → Opening → Type 0) → ProxyList → AnswersByName → Type 0
-AreOfFolders may_open folders answers = (name : Name) (reply : Reply) → answers name ≡ Some reply
-    → MayBeTold may_open (codes ".") (Some folders) name reply
-
--- a command over the answers of proxy folders, or the report of a needed file at which their device failed
-abbrev pub IsFolderOutcome : (List ℕ → Opening → Type 0) → ProxyList → Command → Outcome → Type 0
-IsFolderOutcome may_open folders command outcome =
-    ((answers : AnswersByName) × AreOfFolders may_open folders answers × StatesOutcome command [] None answers outcome)
-    ⊎ ((answers : AnswersByName) × AreOfFolders may_open folders answers × (name : Name)
-    × Needs command [] None answers name × (outcome ≡ failed (device_line name)))
+-- a command over the bytes of the main file, those of a go.sum if one is given, and answers that a store may give to
+-- the names that it was asked for; its device may have failed
+abbrev pub IsStoreRun : (Name → Reply → Type 0) → Command → List ℕ → Option (List ℕ) → Outcome → Type 0
+IsStoreRun may_answer command main sums outcome = (told : Told)
+    × ((name : Name) (reply : Reply) → Contains told.asked (name, reply) → may_answer name reply)
+    × RunEnds command (given main sums told) outcome
 
 -- `versions PATH` without proxy folders: standard input is read as the module's list, or can't be
 abbrev pub IsInputServed : Command → List ℕ → Outcome → Type 0
@@ -94,22 +85,16 @@ IsInputServed command path outcome =
 -- `versions PATH`: over standard input, or over proxy folders if there are any
 abbrev pub IsVersionsServed : (List ℕ → Opening → Type 0) → Command → List ℕ → Option ProxyList → Outcome → Type 0
 IsVersionsServed may_open command path None outcome = IsInputServed command path outcome
-IsVersionsServed may_open command path (Some folders) outcome = IsFolderOutcome may_open folders command outcome
-
--- a query on a module graph, over the bytes of the main file, those of a go.sum if one is given, and answers to
--- the names that a store was asked for
-abbrev pub IsQueryRun : (Name → Reply → Type 0) → Command → List ℕ → Option (List ℕ) → Outcome → Type 0
-IsQueryRun may_answer command main sums outcome = (told : Told)
-    × ((name : Name) (reply : Reply) → Contains told.asked (name, reply) → may_answer name reply)
-    × IsQueryOutcome command (given main sums told) outcome
+IsVersionsServed may_open command path (Some folders) outcome =
+    IsStoreRun (MayBeTold may_open (codes ".") (Some folders)) command [] None outcome
 
 -- the go.sum is read if one is named
 abbrev pub IsSumsServed : (List ℕ → Opening → Type 0) → (Name → Reply → Type 0) → Command → Option (List ℕ) → List ℕ
     → Outcome → Type 0
-IsSumsServed may_open may_answer command None main outcome = IsQueryRun may_answer command main None outcome
+IsSumsServed may_open may_answer command None main outcome = IsStoreRun may_answer command main None outcome
 IsSumsServed may_open may_answer command (Some name) main outcome = (read : Result (Vec ℕ) InputFault)
     × MayRead (may_open name) read
-    × IsReadOutcome name (λ sums outcome. IsQueryRun may_answer command main (Some sums) outcome) read outcome
+    × IsReadOutcome name (λ sums outcome. IsStoreRun may_answer command main (Some sums) outcome) read outcome
 
 -- the main file is read, then the go.sum
 abbrev pub IsMainServed : (List ℕ → Opening → Type 0) → (Name → Reply → Type 0) → Command → List ℕ
@@ -128,7 +113,7 @@ IsQueryServed may_open command places outcome = (folder : List ℕ) × IsFolderO
 abbrev pub IsFileServed : (List ℕ → Opening → Type 0) → Command → List ℕ → Outcome → Type 0
 IsFileServed may_open command name outcome = (read : Result (Vec ℕ) InputFault)
     × MayRead (may_open name) read
-    × IsReadOutcome name (λ main outcome. StatesOutcome command main None (λ name. None) outcome) read outcome
+    × IsReadOutcome name (λ main outcome. RunEnds command (given main None (answers [] [])) outcome) read outcome
 
 -- a command over the files that the words name
 abbrev pub IsServed : (List ℕ → Opening → Type 0) → Command → Places → Outcome → Type 0
