@@ -3,7 +3,6 @@ use Rattle.std.proofs.lemmas.Result.{err_from_is_err_and}
 use Rattle.std.specs.Option.{option_copied}
 use Rattle.gm_store.proofs.Serving.{nothing_served}
 use Rattle.gm_graph.specs.Main.{main_of}
-use Rattle.gm_graph.proofs.RunReadings.{asks_held, due_held, loaded_if, many_held}
 use Rattle.gomod_run.specs.Needs.{GraphNeeds}
 use Rattle.gomod_run.specs.Outcome.{outcome_view}
 use Rattle.gomod_run.proofs.CommandOutcomes.{answered, both_ok, broken, not_broken, not_loaded, query_comes, refused_read, unasked}
@@ -34,8 +33,8 @@ returns-in_err-loaded g c =
     let p = err_from_is_err_and c.from_residual-in_err-loaded.result c.from_residual-in_err-loaded.ensures.1 in
     rw (p.1, p.2)
     (query_comes c.args.query file sums _ _ old new _
-    (not_loaded c.args.query file sums main table old new c.load.result c.in_err-loaded.field-0.0 c.in_err-loaded.was both (λ e. let many = load.too_many e in many_held _ _ _ many.0 many.1) (λ name e. due_held _ _ _ _ (load.device name e)) load.refused)
-    (due_in_turn file sums main table both (asks_held _ _ load.asks)) (load_fails file sums main table both old new c.load.result load.refused (λ name e. due_held _ _ _ _ (load.device name e))) load.served
+    (not_loaded c.args.query file sums main table old new c.load.result c.in_err-loaded.field-0.0 c.in_err-loaded.was both load.too_many load.device load.refused)
+    (due_in_turn file sums main table both load.asks) (load_fails file sums main table both old new c.load.result load.refused load.device) load.served
     (λ name grown. broken old new c.load.result c.in_err-loaded.field-0.0 name c.in_err-loaded.was load.refused grown))
 
 pub returns : goal.returns
@@ -51,5 +50,5 @@ returns g c =
     (answered args.query args.file.now sums (main_of read.main) read.table old new c.load.result c.in_ok-loaded.loaded (outcome_view c.tell.result) c.in_ok-loaded.was both
     load.loaded load.refused c.tell.ensures)
     (due_in_turn args.file.now sums (main_of read.main) read.table both load.asks)
-    (load_fails args.file.now sums (main_of read.main) read.table both old new c.load.result load.refused (λ name e. due_held _ _ _ _ (load.device name e))) load.served
+    (load_fails args.file.now sums (main_of read.main) read.table both old new c.load.result load.refused load.device) load.served
     (λ name grown. not_broken old new c.load.result c.in_ok-loaded.loaded name c.in_ok-loaded.was load.refused grown)
