@@ -5,7 +5,7 @@
 #   tools/memory-failures.sh --print    prints the list that the sources have, but for the reasons
 #
 # A source of a library or of the program names a value such as `NoMemory` or `AllocError` only in an `impl From` of
-# such a value, or in an arm that was given it (`SyntaxFault::NoMemory => ReadFault::NoMemory`), or where the list says
+# such a value, or in an arm that was given it (`SyntaxFault::NoMemory => BytesFault::NoMemory`), or where the list says
 # so. A row of the list has the function, and the reason why memory has run out there. Below it stands the condition:
 # the source text of each `if`, arm, loop and `let .. else` that leads to the value, and its statement; without any of
 # these all that stands before it in the function. The constants of the file that it names follow.

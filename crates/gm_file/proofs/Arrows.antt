@@ -39,8 +39,8 @@ pub after-arrow : (tokens rest : List Placed) (n : ℕ) → n ≡ length (take_w
     → words_of (take (length rest - 1) (drop 1 rest)) ≡ after_first is_arrow (words_of tokens)
 after-arrow tokens rest n e is = ap words_of (take_rest rest 1) ∙ rest-after tokens rest n e is
 
-pub no-arrow : (tokens rest : List Placed) (n : ℕ) → n ≡ length (take_while (λ t. not (is_arrow t.word)) tokens) → rest ≡ drop n tokens → length rest < 1 → after_first is_arrow (words_of tokens) ≡ []
-no-arrow tokens rest n e is short = sym (rest-after tokens rest n e is) ∙ ap words_of (drop_of_length-le rest {i = 1} (omega (arith, short)))
+pub no-arrow_before : (tokens rest : List Placed) (n : ℕ) → n ≡ length (take_while (λ t. not (is_arrow t.word)) tokens) → rest ≡ drop n tokens → length rest < 1 → after_first is_arrow (words_of tokens) ≡ []
+no-arrow_before tokens rest n e is short = sym (rest-after tokens rest n e is) ∙ ap words_of (drop_of_length-le rest {i = 1} (omega (arith, short)))
 
 pub first-append : {X : Type 0} (xs ys : List X) (x : X) → first xs ≡ Some x → first (xs ++ ys) ≡ Some x
 first-append [] ys x e = cc e

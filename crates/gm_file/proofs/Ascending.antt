@@ -1,5 +1,6 @@
 -- Precedence as a test, and intervals that are sorted by their low ends.
 use Rattle.std.proofs.Common.{◌≡◌, ◌<◌, ◌≤◌, ◌||◌, suc, ℕ, Bool, true, false, not, List, [], ◌∷◌, map, length, slice_index_or, ap, sym, subst, refl, arith}
+use Rattle.std.proofs.lemmas.Bool.{not-true}
 use Rattle.std.specs.Cmp.{IsTotalOrder, on_total, then_total}
 use Rattle.std.specs.List.{AllByRecursion, list_any}
 use Rattle.std.specs.List.Sorted.{IsPermutation, IsSorted}
@@ -18,12 +19,8 @@ use Rattle.gm_file.specs.declared.sweep.Ends.{Ends}
 by_parts : IsTotalOrder (on parts_in precedence)
 by_parts = on_total parts_in precedence_total
 
-was_not : (b : Bool) → not b ≡ true → b ≡ false
-was_not true e = cc e
-was_not false e = refl
-
 pub upto_trans : (a b c : List ℕ) → is_at_most a b ≡ true → is_at_most b c ≡ true → is_at_most a c ≡ true
-upto_trans a b c one other = ap not (upto by_parts a b c (was_not _ one) (was_not _ other))
+upto_trans a b c one other = ap not (upto by_parts a b c (not-true _ one) (not-true _ other))
 
 turned : (r s : Ordering) → s ≡ ordering_reverse r → not (is_gt r) ≡ false → not (is_gt s) ≡ true
 turned Less s e above = cc above

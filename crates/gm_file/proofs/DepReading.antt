@@ -12,16 +12,19 @@ use Rattle.gm_syntax.specs.LineReading.{IsRestRead, Unread}
 use Rattle.gm_syntax.specs.declared.fault.SyntaxFault.{SyntaxFault}
 use Rattle.gm_syntax.specs.declared.fault.SyntaxFault.TheVariants as syntax
 use Rattle.gm_file.specs.declared.dep_lines.DepLines.{DepLines}
+use Rattle.gm_file.specs.declared.fault.FileFault.{FileFault}
+use Rattle.gm_file.specs.declared.fault.FileFault.TheVariants as file
 use Rattle.gm_file.specs.declared.fault.LineFault.{LineFault}
 use Rattle.gm_file.specs.declared.fault.LineFault.TheVariants as line
 use Rattle.gm_file.specs.declared.fields.Fields.{Fields}
-use Rattle.gm_file.specs.DepLines.{AreAllRead, AreDepLines, HasNextFault, IsDependencyIn, IsMisread}
-use Rattle.gm_file.specs.Directives.{Item, Lax, block_after_line, item_at}
+use Rattle.gm_file.specs.DepLines.{AreAllRead, AreDepLines, HasNextFault, IsDependencyIn}
+use Rattle.gm_file.specs.BytesFaults.{fault_by_file, fault_by_syntax}
+use Rattle.gm_file.specs.Directives.{Item, Lax, Mode, block_after_line, item_at}
 use Rattle.gm_file.specs.Faults.{fault_of}
 use Rattle.gm_file.specs.Fields.{Dependency}
 use Rattle.gm_file.specs.Holding.{AreFound, AreReadTo, Holds, IsLineAdded}
-use Rattle.gm_file.specs.ReadFaults.{read_by_file, read_by_syntax}
-use Rattle.gm_file.specs.Views.{file_fault_at}
+use Rattle.gm_file.specs.Misreading.{IsBytesFault}
+use Rattle.gm_file.specs.Views.{ReportsFault, file_fault_at}
 use Rattle.gm_file.proofs.Lines.{fault-reported, read-more, read-none}
 use Rattle.gm_file.proofs.Whole.{dependency, dependency-is, lax-sound}
 
@@ -55,16 +58,22 @@ dep-fault lines here block old new fault so is told = λ later.
     fault-reported Lax lines block here later ((lines ++ here ∷ []) ++ later) (length lines + 1) old.fields new fault read refl refl told
 
 -- a fault of the text comes first
-pub misread-syntax : (bytes : List ℕ) (fault : SyntaxFault) → IsParsedAs bytes (Err fault) → IsMisread bytes (read_by_syntax fault)
-misread-syntax bytes syntax.NoMemory is = tt
-misread-syntax bytes syntax.TooMany is = is
-misread-syntax bytes syntax.NotUtf8 is = is
-misread-syntax bytes (syntax.Syntax number kind) is = is
+pub misread-syntax : (mode : Mode) (bytes : List ℕ) (fault : SyntaxFault) → IsParsedAs bytes (Err fault) → IsBytesFault mode bytes (fault_by_syntax fault)
+misread-syntax mode bytes syntax.NoMemory is = tt
+misread-syntax mode bytes syntax.TooMany is = (refl, is)
+misread-syntax mode bytes syntax.NotUtf8 is = (refl, is)
+misread-syntax mode bytes (syntax.Syntax number kind) is = is
+
+-- a fault of the directives of bytes that are a document
+pub misread-file : (mode : Mode) (bytes : List ℕ) (lines : List (Line Placed)) (fault : FileFault) → IsParsedAs bytes (Ok lines) → ReportsFault mode (plain_lines lines) fault
+    → IsBytesFault mode bytes (fault_by_file fault)
+misread-file mode bytes lines file.NoMemory is tells = tt
+misread-file mode bytes lines (file.Directive number kind) is tells = (lines, is, tells)
 
 -- where the rest of the text has no fault, that of the line is the fault of the bytes
 pub misread-line : (left : Unread) (lines : List (Line Placed)) (here : Line Placed) (number : ℕ) (fault : LineFault)
     → number ≡ length (lines ++ here ∷ []) → HasNextFault (plain_lines lines) (plain here) fault → IsRestRead left (lines ++ here ∷ []) (Ok tt)
-    → IsMisread left.source (read_by_file (file_fault_at number fault))
+    → IsBytesFault Lax left.source (fault_by_file (file_fault_at number fault))
 misread-line left lines here number line.NoMemory is told rest = tt
 misread-line left lines here number (line.Kind kind) is told rest =
     let same : length (plain_lines lines) + 1 ≡ number = omega (arith, is, length-append lines (here ∷ []), length-map lines plain) in (

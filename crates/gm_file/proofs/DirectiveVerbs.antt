@@ -2,7 +2,9 @@
 use Rattle.std.proofs.Common.{◌≡◌, true, List, Option, Some, None, refl, sym, ap, ◌∙◌}
 use Rattle.std.specs.Option.{option_map}
 use Rattle.gm_syntax.specs.Words.{Word}
-use Rattle.gm_file.specs.Directives.{Verb, ForModule, ForGo, ForRequire, ForExclude, ForReplace, ForRetract, ForNothing, Unknown, Directive, DeclaresModule, DeclaresGo, Requires, Excludes, Replaces, Retracts, directive_of, ends_of, one_of, pair_of, replacing_of, verb_eq, verb_of_directive}
+use Rattle.gm_file.specs.declared.verb.Verb.{Verb}
+use Rattle.gm_file.specs.declared.verb.Verb.TheVariants.{Module as ForModule, Go as ForGo, Require as ForRequire, Exclude as ForExclude, Replace as ForReplace, Retract as ForRetract, Nothing as ForNothing, Unknown}
+use Rattle.gm_file.specs.Directives.{Directive, DeclaresModule, DeclaresGo, Requires, Excludes, Replaces, Retracts, directive_of, ends_of, one_of, pair_of, replacing_of, verb_eq, verb_of_directive}
 
 pub same-verb : (one other : Verb) → verb_eq one other ≡ true → one ≡ other
 same-verb ForModule ForModule e = refl

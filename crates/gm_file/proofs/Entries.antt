@@ -5,7 +5,8 @@ use Rattle.gm_syntax.specs.Words.{Word}
 use Rattle.gm_file.specs.declared.fault.DirectiveKind.{DirectiveKind}
 use Rattle.gm_file.specs.declared.fault.LineFault.{LineFault}
 use Rattle.gm_file.specs.declared.fault.LineFault.TheVariants as line
-use Rattle.gm_file.specs.Directives.{Mode, Verb, Saying, Directive, DeclaresModule, DeclaresGo, Requires, Excludes, Replaces, Retracts, Kept, directive_of, verb_in}
+use Rattle.gm_file.specs.declared.verb.Verb.{Verb}
+use Rattle.gm_file.specs.Directives.{Mode, Saying, Directive, DeclaresModule, DeclaresGo, Requires, Excludes, Replaces, Retracts, Kept, directive_of, verb_in}
 use Rattle.gm_file.specs.Faults.{directive_kinds, path_kinds, entry_kinds, sides_kinds, malformed_entry_kind}
 use Rattle.gm_file.specs.Fields.{first}
 use Rattle.gm_file.specs.Reading.{IsRead, own_kinds, part_kinds}

@@ -74,14 +74,14 @@ right-for-snoc rs x left =
     ∙ map-or (λ (r : Replacing). r.1) (find (λ (r : Replacing). is_same_left left r.0) rs) (find (λ (r : Replacing). is_same_left left r.0) (x ∷ []))
     ∙ ap (option_or (right_for rs left)) (given-by (is_same_left left x.0) x)
 
-or-none : {X : Type 0} (o : Option X) → option_or o None ≡ o
-or-none None = refl
-or-none (Some x) = refl
+option_or-None : {X : Type 0} (o : Option X) → option_or o None ≡ o
+option_or-None None = refl
+option_or-None (Some x) = refl
 
 -- a left side that is not the line's keeps its right side
 pub others-stay : (rs : List Replacing) (x : Replacing) (left : Left) → is_same_left left x.0 ≡ false → right_for (rs ++ x ∷ []) left ≡ right_for rs left
 others-stay rs x left other =
-    right-for-snoc rs x left ∙ ap (λ (b : Bool). option_or (right_for rs left) (if b then Some x.1 else None)) other ∙ or-none (right_for rs left)
+    right-for-snoc rs x left ∙ ap (λ (b : Bool). option_or (right_for rs left) (if b then Some x.1 else None)) other ∙ option_or-None (right_for rs left)
 
 -- a left side that had a right side keeps it
 first-stays : (rs : List Replacing) (x : Replacing) (left : Left) (right : Right) → right_for rs left ≡ Some right → right_for (rs ++ x ∷ []) left ≡ Some right

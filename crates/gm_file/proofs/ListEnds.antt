@@ -13,8 +13,8 @@ begun_as : {T : Type 0} (old new : List T) (n : ℕ) → n ≤ length old → Be
 begun_as {T} old new n within begins =
     ap (λ (list : List T). take n list) begins.1 ∙ take-append-le n old begins.0 within
 
-no_shorter : {T : Type 0} (old new : List T) → BeginsWith old new → length old ≤ length new
-no_shorter {T} old new begins =
+length-BeginsWith : {T : Type 0} (old new : List T) → BeginsWith old new → length old ≤ length new
+length-BeginsWith {T} old new begins =
     let is = ap (λ (list : List T). length list) begins.1 in omega (arith, is, length-append old begins.0)
 
 -- What the list was before stays, if modules are put to its end.
@@ -29,8 +29,8 @@ same_before old new start known more longer appends =
 still_longer : (old new : NumberedList) (start known : ℕ) (more : List ModuleVersion) → IsLonger old start known
     → Appends old new more → IsLonger new start known
 still_longer old new start known more longer appends = record {
-  numbers = omega (arith, longer.numbers, no_shorter old.numbers new.numbers appends.kept);
-  modules = omega (arith, longer.modules, no_shorter old.modules new.modules appends.numbered);
+  numbers = omega (arith, longer.numbers, length-BeginsWith old.numbers new.numbers appends.kept);
+  modules = omega (arith, longer.modules, length-BeginsWith old.modules new.modules appends.numbered);
   below = subst (λ (list : NumberedList). AreModuleNumbers list.modules list.numbers)
       (sym (same_before old new start known more longer appends)) longer.below;
 }

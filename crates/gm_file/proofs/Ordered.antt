@@ -4,7 +4,9 @@ use Rattle.std.specs.List.{list_any}
 use Rattle.gm_file.specs.declared.fault.DirectiveKind.{DirectiveKind}
 use Rattle.gm_file.specs.declared.fault.DirectiveKind.TheVariants.{UnknownVerb, WrongArguments, BadPath, BadVersion, Misfit, Repeated, ConflictingReplace, BadGo}
 use Rattle.gm_name.specs.Names.{does_fit, is_path, is_version}
-use Rattle.gm_file.specs.Directives.{Mode, Verb, ForModule, ForGo, ForRequire, ForExclude, ForReplace, ForRetract, ForNothing, Unknown, verb_in, Left, Right, Folder, Module, Item, Silent, Opening, Saying, Directive, DeclaresModule, DeclaresGo, Requires, Excludes, Replaces, Retracts, Kept, directive_of}
+use Rattle.gm_file.specs.declared.verb.Verb.{Verb}
+use Rattle.gm_file.specs.declared.verb.Verb.TheVariants.{Module as ForModule, Go as ForGo, Require as ForRequire, Exclude as ForExclude, Replace as ForReplace, Retract as ForRetract, Nothing as ForNothing, Unknown}
+use Rattle.gm_file.specs.Directives.{Mode, verb_in, Left, Right, Folder, Module, Item, Silent, Opening, Saying, Directive, DeclaresModule, DeclaresGo, Requires, Excludes, Replaces, Retracts, Kept, directive_of}
 use Rattle.gm_file.specs.Faults.{conflicts, directive_kinds, does_left_fit, ends_kinds, go_in, is_go, is_module, item_kinds, left_version_kinds, opening_kinds, pair_kinds, path_kinds, rank, right_path_kinds, right_version_kinds, entry_kinds, sides_kinds, unless, malformed_entry_kind, version_kinds}
 use Rattle.gm_file.specs.Fields.{first}
 use Rattle.gm_file.proofs.Told.{IsOneKind, NoneFirst}
@@ -18,9 +20,9 @@ lower : (a b c : ℕ) (ks : List DirectiveKind) → a ≤ b → Within b c ks �
 lower a b c [] le w = omega (arith, le, w)
 lower a b c (k ∷ ks) le w = (omega (arith, le, w.0), w.1)
 
-joined : (a b c d : ℕ) (xs ys : List DirectiveKind) → Within a b xs → b ≤ c → Within c d ys → Within a d (xs ++ ys)
-joined a b c d [] ys v le w = lower a c d ys (omega (arith, v, le)) w
-joined a b c d (k ∷ ks) ys v le w = (v.0, joined (rank k) b c d ks ys v.1 le w)
+Within-append : (a b c d : ℕ) (xs ys : List DirectiveKind) → Within a b xs → b ≤ c → Within c d ys → Within a d (xs ++ ys)
+Within-append a b c d [] ys v le w = lower a c d ys (omega (arith, v, le)) w
+Within-append a b c d (k ∷ ks) ys v le w = (v.0, Within-append (rank k) b c d ks ys v.1 le w)
 
 one : (b : Bool) (k : DirectiveKind) → Within (rank k) (rank k) (unless b k)
 one true k = omega arith
@@ -67,35 +69,35 @@ widen low high ks le w = lower 0 low 8 ks (omega arith) (higher low high 8 ks le
 
 pair-within : (path version : List ℕ) → Within 2 4 (pair_kinds (path, version))
 pair-within path version =
-    joined 2 3 4 4 (path_kinds path ++ version_kinds version) (unless (does_fit path version) Misfit)
-    (joined 2 2 3 3 (path_kinds path) (version_kinds version) (path-within path) (lit≤ tt) (version-within version)) (lit≤ tt) (one (does_fit path version) Misfit)
+    Within-append 2 3 4 4 (path_kinds path ++ version_kinds version) (unless (does_fit path version) Misfit)
+    (Within-append 2 2 3 3 (path_kinds path) (version_kinds version) (path-within path) (lit≤ tt) (version-within version)) (lit≤ tt) (one (does_fit path version) Misfit)
 
 sides-within : (left : Left) (right : Right) → Within 2 4 (sides_kinds left right)
 sides-within left right =
     let paths : Within 2 2 (path_kinds left.path ++ right_path_kinds right) =
-    joined 2 2 2 2 (path_kinds left.path) (right_path_kinds right) (path-within left.path) (lit≤ tt) (right-path-within right) in
+    Within-append 2 2 2 2 (path_kinds left.path) (right_path_kinds right) (path-within left.path) (lit≤ tt) (right-path-within right) in
     let with_left : Within 2 3 (path_kinds left.path ++ right_path_kinds right ++ left_version_kinds left.version) =
-    joined 2 2 3 3 (path_kinds left.path ++ right_path_kinds right) (left_version_kinds left.version) paths (lit≤ tt) (left-version-within left.version) in
+    Within-append 2 2 3 3 (path_kinds left.path ++ right_path_kinds right) (left_version_kinds left.version) paths (lit≤ tt) (left-version-within left.version) in
     let with_right : Within 2 3 (path_kinds left.path ++ right_path_kinds right ++ left_version_kinds left.version ++ right_version_kinds right) =
-    joined 2 3 3 3 (path_kinds left.path ++ right_path_kinds right ++ left_version_kinds left.version) (right_version_kinds right) with_left (lit≤ tt) (right-version-within right) in
-    joined 2 3 4 4 (path_kinds left.path ++ right_path_kinds right ++ left_version_kinds left.version ++ right_version_kinds right) (unless (does_left_fit left.path left.version) Misfit)
+    Within-append 2 3 3 3 (path_kinds left.path ++ right_path_kinds right ++ left_version_kinds left.version) (right_version_kinds right) with_left (lit≤ tt) (right-version-within right) in
+    Within-append 2 3 4 4 (path_kinds left.path ++ right_path_kinds right ++ left_version_kinds left.version ++ right_version_kinds right) (unless (does_left_fit left.path left.version) Misfit)
     with_right (lit≤ tt) (one (does_left_fit left.path left.version) Misfit)
 
 directive-within : (mode : Mode) (earlier : List Directive) (d : Directive) → Within 0 8 (directive_kinds mode earlier d)
 unfolding directive_kinds
 directive-within mode earlier (DeclaresModule path) =
     widen 2 5 (path_kinds path ++ unless (not (list_any is_module earlier)) Repeated) (lit≤ tt)
-    (joined 2 2 5 5 (path_kinds path) (unless (not (list_any is_module earlier)) Repeated) (path-within path) (lit≤ tt) (one (not (list_any is_module earlier)) Repeated))
+    (Within-append 2 2 5 5 (path_kinds path) (unless (not (list_any is_module earlier)) Repeated) (path-within path) (lit≤ tt) (one (not (list_any is_module earlier)) Repeated))
 directive-within mode earlier (DeclaresGo text) =
     widen 5 8 (unless (not (list_any is_go earlier)) Repeated ++ unless (is_some (go_in mode text)) BadGo) (lit≤ tt)
-    (joined 5 5 8 8 (unless (not (list_any is_go earlier)) Repeated) (unless (is_some (go_in mode text)) BadGo) (one (not (list_any is_go earlier)) Repeated) (lit≤ tt) (one (is_some (go_in mode text)) BadGo))
+    (Within-append 5 5 8 8 (unless (not (list_any is_go earlier)) Repeated) (unless (is_some (go_in mode text)) BadGo) (one (not (list_any is_go earlier)) Repeated) (lit≤ tt) (one (is_some (go_in mode text)) BadGo))
 directive-within mode earlier (Requires p) = widen 2 4 (pair_kinds p) (lit≤ tt) (pair-within p.0 p.1)
 directive-within mode earlier (Excludes p) = widen 2 4 (pair_kinds p) (lit≤ tt) (pair-within p.0 p.1)
 directive-within mode earlier (Replaces r) =
     widen 2 7 (sides_kinds r.0 r.1 ++ unless (not (list_any (conflicts r) earlier)) ConflictingReplace) (lit≤ tt)
-    (joined 2 4 7 7 (sides_kinds r.0 r.1) (unless (not (list_any (conflicts r) earlier)) ConflictingReplace) (sides-within r.0 r.1) (lit≤ tt) (one (not (list_any (conflicts r) earlier)) ConflictingReplace))
+    (Within-append 2 4 7 7 (sides_kinds r.0 r.1) (unless (not (list_any (conflicts r) earlier)) ConflictingReplace) (sides-within r.0 r.1) (lit≤ tt) (one (not (list_any (conflicts r) earlier)) ConflictingReplace))
 directive-within mode earlier (Retracts ends) =
-    widen 3 3 (ends_kinds ends) (lit≤ tt) (joined 3 3 3 3 (version_kinds ends.0) (version_kinds ends.1) (version-within ends.0) (lit≤ tt) (version-within ends.1))
+    widen 3 3 (ends_kinds ends) (lit≤ tt) (Within-append 3 3 3 3 (version_kinds ends.0) (version_kinds ends.1) (version-within ends.0) (lit≤ tt) (version-within ends.1))
 directive-within mode earlier Kept = lit≤ tt
 
 alone : (k : DirectiveKind) → rank k ≤ 8 → Within 0 8 (k ∷ [])

@@ -13,7 +13,8 @@ use Rattle.gm_syntax.specs.Words.{Word}
 use Rattle.gm_syntax.specs.Document.{Line}
 use Rattle.gm_file.specs.declared.fault.DirectiveKind.{DirectiveKind}
 use Rattle.gm_file.specs.declared.fault.DirectiveKind.TheVariants.{BadGo, ConflictingReplace, NoModule, Repeated}
-use Rattle.gm_file.specs.Directives.{Strict, Verb, Left, Right, Folder, Module, Replacing, Directive, DeclaresModule, DeclaresGo, Requires, Excludes, Replaces, Retracts, Kept, LineInBlock, Item, Silent, Opening, Saying, directive_in, directive_of, directives, item_at, said, verb_in, with_blocks}
+use Rattle.gm_file.specs.declared.verb.Verb.{Verb}
+use Rattle.gm_file.specs.Directives.{Strict, Left, Right, Folder, Module, Replacing, Directive, DeclaresModule, DeclaresGo, Requires, Excludes, Replaces, Retracts, Kept, LineInBlock, Item, Silent, Opening, Saying, directive_in, directive_of, directives, item_at, said, verb_in, with_blocks}
 use Rattle.gm_file.specs.Faults.{Fault, conflicts, directive_kinds, entry_kinds, fault_of, faults, faults_after, first_of, go_in, is_conflict, is_go, is_module, is_same_left, is_same_right, is_same_version, item_kinds, missing_module, path_kinds, sides_kinds, unless, with_before_from}
 use Rattle.gm_file.specs.Pairwise.{ClashIsMutual, FaultlessIsPairwise, IsRightAlone, do_clash}
 use Rattle.gm_file.proofs.First.{first-none}
@@ -248,9 +249,9 @@ apart-turn earlier (line ∷ lines) alone apart =
 
 -- ---- whole files
 
-or-none : {X : Type 0} (a b : Option X) → option_or a b ≡ None → (a ≡ None) × (b ≡ None)
-or-none None b e = (refl, e)
-or-none (Some x) b e = absurd cc
+option_or_parts : {X : Type 0} (a b : Option X) → option_or a b ≡ None → (a ≡ None) × (b ≡ None)
+option_or_parts None b e = (refl, e)
+option_or_parts (Some x) b e = absurd cc
 
 none-missing : (fault : Fault) (b : Bool) → (if b then None else Some fault) ≡ None → b ≡ true
 none-missing fault true e = refl
@@ -265,7 +266,7 @@ pub record AreRightApart (lines : List (LineInBlock Word)) : Type 0 where
 pub faultless-apart : (lines : List (Line Word)) → fault_of Strict lines ≡ None → AreRightApart (with_blocks lines)
 unfolding fault_of faults
 faultless-apart lines none =
-    let parts = or-none (first_of (faults Strict lines)) (missing_module Strict (directives Strict lines)) none in
+    let parts = option_or_parts (first_of (faults Strict lines)) (missing_module Strict (directives Strict lines)) none in
     let right = turn-apart [] (with_blocks lines) tt (in-turn [] [] (with_blocks lines) refl (first-none (faults Strict lines) parts.0)) in
     record { alone = right.0; apart = right.1; declared = none-missing (0, NoModule) (list_any is_module (directives Strict lines)) parts.1 }
 

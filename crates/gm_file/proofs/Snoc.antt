@@ -1,6 +1,8 @@
 -- The directives and the faults of lines after one more line.
 use Rattle.std.proofs.Common.{◌≡◌, suc, ◌+◌, List, [], ◌∷◌, ◌++◌, length, map, Option, Some, None, refl, sym, ap, ◌∙◌, append_assoc, append-nil}
-use Rattle.std.specs.List.{cons_option, filter_map, flat_map}
+use Rattle.std.proofs.lemmas.Grind.{flat_map-append}
+use Rattle.std.proofs.lemmas.List.Elements.{filter_map-append}
+use Rattle.std.specs.List.{filter_map, flat_map}
 use Rattle.gm_syntax.specs.Words.{Word}
 use Rattle.gm_syntax.specs.Document.{Line}
 use Rattle.gm_file.specs.Directives.{Mode, LineInBlock, block_after_lines, block_after_line, directives, item_at, said, with_blocks, with_blocks_from}
@@ -15,18 +17,6 @@ before-snoc before [] x = ap (λ b. (b, x) ∷ []) (sym (append-nil before))
 before-snoc {X} before (y ∷ xs) x =
     ap (λ (r : List (List X × X)). (before, y) ∷ r) (before-snoc (before ++ y ∷ []) xs x
     ∙ ap (λ (b : List X). with_before_from (before ++ y ∷ []) xs ++ (b, x) ∷ []) (append_assoc before (y ∷ []) xs))
-
-cons-append : {Y : Type 0} (o : Option Y) (a b c : List Y) → c ≡ a ++ b → cons_option o c ≡ cons_option o a ++ b
-cons-append None a b c e = e
-cons-append (Some y) a b c e = ap (λ r. y ∷ r) e
-
-filter_map-append : {X Y : Type 0} (h : X → Option Y) (xs ys : List X) → filter_map h (xs ++ ys) ≡ filter_map h xs ++ filter_map h ys
-filter_map-append h [] ys = refl
-filter_map-append h (x ∷ xs) ys = cons-append (h x) (filter_map h xs) (filter_map h ys) (filter_map h (xs ++ ys)) (filter_map-append h xs ys)
-
-pub flat_map-append : {X Y : Type 0} (h : X → List Y) (xs ys : List X) → flat_map h (xs ++ ys) ≡ flat_map h xs ++ flat_map h ys
-flat_map-append h [] ys = refl
-flat_map-append h (x ∷ xs) ys = ap (λ r. h x ++ r) (flat_map-append h xs ys) ∙ sym (append_assoc (h x) (flat_map h xs) (flat_map h ys))
 
 pub length-with_blocks : {W : Type 0} (block : Option W) (lines : List (Line W)) → length (with_blocks_from block lines) ≡ length lines
 length-with_blocks block [] = refl

@@ -1,6 +1,7 @@
 -- The steps of a sweep over intervals.
 use Rattle.std.proofs.Common.{◌≡◌, ◌∙◌, ◌+◌, ◌<◌, ◌&&◌, ◌||◌, zero, suc, ℕ, Bool, true, false, cond, not, List, [], ◌∷◌, ◌++◌, take, drop, length, slice_index_or, Option, Some, None, Contains, ap, ap₂, sym, subst, refl, arith, add-one}
 use Rattle.std.proofs.Math.Seq.{take-suc, drop-cons}
+use Rattle.std.proofs.lemmas.Bool.{and_from}
 use Rattle.std.proofs.lemmas.List.Folds.{list_all_more, list_any-append}
 use Rattle.std.specs.List.Sorted.{IsStrictlySortedBy}
 use Rattle.std.specs.List.{AllByRecursion, filter, list_all, list_any}
@@ -18,9 +19,6 @@ swept_none ps v = record { within = omega arith; begun = refl; reached = λ w. r
 taken_more : (ps : List VersionInterval) (n : ℕ) (d : VersionInterval) → n < length ps → take (n + 1) ps ≡ take n ps ++ slice_index_or ps n d ∷ []
 taken_more ps n d within = ap (λ i. take i ps) (add-one n) ∙ take-suc ps n d within
 
-both : (a b : Bool) → a ≡ true → b ≡ true → (a && b) ≡ true
-both a b p q = ap₂ (λ (x y : Bool). x && y) p q
-
 or_false : (b : Bool) → (b || false) ≡ b
 or_false true = refl
 or_false false = refl
@@ -31,7 +29,7 @@ pub swept_more : (ps : List VersionInterval) (v : List ℕ) (n : ℕ) (reach : O
     → AreSwept ps v (n + 1) (Some high)
 swept_more ps v n reach p high swept within item begins far = record {
   within = omega arith;
-  begun = list_all_more (λ (ends : VersionInterval). is_at_most ends.0 v) ps n p within ∙ both _ _ swept.begun (subst (λ (q : VersionInterval). is_at_most q.0 v ≡ true) item begins);
+  begun = list_all_more (λ (ends : VersionInterval). is_at_most ends.0 v) ps n p within ∙ and_from _ _ swept.begun (subst (λ (q : VersionInterval). is_at_most q.0 v ≡ true) item begins);
   reached = λ w. far w ∙ ap₂ (λ (x y : Bool). x || y) (swept.reached w) (ap (λ (q : VersionInterval). is_at_most w q.1) item ∙ sym (or_false _))
       ∙ sym (list_any-append (λ (ends : VersionInterval). is_at_most w ends.1) (take n ps) (slice_index_or ps n p ∷ []))
       ∙ ap (list_any (λ (ends : VersionInterval). is_at_most w ends.1)) (sym (taken_more ps n p within));
@@ -42,7 +40,7 @@ all_later : (v w : List ℕ) → is_at_most v w ≡ true → (qs : List VersionI
 all_later v w order [] begun = refl
 all_later v w order (q ∷ qs) begun =
     let parts = split (is_at_most q.0 v) (list_all (λ (ends : VersionInterval). is_at_most ends.0 v) qs) begun in
-    both _ _ (upto_trans q.0 v w parts.0 order) (all_later v w order qs parts.1)
+    and_from _ _ (upto_trans q.0 v w parts.0 order) (all_later v w order qs parts.1)
   where
     split : (a b : Bool) → (a && b) ≡ true → (a ≡ true) × (b ≡ true)
     split true true e = (e, e)

@@ -1,5 +1,6 @@
 -- The fault that is reported: the first one of the first line with a fault.
 use Rattle.std.proofs.Common.{◌≡◌, ℕ, ◌+◌, ◌<◌, ◌≤◌, List, [], ◌∷◌, ◌++◌, length, map, Option, Some, None, sym, ap, ◌∙◌, inl, inr, arith, append_assoc, append-nil, length-append}
+use Rattle.std.proofs.lemmas.Grind.{flat_map-append}
 use Rattle.std.specs.Prelude.{◌⊎◌, ⊤}
 use Rattle.std.specs.Option.{option_or}
 use Rattle.std.specs.List.{flat_map}
@@ -9,7 +10,7 @@ use Rattle.gm_file.specs.declared.fault.DirectiveKind.{DirectiveKind}
 use Rattle.gm_file.specs.Directives.{Mode, LineInBlock, block_after_lines, directives, item_at, with_blocks, with_blocks_from}
 use Rattle.gm_file.specs.Faults.{Fault, fault_of, faults, faults_after, first_of, item_kinds, missing_module, rank, with_before_from}
 use Rattle.gm_file.proofs.First.{IsBefore, IsOne, NoneBefore, first-is}
-use Rattle.gm_file.proofs.Snoc.{faults-snoc, flat_map-append, length-with_blocks, with_blocks-snoc}
+use Rattle.gm_file.proofs.Snoc.{faults-snoc, length-with_blocks, with_blocks-snoc}
 
 -- k is one of the kinds; and none of the kinds precedes k
 abbrev pub IsOneKind : DirectiveKind → List DirectiveKind → Type 0

@@ -1,16 +1,13 @@
 -- Reading a dependency's file from its bytes, line by line.
-use Rattle.std.specs.Prelude.{◌≡◌, ℕ, ◌+◌, List, [], ◌∷◌, ◌++◌, length, Some, None, Result, Ok, Err, ⊤}
+use Rattle.std.specs.Prelude.{◌≡◌, ℕ, ◌+◌, List, [], ◌∷◌, ◌++◌, length, None, Result, Ok, Err}
 use Rattle.std.specs.Option.{option_map}
 use Rattle.gm_syntax.specs.Words.{Word}
 use Rattle.gm_syntax.specs.Tokens.{Placed}
 use Rattle.gm_syntax.specs.Document.{Line}
 use Rattle.gm_syntax.specs.LineViews.{plain_lines}
 use Rattle.gm_syntax.specs.Parsed.{IsParsedAs}
-use Rattle.gm_syntax.specs.declared.fault.SyntaxFault.TheVariants as syntax
 use Rattle.gm_file.specs.declared.dep_lines.DepLines.{DepLines}
 use Rattle.gm_file.specs.declared.fault.LineFault.{LineFault}
-use Rattle.gm_file.specs.declared.fault.ReadFault.{ReadFault}
-use Rattle.gm_file.specs.declared.fault.ReadFault.TheVariants as read
 use Rattle.gm_file.specs.Directives.{Lax, VersionInterval}
 use Rattle.gm_file.specs.Faults.{fault_of}
 use Rattle.gm_file.specs.Fields.{Dependency, dependency_of, lax_retracts_of}
@@ -26,15 +23,6 @@ IsDependencyIn bytes file = (doc : List (Line Placed)) × IsParsedAs bytes (Ok d
 abbrev pub AreRetractedIn : List ℕ → List VersionInterval → Type 0
 AreRetractedIn bytes intervals = (doc : List (Line Placed)) × IsParsedAs bytes (Ok doc)
     × (lax_retracts_of (plain_lines doc) ≡ intervals)
-
--- the fault of the bytes: that of the text if it has one, otherwise that of the document
-abbrev pub IsMisread : List ℕ → ReadFault → Type 0
-IsMisread bytes read.NoMemory = ⊤
-IsMisread bytes read.TooMany = IsParsedAs bytes (Err syntax.TooMany)
-IsMisread bytes read.NotUtf8 = IsParsedAs bytes (Err syntax.NotUtf8)
-IsMisread bytes (read.Syntax line kind) = IsParsedAs bytes (Err (syntax.Syntax line kind))
-IsMisread bytes (read.Directive line kind) = (doc : List (Line Placed)) × IsParsedAs bytes (Ok doc)
-    × (fault_of Lax (plain_lines doc) ≡ Some (line, kind))
 
 -- the lines so far have no fault, and this is what they say
 abbrev pub AreDepLines : List (Line Word) → DepLines → Type 0

@@ -8,21 +8,11 @@ use Rattle.gm_syntax.specs.Words.{Word}
 use Rattle.gm_syntax.specs.Document.{Line, Blank, Comment, Open, Close, Entry, is_mark}
 use Rattle.gm_syntax.specs.declared.word.Kind.{Kind}
 use Rattle.gm_syntax.specs.declared.word.Kind.TheVariants.{Mark}
+use Rattle.gm_file.specs.declared.verb.Verb.{Verb}
+use Rattle.gm_file.specs.declared.verb.Verb.TheVariants.{Module as ForModule, Go as ForGo, Require as ForRequire, Exclude as ForExclude, Replace as ForReplace, Retract as ForRetract, Nothing as ForNothing, Unknown}
 use Rattle.gm_file.specs.Values.{argument, both, is_folder_path}
 
 -- ---- the verbs
-
--- the verb of an entry, as far as reading distinguishes them
-pub data Verb : Type 0 where
-  ForModule : Verb
-  ForGo : Verb
-  ForRequire : Verb
-  ForExclude : Verb
-  ForReplace : Verb
-  ForRetract : Verb
-  -- an entry that is kept but has no effect
-  ForNothing : Verb
-  Unknown : Verb
 
 -- how a file is read: strictly, as the main file, or laxly, as a dependency's
 pub data Mode : Type 0 where

@@ -10,7 +10,9 @@ use Rattle.gm_file.specs.declared.fault.DirectiveKind.TheVariants.{UnknownVerb, 
 use Rattle.gm_name.specs.Names.{does_fit, is_path, is_version}
 use Rattle.gm_name.specs.ModuleVersion.{ModuleVersion}
 use Rattle.gm_file.specs.GoVersions.{lax_go, strict_go}
-use Rattle.gm_file.specs.Directives.{Verb, ForModule, ForGo, Unknown, is_of_verb, Mode, Strict, Lax, verb_in, VersionInterval, Left, Right, Folder, Module, Replacing, Directive, DeclaresModule, DeclaresGo, Requires, Excludes, Replaces, Retracts, Kept, directive_of, LineInBlock, with_blocks, Item, Silent, Opening, Saying, item_at, said, directives}
+use Rattle.gm_file.specs.declared.verb.Verb.{Verb}
+use Rattle.gm_file.specs.declared.verb.Verb.TheVariants.{Module as ForModule, Go as ForGo, Unknown}
+use Rattle.gm_file.specs.Directives.{is_of_verb, Mode, Strict, Lax, verb_in, VersionInterval, Left, Right, Folder, Module, Replacing, Directive, DeclaresModule, DeclaresGo, Requires, Excludes, Replaces, Retracts, Kept, directive_of, LineInBlock, with_blocks, Item, Silent, Opening, Saying, item_at, said, directives}
 
 -- this kind alone, or no kind if the test passes
 abbrev pub unless : Bool → DirectiveKind → List DirectiveKind

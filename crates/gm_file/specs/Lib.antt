@@ -3,6 +3,7 @@ pub mod GoVersions
 pub mod Directives
 pub mod Faults
 pub mod Fields
+pub mod Main
 pub mod Reading
 pub mod Requirements
 pub mod Views
@@ -12,7 +13,8 @@ pub mod DirectiveViews
 pub mod Indexes
 pub mod Holding
 pub mod Retracting
-pub mod ReadFaults
+pub mod BytesFaults
+pub mod Misreading
 pub mod DepLines
 pub mod Listed
 pub mod SimpleLines

@@ -4,17 +4,19 @@ ghost use Rattle.std.specs.Prelude.{◌≡◌, [], IfOk, IfErr, OnErr, None, unw
 ghost use Rattle.std.specs.Option.{option_copied};
 ghost use Rattle.gm_syntax.specs.LineViews.{plain_lines};
 ghost use Rattle.gm_name_table.specs.Listed.{Appends};
-ghost use Rattle.gm_file.specs.DepLines.{AreRetractedIn, IsDependencyIn, IsMisread};
+ghost use Rattle.gm_file.specs.DepLines.{AreRetractedIn, IsDependencyIn};
 ghost use Rattle.gm_file.specs.Directives.{Lax};
 ghost use Rattle.gm_file.specs.Faults.{fault_of};
 ghost use Rattle.gm_file.specs.Fields.{dependency_of, lax_retracts_of};
 ghost use Rattle.gm_file.specs.Listed.{IsListedFrom};
+ghost use Rattle.gm_file.specs.Misreading.{IsBytesFault};
 ghost use Rattle.gm_file.specs.Views.{ReportsFault, interval_views};
 
 use crate::dep_lines::{DepLines, read_all, read_document};
-use crate::fault::{FileFault, ReadFault};
+use crate::fault::FileFault;
 use crate::fields::Fields;
 use crate::listed_file::ListedFile;
+use crate::misreading::BytesFault;
 use crate::replace::Interval;
 use crate::required::Required;
 use crate::retractions::{retractions_of_bytes, retractions_of_lines};
@@ -90,10 +92,10 @@ impl DepFile {
         alloc: Global,
         names: &mut KnownNames,
         bytes: &[u8],
-    ) -> Result<DepFile, ReadFault>
+    ) -> Result<DepFile, BytesFault>
         ensures ok { IfOk result (λ file. IsDependencyIn bytes.now file.dependency) }
         ensures retracts { IfOk result (λ file. AreRetractedIn bytes.now file.retracts) }
-        ensures fault { IfErr result (IsMisread bytes.now) }
+        ensures fault { IfErr result (IsBytesFault Lax bytes.now) }
     {
         let mut reader = LineReader::new(alloc, bytes)?;
         let pairs = Vec::with_capacity(alloc, bytes.len() / BYTES_OF_ONE)?;
@@ -113,9 +115,9 @@ impl DepFile {
         names: &mut KnownNames,
         modules: &mut ModuleList,
         bytes: &[u8],
-    ) -> Result<ListedFile, ReadFault>
+    ) -> Result<ListedFile, BytesFault>
         ensures ok { IfOk result (IsListedFrom bytes.now modules.old modules.new) }
-        ensures fault { IfErr result (IsMisread bytes.now) }
+        ensures fault { IfErr result (IsBytesFault Lax bytes.now) }
         ensures err { OnErr result (Appends modules.old modules.new []) }
     {
         let mut reader = LineReader::new(alloc, bytes)?;

@@ -8,14 +8,16 @@ ghost use Rattle.gm_syntax.specs.LineViews.{line_of, line_views, plain, plain_li
 ghost use Rattle.gm_syntax.specs.SimpleLines.{pair_line, triple_line, IsSimpleRead};
 ghost use Rattle.gm_syntax.specs.Tokens.{Placed};
 ghost use Rattle.gm_syntax.specs.Words.{Word};
-ghost use Rattle.gm_file.specs.DepLines.{AreAllRead, AreDepLines, HasNextFault, IsMisread, IsNextLineOf};
+ghost use Rattle.gm_file.specs.DepLines.{AreAllRead, AreDepLines, HasNextFault, IsNextLineOf};
 ghost use Rattle.gm_file.specs.Directives.{Lax, block_after_line};
 ghost use Rattle.gm_file.specs.Holding.{AreFound};
+ghost use Rattle.gm_file.specs.Misreading.{IsBytesFault};
 ghost use Rattle.gm_file.specs.SimpleLines.{AreReadSofar, IsLineSaid, TakesSimple};
 ghost use Rattle.gm_file.specs.Views.{ReportsFault};
 
-use crate::fault::{DirectiveKind, FileFault, LineFault, ReadFault};
+use crate::fault::{DirectiveKind, FileFault, LineFault};
 use crate::fields::Fields;
+use crate::misreading::BytesFault;
 use crate::required::Required;
 use crate::verb::Mode;
 use gm_name::KnownNames;
@@ -172,14 +174,14 @@ impl<'a> DepLines<'a> {
 
 /// The fault of the bytes, given the fault of the last line that was read: a fault of the text on a later line comes
 /// first.
-fn fault_of_all(reader: &mut LineReader, fault: LineFault) -> ReadFault
+fn fault_of_all(reader: &mut LineReader, fault: LineFault) -> BytesFault
     ensures { (lines : List (LineOf Placed)) (here : LineOf Placed) → HasRead reader.old (lines ++ here ∷ [])
-        → HasNextFault (plain_lines lines) (plain here) fault → IsMisread reader.old.source result }
+        → HasNextFault (plain_lines lines) (plain here) fault → IsBytesFault Lax reader.old.source result }
 {
     let number = reader.lines_read();
     match reader.skip_rest() {
-        Ok(()) => ReadFault::from(fault.at_line(number)),
-        Err(syntax) => ReadFault::from(syntax),
+        Ok(()) => BytesFault::from(fault.at_line(number)),
+        Err(syntax) => BytesFault::from(syntax),
     }
 }
 
@@ -188,7 +190,7 @@ fn read_simple_lines<'a>(
     names: &mut KnownNames,
     reader: &mut LineReader<'a>,
     said: &mut DepLines<'a>,
-) -> Result<(), ReadFault>
+) -> Result<(), BytesFault>
     requires found { AreFound said.old.fields }
     requires read { AreReadSofar reader.old said.old }
     ensures before { said.new.fields.requirements.before ≡ said.old.fields.requirements.before }
@@ -196,7 +198,7 @@ fn read_simple_lines<'a>(
     ensures read { OnOk result (AreReadSofar reader.new said.new) }
     ensures source { OnOk result (reader.new.source ≡ reader.old.source) }
     ensures no_longer { OnOk result (length reader.new.rest ≤ length reader.old.rest) }
-    ensures fault { IfErr result (IsMisread reader.old.source) }
+    ensures fault { IfErr result (IsBytesFault Lax reader.old.source) }
 {
     if !said.takes_simple() {
         return Ok(());
@@ -216,13 +218,13 @@ pub(crate) fn read_all<'a>(
     names: &mut KnownNames,
     reader: &mut LineReader<'a>,
     said: &mut DepLines<'a>,
-) -> Result<(), ReadFault>
+) -> Result<(), BytesFault>
     requires start { HasRead reader.old [] }
     requires lines { AreDepLines [] said.old }
     requires found { AreFound said.old.fields }
     ensures before { said.new.fields.requirements.before ≡ said.old.fields.requirements.before }
     ensures ok { OnOk result (AreAllRead reader.old.source said.new) }
-    ensures fault { IfErr result (IsMisread reader.old.source) }
+    ensures fault { IfErr result (IsBytesFault Lax reader.old.source) }
 {
     loop {
         read_simple_lines(names, reader, said)?;

@@ -7,7 +7,7 @@ ghost use Rattle.gm_file.specs.Directives.{directive_of, item_at, one_of, Openin
 ghost use Rattle.gm_file.specs.Faults.{path_kinds, malformed_entry_kind};
 ghost use Rattle.gm_file.specs.Reading.{IsRead, own_kinds};
 ghost use Rattle.gm_file.specs.DirectiveViews.{IsLineRead, directive_view};
-ghost use Rattle.gm_file.specs.VerbViews.{mode_view, verb_view};
+ghost use Rattle.gm_file.specs.VerbViews.{mode_view};
 
 use crate::fault::{DirectiveKind, LineFault};
 use crate::part::{borrowed_one, is_empty_block, one_value, read_interval, read_pair, read_path};
@@ -54,8 +54,8 @@ fn read_entry(
     verb: Verb,
     words: &[Token],
 ) -> Result<Directive, LineFault>
-    ensures { IsRead directive_view (malformed_entry_kind (verb_view verb)) own_kinds
-        (directive_of (verb_view verb) (words_of words.now)) result }
+    ensures { IsRead directive_view (malformed_entry_kind verb) own_kinds
+        (directive_of verb (words_of words.now)) result }
 {
     match verb {
         Verb::Module => Ok(Directive::Module(read_module(alloc, names, words)?)),

@@ -1,6 +1,8 @@
 //! The index of the excluded versions, for lookups in logarithmic time.
 
-ghost use Rattle.std.specs.Prelude.{◌≡◌, ◌++◌, ◌∷◌, ◌↔◌, [], Contains, IfErr, IsTrue, OnOk};
+ghost use Rattle.std.specs.Prelude.{◌≡◌, ◌++◌, ◌∷◌, [], IfErr, OnOk};
+ghost use Rattle.std.specs.List.{list_any};
+ghost use Rattle.gm_name.specs.ModuleVersion.{pair_eq};
 ghost use Rattle.gm_file.specs.Indexes.{IsSetOfLines};
 
 use crate::fault::LineFault;
@@ -51,7 +53,7 @@ impl Exclusions {
     /// Whether a line excludes this version of this path. Takes logarithmic time.
     pub(crate) fn contains(&self, pair: &ModVer) -> bool
         requires { IsSetOfLines self.now }
-        ensures { IsTrue result ↔ Contains self.now.lines.items pair.now }
+        ensures { result ≡ list_any (λ y. pair_eq y pair.now) self.now.lines.items }
     {
         self.set.contains(pair)
     }

@@ -1,13 +1,10 @@
 //! The faults of directives, lines and files.
 
 ghost use Rattle.std.specs.Prelude.{◌≡◌};
-ghost use Rattle.gm_file.specs.ReadFaults.{read_by_file, read_by_syntax};
 ghost use Rattle.gm_file.specs.Views.{file_fault_at};
 ghost use Rattle.gm_file.specs.declared.fault.FileFault.TheVariants as file;
-ghost use Rattle.gm_file.specs.declared.fault.ReadFault.TheVariants as read;
 ghost use Rattle.gm_file.specs.declared.fault.LineFault.TheVariants as line;
 
-use gm_syntax::{SyntaxFault, SyntaxKind};
 use std::alloc::{AllocError, AllocFailed};
 use thiserror::Error;
 
@@ -65,61 +62,6 @@ pub enum LineFault {
     NoMemory,
     /// The first kind of the line's faults.
     Kind(DirectiveKind),
-}
-
-/// Why bytes could not be read as a dependency's file.
-#[derive(Clone, Copy, Debug, PartialEq, Eq, Error)]
-pub enum ReadFault {
-    /// Memory ran out.
-    #[error("out of memory")]
-    NoMemory,
-    /// There are more than 16,777,216 bytes.
-    #[error("more than 16,777,216 bytes")]
-    TooMany,
-    /// The bytes are not UTF-8.
-    #[error("not UTF-8")]
-    NotUtf8,
-    /// The bytes are not a document: the line and the fault that gm_syntax reports.
-    #[error("line {line}: {kind}")]
-    Syntax { line: usize, kind: SyntaxKind },
-    /// The first line with a fault of its directive, counted from 1, and the first kind of its faults.
-    #[error("line {line}: {kind}")]
-    Directive { line: usize, kind: DirectiveKind },
-}
-
-impl From<SyntaxFault> for ReadFault {
-    ghost from_gives = { λ fault read. read ≡ read_by_syntax fault };
-
-    /// The same fault.
-    fn from(fault: SyntaxFault) -> ReadFault {
-        match fault {
-            SyntaxFault::NoMemory => ReadFault::NoMemory,
-            SyntaxFault::TooMany => ReadFault::TooMany,
-            SyntaxFault::NotUtf8 => ReadFault::NotUtf8,
-            SyntaxFault::Syntax { line, kind } => ReadFault::Syntax { line, kind },
-        }
-    }
-}
-
-/// An allocation that failed is `NoMemory`.
-impl From<AllocError> for ReadFault {
-    ghost from_gives = { λ _ fault. fault ≡ read.NoMemory };
-
-    fn from(_error: AllocError) -> ReadFault {
-        ReadFault::NoMemory
-    }
-}
-
-impl From<FileFault> for ReadFault {
-    ghost from_gives = { λ fault read. read ≡ read_by_file fault };
-
-    /// The same fault.
-    fn from(fault: FileFault) -> ReadFault {
-        match fault {
-            FileFault::NoMemory => ReadFault::NoMemory,
-            FileFault::Directive { line, kind } => ReadFault::Directive { line, kind },
-        }
-    }
 }
 
 impl LineFault {

@@ -3,6 +3,7 @@
 
 ghost use Rattle.std.specs.Prelude.{◌≡◌, drop, length, take_while};
 ghost use Rattle.std.specs.Char.{is_ascii_digit, is_ascii_lowercase};
+ghost use Rattle.gm_file.specs.Main.{is_pruned_by};
 ghost use Rattle.gm_file.specs.GoVersions.{first_number, is_go_suffix, last_number, lax_go, lax_go_text, second_number, small_number, strict_go};
 
 use gm_name::{has_only_digits, is_decimal};
@@ -131,4 +132,11 @@ pub(crate) fn lax_go(text: &str) -> Option<(u32, u32)>
         Some(rest) => lax_go_text(rest),
         None => lax_go_text(text),
     }
+}
+
+/// Whether a file with these first two numbers is pruned (Go Modules Reference, "Module graph pruning").
+pub(crate) fn is_pruned(go: (u32, u32)) -> bool
+    ensures { result ≡ is_pruned_by go }
+{
+    go >= (1, 17)
 }

@@ -19,8 +19,8 @@
 //!
 //! `shown_versions` leaves out of a module's versions those that an interval of its latest file retracts.
 //!
-//! Words, lines and blocks are the matter of gm_syntax, paths and versions that of gm_name. `read_line`, `strict_go`
-//! and `is_folder` are public so that the crate that edits files reads single lines by the same rules.
+//! Words, lines and blocks are the matter of gm_syntax, paths and versions that of gm_name. `read_line`, `main_verb`,
+//! `strict_go` and `is_folder` are public so that the crate that edits files reads single lines by the same rules.
 #![tactic(auto)]
 
 mod dep_file;
@@ -33,6 +33,7 @@ mod go_version;
 pub mod laws;
 mod listed_file;
 mod main_file;
+mod misreading;
 mod part;
 mod replace;
 mod replacements;
@@ -45,13 +46,14 @@ mod verb;
 
 pub use crate::dep_file::DepFile;
 pub use crate::directive::{Directive, read_line};
-pub use crate::fault::{DirectiveKind, FileFault, LineFault, ReadFault};
+pub use crate::fault::{DirectiveKind, FileFault, LineFault};
 pub use crate::fields::block_after_line;
 pub use crate::go_version::strict_go;
 pub use crate::listed_file::ListedFile;
 pub use crate::main_file::MainFile;
+pub use crate::misreading::{BytesFault, Misreading};
 pub use crate::part::is_empty_block;
 pub use crate::replace::{Interval, Replace, Right};
 pub use crate::shown::shown_versions;
 pub use crate::sides::does_left_fit;
-pub use crate::verb::{Mode, is_folder};
+pub use crate::verb::{Mode, Verb, is_folder, main_verb};

@@ -5,8 +5,10 @@
 ghost use Rattle.std.specs.Prelude.{◌≡◌, Some, unwrap_or};
 ghost use Rattle.std.specs.Option.{option_copied};
 ghost use Rattle.gm_name_table.specs.Listed.{Appends, NumberedList};
+ghost use Rattle.gm_file.specs.Main.{is_pruned_by};
 
 use crate::fields::Fields;
+use crate::go_version::is_pruned;
 use gm_name::ModPath;
 use gm_name_table::ModuleList;
 use std::marker::Model;
@@ -66,5 +68,13 @@ impl ListedFile {
         ensures { result ≡ self.now.go }
     {
         self.go
+    }
+
+    /// Whether the file is pruned by its go version, that is, whether the first two numbers are 1.17 or higher (Go
+    /// Modules Reference, "Module graph pruning").
+    pub fn is_pruned(&self) -> bool
+        ensures { result ≡ is_pruned_by self.now.go }
+    {
+        is_pruned(self.go)
     }
 }

@@ -1,17 +1,21 @@
 //! The main module's file: strict reading, and lookups of replacements and exclusions.
 
-ghost use Rattle.std.specs.Prelude.{◌≡◌, ◌↔◌, IsTrue, IfOk, IfErr, None, Some, Contains};
+ghost use Rattle.std.specs.Prelude.{◌≡◌, IfOk, IfErr, None, Some};
 ghost use Rattle.std.specs.Option.{option_map};
 ghost use Rattle.gm_syntax.specs.LineViews.{plain_lines};
 ghost use Rattle.gm_file.specs.Directives.{Strict};
 ghost use Rattle.gm_file.specs.Faults.{fault_of};
-ghost use Rattle.gm_file.specs.Fields.{excludes_of, go_of, module_of, replacement_of, replaces_of, requirements_of, retracts_of};
+ghost use Rattle.gm_file.specs.Fields.{module_of, retracts_of};
 ghost use Rattle.gm_file.specs.Holding.{AreRead};
+ghost use Rattle.gm_file.specs.Main.{IsMainOf, is_excluded, is_pruned_by, main_of, replacement_in};
+ghost use Rattle.gm_file.specs.Misreading.{IsBytesFault};
 ghost use Rattle.gm_file.specs.Views.{ReportsFault, interval_views, replace_views, right_view};
 
 use crate::exclusions::Exclusions;
 use crate::fault::{DirectiveKind, FileFault};
 use crate::fields::{Fields, read_lines};
+use crate::go_version::is_pruned;
+use crate::misreading::BytesFault;
 use crate::replace::{Interval, Replace, Right};
 use crate::replacements::Replacements;
 use gm_name::{KnownNames, ModPath, ModVer};
@@ -77,6 +81,19 @@ impl<'a> MainFile<'a> {
         MainFile::of_fields(doc, fields)
     }
 
+    /// Reads the bytes of a main module's file: the result is that of `Doc::parse` and then `read`.
+    ///
+    /// A fault of the text comes before those of directives, on whichever line it is. Bytes without a `module` and
+    /// without any other fault are refused with `NoModule` at line 0. `NoMemory` may replace any result, when memory
+    /// runs out.
+    pub fn read_bytes(alloc: Global, bytes: &'a [u8]) -> Result<MainFile<'a>, BytesFault>
+        ensures ok { IfOk result (IsMainOf bytes.now) }
+        ensures fault { IfErr result (IsBytesFault Strict bytes.now) }
+    {
+        let doc = Doc::parse(alloc, bytes)?;
+        Ok(MainFile::read(alloc, doc)?)
+    }
+
     /// The file of a document with these fields. Without a `module` it is refused with `NoModule` at line 0.
     fn of_fields(doc: Doc<'a>, fields: Fields) -> Result<MainFile<'a>, FileFault>
         requires own { fields.requirements.before ≡ None }
@@ -127,7 +144,8 @@ impl<'a> MainFile<'a> {
 
     /// The path of the `module` directive.
     pub fn module(&self) -> &ModPath
-        ensures { module_of Strict (plain_lines self.now) ≡ Some result.now }
+        ensures declared { module_of Strict (plain_lines self.now) ≡ Some result.now }
+        ensures path { result.now ≡ (main_of self.now).path }
     {
         &self.declared
     }
@@ -135,28 +153,36 @@ impl<'a> MainFile<'a> {
     /// The first two numbers of the `go` directive's version, or 1 and 16 if the file has no `go` directive (Go
     /// Modules Reference, go directive).
     pub fn go(&self) -> (u32, u32)
-        ensures { go_of Strict (plain_lines self.now) ≡ result }
+        ensures { result ≡ (main_of self.now).go }
     {
         self.go
     }
 
+    /// Whether the file is pruned by its go version, that is, whether the first two numbers are 1.17 or higher (Go
+    /// Modules Reference, "Module graph pruning").
+    pub fn is_pruned(&self) -> bool
+        ensures { result ≡ is_pruned_by (main_of self.now).go }
+    {
+        is_pruned(self.go)
+    }
+
     /// The modules of the `require` lines, in the order of the lines and with duplicates.
     pub fn requirements(&self) -> &[ModVer]
-        ensures { requirements_of Strict (plain_lines self.now) ≡ result.now }
+        ensures { result.now ≡ (main_of self.now).requirements }
     {
         self.requirements.as_slice()
     }
 
     /// The modules of the `exclude` lines, in the order of the lines and with duplicates.
     pub fn excludes(&self) -> &[ModVer]
-        ensures { excludes_of (plain_lines self.now) ≡ result.now }
+        ensures { result.now ≡ (main_of self.now).excludes }
     {
         self.excludes.as_slice()
     }
 
     /// The `replace` lines, in order and with duplicates.
     pub fn replaces(&self) -> &[Replace]
-        ensures { replaces_of (plain_lines self.now) ≡ replace_views result.now }
+        ensures { replace_views result.now ≡ (main_of self.now).replaces }
     {
         self.replaces.as_slice()
     }
@@ -175,8 +201,7 @@ impl<'a> MainFile<'a> {
     /// (Go Modules Reference, replace directive). The lookup allocates nothing and takes logarithmic time in the
     /// number of lines.
     pub fn replacement(&self, pair: &ModVer) -> Option<&Right>
-        ensures { option_map (λ right. right_view right.now) result
-            ≡ replacement_of (replaces_of (plain_lines self.now)) pair.now }
+        ensures { option_map (λ right. right_view right.now) result ≡ replacement_in (main_of self.now) pair.now }
     {
         self.replaces.replacement(pair)
     }
@@ -185,7 +210,7 @@ impl<'a> MainFile<'a> {
     ///
     /// The lookup allocates nothing and takes logarithmic time in the number of lines.
     pub fn excluded(&self, pair: &ModVer) -> bool
-        ensures { IsTrue result ↔ Contains (excludes_of (plain_lines self.now)) pair.now }
+        ensures { result ≡ is_excluded (main_of self.now) pair.now }
     {
         self.excludes.contains(pair)
     }

@@ -7,14 +7,16 @@ ghost use Rattle.gm_syntax.specs.Document.{Line as LineOf};
 ghost use Rattle.gm_syntax.specs.LineViews.{line_of, line_views, plain, plain_lines};
 ghost use Rattle.gm_syntax.specs.Tokens.{words_of};
 ghost use Rattle.gm_syntax.specs.Words.{Word};
-ghost use Rattle.gm_file.specs.DepLines.{AreRetractedIn, IsMisread};
-ghost use Rattle.gm_file.specs.Directives.{item_at};
+ghost use Rattle.gm_file.specs.DepLines.{AreRetractedIn};
+ghost use Rattle.gm_file.specs.Directives.{Lax, item_at};
 ghost use Rattle.gm_file.specs.Fields.{lax_retracts_of};
+ghost use Rattle.gm_file.specs.Misreading.{IsBytesFault};
 ghost use Rattle.gm_file.specs.Retracting.{AreRetractionsOf, IsEntryRead, retraction_at, retraction_in};
 ghost use Rattle.gm_file.specs.Views.{interval_view, interval_views};
 
 use crate::dep_lines::pass_line;
-use crate::fault::{LineFault, ReadFault};
+use crate::fault::LineFault;
+use crate::misreading::BytesFault;
 use crate::part::{is_empty_block, read_interval};
 use crate::replace::Interval;
 use gm_name::KnownNames;
@@ -159,9 +161,9 @@ pub(crate) fn retractions_of_bytes(
     alloc: Global,
     names: &mut KnownNames,
     bytes: &[u8],
-) -> Result<Vec<Interval>, ReadFault>
+) -> Result<Vec<Interval>, BytesFault>
     ensures ok { IfOk result (λ intervals. AreRetractedIn bytes.now (interval_views intervals.items)) }
-    ensures fault { IfErr result (IsMisread bytes.now) }
+    ensures fault { IfErr result (IsBytesFault Lax bytes.now) }
 {
     let mut reader = LineReader::new(alloc, bytes)?;
     let mut said = Retractions::none(alloc);

@@ -4,7 +4,7 @@
 ghost use Rattle.std.specs.Prelude.{◌≡◌};
 ghost use Rattle.gm_file.specs.Directives.{dependency_verb, is_arrow, main_verb, verb_in};
 ghost use Rattle.gm_file.specs.Values.{is_folder_path};
-ghost use Rattle.gm_file.specs.VerbViews.{mode_view, verb_view};
+ghost use Rattle.gm_file.specs.VerbViews.{mode_view};
 
 use gm_syntax::{Kind, Token};
 
@@ -20,8 +20,8 @@ pub enum Mode {
 }
 
 /// The verb of an entry, as far as reading distinguishes them.
-#[derive(Clone, Copy)]
-pub(crate) enum Verb {
+#[derive(Clone, Copy, Debug, PartialEq, Eq)]
+pub enum Verb {
     /// `module`.
     Module,
     /// `go`.
@@ -40,9 +40,9 @@ pub(crate) enum Verb {
     Unknown,
 }
 
-/// The verb of a main file that is spelled like this.
-fn main_verb(text: &str) -> Verb
-    ensures { verb_view result ≡ main_verb text.now }
+/// The verb of a main file that is spelled like this (Go Modules Reference, go.mod files).
+pub fn main_verb(text: &str) -> Verb
+    ensures { result ≡ main_verb text.now }
 {
     match text {
         "module" => Verb::Module,
@@ -62,7 +62,7 @@ fn main_verb(text: &str) -> Verb
 /// The verb of a dependency's file that is spelled like this. `retract` is skipped here, since its faults don't count:
 /// `retractions` reads it separately.
 fn dependency_verb(text: &str) -> Verb
-    ensures { verb_view result ≡ dependency_verb text.now }
+    ensures { result ≡ dependency_verb text.now }
 {
     match text {
         "module" => Verb::Module,
@@ -74,7 +74,7 @@ fn dependency_verb(text: &str) -> Verb
 
 /// The verb that is spelled like this, in a file that is read in this mode.
 pub(crate) fn verb_in(mode: Mode, text: &str) -> Verb
-    ensures { verb_view result ≡ verb_in (mode_view mode) text.now }
+    ensures { result ≡ verb_in (mode_view mode) text.now }
 {
     match mode {
         Mode::Strict => main_verb(text),

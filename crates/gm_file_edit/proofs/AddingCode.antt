@@ -9,27 +9,26 @@ use Rattle.gm_syntax.specs.Tokens.{Placed}
 use Rattle.gm_syntax.specs.Document.{Line, Blank, Comment, Open, Close, Entry}
 use Rattle.gm_syntax.specs.declared.line.Line as declared
 use Rattle.gm_syntax.specs.LineViews.{line_of, line_views}
-use Rattle.gm_file.specs.Directives.{Directive, block_after_line}
+use Rattle.gm_file.specs.Directives.{Directive, block_after_line, is_of_verb}
 use Rattle.gm_file.specs.Faults.{is_module}
-use Rattle.gm_file_edit.specs.Edited.{added, after_first_that}
+use Rattle.gm_file_edit.specs.Edited.{added, after_first_that, has_verb}
 use Rattle.gm_file_edit.specs.declared.adding.Spot.{Spot}
-use Rattle.gm_file_edit.specs.Adding.{added_at, spot_after_first, spot_after_last, spot_after_line, close_len, further, is_of, past_block, insert_at_spot}
+use Rattle.gm_file_edit.specs.Adding.{added_at, spot_after_first, spot_after_last, spot_after_line, close_len, further, past_block, insert_at_spot}
 use Rattle.gm_file_edit.specs.NewWords.{entry_at, single}
 use Rattle.gm_file_edit.specs.Holding.{IsValidAt}
 use Rattle.gm_file_edit.specs.Holding.{directive_at, passes}
 use Rattle.gm_file_edit.specs.Keys.{is_entry_in, is_inside, key_of, scope_after, scope_of}
 use Rattle.gm_file_edit.specs.Marks.{line_at}
-use Rattle.gm_file_edit.specs.declared.adding.AddedVerb.{AddedVerb}
 use Rattle.gm_file_edit.specs.declared.keys.Key.{Key}
 use Rattle.gm_file_edit.specs.declared.keys.Scope.{Scope}
 use Rattle.gm_file_edit.specs.declared.keys.Scope.TheVariants as scope
-use Rattle.gm_file_edit.specs.declared.verb.Verb.{Verb}
-use Rattle.gm_file_edit.specs.declared.verb.Verb.TheVariants as verb
+use Rattle.gm_file.specs.declared.verb.Verb.{Verb}
+use Rattle.gm_file.specs.declared.verb.Verb.TheVariants as verb
 use Rattle.gm_file_edit.proofs.Packs.{get_or-default}
-use Rattle.gm_file_edit.proofs.PassedOver.{added-said, module-said, scope-inside, scope-next}
+use Rattle.gm_file_edit.proofs.PassedOver.{IsKnown, entry-said, scope-inside, scope-next}
 use Rattle.gm_file_edit.proofs.Pairs.{AreRightFrom, IsSound}
 use Rattle.gm_file_edit.proofs.Spots.{added-spot, first-spot}
-use Rattle.gm_file_edit.proofs.Targets.{entry-declares, entry-holds}
+use Rattle.gm_file_edit.proofs.Targets.{entry-holds}
 use Rattle.gm_file_edit.proofs.Walking.{drop-next}
 
 -- the same position with `n` more lines before it
@@ -137,13 +136,14 @@ line-here : (whole : List (Line Placed)) (n : ℕ) → n < length whole → drop
 line-here whole n lt = drop-next whole n (line_at whole n) lt (get_or-default whole n Blank lt)
 
 -- Loop invariant: the last position so far is the best, and the scope is that of the block which is open.
-pub record IsLastTo (v : AddedVerb) (whole : List (Line Placed)) (at : Scope) (n : ℕ) (best : Option Spot) : Type 0 where
+pub record IsLastTo (v : Verb) (whole : List (Line Placed)) (at : Scope) (n : ℕ) (best : Option Spot) : Type 0 where
   block : Option Placed
-  scope : at ≡ scope_of (verb.Added v) block
-  sought : IsSoughtTo (is_of v) whole (drop n whole) block n best
+  known : IsKnown v
+  scope : at ≡ scope_of v block
+  sought : IsSoughtTo (is_of_verb v) whole (drop n whole) block n best
 
-pub last-begin : (v : AddedVerb) (whole : List (Line Placed)) → IsSound whole → IsLastTo v whole scope.Outside 0 None
-last-begin v whole sound = record { block = None; scope = refl; sought = seek-begin (is_of v) whole sound }
+pub last-begin : (v : Verb) (whole : List (Line Placed)) → IsKnown v → IsSound whole → IsLastTo v whole scope.Outside 0 None
+last-begin v whole known sound = record { block = None; known = known; scope = refl; sought = seek-begin (is_of_verb v) whole sound }
 
 -- the best position after one more line
 abbrev pub better_at : ℕ → Scope → Bool → Option Spot → Option Spot
@@ -154,27 +154,28 @@ better-same : (n : ℕ) (own : Verb) (at : Scope) (block : Option Placed) (b : B
 better-same n own at block true best is = ap (λ (inside : Bool). Some (record { before = n + 1; inside = inside })) (ap is_inside is ∙ scope-inside own block)
 better-same n own at block false best is = refl
 
-pub last-more : (v : AddedVerb) (whole : List (Line Placed)) (at next_at : Scope) (n : ℕ) (key : Key) (best next : Option Spot) → n < length whole → key ≡ key_of (line_at whole n)
-    → next ≡ better_at n at (is_entry_in (verb.Added v) at key) best → next_at ≡ scope_after (verb.Added v) at key → IsLastTo v whole at n best → IsLastTo v whole next_at (n + 1) next
+pub last-more : (v : Verb) (whole : List (Line Placed)) (at next_at : Scope) (n : ℕ) (key : Key) (best next : Option Spot) → n < length whole → key ≡ key_of (line_at whole n)
+    → next ≡ better_at n at (is_entry_in v at key) best → next_at ≡ scope_after v at key → IsLastTo v whole at n best → IsLastTo v whole next_at (n + 1) next
 last-more v whole at next_at n key best next lt is found behind so =
     let line : Line Placed = line_at whole n in
-    let valid = seek-right (is_of v) whole (drop n whole) (drop (n + 1) whole) so.block n best line (line-here whole n lt) so.sought in
-    let held : is_entry_in (verb.Added v) at key ≡ passes (is_of v) (directive_at so.block line) =
-    ap (is_entry_in (verb.Added v) at) is ∙ ap (λ (c : Scope). is_entry_in (verb.Added v) c (key_of line)) so.scope ∙ added-said v so.block line ∙ entry-holds v so.block line valid in
+    let valid = seek-right (is_of_verb v) whole (drop n whole) (drop (n + 1) whole) so.block n best line (line-here whole n lt) so.sought in
+    let held : is_entry_in v at key ≡ passes (is_of_verb v) (directive_at so.block line) =
+    ap (is_entry_in v at) is ∙ ap (λ (c : Scope). is_entry_in v c (key_of line)) so.scope ∙ entry-said v so.known so.block line ∙ entry-holds v so.block line valid in
     record {
       block = block_after_line so.block line;
-      scope = behind ∙ ap (scope_after (verb.Added v) at) is ∙ scope-next (verb.Added v) at so.block line so.scope;
+      known = so.known;
+      scope = behind ∙ ap (scope_after v at) is ∙ scope-next v at so.block line so.scope;
       sought =
-          seek-more (is_of v) whole (drop n whole) (drop (n + 1) whole) so.block (block_after_line so.block line) n best next line (line-here whole n lt) refl
-          (found ∙ better-same n (verb.Added v) at so.block (is_entry_in (verb.Added v) at key) best so.scope ∙ ap (λ (b : Bool). better n so.block b best) held) so.sought;
+          seek-more (is_of_verb v) whole (drop n whole) (drop (n + 1) whole) so.block (block_after_line so.block line) n best next line (line-here whole n lt) refl
+          (found ∙ better-same n v at so.block (is_entry_in v at key) best so.scope ∙ ap (λ (b : Bool). better n so.block b best) held) so.sought;
     }
 
 last-place : (test : Directive → Bool) (whole rest : List (Line Placed)) (block : Option Placed) (n : ℕ) (best : Option Spot) → rest ≡ [] → IsSoughtTo test whole rest block n best → best ≡ spot_after_last test None whole
 last-place test whole rest block n best is so = ap (λ (ls : List (Line Placed)). option_or (option_map (shifted n) (spot_after_last test block ls)) best) (sym is) ∙ so.place
 
-pub last-end : (v : AddedVerb) (whole : List (Line Placed)) (at : Scope) (n : ℕ) (best : Option Spot) → length whole ≤ n → IsLastTo v whole at n best → best ≡ spot_after_last (is_of v) None whole
+pub last-end : (v : Verb) (whole : List (Line Placed)) (at : Scope) (n : ℕ) (best : Option Spot) → length whole ≤ n → IsLastTo v whole at n best → best ≡ spot_after_last (is_of_verb v) None whole
 last-end v whole at n best over so =
-    last-place (is_of v) whole (drop n whole) so.block n best (drop_all n whole over) so.sought
+    last-place (is_of_verb v) whole (drop n whole) so.block n best (drop_all n whole over) so.sought
 
 -- Loop invariant: no line so far declares the module path.
 pub record IsUnmetTo (whole : List (Line Placed)) (at : Scope) (n : ℕ) : Type 0 where
@@ -190,7 +191,7 @@ module-held : (whole : List (Line Placed)) (at : Scope) (n : ℕ) (key : Key) �
 module-held whole at n key lt is so =
     let line : Line Placed = line_at whole n in
     let valid = meet-right is_module whole (drop n whole) (drop (n + 1) whole) so.block n line (line-here whole n lt) so.unmet in
-    ap (is_entry_in verb.Module at) is ∙ ap (λ (c : Scope). is_entry_in verb.Module c (key_of line)) so.scope ∙ module-said so.block line ∙ entry-declares so.block line valid
+    ap (is_entry_in verb.Module at) is ∙ ap (λ (c : Scope). is_entry_in verb.Module c (key_of line)) so.scope ∙ entry-said verb.Module refl so.block line ∙ entry-holds verb.Module so.block line valid
 
 pub unmet-more : (whole : List (Line Placed)) (at next_at : Scope) (n : ℕ) (key : Key) → n < length whole → key ≡ key_of (line_at whole n)
     → is_entry_in verb.Module at key ≡ false → next_at ≡ scope_after verb.Module at key → IsUnmetTo whole at n → IsUnmetTo whole next_at (n + 1)
@@ -242,23 +243,19 @@ rest-is lines n = let rest = length-drop n lines in take_all (length lines - n) 
 
 -- ---- the lines with new ones
 
-pub if-ok : {X E : Type 0} (r : Result X E) (P Q : X → Type 0) → ((x : X) → P x → Q x) → IfOk r P → IfOk r Q
-if-ok (Ok x) P Q h p = h x p
-if-ok (Err e) P Q h p = tt
-
 pub in-lines : (lines : List declared.Line) (n : ℕ) → n ≤ length (line_views lines) → n ≤ length lines
 in-lines lines n le = let count = length-map lines line_of in omega (arith, le, count)
 
-pub add-there : (test : Directive → Bool) (text : List ℕ) (arguments : List Placed) (lines copies : List (Line Placed)) (line : Line Placed) (o : Option Spot) (spot : Spot)
-    → o ≡ spot_after_last test None lines → o ≡ Some spot → copies ≡ lines → line ≡ entry_at spot.inside text arguments → insert copies spot.before line ≡ added test text arguments lines
-add-there test text arguments lines copies line o spot told is same so =
-    let at : added_at text arguments lines (Some spot) ≡ added test text arguments lines = ap (added_at text arguments lines) (sym is ∙ told) ∙ sym (added-spot test text arguments lines) in
+pub add-there : (text : List ℕ) (arguments : List Placed) (lines copies : List (Line Placed)) (line : Line Placed) (o : Option Spot) (spot : Spot)
+    → o ≡ spot_after_last (has_verb text) None lines → o ≡ Some spot → copies ≡ lines → line ≡ entry_at spot.inside text arguments → insert copies spot.before line ≡ added text arguments lines
+add-there text arguments lines copies line o spot told is same so =
+    let at : added_at text arguments lines (Some spot) ≡ added text arguments lines = ap (added_at text arguments lines) (sym is ∙ told) ∙ sym (added-spot text arguments lines) in
     rw (same, so) at
 
-pub add-last : (test : Directive → Bool) (text : List ℕ) (arguments : List Placed) (lines copies : List (Line Placed)) (line : Line Placed) (o : Option Spot)
-    → o ≡ spot_after_last test None lines → o ≡ None → copies ≡ lines → line ≡ single text arguments → copies ++ (Blank ∷ line ∷ []) ≡ added test text arguments lines
-add-last test text arguments lines copies line o told is same so =
-    let at : added_at text arguments lines None ≡ added test text arguments lines = ap (added_at text arguments lines) (sym is ∙ told) ∙ sym (added-spot test text arguments lines) in
+pub add-last : (text : List ℕ) (arguments : List Placed) (lines copies : List (Line Placed)) (line : Line Placed) (o : Option Spot)
+    → o ≡ spot_after_last (has_verb text) None lines → o ≡ None → copies ≡ lines → line ≡ single text arguments → copies ++ (Blank ∷ line ∷ []) ≡ added text arguments lines
+add-last text arguments lines copies line o told is same so =
+    let at : added_at text arguments lines None ≡ added text arguments lines = ap (added_at text arguments lines) (sym is ∙ told) ∙ sym (added-spot text arguments lines) in
     rw (same, so) at
 
 -- lines that are inserted at the end

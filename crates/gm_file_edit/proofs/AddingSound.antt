@@ -5,27 +5,24 @@ use Rattle.std.specs.Option.{option_map, option_or, option_to_list}
 use Rattle.std.specs.List.{cons_option, list_any}
 use Rattle.std.proofs.lemmas.Bool.{cases_Bool}
 use Rattle.std.proofs.lemmas.List.{take-append-drop}
-use Rattle.gm_syntax.specs.Bare.{can_be_bare, bare_len, new_word}
-use Rattle.gm_syntax.specs.Bytes.{is_bad, is_blank, is_bracket_or_comma, is_quote, is_word_byte}
+use Rattle.gm_syntax.specs.Bare.{new_word}
 use Rattle.gm_syntax.specs.Tokens.{Placed, words_of}
 use Rattle.gm_syntax.specs.Document.{Line, Blank, Comment, Open, Close, Entry, IsValidLine}
 use Rattle.gm_syntax.specs.LineViews.{plain, plain_lines}
 use Rattle.gm_syntax.proofs.Changes.{blank_stands}
-use Rattle.gm_file.specs.Directives.{Strict, Verb, Directive, Item, Silent, Opening, Saying, block_after_lines, block_after_line, directive_in, directive_of, directives, is_empty_block, item_at, verb_in, verb_of_directive, with_blocks, with_blocks_from}
+use Rattle.gm_file.specs.declared.verb.Verb.{Verb}
+use Rattle.gm_file.specs.Directives.{Strict, Directive, Item, Silent, Opening, Saying, block_after_lines, block_after_line, directive_in, directive_of, directives, is_empty_block, item_at, main_verb, verb_in, verb_of_directive, with_blocks, with_blocks_from}
 use Rattle.gm_file.specs.Faults.{directive_kinds, entry_kinds, item_kinds}
 use Rattle.gm_file.specs.Pairwise.{do_clash}
 use Rattle.gm_file.proofs.DirectiveVerbs.{directive-verb, same-verb}
 use Rattle.gm_file.proofs.Pairwise.{IsClear}
-use Rattle.gm_file_edit.specs.Edited.{added, after_first_that}
-use Rattle.gm_file_edit.specs.declared.adding.AddedVerb.{AddedVerb}
-use Rattle.gm_file_edit.specs.declared.adding.AddedVerb.TheVariants as verb
+use Rattle.gm_file_edit.specs.Edited.{added, after_first_that, has_verb}
 use Rattle.gm_file_edit.specs.declared.adding.Spot.{Spot}
-use Rattle.gm_file_edit.specs.Adding.{added_at, spot_after_first, spot_after_last, spot_after_line, close_len, further, is_of, past_block, insert_at_spot, verb_text}
+use Rattle.gm_file_edit.specs.Adding.{added_at, spot_after_first, spot_after_last, spot_after_line, close_len, further, past_block, insert_at_spot}
 use Rattle.gm_file_edit.specs.NewWords.{entry_at, single}
 use Rattle.gm_file_edit.specs.Holding.{directive_at, item_of, passes}
 use Rattle.gm_file_edit.proofs.Pairs.{IsSound, block-append, held_in, no-block, plain-held, put-line}
 use Rattle.gm_file_edit.proofs.Spots.{added-spot, first-spot}
-use Rattle.gm_file_edit.proofs.Targets.{added_verb, is-of}
 
 -- ---- the directives of lines
 
@@ -101,15 +98,15 @@ put-last new lines line fits fresh sound =
 
 -- ---- the position of the last entry with a verb
 
-verb-passed : (v : AddedVerb) (d : Directive) → is_of v d ≡ true → verb_of_directive d ≡ added_verb v
-verb-passed v d e = sym (same-verb (added_verb v) (verb_of_directive d) (sym (is-of v d) ∙ e))
+verb-passed : (v : List ℕ) (d : Directive) → has_verb v d ≡ true → verb_of_directive d ≡ main_verb v
+verb-passed v d e = sym (same-verb (main_verb v) (verb_of_directive d) e)
 
 -- the open block, if any, has this verb
-abbrev pub IsOfVerb : AddedVerb → Option Placed → Type 0
+abbrev pub IsOfVerb : List ℕ → Option Placed → Type 0
 IsOfVerb v None = ⊤
-IsOfVerb v (Some t) = verb_in Strict t.word.spelling ≡ added_verb v
+IsOfVerb v (Some t) = verb_in Strict t.word.spelling ≡ main_verb v
 
-pub passing-verb : (v : AddedVerb) (block : Option Placed) (line : Line Placed) (held : Option Directive) → directive_at block line ≡ held → passes (is_of v) held ≡ true → IsOfVerb v block
+pub passing-verb : (v : List ℕ) (block : Option Placed) (line : Line Placed) (held : Option Directive) → directive_at block line ≡ held → passes (has_verb v) held ≡ true → IsOfVerb v block
 unfolding item_at
 passing-verb v None line held is e = tt
 passing-verb v (Some t) line None is e = absurd cc
@@ -152,26 +149,26 @@ mapped-further None spot e = absurd cc
 mapped-further (Some s) spot e = (s, refl, cc)
 
 -- the position after the last entry with a verb
-abbrev pub IsVerbSpot : AddedVerb → Option Placed → List (Line Placed) → Spot → Type 0
+abbrev pub IsVerbSpot : List ℕ → Option Placed → List (Line Placed) → Spot → Type 0
 IsVerbSpot v block lines spot = IsIn block lines spot × IsOfVerb v (block_after_lines block (take spot.before lines))
 
-last-step : (v : AddedVerb) (block : Option Placed) (line : Line Placed) (lines : List (Line Placed)) (later : Option Spot) (spot : Spot)
+last-step : (v : List ℕ) (block : Option Placed) (line : Line Placed) (lines : List (Line Placed)) (later : Option Spot) (spot : Spot)
     → ((s : Spot) → later ≡ Some s → IsVerbSpot v (block_after_line block line) lines s)
-    → option_or (option_map further later) (if passes (is_of v) (directive_at block line) then Some (spot_after_line block) else None) ≡ Some spot → IsVerbSpot v block (line ∷ lines) spot
+    → option_or (option_map further later) (if passes (has_verb v) (directive_at block line) then Some (spot_after_line block) else None) ≡ Some spot → IsVerbSpot v block (line ∷ lines) spot
 last-step v block line lines (Some s) spot h e =
     let is = h s refl in
     let same : further s ≡ spot = cc in
     subst (IsVerbSpot v block (line ∷ lines)) same (in-next block line lines s is.0, is.1)
 last-step v block line lines None spot h e =
-    let here = if-here (passes (is_of v) (directive_at block line)) (spot_after_line block) spot e in
-    let level : block_after_line block line ≡ block = passing-level (is_of v) block line here.0 in
-    subst (IsVerbSpot v block (line ∷ lines)) here.1 (in-here (is_of v) block line lines here.0, subst (IsOfVerb v) (sym level) (passing-verb v block line (directive_at block line) refl here.0))
+    let here = if-here (passes (has_verb v) (directive_at block line)) (spot_after_line block) spot e in
+    let level : block_after_line block line ≡ block = passing-level (has_verb v) block line here.0 in
+    subst (IsVerbSpot v block (line ∷ lines)) here.1 (in-here (has_verb v) block line lines here.0, subst (IsOfVerb v) (sym level) (passing-verb v block line (directive_at block line) refl here.0))
 
-pub last-is : (v : AddedVerb) (block : Option Placed) (lines : List (Line Placed)) (spot : Spot) → spot_after_last (is_of v) block lines ≡ Some spot → IsVerbSpot v block lines spot
+pub last-is : (v : List ℕ) (block : Option Placed) (lines : List (Line Placed)) (spot : Spot) → spot_after_last (has_verb v) block lines ≡ Some spot → IsVerbSpot v block lines spot
 last-is v block [] spot e = absurd cc
-last-is v block (line ∷ lines) spot e = last-step v block line lines (spot_after_last (is_of v) (block_after_line block line) lines) spot (λ s f. last-is v (block_after_line block line) lines s f) e
+last-is v block (line ∷ lines) spot e = last-step v block line lines (spot_after_last (has_verb v) (block_after_line block line) lines) spot (λ s f. last-is v (block_after_line block line) lines s f) e
 
-pub last-in-range : (v : AddedVerb) (lines : List (Line Placed)) (spot : Spot) → spot_after_last (is_of v) None lines ≡ Some spot → spot.before ≤ length lines
+pub last-in-range : (v : List ℕ) (lines : List (Line Placed)) (spot : Spot) → spot_after_last (has_verb v) None lines ≡ Some spot → spot.before ≤ length lines
 last-in-range v lines spot e = let is = last-is v None lines spot e in is.0.in_range
 
 pub first-is-in : (test : Directive → Bool) (block : Option Placed) (lines : List (Line Placed)) (spot : Spot) → spot_after_first test block lines ≡ Some spot → IsIn block lines spot
@@ -215,11 +212,12 @@ past-outside lines spot sound is = elim (cases_Bool spot.inside) [
 -- ---- added entries
 
 -- arguments that give the directive after its verb, both outside blocks and in a block of the verb
-pub record IsAddition (v : AddedVerb) (arguments : List Placed) (new : Directive) : Type 0 where
+pub record IsAddition (v : List ℕ) (arguments : List Placed) (new : Directive) : Type 0 where
   pub inside : IsValidLine true (plain (Entry arguments None))
-  pub alone : IsValidLine false (plain (single (verb_text v) arguments))
+  pub alone : IsValidLine false (plain (single v arguments))
+  pub written : main_verb (new_word v).spelling ≡ main_verb v
   pub filled : is_empty_block (words_of arguments) ≡ false
-  pub says : directive_of (added_verb v) (words_of arguments) ≡ Some new
+  pub says : directive_of (main_verb v) (words_of arguments) ≡ Some new
 
 single-holds : (text : List ℕ) (v : Verb) (arguments : List Placed) (new : Directive) → verb_in Strict (new_word text).spelling ≡ v → is_empty_block (words_of arguments) ≡ false
     → directive_of v (words_of arguments) ≡ Some new → directive_at None (single text arguments) ≡ Some new
@@ -231,36 +229,29 @@ pub single-fits : (text : List ℕ) (v : Verb) (arguments : List Placed) (new : 
     → directive_of v (words_of arguments) ≡ Some new → IsValidLine false (plain (single text arguments)) → Fits None new (single text arguments)
 single-fits text v arguments new named filled says alone = record { stands = alone; holds = single-holds text v arguments new named filled says; level = refl }
 
-verb-written : (v : AddedVerb) → verb_in Strict (new_word (verb_text v)).spelling ≡ added_verb v
-unfolding can_be_bare bare_len is_word_byte is_blank is_bracket_or_comma is_quote is_bad
-verb-written verb.Require = refl
-verb-written verb.Exclude = refl
-verb-written verb.Replace = refl
-verb-written verb.Retract = refl
-
-pub entry-fits : (v : AddedVerb) (arguments : List Placed) (new : Directive) (block : Option Placed) → IsOfVerb v block → IsAddition v arguments new → Fits block new (entry_at (is_some block) (verb_text v) arguments)
+pub entry-fits : (v : List ℕ) (arguments : List Placed) (new : Directive) (block : Option Placed) → IsOfVerb v block → IsAddition v arguments new → Fits block new (entry_at (is_some block) v arguments)
 unfolding item_at
-entry-fits v arguments new None is so = single-fits (verb_text v) (added_verb v) arguments new (verb-written v) so.filled so.says so.alone
+entry-fits v arguments new None is so = single-fits v (main_verb v) arguments new so.written so.filled so.says so.alone
 entry-fits v arguments new (Some t) is so = record { stands = so.inside; holds = ap (λ (x : Verb). directive_of x (words_of arguments)) is ∙ so.says; level = refl }
 
-added-at : (v : AddedVerb) (arguments : List Placed) (new : Directive) (lines : List (Line Placed)) → IsAddition v arguments new → IsNewTo (held_from None lines) new → IsSound lines
-    → (o : Option Spot) → ((spot : Spot) → o ≡ Some spot → IsVerbSpot v None lines spot) → IsSound (added_at (verb_text v) arguments lines o)
+added-at : (v : List ℕ) (arguments : List Placed) (new : Directive) (lines : List (Line Placed)) → IsAddition v arguments new → IsNewTo (held_from None lines) new → IsSound lines
+    → (o : Option Spot) → ((spot : Spot) → o ≡ Some spot → IsVerbSpot v None lines spot) → IsSound (added_at v arguments lines o)
 added-at v arguments new lines so fresh sound None is =
-    put-last new lines (single (verb_text v) arguments) (entry-fits v arguments new None tt so) fresh sound
+    put-last new lines (single v arguments) (entry-fits v arguments new None tt so) fresh sound
 added-at v arguments new lines so fresh sound (Some spot) is =
     let front : List (Line Placed) = take spot.before lines in
     let back : List (Line Placed) = drop spot.before lines in
     let whole : front ++ back ≡ lines = take-append-drop spot.before lines in
     let here = is spot refl in
-    put-in new front back (entry_at spot.inside (verb_text v) arguments)
-    (subst (λ (b : Bool). Fits (block_after_lines None front) new (entry_at b (verb_text v) arguments)) here.0.inside (entry-fits v arguments new (block_after_lines None front) here.1 so))
+    put-in new front back (entry_at spot.inside v arguments)
+    (subst (λ (b : Bool). Fits (block_after_lines None front) new (entry_at b v arguments)) here.0.inside (entry-fits v arguments new (block_after_lines None front) here.1 so))
     (subst (λ (ls : List (Line Placed)). IsNewTo (held_from None ls) new) (sym whole) fresh) (subst IsSound (sym whole) sound)
 
 -- an added entry with a verb
-pub added-sound : (v : AddedVerb) (arguments : List Placed) (new : Directive) (lines : List (Line Placed)) → IsAddition v arguments new → IsNewTo (held_from None lines) new
-    → IsSound lines → IsSound (added (is_of v) (verb_text v) arguments lines)
+pub added-sound : (v : List ℕ) (arguments : List Placed) (new : Directive) (lines : List (Line Placed)) → IsAddition v arguments new → IsNewTo (held_from None lines) new
+    → IsSound lines → IsSound (added v arguments lines)
 added-sound v arguments new lines so fresh sound =
-    subst IsSound (sym (added-spot (is_of v) (verb_text v) arguments lines)) (added-at v arguments new lines so fresh sound (spot_after_last (is_of v) None lines) (last-is v None lines))
+    subst IsSound (sym (added-spot v arguments lines)) (added-at v arguments new lines so fresh sound (spot_after_last (has_verb v) None lines) (last-is v None lines))
 
 put-at : (new : Directive) (line : Line Placed) (lines : List (Line Placed)) → Fits None new line → IsNewTo (held_from None lines) new → IsSound lines
     → (o : Option Spot) → ((spot : Spot) → o ≡ Some spot → IsIn None lines spot) → IsSound (insert_at_spot (Blank ∷ line ∷ []) lines o)

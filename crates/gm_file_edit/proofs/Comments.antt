@@ -1,20 +1,22 @@
 -- No operation removes, adds or moves a comment line.
 use Rattle.std.proofs.Common.{◌≡◌, ℕ, ◌&&◌, not, is_some, Bool, true, false, List, [], ◌∷◌, ◌++◌, Option, Some, None, refl, ap, ◌∙◌, append-nil, inl, inr}
-use Rattle.std.specs.Prelude.{if◌then◌else◌, filter, codes}
+use Rattle.std.specs.Prelude.{if◌then◌else◌, filter}
 use Rattle.std.proofs.lemmas.Bool.{cases_Bool}
 use Rattle.std.proofs.lemmas.List.Elements.{filter-append}
 use Rattle.gm_syntax.specs.Tokens.{Placed}
 use Rattle.gm_syntax.specs.Document.{Line, Blank, Comment, Open, Close, Entry}
 use Rattle.gm_file.specs.Directives.{Directive, block_after_line, item_at}
-use Rattle.gm_file_edit.specs.Edits.{Edit, Set, ModuleIs, GoIs, RequireAt, Drop, Add, Exclude, ReplaceWith, Retract}
+use Rattle.gm_file_edit.specs.Edits.{Edit, Set, Setting, ModuleIs, GoIs, RequireAt, ReplaceWith, Add, Drop}
 use Rattle.gm_file_edit.specs.About.{about}
-use Rattle.gm_file_edit.specs.Edited.{added, after_closing, after_first_of, after_first_that, after_last_of, changed, edited, put_in}
+use Rattle.gm_file_edit.specs.Edited.{added, after_closing, after_first_of, after_first_that, after_last_of, changed, edited, has_verb, new_go, put_in}
 use Rattle.gm_file_edit.specs.EditLaws.{is_comment_line}
 use Rattle.gm_file_edit.specs.Fates.{Fate, dropped, dropping_from, is_emptied, kept, remaining, renewed, renewing_from, widened_from}
 use Rattle.gm_file_edit.specs.Holding.{directive_at, passes}
-use Rattle.gm_file_edit.specs.NewWords.{entry_at, made_word, single}
+use Rattle.gm_file_edit.specs.NewWords.{entry_at, single}
 use Rattle.gm_file_edit.specs.Renewing.{made_new}
 use Rattle.gm_file_edit.specs.Searching.{is_there, is_there_from}
+use Rattle.gm_file.specs.Faults.{is_module}
+use Rattle.gm_file_edit.proofs.EditedSound.{by-put}
 
 abbrev comments : List (Line Placed) → List (Line Placed)
 comments lines = filter is_comment_line lines
@@ -119,10 +121,10 @@ after-last-comments test verb arguments block (line ∷ lines) =
 at-end : (new : List (Line Placed)) → comments new ≡ [] → (lines : List (Line Placed)) → comments (lines ++ new) ≡ comments lines
 at-end new none lines = filter-append is_comment_line lines new ∙ ap (λ (ls : List (Line Placed)). comments lines ++ ls) none ∙ append-nil (comments lines)
 
-added-comments : (test : Directive → Bool) (verb : List ℕ) (arguments : List Placed) (lines : List (Line Placed)) → comments (added test verb arguments lines) ≡ comments lines
+added-comments : (verb : List ℕ) (arguments : List Placed) (lines : List (Line Placed)) → comments (added verb arguments lines) ≡ comments lines
 unfolding added
-added-comments test verb arguments lines = elim (cases_Bool (is_there test lines)) [
-  | inl there ↦ rw there (after-last-comments test verb arguments None lines)
+added-comments verb arguments lines = elim (cases_Bool (is_there (has_verb verb) lines)) [
+  | inl there ↦ rw there (after-last-comments (has_verb verb) verb arguments None lines)
   | inr none ↦ rw none (at-end (Blank ∷ single verb arguments ∷ []) refl lines)
 ]
 
@@ -156,22 +158,18 @@ after-first-comments test new lines none = first-of-comments test new None lines
 
 changed-comments : (edit : Edit) (lines : List (Line Placed)) → comments (changed edit lines) ≡ comments lines
 unfolding changed
-changed-comments (Set (ModuleIs path)) lines = renewed-comments _ (made_new (Set (ModuleIs path))) (λ block words suffix. refl) lines
-changed-comments (Set (GoIs text)) lines = renewed-comments _ (made_new (Set (GoIs text))) (λ block words suffix. refl) lines
-changed-comments (Set (RequireAt p)) lines = renewed-comments _ (made_new (Set (RequireAt p))) (λ block words suffix. refl) lines
-changed-comments (Drop t) lines = dropped-comments _ lines
+changed-comments (Set s) lines = renewed-comments (about (Set s)) (made_new (Set s)) (rewritten s) lines
+  where
+    rewritten : (s : Setting) → RewritesEntries (made_new (Set s))
+    rewritten (ModuleIs path) block words suffix = refl
+    rewritten (GoIs text) block words suffix = refl
+    rewritten (RequireAt p) block words suffix = refl
+    rewritten (ReplaceWith r) block words suffix = refl
 changed-comments (Add a) lines = refl
-changed-comments (Set (ReplaceWith r)) lines = renewed-comments _ (made_new (Set (ReplaceWith r))) (λ block words suffix. refl) lines
+changed-comments (Drop t) lines = dropped-comments (about (Drop t)) lines
 
 put-comments : (edit : Edit) (lines : List (Line Placed)) → comments (put_in edit lines) ≡ comments lines
-unfolding put_in
-put-comments (Set (ModuleIs path)) lines = refl
-put-comments (Set (GoIs text)) lines = after-first-comments _ (Blank ∷ single (codes "go") (made_word text ∷ []) ∷ []) lines refl
-put-comments (Set (RequireAt p)) lines = added-comments _ _ _ lines
-put-comments (Drop t) lines = refl
-put-comments (Add (Exclude p)) lines = added-comments _ _ _ lines
-put-comments (Add (Retract ends)) lines = added-comments _ _ _ lines
-put-comments (Set (ReplaceWith r)) lines = added-comments _ _ _ lines
+put-comments edit lines = by-put (λ other after. comments after ≡ comments lines) lines (λ path. refl) (λ text. after-first-comments is_module (new_go text) lines refl) (λ other entry is. added-comments entry.0 entry.1 lines) (λ t. refl) edit
 
 pub pass-comments : (edit : Edit) (lines : List (Line Placed)) → filter is_comment_line (edited edit lines) ≡ filter is_comment_line lines
 unfolding edited

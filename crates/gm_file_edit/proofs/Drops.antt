@@ -1,52 +1,165 @@
--- The loop that drops entries.
-use Rattle.std.proofs.Common.{◌≡◌, Bool, true, false, List, [], ◌∷◌, Option, Some, None, refl, sym, ap, subst, ◌∙◌}
+-- Lines of which entries are removed or rewritten stay a document without a fault: each line stays right in its block,
+-- and the directives are those that aren't targeted, with the new one.
+use Rattle.std.proofs.Common.{◌≡◌, ◌||◌, not, Bool, true, false, List, [], ◌∷◌, Option, None, refl, sym, ap, subst, ◌∙◌, inl, inr}
+use Rattle.std.specs.Prelude.{filter}
+use Rattle.std.specs.List.{list_any}
+use Rattle.std.proofs.lemmas.Bool.{cases_Bool, or_from, or_parts}
 use Rattle.gm_syntax.specs.Tokens.{Placed}
 use Rattle.gm_syntax.specs.Document.{Line}
-use Rattle.gm_file.specs.Directives.{Directive, Kept, block_after_line}
-use Rattle.gm_file_edit.specs.Fates.{Fate, dropped, dropping_from, fate_by, remaining}
-use Rattle.gm_file_edit.specs.Holding.{directive_at, passes}
-use Rattle.gm_file_edit.proofs.Pairs.{IsSound, left-sound}
-use Rattle.gm_file_edit.proofs.Leaving.{AreMarked, IsGone, Marked, entry-behind, fates_in, lines_in, remaining-lines}
+use Rattle.gm_file.specs.Directives.{Directive, block_after_line, block_after_lines}
 use Rattle.gm_file.specs.Faults.{is_module}
 use Rattle.gm_file.specs.Pairwise.{do_clash}
-use Rattle.std.proofs.Common.{inl, inr}
-use Rattle.std.proofs.lemmas.Bool.{cases_Bool}
+use Rattle.gm_file.proofs.Pairwise.{AreApart, clash-mutual}
+use Rattle.gm_file_edit.specs.Fates.{Fate, dropped, dropping_from, kept, remaining, renewed, renewing_from}
+use Rattle.gm_file_edit.specs.Holding.{directive_at, passes}
+use Rattle.gm_file_edit.specs.Searching.{is_there}
+use Rattle.gm_file_edit.proofs.AddingSound.{held-is, held_from, passing-level}
+use Rattle.gm_file_edit.proofs.Pairs.{AreRightFrom, IsRightLine, IsSound}
+use Rattle.gm_file_edit.proofs.Renews.{IsRenewal, Makes}
+use Rattle.gm_file_edit.proofs.Said.{dropped-held, filter-none, filter-one, held-some, none-any, others, renewed-alone, renewed-others}
+use Rattle.gm_file_edit.proofs.Seats.{fewer-all, remaining-left}
 
--- each line with its fate
-abbrev pub dropping : (Directive → Bool) → Option Placed → List (Line Placed) → List Marked
-dropping test block [] = []
-dropping test block (line ∷ lines) = (line, fate_by (passes test (directive_at block line)) line) ∷ dropping test (block_after_line block line) lines
+-- ---- the lines
 
-pub dropping-lines : (test : Directive → Bool) (block : Option Placed) (lines : List (Line Placed)) → lines_in (dropping test block lines) ≡ lines
-dropping-lines test block [] = refl
-dropping-lines test block (line ∷ lines) = ap (λ (ls : List (Line Placed)). line ∷ ls) (dropping-lines test (block_after_line block line) lines)
+-- the lines are right, and the block that is open after them is this
+abbrev AreRightTo : Option Placed → List (Line Placed) → Option Placed → Type 0
+AreRightTo block lines last = AreRightFrom block lines × (block_after_lines block lines ≡ last)
 
-pub dropping-fates : (test : Directive → Bool) (block : Option Placed) (lines : List (Line Placed)) → fates_in (dropping test block lines) ≡ dropping_from test block lines
-dropping-fates test block [] = refl
-dropping-fates test block (line ∷ lines) = ap (λ (fs : List Fate). fate_by (passes test (directive_at block line)) line ∷ fs) (dropping-fates test (block_after_line block line) lines)
+dropping-right : (test : Directive → Bool) (block : Option Placed) (lines : List (Line Placed)) → AreRightFrom block lines → AreRightTo block (kept (dropping_from test block lines)) (block_after_lines block lines)
+dropping-right test block [] right = (tt, refl)
+dropping-right test block (line ∷ lines) right =
+    let behind : Option Placed = block_after_line block line in
+    let rest = dropping-right test behind lines right.1 in
+    elim (cases_Bool (passes test (directive_at block line))) [
+      | inl hit ↦ rw hit (subst (λ (b : Option Placed). AreRightTo b (kept (dropping_from test behind lines)) (block_after_lines behind lines)) (passing-level test block line hit) rest)
+      | inr miss ↦ rw miss ((right.0, rest.0), rest.1)
+    ]
 
-pub gone-line : (test : Directive → Bool) (block : Option Placed) (line : Line Placed) (held : Option Directive) → directive_at block line ≡ held → passes test held ≡ true → passes is_module held ≡ false → IsGone block line
-gone-line test block line None is e other = absurd cc
-gone-line test block line (Some d) is e other = record { level = entry-behind block line d is; other = ap (passes is_module) is ∙ other }
+renewing-right : (test : Directive → Bool) (said : Directive) (make : Option Placed → Line Placed → Line Placed) → Makes test said make → (block : Option Placed) (lines : List (Line Placed)) → AreRightFrom block lines
+    → AreRightTo block (kept (renewing_from test make block lines)) (block_after_lines block lines)
+renewing-right test said make makes block [] right = (tt, refl)
+renewing-right test said make makes block (line ∷ lines) right =
+    let behind : Option Placed = block_after_line block line in
+    elim (cases_Bool (passes test (directive_at block line))) [
+      | inl hit ↦
+          let h = held-some test (directive_at block line) hit in
+          let made = makes block line h.0 h.1 h.2 right.0.0 in
+          let left : List (Line Placed) = kept (dropping_from test behind lines) in
+          let rest : AreRightTo block left (block_after_lines behind lines) = subst (λ (b : Option Placed). AreRightTo b left (block_after_lines behind lines)) (passing-level test block line hit) (dropping-right test behind lines right.1) in
+          rw hit (subst (λ (l : Line Placed). AreRightTo block (l ∷ left) (block_after_lines behind lines)) (sym made.is_entry) (((made.stands, made.alone), rest.0), rest.1))
+      | inr miss ↦ let rest = renewing-right test said make makes behind lines right.1 in rw miss ((right.0, rest.0), rest.1)
+    ]
 
-other-held : (test : Directive → Bool) → ((d : Directive) → test d ≡ true → is_module d ≡ false) → (held : Option Directive) → passes test held ≡ true → passes is_module held ≡ false
-other-held test other None e = refl
-other-held test other (Some d) e = other d e
+left-right : (fates : List Fate) → AreRightTo None (kept fates) None → AreRightTo None (remaining fates) None
+left-right fates right = let left = remaining-left fates in (fewer-all IsRightLine left.0 right.0, left.1 right.1)
 
--- what is kept without effect clashes with nothing
-mild-kept : (held : Option Directive) → passes (do_clash Kept) held ≡ false
-mild-kept None = refl
-mild-kept (Some d) = refl
+-- ---- the directives
 
-dropping-marked : (test : Directive → Bool) → ((d : Directive) → test d ≡ true → is_module d ≡ false) → (block : Option Placed) (lines : List (Line Placed)) → AreMarked Kept true block (dropping test block lines)
-dropping-marked test other block [] = tt
-dropping-marked test other block (line ∷ lines) = elim (cases_Bool (passes test (directive_at block line))) [
-  | inl holds ↦ rw holds (gone-line test block line (directive_at block line) refl holds (other-held test other (directive_at block line) holds), dropping-marked test other (block_after_line block line) lines)
-  | inr fails ↦ rw fails (inl (refl, mild-kept (directive_at block line), dropping-marked test other (block_after_line block line) lines))
+filter-any : (p q : Directive → Bool) (ds : List Directive) → list_any p ds ≡ false → list_any p (filter q ds) ≡ false
+filter-any p q [] none = refl
+filter-any p q (d ∷ ds) none =
+    let parts = or_parts (p d) (list_any p ds) none in
+    elim (cases_Bool (q d)) [
+      | inl hit ↦ ap (list_any p) (filter-one q d ds hit) ∙ or_from (p d) (list_any p (filter q ds)) parts.0 (filter-any p q ds parts.1)
+      | inr miss ↦ ap (list_any p) (filter-none q d ds miss) ∙ filter-any p q ds parts.1
+    ]
+
+apart-filter : (q : Directive → Bool) (ds : List Directive) → AreApart ds → AreApart (filter q ds)
+apart-filter q [] apart = tt
+apart-filter q (d ∷ ds) apart = elim (cases_Bool (q d)) [
+  | inl hit ↦ subst AreApart (sym (filter-one q d ds hit)) (filter-any (do_clash d) q ds apart.0, apart-filter q ds apart.1)
+  | inr miss ↦ subst AreApart (sym (filter-none q d ds miss)) (apart-filter q ds apart.1)
 ]
 
-pub dropped-sound : (test : Directive → Bool) → ((d : Directive) → test d ≡ true → is_module d ≡ false) → (lines : List (Line Placed)) → IsSound lines → IsSound (dropped test lines)
-dropped-sound test other lines sound =
-    let marks : List Marked = dropping test None lines in
-    let left = left-sound Kept true (remaining (fates_in marks)) (lines_in marks) (remaining-lines Kept marks true (dropping-marked test other None lines)) in
-    subst (λ (fates : List Fate). IsSound (remaining fates)) (dropping-fates test None lines) (left (subst IsSound (sym (dropping-lines test None lines)) sound))
+or-front : (a b c x : Bool) → x ≡ (b || c) → (a || x) ≡ ((a || b) || c)
+or-front true b c x e = refl
+or-front false b c x e = e
+
+or-middle : (a b c x : Bool) → x ≡ (b || c) → (a || x) ≡ (b || (a || c))
+or-middle true true c x e = refl
+or-middle true false c x e = refl
+or-middle false b c x e = e
+
+-- what passes is among the targeted or the others
+any-parts : (test p : Directive → Bool) (ds : List Directive) → list_any p ds ≡ (list_any p (filter test ds) || list_any p (filter (others test) ds))
+any-parts test p [] = refl
+any-parts test p (d ∷ ds) = elim (cases_Bool (test d)) [
+  | inl hit ↦ rw hit (or-front (p d) (list_any p (filter test ds)) (list_any p (filter (others test) ds)) (list_any p ds) (any-parts test p ds))
+  | inr miss ↦ rw miss (or-middle (p d) (list_any p (filter test ds)) (list_any p (filter (others test) ds)) (list_any p ds) (any-parts test p ds))
+]
+
+-- of the targeted directives there is the new one alone, and the others are apart
+pub new-apart : (test : Directive → Bool) (new : Directive) → ((d : Directive) → test d ≡ false → do_clash new d ≡ false) → (ds : List Directive) → filter test ds ≡ new ∷ [] → AreApart (filter (others test) ds) → AreApart ds
+new-apart test new mild [] alone apart = tt
+new-apart test new mild (d ∷ ds) alone apart = elim (cases_Bool (test d)) [
+  | inl hit ↦
+      let whole : d ∷ filter test ds ≡ new ∷ [] = sym (filter-one test d ds hit) ∙ alone in
+      let same : d ≡ new = cc in
+      let none : filter test ds ≡ [] = cc in
+      let rest = only-others ds (none-any test ds none) in
+      (subst (λ (x : Directive). list_any (do_clash x) ds ≡ false) (sym same) (mild-all ds (none-any test ds none)), subst AreApart rest (subst AreApart (filter-none (others test) d ds (ap not hit)) apart))
+  | inr miss ↦
+      let one : filter test ds ≡ new ∷ [] = sym (filter-none test d ds miss) ∙ alone in
+      let both : AreApart (d ∷ filter (others test) ds) = subst AreApart (filter-one (others test) d ds (ap not miss)) apart in
+      let fresh : do_clash d new ≡ false = clash-mutual d new ∙ mild d miss in
+      (any-parts test (do_clash d) ds ∙ or_from (list_any (do_clash d) (filter test ds)) (list_any (do_clash d) (filter (others test) ds)) (ap (list_any (do_clash d)) one ∙ or_from (do_clash d new) false fresh refl) both.0, new-apart test new mild ds one both.1)
+]
+  where
+    only-others : (es : List Directive) → list_any test es ≡ false → filter (others test) es ≡ es
+    only-others [] none = refl
+    only-others (e ∷ es) none = let parts = or_parts (test e) (list_any test es) none in filter-one (others test) e es (ap not parts.0) ∙ ap (λ (xs : List Directive). e ∷ xs) (only-others es parts.1)
+
+    mild-all : (es : List Directive) → list_any test es ≡ false → list_any (do_clash new) es ≡ false
+    mild-all [] none = refl
+    mild-all (e ∷ es) none = let parts = or_parts (test e) (list_any test es) none in or_from (do_clash new e) (list_any (do_clash new) es) (mild e parts.0) (mild-all es parts.1)
+
+-- if no targeted directive declares a module, one of the others does
+others-declared : (test : Directive → Bool) → ((d : Directive) → test d ≡ true → is_module d ≡ false) → (ds : List Directive) → list_any is_module ds ≡ true → list_any is_module (filter (others test) ds) ≡ true
+others-declared test other ds some =
+    ap (λ (b : Bool). b || list_any is_module (filter (others test) ds)) (sym (none ds)) ∙ sym (any-parts test is_module ds) ∙ some
+  where
+    none : (es : List Directive) → list_any is_module (filter test es) ≡ false
+    none [] = refl
+    none (e ∷ es) = elim (cases_Bool (test e)) [
+      | inl hit ↦ ap (list_any is_module) (filter-one test e es hit) ∙ or_from (is_module e) (list_any is_module (filter test es)) (other e hit) (none es)
+      | inr miss ↦ ap (list_any is_module) (filter-none test e es miss) ∙ none es
+    ]
+
+-- ---- both
+
+sound-by : (lines : List (Line Placed)) → AreRightTo None lines None → AreApart (held_from None lines) → list_any is_module (held_from None lines) ≡ true → IsSound lines
+sound-by lines right apart declared = record {
+  lines_are = record { right = right.0; apart = subst AreApart (sym (held-is None lines)) apart; declared = ap (list_any is_module) (held-is None lines) ∙ declared };
+  closed = right.1;
+}
+
+module _ (test : Directive → Bool) (lines : List (Line Placed)) (sound : IsSound lines) where
+  abbrev ds : List Directive
+  ds = held_from None lines
+
+  rest-apart : AreApart (filter (others test) ds)
+  rest-apart = apart-filter (others test) ds (subst AreApart (held-is None lines) sound.lines_are.apart)
+
+  declared : list_any is_module ds ≡ true
+  declared = sym (ap (list_any is_module) (held-is None lines)) ∙ sound.lines_are.declared
+
+  pub dropped-sound : ((d : Directive) → test d ≡ true → is_module d ≡ false) → IsSound (dropped test lines)
+  dropped-sound other =
+      let held : held_from None (dropped test lines) ≡ filter (others test) ds = dropped-held test lines in
+      let right = dropping-right test None lines sound.lines_are.right in
+      sound-by (dropped test lines) (left-right (dropping_from test None lines) (right.0, right.1 ∙ sound.closed)) (subst AreApart (sym held) rest-apart)
+      (ap (list_any is_module) held ∙ others-declared test other ds declared)
+
+  pub renewed-sound : (said : Directive) (make : Option Placed → Line Placed → Line Placed) → IsRenewal test said make → is_there test lines ≡ true → IsSound (renewed test make lines)
+  renewed-sound said make by there =
+      let after : List Directive = held_from None (renewed test make lines) in
+      let rest : filter (others test) after ≡ filter (others test) ds = renewed-others test said make by.wanted.own by.made lines sound in
+      let alone : filter test after ≡ said ∷ [] = renewed-alone test said make by.wanted.own by.made lines sound there in
+      let right = renewing-right test said make by.made None lines sound.lines_are.right in
+      let some : ((is_module said || false) || list_any is_module (filter (others test) after)) ≡ true = elim (cases_Bool (is_module said)) [
+        | inl declares ↦ rw declares refl
+        | inr other ↦ rw other (ap (list_any is_module) rest ∙ others-declared test (λ d e. by.other d e ∙ other) ds declared)
+      ] in
+      sound-by (renewed test make lines) (left-right (renewing_from test make None lines) (right.0, right.1 ∙ sound.closed))
+      (new-apart test said by.wanted.mild after alone (subst AreApart (sym rest) rest-apart))
+      (any-parts test is_module after ∙ ap (λ (es : List Directive). list_any is_module es || list_any is_module (filter (others test) after)) alone ∙ some)

@@ -1,5 +1,5 @@
 -- The lines after an operation are a document without a fault.
-use Rattle.std.proofs.Common.{◌≡◌, ℕ, ◌==◌, ◌||◌, not, Bool, true, false, List, [], ◌∷◌, Option, Some, None, refl, sym, ap, ◌∙◌, arith, inl, inr}
+use Rattle.std.proofs.Common.{◌≡◌, ℕ, ◌||◌, Bool, true, false, List, [], ◌∷◌, Option, Some, None, is_some, subst, refl, sym, ap, ◌∙◌, arith, inl, inr}
 use Rattle.std.specs.Prelude.{codes}
 use Rattle.std.specs.Option.{option_to_list}
 use Rattle.std.specs.List.{list_any}
@@ -16,32 +16,30 @@ use Rattle.gm_syntax.specs.Document.{Line, Entry, IsValidLine, IsDocument}
 use Rattle.gm_syntax.specs.LineViews.{plain, plain_lines}
 use Rattle.gm_syntax.proofs.NewWords.{mark_stands}
 use Rattle.gm_syntax.proofs.Changes.{entry_stands}
-use Rattle.gm_name.specs.Names.{does_fit}
 use Rattle.gm_name.specs.ModuleVersion.{ModuleVersion}
-use Rattle.gm_file.specs.Directives.{Strict, VersionInterval, Replacing, Directive, DeclaresModule, DeclaresGo, Requires, Excludes, Replaces, Retracts, ForModule, ForGo, ForRequire, ForExclude, ForRetract, block_after_line, directive_of, verb_eq, verb_in}
-use Rattle.gm_file.specs.Faults.{directive_kinds, fault_of, is_go, is_module}
+use Rattle.gm_file.specs.declared.verb.Verb.TheVariants.{Module as ForModule, Go as ForGo, Require as ForRequire, Exclude as ForExclude, Retract as ForRetract}
+use Rattle.gm_file.specs.Directives.{Strict, VersionInterval, Directive, DeclaresGo, Requires, Excludes, Replaces, Retracts, block_after_line, directive_of, main_verb, verb_eq}
+use Rattle.gm_file.specs.Faults.{fault_of, is_module}
 use Rattle.gm_file.specs.Pairwise.{do_clash}
-use Rattle.gm_file.proofs.Pairwise.{never}
-use Rattle.gm_file_edit.specs.declared.adding.AddedVerb.{AddedVerb}
-use Rattle.gm_file_edit.specs.declared.adding.AddedVerb.TheVariants as verb
-use Rattle.gm_file_edit.specs.Edits.{Edit, Target, Set, ModuleIs, GoIs, RequireAt, Drop, AnyRequire, Add, Exclude, ReplaceWith, Retract}
-use Rattle.gm_file_edit.specs.About.{about, is_replaced_by, requires_path}
-use Rattle.gm_file_edit.specs.Adding.{verb_text}
-use Rattle.gm_file_edit.specs.Edited.{changed, edited, put_in}
-use Rattle.gm_file_edit.specs.Kinds.{is_fit}
+use Rattle.gm_file.specs.GoVersions.{strict_go}
+use Rattle.gm_file_edit.specs.Edits.{has_byte, Edit, Target, Set, ModuleIs, GoIs, RequireAt, Drop, AnyRequire, Add, Exclude, ReplaceWith, Retract}
+use Rattle.gm_file_edit.specs.About.{about}
+use Rattle.gm_file_edit.specs.Edited.{added, after_first_that, changed, edited, new_entry, new_go, put_in}
+use Rattle.gm_file_edit.specs.Kinds.{directive_set, is_fit}
 use Rattle.gm_file_edit.specs.Holding.{directive_at, passes}
 use Rattle.gm_file_edit.specs.NewWords.{interval_words, made_word, pair_words, replace_words, single}
-use Rattle.gm_file_edit.specs.Renewing.{with_arguments, with_last}
+use Rattle.gm_file_edit.specs.Renewing.{made_new}
 use Rattle.gm_file_edit.specs.Searching.{is_there, is_there_from}
 use Rattle.gm_file_edit.specs.Sound.{AreVersions, IsPairOfNames, IsSoundEdit}
-use Rattle.gm_file_edit.proofs.AddingSound.{IsAddition, added-sound, after-first-sound, held_from, single-fits}
-use Rattle.gm_file_edit.proofs.Drops.{dropped-sound}
-use Rattle.gm_file_edit.proofs.Feeds.{go-feed, no-feed, path-feed, version-feed}
+use Rattle.gm_file_edit.proofs.AddingSound.{Fits, IsAddition, IsNewTo, added-sound, after-first-sound, held_from, single-fits}
+use Rattle.gm_file_edit.proofs.Drops.{dropped-sound, renewed-sound}
+use Rattle.gm_file_edit.proofs.Feeds.{byte-feed, go-feed, path-feed, version-feed}
 use Rattle.gm_file_edit.proofs.Made.{AreArguments, made-no-mark, made-stands, made-value, one-are, open-behind}
-use Rattle.gm_file_edit.proofs.Renewals.{go-kinds, go-renewal, go-says, module-renewal, pair-kinds, replace-are, replace-kinds, replace-mild, replace-renewal, replace-says, require-kinds, require-renewal}
-use Rattle.gm_file_edit.proofs.Renews.{renewed-sound}
+use Rattle.gm_file_edit.proofs.Renewals.{go-says, put_by, renewal, replace-are, replace-says, wanted}
 use Rattle.gm_file_edit.proofs.Pairs.{IsSound, document-sound, sound-document}
-use Rattle.gm_file_edit.proofs.Targets.{about-module, added_verb, verb_about}
+use Rattle.gm_file_edit.specs.Keys.{verb_sought}
+use Rattle.gm_file_edit.proofs.Targets.{about-module}
+use Rattle.std.proofs.lemmas.Option.{same_Some}
 
 -- ---- if no entry is targeted
 
@@ -72,7 +70,7 @@ entry-inside arguments are = entry_stands true (words_of arguments) None (record
   closes_nothing = are.closes_nothing;
 })
 
-pub entry-alone : (text : List ℕ) (arguments : List Placed) → HasNoLineFeed text → AreArguments arguments → IsValidLine false (plain (single text arguments))
+entry-alone : (text : List ℕ) (arguments : List Placed) → HasNoLineFeed text → AreArguments arguments → IsValidLine false (plain (single text arguments))
 entry-alone text arguments plain_text are = entry_stands false (new_word text ∷ words_of arguments) None (record {
   are_words = (made-stands text plain_text, are.words);
   is_suffix = tt;
@@ -81,16 +79,12 @@ entry-alone text arguments plain_text are = entry_stands false (new_word text �
   closes_nothing = made-no-mark 41 text;
 })
 
-verb-feed : (v : AddedVerb) → HasNoLineFeed (verb_text v)
-verb-feed verb.Require = no-feed (λ b. not (b == 10)) refl (codes "require") refl
-verb-feed verb.Exclude = no-feed (λ b. not (b == 10)) refl (codes "exclude") refl
-verb-feed verb.Replace = no-feed (λ b. not (b == 10)) refl (codes "replace") refl
-verb-feed verb.Retract = no-feed (λ b. not (b == 10)) refl (codes "retract") refl
+addition : (verb : List ℕ) (arguments : List Placed) (new : Directive) → has_byte 10 verb ≡ false → main_verb (new_word verb).spelling ≡ main_verb verb → AreArguments arguments
+    → directive_of (main_verb verb) (words_of arguments) ≡ Some new → IsAddition verb arguments new
+addition verb arguments new feed written are says =
+    record { inside = entry-inside arguments are; alone = entry-alone verb arguments (byte-feed verb feed) are; written = written; filled = are.no_block; says = says }
 
-pub addition : (v : AddedVerb) (arguments : List Placed) (new : Directive) → AreArguments arguments → directive_of (added_verb v) (words_of arguments) ≡ Some new → IsAddition v arguments new
-addition v arguments new are says = record { inside = entry-inside arguments are; alone = entry-alone (verb_text v) arguments (verb-feed v) are; filled = are.no_block; says = says }
-
-pub pair-are : (p : ModuleVersion) → IsPairOfNames p → AreArguments (pair_words p)
+pair-are : (p : ModuleVersion) → IsPairOfNames p → AreArguments (pair_words p)
 pair-are p names = record {
   words = (made-stands p.0 (path-feed p.0 names.0), (made-stands p.1 (version-feed p.1 names.1), tt));
   filled = omega arith;
@@ -99,23 +93,15 @@ pair-are p names = record {
   no_block = rw (made-no-mark 40 p.0) refl;
 }
 
-pub require-says : (p : ModuleVersion) → IsPairOfNames p → directive_of ForRequire (words_of (pair_words p)) ≡ Some (Requires p)
+require-says : (p : ModuleVersion) → IsPairOfNames p → directive_of ForRequire (words_of (pair_words p)) ≡ Some (Requires p)
 unfolding directive_of
 require-says p names = rw (made-value p.0 (path-feed p.0 names.0), made-value p.1 (version-feed p.1 names.1)) refl
 
-pub exclude-says : (p : ModuleVersion) → IsPairOfNames p → directive_of ForExclude (words_of (pair_words p)) ≡ Some (Excludes p)
+exclude-says : (p : ModuleVersion) → IsPairOfNames p → directive_of ForExclude (words_of (pair_words p)) ≡ Some (Excludes p)
 unfolding directive_of
 exclude-says p names = rw (made-value p.0 (path-feed p.0 names.0), made-value p.1 (version-feed p.1 names.1)) refl
 
-exclude-kinds : (p : ModuleVersion) → IsPairOfNames p → does_fit p.0 p.1 ≡ true → directive_kinds Strict [] (Excludes p) ≡ []
-unfolding directive_kinds
-exclude-kinds p names fit = pair-kinds p names fit
-
-ends-kinds : (ends : VersionInterval) → AreVersions ends → directive_kinds Strict [] (Retracts ends) ≡ []
-unfolding directive_kinds
-ends-kinds ends are = rw (are.0, are.1) refl
-
-pub ends-are : (ends : VersionInterval) → AreVersions ends → AreArguments (interval_words ends)
+ends-are : (ends : VersionInterval) → AreVersions ends → AreArguments (interval_words ends)
 ends-are ends are =
     let low = version-feed ends.0 are.0 in
     let high = version-feed ends.1 are.1 in
@@ -130,7 +116,7 @@ ends-are ends are =
       })
     ]
 
-pub ends-says : (ends : VersionInterval) → AreVersions ends → directive_of ForRetract (words_of (interval_words ends)) ≡ Some (Retracts ends)
+ends-says : (ends : VersionInterval) → AreVersions ends → directive_of ForRetract (words_of (interval_words ends)) ≡ Some (Retracts ends)
 unfolding directive_of
 ends-says ends are =
     let low = made-value ends.0 (version-feed ends.0 are.0) in
@@ -140,58 +126,86 @@ ends-says ends are =
       | inr apart ↦ rw (apart, low, high) refl
     ]
 
-pub go-named : verb_in Strict (new_word (codes "go")).spelling ≡ ForGo
+-- the new go directive
+pub go-fits : (text : List ℕ) → is_some (strict_go text) ≡ true → Fits None (DeclaresGo text) (single (codes "go") (made_word text ∷ []))
 unfolding can_be_bare bare_len is_word_byte is_blank is_bracket_or_comma is_quote is_bad
-go-named = refl
+go-fits text good =
+    let are : AreArguments (made_word text ∷ []) = one-are text (go-feed text good) in
+    single-fits (codes "go") ForGo (made_word text ∷ []) (DeclaresGo text) refl refl (go-says text (go-feed text good)) (entry-alone (codes "go") (made_word text ∷ []) (byte-feed (codes "go") refl) are)
+
+-- the new entry of an operation says what it sets or adds
+pub record Says (edit : Edit) (entry : List ℕ × List Placed) : Type 0 where
+  pub new : Directive
+  pub put : put_by edit ≡ Some new
+  pub is : IsAddition entry.0 entry.1 new
+
+pub says : (edit : Edit) (entry : List ℕ × List Placed) → new_entry edit ≡ Some entry → IsSoundEdit edit → Says edit entry
+unfolding can_be_bare bare_len is_word_byte is_blank is_bracket_or_comma is_quote is_bad
+says (Set (ModuleIs path)) entry e good = absurd cc
+says (Set (GoIs text)) entry e good = absurd cc
+says (Set (RequireAt p)) entry e good =
+    subst (Says (Set (RequireAt p))) (same_Some _ _ e) (record { new = Requires p; put = refl; is = addition (codes "require") (pair_words p) (Requires p) refl refl (pair-are p good) (require-says p good) })
+says (Set (ReplaceWith r)) entry e good =
+    subst (Says (Set (ReplaceWith r))) (same_Some _ _ e)
+    (record { new = Replaces r; put = refl; is = addition (codes "replace") (replace_words r) (Replaces r) refl refl (replace-are r good.0 good.1) (replace-says r good.0 good.1) })
+says (Add (Exclude p)) entry e good =
+    subst (Says (Add (Exclude p))) (same_Some _ _ e) (record { new = Excludes p; put = refl; is = addition (codes "exclude") (pair_words p) (Excludes p) refl refl (pair-are p good) (exclude-says p good) })
+says (Add (Retract ends)) entry e good =
+    subst (Says (Add (Retract ends))) (same_Some _ _ e)
+    (record { new = Retracts ends; put = refl; is = addition (codes "retract") (interval_words ends) (Retracts ends) refl refl (ends-are ends good) (ends-says ends good) })
+says (Drop t) entry e good = absurd cc
+
+-- what holds of each form of what an operation puts in
+pub by-put : (P : Edit → List (Line Placed) → Type 0) (lines : List (Line Placed)) → ((path : List ℕ) → P (Set (ModuleIs path)) lines) → ((text : List ℕ) → P (Set (GoIs text)) (after_first_that is_module (new_go text) lines))
+    → ((edit : Edit) (entry : List ℕ × List Placed) → new_entry edit ≡ Some entry → P edit (added entry.0 entry.1 lines)) → ((t : Target) → P (Drop t) lines) → (edit : Edit) → P edit (put_in edit lines)
+unfolding put_in
+by-put P lines module_is go_is entry drop (Set (ModuleIs path)) = module_is path
+by-put P lines module_is go_is entry drop (Set (GoIs text)) = go_is text
+by-put P lines module_is go_is entry drop (Set (RequireAt p)) = entry (Set (RequireAt p)) _ refl
+by-put P lines module_is go_is entry drop (Set (ReplaceWith r)) = entry (Set (ReplaceWith r)) _ refl
+by-put P lines module_is go_is entry drop (Add (Exclude p)) = entry (Add (Exclude p)) _ refl
+by-put P lines module_is go_is entry drop (Add (Retract ends)) = entry (Add (Retract ends)) _ refl
+by-put P lines module_is go_is entry drop (Drop t) = drop t
 
 -- ---- the lines after an operation
 
-changed-sound : (edit : Edit) (lines : List (Line Placed)) → IsSoundEdit edit → is_fit edit ≡ true → IsSound lines → IsSound (changed edit lines)
+changed-sound : (edit : Edit) (lines : List (Line Placed)) → IsSoundEdit edit → is_fit edit ≡ true → is_there (about edit) lines ≡ true → IsSound lines → IsSound (changed edit lines)
 unfolding changed
-changed-sound (Set (ModuleIs path)) lines good fit sound = renewed-sound is_module (DeclaresModule path) (with_last path) (module-renewal path good) lines sound
-changed-sound (Set (GoIs text)) lines good fit sound = renewed-sound is_go (DeclaresGo text) (with_last text) (go-renewal text good) lines sound
-changed-sound (Set (RequireAt p)) lines good fit sound = renewed-sound (requires_path p.0) (Requires p) (with_last p.1) (require-renewal p good fit) lines sound
-changed-sound (Set (ReplaceWith r)) lines good fit sound = renewed-sound (is_replaced_by r.0) (Replaces r) (with_arguments (replace_words r)) (replace-renewal r good.0 good.1 fit) lines sound
-changed-sound (Add a) lines good fit sound = sound
-changed-sound (Drop t) lines good fit sound = dropped-sound (about (Drop t)) (λ d e. about-module (Drop t) d e ∙ no-module t) lines sound
+changed-sound (Set s) lines good fit there sound = renewed-sound (about (Set s)) lines sound (directive_set s) (made_new (Set s)) (renewal s good fit) there
+changed-sound (Add a) lines good fit there sound = sound
+changed-sound (Drop t) lines good fit there sound = dropped-sound (about (Drop t)) lines sound (λ d e. about-module (Drop t) d e ∙ no-module t)
   where
-    no-module : (t : Target) → verb_eq ForModule (verb_about (Drop t)) ≡ false
+    no-module : (t : Target) → verb_eq ForModule (verb_sought (Drop t)) ≡ false
     no-module (AnyRequire path) = refl
     no-module t = refl
 
--- if no replace is superseded by the new one, none conflicts with it
-no-conflicts : (r : Replacing) (ds : List Directive) → list_any (is_replaced_by r.0) ds ≡ false → list_any (do_clash (Replaces r)) ds ≡ false
-no-conflicts r [] e = refl
-no-conflicts r (d ∷ ds) e =
-    let parts = or_parts (is_replaced_by r.0 d) (list_any (is_replaced_by r.0) ds) e in
-    or_from (do_clash (Replaces r) d) (list_any (do_clash (Replaces r)) ds) (replace-mild r d parts.0) (no-conflicts r ds parts.1)
+-- a test that passes no more directives than another passes none where that passes none
+pub fewer-any : (test fewer : Directive → Bool) → ((d : Directive) → test d ≡ false → fewer d ≡ false) → (ds : List Directive) → list_any test ds ≡ false → list_any fewer ds ≡ false
+fewer-any test fewer less [] e = refl
+fewer-any test fewer less (d ∷ ds) e =
+    let parts = or_parts (test d) (list_any test ds) e in
+    or_from (fewer d) (list_any fewer ds) (less d parts.0) (fewer-any test fewer less ds parts.1)
 
-put-sound : (edit : Edit) (lines : List (Line Placed)) → IsSoundEdit edit → is_fit edit ≡ true → is_there (about edit) lines ≡ false → IsSound lines → IsSound (put_in edit lines)
-unfolding put_in
-put-sound (Set (ModuleIs path)) lines good fit none sound = sound
-put-sound (Set (GoIs text)) lines good fit none sound =
-    let plain_text = go-feed text good in
-    let arguments : List Placed = made_word text ∷ [] in
-    let are : AreArguments arguments = one-are text plain_text in
-    let alone = entry-alone (codes "go") arguments (no-feed (λ b. not (b == 10)) refl (codes "go") refl) are in
-    after-first-sound is_module (DeclaresGo text) (single (codes "go") arguments) lines
-    (single-fits (codes "go") ForGo arguments (DeclaresGo text) go-named refl (go-says text plain_text) alone) (go-kinds text good, none-from is_go None lines none) sound
-put-sound (Set (RequireAt p)) lines good fit none sound =
-    added-sound verb.Require (pair_words p) (Requires p) lines (addition verb.Require (pair_words p) (Requires p) (pair-are p good) (require-says p good)) (require-kinds p good fit, never (do_clash (Requires p)) (held_from None lines) (λ d. refl)) sound
-put-sound (Set (ReplaceWith r)) lines good fit none sound =
-    added-sound verb.Replace (replace_words r) (Replaces r) lines (addition verb.Replace (replace_words r) (Replaces r) (replace-are r good.0 good.1) (replace-says r good.0 good.1))
-    (replace-kinds r good.0 good.1 fit, no-conflicts r (held_from None lines) (none-from (is_replaced_by r.0) None lines none)) sound
-put-sound (Add (Exclude p)) lines good fit none sound =
-    added-sound verb.Exclude (pair_words p) (Excludes p) lines (addition verb.Exclude (pair_words p) (Excludes p) (pair-are p good) (exclude-says p good)) (exclude-kinds p good fit, never (do_clash (Excludes p)) (held_from None lines) (λ d. refl)) sound
-put-sound (Add (Retract ends)) lines good fit none sound =
-    added-sound verb.Retract (interval_words ends) (Retracts ends) lines (addition verb.Retract (interval_words ends) (Retracts ends) (ends-are ends good) (ends-says ends good)) (ends-kinds ends good, never (do_clash (Retracts ends)) (held_from None lines) (λ d. refl)) sound
-put-sound (Drop t) lines good fit none sound = sound
+-- what an operation puts in is new to lines of which it targets none
+put-new : (edit : Edit) (new : Directive) (lines : List (Line Placed)) → put_by edit ≡ Some new → IsSoundEdit edit → is_fit edit ≡ true → is_there (about edit) lines ≡ false → IsNewTo (held_from None lines) new
+put-new edit new lines put good fit none =
+    let by = wanted edit new put good fit in
+    (by.kinds, fewer-any (about edit) (do_clash new) by.mild (held_from None lines) (none-from (about edit) None lines none))
+
+put-sound : (lines : List (Line Placed)) → IsSound lines → (edit : Edit) → IsSoundEdit edit → is_fit edit ≡ true → is_there (about edit) lines ≡ false → IsSound (put_in edit lines)
+put-sound lines sound = by-put (λ edit after. IsSoundEdit edit → is_fit edit ≡ true → is_there (about edit) lines ≡ false → IsSound after) lines
+    (λ path good fit none. sound)
+    (λ text good fit none. after-first-sound is_module (DeclaresGo text) (single (codes "go") (made_word text ∷ [])) lines (go-fits text good) (put-new (Set (GoIs text)) (DeclaresGo text) lines refl good fit none) sound)
+    (λ edit entry is good fit none.
+    let by = says edit entry is good in
+    added-sound entry.0 entry.1 by.new lines by.is (put-new edit by.new lines by.put good fit none) sound)
+    (λ t good fit none. sound)
 
 pass-sound : (edit : Edit) (lines : List (Line Placed)) → IsSoundEdit edit → is_fit edit ≡ true → IsSound lines → IsSound (edited edit lines)
 unfolding edited
 pass-sound edit lines good fit sound = elim (cases_Bool (is_there (about edit) lines)) [
-  | inl there ↦ rw there (changed-sound edit lines good fit sound)
-  | inr none ↦ rw none (put-sound edit lines good fit none sound)
+  | inl there ↦ rw there (changed-sound edit lines good fit there sound)
+  | inr none ↦ rw none (put-sound lines sound edit good fit none)
 ]
 
 pub edited-sound : (edit : Edit) (lines : List (Line Placed)) → IsSoundEdit edit → is_fit edit ≡ true → IsSound lines → IsSound (edited edit lines)

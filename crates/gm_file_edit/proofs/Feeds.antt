@@ -4,7 +4,7 @@ use Rattle.std.specs.Prelude.{◌||◌, if◌then◌else◌, ◌⊎◌}
 use Rattle.std.specs.Char.{is_ascii_digit, is_ascii_lowercase}
 use Rattle.std.specs.List.{list_all, prefix_len}
 use Rattle.std.specs.Str.Parse.{digits_value}
-use Rattle.std.proofs.lemmas.Bool.{cases_Bool, true≢false}
+use Rattle.std.proofs.lemmas.Bool.{cases_Bool, or_cases, or_parts, true≢false}
 use Rattle.std.proofs.lemmas.Bool.Decides.{nat_tests}
 use Rattle.std.proofs.lemmas.List.{take-append-drop}
 use Rattle.std.proofs.lemmas.List.Folds.{length-prefix_len}
@@ -19,10 +19,6 @@ use Rattle.gm_name.proofs.NameTests.{and_both, path-tested, version-tested}
 use Rattle.gm_file.specs.Values.{both}
 use Rattle.gm_file_edit.specs.Edits.{has_byte}
 use Rattle.gm_file.specs.GoVersions.{after_dot, before_dot, first_number, has_dot, is_go_suffix, last_number, numbers, second_number, small_number, strict_go}
-
-or-false : (a b : Bool) → (a || b) ≡ false → (a ≡ false) × (b ≡ false)
-or-false true b e = absurd cc
-or-false false b e = (refl, e)
 
 pub no-feed : (test : ℕ → Bool) → test 10 ≡ false → (text : List ℕ) → list_all test text ≡ true → HasNoLineFeed text
 no-feed test fails [] all = tt
@@ -46,7 +42,7 @@ version-feed text h = version-plain text ((version-tested text).0 h)
 pub byte-feed : (text : List ℕ) → has_byte 10 text ≡ false → HasNoLineFeed text
 byte-feed [] e = tt
 byte-feed (b ∷ text) e =
-    let parts = or-false (b == 10) (has_byte 10 text) e in
+    let parts = or_parts (b == 10) (has_byte 10 text) e in
     ((λ is. true≢false (sym (ap (λ (x : ℕ). x == 10) is) ∙ parts.0)), byte-feed text parts.1)
 
 -- ---- go versions
@@ -92,10 +88,6 @@ empty-feed : (text : List ℕ) → length text ≡ 0 → HasNoLineFeed text
 empty-feed [] e = tt
 empty-feed (b ∷ text) e = absurd cc
 
-or-true : (a b : Bool) → (a || b) ≡ true → (a ≡ true) ⊎ (b ≡ true)
-or-true true b e = inl refl
-or-true false b e = inr e
-
 behind-feed : (test : ℕ → Bool) → test 10 ≡ false → (text : List ℕ) → HasNoLineFeed (drop (length (take_while test text)) text) → HasNoLineFeed text
 behind-feed test fails text back =
     cut-feed (prefix_len test text) text (while-feed test fails text) (subst (λ (k : ℕ). HasNoLineFeed (drop k text)) (length-prefix_len test text) back)
@@ -106,7 +98,7 @@ suffix-feed text e =
     let letters : List ℕ = take_while is_ascii_lowercase text in
     let some : Bool = nat_lt 0 (length letters) && nat_lt (length letters) (length text) in
     let digits : Bool = list_all is_ascii_digit (drop (length letters) text) in
-    elim (or-true (length text == 0) (some && digits) e) [
+    elim (or_cases (length text == 0) (some && digits) e) [
       | inl none ↦ let zero : length text ≡ 0 = grind (arith, nat_tests) in empty-feed text zero
       | inr rest ↦ behind-feed is_ascii_lowercase refl text (no-feed is_ascii_digit refl (drop (length letters) text) (and_both some digits rest).1)
     ]

@@ -13,10 +13,7 @@ use Rattle.gm_file_edit.specs.GoPlace.{GoFollowsModule, GoFollowsModuleBlock, Is
 use Rattle.gm_file_edit.specs.Laws.{directives_of}
 use Rattle.gm_file_edit.specs.Searching.{is_there, is_there_from}
 use Rattle.gm_file_edit.proofs.Idle.{there-said}
-
-or-none : (a b : Bool) → (a || b) ≡ false → (a ≡ false) × (b ≡ false)
-or-none true b e = absurd cc
-or-none false b e = (refl, e)
+use Rattle.std.proofs.lemmas.Bool.{or_parts}
 
 -- the lines before the first module directive stay
 first-behind : (test : Directive → Bool) (new : List (Line Placed)) (block : Option Placed) (front back : List (Line Placed)) (line : Line Placed) → is_there_from test block front ≡ false
@@ -26,7 +23,7 @@ first-behind test new block [] back line none hit =
     let held : passes test (directive_at block line) ≡ true = hit in
     rw held refl
 first-behind test new block (x ∷ front) back line none hit =
-    let parts = or-none (passes test (directive_at block x)) (is_there_from test (block_after_line block x) front) none in
+    let parts = or_parts (passes test (directive_at block x)) (is_there_from test (block_after_line block x) front) none in
     rw parts.0 (ap (λ (ls : List (Line Placed)). x ∷ ls) (first-behind test new (block_after_line block x) front back line parts.1 hit))
 
 to-closing : (new inner back : List (Line Placed)) (last : Option (List ℕ)) → list_all is_loose inner ≡ true → after_closing new (inner ++ Close last ∷ back) ≡ inner ++ Close last ∷ (new ++ back)

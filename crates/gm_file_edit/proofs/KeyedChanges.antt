@@ -2,7 +2,7 @@
 use Rattle.std.proofs.Common.{◌≡◌, ℕ, zero, suc, ◌+◌, ◌<◌, ◌≤◌, List, [], ◌∷◌, ◌++◌, length, map, take, drop, set, get_or, refl, sym, ap, ◌∙◌, arith}
 use Rattle.std.specs.Prelude.{insert}
 use Rattle.std.specs.List.{swap}
-use Rattle.std.proofs.lemmas.List.{length-map, map-set, map_more, map_push, take-map}
+use Rattle.std.proofs.lemmas.List.{drop-map, length-map, map-append, map-set, map_more, map_push, take-map}
 use Rattle.std.proofs.lemmas.List.Edits.{swap_is}
 use Rattle.std.proofs.Math.ListN.{get_or-map}
 use Rattle.gm_syntax.proofs.Edits.{map-insert}
@@ -48,6 +48,20 @@ taken lines new keys changed seen n view are cut keys_cut =
     record {
       view = seen_new;
       numbers = keys_cut ∙ ap (take n) (are ∙ ap (map key_of) view) ∙ take-map key_of n seen ∙ ap (map key_of) (sym seen_new);
+    }
+
+-- an item less, seen through a function
+map-without : {X Y : Type 0} (f : X → Y) (n : ℕ) (xs : List X) → map f (take n xs ++ drop (n + 1) xs) ≡ take n (map f xs) ++ drop (n + 1) (map f xs)
+map-without {X} {Y} f n xs =
+    map-append f (take n xs) (drop (n + 1) xs) ∙ ap (λ (ys : List Y). ys ++ map f (drop (n + 1) xs)) (sym (take-map f n xs)) ∙ ap (λ (ys : List Y). take n (map f xs) ++ ys) (sym (drop-map f (n + 1) xs))
+
+pub removed : (lines new : List declared.Line) (keys changed : List Key) (seen : List (Line Placed)) (at : ℕ) → line_views lines ≡ seen → keys ≡ map key_of (line_views lines)
+    → new ≡ take at lines ++ drop (at + 1) lines → changed ≡ take at keys ++ drop (at + 1) keys → AreKeyed new changed (take at seen ++ drop (at + 1) seen)
+removed lines new keys changed seen at view are cut keys_cut =
+    let seen_new : line_views new ≡ take at seen ++ drop (at + 1) seen = ap line_views cut ∙ map-without line_of at lines ∙ ap (λ (ls : List (Line Placed)). take at ls ++ drop (at + 1) ls) view in
+    record {
+      view = seen_new;
+      numbers = keys_cut ∙ ap (λ (ks : List Key). take at ks ++ drop (at + 1) ks) (are ∙ ap (map key_of) view) ∙ sym (map-without key_of at seen) ∙ ap (map key_of) (sym seen_new);
     }
 
 pub inserted : (lines new : List declared.Line) (keys changed : List Key) (seen : List (Line Placed)) (at : ℕ) (line : declared.Line) → line_views lines ≡ seen → keys ≡ map key_of (line_views lines)

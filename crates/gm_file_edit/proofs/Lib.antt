@@ -1,7 +1,6 @@
 pub mod Cuts
 pub mod Names
 pub mod Pairs
-pub mod Leaving
 pub mod Walking
 pub mod Drops
 pub mod Packs
@@ -34,3 +33,4 @@ pub mod Quotes
 pub mod Told
 pub mod PassedOver
 pub mod KeyedChanges
+pub mod Tails

@@ -22,7 +22,7 @@ use Rattle.gm_file.specs.Faults.{directive_kinds, is_module, item_kinds, entry_k
 use Rattle.gm_file_edit.specs.Holding.{directive_at, item_of}
 use Rattle.gm_file_edit.specs.NewWords.{made_word}
 use Rattle.gm_file_edit.specs.Renewing.{with_arguments, with_last}
-use Rattle.gm_file_edit.proofs.Leaving.{IsMadeNew}
+use Rattle.gm_file_edit.proofs.Renews.{IsMadeNew}
 use Rattle.gm_file_edit.proofs.Parts.{both-are}
 
 -- ---- new words
@@ -128,19 +128,15 @@ new-entry (Some v) verb front old arguments suffix at entry are =
 
 -- an entry whose arguments are replaced says what the new ones say
 pub entry-made : (new was : Directive) (block : Option Placed) (line next : Line Placed) (h : IsHeldBy block line was) (arguments : List Placed)
-    → directive_at block line ≡ Some was → next ≡ Entry (h.front ++ arguments) h.suffix → IsValidLine (is_some block) (plain line) → AreArguments arguments
-    → directive_of (main_verb h.verb) (words_of arguments) ≡ Some new → (is_module was ≡ true → is_module new ≡ true)
-    → directive_kinds Strict [] new ≡ []
-    → IsMadeNew new block line next
-entry-made new was block line next h arguments held is stands are says declares kinds =
+    → next ≡ Entry (h.front ++ arguments) h.suffix → IsValidLine (is_some block) (plain line) → AreArguments arguments
+    → directive_of (main_verb h.verb) (words_of arguments) ≡ Some new → directive_kinds Strict [] new ≡ []
+    → IsMadeNew new block next
+entry-made new was block line next h arguments is stands are says kinds =
     let item : item_of block (Entry (h.front ++ arguments) h.suffix) ≡ Saying h.verb (words_of arguments) = new-item block h.verb h.front arguments h.suffix h.at are.no_block in
     let stood : IsValidLine (is_some block) (plain (Entry (h.front ++ h.arguments) h.suffix)) = subst (λ (l : Line Placed). IsValidLine (is_some block) (plain l)) h.is stands in
     let old : IsEntry (words_of (h.front ++ h.arguments)) h.suffix = standing_entry (is_some block) (words_of (h.front ++ h.arguments)) h.suffix stood in
     let entry : IsEntry (words_of (h.front ++ arguments)) h.suffix = new-entry block h.verb h.front h.arguments arguments h.suffix h.at old are in
     record {
-      was = was;
-      held = held;
-      declared = declares;
       words = h.front ++ arguments;
       suffix = h.suffix;
       is_entry = is;

@@ -1,7 +1,6 @@
 -- The marks of lines, and what removing marked lines leaves.
 use Rattle.std.proofs.Common.{◌≡◌, ◌&&◌, ℕ, suc, ◌+◌, ◌<◌, ◌≤◌, not, Bool, true, false, List, [], ◌∷◌, ◌++◌, length, take, set, replicate, Option, Some, None, is_some, refl, sym, ap, subst, ◌∙◌, append_assoc, arith, inl, inr, drop, get_or}
 use Rattle.std.specs.Prelude.{take_while}
-use Rattle.std.specs.List.{prefix_len}
 use Rattle.std.proofs.lemmas.List.{drop_all, length-append}
 use Rattle.std.proofs.lemmas.Bool.{cases_Bool}
 use Rattle.gm_syntax.specs.Tokens.{Placed}
@@ -21,10 +20,10 @@ use Rattle.gm_file_edit.specs.declared.keys.Key.{Key}
 use Rattle.gm_file_edit.specs.declared.keys.Scope.{Scope}
 use Rattle.gm_file_edit.specs.declared.keys.Scope.TheVariants as scope
 use Rattle.gm_file_edit.specs.declared.keys.SoughtKey.{SoughtKey}
-use Rattle.gm_file_edit.specs.declared.verb.Verb.{Verb}
+use Rattle.gm_file.specs.declared.verb.Verb.{Verb}
 use Rattle.gm_file_edit.specs.Keys.{does_tell, key_of, may_concern, scope_after, scope_of, sought_key, verb_sought}
 use Rattle.gm_file_edit.specs.Subjects.{sought_of}
-use Rattle.gm_file_edit.proofs.Packs.{get_or-default}
+use Rattle.gm_file_edit.proofs.Packs.{first-is, first_of, get_or-default}
 use Rattle.gm_file_edit.proofs.PassedOver.{scope-next, target-by}
 use Rattle.gm_file_edit.proofs.Pairs.{AreRightFrom, IsSound}
 use Rattle.gm_file_edit.proofs.Walking.{drop-next}
@@ -169,19 +168,6 @@ pub scan-size : (edit : Edit) (whole : List (Line Placed)) (at : Scope) (n : ℕ
 scan-size edit whole at n marks so = mark-size (about edit) whole (drop n whole) so.block n marks so.marked
 
 -- ---- the first mark
-
--- the number of marks before the first
-abbrev pub first_of : List Bool → ℕ
-first_of [] = 0
-first_of (true ∷ marks) = 0
-first_of (false ∷ marks) = suc (first_of marks)
-
-pub first-is : (marks : List Bool) → length (take_while (λ mark. not mark) marks) ≡ first_of marks
-first-is [] = refl
-first-is (true ∷ marks) = refl
-first-is (false ∷ marks) =
-    let more : 1 + prefix_len (λ mark. not mark) marks ≡ suc (prefix_len (λ mark. not mark) marks) = omega arith in
-    ap (λ (n : ℕ). length (take n (false ∷ marks))) more ∙ ap suc (first-is marks)
 
 first-hit : (mark : Bool) (marks : List Bool) → mark ≡ true → first_of (mark ∷ marks) ≡ 0
 first-hit true marks e = refl

@@ -1,16 +1,14 @@
 -- Lines of which those with a mark are removed in place, step by step.
 use Rattle.std.proofs.Common.{◌≡◌, ℕ, suc, ◌+◌, ◌-◌, ◌<◌, ◌≤◌, zero, Bool, true, false, List, [], ◌∷◌, ◌++◌, length, take, drop, get_or, set, Some, refl, sym, ap, subst, drop-cons, ◌∙◌, append_assoc, arith}
-use Rattle.std.specs.List.{list_any, swap}
+use Rattle.std.specs.Prelude.{not, take_while}
+use Rattle.std.specs.List.{list_any, prefix_len, swap}
 use Rattle.std.proofs.Math.Seq.{drop-append_seam}
-use Rattle.std.proofs.Math.ListN.{get_or-map}
 use Rattle.std.proofs.lemmas.List.Edits.{swap_is}
-use Rattle.std.proofs.lemmas.List.{drop-drop, drop-map, drop-set-lt, length-append, length-drop, length-map, length-take-le, take_all, take_more, take_more_set, take-set-le}
-use Rattle.gm_syntax.specs.declared.line.Line as declared
-use Rattle.gm_syntax.specs.LineViews.{line_of, line_views}
+use Rattle.std.proofs.lemmas.List.{drop-drop, drop-set-lt, length-append, length-drop, length-take-le, take_all, take_more, take_more_set, take-set-le}
 use Rattle.gm_syntax.specs.Tokens.{Placed}
-use Rattle.gm_syntax.specs.Document.{Line, Blank}
-use Rattle.gm_file_edit.specs.Fates.{Fate, fate_by, kept, remaining, widened_from}
-use Rattle.gm_file_edit.specs.Marks.{line_at, marked}
+use Rattle.gm_syntax.specs.Document.{Line, Blank, Comment, Open, Close, Entry}
+use Rattle.gm_file_edit.specs.Fates.{Fate, empties, fate_by, kept, remaining, widened_from}
+use Rattle.gm_file_edit.specs.Marks.{is_blank_source_line, line_at, marked}
 use Rattle.gm_file_edit.proofs.Untouched.{all-lines-stay, all_stay}
 use Rattle.gm_file_edit.proofs.Walking.{drop-next}
 
@@ -154,7 +152,7 @@ set-held [] n x lt is = absurd (omega (arith, lt))
 set-held (y ∷ xs) zero x lt is = ap (λ (z : Bool). z ∷ xs) (sym is)
 set-held (y ∷ xs) (suc n) x lt is = ap (λ (zs : List Bool). y ∷ zs) (set-held xs n x (omega (arith, lt)) is)
 
-rest-of : {X : Type 0} (xs : List X) (n : ℕ) → take (length xs - n) (drop n xs) ≡ drop n xs
+pub rest-of : {X : Type 0} (xs : List X) (n : ℕ) → take (length xs - n) (drop n xs) ≡ drop n xs
 rest-of xs n = let rest = length-drop n xs in take_all (length xs - n) (drop n xs) (omega (arith, rest))
 
 rest-marks : (old marks front : List Bool) (n : ℕ) → length front ≡ n → marks ≡ front ++ drop n old → drop (n + 1) marks ≡ drop (n + 1) old
@@ -162,32 +160,51 @@ rest-marks old marks front n count all =
     let same : drop n marks ≡ drop n old = ap (drop n) all ∙ ap (λ (k : ℕ). drop k (front ++ drop n old)) (sym count) ∙ drop-append_seam front (drop n old) in
     sym (drop-drop 1 n marks) ∙ ap (drop 1) same ∙ drop-drop 1 n old
 
--- a line without a mark, before the lines and marks of the program from the next on
-pub widen-line : (xs : List declared.Line) (old : List Bool) (n : ℕ) (inside goes next_inside next_goes seen next_mark : Bool) (marks slice next : List Bool) (line : declared.Line)
-    → length old ≡ length xs → n < length xs → line ≡ get_or xs n line → seen ≡ get_or marks n seen → seen ≡ false → slice ≡ marks
-    → widened_from inside goes (Some (line_of line) ∷ marked (take (length slice - (n + 1)) (drop (n + 1) slice)) (line_views (take (length xs - (n + 1)) (drop (n + 1) xs))))
-    ≡ fate_by next_mark (line_of line) ∷ widened_from next_inside next_goes (marked (take (length slice - (n + 1)) (drop (n + 1) slice)) (line_views (take (length xs - (n + 1)) (drop (n + 1) xs))))
-    → next ≡ set marks n next_mark → IsWidenedTo (line_views xs) old n inside goes marks → IsWidenedTo (line_views xs) old (n + 1) next_inside next_goes next
-widen-line xs old n inside goes next_inside next_goes seen next_mark marks slice next line even lt line_is seen_is unmarked same step put so =
-    let long = length-map xs line_of in
-    let size = widen-size (line_views xs) old n inside goes marks (omega (arith, lt, even)) so in
-    let rest : marked (take (length slice - (n + 1)) (drop (n + 1) slice)) (line_views (take (length xs - (n + 1)) (drop (n + 1) xs))) ≡ marked (drop (n + 1) old) (drop (n + 1) (line_views xs)) =
-    ap (λ (ms : List Bool). marked ms (line_views (take (length xs - (n + 1)) (drop (n + 1) xs)))) (rest-of slice (n + 1) ∙ ap (drop (n + 1)) same ∙ rest-marks old marks so.front n so.count so.all)
-    ∙ ap (λ (ls : List declared.Line). marked (drop (n + 1) old) (line_views ls)) (rest-of xs (n + 1)) ∙ ap (marked (drop (n + 1) old)) (sym (drop-map line_of (n + 1) xs)) in
-    widen-more (line_views xs) old n inside goes next_inside next_goes false next_mark marks next (line_of line) (omega (arith, even, long)) (omega (arith, lt, long))
-    (ap line_of line_is ∙ sym (get_or-map line_of xs n line)) (sym unmarked ∙ seen_is ∙ ap (get_or marks n) unmarked) (omega (arith, size, even, lt))
-    (λ fates is. subst (λ (fs : List Fate). widened_from inside goes (Some (line_of line) ∷ fs) ≡ fate_by next_mark (line_of line) ∷ widened_from next_inside next_goes fs) (rest ∙ sym is) step)
+-- a line without a mark
+pub widen-line : (whole : List (Line Placed)) (old : List Bool) (n : ℕ) (inside goes next_inside next_goes seen next_mark : Bool) (marks slice next : List Bool)
+    → length old ≡ length whole → n < length whole → seen ≡ get_or marks n seen → seen ≡ false → slice ≡ marks
+    → widened_from inside goes (Some (line_at whole n) ∷ marked (drop (n + 1) slice) (drop (n + 1) whole)) ≡ fate_by next_mark (line_at whole n) ∷ widened_from next_inside next_goes (marked (drop (n + 1) slice) (drop (n + 1) whole))
+    → next ≡ set marks n next_mark → IsWidenedTo whole old n inside goes marks → IsWidenedTo whole old (n + 1) next_inside next_goes next
+widen-line whole old n inside goes next_inside next_goes seen next_mark marks slice next even lt seen_is unmarked same step put so =
+    let size = widen-size whole old n inside goes marks (omega (arith, lt, even)) so in
+    let rest : marked (drop (n + 1) slice) (drop (n + 1) whole) ≡ marked (drop (n + 1) old) (drop (n + 1) whole) =
+    ap (λ (ms : List Bool). marked ms (drop (n + 1) whole)) (ap (drop (n + 1)) same ∙ rest-marks old marks so.front n so.count so.all) in
+    widen-more whole old n inside goes next_inside next_goes false next_mark marks next (line_at whole n) even lt (get_or-default whole n Blank lt) (sym unmarked ∙ seen_is ∙ ap (get_or marks n) unmarked) (omega (arith, size, even, lt))
+    (λ fates is. subst (λ (fs : List Fate). widened_from inside goes (Some (line_at whole n) ∷ fs) ≡ fate_by next_mark (line_at whole n) ∷ widened_from next_inside next_goes fs) (rest ∙ sym is) step)
     put so
 
 -- a line with a mark
-pub widen-marked : (xs : List declared.Line) (old : List Bool) (n : ℕ) (inside goes seen : Bool) (marks : List Bool) (line : declared.Line)
-    → length old ≡ length xs → n < length xs → line ≡ get_or xs n line → seen ≡ get_or marks n seen → seen ≡ true → IsWidenedTo (line_views xs) old n inside goes marks → IsWidenedTo (line_views xs) old (n + 1) inside goes marks
-widen-marked xs old n inside goes seen marks line even lt line_is seen_is has_mark so =
-    let long = length-map xs line_of in
-    let size = widen-size (line_views xs) old n inside goes marks (omega (arith, lt, even)) so in
+pub widen-marked : (whole : List (Line Placed)) (old : List Bool) (n : ℕ) (inside goes seen : Bool) (marks : List Bool)
+    → length old ≡ length whole → n < length whole → seen ≡ get_or marks n seen → seen ≡ true → IsWidenedTo whole old n inside goes marks → IsWidenedTo whole old (n + 1) inside goes marks
+widen-marked whole old n inside goes seen marks even lt seen_is has_mark so =
+    let size = widen-size whole old n inside goes marks (omega (arith, lt, even)) so in
     let mark_is : true ≡ get_or marks n true = sym has_mark ∙ seen_is ∙ ap (get_or marks n) has_mark in
-    widen-more (line_views xs) old n inside goes inside goes true true marks marks (line_of line) (omega (arith, even, long)) (omega (arith, lt, long))
-    (ap line_of line_is ∙ sym (get_or-map line_of xs n line)) mark_is (omega (arith, size, even, lt)) (λ fates is. refl) (set-held marks n true (omega (arith, size, even, lt)) mark_is) so
+    widen-more whole old n inside goes inside goes true true marks marks (line_at whole n) even lt (get_or-default whole n Blank lt) mark_is (omega (arith, size, even, lt)) (λ fates is. refl) (set-held marks n true (omega (arith, size, even, lt)) mark_is) so
+
+-- ---- the loop that looks for the end of a block
+
+empties-blank : (lost : Bool) (line : Line Placed) (fates : List Fate) → is_blank_source_line line ≡ true → empties lost (Some line ∷ fates) ≡ empties lost fates
+empties-blank lost Blank fates is = refl
+empties-blank lost (Comment text) fates is = absurd cc
+empties-blank lost (Open verb suffix) fates is = absurd cc
+empties-blank lost (Close suffix) fates is = absurd cc
+empties-blank lost (Entry words suffix) fates is = absurd cc
+
+-- the fates from an index on begin with that of the line there
+fates-here : (marks : List Bool) (lines : List (Line Placed)) (n : ℕ) (mark : Bool) → length marks ≡ length lines → n < length lines → get_or marks n false ≡ mark
+    → marked (drop n marks) (drop n lines) ≡ fate_by mark (line_at lines n) ∷ marked (drop (n + 1) marks) (drop (n + 1) lines)
+fates-here marks lines n mark even lt is =
+    let in_marks : n < length marks = omega (arith, even, lt) in
+    ap (λ (ms : List Bool). marked ms (drop n lines)) (drop-next marks n mark in_marks (sym is ∙ get_or-default marks n false in_marks ∙ ap (get_or marks n) is))
+    ∙ ap (marked (mark ∷ drop (n + 1) marks)) (drop-next lines n (line_at lines n) lt (get_or-default lines n Blank lt))
+
+pub look-marked : (marks : List Bool) (lines : List (Line Placed)) (n : ℕ) (lost : Bool) → length marks ≡ length lines → n < length lines → get_or marks n false ≡ true
+    → empties lost (marked (drop n marks) (drop n lines)) ≡ empties true (marked (drop (n + 1) marks) (drop (n + 1) lines))
+look-marked marks lines n lost even lt is = ap (empties lost) (fates-here marks lines n true even lt is)
+
+pub look-blank : (marks : List Bool) (lines : List (Line Placed)) (n : ℕ) (lost : Bool) → length marks ≡ length lines → n < length lines → get_or marks n false ≡ false
+    → is_blank_source_line (line_at lines n) ≡ true → empties lost (marked (drop n marks) (drop n lines)) ≡ empties lost (marked (drop (n + 1) marks) (drop (n + 1) lines))
+look-blank marks lines n lost even lt is blank = ap (empties lost) (fates-here marks lines n false even lt is) ∙ empties-blank lost (line_at lines n) (marked (drop (n + 1) marks) (drop (n + 1) lines)) blank
 
 -- ---- no line with a mark
 
@@ -198,14 +215,47 @@ none-marked (mark ∷ marks) [] even none = absurd (omega (arith, even))
 none-marked (true ∷ marks) (line ∷ lines) even none = absurd cc
 none-marked (false ∷ marks) (line ∷ lines) even none = ap (λ (fs : List Fate). Some line ∷ fs) (none-marked marks lines (omega (arith, even)) none)
 
+kept-all : (lines : List (Line Placed)) → kept (all_stay lines) ≡ lines
+kept-all [] = refl
+kept-all (line ∷ lines) = ap (λ (ls : List (Line Placed)). line ∷ ls) (kept-all lines)
+
 pub all-kept : (marks : List Bool) (lines : List (Line Placed)) → length marks ≡ length lines → list_any (λ mark. mark) marks ≡ false → lines ≡ remaining (marked marks lines)
 all-kept marks lines even none = sym (ap remaining (none-marked marks lines even none) ∙ all-lines-stay lines)
 
+-- ---- one line with a mark
+
+-- the number of marks before the first
+abbrev pub first_of : List Bool → ℕ
+first_of [] = 0
+first_of (true ∷ marks) = 0
+first_of (false ∷ marks) = suc (first_of marks)
+
+pub first-is : (marks : List Bool) → length (take_while (λ mark. not mark) marks) ≡ first_of marks
+first-is [] = refl
+first-is (true ∷ marks) = refl
+first-is (false ∷ marks) =
+    let more : 1 + prefix_len (λ mark. not mark) marks ≡ suc (prefix_len (λ mark. not mark) marks) = omega arith in
+    ap (λ (n : ℕ). length (take n (false ∷ marks))) more ∙ ap suc (first-is marks)
+
+-- if no line after the first with a mark has one, that line alone goes
+pub one-removed : (marks : List Bool) (lines : List (Line Placed)) → length marks ≡ length lines → first_of marks < length marks → list_any (λ mark. mark) (drop (suc (first_of marks)) marks) ≡ false
+    → take (first_of marks) lines ++ drop (suc (first_of marks)) lines ≡ kept (marked marks lines)
+one-removed [] lines even lt none = absurd (omega (arith, lt))
+one-removed (mark ∷ marks) [] even lt none = absurd (omega (arith, even))
+one-removed (true ∷ marks) (line ∷ lines) even lt none = sym (ap kept (none-marked marks lines (omega (arith, even)) none) ∙ kept-all lines)
+one-removed (false ∷ marks) (line ∷ lines) even lt none =
+    ap (λ (ls : List (Line Placed)). line ∷ ls) (one-removed marks lines (omega (arith, even)) (omega (arith, lt)) none)
+
+pub removed-is : (marks : List Bool) (lines : List (Line Placed)) (n : ℕ) → length marks ≡ length lines → n ≡ length (take_while (λ mark. not mark) marks) → n < length marks
+    → list_any (λ mark. mark) (take (length marks - (n + 1)) (drop (n + 1) marks)) ≡ false → take n lines ++ drop (n + 1) lines ≡ kept (marked marks lines)
+removed-is marks lines n even is lt none =
+    let first : n ≡ first_of marks = is ∙ first-is marks in
+    let next : n + 1 ≡ suc (first_of marks) = omega (arith, first) in
+    let rest : list_any (λ mark. mark) (drop (suc (first_of marks)) marks) ≡ false = ap (λ (k : ℕ). list_any (λ mark. mark) (drop k marks)) (sym next) ∙ ap (list_any (λ mark. mark)) (sym (rest-of marks (n + 1))) ∙ none in
+    ap (λ (k : ℕ). take k lines ++ drop (n + 1) lines) first ∙ ap (λ (k : ℕ). take (first_of marks) lines ++ drop k lines) next ∙ one-removed marks lines even (omega (arith, first, lt)) rest
+
 -- ---- all of it
 
-pub pack-is : (marks widened slice : List Bool) (lines : List (Line Placed)) (xs : List declared.Line) → line_views xs ≡ lines → slice ≡ widened
-    → marked widened (line_views xs) ≡ widened_from false false (marked marks (line_views xs)) → kept (marked slice lines) ≡ remaining (marked marks lines)
+pub pack-is : (marks widened slice : List Bool) (lines : List (Line Placed)) → slice ≡ widened → marked widened lines ≡ widened_from false false (marked marks lines) → kept (marked slice lines) ≡ remaining (marked marks lines)
 unfolding remaining
-pack-is marks widened slice lines xs seen same are =
-    ap (λ (ms : List Bool). kept (marked ms lines)) same ∙ ap (λ (ls : List (Line Placed)). kept (marked widened ls)) (sym seen) ∙ ap kept are
-    ∙ ap (λ (ls : List (Line Placed)). kept (widened_from false false (marked marks ls))) seen
+pack-is marks widened slice lines same are = ap (λ (ms : List Bool). kept (marked ms lines)) same ∙ ap kept are

@@ -1,5 +1,4 @@
--- Lines that stay, go, are rewritten or are put in: what is left of a document without a fault is one. Since validity
--- is a matter of single lines and of pairs of directives, no lemma follows the lines in turn.
+-- A document without a fault, by its lines and by pairs of directives, and a line that is put into one.
 use Rattle.std.proofs.Common.{◌≡◌, ◌||◌, Bool, true, false, List, [], ◌∷◌, ◌++◌, Option, Some, None, is_some, refl, sym, ap, subst, ◌∙◌, inl, inr}
 use Rattle.std.specs.Option.{option_map}
 use Rattle.std.specs.List.{AllByRecursion, cons_option, filter_map, list_any}
@@ -118,100 +117,6 @@ sound-document lines sound =
         declared = ap (list_any is_module) (plain-held None lines) ∙ are.declared;
       }),
     )
-
--- ---- lines that stay, go, or are rewritten
-
--- The new lines come from the old ones, each in its block: a line stays, and what it holds doesn't clash with the new
--- directive; or it goes, and declares no module; or it is rewritten to hold the new directive. Of these there is at
--- most one, and none if the flag says that the new directive is there already.
-pub data AreLeft (new : Directive) : Bool → List Seat → List Seat → Type 0 where
-  nothing : (there : Bool) → AreLeft new there [] []
-  stays : {there : Bool} {left old : List Seat} (seat : Seat) → passes (do_clash new) (held_at seat) ≡ false → AreLeft new there left old → AreLeft new there (seat ∷ left) (seat ∷ old)
-  goes : {there : Bool} {left old : List Seat} (seat : Seat) → passes is_module (held_at seat) ≡ false → AreLeft new there left old → AreLeft new there left (seat ∷ old)
-  renewed : {left old : List Seat} (next seat : Seat) → IsRightLine next → held_at next ≡ Some new → (passes is_module (held_at seat) ≡ true → is_module new ≡ true) → AreLeft new true left old
-      → AreLeft new false (next ∷ left) (seat ∷ old)
-
-pub any-cons : (p : Directive → Bool) (o : Option Directive) (ds : List Directive) → list_any p (cons_option o ds) ≡ (passes p o || list_any p ds)
-any-cons p None ds = refl
-any-cons p (Some d) ds = refl
-
--- a test that no old directive passes, nor the new one, none of what is left passes
-left-none : {new : Directive} {there : Bool} {left old : List Seat} (p : Directive → Bool) → p new ≡ false → AreLeft new there left old → list_any p (held_in old) ≡ false → list_any p (held_in left) ≡ false
-left-none p fails (nothing there) none = refl
-left-none {new} p fails (stays {there} {left} {old} seat mild rest) none =
-    let parts = or_parts (passes p (held_at seat)) (list_any p (held_in old)) (sym (any-cons p (held_at seat) (held_in old)) ∙ none) in
-    any-cons p (held_at seat) (held_in left) ∙ or_from (passes p (held_at seat)) (list_any p (held_in left)) parts.0 (left-none p fails rest parts.1)
-left-none {new} p fails (goes {there} {left} {old} seat other rest) none =
-    left-none p fails rest (or_parts (passes p (held_at seat)) (list_any p (held_in old)) (sym (any-cons p (held_at seat) (held_in old)) ∙ none)).1
-left-none {new} p fails (renewed {left} {old} next seat right is keeps rest) none =
-    let parts = or_parts (passes p (held_at seat)) (list_any p (held_in old)) (sym (any-cons p (held_at seat) (held_in old)) ∙ none) in
-    ap (λ (o : Option Directive). list_any p (cons_option o (held_in left))) is ∙ or_from (p new) (list_any p (held_in left)) fails (left-none p fails rest parts.1)
-
--- what is left clashes with the new directive only if that is there
-left-mild : {new : Directive} {there : Bool} {left old : List Seat} → there ≡ true → AreLeft new there left old → list_any (do_clash new) (held_in left) ≡ false
-left-mild is (nothing there) = refl
-left-mild {new} is (stays {there} {left} {old} seat mild rest) =
-    any-cons (do_clash new) (held_at seat) (held_in left) ∙ or_from (passes (do_clash new) (held_at seat)) (list_any (do_clash new) (held_in left)) mild (left-mild is rest)
-left-mild {new} is (goes {there} {left} {old} seat other rest) = left-mild is rest
-left-mild {new} is (renewed {left} {old} next seat right made keeps rest) = absurd cc
-
-apart-cons : (o : Option Directive) (ds es : List Directive) → AreApart (cons_option o ds) → ((d : Directive) → o ≡ Some d → list_any (do_clash d) ds ≡ false → list_any (do_clash d) es ≡ false) → (AreApart ds → AreApart es)
-    → AreApart (cons_option o es)
-apart-cons None ds es apart one rest = rest apart
-apart-cons (Some d) ds es apart one rest = (one d refl apart.0, rest apart.1)
-
-pub apart-tail : (o : Option Directive) (ds : List Directive) → AreApart (cons_option o ds) → AreApart ds
-apart-tail None ds apart = apart
-apart-tail (Some d) ds apart = apart.1
-
-left-apart : {new : Directive} {there : Bool} {left old : List Seat} → AreLeft new there left old → AreApart (held_in old) → AreApart (held_in left)
-left-apart (nothing there) apart = tt
-left-apart {new} (stays {there} {left} {old} seat mild rest) apart =
-    apart-cons (held_at seat) (held_in old) (held_in left) apart
-    (λ d is none. left-none (do_clash d) (clash-mutual d new ∙ sym (ap (passes (do_clash new)) is) ∙ mild) rest none)
-    (left-apart rest)
-left-apart {new} (goes {there} {left} {old} seat other rest) apart = left-apart rest (apart-tail (held_at seat) (held_in old) apart)
-left-apart {new} (renewed {left} {old} next seat right is keeps rest) apart =
-    subst (λ (o : Option Directive). AreApart (cons_option o (held_in left))) (sym is) (left-mild refl rest, left-apart rest (apart-tail (held_at seat) (held_in old) apart))
-
-left-right : {new : Directive} {there : Bool} {left old : List Seat} → AreLeft new there left old → AllByRecursion IsRightLine old → AllByRecursion IsRightLine left
-left-right (nothing there) right = tt
-left-right {new} (stays {there} {left} {old} seat mild rest) right = (right.0, left-right rest right.1)
-left-right {new} (goes {there} {left} {old} seat other rest) right = left-right rest right.1
-left-right {new} (renewed {left} {old} next seat stands is keeps rest) right = (stands, left-right rest right.1)
-
-left-declared : {new : Directive} {there : Bool} {left old : List Seat} → AreLeft new there left old → list_any is_module (held_in old) ≡ true → list_any is_module (held_in left) ≡ true
-left-declared (nothing there) some = some
-left-declared {new} (stays {there} {left} {old} seat mild rest) some =
-    any-cons is_module (held_at seat) (held_in left)
-    ∙ elim (or_cases (passes is_module (held_at seat)) (list_any is_module (held_in old)) (sym (any-cons is_module (held_at seat) (held_in old)) ∙ some)) [
-      | inl here ↦ or_left (passes is_module (held_at seat)) (list_any is_module (held_in left)) here
-      | inr there ↦ or_right (passes is_module (held_at seat)) (list_any is_module (held_in left)) (left-declared rest there)
-    ]
-left-declared {new} (goes {there} {left} {old} seat other rest) some =
-    elim (or_cases (passes is_module (held_at seat)) (list_any is_module (held_in old)) (sym (any-cons is_module (held_at seat) (held_in old)) ∙ some)) [
-      | inl here ↦ absurd (cc (here, other))
-      | inr there ↦ left-declared rest there
-    ]
-left-declared {new} (renewed {left} {old} next seat right is keeps rest) some =
-    ap (λ (o : Option Directive). list_any is_module (cons_option o (held_in left))) is
-    ∙ elim (or_cases (passes is_module (held_at seat)) (list_any is_module (held_in old)) (sym (any-cons is_module (held_at seat) (held_in old)) ∙ some)) [
-      | inl here ↦ or_left (is_module new) (list_any is_module (held_in left)) (keeps here)
-      | inr there ↦ or_right (is_module new) (list_any is_module (held_in left)) (left-declared rest there)
-    ]
-
--- the lines in one block come from those in another, and they end outside blocks if the others do
-abbrev pub Leaves : Directive → Bool → Option Placed → List (Line Placed) → List (Line Placed) → Type 0
-Leaves new there block left old =
-    AreLeft new there (with_blocks_from block left) (with_blocks_from block old) × (block_after_lines block old ≡ None → block_after_lines block left ≡ None)
-
-pub left-sound : (new : Directive) (there : Bool) (left old : List (Line Placed)) → Leaves new there None left old → IsSound old → IsSound left
-left-sound new there left old leaves sound =
-    let are = sound.lines_are in
-    record {
-      lines_are = record { right = left-right leaves.0 are.right; apart = left-apart leaves.0 are.apart; declared = left-declared leaves.0 are.declared };
-      closed = leaves.1 sound.closed;
-    }
 
 -- ---- a line that is put in
 

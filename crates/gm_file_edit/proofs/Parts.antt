@@ -1,5 +1,5 @@
 -- Options that hold a value.
-use Rattle.std.proofs.Common.{◌≡◌, Option, Some, None, Result, Ok, Err, IfOk, refl}
+use Rattle.std.proofs.Common.{◌≡◌, Option, Some, None, refl}
 use Rattle.std.specs.Prelude.{option_and_then}
 use Rattle.std.specs.Option.{option_map}
 use Rattle.gm_file.specs.Values.{both}
@@ -16,7 +16,3 @@ pub both-are : {A B C : Type 0} (f : A → B → C) (a : Option A) (b : Option B
 both-are f None b c e = absurd cc
 both-are f (Some x) None c e = absurd cc
 both-are f (Some x) (Some y) c e = (x, y, refl, refl, cc)
-
-pub if-ok : {T E : Type 0} (r : Result T E) (A B : T → Type 0) → ((v : T) → A v → B v) → IfOk r A → IfOk r B
-if-ok (Ok v) A B f h = f v h
-if-ok (Err e) A B f h = h

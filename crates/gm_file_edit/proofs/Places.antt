@@ -19,8 +19,7 @@ use Rattle.gm_file_edit.specs.Holding.{directive_at, passes, word_of}
 use Rattle.gm_file_edit.specs.Renewing.{before_arguments, with_arguments, with_last}
 use Rattle.gm_file_edit.specs.About.{about, is_replaced_by, requires_path}
 use Rattle.gm_file_edit.specs.Searching.{is_there, is_there_from}
-use Rattle.gm_file_edit.specs.Verbs.{is_exclude, is_replace, is_require, is_retract}
-use Rattle.gm_file_edit.specs.Edited.{added, after_closing, after_first_of, after_first_that, after_last_of, changed, edited, put_in}
+use Rattle.gm_file_edit.specs.Edited.{added, after_closing, after_first_of, after_first_that, after_last_of, changed, edited, has_verb, new_go, put_in}
 
 -- ---- lines without source positions
 
@@ -278,11 +277,11 @@ after-last-loose test verb arguments are block (line ∷ lines) =
     (ap (λ (b : Bool). loose_line line ∷ entry_at b verb arguments ∷ loose_lines lines) (inside-loose block) ∙ ap (λ (l : Line Placed). loose_line line ∷ l ∷ loose_lines lines) (sym (entry-loose (is_some block) verb arguments are)))
     (ap (λ (b : Option Placed). loose_line line ∷ after_last_of test verb arguments b (loose_lines lines)) (behind-loose block line) ∙ ap (λ (ls : List (Line Placed)). loose_line line ∷ ls) (after-last-loose test verb arguments are behind lines))
 
-added-loose : (test : Directive → Bool) (verb : List ℕ) (arguments : List Placed) → AreLoose arguments → (lines : List (Line Placed)) → added test verb arguments (loose_lines lines) ≡ loose_lines (added test verb arguments lines)
+added-loose : (verb : List ℕ) (arguments : List Placed) → AreLoose arguments → (lines : List (Line Placed)) → added verb arguments (loose_lines lines) ≡ loose_lines (added verb arguments lines)
 unfolding added
-added-loose test verb arguments are lines =
-    chosen loose_lines (is_there test (loose_lines lines)) (is_there test lines) (after_last_of test verb arguments None (loose_lines lines)) (loose_lines lines ++ Blank ∷ single verb arguments ∷ [])
-    (after_last_of test verb arguments None lines) (lines ++ Blank ∷ single verb arguments ∷ []) (there-loose test None lines) (after-last-loose test verb arguments are None lines)
+added-loose verb arguments are lines =
+    chosen loose_lines (is_there (has_verb verb) (loose_lines lines)) (is_there (has_verb verb) lines) (after_last_of (has_verb verb) verb arguments None (loose_lines lines)) (loose_lines lines ++ Blank ∷ single verb arguments ∷ [])
+    (after_last_of (has_verb verb) verb arguments None lines) (lines ++ Blank ∷ single verb arguments ∷ []) (there-loose (has_verb verb) None lines) (after-last-loose (has_verb verb) verb arguments are None lines)
     (ap (λ (l : Line Placed). loose_lines lines ++ Blank ∷ l ∷ []) (sym (single-loose verb arguments are)) ∙ sym (map-append loose_line lines (Blank ∷ single verb arguments ∷ [])))
 
 first-new : (new lines : List (Line Placed)) → loose_lines new ≡ new → new ++ loose_lines lines ≡ loose_lines (new ++ lines)
@@ -327,12 +326,12 @@ changed-loose (Set (ReplaceWith r)) lines = renewed-loose (is_replaced_by r.0) (
 put-in-loose : (edit : Edit) (lines : List (Line Placed)) → put_in edit (loose_lines lines) ≡ loose_lines (put_in edit lines)
 unfolding put_in
 put-in-loose (Set (ModuleIs path)) lines = refl
-put-in-loose (Set (GoIs text)) lines = behind-first-loose is_module (Blank ∷ single (codes "go") (made_word text ∷ []) ∷ []) lines refl
-put-in-loose (Set (RequireAt p)) lines = added-loose is_require (codes "require") (pair_words p) refl lines
+put-in-loose (Set (GoIs text)) lines = behind-first-loose is_module (new_go text) lines refl
+put-in-loose (Set (RequireAt p)) lines = added-loose (codes "require") (pair_words p) refl lines
+put-in-loose (Set (ReplaceWith r)) lines = added-loose (codes "replace") (replace_words r) (replace-are r) lines
+put-in-loose (Add (Exclude p)) lines = added-loose (codes "exclude") (pair_words p) refl lines
+put-in-loose (Add (Retract ends)) lines = added-loose (codes "retract") (interval_words ends) (interval-are ends) lines
 put-in-loose (Drop t) lines = refl
-put-in-loose (Add (Exclude p)) lines = added-loose is_exclude (codes "exclude") (pair_words p) refl lines
-put-in-loose (Set (ReplaceWith r)) lines = added-loose is_replace (codes "replace") (replace_words r) (replace-are r) lines
-put-in-loose (Add (Retract ends)) lines = added-loose is_retract (codes "retract") (interval_words ends) (interval-are ends) lines
 
 pass-loose : (edit : Edit) (lines : List (Line Placed)) → edited edit (loose_lines lines) ≡ loose_lines (edited edit lines)
 unfolding edited

@@ -3,7 +3,7 @@ use Rattle.std.proofs.Common.{◌≡◌, ℕ, ◌&&◌, not, Bool, true, false, 
 use Rattle.std.specs.Option.{option_map}
 use Rattle.std.specs.List.{after_first, before_first}
 use Rattle.std.specs.Str.{bytes_eq}
-use Rattle.std.proofs.lemmas.Bool.{cases_Bool}
+use Rattle.std.proofs.lemmas.Bool.{and_from, and_left, cases_Bool}
 use Rattle.std.proofs.lemmas.Slice.Eq.{bytes_eq-Decides}
 use Rattle.gm_syntax.specs.declared.word.Punct.TheVariants.{Arrow}
 use Rattle.gm_syntax.specs.Lines.{HasNoLineFeed}
@@ -19,29 +19,29 @@ use Rattle.gm_name.specs.Names.{does_fit, is_path}
 use Rattle.gm_name.specs.ModuleVersion.{ModuleVersion}
 use Rattle.gm_file.specs.Values.{argument, both}
 use Rattle.gm_file.specs.GoVersions.{strict_go}
-use Rattle.gm_file.specs.Directives.{Strict, Left, Right, Folder, Module, Replacing, Directive, DeclaresModule, DeclaresGo, Requires, Replaces, Verb, ForModule, ForGo, ForRequire, ForReplace, directive_of, is_arrow, left_of, main_verb, one_of, pair_of, replacing, right_of}
+use Rattle.gm_file.specs.declared.verb.Verb.{Verb}
+use Rattle.gm_file.specs.declared.verb.Verb.TheVariants.{Module as ForModule, Go as ForGo, Require as ForRequire, Replace as ForReplace}
+use Rattle.gm_file.specs.Directives.{Strict, VersionInterval, Left, Right, Folder, Module, Replacing, Directive, DeclaresModule, DeclaresGo, Requires, Excludes, Replaces, Retracts, directive_of, is_arrow, left_of, main_verb, one_of, pair_of, replacing, right_of}
 use Rattle.gm_file.specs.Faults.{directive_kinds, does_left_fit, is_go, is_module, is_same_left, is_same_right, is_same_version, left_version_kinds, path_kinds, pair_kinds, right_path_kinds, right_version_kinds, sides_kinds}
-use Rattle.gm_file_edit.specs.About.{is_covered_by, is_replaced_by, requires_path}
+use Rattle.gm_file_edit.specs.About.{about, is_covered_by, is_replaced_by, requires_path}
 use Rattle.gm_file_edit.specs.Holding.{directive_at}
 use Rattle.gm_file_edit.specs.NewWords.{left_words_of, made_mark, made_word, replace_words, right_words}
-use Rattle.gm_file_edit.specs.Renewing.{with_arguments, with_last}
-use Rattle.gm_file_edit.specs.Sound.{IsPairOfNames, IsSoundLeft, IsSoundRight, IsSoundVersion}
+use Rattle.gm_file_edit.specs.Renewing.{made_new, with_arguments, with_last}
+use Rattle.gm_file_edit.specs.Sound.{AreVersions, IsPairOfNames, IsSoundEdit, IsSoundLeft, IsSoundRight, IsSoundVersion}
 use Rattle.gm_file_edit.proofs.Feeds.{byte-feed, go-feed, path-feed, version-feed}
 use Rattle.gm_file_edit.proofs.Folders.{path-no-folder}
-use Rattle.gm_file_edit.proofs.Leaving.{IsMadeNew}
 use Rattle.gm_file_edit.proofs.Made.{AreArguments, IsFront, all-arguments, entry-made, held-by, made-no-mark, made-stands, made-value, one-are, one-argument, one-last, two-are, two-arguments, two-last}
 use Rattle.gm_file_edit.proofs.Parts.{map-some}
-use Rattle.gm_file_edit.proofs.Renews.{IsRenewal}
+use Rattle.std.proofs.lemmas.Option.{same_Some}
+use Rattle.gm_file_edit.proofs.Renews.{IsMadeNew, IsRenewal, IsWanted}
 use Rattle.gm_file_edit.proofs.Targets.{about-module}
-use Rattle.gm_file_edit.specs.Edits.{GoIs, ReplaceWith, RequireAt, Set}
+use Rattle.gm_file_edit.specs.Edits.{Edit, Set, Setting, ModuleIs, GoIs, RequireAt, ReplaceWith, Add, Exclude, Retract, Drop}
+use Rattle.gm_file_edit.specs.Kinds.{directive_added, directive_set, is_fit}
 use Rattle.gm_file.specs.Pairwise.{do_clash}
 use Rattle.gm_file.proofs.DirectiveVerbs.{directive-verb}
 use Rattle.gm_file.proofs.Pairwise.{both-nil, same-left}
 
 -- ---- the module
-
-module-mild : (path : List ℕ) (d : Directive) → is_module d ≡ false → do_clash (DeclaresModule path) d ≡ false
-module-mild path d e = e
 
 module-kinds : (path : List ℕ) → is_path path ≡ true → directive_kinds Strict [] (DeclaresModule path) ≡ []
 unfolding directive_kinds
@@ -56,7 +56,7 @@ unfolding directive_of
 held-one words path e = let m = map-some DeclaresModule (one_of words) (DeclaresModule path) e in (m.0, m.1)
 
 module-made : (path : List ℕ) → is_path path ≡ true → (block : Option Placed) (line : Line Placed) (d : Directive) → directive_at block line ≡ Some d → is_module d ≡ true → IsValidLine (is_some block) (plain line)
-    → IsMadeNew (DeclaresModule path) block line (with_last path block line)
+    → IsMadeNew (DeclaresModule path) block (with_last path block line)
 module-made path h block line (DeclaresModule old) held e stands =
     let plain = path-feed path h in
     let by = held-by block line (DeclaresModule old) held in
@@ -64,19 +64,13 @@ module-made path h block line (DeclaresModule old) held e stands =
     let one = held-one (words_of by.arguments) old (rw verb at by.says) in
     let a = one-argument by.arguments one.0 one.1 in
     let is : line ≡ Entry (by.front ++ a.0 ∷ []) by.suffix = by.is ∙ ap (λ (ws : List Placed). Entry (by.front ++ ws) by.suffix) a.1 in
-    entry-made (DeclaresModule path) (DeclaresModule old) block line (with_last path block line) by (made_word path ∷ []) held
-    (one-last block by.verb by.front line by.suffix path a.0 by.at is) stands (one-are path plain) (rw verb (module-says path plain)) (λ e. refl) (module-kinds path h)
+    entry-made (DeclaresModule path) (DeclaresModule old) block line (with_last path block line) by (made_word path ∷ [])
+    (one-last block by.verb by.front line by.suffix path a.0 by.at is) stands (one-are path plain) (rw verb (module-says path plain)) (module-kinds path h)
 module-made path h block line d held e stands = absurd cc
-
-pub module-renewal : (path : List ℕ) → is_path path ≡ true → IsRenewal is_module (DeclaresModule path) (with_last path)
-module-renewal path h = record { mild = module-mild path; made = module-made path h; other = λ d e. e }
 
 -- ---- the go version
 
-go-mild : (text : List ℕ) (d : Directive) → is_go d ≡ false → do_clash (DeclaresGo text) d ≡ false
-go-mild text d e = e
-
-pub go-kinds : (text : List ℕ) → is_some (strict_go text) ≡ true → directive_kinds Strict [] (DeclaresGo text) ≡ []
+go-kinds : (text : List ℕ) → is_some (strict_go text) ≡ true → directive_kinds Strict [] (DeclaresGo text) ≡ []
 unfolding directive_kinds
 go-kinds text h = rw h refl
 
@@ -89,7 +83,7 @@ unfolding directive_of
 held-go words text e = let m = map-some DeclaresGo (one_of words) (DeclaresGo text) e in (m.0, m.1)
 
 go-made : (text : List ℕ) → is_some (strict_go text) ≡ true → (block : Option Placed) (line : Line Placed) (d : Directive) → directive_at block line ≡ Some d → is_go d ≡ true → IsValidLine (is_some block) (plain line)
-    → IsMadeNew (DeclaresGo text) block line (with_last text block line)
+    → IsMadeNew (DeclaresGo text) block (with_last text block line)
 go-made text h block line (DeclaresGo old) held e stands =
     let plain = go-feed text h in
     let by = held-by block line (DeclaresGo old) held in
@@ -97,19 +91,16 @@ go-made text h block line (DeclaresGo old) held e stands =
     let one = held-go (words_of by.arguments) old (rw verb at by.says) in
     let a = one-argument by.arguments one.0 one.1 in
     let is : line ≡ Entry (by.front ++ a.0 ∷ []) by.suffix = by.is ∙ ap (λ (ws : List Placed). Entry (by.front ++ ws) by.suffix) a.1 in
-    entry-made (DeclaresGo text) (DeclaresGo old) block line (with_last text block line) by (made_word text ∷ []) held
-    (one-last block by.verb by.front line by.suffix text a.0 by.at is) stands (one-are text plain) (rw verb (go-says text plain)) (λ w. absurd cc) (go-kinds text h)
+    entry-made (DeclaresGo text) (DeclaresGo old) block line (with_last text block line) by (made_word text ∷ [])
+    (one-last block by.verb by.front line by.suffix text a.0 by.at is) stands (one-are text plain) (rw verb (go-says text plain)) (go-kinds text h)
 go-made text h block line d held e stands = absurd cc
-
-pub go-renewal : (text : List ℕ) → is_some (strict_go text) ≡ true → IsRenewal is_go (DeclaresGo text) (with_last text)
-go-renewal text h = record { mild = go-mild text; made = go-made text h; other = λ d e. about-module (Set (GoIs text)) d e }
 
 -- ---- a requirement
 
-pub pair-kinds : (p : ModuleVersion) → IsPairOfNames p → does_fit p.0 p.1 ≡ true → pair_kinds p ≡ []
+pair-kinds : (p : ModuleVersion) → IsPairOfNames p → does_fit p.0 p.1 ≡ true → pair_kinds p ≡ []
 pair-kinds p names fit = rw (names.0, names.1, fit) refl
 
-pub require-kinds : (p : ModuleVersion) → IsPairOfNames p → does_fit p.0 p.1 ≡ true → directive_kinds Strict [] (Requires p) ≡ []
+require-kinds : (p : ModuleVersion) → IsPairOfNames p → does_fit p.0 p.1 ≡ true → directive_kinds Strict [] (Requires p) ≡ []
 unfolding directive_kinds
 require-kinds p names fit = pair-kinds p names fit
 
@@ -133,7 +124,7 @@ kept-word (Some v) verb front others suffix a line at is stands =
     entry.are_words.0
 
 require-made : (p : ModuleVersion) → IsPairOfNames p → does_fit p.0 p.1 ≡ true → (block : Option Placed) (line : Line Placed) (d : Directive) → directive_at block line ≡ Some d → requires_path p.0 d ≡ true → IsValidLine (is_some block) (plain line)
-    → IsMadeNew (Requires p) block line (with_last p.1 block line)
+    → IsMadeNew (Requires p) block (with_last p.1 block line)
 require-made p names fit block line (Requires q) held e stands =
     let plain_version = version-feed p.1 names.1 in
     let by = held-by block line (Requires q) held in
@@ -143,28 +134,22 @@ require-made p names fit block line (Requires q) held e stands =
     let path : argument two.0.word ≡ Some p.0 = two.3 ∙ ap Some same in
     let is : line ≡ Entry (by.front ++ two.0 ∷ two.1 ∷ []) by.suffix = by.is ∙ ap (λ (ws : List Placed). Entry (by.front ++ ws) by.suffix) two.2 in
     let word : IsWord two.0.word = kept-word block by.verb by.front (two.1 ∷ []) by.suffix two.0 line by.at is stands in
-    entry-made (Requires p) (Requires q) block line (with_last p.1 block line) by (two.0 ∷ made_word p.1 ∷ []) held
-    (two-last block by.verb by.front line by.suffix p.1 two.0 two.1 by.at is) stands (two-are two.0 p.0 p.1 word path plain_version) (subst (λ (v : Verb). directive_of v (words_of (two.0 ∷ made_word p.1 ∷ [])) ≡ Some (Requires p)) (sym verb) (require-says two.0 p path plain_version)) (λ w. absurd cc) (require-kinds p names fit)
+    entry-made (Requires p) (Requires q) block line (with_last p.1 block line) by (two.0 ∷ made_word p.1 ∷ [])
+    (two-last block by.verb by.front line by.suffix p.1 two.0 two.1 by.at is) stands (two-are two.0 p.0 p.1 word path plain_version) (subst (λ (v : Verb). directive_of v (words_of (two.0 ∷ made_word p.1 ∷ [])) ≡ Some (Requires p)) (sym verb) (require-says two.0 p path plain_version)) (require-kinds p names fit)
 require-made p names fit block line d held e stands = absurd cc
 
-pub require-renewal : (p : ModuleVersion) → IsPairOfNames p → does_fit p.0 p.1 ≡ true → IsRenewal (requires_path p.0) (Requires p) (with_last p.1)
-require-renewal p names fit = record { mild = λ d e. refl; made = require-made p names fit; other = λ d e. about-module (Set (RequireAt p)) d e }
-
 -- ---- a replace
-
-and-none : (a b : Bool) → (a ≡ false) → (a && b) ≡ false
-and-none a b e = rw e refl
 
 pub version-itself : (v : Option (List ℕ)) → is_same_version v v ≡ true
 version-itself None = refl
 version-itself (Some v) = (bytes_eq-Decides v v).1 refl
 
 not-covered : (left other : Left) (v : Option (List ℕ)) → is_covered_by left v other ≡ false → is_same_left other left ≡ false
-not-covered left other None e = and-none (bytes_eq other.path left.path) (is_same_version other.version left.version) e
+not-covered left other None e = and_left (bytes_eq other.path left.path) (is_same_version other.version left.version) e
 not-covered left other (Some version) e = e
 
-pub replace-mild : (r : Replacing) (d : Directive) → is_replaced_by r.0 d ≡ false → do_clash (Replaces r) d ≡ false
-replace-mild r (Replaces q) e = and-none (is_same_left r.0 q.0) (not (is_same_right r.1 q.1)) (same-left r.0 q.0 ∙ not-covered r.0 q.0 r.0.version e)
+replace-mild : (r : Replacing) (d : Directive) → is_replaced_by r.0 d ≡ false → do_clash (Replaces r) d ≡ false
+replace-mild r (Replaces q) e = and_left (is_same_left r.0 q.0) (not (is_same_right r.1 q.1)) (same-left r.0 q.0 ∙ not-covered r.0 q.0 r.0.version e)
 replace-mild r d e = refl
 
 right-path-right : (right : Right) → IsSoundRight right → right_path_kinds right ≡ []
@@ -184,7 +169,7 @@ sides-right left right l r fit =
     let path : path_kinds left.path ≡ [] = rw l.0 refl in
     rw (path, right-path-right right r, left-version-right left.version l.1, right-version-right right r, fit) refl
 
-pub replace-kinds : (r : Replacing) → IsSoundLeft r.0 → IsSoundRight r.1 → does_left_fit r.0.path r.0.version ≡ true → directive_kinds Strict [] (Replaces r) ≡ []
+replace-kinds : (r : Replacing) → IsSoundLeft r.0 → IsSoundRight r.1 → does_left_fit r.0.path r.0.version ≡ true → directive_kinds Strict [] (Replaces r) ≡ []
 unfolding directive_kinds
 replace-kinds r left right fit = both-nil (sides_kinds r.0 r.1) [] (sides-right r.0 r.1 left right fit) refl
 
@@ -254,14 +239,56 @@ pub replace-are : (r : Replacing) → IsSoundLeft r.0 → IsSoundRight r.1 → A
 replace-are r left right = replace-are-of r.0.path r.0.version r.1 left.0 left.1 right
 
 replace-made : (r : Replacing) → IsSoundLeft r.0 → IsSoundRight r.1 → does_left_fit r.0.path r.0.version ≡ true → (block : Option Placed) (line : Line Placed) (d : Directive)
-    → directive_at block line ≡ Some d → is_replaced_by r.0 d ≡ true → IsValidLine (is_some block) (plain line) → IsMadeNew (Replaces r) block line (with_arguments (replace_words r) block line)
+    → directive_at block line ≡ Some d → is_replaced_by r.0 d ≡ true → IsValidLine (is_some block) (plain line) → IsMadeNew (Replaces r) block (with_arguments (replace_words r) block line)
 replace-made r left right fit block line (Replaces q) held e stands =
     let by = held-by block line (Replaces q) held in
     let verb : main_verb by.verb ≡ ForReplace = sym (directive-verb (main_verb by.verb) (words_of by.arguments) (Replaces q) by.says) in
-    entry-made (Replaces r) (Replaces q) block line (with_arguments (replace_words r) block line) by (replace_words r) held
-    (all-arguments block by.verb by.front by.arguments line by.suffix (replace_words r) by.at by.is) stands (replace-are r left right) (rw verb (replace-says r left right)) (λ w. absurd cc)
+    entry-made (Replaces r) (Replaces q) block line (with_arguments (replace_words r) block line) by (replace_words r)
+    (all-arguments block by.verb by.front by.arguments line by.suffix (replace_words r) by.at by.is) stands (replace-are r left right) (rw verb (replace-says r left right))
     (replace-kinds r left right fit)
 replace-made r left right fit block line d held e stands = absurd cc
 
-pub replace-renewal : (r : Replacing) → IsSoundLeft r.0 → IsSoundRight r.1 → does_left_fit r.0.path r.0.version ≡ true → IsRenewal (is_replaced_by r.0) (Replaces r) (with_arguments (replace_words r))
-replace-renewal r left right fit = record { mild = replace-mild r; made = replace-made r left right fit; other = λ d e. about-module (Set (ReplaceWith r)) d e }
+-- ---- what an operation puts in
+
+-- the directive that an operation sets or adds
+abbrev pub put_by : Edit → Option Directive
+put_by (Set s) = Some (directive_set s)
+put_by (Add a) = Some (directive_added a)
+put_by (Drop t) = None
+
+exclude-kinds : (p : ModuleVersion) → IsPairOfNames p → does_fit p.0 p.1 ≡ true → directive_kinds Strict [] (Excludes p) ≡ []
+unfolding directive_kinds
+exclude-kinds p names fit = pair-kinds p names fit
+
+ends-kinds : (ends : VersionInterval) → AreVersions ends → directive_kinds Strict [] (Retracts ends) ≡ []
+unfolding directive_kinds
+ends-kinds ends are = rw (are.0, are.1) refl
+
+pub text-itself : (text : List ℕ) → bytes_eq text text ≡ true
+text-itself text = (bytes_eq-Decides text text).1 refl
+
+pub pair-itself : (p : List ℕ × List ℕ) → (bytes_eq p.0 p.0 && bytes_eq p.1 p.1) ≡ true
+pair-itself p = and_from (bytes_eq p.0 p.0) (bytes_eq p.1 p.1) (text-itself p.0) (text-itself p.1)
+
+pub left-itself : (left : Left) → is_same_left left left ≡ true
+left-itself left = and_from (bytes_eq left.path left.path) (is_same_version left.version left.version) (text-itself left.path) (version-itself left.version)
+
+left-covered : (left : Left) (version : Option (List ℕ)) → is_covered_by left version left ≡ true
+left-covered left None = text-itself left.path
+left-covered left (Some version) = left-itself left
+
+pub wanted : (edit : Edit) (new : Directive) → put_by edit ≡ Some new → IsSoundEdit edit → is_fit edit ≡ true → IsWanted (about edit) new
+wanted (Set (ModuleIs path)) new e good fit = subst (IsWanted (about (Set (ModuleIs path)))) (same_Some _ _ e) (record { kinds = module-kinds path good; mild = λ d f. f; own = refl })
+wanted (Set (GoIs text)) new e good fit = subst (IsWanted (about (Set (GoIs text)))) (same_Some _ _ e) (record { kinds = go-kinds text good; mild = λ d f. f; own = refl })
+wanted (Set (RequireAt p)) new e good fit = subst (IsWanted (about (Set (RequireAt p)))) (same_Some _ _ e) (record { kinds = require-kinds p good fit; mild = λ d f. refl; own = text-itself p.0 })
+wanted (Set (ReplaceWith r)) new e good fit = subst (IsWanted (about (Set (ReplaceWith r)))) (same_Some _ _ e) (record { kinds = replace-kinds r good.0 good.1 fit; mild = replace-mild r; own = left-covered r.0 r.0.version })
+wanted (Add (Exclude p)) new e good fit = subst (IsWanted (about (Add (Exclude p)))) (same_Some _ _ e) (record { kinds = exclude-kinds p good fit; mild = λ d f. refl; own = pair-itself p })
+wanted (Add (Retract ends)) new e good fit = subst (IsWanted (about (Add (Retract ends)))) (same_Some _ _ e) (record { kinds = ends-kinds ends good; mild = λ d f. refl; own = pair-itself ends })
+wanted (Drop t) new e good fit = absurd cc
+
+-- how a setting rewrites an entry
+pub renewal : (s : Setting) → IsSoundEdit (Set s) → is_fit (Set s) ≡ true → IsRenewal (about (Set s)) (directive_set s) (made_new (Set s))
+renewal (ModuleIs path) good fit = record { wanted = wanted (Set (ModuleIs path)) _ refl good fit; made = module-made path good; other = about-module (Set (ModuleIs path)) }
+renewal (GoIs text) good fit = record { wanted = wanted (Set (GoIs text)) _ refl good fit; made = go-made text good; other = about-module (Set (GoIs text)) }
+renewal (RequireAt p) good fit = record { wanted = wanted (Set (RequireAt p)) _ refl good fit; made = require-made p good fit; other = about-module (Set (RequireAt p)) }
+renewal (ReplaceWith r) good fit = record { wanted = wanted (Set (ReplaceWith r)) _ refl good fit; made = replace-made r good.0 good.1 fit; other = about-module (Set (ReplaceWith r)) }

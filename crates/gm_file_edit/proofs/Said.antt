@@ -3,24 +3,23 @@ use Rattle.std.proofs.Common.{◌≡◌, ℕ, ◌||◌, not, Bool, true, false, 
 use Rattle.std.specs.Prelude.{filter}
 use Rattle.std.specs.Option.{option_map, option_to_list}
 use Rattle.std.specs.List.{cons_option, filter_map, list_any}
-use Rattle.std.proofs.lemmas.Bool.{cases_Bool}
+use Rattle.std.proofs.lemmas.Bool.{cases_Bool, or_from, or_parts}
 use Rattle.std.proofs.lemmas.List.{take-append-drop}
 use Rattle.std.proofs.lemmas.List.Elements.{filter-append}
 use Rattle.gm_syntax.specs.Tokens.{Placed}
 use Rattle.gm_syntax.specs.Document.{Line, Blank, IsValidLine}
 use Rattle.gm_syntax.specs.LineViews.{plain}
 use Rattle.gm_file.specs.Directives.{Directive, LineInBlock, block_after_lines, block_after_line, item_at}
-use Rattle.gm_file_edit.specs.Edited.{added, after_first_that}
-use Rattle.gm_file_edit.specs.declared.adding.AddedVerb.{AddedVerb}
+use Rattle.gm_file_edit.specs.Edited.{added, after_first_that, has_verb}
 use Rattle.gm_file_edit.specs.declared.adding.Spot.{Spot}
-use Rattle.gm_file_edit.specs.Adding.{added_at, spot_after_first, spot_after_last, is_of, past_block, insert_at_spot, verb_text}
+use Rattle.gm_file_edit.specs.Adding.{added_at, spot_after_first, spot_after_last, past_block, insert_at_spot}
 use Rattle.gm_file_edit.specs.NewWords.{entry_at, single}
 use Rattle.gm_file_edit.specs.Fates.{Fate, dropped, dropping_from, kept, remaining, renewed, renewing_from}
 use Rattle.gm_file_edit.specs.Holding.{directive_at, passes}
 use Rattle.gm_file_edit.specs.Searching.{is_there, is_there_from}
-use Rattle.gm_file_edit.proofs.AddingSound.{Fits, IsAddition, IsIn, IsVerbSpot, entry-fits, first-is-in, held-append, held_from, last-is, passing-level, past-outside}
-use Rattle.gm_file_edit.proofs.Leaving.{IsMadeNew}
-use Rattle.gm_file_edit.proofs.Seats.{remaining-seats, seats_from}
+use Rattle.gm_file_edit.proofs.AddingSound.{Fits, IsAddition, IsIn, IsVerbSpot, entry-fits, first-is-in, held-append, held-is, held_from, last-is, passing-level, past-outside}
+use Rattle.gm_file_edit.proofs.Renews.{IsMadeNew, Makes}
+use Rattle.gm_file_edit.proofs.Seats.{fewer-held, remaining-left}
 use Rattle.gm_file_edit.proofs.Pairs.{AreRightFrom, IsSound}
 use Rattle.gm_file_edit.proofs.Spots.{added-spot, first-spot}
 
@@ -29,10 +28,10 @@ use Rattle.gm_file_edit.proofs.Spots.{added-spot, first-spot}
 abbrev pub others : (Directive → Bool) → Directive → Bool
 others test d = not (test d)
 
-filter-one : (p : Directive → Bool) (d : Directive) (ds : List Directive) → p d ≡ true → filter p (d ∷ ds) ≡ d ∷ filter p ds
+pub filter-one : (p : Directive → Bool) (d : Directive) (ds : List Directive) → p d ≡ true → filter p (d ∷ ds) ≡ d ∷ filter p ds
 filter-one p d ds e = rw e refl
 
-filter-none : (p : Directive → Bool) (d : Directive) (ds : List Directive) → p d ≡ false → filter p (d ∷ ds) ≡ filter p ds
+pub filter-none : (p : Directive → Bool) (d : Directive) (ds : List Directive) → p d ≡ false → filter p (d ∷ ds) ≡ filter p ds
 filter-none p d ds e = rw e refl
 
 other-false : (test : Directive → Bool) (d : Directive) → test d ≡ true → others test d ≡ false
@@ -57,18 +56,11 @@ none-of-others test (d ∷ ds) = elim (cases_Bool (test d)) [
   | inr fails ↦ rw fails (filter-none test d (filter (others test) ds) fails ∙ none-of-others test ds)
 ]
 
-or-none : (a b : Bool) → (a || b) ≡ false → (a ≡ false) × (b ≡ false)
-or-none true b e = absurd cc
-or-none false b e = (refl, e)
-
-or-neither : (a b : Bool) → a ≡ false → b ≡ false → (a || b) ≡ false
-or-neither a b e f = rw (e, f) refl
-
 pub none-any : (test : Directive → Bool) (ds : List Directive) → filter test ds ≡ [] → list_any test ds ≡ false
 none-any test [] e = refl
 none-any test (d ∷ ds) e = elim (cases_Bool (test d)) [
   | inl holds ↦ let wrong : d ∷ filter test ds ≡ [] = sym (filter-one test d ds holds) ∙ e in absurd cc
-  | inr fails ↦ or-neither (test d) (list_any test ds) fails (none-any test ds (sym (filter-none test d ds fails) ∙ e))
+  | inr fails ↦ or_from (test d) (list_any test ds) fails (none-any test ds (sym (filter-none test d ds fails) ∙ e))
 ]
 
 pub others-none : (test : Directive → Bool) (ds : List Directive) → list_any test (filter (others test) ds) ≡ false
@@ -76,7 +68,7 @@ others-none test ds = none-any test (filter (others test) ds) (none-of-others te
 
 pub no-filter : (test : Directive → Bool) (ds : List Directive) → list_any test ds ≡ false → filter test ds ≡ []
 no-filter test [] e = refl
-no-filter test (d ∷ ds) e = let parts = or-none (test d) (list_any test ds) e in filter-none test d ds parts.0 ∙ no-filter test ds parts.1
+no-filter test (d ∷ ds) e = let parts = or_parts (test d) (list_any test ds) e in filter-none test d ds parts.0 ∙ no-filter test ds parts.1
 
 -- the same with the directive that a line holds, if any
 gone-held : (test : Directive → Bool) (held : Option Directive) (rest : List Directive) → passes test held ≡ true → filter (others test) (option_to_list held ++ rest) ≡ filter (others test) rest
@@ -96,23 +88,8 @@ same-front p front xs ys e = filter-append p front xs ∙ ap (λ (ds : List Dire
 
 -- ---- the remaining lines say what the lines that stay say
 
--- what lines say, by those that hold a directive
-abbrev said_in : List (LineInBlock Placed) → List Directive
-said_in seats = filter_map (λ seat. directive_at seat.0 seat.1) seats
-
-line-seats : (block : Option Placed) (line : Line Placed) (held : Option Directive) (ds : List Directive) (seats : List (LineInBlock Placed)) → directive_at block line ≡ held → ds ≡ said_in seats
-    → option_to_list held ++ ds ≡ said_in (option_to_list (option_map (λ d. (block, line)) held) ++ seats)
-line-seats block line None ds seats is same = same
-line-seats block line (Some d) ds seats is same = ap (λ (es : List Directive). d ∷ es) same ∙ sym (ap (λ (held : Option Directive). cons_option held (said_in seats)) is)
-
-held-seats : (block : Option Placed) (lines : List (Line Placed)) → held_from block lines ≡ said_in (seats_from block lines)
-held-seats block [] = refl
-held-seats block (line ∷ lines) =
-    let behind : Option Placed = block_after_line block line in
-    line-seats block line (directive_at block line) (held_from behind lines) (seats_from behind lines) refl (held-seats behind lines)
-
 pub left-held : (fates : List Fate) → held_from None (remaining fates) ≡ held_from None (kept fates)
-left-held fates = held-seats None (remaining fates) ∙ ap said_in (remaining-seats fates) ∙ sym (held-seats None (kept fates))
+left-held fates = sym (held-is None (remaining fates)) ∙ fewer-held (remaining-left fates).0 ∙ held-is None (kept fates)
 
 -- ---- what is said after entries are removed
 
@@ -133,15 +110,12 @@ dropped-held test lines = left-held (dropping_from test None lines) ∙ dropping
 
 -- ---- what is said after an entry is rewritten
 
-abbrev pub Makes : (Directive → Bool) → Directive → (Option Placed → Line Placed → Line Placed) → Type 0
-Makes test said make = (block : Option Placed) (line : Line Placed) (d : Directive) → directive_at block line ≡ Some d → test d ≡ true → IsValidLine (is_some block) (plain line) → IsMadeNew said block line (make block line)
-
-held-some : (test : Directive → Bool) (held : Option Directive) → passes test held ≡ true → (d : Directive) × (held ≡ Some d) × (test d ≡ true)
+pub held-some : (test : Directive → Bool) (held : Option Directive) → passes test held ≡ true → (d : Directive) × (held ≡ Some d) × (test d ≡ true)
 held-some test None e = absurd cc
 held-some test (Some d) e = (d, refl, e)
 
-made-held : (said : Directive) (block : Option Placed) (line next : Line Placed) (back : List (Line Placed)) → IsMadeNew said block line next → held_from block (next ∷ back) ≡ said ∷ held_from block back
-made-held said block line next back made =
+made-held : (said : Directive) (block : Option Placed) (next : Line Placed) (back : List (Line Placed)) → IsMadeNew said block next → held_from block (next ∷ back) ≡ said ∷ held_from block back
+made-held said block next back made =
     ap (λ (l : Line Placed). held_from block (l ∷ back)) made.is_entry ∙ ap (λ (o : Option Directive). option_to_list o ++ held_from block back) made.holds
 
 -- the first matching entry is rewritten, and the later ones are removed
@@ -151,7 +125,7 @@ first-held : (test : Directive → Bool) (said : Directive) (make : Option Place
 first-held test said make makes block line lines holds stands =
     let h = held-some test (directive_at block line) holds in
     let behind : Option Placed = block_after_line block line in
-    made-held said block line (make block line) (kept (dropping_from test behind lines)) (makes block line h.0 h.1 h.2 stands)
+    made-held said block (make block line) (kept (dropping_from test behind lines)) (makes block line h.0 h.1 h.2 stands)
     ∙ ap (λ (b : Option Placed). said ∷ held_from b (kept (dropping_from test behind lines))) (sym (passing-level test block line holds))
     ∙ ap (λ (ds : List Directive). said ∷ ds) (dropping-held test behind lines)
 
@@ -238,22 +212,22 @@ last-put : (new : Directive) (lines : List (Line Placed)) (line : Line Placed) �
 last-put new lines line fits sound =
     subst (λ (ls : List (Line Placed)). IsPutIn new (held_from None ls) (held_from None (lines ++ Blank ∷ line ∷ []))) (append-nil lines) (alone-put new lines [] line sound.closed fits)
 
-added-at-put : (v : AddedVerb) (arguments : List Placed) (new : Directive) (lines : List (Line Placed)) → IsAddition v arguments new → IsSound lines
-    → (o : Option Spot) → ((spot : Spot) → o ≡ Some spot → IsVerbSpot v None lines spot) → IsPutIn new (held_from None lines) (held_from None (added_at (verb_text v) arguments lines o))
-added-at-put v arguments new lines so sound None is = last-put new lines (single (verb_text v) arguments) (entry-fits v arguments new None tt so) sound
+added-at-put : (v : List ℕ) (arguments : List Placed) (new : Directive) (lines : List (Line Placed)) → IsAddition v arguments new → IsSound lines
+    → (o : Option Spot) → ((spot : Spot) → o ≡ Some spot → IsVerbSpot v None lines spot) → IsPutIn new (held_from None lines) (held_from None (added_at v arguments lines o))
+added-at-put v arguments new lines so sound None is = last-put new lines (single v arguments) (entry-fits v arguments new None tt so) sound
 added-at-put v arguments new lines so sound (Some spot) is =
     let front : List (Line Placed) = take spot.before lines in
     let back : List (Line Placed) = drop spot.before lines in
     let here = is spot refl in
-    let entry : Line Placed = entry_at spot.inside (verb_text v) arguments in
+    let entry : Line Placed = entry_at spot.inside v arguments in
     subst (λ (ls : List (Line Placed)). IsPutIn new (held_from None ls) (held_from None (front ++ entry ∷ back))) (take-append-drop spot.before lines)
-    (line-put new front back entry (subst (λ (b : Bool). Fits (block_after_lines None front) new (entry_at b (verb_text v) arguments)) here.0.inside (entry-fits v arguments new (block_after_lines None front) here.1 so)))
+    (line-put new front back entry (subst (λ (b : Bool). Fits (block_after_lines None front) new (entry_at b v arguments)) here.0.inside (entry-fits v arguments new (block_after_lines None front) here.1 so)))
 
-pub added-put : (v : AddedVerb) (arguments : List Placed) (new : Directive) (lines : List (Line Placed)) → IsAddition v arguments new → IsSound lines
-    → IsPutIn new (held_from None lines) (held_from None (added (is_of v) (verb_text v) arguments lines))
+pub added-put : (v : List ℕ) (arguments : List Placed) (new : Directive) (lines : List (Line Placed)) → IsAddition v arguments new → IsSound lines
+    → IsPutIn new (held_from None lines) (held_from None (added v arguments lines))
 added-put v arguments new lines so sound =
-    subst (λ (ls : List (Line Placed)). IsPutIn new (held_from None lines) (held_from None ls)) (sym (added-spot (is_of v) (verb_text v) arguments lines))
-    (added-at-put v arguments new lines so sound (spot_after_last (is_of v) None lines) (last-is v None lines))
+    subst (λ (ls : List (Line Placed)). IsPutIn new (held_from None lines) (held_from None ls)) (sym (added-spot v arguments lines))
+    (added-at-put v arguments new lines so sound (spot_after_last (has_verb v) None lines) (last-is v None lines))
 
 behind-put : (new : Directive) (line : Line Placed) (lines : List (Line Placed)) → Fits None new line → IsSound lines
     → (o : Option Spot) → ((spot : Spot) → o ≡ Some spot → IsIn None lines spot) → IsPutIn new (held_from None lines) (held_from None (insert_at_spot (Blank ∷ line ∷ []) lines o))

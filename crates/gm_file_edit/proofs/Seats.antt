@@ -1,78 +1,86 @@
--- The lines that hold a directive, and that emptied blocks have none.
-use Rattle.std.proofs.Common.{◌≡◌, ℕ, ◌&&◌, Bool, true, false, List, [], ◌∷◌, ◌++◌, Option, Some, None, is_none, is_some, refl, sym, ap, ◌∙◌, append_assoc, inl, inr}
+-- What widening takes away holds no directive, and the lines that are left are in the blocks that they were in.
+use Rattle.std.proofs.Common.{◌≡◌, ℕ, ◌&&◌, Bool, true, false, List, [], ◌∷◌, Option, Some, None, is_none, is_some, refl, sym, ap, ◌∙◌, inl, inr}
 use Rattle.std.specs.Prelude.{⊤}
-use Rattle.std.specs.Option.{option_map, option_to_list}
+use Rattle.std.specs.List.{AllByRecursion, cons_option}
 use Rattle.std.proofs.lemmas.Bool.{cases_Bool}
+use Rattle.gm_name.proofs.NameTests.{and_both}
 use Rattle.gm_syntax.specs.Tokens.{Placed}
 use Rattle.gm_syntax.specs.Document.{Line, Blank, Comment, Open, Close, Entry}
-use Rattle.gm_file.specs.Directives.{LineInBlock, block_after_line, block_after_lines, item_at}
+use Rattle.gm_file.specs.Directives.{Directive, block_after_line, block_after_lines, item_at, with_blocks_from}
 use Rattle.gm_file_edit.specs.Fates.{Fate, empties, is_emptied, kept, remaining, widened_from}
-use Rattle.gm_file_edit.specs.Holding.{directive_at}
-use Rattle.gm_name.proofs.NameTests.{and_both}
+use Rattle.gm_file_edit.proofs.Pairs.{Seat, held_at, held_in}
 
--- the line with the verb of its block, if it holds a directive
-abbrev pub seat_of : Option Placed → Line Placed → List (LineInBlock Placed)
-seat_of block line = option_to_list (option_map (λ d. (block, line)) (directive_at block line))
+-- of the other lines, each in its block, some are left out, which hold no directive
+pub data AreFewer : List Seat → List Seat → Type 0 where
+  nothing : AreFewer [] []
+  stays : {left old : List Seat} (seat : Seat) → AreFewer left old → AreFewer (seat ∷ left) (seat ∷ old)
+  goes : {left old : List Seat} (seat : Seat) → held_at seat ≡ None → AreFewer left old → AreFewer left (seat ∷ old)
 
--- such lines, given the verb of the block that is open before them
-abbrev pub seats_from : Option Placed → List (Line Placed) → List (LineInBlock Placed)
-seats_from block [] = []
-seats_from block (line ∷ lines) = seat_of block line ++ seats_from (block_after_line block line) lines
+pub fewer-held : {left old : List Seat} → AreFewer left old → held_in left ≡ held_in old
+fewer-held nothing = refl
+fewer-held (stays seat rest) = ap (cons_option (held_at seat)) (fewer-held rest)
+fewer-held (goes {left} {old} seat silent rest) = fewer-held rest ∙ sym (ap (λ (o : Option Directive). cons_option o (held_in old)) silent)
 
-pub seats-append : (block : Option Placed) (front back : List (Line Placed)) → seats_from block (front ++ back) ≡ seats_from block front ++ seats_from (block_after_lines block front) back
-seats-append block [] back = refl
-seats-append block (line ∷ front) back =
-    ap (λ (seats : List (LineInBlock Placed)). seat_of block line ++ seats) (seats-append (block_after_line block line) front back)
-    ∙ sym (append_assoc (seat_of block line) (seats_from (block_after_line block line) front) (seats_from (block_after_lines (block_after_line block line) front) back))
+pub fewer-all : {left old : List Seat} (P : Seat → Type 0) → AreFewer left old → AllByRecursion P old → AllByRecursion P left
+fewer-all P nothing all = tt
+fewer-all P (stays seat rest) all = (all.0, fewer-all P rest all.1)
+fewer-all P (goes seat silent rest) all = fewer-all P rest all.1
 
--- ---- the remaining lines
+-- such lines, which end outside blocks if the others do
+abbrev AreLeft : Option Placed → List (Line Placed) → Option Placed → List (Line Placed) → Type 0
+AreLeft after left before old = AreFewer (with_blocks_from after left) (with_blocks_from before old) × (block_after_lines before old ≡ None → block_after_lines after left ≡ None)
+
+same-first : (block : Option Placed) (line : Line Placed) (left old : List (Line Placed)) → AreLeft (block_after_line block line) left (block_after_line block line) old → AreLeft block (line ∷ left) block (line ∷ old)
+same-first block line left old is = (stays (block, line) is.0, is.1)
+
+gone-first : (after block : Option Placed) (line : Line Placed) (left old : List (Line Placed)) → held_at (block, line) ≡ None → AreLeft after left (block_after_line block line) old → AreLeft after left block (line ∷ old)
+gone-first after block line left old silent is = (goes (block, line) silent is.0, is.1)
 
 -- a block that goes is emptied by the lines from here on
-abbrev pub Going : Bool → List Fate → Type 0
+abbrev Going : Bool → List Fate → Type 0
 Going false fates = ⊤
 Going true fates = (lost : Bool) × (empties lost fates ≡ true)
 
 -- the block that is open before the lines that are left: none, if the open block goes
-abbrev pub left_block : Bool → Option Placed → Option Placed
+abbrev left_block : Bool → Option Placed → Option Placed
 left_block true block = None
 left_block false block = block
 
-pub going-gone : (going : Bool) (fates : List Fate) → Going going (None ∷ fates) → Going going fates
+going-gone : (going : Bool) (fates : List Fate) → Going going (None ∷ fates) → Going going fates
 going-gone false fates is = tt
 going-gone true fates is = (true, is.1)
 
-pub going-opened : (suffix : Option (List ℕ)) (fates : List Fate) → is_emptied false suffix fates ≡ true → Going true fates
+going-opened : (suffix : Option (List ℕ)) (fates : List Fate) → is_emptied false suffix fates ≡ true → Going true fates
 going-opened suffix fates e = (false, (and_both (is_none suffix) (empties false fates) e).1)
 
--- Emptied blocks and the blank lines after them hold no directive, and the lines that are left are in the blocks that
--- they were in.
-left-seats : (block : Option Placed) (goes : Bool) (fates : List Fate) → Going (is_some block && goes) fates
-    → seats_from (left_block (is_some block && goes) block) (kept (widened_from (is_some block) goes fates)) ≡ seats_from block (kept fates)
+left-lines : (block : Option Placed) (gone : Bool) (fates : List Fate) → Going (is_some block && gone) fates
+    → AreLeft (left_block (is_some block && gone) block) (kept (widened_from (is_some block) gone fates)) block (kept fates)
 unfolding item_at
-left-seats None goes [] is = refl
-left-seats (Some verb) false [] is = refl
-left-seats (Some verb) true [] is = absurd cc
-left-seats block goes (None ∷ fates) is = left-seats block goes fates (going-gone (is_some block && goes) fates is)
-left-seats None false (Some Blank ∷ fates) is = left-seats None false fates tt
-left-seats None true (Some Blank ∷ fates) is = left-seats None false fates tt
-left-seats (Some verb) false (Some Blank ∷ fates) is = left-seats (Some verb) false fates tt
-left-seats (Some verb) true (Some Blank ∷ fates) is = left-seats (Some verb) true fates is
-left-seats None goes (Some (Comment text) ∷ fates) is = left-seats None false fates tt
-left-seats (Some verb) false (Some (Comment text) ∷ fates) is = left-seats (Some verb) false fates tt
-left-seats (Some verb) true (Some (Comment text) ∷ fates) is = absurd cc
-left-seats None goes (Some (Open verb suffix) ∷ fates) is = elim (cases_Bool (is_emptied false suffix fates)) [
-  | inl gone ↦ rw gone (left-seats (Some verb) true fates (going-opened suffix fates gone))
-  | inr stays ↦ rw stays (left-seats (Some verb) false fates tt)
+left-lines None gone [] is = (nothing, λ e. e)
+left-lines (Some verb) false [] is = (nothing, λ e. e)
+left-lines (Some verb) true [] is = absurd cc
+left-lines block gone (None ∷ fates) is = left-lines block gone fates (going-gone (is_some block && gone) fates is)
+left-lines None false (Some Blank ∷ fates) is = same-first None Blank _ _ (left-lines None false fates tt)
+left-lines None true (Some Blank ∷ fates) is = gone-first None None Blank _ _ refl (left-lines None false fates tt)
+left-lines (Some verb) false (Some Blank ∷ fates) is = same-first (Some verb) Blank _ _ (left-lines (Some verb) false fates tt)
+left-lines (Some verb) true (Some Blank ∷ fates) is = gone-first None (Some verb) Blank _ _ refl (left-lines (Some verb) true fates is)
+left-lines None gone (Some (Comment text) ∷ fates) is = same-first None (Comment text) _ _ (left-lines None false fates tt)
+left-lines (Some verb) false (Some (Comment text) ∷ fates) is = same-first (Some verb) (Comment text) _ _ (left-lines (Some verb) false fates tt)
+left-lines (Some verb) true (Some (Comment text) ∷ fates) is = absurd cc
+left-lines None gone (Some (Open verb suffix) ∷ fates) is = elim (cases_Bool (is_emptied false suffix fates)) [
+  | inl empty ↦ rw empty (gone-first None None (Open verb suffix) _ _ refl (left-lines (Some verb) true fates (going-opened suffix fates empty)))
+  | inr still ↦ rw still (same-first None (Open verb suffix) _ _ (left-lines (Some verb) false fates tt))
 ]
-left-seats (Some outer) false (Some (Open verb suffix) ∷ fates) is = left-seats (Some verb) false fates tt
-left-seats (Some outer) true (Some (Open verb suffix) ∷ fates) is = absurd cc
-left-seats None goes (Some (Close suffix) ∷ fates) is = left-seats None false fates tt
-left-seats (Some verb) false (Some (Close suffix) ∷ fates) is = left-seats None false fates tt
-left-seats (Some verb) true (Some (Close suffix) ∷ fates) is = left-seats None true fates tt
-left-seats None goes (Some (Entry words suffix) ∷ fates) is = ap (λ (seats : List (LineInBlock Placed)). seat_of None (Entry words suffix) ++ seats) (left-seats None false fates tt)
-left-seats (Some verb) false (Some (Entry words suffix) ∷ fates) is = ap (λ (seats : List (LineInBlock Placed)). seat_of (Some verb) (Entry words suffix) ++ seats) (left-seats (Some verb) false fates tt)
-left-seats (Some verb) true (Some (Entry words suffix) ∷ fates) is = absurd cc
+left-lines (Some outer) false (Some (Open verb suffix) ∷ fates) is = same-first (Some outer) (Open verb suffix) _ _ (left-lines (Some verb) false fates tt)
+left-lines (Some outer) true (Some (Open verb suffix) ∷ fates) is = absurd cc
+left-lines None gone (Some (Close suffix) ∷ fates) is = same-first None (Close suffix) _ _ (left-lines None false fates tt)
+left-lines (Some verb) false (Some (Close suffix) ∷ fates) is = same-first (Some verb) (Close suffix) _ _ (left-lines None false fates tt)
+left-lines (Some verb) true (Some (Close suffix) ∷ fates) is = gone-first None (Some verb) (Close suffix) _ _ refl (left-lines None true fates tt)
+left-lines None gone (Some (Entry words suffix) ∷ fates) is = same-first None (Entry words suffix) _ _ (left-lines None false fates tt)
+left-lines (Some verb) false (Some (Entry words suffix) ∷ fates) is = same-first (Some verb) (Entry words suffix) _ _ (left-lines (Some verb) false fates tt)
+left-lines (Some verb) true (Some (Entry words suffix) ∷ fates) is = absurd cc
 
-pub remaining-seats : (fates : List Fate) → seats_from None (remaining fates) ≡ seats_from None (kept fates)
+-- of the lines without a mark, widening leaves out some that hold no directive
+pub remaining-left : (fates : List Fate) → AreFewer (with_blocks_from None (remaining fates)) (with_blocks_from None (kept fates)) × (block_after_lines None (kept fates) ≡ None → block_after_lines None (remaining fates) ≡ None)
 unfolding remaining
-remaining-seats fates = left-seats None false fates tt
+remaining-left fates = left-lines None false fates tt

@@ -2,27 +2,23 @@
 use Rattle.std.proofs.Common.{◌≡◌, arith, ℕ, ◌+◌, ◌||◌, Bool, true, false, List, [], ◌∷◌, ◌++◌, take, drop, Option, Some, None, is_some, refl, sym, ap, ◌∙◌, append-nil, inl, inr}
 use Rattle.std.specs.Prelude.{insert, suc}
 use Rattle.std.specs.Option.{option_map}
-use Rattle.std.proofs.lemmas.Bool.{cases_Bool, true≢false}
+use Rattle.std.proofs.lemmas.Bool.{cases_Bool, or_parts, true≢false}
 use Rattle.gm_syntax.specs.Tokens.{Placed}
 use Rattle.gm_syntax.specs.Document.{Line, Blank, Comment, Open, Close, Entry}
 use Rattle.gm_file.specs.Directives.{Directive, block_after_line}
 use Rattle.gm_file_edit.specs.declared.adding.Spot.{Spot}
 use Rattle.gm_file_edit.specs.Adding.{added_at, close_len, further, insert_at_spot, past_block, spot_after_first, spot_after_last, spot_after_line}
-use Rattle.gm_file_edit.specs.Edited.{added, after_closing, after_first_of, after_first_that, after_last_of}
+use Rattle.gm_file_edit.specs.Edited.{added, after_closing, after_first_of, after_first_that, after_last_of, has_verb}
 use Rattle.gm_file_edit.specs.Holding.{directive_at, passes}
 use Rattle.gm_file_edit.specs.NewWords.{entry_at}
 use Rattle.gm_file_edit.specs.Searching.{is_there, is_there_from}
-
-or-none : (a b : Bool) → (a || b) ≡ false → (a ≡ false) × (b ≡ false)
-or-none true b e = absurd cc
-or-none false b e = (refl, e)
 
 -- ---- after the last directive of a verb
 
 pub no-spot : (test : Directive → Bool) (block : Option Placed) (lines : List (Line Placed)) → is_there_from test block lines ≡ false → spot_after_last test block lines ≡ None
 no-spot test block [] e = refl
 no-spot test block (line ∷ lines) e =
-    let parts = or-none (passes test (directive_at block line)) (is_there_from test (block_after_line block line) lines) e in
+    let parts = or_parts (passes test (directive_at block line)) (is_there_from test (block_after_line block line) lines) e in
     rw (no-spot test (block_after_line block line) lines parts.1, parts.0) refl
 
 -- the lines with an entry at a position, if there is one
@@ -87,13 +83,13 @@ after-last-is test verb arguments block (line ∷ lines) e = elim (cases_Bool (i
         placed = rw (no-spot test (block_after_line block line) lines none, here) refl
 
 -- an added entry, by its position
-pub added-spot : (test : Directive → Bool) (verb : List ℕ) (arguments : List Placed) (lines : List (Line Placed)) → added test verb arguments lines ≡ added_at verb arguments lines (spot_after_last test None lines)
+pub added-spot : (verb : List ℕ) (arguments : List Placed) (lines : List (Line Placed)) → added verb arguments lines ≡ added_at verb arguments lines (spot_after_last (has_verb verb) None lines)
 unfolding added
-added-spot test verb arguments lines = elim (cases_Bool (is_there test lines)) [
+added-spot verb arguments lines = elim (cases_Bool (is_there (has_verb verb) lines)) [
   | inl some ↦
-      let has = has-spot test None lines some in
-      rw (some, has.is) (after-last-is test verb arguments None lines some ∙ ap (put_at (λ within. entry_at within verb arguments) lines) has.is)
-  | inr none ↦ rw (none, no-spot test None lines none) refl
+      let has = has-spot (has_verb verb) None lines some in
+      rw (some, has.is) (after-last-is (has_verb verb) verb arguments None lines some ∙ ap (put_at (λ within. entry_at within verb arguments) lines) has.is)
+  | inr none ↦ rw (none, no-spot (has_verb verb) None lines none) refl
 ]
 
 -- ---- after the first directive, or after its block

@@ -24,7 +24,7 @@ use Rattle.gm_file_edit.specs.Subjects.{Sought, First, Both, Subject, argument_t
 use Rattle.gm_file_edit.proofs.Parts.{both-are, map-some}
 use Rattle.gm_file_edit.proofs.Quotes.{IsPlain, argument-plain, path-plain, version-plain}
 use Rattle.gm_file.proofs.Pairwise.{nil-parts}
-use Rattle.gm_file_edit.proofs.Targets.{verb_about}
+use Rattle.gm_file_edit.specs.Keys.{verb_sought}
 
 -- ---- the names of a directive without a fault
 
@@ -280,7 +280,7 @@ superseded own (Some version) is left right =
 
 -- ---- all operations
 
-pub told : (edit : Edit) (earlier : List Directive) (words : List Placed) (d : Directive) → AreWords words → directive_of (verb_about edit) (words_of words) ≡ Some d → directive_kinds Strict earlier d ≡ []
+pub told : (edit : Edit) (earlier : List Directive) (words : List Placed) (d : Directive) → AreWords words → directive_of (verb_sought edit) (words_of words) ≡ Some d → directive_kinds Strict earlier d ≡ []
     → about edit d ≡ is_told (sought_of edit) (subject_inside words)
 unfolding directive_of
 told (Set (ModuleIs path)) earlier words d good is right = let made = map-some DeclaresModule (one_of (words_of words)) d is in sym (ap is_module made.2)

@@ -3,19 +3,17 @@ use Rattle.std.proofs.Common.{◌≡◌, ℕ, ◌-◌, Bool, true, false, List, 
 use Rattle.std.specs.Prelude.{codes, filter}
 use Rattle.std.specs.Option.{option_map, option_to_list}
 use Rattle.std.specs.List.{AllByRecursion}
-use Rattle.std.proofs.lemmas.Bool.{cases_Bool, false≢true}
+use Rattle.std.proofs.lemmas.Bool.{cases_Bool, false≢true, or_parts}
 use Rattle.std.proofs.lemmas.List.{take-append-drop, take_at}
 use Rattle.gm_syntax.specs.Tokens.{Placed}
 use Rattle.gm_syntax.specs.Document.{Line, Blank, Comment, Open, Close, Entry}
-use Rattle.gm_file.specs.Directives.{Directive, LineInBlock, block_after_line, block_after_lines, item_at}
+use Rattle.gm_file.specs.Directives.{Directive, LineInBlock, block_after_line, block_after_lines, item_at, with_blocks_from}
 use Rattle.gm_file.specs.Faults.{is_go, is_module}
-use Rattle.gm_file_edit.specs.declared.adding.AddedVerb.{AddedVerb}
-use Rattle.gm_file_edit.specs.declared.adding.AddedVerb.TheVariants as verb
 use Rattle.gm_file_edit.specs.declared.adding.Spot.{Spot}
-use Rattle.gm_file_edit.specs.Edits.{Edit, Set, ModuleIs, GoIs, RequireAt, Drop, Add, ReplaceWith}
+use Rattle.gm_file_edit.specs.Edits.{Edit, Set, Setting, ModuleIs, GoIs, RequireAt, Drop, Add, ReplaceWith}
 use Rattle.gm_file_edit.specs.About.{about}
-use Rattle.gm_file_edit.specs.Adding.{added_at, insert_at_spot, is_of, past_block, spot_after_first, spot_after_last, verb_text}
-use Rattle.gm_file_edit.specs.Edited.{added, after_first_that, changed, edited, put_in}
+use Rattle.gm_file_edit.specs.Adding.{added_at, insert_at_spot, past_block, spot_after_first, spot_after_last}
+use Rattle.gm_file_edit.specs.Edited.{added, after_first_that, changed, edited, has_verb, new_entry, new_go, put_in}
 use Rattle.gm_file_edit.specs.Fates.{Fate, dropping_from, kept, remaining, renewing_from}
 use Rattle.gm_file_edit.specs.Holding.{directive_at, passes}
 use Rattle.gm_file_edit.specs.Laws.{directives_of}
@@ -25,13 +23,16 @@ use Rattle.gm_file_edit.specs.Renewing.{made_new, with_arguments, with_last}
 use Rattle.gm_file_edit.specs.Searching.{is_there, is_there_from}
 use Rattle.gm_file_edit.specs.Twice.{SecondOperationChangesNothing, SecondSettingChangesNothing}
 use Rattle.gm_file_edit.proofs.AddingSound.{IsIn, IsVerbSpot, file-held, first-is-in, held_from, last-is, passing-level, past-outside}
+use Rattle.gm_file_edit.proofs.EditedSound.{by-put}
 use Rattle.gm_file_edit.proofs.Idle.{second-addition, second-drop, some-filtered, there-said}
 use Rattle.gm_file_edit.proofs.Said.{none-any}
 use Rattle.gm_file_edit.proofs.SaidAfter.{set-stands-alone, there-is}
-use Rattle.gm_file_edit.proofs.Seats.{remaining-seats, seats-append, seats_from}
+use Rattle.gm_file_edit.proofs.Seats.{fewer-all, remaining-left}
+use Rattle.gm_file.proofs.Snoc.{with_blocks-snoc}
 use Rattle.gm_file_edit.proofs.Pairs.{IsSound, document-sound}
 use Rattle.gm_file_edit.proofs.Spots.{added-spot, first-spot}
-use Rattle.gm_file_edit.proofs.Untouched.{all-lines-stay, all_stay, none-dropped-from, or-none}
+use Rattle.gm_file_edit.proofs.Untouched.{all-lines-stay, all_stay, none-dropped-from}
+use Rattle.std.proofs.lemmas.Option.{same_Some}
 
 -- how an operation rewrites a line, given the verb of its block
 abbrev Rewriting : Type 0
@@ -48,32 +49,11 @@ AreSet test new seats = AllByRecursion (IsSet test new) seats
 
 -- the same of lines, given the verb of the block that is open before them
 abbrev LinesAreSet : (Directive → Bool) → Rewriting → Option Placed → List (Line Placed) → Type 0
-LinesAreSet test new block lines = AreSet test new (seats_from block lines)
+LinesAreSet test new block lines = AreSet test new (with_blocks_from block lines)
 
 set-append : (test : Directive → Bool) (new : Rewriting) (xs ys : List (LineInBlock Placed)) → AreSet test new xs → AreSet test new ys → AreSet test new (xs ++ ys)
 set-append test new [] ys one two = two
 set-append test new (x ∷ xs) ys one two = (one.0, set-append test new xs ys one.1 two)
-
--- one more line before the others
-line-set : (test : Directive → Bool) (new : Rewriting) (block : Option Placed) (line : Line Placed) (lines : List (Line Placed)) → IsSet test new (block, line)
-    → LinesAreSet test new (block_after_line block line) lines → LinesAreSet test new block (line ∷ lines)
-line-set test new block line lines is are = by_directive (directive_at block line)
-  where
-    by_directive : (held : Option Directive) → AreSet test new (option_to_list (option_map (λ d. (block, line)) held) ++ seats_from (block_after_line block line) lines)
-    by_directive None = are
-    by_directive (Some d) = (is, are)
-
-record FirstIsSet (test : Directive → Bool) (new : Rewriting) (block : Option Placed) (line : Line Placed) (lines : List (Line Placed)) : Type 0 where
-  pub line_is : IsSet test new (block, line)
-  pub lines_are : LinesAreSet test new (block_after_line block line) lines
-
-first-set : (test : Directive → Bool) (new : Rewriting) (block : Option Placed) (line : Line Placed) (lines : List (Line Placed)) → LinesAreSet test new block (line ∷ lines) → FirstIsSet test new block line lines
-first-set test new block line lines are = by_directive (directive_at block line) refl are
-  where
-    by_directive : (held : Option Directive) → directive_at block line ≡ held → AreSet test new (option_to_list (option_map (λ d. (block, line)) held) ++ seats_from (block_after_line block line) lines)
-        → FirstIsSet test new block line lines
-    by_directive None is all = record { line_is = λ e. absurd (false≢true (sym (ap (passes test) is) ∙ e)); lines_are = all }
-    by_directive (Some d) is all = record { line_is = all.0; lines_are = all.1 }
 
 missed : (test : Directive → Bool) (new : Rewriting) (block : Option Placed) (line : Line Placed) → passes test (directive_at block line) ≡ false → IsSet test new (block, line)
 missed test new block line miss = λ e. absurd (false≢true (sym miss ∙ e))
@@ -82,8 +62,8 @@ missed test new block line miss = λ e. absurd (false≢true (sym miss ∙ e))
 none-set : (test : Directive → Bool) (new : Rewriting) (block : Option Placed) (lines : List (Line Placed)) → is_there_from test block lines ≡ false → LinesAreSet test new block lines
 none-set test new block [] none = tt
 none-set test new block (line ∷ lines) none =
-    let parts = or-none (passes test (directive_at block line)) (is_there_from test (block_after_line block line) lines) none in
-    line-set test new block line lines (missed test new block line parts.0) (none-set test new (block_after_line block line) lines parts.1)
+    let parts = or_parts (passes test (directive_at block line)) (is_there_from test (block_after_line block line) lines) none in
+    (missed test new block line parts.0, none-set test new (block_after_line block line) lines parts.1)
 
 -- ---- the lines that a setting leaves, if it targets some
 
@@ -98,7 +78,7 @@ dropping-set test new block (line ∷ lines) =
     let rest = dropping-set test new (block_after_line block line) lines in
     elim (cases_Bool (passes test (directive_at block line))) [
       | inl hit ↦ rw hit (subst (λ (b : Option Placed). LinesAreSet test new b (kept (dropping_from test (block_after_line block line) lines))) (passing-level test block line hit) rest)
-      | inr miss ↦ rw miss (line-set test new block line (kept (dropping_from test (block_after_line block line) lines)) (missed test new block line miss) rest)
+      | inr miss ↦ rw miss (missed test new block line miss, rest)
     ]
 
 renewing-set : (test : Directive → Bool) (new : Rewriting) → IsSetting test new → (block : Option Placed) (lines : List (Line Placed)) → LinesAreSet test new block (kept (renewing_from test new block lines))
@@ -106,11 +86,8 @@ renewing-set test new sets block [] = tt
 renewing-set test new sets block (line ∷ lines) =
     let behind : Option Placed = block_after_line block line in
     elim (cases_Bool (passes test (directive_at block line))) [
-      | inl hit ↦
-          rw hit
-          (line-set test new block (new block line) (kept (dropping_from test behind lines)) (λ e. sets.again block line hit)
-          (subst (λ (b : Option Placed). LinesAreSet test new b (kept (dropping_from test behind lines))) (sym (sets.level block line)) (dropping-set test new behind lines)))
-      | inr miss ↦ rw miss (line-set test new block line (kept (renewing_from test new behind lines)) (missed test new block line miss) (renewing-set test new sets behind lines))
+      | inl hit ↦ rw hit ((λ e. sets.again block line hit), subst (λ (b : Option Placed). LinesAreSet test new b (kept (dropping_from test behind lines))) (sym (sets.level block line)) (dropping-set test new behind lines))
+      | inr miss ↦ rw miss (missed test new block line miss, renewing-set test new sets behind lines)
     ]
 
 -- ---- rewriting twice
@@ -150,21 +127,18 @@ arguments-again test arguments (Some verb) (Entry words suffix) hit = refl
 arguments-again test arguments None (Entry [] suffix) hit = absurd cc
 arguments-again test arguments None (Entry (verb ∷ words) suffix) hit = refl
 
-last-sets : (test : Directive → Bool) (value : List ℕ) → IsSetting test (with_last value)
-last-sets test value = record { level = last-level value; again = λ block line hit. last-again value block line }
-
-arguments-set : (test : Directive → Bool) (arguments : List Placed) → IsSetting test (with_arguments arguments)
-arguments-set test arguments = record { level = arguments-level arguments; again = arguments-again test arguments }
+setting-sets : (s : Setting) → IsSetting (about (Set s)) (made_new (Set s))
+setting-sets (ModuleIs path) = record { level = last-level path; again = λ block line hit. last-again path block line }
+setting-sets (GoIs text) = record { level = last-level text; again = λ block line hit. last-again text block line }
+setting-sets (RequireAt p) = record { level = last-level p.1; again = λ block line hit. last-again p.1 block line }
+setting-sets (ReplaceWith r) = record { level = arguments-level (replace_words r); again = arguments-again (about (Set (ReplaceWith r))) (replace_words r) }
 
 remaining-set : (test : Directive → Bool) (new : Rewriting) → IsSetting test new → (lines : List (Line Placed)) → LinesAreSet test new None (remaining (renewing_from test new None lines))
-remaining-set test new sets lines = subst (AreSet test new) (sym (remaining-seats (renewing_from test new None lines))) (renewing-set test new sets None lines)
+remaining-set test new sets lines = fewer-all (IsSet test new) (remaining-left (renewing_from test new None lines)).0 (renewing-set test new sets None lines)
 
 changed-set : (edit : Edit) (lines : List (Line Placed)) (d : Directive) → set_by edit ≡ Some d → LinesAreSet (about edit) (made_new edit) None (changed edit lines)
 unfolding changed
-changed-set (Set (ModuleIs path)) lines d sets = remaining-set (about (Set (ModuleIs path))) (made_new (Set (ModuleIs path))) (last-sets is_module path) lines
-changed-set (Set (GoIs text)) lines d sets = remaining-set (about (Set (GoIs text))) (made_new (Set (GoIs text))) (last-sets is_go text) lines
-changed-set (Set (RequireAt p)) lines d sets = remaining-set (about (Set (RequireAt p))) (made_new (Set (RequireAt p))) (last-sets (about (Set (RequireAt p))) p.1) lines
-changed-set (Set (ReplaceWith r)) lines d sets = remaining-set (about (Set (ReplaceWith r))) (made_new (Set (ReplaceWith r))) (arguments-set (about (Set (ReplaceWith r))) (replace_words r)) lines
+changed-set (Set s) lines d sets = remaining-set (about (Set s)) (made_new (Set s)) (setting-sets s) lines
 changed-set (Drop t) lines d sets = absurd cc
 changed-set (Add a) lines d sets = absurd cc
 
@@ -174,11 +148,11 @@ changed-set (Add a) lines d sets = absurd cc
 inserted-set : (test : Directive → Bool) (new : Rewriting) (block : Option Placed) (front more back : List (Line Placed)) → is_there_from test block (front ++ back) ≡ false
     → LinesAreSet test new (block_after_lines block front) more → block_after_lines (block_after_lines block front) more ≡ block_after_lines block front → LinesAreSet test new block (front ++ (more ++ back))
 inserted-set test new block [] more back none are level =
-    subst (AreSet test new) (sym (seats-append block more back))
-    (set-append test new (seats_from block more) (seats_from (block_after_lines block more) back) are (subst (λ (b : Option Placed). LinesAreSet test new b back) (sym level) (none-set test new block back none)))
+    subst (AreSet test new) (sym (with_blocks-snoc block more back))
+    (set-append test new (with_blocks_from block more) (with_blocks_from (block_after_lines block more) back) are (subst (λ (b : Option Placed). LinesAreSet test new b back) (sym level) (none-set test new block back none)))
 inserted-set test new block (line ∷ front) more back none are level =
-    let parts = or-none (passes test (directive_at block line)) (is_there_from test (block_after_line block line) (front ++ back)) none in
-    line-set test new block line (front ++ (more ++ back)) (missed test new block line parts.0) (inserted-set test new (block_after_line block line) front more back parts.1 are level)
+    let parts = or_parts (passes test (directive_at block line)) (is_there_from test (block_after_line block line) (front ++ back)) none in
+    (missed test new block line parts.0, inserted-set test new (block_after_line block line) front more back parts.1 are level)
 
 -- an entry that is new in its block is rewritten to itself
 abbrev EntryIsSet : Rewriting → List ℕ → List Placed → Type 0
@@ -189,12 +163,12 @@ entry-level block true text arguments = refl
 entry-level block false text arguments = refl
 
 only-set : (test : Directive → Bool) (new : Rewriting) (block : Option Placed) (line : Line Placed) → new block line ≡ line → LinesAreSet test new block (line ∷ [])
-only-set test new block line same = line-set test new block line [] (λ e. same) tt
+only-set test new block line same = ((λ e. same), tt)
 
 -- a blank line and an entry outside blocks
 blank-and-entry : (test : Directive → Bool) (new : Rewriting) (block : Option Placed) (line : Line Placed) → new block line ≡ line → LinesAreSet test new block (Blank ∷ line ∷ [])
 unfolding item_at
-blank-and-entry test new block line same = only-set test new block line same
+blank-and-entry test new block line same = ((λ e. absurd cc), only-set test new block line same)
 
 at-end-set : (test : Directive → Bool) (new : Rewriting) (text : List ℕ) (arguments : List Placed) (lines : List (Line Placed)) → EntryIsSet new text arguments → IsSound lines → is_there test lines ≡ false
     → LinesAreSet test new None (lines ++ Blank ∷ single text arguments ∷ [])
@@ -203,23 +177,23 @@ at-end-set test new text arguments lines is sound none =
     inserted-set test new None lines (Blank ∷ single text arguments ∷ []) [] (subst (λ (ls : List (Line Placed)). is_there test ls ≡ false) (sym (append-nil lines)) none)
     (subst (λ (b : Option Placed). LinesAreSet test new b (Blank ∷ single text arguments ∷ [])) (sym outside) (blank-and-entry test new None (single text arguments) (is None))) refl
 
-added-at-set : (test : Directive → Bool) (new : Rewriting) (v : AddedVerb) (arguments : List Placed) (lines : List (Line Placed)) → EntryIsSet new (verb_text v) arguments → IsSound lines → is_there test lines ≡ false
-    → (o : Option Spot) → ((spot : Spot) → o ≡ Some spot → IsVerbSpot v None lines spot) → LinesAreSet test new None (added_at (verb_text v) arguments lines o)
-added-at-set test new v arguments lines is sound none None spot_is = at-end-set test new (verb_text v) arguments lines is sound none
+added-at-set : (test : Directive → Bool) (new : Rewriting) (v : List ℕ) (arguments : List Placed) (lines : List (Line Placed)) → EntryIsSet new v arguments → IsSound lines → is_there test lines ≡ false
+    → (o : Option Spot) → ((spot : Spot) → o ≡ Some spot → IsVerbSpot v None lines spot) → LinesAreSet test new None (added_at v arguments lines o)
+added-at-set test new v arguments lines is sound none None spot_is = at-end-set test new v arguments lines is sound none
 added-at-set test new v arguments lines is sound none (Some spot) spot_is =
     let front : List (Line Placed) = take spot.before lines in
     let back : List (Line Placed) = drop spot.before lines in
     let block : Option Placed = block_after_lines None front in
     let here = spot_is spot refl in
-    let entry : Line Placed = entry_at spot.inside (verb_text v) arguments in
-    let same : new block entry ≡ entry = subst (λ (b : Bool). new block (entry_at b (verb_text v) arguments) ≡ entry_at b (verb_text v) arguments) here.0.inside (is block) in
+    let entry : Line Placed = entry_at spot.inside v arguments in
+    let same : new block entry ≡ entry = subst (λ (b : Bool). new block (entry_at b v arguments) ≡ entry_at b v arguments) here.0.inside (is block) in
     inserted-set test new None front (entry ∷ []) back (subst (λ (ls : List (Line Placed)). is_there test ls ≡ false) (sym (take-append-drop spot.before lines)) none)
-    (only-set test new block entry same) (entry-level block spot.inside (verb_text v) arguments)
+    (only-set test new block entry same) (entry-level block spot.inside v arguments)
 
-added-set : (test : Directive → Bool) (new : Rewriting) (v : AddedVerb) (arguments : List Placed) (lines : List (Line Placed)) → EntryIsSet new (verb_text v) arguments → IsSound lines → is_there test lines ≡ false
-    → LinesAreSet test new None (added (is_of v) (verb_text v) arguments lines)
+added-set : (test : Directive → Bool) (new : Rewriting) (v : List ℕ) (arguments : List Placed) (lines : List (Line Placed)) → EntryIsSet new v arguments → IsSound lines → is_there test lines ≡ false
+    → LinesAreSet test new None (added v arguments lines)
 added-set test new v arguments lines is sound none =
-    subst (LinesAreSet test new None) (sym (added-spot (is_of v) (verb_text v) arguments lines)) (added-at-set test new v arguments lines is sound none (spot_after_last (is_of v) None lines) (last-is v None lines))
+    subst (LinesAreSet test new None) (sym (added-spot v arguments lines)) (added-at-set test new v arguments lines is sound none (spot_after_last (has_verb v) None lines) (last-is v None lines))
 
 behind-set : (test : Directive → Bool) (new : Rewriting) (text : List ℕ) (arguments : List Placed) (lines : List (Line Placed)) → EntryIsSet new text arguments → IsSound lines → is_there test lines ≡ false
     → (o : Option Spot) → ((spot : Spot) → o ≡ Some spot → IsIn None lines spot) → LinesAreSet test new None (insert_at_spot (Blank ∷ single text arguments ∷ []) lines o)
@@ -230,38 +204,44 @@ behind-set test new text arguments lines is sound none (Some spot) spot_is =
     inserted-set test new None (take n lines) (Blank ∷ single text arguments ∷ []) (drop n lines) (subst (λ (ls : List (Line Placed)). is_there test ls ≡ false) (sym (take-append-drop n lines)) none)
     (subst (λ (b : Option Placed). LinesAreSet test new b (Blank ∷ single text arguments ∷ [])) (sym outside) (blank-and-entry test new None (single text arguments) (is None))) refl
 
-go-set : (text : List ℕ) (lines : List (Line Placed)) → IsSound lines → is_there is_go lines ≡ false
-    → LinesAreSet is_go (with_last text) None (after_first_that is_module (Blank ∷ single (codes "go") (made_word text ∷ []) ∷ []) lines)
+go-set : (text : List ℕ) (lines : List (Line Placed)) → IsSound lines → is_there is_go lines ≡ false → LinesAreSet is_go (with_last text) None (after_first_that is_module (new_go text) lines)
 go-set text lines sound none =
-    subst (LinesAreSet is_go (with_last text) None) (sym (first-spot is_module (Blank ∷ single (codes "go") (made_word text ∷ []) ∷ []) lines))
+    subst (LinesAreSet is_go (with_last text) None) (sym (first-spot is_module (new_go text) lines))
     (behind-set is_go (with_last text) (codes "go") (made_word text ∷ []) lines go-entry sound none (spot_after_first is_module None lines) (first-is-in is_module None lines))
   where
     go-entry : EntryIsSet (with_last text) (codes "go") (made_word text ∷ [])
     go-entry None = refl
     go-entry (Some verb) = refl
 
-put-set : (edit : Edit) (lines : List (Line Placed)) (d : Directive) → set_by edit ≡ Some d → IsSound lines → is_there (about edit) lines ≡ false → LinesAreSet (about edit) (made_new edit) None (put_in edit lines)
-unfolding put_in
-put-set (Set (ModuleIs path)) lines d sets sound none = none-set is_module (made_new (Set (ModuleIs path))) None lines none
-put-set (Set (GoIs text)) lines d sets sound none = go-set text lines sound none
-put-set (Set (RequireAt p)) lines d sets sound none = added-set (about (Set (RequireAt p))) (made_new (Set (RequireAt p))) verb.Require (pair_words p) lines require-entry sound none
+-- the new entry of an operation
+entry-set : (edit : Edit) (entry : List ℕ × List Placed) → new_entry edit ≡ Some entry → EntryIsSet (made_new edit) entry.0 entry.1
+entry-set (Set (RequireAt p)) entry e = subst (λ (x : List ℕ × List Placed). EntryIsSet (with_last p.1) x.0 x.1) (same_Some _ _ e) require-entry
   where
-    require-entry : EntryIsSet (with_last p.1) (verb_text verb.Require) (pair_words p)
+    require-entry : EntryIsSet (with_last p.1) (codes "require") (pair_words p)
     require-entry None = refl
     require-entry (Some block) = refl
-put-set (Set (ReplaceWith r)) lines d sets sound none = added-set (about (Set (ReplaceWith r))) (made_new (Set (ReplaceWith r))) verb.Replace (replace_words r) lines replace-entry sound none
+entry-set (Set (ReplaceWith r)) entry e = subst (λ (x : List ℕ × List Placed). EntryIsSet (with_arguments (replace_words r)) x.0 x.1) (same_Some _ _ e) replace-entry
   where
-    replace-entry : EntryIsSet (with_arguments (replace_words r)) (verb_text verb.Replace) (replace_words r)
+    replace-entry : EntryIsSet (with_arguments (replace_words r)) (codes "replace") (replace_words r)
     replace-entry None = refl
     replace-entry (Some block) = refl
-put-set (Drop t) lines d sets sound none = absurd cc
-put-set (Add a) lines d sets sound none = absurd cc
+entry-set (Set (ModuleIs path)) entry e = absurd cc
+entry-set (Set (GoIs text)) entry e = absurd cc
+entry-set (Add a) entry e = λ block. refl
+entry-set (Drop t) entry e = absurd cc
+
+put-set : (lines : List (Line Placed)) → IsSound lines → (edit : Edit) → is_there (about edit) lines ≡ false → LinesAreSet (about edit) (made_new edit) None (put_in edit lines)
+put-set lines sound = by-put (λ edit after. is_there (about edit) lines ≡ false → LinesAreSet (about edit) (made_new edit) None after) lines
+    (λ path none. none-set is_module (with_last path) None lines none)
+    (λ text none. go-set text lines sound none)
+    (λ edit entry is none. added-set (about edit) (made_new edit) entry.0 entry.1 lines (entry-set edit entry is) sound none)
+    (λ t none. none-set (about (Drop t)) (made_new (Drop t)) None lines none)
 
 pass-set : (edit : Edit) (lines : List (Line Placed)) (d : Directive) → set_by edit ≡ Some d → IsSound lines → LinesAreSet (about edit) (made_new edit) None (edited edit lines)
 unfolding edited
 pass-set edit lines d sets sound = elim (cases_Bool (is_there (about edit) lines)) [
   | inl there ↦ rw there (changed-set edit lines d sets)
-  | inr none ↦ rw none (put-set edit lines d sets sound none)
+  | inr none ↦ rw none (put-set lines sound edit none)
 ]
 
 edited-set : (edit : Edit) (lines : List (Line Placed)) (d : Directive) → set_by edit ≡ Some d → IsSound lines → LinesAreSet (about edit) (made_new edit) None (edited edit lines)
@@ -283,12 +263,11 @@ renewing-stays test new d block [] are alone = refl
 renewing-stays test new d block (line ∷ lines) are alone =
     let behind : Option Placed = block_after_line block line in
     let rest : List Directive = held_from behind lines in
-    let first = first-set test new block line lines are in
     elim (cases_Bool (passes test (directive_at block line))) [
       | inl hit ↦
           let none : is_there_from test behind lines ≡ false = there-is test behind lines ∙ none-any test rest (rest-none test (directive_at block line) rest d hit alone) in
-          rw (hit, first.line_is hit, none-dropped-from test behind lines none) refl
-      | inr miss ↦ rw miss (ap (λ (fs : List Fate). Some line ∷ fs) (renewing-stays test new d behind lines first.lines_are (sym (rest-same test (directive_at block line) rest miss) ∙ alone)))
+          rw (hit, are.0 hit, none-dropped-from test behind lines none) refl
+      | inr miss ↦ rw miss (ap (λ (fs : List Fate). Some line ∷ fs) (renewing-stays test new d behind lines are.1 (sym (rest-same test (directive_at block line) rest miss) ∙ alone)))
     ]
 
 stays : (test : Directive → Bool) (new : Rewriting) (d : Directive) (lines : List (Line Placed)) → LinesAreSet test new None lines → filter test (held_from None lines) ≡ d ∷ []
@@ -297,10 +276,7 @@ stays test new d lines are alone = ap (remaining) (renewing-stays test new d Non
 
 again-changes : (edit : Edit) (lines : List (Line Placed)) (d : Directive) → set_by edit ≡ Some d → LinesAreSet (about edit) (made_new edit) None lines → filter (about edit) (held_from None lines) ≡ d ∷ [] → changed edit lines ≡ lines
 unfolding changed
-again-changes (Set (ModuleIs path)) lines d sets are alone = stays (about (Set (ModuleIs path))) (made_new (Set (ModuleIs path))) d lines are alone
-again-changes (Set (GoIs text)) lines d sets are alone = stays (about (Set (GoIs text))) (made_new (Set (GoIs text))) d lines are alone
-again-changes (Set (RequireAt p)) lines d sets are alone = stays (about (Set (RequireAt p))) (made_new (Set (RequireAt p))) d lines are alone
-again-changes (Set (ReplaceWith r)) lines d sets are alone = stays (about (Set (ReplaceWith r))) (made_new (Set (ReplaceWith r))) d lines are alone
+again-changes (Set s) lines d sets are alone = stays (about (Set s)) (made_new (Set s)) d lines are alone
 again-changes (Drop t) lines d sets are alone = absurd cc
 again-changes (Add a) lines d sets are alone = absurd cc
 

@@ -6,18 +6,15 @@ use Rattle.gm_file.specs.Directives.{Directive, block_after_line}
 use Rattle.gm_file_edit.specs.Fates.{Fate, dropped, dropping_from, empties, is_emptied, kept, remaining, widened_from}
 use Rattle.gm_file_edit.specs.Holding.{directive_at, passes}
 use Rattle.gm_file_edit.specs.Searching.{is_there, is_there_from}
+use Rattle.std.proofs.lemmas.Bool.{or_parts, and_right}
 
 abbrev pub all_stay : List (Line Placed) → List Fate
 all_stay lines = map (λ line. Some line) lines
 
-pub or-none : (a b : Bool) → (a || b) ≡ false → (a ≡ false) × (b ≡ false)
-or-none true b e = absurd cc
-or-none false b e = (refl, e)
-
 pub none-dropped-from : (test : Directive → Bool) (block : Option Placed) (lines : List (Line Placed)) → is_there_from test block lines ≡ false → dropping_from test block lines ≡ all_stay lines
 none-dropped-from test block [] e = refl
 none-dropped-from test block (line ∷ lines) e =
-    let parts = or-none (passes test (directive_at block line)) (is_there_from test (block_after_line block line) lines) e in
+    let parts = or_parts (passes test (directive_at block line)) (is_there_from test (block_after_line block line) lines) e in
     rw parts.0 (ap (λ (fs : List Fate). Some line ∷ fs) (none-dropped-from test (block_after_line block line) lines parts.1))
 
 -- lines that stay empty no block, before fates that empty none
@@ -29,10 +26,6 @@ empties-none fates none (Open verb suffix ∷ lines) = refl
 empties-none fates none (Close suffix ∷ lines) = refl
 empties-none fates none (Entry words suffix ∷ lines) = refl
 
-and-last : (a b : Bool) → b ≡ false → (a && b) ≡ false
-and-last true b e = e
-and-last false b e = refl
-
 -- lines that stay, before fates that empty no block and leave these lines
 pub stay-before : (fates : List Fate) (rest : List (Line Placed)) → empties false fates ≡ false → ((inside : Bool) → kept (widened_from inside false fates) ≡ rest)
     → (inside : Bool) (lines : List (Line Placed)) → kept (widened_from inside false (all_stay lines ++ fates)) ≡ lines ++ rest
@@ -41,7 +34,7 @@ stay-before fates rest none is false (Blank ∷ lines) = ap (λ (ls : List (Line
 stay-before fates rest none is true (Blank ∷ lines) = ap (λ (ls : List (Line Placed)). Blank ∷ ls) (stay-before fates rest none is true lines)
 stay-before fates rest none is inside (Comment text ∷ lines) = ap (λ (ls : List (Line Placed)). Comment text ∷ ls) (stay-before fates rest none is inside lines)
 stay-before fates rest none is inside (Open verb suffix ∷ lines) =
-    let stays : is_emptied inside suffix (all_stay lines ++ fates) ≡ false = and-last (not inside && is_none suffix) (empties false (all_stay lines ++ fates)) (empties-none fates none lines) in
+    let stays : is_emptied inside suffix (all_stay lines ++ fates) ≡ false = and_right (not inside && is_none suffix) (empties false (all_stay lines ++ fates)) (empties-none fates none lines) in
     rw stays (ap (λ (ls : List (Line Placed)). Open verb suffix ∷ ls) (stay-before fates rest none is true lines))
 stay-before fates rest none is false (Close suffix ∷ lines) = ap (λ (ls : List (Line Placed)). Close suffix ∷ ls) (stay-before fates rest none is false lines)
 stay-before fates rest none is true (Close suffix ∷ lines) = ap (λ (ls : List (Line Placed)). Close suffix ∷ ls) (stay-before fates rest none is false lines)

@@ -1,7 +1,31 @@
--- Lists from an index on.
-use Rattle.std.proofs.Common.{◌≡◌, ℕ, suc, ◌+◌, ◌<◌, List, ◌∷◌, length, get_or, drop, drop-cons, sym, ap, ◌∙◌, arith}
+-- Lists from an index on, and lines walked over by their keys.
+use Rattle.std.proofs.Common.{◌≡◌, ℕ, suc, ◌+◌, ◌<◌, false, List, [], ◌∷◌, length, get_or, drop, take, drop-cons, Option, None, refl, sym, ap, ◌∙◌, arith}
+use Rattle.std.proofs.lemmas.List.{take_more}
+use Rattle.gm_syntax.specs.Tokens.{Placed}
+use Rattle.gm_syntax.specs.Document.{Line, Blank, Comment, Open, Close, Entry}
+use Rattle.gm_file.specs.Directives.{block_after_line, block_after_lines}
+use Rattle.gm_file_edit.specs.Keys.{changes_block, key_of}
+use Rattle.gm_file_edit.specs.Marks.{line_at}
+use Rattle.gm_file_edit.proofs.Pairs.{block-append}
 
 pub drop-next : {X : Type 0} (xs : List X) (n : ℕ) (x : X) → n < length xs → x ≡ get_or xs n x → drop n xs ≡ x ∷ drop (n + 1) xs
 drop-next {X} xs n x lt is =
     let e : suc n ≡ n + 1 = omega arith in
     drop-cons xs n x lt ∙ ap (λ (y : X). y ∷ drop (suc n) xs) (sym is) ∙ ap (λ (k : ℕ). x ∷ drop k xs) e
+
+-- ---- the open block
+
+-- a line that neither opens nor closes a block
+pub level-line : (block : Option Placed) (line : Line Placed) → changes_block (key_of line) ≡ false → block_after_line block line ≡ block
+level-line block Blank level = refl
+level-line block (Comment text) level = refl
+level-line block (Open verb suffix) level = absurd cc
+level-line block (Close suffix) level = absurd cc
+level-line block (Entry words suffix) level = refl
+
+-- the block after one more line
+pub block-next : (lines : List (Line Placed)) (n : ℕ) → n < length lines → block_after_lines None (take (n + 1) lines) ≡ block_after_line (block_after_lines None (take n lines)) (line_at lines n)
+block-next lines n lt = ap (block_after_lines None) (take_more lines n Blank lt) ∙ block-append None (take n lines) (line_at lines n ∷ [])
+
+pub block-level : (lines : List (Line Placed)) (n : ℕ) → n < length lines → changes_block (key_of (line_at lines n)) ≡ false → block_after_lines None (take (n + 1) lines) ≡ block_after_lines None (take n lines)
+block-level lines n lt level = block-next lines n lt ∙ level-line (block_after_lines None (take n lines)) (line_at lines n) level

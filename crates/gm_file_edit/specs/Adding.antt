@@ -1,31 +1,12 @@
 -- Where an added entry goes, by positions. No public contract cites it.
-use Rattle.std.specs.Prelude.{ℕ, suc, ◌+◌, if◌then◌else◌, Bool, List, [], ◌∷◌, ◌++◌, take, drop, insert, codes, Option, Some, None, is_some}
+use Rattle.std.specs.Prelude.{ℕ, suc, ◌+◌, if◌then◌else◌, Bool, List, [], ◌∷◌, ◌++◌, take, drop, insert, Option, Some, None, is_some}
 use Rattle.std.specs.Option.{option_map, option_or}
 use Rattle.gm_syntax.specs.Tokens.{Placed}
 use Rattle.gm_syntax.specs.Document.{Line, Blank, Close}
 use Rattle.gm_file.specs.Directives.{Directive, block_after_line}
-use Rattle.gm_file_edit.specs.declared.adding.AddedVerb.{AddedVerb}
-use Rattle.gm_file_edit.specs.declared.adding.AddedVerb.TheVariants as verb
 use Rattle.gm_file_edit.specs.declared.adding.Spot.{Spot}
 use Rattle.gm_file_edit.specs.Holding.{directive_at, passes}
 use Rattle.gm_file_edit.specs.NewWords.{entry_at, single}
-use Rattle.gm_file_edit.specs.Verbs.{is_exclude, is_replace, is_require, is_retract}
-
--- ---- the verb of a directive
-
--- whether a directive has this verb
-abbrev pub is_of : AddedVerb → Directive → Bool
-is_of verb.Require d = is_require d
-is_of verb.Exclude d = is_exclude d
-is_of verb.Replace d = is_replace d
-is_of verb.Retract d = is_retract d
-
--- how a verb is spelled
-abbrev pub verb_text : AddedVerb → List ℕ
-verb_text verb.Require = codes "require"
-verb_text verb.Exclude = codes "exclude"
-verb_text verb.Replace = codes "replace"
-verb_text verb.Retract = codes "retract"
 
 -- ---- where new entries go
 

@@ -1,19 +1,22 @@
 -- What an operation leaves of the lines of a file (go help mod edit).
-use Rattle.std.specs.Prelude.{ℕ, ◌&&◌, not, if◌then◌else◌, Bool, List, [], ◌∷◌, ◌++◌, codes, Option, None, is_some}
+use Rattle.std.specs.Prelude.{ℕ, ◌&&◌, not, if◌then◌else◌, Bool, List, [], ◌∷◌, ◌++◌, codes, Option, Some, None, is_some}
 use Rattle.gm_syntax.specs.Tokens.{Placed}
 use Rattle.gm_syntax.specs.Document.{Line, Blank, Close}
-use Rattle.gm_file.specs.Directives.{Directive, block_after_line}
+use Rattle.gm_file.specs.Directives.{Directive, block_after_line, is_of_verb, main_verb}
 use Rattle.gm_file.specs.Faults.{is_module}
 use Rattle.gm_file_edit.specs.About.{about}
-use Rattle.gm_file_edit.specs.Edits.{Edit, Set, Add, Drop, ModuleIs, GoIs, RequireAt, ReplaceWith, Exclude, Retract}
+use Rattle.gm_file_edit.specs.Edits.{Edit, Set, Add, Drop, GoIs, RequireAt, ReplaceWith, Exclude, Retract}
 use Rattle.gm_file_edit.specs.Fates.{dropped, renewed}
 use Rattle.gm_file_edit.specs.Holding.{directive_at, passes}
 use Rattle.gm_file_edit.specs.NewWords.{entry_at, interval_words, made_word, pair_words, replace_words, single}
 use Rattle.gm_file_edit.specs.Renewing.{made_new}
 use Rattle.gm_file_edit.specs.Searching.{is_there, is_there_from}
-use Rattle.gm_file_edit.specs.Verbs.{is_exclude, is_replace, is_require, is_retract}
 
 -- ---- where a new entry goes
+
+-- whether this is the verb of a directive
+abbrev pub has_verb : List ℕ → Directive → Bool
+has_verb verb d = is_of_verb (main_verb verb) d
 
 -- The lines, given the verb of the open block, if any, with a new entry directly after the last one that holds a
 -- directive that passes the test, in the same block if that one is in a block.
@@ -25,10 +28,11 @@ after_last_of test verb arguments block (line ∷ lines) =
     then line ∷ entry_at (is_some block) verb arguments ∷ lines
     else line ∷ after_last_of test verb arguments (block_after_line block line) lines
 
--- the same; if there is none, the entry goes to the end, after a blank line
-unfoldable pub added : (Directive → Bool) → List ℕ → List Placed → List (Line Placed) → List (Line Placed)
-added test verb arguments lines =
-    if is_there test lines then after_last_of test verb arguments None lines
+-- The lines with a new entry after the last one that holds a directive of its verb. If there is none, the entry goes to
+-- the end, after a blank line.
+unfoldable pub added : List ℕ → List Placed → List (Line Placed) → List (Line Placed)
+added verb arguments lines =
+    if is_there (has_verb verb) lines then after_last_of (has_verb verb) verb arguments None lines
     else lines ++ Blank ∷ single verb arguments ∷ []
 
 -- the rest of the lines of a block with new ones after its closing
@@ -64,16 +68,24 @@ changed (Set s) lines = renewed (about (Set s)) (made_new (Set s)) lines
 changed (Add a) lines = lines
 changed (Drop t) lines = dropped (about (Drop t)) lines
 
--- The lines after an operation that targets none: a directive is put in, after the last one of its verb, but a go
+-- the verb and the arguments of the entry that an operation puts in next to those of its verb, if it does
+abbrev pub new_entry : Edit → Option (List ℕ × List Placed)
+new_entry (Set (RequireAt p)) = Some (codes "require", pair_words p)
+new_entry (Set (ReplaceWith r)) = Some (codes "replace", replace_words r)
+new_entry (Add (Exclude p)) = Some (codes "exclude", pair_words p)
+new_entry (Add (Retract ends)) = Some (codes "retract", interval_words ends)
+new_entry _ = None
+
+-- the lines with this entry, if any
+abbrev pub with_entry : Option (List ℕ × List Placed) → List (Line Placed) → List (Line Placed)
+with_entry None lines = lines
+with_entry (Some entry) lines = added entry.0 entry.1 lines
+
+-- The lines after an operation that targets none: its entry is put in, after the last one of its verb, but a go
 -- directive after the module directive or its block. No module directive is put in.
 unfoldable pub put_in : Edit → List (Line Placed) → List (Line Placed)
-put_in (Set (ModuleIs path)) lines = lines
 put_in (Set (GoIs text)) lines = after_first_that is_module (new_go text) lines
-put_in (Set (RequireAt p)) lines = added is_require (codes "require") (pair_words p) lines
-put_in (Set (ReplaceWith r)) lines = added is_replace (codes "replace") (replace_words r) lines
-put_in (Add (Exclude p)) lines = added is_exclude (codes "exclude") (pair_words p) lines
-put_in (Add (Retract ends)) lines = added is_retract (codes "retract") (interval_words ends) lines
-put_in (Drop t) lines = lines
+put_in edit lines = with_entry (new_entry edit) lines
 
 -- the lines after the operation
 unfoldable pub edited : Edit → List (Line Placed) → List (Line Placed)

@@ -1,12 +1,9 @@
 -- Keys of lines: what tells most lines apart without a look at their words. No public contract cites it.
-use Rattle.std.specs.Prelude.{◌%◌, ◌^◌, ◌&&◌, ◌==◌, if◌then◌else◌, ℕ, Bool, true, false, List, [], ◌∷◌, Option, Some, None, codes}
-use Rattle.std.specs.Str.{bytes_eq}
+use Rattle.std.specs.Prelude.{◌%◌, ◌^◌, ◌&&◌, ◌==◌, if◌then◌else◌, ℕ, Bool, true, false, List, [], ◌∷◌, Option, Some, None}
 use Rattle.gm_name.specs.Fingerprint.{fingerprint}
 use Rattle.gm_syntax.specs.Tokens.{Placed, words_of}
 use Rattle.gm_syntax.specs.Document.{Line, Blank, Comment, Open, Close, Entry}
-use Rattle.gm_file.specs.Directives.{is_empty_block}
-use Rattle.gm_file_edit.specs.declared.adding.AddedVerb.{AddedVerb}
-use Rattle.gm_file_edit.specs.declared.adding.AddedVerb.TheVariants as added
+use Rattle.gm_file.specs.Directives.{is_empty_block, main_verb, verb_eq}
 use Rattle.gm_file_edit.specs.declared.keys.Key.{Key}
 use Rattle.gm_file_edit.specs.declared.keys.Key.TheVariants as key
 use Rattle.gm_file_edit.specs.declared.keys.EntryKey.{EntryKey}
@@ -15,61 +12,36 @@ use Rattle.gm_file_edit.specs.declared.keys.SoughtKey.{SoughtKey}
 use Rattle.gm_file_edit.specs.declared.keys.SoughtKey.TheVariants as sought
 use Rattle.gm_file_edit.specs.declared.keys.Scope.{Scope}
 use Rattle.gm_file_edit.specs.declared.keys.Scope.TheVariants as scope
-use Rattle.gm_file_edit.specs.declared.verb.Verb.{Verb}
-use Rattle.gm_file_edit.specs.declared.verb.Verb.TheVariants as verb
+use Rattle.gm_file.specs.declared.verb.Verb.{Verb}
+use Rattle.gm_file.specs.declared.verb.Verb.TheVariants as verb
 use Rattle.gm_file_edit.specs.Edits.{Edit, Set, ModuleIs, GoIs, RequireAt, Drop, AnyRequire, Add, Exclude, AnyExclude, ReplaceWith, AnyReplace, Retract, AnyRetract}
 use Rattle.gm_file_edit.specs.Subjects.{Sought, Any, First, Both, Subject, is_told, subject_inside, subject_outside}
 
 -- ---- verbs
 
--- the verb that is spelled like this
-abbrev pub verb_named : List ℕ → Verb
-verb_named text =
-    if bytes_eq text (codes "module") then verb.Module
-    else (if bytes_eq text (codes "go") then verb.Go
-    else (if bytes_eq text (codes "require") then verb.Added added.Require
-    else (if bytes_eq text (codes "exclude") then verb.Added added.Exclude
-    else (if bytes_eq text (codes "replace") then verb.Added added.Replace
-    else (if bytes_eq text (codes "retract") then verb.Added added.Retract
-    else verb.Other)))))
-
-abbrev pub is_same_added : AddedVerb → AddedVerb → Bool
-is_same_added added.Require added.Require = true
-is_same_added added.Exclude added.Exclude = true
-is_same_added added.Replace added.Replace = true
-is_same_added added.Retract added.Retract = true
-is_same_added _ _ = false
-
--- whether a verb is this one, which is that of an operation
-abbrev pub is_same_verb : Verb → Verb → Bool
-is_same_verb verb.Module verb.Module = true
-is_same_verb verb.Go verb.Go = true
-is_same_verb (verb.Added own) (verb.Added other) = is_same_added own other
-is_same_verb _ _ = false
-
 -- the verb of the directives that an operation targets
 abbrev pub verb_sought : Edit → Verb
 verb_sought (Set (ModuleIs path)) = verb.Module
 verb_sought (Set (GoIs text)) = verb.Go
-verb_sought (Set (RequireAt p)) = verb.Added added.Require
-verb_sought (Drop (AnyRequire path)) = verb.Added added.Require
-verb_sought (Add (Exclude p)) = verb.Added added.Exclude
-verb_sought (Drop (AnyExclude p)) = verb.Added added.Exclude
-verb_sought (Set (ReplaceWith r)) = verb.Added added.Replace
-verb_sought (Drop (AnyReplace left)) = verb.Added added.Replace
-verb_sought (Add (Retract ends)) = verb.Added added.Retract
-verb_sought (Drop (AnyRetract ends)) = verb.Added added.Retract
+verb_sought (Set (RequireAt p)) = verb.Require
+verb_sought (Drop (AnyRequire path)) = verb.Require
+verb_sought (Add (Exclude p)) = verb.Exclude
+verb_sought (Drop (AnyExclude p)) = verb.Exclude
+verb_sought (Set (ReplaceWith r)) = verb.Replace
+verb_sought (Drop (AnyReplace left)) = verb.Replace
+verb_sought (Add (Retract ends)) = verb.Retract
+verb_sought (Drop (AnyRetract ends)) = verb.Retract
 
 -- the verb of the entry that words are outside blocks; a verb with `(` and `)` is a block without entries
 abbrev pub verb_outside : List Placed → Verb
-verb_outside [] = verb.Other
-verb_outside (word ∷ words) = if is_empty_block (words_of words) then verb.Other else verb_named word.word.spelling
+verb_outside [] = verb.Unknown
+verb_outside (word ∷ words) = if is_empty_block (words_of words) then verb.Unknown else main_verb word.word.spelling
 
 -- ---- the keys of lines
 
 -- the hash of a text
 abbrev pub hash : List ℕ → ℕ
-hash text = fingerprint 0 text % 2 ^ 32
+hash text = fingerprint 0 text % 2 ^ 16
 
 -- the hash of a text, or of the empty text if there is none
 abbrev pub hash_at : Option (List ℕ) → ℕ
@@ -90,11 +62,19 @@ words_key words =
 
 -- the key of a line
 abbrev pub key_of : Line Placed → Key
-key_of Blank = key.Silent
-key_of (Comment text) = key.Silent
-key_of (Open word suffix) = key.Open (verb_named word.word.spelling)
+key_of Blank = key.Blank
+key_of (Comment text) = key.Comment
+key_of (Open word suffix) = key.Open (main_verb word.word.spelling)
 key_of (Close suffix) = key.Close
 key_of (Entry words suffix) = key.Entry (words_key words)
+
+-- whether the line with a key opens or closes a block
+abbrev pub changes_block : Key → Bool
+changes_block key.Blank = false
+changes_block key.Comment = false
+changes_block (key.Open verb) = true
+changes_block key.Close = true
+changes_block (key.Entry entry) = false
 
 -- the hashes of what an operation looks for
 abbrev pub sought_key : Sought → SoughtKey
@@ -110,12 +90,13 @@ scope_if own = if own then scope.Own else scope.Other
 -- the scope in the open block, if any, of an operation with this verb
 abbrev pub scope_of : Verb → Option Placed → Scope
 scope_of own None = scope.Outside
-scope_of own (Some word) = scope_if (is_same_verb own (verb_named word.word.spelling))
+scope_of own (Some word) = scope_if (verb_eq own (main_verb word.word.spelling))
 
 -- the scope after the line with a key
 abbrev pub scope_after : Verb → Scope → Key → Scope
-scope_after own before key.Silent = before
-scope_after own before (key.Open other) = scope_if (is_same_verb own other)
+scope_after own before key.Blank = before
+scope_after own before key.Comment = before
+scope_after own before (key.Open other) = scope_if (verb_eq own other)
 scope_after own before key.Close = scope.Outside
 scope_after own before (key.Entry entry) = before
 
@@ -128,7 +109,7 @@ is_inside scope.Other = true
 -- ---- which lines an operation targets
 
 abbrev pub is_entry_by : Verb → Scope → EntryKey → Bool
-is_entry_by own scope.Outside entry = is_same_verb own entry.verb
+is_entry_by own scope.Outside entry = verb_eq own entry.verb
 is_entry_by own scope.Own entry = true
 is_entry_by own scope.Other entry = false
 
@@ -144,7 +125,7 @@ may_tell (sought.First path) found = found.first == path
 may_tell (sought.Both both) found = (found.first == both.first) && (found.second == both.second)
 
 abbrev pub may_concern_by : Verb → SoughtKey → Scope → EntryKey → Bool
-may_concern_by own looked_for scope.Outside entry = may_tell looked_for entry.outside && is_same_verb own entry.verb
+may_concern_by own looked_for scope.Outside entry = may_tell looked_for entry.outside && verb_eq own entry.verb
 may_concern_by own looked_for scope.Own entry = may_tell looked_for entry.inside
 may_concern_by own looked_for scope.Other entry = false
 

@@ -1,6 +1,5 @@
 pub mod Edits
 pub mod Kinds
-pub mod Verbs
 pub mod Views
 pub mod Holding
 pub mod Fates

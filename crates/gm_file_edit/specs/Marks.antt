@@ -23,6 +23,14 @@ closes_bare (Open verb suffix) = false
 closes_bare (Close suffix) = is_none suffix
 closes_bare (Entry words suffix) = false
 
+-- whether a line is an opening without a comment
+abbrev pub opens_bare : Line Placed → Bool
+opens_bare Blank = false
+opens_bare (Comment text) = false
+opens_bare (Open verb suffix) = is_none suffix
+opens_bare (Close suffix) = false
+opens_bare (Entry words suffix) = false
+
 -- whether each line holds a directive that passes the test, given the verb of the open block, if any
 abbrev pub marks_from : (Directive → Bool) → Option Placed → List (Line Placed) → List Bool
 marks_from test block [] = []

@@ -1,14 +1,12 @@
 -- An operation that is undone by a drop of what it put in (go help mod edit).
-use Rattle.std.specs.Prelude.{◌≡◌, ℕ, if◌then◌else◌, Bool, false, List, [], ◌∷◌, ◌++◌, Option, Some, None}
+use Rattle.std.specs.Prelude.{◌≡◌, ℕ, if◌then◌else◌, false, List, [], ◌∷◌, ◌++◌, Option, Some, None}
 use Rattle.std.specs.List.{list_any}
 use Rattle.gm_syntax.specs.Layout.{layout}
 use Rattle.gm_syntax.specs.LineViews.{plain_lines}
 use Rattle.gm_syntax.specs.Tokens.{Placed}
 use Rattle.gm_syntax.specs.Document.{Line, Blank}
-use Rattle.gm_file.specs.Directives.{Directive}
 use Rattle.gm_file_edit.specs.About.{about}
-use Rattle.gm_file_edit.specs.EditLaws.{verb_added}
-use Rattle.gm_file_edit.specs.Edited.{edited}
+use Rattle.gm_file_edit.specs.Edited.{edited, has_verb, new_entry}
 use Rattle.gm_file_edit.specs.Edits.{Edit, Set, ModuleIs, GoIs, RequireAt, ReplaceWith, Add, Exclude, Retract, Drop, AnyRequire, AnyExclude, AnyReplace, AnyRetract}
 use Rattle.gm_file_edit.specs.Laws.{directives_of, IsEditOf}
 
@@ -25,11 +23,11 @@ undone_by (Drop t) = None
 -- If an operation targets no directive, the drop of the one that it puts in leaves the lines as they were before the
 -- operation. If they have no directive of its verb, a blank line at the end stays, which the operation put in.
 abbrev pub DropUndoes : Type 0
-DropUndoes = (edit undo : Edit) (test : Directive → Bool) (verb : List ℕ) (lines : List (Line Placed))
-    → IsEditOf edit lines → verb_added edit ≡ Some (test, verb) → undone_by edit ≡ Some undo
+DropUndoes = (edit undo : Edit) (verb : List ℕ) (arguments : List Placed) (lines : List (Line Placed))
+    → IsEditOf edit lines → new_entry edit ≡ Some (verb, arguments) → undone_by edit ≡ Some undo
     → list_any (about edit) (directives_of lines) ≡ false
     → edited undo (edited edit lines)
-    ≡ (if list_any test (directives_of lines) then lines else lines ++ Blank ∷ [])
+    ≡ (if list_any (has_verb verb) (directives_of lines) then lines else lines ++ Blank ∷ [])
 
 -- so both operations leave what formatting alone leaves
 abbrev pub DropUndoesForLayout : Type 0

@@ -2,37 +2,25 @@
 //!
 //! A new entry goes next to its own kind, so that the file keeps its grouping.
 
-ghost use Rattle.std.specs.Prelude.{◌≡◌, ◌∷◌, ◌++◌, ◌≤◌, [], length, take, drop, List, IfOk, OnErr, OnOk, None, codes};
+ghost use Rattle.std.specs.Prelude.{◌≡◌, ◌∷◌, ◌++◌, ◌≤◌, [], false, length, take, drop, List, IfOk, IfSome, OnErr, OnOk, None, Some, codes};
 ghost use Rattle.gm_syntax.specs.Document.{Blank, IsDocument, Line as LineOf};
 ghost use Rattle.gm_syntax.specs.Tokens.{Placed};
 ghost use Rattle.gm_syntax.specs.LineViews.{line_of, line_views, plain_lines};
-ghost use Rattle.gm_file.specs.Directives.{Strict};
+ghost use Rattle.gm_file.specs.Directives.{Strict, is_of_verb, main_verb, verb_eq};
+ghost use Rattle.gm_file.specs.declared.verb.Verb.TheVariants.{Unknown};
 ghost use Rattle.gm_file.specs.Faults.{fault_of, is_module};
 ghost use Rattle.gm_file_edit.specs.Edited.{added, after_first_that};
-ghost use Rattle.gm_file_edit.specs.Adding.{spot_after_first, spot_after_last, close_len, is_of, past_block, verb_text};
+ghost use Rattle.gm_file_edit.specs.Adding.{spot_after_first, spot_after_last, close_len, past_block};
 ghost use Rattle.gm_syntax.specs.Lines.{HasNoLineFeed};
 ghost use Rattle.gm_file_edit.specs.NewWords.{entry_at, made_word, single};
 ghost use Rattle.gm_file_edit.specs.Keys.{is_inside};
 
 use crate::keyed_lines::KeyedLines;
-use crate::keys::{Scope, is_entry_in, scope_after};
+use crate::keys::{Scope, changes_block, is_entry_in, scope_after};
 use crate::new_words::one_word;
-use crate::verb::Verb;
+use gm_file::{Verb, main_verb};
 use gm_syntax::{Line, Token};
 use std::alloc::{AllocError, Global};
-
-/// The verb of an entry that is added next to others with the same verb.
-#[derive(Clone, Copy)]
-pub(crate) enum AddedVerb {
-    /// The verb `require`.
-    Require,
-    /// The verb `exclude`.
-    Exclude,
-    /// The verb `replace`.
-    Replace,
-    /// The verb `retract`.
-    Retract,
-}
 
 /// A position between two lines.
 #[derive(Clone, Copy)]
@@ -41,19 +29,6 @@ pub(crate) struct Spot {
     before: usize,
     /// Whether a block is open at the position.
     inside: bool,
-}
-
-/// The spelling of a verb.
-fn verb_text(verb: AddedVerb) -> &'static str
-    ensures text { result.now ≡ verb_text verb }
-    ensures no_line_feed { HasNoLineFeed result.now }
-{
-    match verb {
-        AddedVerb::Require => "require",
-        AddedVerb::Exclude => "exclude",
-        AddedVerb::Replace => "replace",
-        AddedVerb::Retract => "retract",
-    }
 }
 
 /// Whether a scope is in a block.
@@ -67,12 +42,12 @@ fn is_inside(scope: Scope) -> bool
 }
 
 /// The position directly after the last entry with this verb, if any.
-fn last_spot(verb: AddedVerb, lines: &KeyedLines) -> Option<Spot>
+fn last_spot(own: Verb, lines: &KeyedLines) -> Option<Spot>
+    requires known { verb_eq own Unknown ≡ false }
     requires document { IsDocument (plain_lines lines.now) }
     requires sound { fault_of Strict (plain_lines lines.now) ≡ None }
-    ensures { result ≡ spot_after_last (is_of verb) None lines.now }
+    ensures { result ≡ spot_after_last (is_of_verb own) None lines.now }
 {
-    let own = Verb::Added(verb);
     let mut spot = None;
     let mut scope = Scope::Outside;
     for n in 0..lines.len() {
@@ -86,6 +61,40 @@ fn last_spot(verb: AddedVerb, lines: &KeyedLines) -> Option<Spot>
         scope = scope_after(own, scope, key);
     }
     spot
+}
+
+/// The position directly after the last entry with this verb, if no line after it opens or closes a block. It is looked
+/// for from the end, so that an entry which follows another of its kind needs no look at the lines before.
+fn tail_spot(own: Verb, lines: &KeyedLines) -> Option<Spot>
+    requires known { verb_eq own Unknown ≡ false }
+    requires document { IsDocument (plain_lines lines.now) }
+    requires sound { fault_of Strict (plain_lines lines.now) ≡ None }
+    ensures { IfSome result (λ spot. spot_after_last (is_of_verb own) None lines.now ≡ Some spot) }
+{
+    let mut n = lines.len();
+    while n > 0 && !changes_block(lines.key(n - 1)) {
+        if is_entry_in(own, Scope::Outside, lines.key(n - 1)) {
+            return Some(Spot {
+                before: n,
+                inside: false,
+            });
+        }
+        n -= 1;
+    }
+    None
+}
+
+/// The position at which an entry with this verb is added next to others, if there are any: directly after the last.
+fn added_spot(own: Verb, lines: &KeyedLines) -> Option<Spot>
+    requires known { verb_eq own Unknown ≡ false }
+    requires document { IsDocument (plain_lines lines.now) }
+    requires sound { fault_of Strict (plain_lines lines.now) ≡ None }
+    ensures { result ≡ spot_after_last (is_of_verb own) None lines.now }
+{
+    match tail_spot(own, lines) {
+        Some(spot) => Some(spot),
+        None => last_spot(own, lines),
+    }
 }
 
 /// The position directly after the entry that declares the module path, if any.
@@ -147,15 +156,16 @@ fn single<'a>(alloc: Global, verb: &str, arguments: Vec<Token<'a>>) -> Result<Li
 fn entry_at<'a>(
     alloc: Global,
     inside: bool,
-    verb: AddedVerb,
+    verb: &str,
     arguments: Vec<Token<'a>>,
 ) -> Result<Line<'a>, AllocError>
-    ensures { IfOk result (λ line. line_of line ≡ entry_at inside (verb_text verb) arguments.entry.items) }
+    requires { HasNoLineFeed verb.now }
+    ensures { IfOk result (λ line. line_of line ≡ entry_at inside verb.now arguments.entry.items) }
 {
     if inside {
         return Ok(Line::Entry(arguments, None));
     }
-    single(alloc, verb_text(verb), arguments)
+    single(alloc, verb, arguments)
 }
 
 /// Inserts a blank line and an entry outside blocks at an index. If memory runs out, the lines stay as they are.
@@ -180,24 +190,25 @@ fn insert_single<'a>(
 /// no entry has the verb, it goes to the end, after a blank line. If memory runs out, the lines stay as they are.
 pub(crate) fn add<'a>(
     alloc: Global,
-    verb: AddedVerb,
+    verb: &str,
     arguments: Vec<Token<'a>>,
     lines: &mut KeyedLines<'a>,
 ) -> Result<(), AllocError>
+    requires verb { HasNoLineFeed verb.now }
+    requires known { verb_eq (main_verb verb.now) Unknown ≡ false }
     requires document { IsDocument (plain_lines lines.old) }
     requires sound { fault_of Strict (plain_lines lines.old) ≡ None }
-    ensures ok { OnOk result (lines.new
-        ≡ added (is_of verb) (verb_text verb) arguments.entry.items lines.old) }
+    ensures ok { OnOk result (lines.new ≡ added verb.now arguments.entry.items lines.old) }
     ensures err { OnErr result (lines.new ≡ lines.old) }
 {
-    match last_spot(verb, lines) {
+    match added_spot(main_verb(verb), lines) {
         Some(spot) => {
             let entry = entry_at(alloc, spot.inside, verb, arguments)?;
             lines.insert(spot.before, entry)
         }
         None => {
             let end = lines.len();
-            insert_single(alloc, verb_text(verb), arguments, end, lines)
+            insert_single(alloc, verb, arguments, end, lines)
         }
     }
 }

@@ -2,14 +2,15 @@
 //!
 //! Whatever may run out of memory comes before any change of the lines, so that a failed edit leaves them unchanged.
 
-ghost use Rattle.std.specs.Prelude.{◌≡◌, ◌<◌, not, length, take_while, OnErr, OnOk, None};
+ghost use Rattle.std.specs.Prelude.{◌≡◌, ◌<◌, false, not, length, take_while, OnErr, OnOk, None};
 ghost use Rattle.gm_syntax.specs.Document.{IsDocument};
+ghost use Rattle.gm_syntax.specs.Lines.{HasNoLineFeed};
 ghost use Rattle.gm_syntax.specs.LineViews.{plain_lines};
-ghost use Rattle.gm_file.specs.Directives.{Strict};
+ghost use Rattle.gm_file.specs.Directives.{Strict, main_verb, verb_eq};
+ghost use Rattle.gm_file.specs.declared.verb.Verb.TheVariants.{Unknown};
 ghost use Rattle.gm_file.specs.Faults.{fault_of};
 ghost use Rattle.gm_name.specs.Names.{does_fit};
 ghost use Rattle.gm_file_edit.specs.About.{about};
-ghost use Rattle.gm_file_edit.specs.Adding.{is_of, verb_text};
 ghost use Rattle.gm_file_edit.specs.Edits.{Add, Set};
 ghost use Rattle.gm_file_edit.specs.Edited.{added, changed, edited, put_in};
 ghost use Rattle.gm_file_edit.specs.Kinds.{is_fit};
@@ -18,7 +19,7 @@ ghost use Rattle.gm_file_edit.specs.NewWords.{pair_words};
 ghost use Rattle.gm_file_edit.specs.Sound.{IsSoundEdit};
 ghost use Rattle.gm_file_edit.specs.Views.{addition_of, edit_of, setting_of};
 
-use crate::adding::{AddedVerb, add, add_go};
+use crate::adding::{add, add_go};
 use crate::keyed_lines::KeyedLines;
 use crate::marking::{first_mark, marks};
 use crate::new_words::{interval_words, pair_words, replace_words};
@@ -82,15 +83,16 @@ fn change_lines<'a>(
 /// Adds an entry of a path and a version. If memory runs out, the lines stay as they are.
 fn add_pair<'a>(
     alloc: Global,
-    verb: AddedVerb,
+    verb: &str,
     path: &ModPath,
     version: &ModVersion,
     lines: &mut KeyedLines<'a>,
 ) -> Result<(), AllocError>
+    requires verb { HasNoLineFeed verb.now }
+    requires known { verb_eq (main_verb verb.now) Unknown ≡ false }
     requires document { IsDocument (plain_lines lines.old) }
     requires sound { fault_of Strict (plain_lines lines.old) ≡ None }
-    ensures ok { OnOk result (lines.new
-        ≡ added (is_of verb) (verb_text verb) (pair_words (path.now, version.now)) lines.old) }
+    ensures ok { OnOk result (lines.new ≡ added verb.now (pair_words (path.now, version.now)) lines.old) }
     ensures err { OnErr result (lines.new ≡ lines.old) }
 {
     let words = pair_words(alloc, path, version)?;
@@ -113,12 +115,10 @@ fn put_setting<'a>(
     match setting {
         Setting::Module(_) => Ok(()),
         Setting::Go(text) => add_go(alloc, text.as_str(), lines),
-        Setting::Require((path, version)) => {
-            add_pair(alloc, AddedVerb::Require, path, version, lines)
-        }
+        Setting::Require((path, version)) => { add_pair(alloc, "require", path, version, lines) }
         Setting::Replace(replace) => {
             let words = replace_words(alloc, replace)?;
-            add(alloc, AddedVerb::Replace, words, lines)
+            add(alloc, "replace", words, lines)
         }
     }
 }
@@ -137,12 +137,10 @@ fn put_addition<'a>(
     ensures err { OnErr result (lines.new ≡ lines.old) }
 {
     match addition {
-        Addition::Exclude((path, version)) => {
-            add_pair(alloc, AddedVerb::Exclude, path, version, lines)
-        }
+        Addition::Exclude((path, version)) => { add_pair(alloc, "exclude", path, version, lines) }
         Addition::Retract(ends) => {
             let words = interval_words(alloc, ends)?;
-            add(alloc, AddedVerb::Retract, words, lines)
+            add(alloc, "retract", words, lines)
         }
     }
 }

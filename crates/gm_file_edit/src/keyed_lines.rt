@@ -186,6 +186,15 @@ impl<'a> KeyedLines<'a> {
         put_item(&mut self.lines, at, line);
     }
 
+    /// Removes the line at an index.
+    pub(crate) fn remove(&mut self, at: usize)
+        requires { at < length self.old }
+        ensures { self.new ≡ take at self.old ++ drop (at + 1) self.old }
+    {
+        drop(self.lines.remove(at));
+        let _key = self.keys.remove(at);
+    }
+
     /// Exchanges two lines.
     pub(crate) fn swap(&mut self, one: usize, other: usize)
         requires one { one < length self.old }

@@ -7,20 +7,22 @@
 ghost use Rattle.std.specs.Prelude.{◌≡◌, ◌%◌, ◌^◌};
 ghost use Rattle.std.specs.Option.{option_map};
 ghost use Rattle.gm_syntax.specs.LineViews.{line_of};
-ghost use Rattle.gm_file_edit.specs.Keys.{hash, hash_at, hashes_of, key_of, may_concern, may_tell, scope_after, is_entry_in, is_same_verb, scope_if, sought_key, verb_outside, words_key};
+ghost use Rattle.gm_file.specs.Directives.{verb_eq};
+ghost use Rattle.gm_file_edit.specs.Keys.{changes_block, hash, hash_at, hashes_of, key_of, may_concern, may_tell, scope_after, is_entry_in, scope_if, sought_key, verb_outside, words_key};
 ghost use Rattle.gm_file_edit.specs.Subjects.{sought_view, subject_view};
 
 use crate::subject::{Sought, Subject, subject_inside, subject_outside};
-use crate::verb::{Verb, is_same_verb, verb_named};
-use gm_file::is_empty_block;
+use gm_file::{Verb, is_empty_block, main_verb};
 use gm_name::fingerprint;
 use gm_syntax::{Line, Token};
 
 /// What is known of a line without a look at it.
 #[derive(Clone, Copy)]
 pub(crate) enum Key {
-    /// A blank line or a comment.
-    Silent,
+    /// A blank line.
+    Blank,
+    /// A comment.
+    Comment,
     /// The opening of a block of this verb.
     Open(Verb),
     /// The closing of a block.
@@ -44,9 +46,9 @@ pub(crate) struct EntryKey {
 #[derive(Clone, Copy)]
 pub(crate) struct Hashes {
     /// The hash of the path or of the lower end.
-    first: u32,
+    first: u16,
     /// The hash of the version or of the upper end.
-    second: u32,
+    second: u16,
 }
 
 /// The hashes of what an operation looks for.
@@ -55,7 +57,7 @@ pub(crate) enum SoughtKey {
     /// Any.
     Any,
     /// The hash of the path.
-    First(u32),
+    First(u16),
     /// The hashes of all.
     Both(Hashes),
 }
@@ -72,14 +74,14 @@ pub(crate) enum Scope {
 }
 
 /// The hash of a text.
-fn hash(text: &str) -> u32
+fn hash(text: &str) -> u16
     ensures { result ≡ hash text.now }
 {
-    (fingerprint(0, text) % 4_294_967_296) as u32
+    (fingerprint(0, text) % 65_536) as u16
 }
 
 /// The hash of a text, or of the empty text if there is none.
-fn hash_at(text: Option<&str>) -> u32
+fn hash_at(text: Option<&str>) -> u16
     ensures { result ≡ hash_at (option_map (λ t. t.now) text.entry) }
 {
     match text {
@@ -117,12 +119,12 @@ fn verb_outside(words: &[Token]) -> Verb
     ensures { result ≡ verb_outside words.now }
 {
     match words {
-        [] => Verb::Other,
+        [] => Verb::Unknown,
         [first, arguments @ ..] => {
             if is_empty_block(arguments) {
-                return Verb::Other;
+                return Verb::Unknown;
             }
-            verb_named(first.spelling())
+            main_verb(first.spelling())
         }
     }
 }
@@ -143,18 +145,26 @@ pub(crate) fn key_of(line: &Line) -> Key
     ensures { result ≡ key_of (line_of line.now) }
 {
     match line {
-        Line::Blank | Line::Comment(_) => Key::Silent,
-        Line::Open(verb, _) => Key::Open(verb_named(verb.spelling())),
+        Line::Blank => Key::Blank,
+        Line::Comment(_) => Key::Comment,
+        Line::Open(verb, _) => Key::Open(main_verb(verb.spelling())),
         Line::Close(_) => Key::Close,
         Line::Entry(words, _) => Key::Entry(words_key(words.as_slice())),
     }
 }
 
+/// Whether the line with a key opens or closes a block.
+pub(crate) fn changes_block(key: Key) -> bool
+    ensures { result ≡ changes_block key }
+{
+    matches!(key, Key::Open(_) | Key::Close)
+}
+
 /// The scope in a block of this verb.
 fn scope_in(own: Verb, verb: Verb) -> Scope
-    ensures { result ≡ scope_if (is_same_verb own verb) }
+    ensures { result ≡ scope_if (verb_eq own verb) }
 {
-    if is_same_verb(own, verb) {
+    if own == verb {
         Scope::Own
     } else {
         Scope::Other
@@ -168,7 +178,7 @@ pub(crate) fn scope_after(own: Verb, scope: Scope, key: Key) -> Scope
     match key {
         Key::Open(verb) => scope_in(own, verb),
         Key::Close => Scope::Outside,
-        Key::Silent | Key::Entry(_) => scope,
+        Key::Blank | Key::Comment | Key::Entry(_) => scope,
     }
 }
 
@@ -178,11 +188,11 @@ pub(crate) fn is_entry_in(own: Verb, scope: Scope, key: Key) -> bool
 {
     match key {
         Key::Entry(entry) => match scope {
-            Scope::Outside => is_same_verb(own, entry.verb),
+            Scope::Outside => own == entry.verb,
             Scope::Own => true,
             Scope::Other => false,
         },
-        Key::Silent | Key::Open(_) | Key::Close => false,
+        Key::Blank | Key::Comment | Key::Open(_) | Key::Close => false,
     }
 }
 
@@ -203,10 +213,10 @@ pub(crate) fn may_concern(own: Verb, sought: SoughtKey, scope: Scope, key: Key) 
 {
     match key {
         Key::Entry(entry) => match scope {
-            Scope::Outside => may_tell(sought, entry.outside) && is_same_verb(own, entry.verb),
+            Scope::Outside => may_tell(sought, entry.outside) && own == entry.verb,
             Scope::Own => may_tell(sought, entry.inside),
             Scope::Other => false,
         },
-        Key::Silent | Key::Open(_) | Key::Close => false,
+        Key::Blank | Key::Comment | Key::Open(_) | Key::Close => false,
     }
 }

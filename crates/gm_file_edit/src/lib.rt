@@ -26,7 +26,6 @@ mod part;
 mod renewing;
 mod subject;
 mod targeting;
-mod verb;
 
 pub use crate::apply::Apply;
 pub use crate::editor::Editor;

@@ -16,7 +16,7 @@ use crate::keys::{Key, Scope, SoughtKey, may_concern, scope_after, sought_key};
 use crate::op::Change;
 use crate::subject::Sought;
 use crate::targeting::{Aim, aim_of, does_tell};
-use crate::verb::Verb;
+use gm_file::Verb;
 use gm_syntax::Line;
 use std::alloc::{AllocError, Global};
 

@@ -7,11 +7,13 @@
 ghost use Rattle.std.specs.Prelude.{◌≡◌, ◌+◌, ◌∷◌, ◌++◌, ◌<◌, ◌≤◌, [], false, length, take, drop, Some};
 ghost use Rattle.std.specs.List.{list_any};
 ghost use Rattle.std.specs.Option.{option_map};
-ghost use Rattle.gm_syntax.specs.LineViews.{line_of, line_views};
+ghost use Rattle.gm_syntax.specs.LineViews.{line_of};
 ghost use Rattle.gm_file_edit.specs.Fates.{empties, fate_by, kept, remaining, widened_from};
-ghost use Rattle.gm_file_edit.specs.Marks.{closes_bare, is_blank_source_line, line_at, marked};
+ghost use Rattle.gm_file_edit.specs.Marks.{closes_bare, is_blank_source_line, line_at, marked, opens_bare};
 
 use crate::keyed_lines::KeyedLines;
+use crate::keys::Key;
+use crate::marking::first_mark;
 use gm_syntax::Line;
 
 /// What is known after a line of a file whose marks are widened.
@@ -25,11 +27,12 @@ pub(crate) struct Widening {
     goes: bool,
 }
 
-/// Whether a line is blank.
-fn is_blank(line: &Line) -> bool
-    ensures { result ≡ is_blank_source_line (line_of line.now) }
+/// Whether the line at an index is blank.
+fn is_blank_at(lines: &KeyedLines, n: usize) -> bool
+    requires { n < length lines.now }
+    ensures { result ≡ is_blank_source_line (line_at lines.now n) }
 {
-    matches!(line, Line::Blank)
+    matches!(lines.key(n), Key::Blank)
 }
 
 /// Whether a line is a closing without a comment.
@@ -39,55 +42,65 @@ fn closes_bare(line: &Line) -> bool
     matches!(line, Line::Close(None))
 }
 
-/// Whether the lines from here to a closing empty a block: each is blank or has a mark, the closing has no comment, and
-/// a line has a mark.
-fn empties(lines: &[Line], marks: &[bool]) -> bool
+/// Whether a line is an opening without a comment.
+fn opens_bare(line: &Line) -> bool
+    ensures { result ≡ opens_bare (line_of line.now) }
+{
+    matches!(line, Line::Open(_, None))
+}
+
+/// Whether the lines from an index to a closing empty a block: each is blank or has a mark, the closing has no comment,
+/// and a line has a mark.
+fn empties(lines: &KeyedLines, marks: &[bool], from: usize) -> bool
     requires { length marks.now ≡ length lines.now }
-    ensures { result ≡ empties false (marked marks.now (line_views lines.now)) }
+    ensures { result ≡ empties false (marked (drop from marks.now) (drop from lines.now)) }
 {
     let mut lost = false;
-    for (n, line) in lines.iter().enumerate() {
+    for n in from..lines.len() {
         if marks[n] {
             lost = true;
-        } else if !is_blank(line) {
-            return lost && closes_bare(line);
+        } else if !is_blank_at(lines, n) {
+            return lost && closes_bare(lines.line(n));
         }
     }
     false
 }
 
-/// What is known after a line without a mark, before these lines.
-fn after_line(before: Widening, line: &Line, lines: &[Line], marks: &[bool]) -> Widening
-    requires { length marks.now ≡ length lines.now }
-    ensures { widened_from before.inside before.goes (Some (line_of line.now) ∷ marked marks.now (line_views lines.now))
-        ≡ fate_by result.mark (line_of line.now)
-        ∷ widened_from result.inside result.goes (marked marks.now (line_views lines.now)) }
+/// What is known after the line at an index, which has no mark.
+fn after_line(before: Widening, lines: &KeyedLines, marks: &[bool], n: usize) -> Widening
+    requires len { length marks.now ≡ length lines.now }
+    requires in_range { n < length lines.now }
+    ensures { widened_from before.inside before.goes
+        (Some (line_at lines.now n) ∷ marked (drop (n + 1) marks.now) (drop (n + 1) lines.now))
+        ≡ fate_by result.mark (line_at lines.now n)
+        ∷ widened_from result.inside result.goes (marked (drop (n + 1) marks.now) (drop (n + 1) lines.now)) }
 {
     let Widening {
         mark: _,
         inside,
         goes,
     } = before;
-    match line {
-        Line::Blank => Widening {
+    let line = lines.line(n);
+    match lines.key(n) {
+        Key::Blank => Widening {
             mark: goes,
             inside,
             goes: inside && goes,
         },
-        Line::Open(_, suffix) => {
-            let emptied = !inside && suffix.is_none() && empties(lines, marks);
+        Key::Open(_) => {
+            let emptied = !inside && empties(lines, marks, n + 1) && opens_bare(line);
             Widening {
                 mark: emptied,
                 inside: true,
                 goes: emptied,
             }
         }
-        Line::Close(_) => Widening {
+        Key::Close => Widening {
             mark: inside && goes,
             inside: false,
             goes: inside && goes,
         },
-        Line::Comment(_) | Line::Entry(_, _) => Widening {
+        Key::Comment | Key::Entry(_) => Widening {
             mark: false,
             inside,
             goes: false,
@@ -96,20 +109,19 @@ fn after_line(before: Widening, line: &Line, lines: &[Line], marks: &[bool]) -> 
 }
 
 /// Marks the lines of the blocks too that the marks empty, and a blank line directly after such a block.
-fn widen(lines: &[Line], marks: &mut Vec<bool>)
+fn widen(lines: &KeyedLines, marks: &mut Vec<bool>)
     requires { length marks.old.items ≡ length lines.now }
     ensures len { length marks.new.items ≡ length lines.now }
-    ensures marks { marked marks.new.items (line_views lines.now)
-        ≡ widened_from false false (marked marks.old.items (line_views lines.now)) }
+    ensures marks { marked marks.new.items lines.now ≡ widened_from false false (marked marks.old.items lines.now) }
 {
     let mut state = Widening {
         mark: false,
         inside: false,
         goes: false,
     };
-    for (n, line) in lines.iter().enumerate() {
+    for n in 0..lines.len() {
         if !marks[n] {
-            state = after_line(state, line, &lines[n + 1..], &marks.as_slice()[n + 1..]);
+            state = after_line(state, lines, marks.as_slice(), n);
             marks[n] = state.mark;
         }
     }
@@ -151,6 +163,19 @@ fn has_mark(marks: &[bool]) -> bool
     marks.iter().any(|mark| *mark)
 }
 
+/// Removes the lines that have a mark. If there is one alone, the lines after it move at once.
+fn remove_marked(lines: &mut KeyedLines, marks: &[bool])
+    requires { length marks.now ≡ length lines.old }
+    ensures { lines.new ≡ kept (marked marks.now lines.old) }
+{
+    let first = first_mark(marks);
+    if first < marks.len() && !has_mark(&marks[first + 1..]) {
+        lines.remove(first);
+    } else {
+        keep_unmarked(lines, marks);
+    }
+}
+
 /// Removes the lines that have a mark, and the blocks that this empties. Takes no memory.
 pub(crate) fn pack(lines: &mut KeyedLines, marks: Vec<bool>)
     requires { length marks.items ≡ length lines.old }
@@ -160,6 +185,6 @@ pub(crate) fn pack(lines: &mut KeyedLines, marks: Vec<bool>)
         return;
     }
     let mut widened = marks;
-    widen(lines.lines(), &mut widened);
-    keep_unmarked(lines, widened.as_slice());
+    widen(lines, &mut widened);
+    remove_marked(lines, widened.as_slice());
 }

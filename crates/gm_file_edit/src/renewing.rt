@@ -2,9 +2,9 @@
 //!
 //! An entry is rewritten in place, so that its comment and its position in a block are kept.
 
-ghost use Rattle.std.specs.Prelude.{◌≡◌, ◌<◌, Option, false, length, take, slice_set, IfOk, OnOk, None};
+ghost use Rattle.std.specs.Prelude.{◌≡◌, ◌<◌, ◌≤◌, Option, false, length, take, slice_set, IfOk, OnOk, None};
 ghost use Rattle.std.specs.Option.{option_map};
-ghost use Rattle.gm_syntax.specs.LineViews.{line_of, line_views};
+ghost use Rattle.gm_syntax.specs.LineViews.{line_of};
 ghost use Rattle.gm_syntax.specs.Lines.{HasNoLineFeed};
 ghost use Rattle.gm_syntax.specs.Tokens.{Placed};
 ghost use Rattle.gm_file.specs.Directives.{block_after_lines};
@@ -18,6 +18,7 @@ ghost use Rattle.gm_file_edit.specs.Sound.{IsSoundEdit, IsSoundRight};
 ghost use Rattle.gm_file_edit.specs.Views.{setting_of};
 
 use crate::keyed_lines::KeyedLines;
+use crate::keys::changes_block;
 use crate::new_words::{push_replace, push_word};
 use crate::op::Setting;
 use crate::packing::pack;
@@ -86,13 +87,16 @@ fn rewrite<'a>(
     }
 }
 
-/// The verb of the block that is open after lines, if one is.
-fn open_after<'w, 'a>(lines: &'w [Line<'a>]) -> Option<&'w Token<'a>>
-    ensures { option_map (λ t. t.now) result ≡ block_after_lines None (line_views lines.now) }
+/// The verb of the block that is open before the line at an index, if one is. Only openings and closings are read.
+fn open_before<'w, 'a>(lines: &'w KeyedLines<'a>, at: usize) -> Option<&'w Token<'a>>
+    requires { at ≤ length lines.now }
+    ensures { option_map (λ t. t.now) result ≡ block_after_lines None (take at lines.now) }
 {
     let mut block = None;
-    for line in lines {
-        block = block_after_line(block, line);
+    for n in 0..at {
+        if changes_block(lines.key(n)) {
+            block = block_after_line(block, lines.line(n));
+        }
     }
     block
 }
@@ -110,7 +114,7 @@ pub(crate) fn new_line<'a>(
         ≡ made_new (Set (setting_of setting.now)) (block_after_lines None (take at lines.now)) (line_at lines.now at)) }
 {
     let mut line = lines.line(at).copy(alloc)?;
-    rewrite(alloc, setting, open_after(&lines.lines()[..at]), &mut line)?;
+    rewrite(alloc, setting, open_before(lines, at), &mut line)?;
     Ok(line)
 }
 

@@ -11,12 +11,10 @@ ghost use Rattle.gm_file_edit.specs.Keys.{does_tell, verb_sought};
 ghost use Rattle.gm_file_edit.specs.Subjects.{Both, sought_of, sought_of_left, sought_side, sought_view};
 ghost use Rattle.gm_file_edit.specs.Views.{addition_of, edit_of, setting_of, target_of};
 
-use crate::adding::AddedVerb;
 use crate::keys::Scope;
 use crate::op::{Addition, Change, Setting, Target};
 use crate::subject::{Sought, is_told, subject_inside, subject_outside};
-use crate::verb::Verb;
-use gm_file::Interval;
+use gm_file::{Interval, Verb};
 use gm_name::{ModPath, ModVersion};
 use gm_syntax::Line;
 
@@ -78,11 +76,11 @@ fn aim_of_setting<'c>(setting: &'c Setting) -> Aim<'c>
             sought: Sought::Any,
         },
         Setting::Require((path, _)) => Aim {
-            verb: Verb::Added(AddedVerb::Require),
+            verb: Verb::Require,
             sought: Sought::First(path.as_str()),
         },
         Setting::Replace(replace) => Aim {
-            verb: Verb::Added(AddedVerb::Replace),
+            verb: Verb::Replace,
             sought: sought_of_left(&replace.left, &replace.version),
         },
     }
@@ -95,11 +93,11 @@ fn aim_of_addition<'c>(addition: &'c Addition) -> Aim<'c>
 {
     match addition {
         Addition::Exclude((path, version)) => Aim {
-            verb: Verb::Added(AddedVerb::Exclude),
+            verb: Verb::Exclude,
             sought: sought_pair(path, version),
         },
         Addition::Retract(ends) => Aim {
-            verb: Verb::Added(AddedVerb::Retract),
+            verb: Verb::Retract,
             sought: sought_ends(ends),
         },
     }
@@ -112,19 +110,19 @@ fn aim_of_target<'c>(target: &'c Target) -> Aim<'c>
 {
     match target {
         Target::Require(path) => Aim {
-            verb: Verb::Added(AddedVerb::Require),
+            verb: Verb::Require,
             sought: Sought::First(path.as_str()),
         },
         Target::Exclude((path, version)) => Aim {
-            verb: Verb::Added(AddedVerb::Exclude),
+            verb: Verb::Exclude,
             sought: sought_pair(path, version),
         },
         Target::Replace(side) => Aim {
-            verb: Verb::Added(AddedVerb::Replace),
+            verb: Verb::Replace,
             sought: sought_side(&side.path, &side.version),
         },
         Target::Retract(ends) => Aim {
-            verb: Verb::Added(AddedVerb::Retract),
+            verb: Verb::Retract,
             sought: sought_ends(ends),
         },
     }

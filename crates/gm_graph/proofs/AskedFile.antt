@@ -4,7 +4,7 @@ use Rattle.gm_name.specs.ModuleVersion.{ModuleVersion}
 use Rattle.gm_store.specs.Asked.{Name, answer_in}
 use Rattle.gm_store.specs.States.{AddsAnswer, StoreState}
 use Rattle.gm_graph.specs.Asking.{AsksAtMost, AsksFor}
-use Rattle.gm_graph.specs.Main.{Main}
+use Rattle.gm_file.specs.Main.{Main}
 use Rattle.gm_graph.specs.Reading.{file_of, is_askable}
 
 -- what was asked for is the file of a vertex

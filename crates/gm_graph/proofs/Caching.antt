@@ -13,7 +13,7 @@ use Rattle.gm_graph.specs.declared.cache.visit.Required.{Required}
 use Rattle.gm_graph.specs.declared.cache.visit.Visit.{Visit}
 use Rattle.gm_graph.specs.declared.cache.visit.Visit.TheVariants as visit
 use Rattle.gm_graph.specs.Cached.{HoldsSame, KeepsSound, Knows, LentSame, file_count, held_of, main_in, modules_in, numbered, turns_in}
-use Rattle.gm_graph.specs.Main.{Main, main_of}
+use Rattle.gm_file.specs.Main.{Main, main_of}
 use Rattle.gm_graph.specs.Reading.{Held, KeepsHeld, Tells, readings_by, vertex_requirements}
 use Rattle.gm_graph.specs.declared.graph_builder.GraphBuilder.{GraphBuilder}
 use Rattle.gm_graph.specs.declared.graph_builder.NumberedTurn.{NumberedTurn}

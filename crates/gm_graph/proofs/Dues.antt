@@ -11,7 +11,7 @@ use Rattle.gm_graph.specs.declared.cache.depth.Turn.{Turn}
 use Rattle.gm_graph.specs.declared.cache.load_fault.LoadFault.{LoadFault}
 use Rattle.gm_graph.specs.Cached.{Knows, held_of, main_in, sums_in}
 use Rattle.gm_graph.specs.Turns.{turn, AllValidTurns, VisitOverflows}
-use Rattle.gm_graph.specs.Main.{Main}
+use Rattle.gm_file.specs.Main.{Main}
 use Rattle.gm_graph.specs.Reading.{Tells, file_of, is_askable, readings_by}
 use Rattle.gm_graph.specs.Refusals.{refused_names, refused_in}
 use Rattle.gm_graph.proofs.Keeping.{readings_stay}

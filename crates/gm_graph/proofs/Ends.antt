@@ -1,7 +1,7 @@
 -- Edges lead to each vertex that is left, and so the vertices of the graph are those that edges lead to.
 use Rattle.std.proofs.Common.{◌↔◌, ◌⊎◌, List, Contains, inl, inr}
 use Rattle.gm_name.specs.ModuleVersion.{ModuleVersion}
-use Rattle.gm_graph.specs.Main.{Main}
+use Rattle.gm_file.specs.Main.{Main}
 use Rattle.gm_graph.specs.Reading.{Readings}
 use Rattle.gm_graph_select.specs.declared.step.Edge.{Edge}
 use Rattle.gm_graph_select.specs.declared.step.Step.{Step}

@@ -17,7 +17,7 @@ use Rattle.gm_graph.specs.declared.cache.class.Class.{Class}
 use Rattle.gm_graph.specs.declared.cache.depth.Turn.{Turn}
 use Rattle.gm_graph.specs.declared.cache.depth.Depth.{Depth}
 use Rattle.gm_graph.specs.declared.cache.depth.Depth.TheVariants.{Top, Deep}
-use Rattle.gm_graph.specs.Main.{Main, is_pruned_by}
+use Rattle.gm_file.specs.Main.{Main, is_pruned_by}
 use Rattle.gm_graph.specs.Reading.{Held, IsTold, Keeps, Readings, Tells, file_of, is_askable, readings_by}
 use Rattle.gm_graph.proofs.ReadingIf.{reading_if}
 use Rattle.gm_graph.specs.Turns.{turn, AreTurnsOf}

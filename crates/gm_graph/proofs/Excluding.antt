@@ -1,18 +1,6 @@
--- Whether a list of excluded modules has one.
-use Rattle.std.proofs.Common.{◌≡◌, ◌↔◌, ◌||◌, not, Bool, true, false, cond, IsTrue, List, [], ◌∷◌, refl, sym, ap, ◌∙◌}
-use Rattle.std.specs.List.{Contains, filter, list_any}
-use Rattle.gm_name.specs.ModuleVersion.{ModuleVersion, pair_eq}
-use Rattle.gm_file.proofs.Members.{contains-tells}
-
-same_when : (a b : Bool) → (a ≡ true → b ≡ true) → (b ≡ true → a ≡ true) → a ≡ b
-same_when true b to from = sym (to refl)
-same_when false true to from = from refl
-same_when false false to from = refl
-
-pub excluded_where : (x : ModuleVersion) (xs : List ModuleVersion) (b : Bool) → IsTrue b ↔ Contains xs x → b ≡ list_any (λ y. pair_eq y x) xs
-excluded_where x xs b tells =
-    let found = contains-tells x xs (list_any (λ y. pair_eq y x) xs) refl in
-    same_when b (list_any (λ y. pair_eq y x) xs) (λ t. found.1 (tells.0 t)) (λ t. tells.1 (found.0 t))
+-- Lists without an excluded module.
+use Rattle.std.proofs.Common.{◌≡◌, ◌||◌, not, Bool, true, false, cond, List, [], ◌∷◌, refl, sym, ap, ◌∙◌}
+use Rattle.std.specs.List.{filter, list_any}
 
 or_none : (a b : Bool) → (a || b) ≡ false → (a ≡ false) × (b ≡ false)
 or_none true b e = absurd cc

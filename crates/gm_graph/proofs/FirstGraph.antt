@@ -6,7 +6,7 @@ use Rattle.gm_name.specs.ModuleVersion.{ModuleVersion, pair_cmp}
 use Rattle.gm_graph.specs.declared.cache.class.Class.{Class}
 use Rattle.gm_graph.specs.declared.cache.depth.Depth.{Depth}
 use Rattle.gm_graph.specs.declared.cache.depth.Turn.{Turn}
-use Rattle.gm_graph.specs.Main.{Main, is_pruned_by, without_excluded}
+use Rattle.gm_file.specs.Main.{Main, is_pruned_by, without_excluded}
 use Rattle.gm_graph_select.specs.declared.step.Step.TheVariants.{Main as FromMain}
 use Rattle.gm_graph_select.specs.Adjacency.{StepEdges, edges_of, sources_of}
 use Rattle.gm_graph_select.specs.Graph.{edge}

@@ -5,7 +5,7 @@ use Rattle.gm_file.specs.Fields.{Dependency}
 use Rattle.gm_file.specs.Directives.{Right}
 use Rattle.gm_graph.specs.declared.cache.class.Class.{Class}
 use Rattle.gm_graph.specs.declared.cache.class.Class.TheVariants.{WrongPath}
-use Rattle.gm_graph.specs.Main.{Main, replacement_in}
+use Rattle.gm_file.specs.Main.{Main, replacement_in}
 use Rattle.gm_graph.specs.Reading.{Held, file_of, is_askable, is_right_path, readings_by, with_right_path}
 use Rattle.gm_graph.proofs.ReadingIf.{reading_if}
 

@@ -17,7 +17,7 @@ use Rattle.gm_name_table.specs.Listed.{BeginsWith, NumberedList, listed}
 use Rattle.gm_graph.specs.declared.cache.Cache.{Cache}
 use Rattle.gm_graph.specs.declared.cache.file_table.FileTable.{FileTable}
 use Rattle.gm_graph.specs.declared.cache.summary.Kept.{Kept}
-use Rattle.gm_graph.specs.Main.{Main, main_of, replacement_in}
+use Rattle.gm_file.specs.Main.{Main, main_of, replacement_in}
 use Rattle.gm_graph.specs.Reading.{Held, IsTold, Keeps, KeepsHeld, Tells, file_of, is_askable, readings_by, with_right_path}
 use Rattle.gm_graph.proofs.ReadingIf.{reading_if}
 use Rattle.gm_graph.specs.FileTable.{KeepsFiles, kept_at}

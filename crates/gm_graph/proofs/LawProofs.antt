@@ -4,7 +4,7 @@ use mathlib.Core.Path.{fun_ext}
 use Rattle.std.specs.Cmp.{IsTotalOrder, on_total}
 use Rattle.gm_name.specs.ModuleVersion.{ModuleVersion, pair_cmp, pair_total}
 use Rattle.gm_store.specs.Asked.{Name}
-use Rattle.gm_graph.specs.Main.{Main, is_pruned_by}
+use Rattle.gm_file.specs.Main.{Main, is_pruned_by}
 use Rattle.gm_graph.specs.Reading.{Held, Readings, readings_by}
 use Rattle.gm_graph.proofs.Keeping.{one_told}
 use Rattle.gm_graph_select.specs.declared.step.Step.{Step}

@@ -12,7 +12,7 @@ use Rattle.gm_graph.specs.declared.cache.summary.Kept.{Kept}
 use Rattle.gm_graph.specs.declared.cache.summary.Kept.TheVariants.{Valid, Faulty}
 use Rattle.gm_graph.specs.declared.cache.summary.ListSpan.{ListSpan}
 use Rattle.gm_graph.specs.declared.cache.Cache.{Cache}
-use Rattle.gm_graph.specs.Main.{Main, without_excluded, replacement_in}
+use Rattle.gm_file.specs.Main.{Main, without_excluded, replacement_in}
 use Rattle.gm_graph.specs.Reading.{Held, file_of, is_askable, is_right_path, readings_by, requirements_in, vertex_requirements, said_in, with_right_path}
 use Rattle.gm_graph.proofs.ReadingIf.{reading_if}
 use Rattle.gm_graph.specs.Summaries.{IsKept, IsWithinList, at_span, span_found, summary_reading}

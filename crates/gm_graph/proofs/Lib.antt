@@ -34,6 +34,7 @@ pub mod AskedFile
 pub mod OwnFiles
 pub mod Lending
 pub mod OneReading
+pub mod Misread
 pub mod Keeping
 pub mod ReadingIf
 pub mod FilePlaces

@@ -11,7 +11,7 @@ use Rattle.gm_graph.specs.declared.cache.Cache.{Cache}
 use Rattle.gm_graph.specs.Cached.{HasSoundFile, HoldsSame, IsLender, IsLenderNamed, held_of, main_in, modules_in, summary_at}
 use Rattle.gm_graph.specs.Asking.{AsksFor}
 use Rattle.gm_graph.specs.FileTable.{IsPlaceOf}
-use Rattle.gm_graph.specs.Main.{Main, main_of}
+use Rattle.gm_file.specs.Main.{Main, main_of}
 use Rattle.gm_graph.specs.Reading.{Held, file_of, is_askable, readings_by, vertex_requirements}
 use Rattle.gm_graph.specs.Summaries.{summary_reading}
 use Rattle.gm_graph.proofs.Holding.{held_sound}

@@ -13,7 +13,7 @@ use Rattle.gm_store.specs.Asked.{Name, Reply, bytes, absent, too_long}
 use Rattle.gm_store_sums.specs.Sums.{Sums}
 use Rattle.gm_graph.specs.declared.cache.class.Class.{Class}
 use Rattle.gm_graph.specs.declared.cache.class.Class.TheVariants.{NotFetchable, Missing, TooLong, NoSum, SumDiffers, Malformed, WrongPath}
-use Rattle.gm_graph.specs.declared.cache.class.Misreading.TheVariants as misreading
+use Rattle.gm_file.specs.declared.misreading.Misreading.TheVariants as misreading
 use Rattle.gm_graph.specs.Reading.{AreRetractedBy, IsContentReading, IsFileReading, IsReadUnless, sum_fault}
 
 -- what bytes are: not text, or lines that end in a given state

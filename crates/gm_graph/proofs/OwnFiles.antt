@@ -13,7 +13,7 @@ use Rattle.gm_graph.specs.declared.cache.summary.Kept.{Kept}
 use Rattle.gm_graph.specs.declared.cache.Cache.{Cache}
 use Rattle.gm_graph.specs.Cached.{HasFileAt, kept_file, main_in, modules_in, numbered, summary_at}
 use Rattle.gm_graph.specs.FileTable.{PutsFile, IsFileOf, kept_at, replacing_place}
-use Rattle.gm_graph.specs.Main.{replacement_in}
+use Rattle.gm_file.specs.Main.{replacement_in}
 use Rattle.gm_graph.specs.Reading.{file_named, file_of, is_askable}
 
 -- The file of a module is that of a replacement, or its own.

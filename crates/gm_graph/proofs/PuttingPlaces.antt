@@ -21,7 +21,7 @@ use Rattle.gm_graph.proofs.Replacements.{some_still}
 use Rattle.gm_graph.specs.declared.cache.file_table.FileTable.{FileTable}
 use Rattle.gm_graph.specs.declared.cache.summary.Kept.{Kept}
 use Rattle.gm_graph.specs.FileTable.{PutsFile, HasReplacing, IsFileOf, KeepsFiles, KeepsOwn, KeepsPlaces, KeepsReplacing, PutsOwn, NotesPlace, PutsReplacing, own_place, place_beside, place_of, replacing_place}
-use Rattle.gm_graph.specs.Main.{Main}
+use Rattle.gm_file.specs.Main.{Main}
 use Rattle.gm_graph.specs.Places.{IsPlace, no_place}
 use Rattle.gm_graph.specs.Reading.{file_of}
 

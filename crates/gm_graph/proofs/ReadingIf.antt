@@ -5,7 +5,7 @@ use Rattle.gm_name.specs.ModuleVersion.{ModuleVersion}
 use Rattle.gm_file.specs.Fields.{Dependency}
 use Rattle.gm_graph.specs.declared.cache.class.Class.{Class}
 use Rattle.gm_graph.specs.declared.cache.class.Class.TheVariants.{NotFetchable}
-use Rattle.gm_graph.specs.Main.{Main, replacement_in}
+use Rattle.gm_file.specs.Main.{Main, replacement_in}
 use Rattle.gm_graph.specs.Reading.{with_right_path}
 
 -- `readings_by` with the test as a variable, so that a proof can take its cases

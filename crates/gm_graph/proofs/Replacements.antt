@@ -15,7 +15,7 @@ use Rattle.gm_store.proofs.NameOrder.{held_inserted, same_from_equal}
 use Rattle.gm_store.specs.Asked.{Name, name_of, same_name}
 use Rattle.gm_store.specs.contracts.files.FileNameOrd.TheImpl.{cmp-value}
 use Rattle.gm_store.specs.declared.files.FileName.{FileName}
-use Rattle.gm_graph.specs.Main.{Main, replacement_in}
+use Rattle.gm_file.specs.Main.{Main, replacement_in}
 use Rattle.gm_graph.specs.Reading.{file_named, file_of}
 
 -- A place is noted for the file of a name.

@@ -9,7 +9,7 @@ use Rattle.gm_file.specs.Listed.{Head, with_requirements}
 use Rattle.gm_graph.specs.declared.cache.summary.Kept.{Kept}
 use Rattle.gm_graph.specs.declared.cache.summary.Kept.TheVariants.{Valid, Faulty}
 use Rattle.gm_graph.specs.declared.cache.summary.ListSpan.{ListSpan}
-use Rattle.gm_graph.specs.Main.{Main, is_excluded, without_excluded}
+use Rattle.gm_file.specs.Main.{Main, is_excluded, without_excluded}
 use Rattle.gm_graph.specs.Summaries.{IsKept, IsSummary, IsWithinList, at_span, span_found, summary_reading}
 use Rattle.gm_graph.proofs.Excluding.{all_others}
 

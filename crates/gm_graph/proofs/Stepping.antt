@@ -11,7 +11,7 @@ use Rattle.gm_graph.specs.declared.cache.depth.Depth.TheVariants.{Top}
 use Rattle.gm_graph.specs.declared.cache.depth.Turn.{Turn}
 use Rattle.gm_graph.specs.Cached.{Knows, held_of, main_in, modules_in, sums_in, turns_in}
 use Rattle.gm_graph.specs.Turns.{turn}
-use Rattle.gm_graph.specs.Main.{Main}
+use Rattle.gm_file.specs.Main.{Main}
 use Rattle.gm_graph.specs.Reading.{Keeps, Readings, Tells, readings_by}
 use Rattle.gm_graph.proofs.Keeping.{readings_stay}
 use Rattle.gm_graph.specs.declared.graph_builder.GraphBuilder.{GraphBuilder}

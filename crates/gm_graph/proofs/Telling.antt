@@ -10,7 +10,7 @@ use Rattle.gm_name_table.specs.Listed.{BeginsWith, NumberedList, listed}
 use Rattle.gm_graph.specs.declared.cache.class.Class.{Class}
 use Rattle.gm_graph.specs.declared.cache.summary.Kept.{Kept}
 use Rattle.gm_graph.specs.declared.cache.Cache.{Cache}
-use Rattle.gm_graph.specs.Main.{Main, main_of}
+use Rattle.gm_file.specs.Main.{Main, main_of}
 use Rattle.gm_graph.specs.Reading.{Held, IsFileReading, IsTold, KeepsHeld, Tells}
 use Rattle.gm_graph.specs.FileTable.{PutsFile, kept_at}
 use Rattle.gm_graph.proofs.Keeping.{keeps_same, knows_still, main_same, sound_still}

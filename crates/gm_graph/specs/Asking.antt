@@ -4,7 +4,7 @@ use Rattle.gm_name.specs.ModuleVersion.{ModuleVersion}
 use Rattle.gm_store.specs.Asked.{Name, Reply, answer_in, name_of}
 use Rattle.gm_store.specs.declared.files.FileName.{FileName}
 use Rattle.gm_store.specs.States.{AddsAnswer, StoreState}
-use Rattle.gm_graph.specs.Main.{Main}
+use Rattle.gm_file.specs.Main.{Main}
 use Rattle.gm_graph.specs.Reading.{file_of, is_askable}
 
 -- Nothing was asked for, or only this name, which was not asked for before.

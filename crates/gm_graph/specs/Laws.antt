@@ -8,7 +8,7 @@ use Rattle.gm_file.specs.Fields.{Dependency}
 use Rattle.gm_store.specs.Asked.{Name, Reply}
 use Rattle.gm_store_sums.specs.Sums.{Sums}
 use Rattle.gm_graph.specs.declared.cache.class.Class.{Class}
-use Rattle.gm_graph.specs.Main.{Main, is_pruned_by}
+use Rattle.gm_file.specs.Main.{Main, is_pruned_by}
 use Rattle.gm_graph.specs.Reading.{Held, IsFileReading, Keeps, KeepsHeld, Readings, Tells, readings_by, vertex_requirements}
 use Rattle.gm_graph_select.specs.declared.step.Step.{Step}
 use Rattle.gm_graph_select.specs.declared.step.Step.TheVariants.{Of}

@@ -11,7 +11,6 @@ pub mod FileLists
 pub mod Followed
 pub mod Outcome
 pub mod Laws
-pub mod Main
 pub mod Reading
 pub mod Asking
 pub mod Summaries

@@ -6,7 +6,7 @@ use Rattle.gm_store.specs.Asked.{Name, Reply, answer_in, same_name}
 use Rattle.gm_store_sums.specs.Sums.{Sums}
 use Rattle.gm_graph.specs.declared.cache.depth.Depth.{Depth}
 use Rattle.gm_graph.specs.declared.cache.depth.Turn.{Turn}
-use Rattle.gm_graph.specs.Main.{Main}
+use Rattle.gm_file.specs.Main.{Main}
 use Rattle.gm_graph.specs.Reading.{Held, Readings, file_of, is_askable, readings_by, Tells}
 use Rattle.gm_graph.specs.Graph.{IsOpened, TakesTurn}
 use Rattle.gm_graph.specs.Turns.{same_turn, turn}

@@ -4,15 +4,10 @@ use Rattle.std.specs.Option.{option_map}
 use Rattle.std.specs.Str.{bytes_eq}
 use Rattle.gm_name.specs.Path.{is_fetchable}
 use Rattle.gm_name.specs.ModuleVersion.{ModuleVersion}
-use Rattle.gm_syntax.specs.Tokens.{Placed}
-use Rattle.gm_syntax.specs.Document.{Line}
-use Rattle.gm_syntax.specs.LineViews.{plain_lines}
-use Rattle.gm_syntax.specs.Parsed.{IsParsedAs}
-use Rattle.gm_syntax.specs.declared.fault.SyntaxFault.TheVariants as syntax
 use Rattle.gm_file.specs.Directives.{Lax, Right, Folder, Module, VersionInterval}
-use Rattle.gm_file.specs.Faults.{fault_of}
 use Rattle.gm_file.specs.DepLines.{AreRetractedIn, IsDependencyIn}
 use Rattle.gm_file.specs.Fields.{Dependency}
+use Rattle.gm_file.specs.Misreading.{IsMisread}
 use Rattle.gm_store.specs.Asked.{Name, Reply, mod_file, folder_file, list_file, bytes, absent, too_long, answer_in}
 use Rattle.gm_store_sums.specs.Sums.{Sums, check_in}
 use Rattle.gm_store_sums.specs.Hash.{file_hash}
@@ -20,9 +15,8 @@ use Rattle.gm_store_sums.specs.declared.sum_table.Sum.{Sum}
 use Rattle.gm_store_sums.specs.declared.sum_table.Sum.TheVariants.{Good, Unlisted, Differs}
 use Rattle.gm_graph.specs.declared.cache.class.Class.{Class}
 use Rattle.gm_graph.specs.declared.cache.class.Class.TheVariants.{NotFetchable, Missing, TooLong, NoSum, SumDiffers, Malformed, WrongPath}
-use Rattle.gm_graph.specs.declared.cache.class.Misreading.{Misreading}
-use Rattle.gm_graph.specs.declared.cache.class.Misreading.TheVariants as misreading
-use Rattle.gm_graph.specs.Main.{Main, without_excluded, is_pruned_by, replacement_in}
+use Rattle.gm_file.specs.declared.misreading.Misreading.TheVariants as misreading
+use Rattle.gm_file.specs.Main.{Main, without_excluded, is_pruned_by, replacement_in}
 
 -- ---- which file is read
 
@@ -56,20 +50,11 @@ sum_fault (Some table) (mod_file path version) content = class_of_sum (check_in 
 sum_fault (Some table) (folder_file text) content = None
 sum_fault (Some table) (list_file path) content = None
 
--- The bytes can't be read as a dependency's file: the line, or 0 for the whole file, and the kind of the error
--- there.
-abbrev pub IsMisreadAt : List ℕ → ℕ → Misreading → Type 0
-IsMisreadAt content line misreading.TooMany = (line ≡ 0) × IsParsedAs content (Err syntax.TooMany)
-IsMisreadAt content line misreading.NotUtf8 = (line ≡ 0) × IsParsedAs content (Err syntax.NotUtf8)
-IsMisreadAt content line (misreading.Syntax kind) = IsParsedAs content (Err (syntax.Syntax line kind))
-IsMisreadAt content line (misreading.Directive kind) = (doc : List (Line Placed)) × IsParsedAs content (Ok doc)
-    × (fault_of Lax (plain_lines doc) ≡ Some (line, kind))
-
 -- The contents of the bytes as a dependency's file, or why they can't be read. No store gives too many bytes.
 abbrev pub IsContentReading : List ℕ → Result Dependency Class → Type 0
 IsContentReading content (Ok file) = IsDependencyIn content file
 IsContentReading content (Err (Malformed line misreading.TooMany)) = ⊥
-IsContentReading content (Err (Malformed line kind)) = IsMisreadAt content line kind
+IsContentReading content (Err (Malformed line kind)) = IsMisread Lax content line kind
 IsContentReading content (Err class) = ⊥
 
 -- A fault that was found first takes precedence over the contents of the bytes.

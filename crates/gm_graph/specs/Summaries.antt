@@ -14,7 +14,7 @@ use Rattle.gm_graph.specs.declared.cache.summary.Kept.TheVariants.{Valid, Faulty
 use Rattle.gm_graph.specs.declared.cache.summary.ListSpan.{ListSpan}
 use Rattle.gm_graph.specs.declared.cache.summary.Summary.{Summary}
 use Rattle.gm_store.specs.Asked.{Reply}
-use Rattle.gm_graph.specs.Main.{Main, without_excluded}
+use Rattle.gm_file.specs.Main.{Main, without_excluded}
 use Rattle.gm_graph.specs.Reading.{AreRetractedBy}
 
 -- what an answer says, as a reading

@@ -6,7 +6,7 @@ use Rattle.gm_file.specs.Fields.{Dependency}
 use Rattle.gm_graph.specs.declared.cache.depth.Turn.{Turn}
 use Rattle.gm_graph.specs.declared.cache.depth.Depth.{Depth}
 use Rattle.gm_graph.specs.declared.cache.depth.Depth.TheVariants.{Top, Deep}
-use Rattle.gm_graph.specs.Main.{Main, is_pruned_by}
+use Rattle.gm_file.specs.Main.{Main, is_pruned_by}
 use Rattle.gm_graph.specs.Reading.{Readings, is_unpruned_in, vertex_requirements, said_in}
 use Rattle.gm_name_table.specs.Listed.{BeginsWith}
 use Rattle.gm_graph.specs.Graph.{IsTop, TakesTurn}

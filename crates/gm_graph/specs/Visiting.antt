@@ -22,7 +22,7 @@ use Rattle.gm_graph.specs.Cached.{IsSound, KeepsSound, Knows, file_count, held_o
 use Rattle.gm_graph.specs.Lent.{lent_modules, lent_table}
 use Rattle.gm_graph.specs.contracts.cache.Cache.{the_row}
 use Rattle.gm_graph.specs.Turns.{turn, AreFirstTurns, VisitOverflows, Visits as VisitsTurn, leads_on}
-use Rattle.gm_graph.specs.Main.{Main}
+use Rattle.gm_file.specs.Main.{Main}
 use Rattle.gm_graph.specs.Reading.{Held, KeepsHeld, Readings, Tells, vertex_fault, vertex_requirements, readings_by}
 use Rattle.gm_graph.specs.declared.cache.class.Class.{Class}
 use Rattle.gm_graph_select.specs.declared.step.Edge.{Edge}

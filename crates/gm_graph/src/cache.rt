@@ -18,7 +18,6 @@ pub(crate) mod depth;
 pub(crate) mod file_table;
 pub(crate) mod lent;
 pub(crate) mod load_fault;
-pub(crate) mod main_view;
 pub(crate) mod naming;
 pub(crate) mod paths;
 pub(crate) mod reading;
@@ -33,7 +32,7 @@ ghost use Rattle.gm_store.specs.Asked.{IsWithinLimit, Reply, answer_in, name_of,
 ghost use Rattle.gm_store.specs.Requests.{refused_for};
 ghost use Rattle.gm_store.specs.States.{AddsAnswer, HasServed};
 ghost use Rattle.gm_store.specs.declared.files.FileName.{FileName};
-ghost use Rattle.gm_graph.specs.Main.{main_of, without_excluded};
+ghost use Rattle.gm_file.specs.Main.{main_of, without_excluded};
 ghost use Rattle.gm_graph.specs.Asking.{AsksAtMost, AsksFor, FailsFor};
 ghost use Rattle.gm_graph.specs.Reading.{IsFileReading, KeepsHeld, file_of, is_askable as may_be_asked, said_in};
 ghost use Rattle.gm_graph.specs.Refusals.{load_fault_at};
@@ -92,7 +91,7 @@ pub struct Cache<'a> {
 /// A table of names without a limit, which knows the paths that the main file requires.
 fn names_for(alloc: Global, main: &MainFile) -> Result<KnownNames, NoMemory> {
     let mut names = KnownNames::new(alloc, usize::MAX);
-    for y in main_view::requirements(main) {
+    for y in main.requirements() {
         names.learn(y.path())?;
     }
     Ok(names)
@@ -104,8 +103,8 @@ fn first_modules(alloc: Global, main: &MainFile) -> Result<ModuleList, NoMemory>
         ≡ without_excluded (main_of main.now) (main_of main.now).requirements) }
 {
     let mut modules = ModuleList::new(alloc);
-    for y in main_view::requirements(main) {
-        if !main_view::is_excluded(main, y) {
+    for y in main.requirements() {
+        if !main.excluded(y) {
             modules.push(y)?;
         }
     }

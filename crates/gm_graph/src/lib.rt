@@ -34,11 +34,10 @@ mod worklist;
 
 pub use crate::cache::Cache;
 pub use crate::cache::by_name::Known;
-pub use crate::cache::class::{Class, Misreading};
+pub use crate::cache::class::Class;
 pub use crate::cache::depth::{Depth, Turn};
 pub use crate::cache::lent::Lent;
 pub use crate::cache::load_fault::LoadFault;
-pub use crate::cache::main_view::main_path;
 pub use crate::cache::reading::FileReading;
 pub use crate::fault::Fault;
 pub use crate::loaded::Loaded;

@@ -7,7 +7,7 @@ ghost use Rattle.gm_store.specs.States.{HasServed};
 ghost use Rattle.gm_store.specs.declared.files.FileName.{FileName};
 ghost use Rattle.gm_graph.specs.Cached.{Knows, file_count, main_in, modules_in, sums_in, turns_in};
 ghost use Rattle.gm_graph.specs.Refusals.{refused_in};
-ghost use Rattle.gm_graph.specs.Main.{main_of};
+ghost use Rattle.gm_file.specs.Main.{main_of};
 ghost use Rattle.gm_graph_select.specs.BuildList.{IsBuildList};
 ghost use Rattle.gm_graph_select.specs.Chains.{IsRooted};
 ghost use Rattle.gm_graph_select.specs.Graph.{IsEdgeEnd, among, edge_cmp};
@@ -27,7 +27,6 @@ ghost use Rattle.gm_graph.specs.Visiting.{IsFirstGraph, IsOpenedIn};
 use crate::cache::Cache;
 use crate::cache::depth::Turn;
 use crate::cache::load_fault::LoadFault;
-use crate::cache::main_view::main_path;
 use crate::followed::Followed;
 use crate::graph_builder::{GraphBuilder, fault_list};
 use crate::loaded::Loaded;
@@ -102,7 +101,7 @@ fn assemble(
     let faults = fault_list(alloc, faults)?;
     let graph = Graph::new(alloc, modules, edges.lists, edges.sources)?;
     let rows = build_list(alloc, main, &graph)?;
-    let path = main_path(main).copy(alloc)?;
+    let path = main.module().copy(alloc)?;
     Ok(Loaded::new(path, faults, graph, rows, turns))
 }
 

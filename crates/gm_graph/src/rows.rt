@@ -3,11 +3,10 @@
 ghost use Rattle.std.specs.Prelude.{◌≡◌, ◌∷◌, [], IfOk, map};
 ghost use Rattle.std.specs.Option.{option_map};
 ghost use Rattle.gm_file.specs.Views.{right_view};
-ghost use Rattle.gm_graph.specs.Main.{main_of, replacement_in};
+ghost use Rattle.gm_file.specs.Main.{main_of, replacement_in};
 ghost use Rattle.gm_graph_select.specs.BuildList.{IsBuildList, entries_of_rows, entry_of, entry_of_row, main_entry};
 ghost use Rattle.gm_graph_select.specs.Graph.{AreEnds, among};
 
-use crate::cache::main_view::main_path;
 use gm_file::{MainFile, Right};
 use gm_graph_select::{Graph, Row, Selection, Step};
 use gm_name::ModVer;
@@ -76,7 +75,7 @@ pub(crate) fn build_list(
         → IsBuildList (main_of main.now).path (main_of main.now).replaces (among graph.now.edges)
         (entries_of_rows rows.items)) }
 {
-    let selected = graph.selected(main_path(main));
+    let selected = graph.selected(main.module());
     let rows = rows_of(alloc, main, selected)?;
     Ok(rows)
 }

@@ -2,7 +2,7 @@
 
 ghost use Rattle.std.specs.Prelude.{◌≡◌, [], IfOk, Err};
 ghost use Rattle.gm_graph.specs.Cached.{main_in, modules_in};
-ghost use Rattle.gm_graph.specs.Main.{is_pruned_by, without_excluded, main_of};
+ghost use Rattle.gm_file.specs.Main.{is_pruned_by, without_excluded, main_of};
 ghost use Rattle.gm_graph.specs.Refusals.{refused_in};
 ghost use Rattle.gm_graph.specs.FileLists.{HaveFiles};
 ghost use Rattle.gm_graph.specs.Turns.{OverflowsWith, depth_by};
@@ -11,7 +11,6 @@ ghost use Rattle.gm_graph.specs.Visiting.{IsFirstGraph};
 use crate::cache::Cache;
 use crate::cache::depth::Depth;
 use crate::cache::load_fault::LoadFault;
-use crate::cache::main_view::is_main_pruned;
 use crate::graph_builder::GraphBuilder;
 use gm_file::MainFile;
 use std::alloc::Global;
@@ -20,7 +19,7 @@ use std::alloc::Global;
 fn first_depth(main: &MainFile) -> Depth
     ensures { result ≡ depth_by (is_pruned_by (main_of main.now).go) }
 {
-    if is_main_pruned(main) {
+    if main.is_pruned() {
         Depth::Top
     } else {
         Depth::Deep

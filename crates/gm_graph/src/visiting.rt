@@ -12,7 +12,7 @@ ghost use Rattle.gm_graph.specs.Builder.{IsBuilder, KeepsTurns, built, turn_of, 
 ghost use Rattle.gm_graph.specs.EdgeLists.{AreLists, KeepsLists};
 ghost use Rattle.gm_graph.specs.FileLists.{AddsFileList, HasNumbersOf, HaveFiles};
 ghost use Rattle.gm_graph.specs.Followed.{AreFollowedIn, FollowsFile, followed_at};
-ghost use Rattle.gm_graph.specs.Main.{Main};
+ghost use Rattle.gm_file.specs.Main.{Main};
 ghost use Rattle.gm_graph.specs.Reading.{Readings};
 ghost use Rattle.gm_graph.specs.Turns.{turn, OverflowsWith};
 ghost use Rattle.gm_graph.specs.Visiting.{Continues, IsVisited, OverflowsAt, SaysRequired, readings_in, required_by, table_of};

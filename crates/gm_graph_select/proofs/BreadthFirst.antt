@@ -6,7 +6,7 @@ use Rattle.std.specs.Ordering.{is_lt, nat_cmp, ordering_then}
 use Rattle.std.specs.declared.cmp.Ordering.{Ordering}
 use Rattle.std.specs.declared.cmp.Ordering.TheVariants.{Less, Equal, Greater}
 use Rattle.std.proofs.Math.Seq.{get_or-append_seam}
-use Rattle.std.proofs.lemmas.Bool.{cases_eq, cases_lt, eqb-false, eqb-true, false≢true, ltb-true}
+use Rattle.std.proofs.lemmas.Bool.{cases_eq, cases_lt, eqb-false, eqb-true, false_from_ne_true, false≢true, ltb-true, true_from_ne_false}
 use Rattle.std.proofs.lemmas.List.{get_or_append_left, get_or_default, get_or-replicate, get_or-set_other, get_or-set_same, get_or-take, length-replicate, length-set, length-take-le, map_more, reverse-append}
 use Rattle.std.proofs.lemmas.List.Elements.{All-contains, Contains-append_cases, Contains-append_left, Contains-append_right, Contains-get_or, Contains-push, Contains-push_cases}
 use Rattle.std.proofs.lemmas.List.Sums.{sum_by-set}
@@ -22,20 +22,12 @@ use Rattle.gm_graph_select.specs.Chains.{IsChain, IsLevel, IsPredecessor, IsReac
 use Rattle.gm_graph_select.specs.Marking.{HasMark}
 use Rattle.gm_graph_select.specs.Numbering.{AreInList, AreLeaving, HasList, IsGraph, edge_leaving, edges_leaving, graph_edges, step_at, steps_of}
 use Rattle.gm_graph_select.specs.Order.{IsAscending}
-use Rattle.gm_graph_select.specs.Searching.{ArePassed, AreTraced, AreTried, IsVisitedNext, IsFollowed, IsFoundEnd, IsSearchedTo, IsTraced, IsTracedTo, IsTurn, IsWithin, State, count_left, first_state, flag, is_found_at, state_of, visit_at, visited}
+use Rattle.gm_graph_select.specs.Searching.{ArePassed, AreTraced, AreTried, IsVisitedNext, IsFollowed, IsFoundEnd, IsSearchedTo, IsTraced, IsTracedTo, IsTurn, IsWithin, State, count_left, first_state, flag, is_found_at, state_of, visit_at, visited_step}
 use Rattle.gm_graph_select.proofs.Marks.{none_marked}
 use Rattle.gm_graph_select.proofs.NumberedSteps.{less_number, same_number, step_number, steps_ascend}
 use Rattle.gm_graph_select.proofs.RankedLists.{from_mapped, in_mapped}
 
 -- ---- levels
-
-is_false : (b : Bool) → (b ≡ true → ⊥) → b ≡ false
-is_false true h = absurd (h refl)
-is_false false h = refl
-
-by_true : (b : Bool) → (b ≡ false → ⊥) → b ≡ true
-by_true true h = refl
-by_true false h = absurd (h refl)
 
 module _ (E : Edges) (n : ℕ) (y : ModuleVersion) (far : IsWithin E n (Of y) → ⊥) where
   at_least : (s : Step) → E s y → (m : ℕ) → Leads E s m → n ≤ m
@@ -137,23 +129,30 @@ one_member : {T : Type 0} (x y : T) → Contains (x ∷ []) y → x ≡ y
 one_member x y (zero, below, is) = is
 one_member x y (suc k, below, is) = absurd (omega (arith, below))
 
+-- Other edges whose ends were found, and other lists that were passed.
+renewed : (G : GraphView) (goal : ModuleVersion) (level : ℕ) (before : List Bool) (tried all : List Edge) (state : State) (passed : List Bool)
+    → ((e : Edge) → Contains all e → IsFoundEnd G goal state.found e.to) → ArePassed G goal state.found passed
+    → IsFollowed G goal level before tried state → IsFollowed G goal level before all (record state { passed = passed })
+renewed G goal level before tried all state passed ends lists f = record {
+  size = f.size;
+  keeps = f.keeps;
+  news = f.news;
+  inside = f.inside;
+  found = f.found;
+  on_level = f.on_level;
+  traced = f.traced;
+  once = f.once;
+  ends = ends;
+  visits = f.visits;
+  count = f.count;
+  passed = lists;
+}
+
 module _ (G : GraphView) (goal : ModuleVersion) (level : ℕ) (before : List Bool) (tried : List Edge) where
   -- Edges whose ends were found.
   pub with_edges : (state : State) (more : List Edge) → ((e : Edge) → Contains more e → IsFoundEnd G goal state.found e.to) → IsFollowed G goal level before tried state → IsFollowed G goal level before (tried ++ more) state
-  with_edges state more ends f = record {
-    size = f.size;
-    keeps = f.keeps;
-    news = f.news;
-    inside = f.inside;
-    found = f.found;
-    on_level = f.on_level;
-    traced = f.traced;
-    once = f.once;
-    ends = λ a h. elim (Contains-append_cases tried more a h) [ inl old ↦ f.ends a old | inr new ↦ ends a new ];
-    visits = f.visits;
-    count = f.count;
-    passed = f.passed;
-  }
+  with_edges state more ends f = renewed G goal level before tried (tried ++ more) state state.passed
+      (λ a h. elim (Contains-append_cases tried more a h) [ inl old ↦ f.ends a old | inr new ↦ ends a new ]) f.passed f
 
   pub with_edge : (state : State) (e : Edge) → IsFoundEnd G goal state.found e.to → IsFollowed G goal level before tried state → IsFollowed G goal level before (tried ++ e ∷ []) state
   with_edge state e end f = with_edges state (e ∷ []) (λ a h. subst (λ (b : Edge). IsFoundEnd G goal state.found b.to) (one_member e a h) end) f
@@ -182,7 +181,7 @@ module _ (G : GraphView) (goal : ModuleVersion) (level : ℕ) (before : List Boo
       (with_visit old.is_found.items old.visits.items old.next.items old.is_passed.items v inside due.traced due.followed)
 
   -- The end of an edge is found.
-  pub with_end : (found : List Bool) (visits next : List Visit) (passed : List Bool) (i place : ℕ) (e : Edge) → IsGraph G → IsTurn G level before tried e.from → visited (steps_of G) visits place ≡ e.from → place < length visits → Contains G.edges e
+  pub with_end : (found : List Bool) (visits next : List Visit) (passed : List Bool) (i place : ℕ) (e : Edge) → IsGraph G → IsTurn G level before tried e.from → visited_step (steps_of G) visits place ≡ e.from → place < length visits → Contains G.edges e
       → i < length (steps_of G) → step_at (steps_of G) i ≡ Of e.to → is_found_at found i ≡ false → IsFollowed G goal level before tried (record { found = found; visits = visits; next = next; passed = passed })
       → IsFollowed G goal level before tried (record { found = set found i true; visits = visits; next = next ++ record { number = i; before = place } ∷ []; passed = passed })
   with_end found visits next passed i place e are turn here room there inside is none f = record {
@@ -234,13 +233,13 @@ module _ (G : GraphView) (goal : ModuleVersion) (level : ℕ) (before : List Boo
       further : IsLevel (graph_edges G) (Of e.to) (suc level)
       further = is_further (graph_edges G) level e.to far e.from turn.on_level there
 
-      predecessor : IsPredecessor (graph_edges G) (visited (steps_of G) visits place) e.to
+      predecessor : IsPredecessor (graph_edges G) (visited_step (steps_of G) visits place) e.to
       predecessor = subst (λ (s : Step). IsPredecessor (graph_edges G) s e.to) (sym here) (record {
         is_edge = there;
         level = level;
         nearer = turn.on_level;
         further = further;
-        least = λ t h l. is_false (is_lt (step_cmp t e.from)) (λ low. false≢true (sym none ∙ (f.ends (edge t e.to) (turn.lower t e.to h l low)).end i inside is));
+        least = λ t h l. false_from_ne_true (is_lt (step_cmp t e.from)) (λ low. false≢true (sym none ∙ (f.ends (edge t e.to) (turn.lower t e.to h l low)).end i inside is));
       })
 
       news : (j : ℕ) → is_found_at (set found i true) j ≡ true → (is_found_at before j ≡ true) ⊎ ((w : Visit) × Contains (next ++ v ∷ []) w × (w.number ≡ j))
@@ -269,20 +268,9 @@ module _ (G : GraphView) (goal : ModuleVersion) (level : ℕ) (before : List Boo
   pub list_passed : (found : List Bool) (visits next : List Visit) (passed : List Bool) (number list : ℕ) (ranks : List ℕ) → AreInList G list ranks
       → IsFollowed G goal level before (tried ++ edges_leaving G number ranks) (record { found = found; visits = visits; next = next; passed = passed })
       → IsFollowed G goal level before (tried ++ edges_leaving G number ranks) (record { found = found; visits = visits; next = next; passed = set passed list true })
-  list_passed found visits next passed number list ranks are f = record {
-    size = f.size;
-    keeps = f.keeps;
-    news = f.news;
-    inside = f.inside;
-    found = f.found;
-    on_level = f.on_level;
-    traced = f.traced;
-    once = f.once;
-    ends = f.ends;
-    visits = f.visits;
-    count = f.count;
-    passed = now;
-  }
+  list_passed found visits next passed number list ranks are f =
+      let all = tried ++ edges_leaving G number ranks in
+      renewed G goal level before all all (record { found = found; visits = visits; next = next; passed = passed }) (set passed list true) f.ends now f
     where
       now : ArePassed G goal found (set passed list true)
       now other place inside has mark y e = elim (cases_eq place list) [
@@ -311,7 +299,7 @@ module _ (G : GraphView) (goal : ModuleVersion) (level : ℕ) (before : List Boo
     level = level;
     nearer = turn.on_level;
     further = is_further (graph_edges G) level goal far s turn.on_level there;
-    least = λ t h l. is_false (is_lt (step_cmp t s)) (λ low. (f.ends (edge t goal) (turn.lower t goal h l low)).miss refl);
+    least = λ t h l. false_from_ne_true (is_lt (step_cmp t s)) (λ low. (f.ends (edge t goal) (turn.lower t goal h l low)).miss refl);
   }
 
   pub turn_later : (more : List Edge) (s : Step) → IsTurn G level before tried s → IsTurn G level before (tried ++ more) s
@@ -321,7 +309,7 @@ module _ (G : GraphView) (goal : ModuleVersion) (level : ℕ) (before : List Boo
     full = turn.full;
   }
 
-  -- The goal is found by an edge that leaves the last visited step.
+  -- The goal is found by an edge that leaves the last visited_step step.
   pub found_here : (state : State) (old : List Visit) (v : Visit) (e : Edge) → state.visits ≡ old ++ v ∷ [] → e.to ≡ goal → Contains G.edges e → e.from ≡ step_at (steps_of G) v.number
       → IsTurn G level before tried (step_at (steps_of G) v.number) → (IsWithin (graph_edges G) level (Of goal) → ⊥) → IsFollowed G goal level before tried state → IsTracedTo G goal state.visits
   found_here state old v e visits to there from turn far f = record {
@@ -336,8 +324,8 @@ module _ (G : GraphView) (goal : ModuleVersion) (level : ℕ) (before : List Boo
       place : length state.visits - 1 ≡ length old
       place = let long = ap length visits in omega (arith, long, length-append old (v ∷ []))
 
-      last : visited (steps_of G) state.visits (length state.visits - 1) ≡ step_at (steps_of G) v.number
-      last = ap (visited (steps_of G) state.visits) place ∙ ap (λ (vs : List Visit). visited (steps_of G) vs (length old)) visits
+      last : visited_step (steps_of G) state.visits (length state.visits - 1) ≡ step_at (steps_of G) v.number
+      last = ap (visited_step (steps_of G) state.visits) place ∙ ap (λ (vs : List Visit). visited_step (steps_of G) vs (length old)) visits
           ∙ ap (λ (u : Visit). step_at (steps_of G) u.number) (visit_last old v)
 
 pub one_more : (G : GraphView) (number : ℕ) (done : List Edge) (ranks : List ℕ) (i rank : ℕ) → i < length ranks → rank ≡ get_or ranks i 0 → (done ++ edges_leaving G number (take i ranks)) ++ edge_leaving G number rank ∷ [] ≡ done ++ edges_leaving G number (take (i + 1) ranks)
@@ -345,9 +333,9 @@ one_more G number done ranks i rank below is =
     append_assoc done (edges_leaving G number (take i ranks)) (edge_leaving G number rank ∷ [])
     ∙ ap (λ (es : List Edge). done ++ es) (ap (λ (r : ℕ). edges_leaving G number (take i ranks) ++ edge_leaving G number r ∷ []) is ∙ sym (map_more (edge_leaving G number) ranks i 0 below))
 
-pub last_visit : (steps : List Step) (visits : List Visit) (v : Visit) (all : List Visit) (p : ℕ) → all ≡ visits ++ v ∷ [] → p ≡ length visits → (visited steps all p ≡ step_at steps v.number) × (p < length all)
+pub last_visit : (steps : List Step) (visits : List Visit) (v : Visit) (all : List Visit) (p : ℕ) → all ≡ visits ++ v ∷ [] → p ≡ length visits → (visited_step steps all p ≡ step_at steps v.number) × (p < length all)
 last_visit steps visits v all p is at = (
-  ap (λ (vs : List Visit). visited steps vs p) is ∙ ap (visited steps (visits ++ v ∷ [])) at ∙ ap (λ (u : Visit). step_at steps u.number) (visit_last visits v),
+  ap (λ (vs : List Visit). visited_step steps vs p) is ∙ ap (visited_step steps (visits ++ v ∷ [])) at ∙ ap (λ (u : Visit). step_at steps u.number) (visit_last visits v),
   (let long = ap length is in omega (arith, long, at, length-append visits (v ∷ []))),
 )
 
@@ -440,7 +428,7 @@ module _ (G : GraphView) (goal : ModuleVersion) (level : ℕ) (start : State) (d
   found_old i inside w = f.keeps i ((h.found i inside).1 w)
 
   found_next : (i : ℕ) → i < length (steps_of G) → IsWithin (graph_edges G) (suc level) (step_at (steps_of G) i) → is_found_at state.found i ≡ true
-  found_next i inside w = by_true (is_found_at state.found i) (λ none. go none (step_at (steps_of G) i) refl)
+  found_next i inside w = true_from_ne_false (is_found_at state.found i) (λ none. go none (step_at (steps_of G) i) refl)
     where
       go : is_found_at state.found i ≡ false → (s : Step) → step_at (steps_of G) i ≡ s → ⊥
       go none Main is = false≢true (sym none ∙ found_old i inside (subst (λ (s : Step). IsWithin (graph_edges G) level s) (sym is) (0, omega arith, at_main)))
@@ -502,7 +490,7 @@ not_reached G goal level state due are h empty (n, leads) = last n leads
         let (m, low, near) = all_found s k l z a in
         let (i, inside, at) = step_number G are (Of z) y e in
         let to_found : IsWithin (graph_edges G) level (Of z) → is_found_at state.found i ≡ true = λ w. (h.found i inside).1 (subst (λ (t : Step). IsWithin (graph_edges G) level t) (sym at) w) in
-        let found : is_found_at state.found i ≡ true = by_true (is_found_at state.found i) (λ none.
+        let found : is_found_at state.found i ≡ true = true_from_ne_false (is_found_at state.found i) (λ none.
         not_further (graph_edges G) level z (λ w. false≢true (sym none ∙ to_found w)) (λ t l2 e2. no_level t z l2 e2) (suc m, omega (arith, low), along near a)) in
         subst (λ (t : Step). IsWithin (graph_edges G) level t) at ((h.found i inside).0 found)
 
@@ -621,17 +609,17 @@ some_due (v ∷ due) n is h = refl
 -- ---- the way back
 
 module _ (E : Edges) (steps : List Step) (visits : List Visit) where
-  pub back_begins : (goal : ModuleVersion) (p : ℕ) (items : List Step) → items ≡ Of goal ∷ [] → IsPredecessor E (visited steps visits p) goal → (c : List Step) → IsChain E (visited steps visits p) c → IsChain E (Of goal) (c ++ reverse items)
+  pub back_begins : (goal : ModuleVersion) (p : ℕ) (items : List Step) → items ≡ Of goal ∷ [] → IsPredecessor E (visited_step steps visits p) goal → (c : List Step) → IsChain E (visited_step steps visits p) c → IsChain E (Of goal) (c ++ reverse items)
   back_begins goal p items is before c h = subst (λ (l : List Step). IsChain E (Of goal) (c ++ reverse l)) (sym is) (goes_on h before)
 
   -- one step back
-  pub back_more : (k : ℕ) (x : ModuleVersion) → IsTraced E steps visits k (visit_at visits k) → visited steps visits k ≡ Of x → ((visit_at visits k).before < k) × ((c : List Step) → IsChain E (visited steps visits (visit_at visits k).before) c → IsChain E (visited steps visits k) (c ++ Of x ∷ []))
+  pub back_more : (k : ℕ) (x : ModuleVersion) → IsTraced E steps visits k (visit_at visits k) → visited_step steps visits k ≡ Of x → ((visit_at visits k).before < k) × ((c : List Step) → IsChain E (visited_step steps visits (visit_at visits k).before) c → IsChain E (visited_step steps visits k) (c ++ Of x ∷ []))
   back_more k x (inl main) at = absurd (let wrong : Main ≡ Of x = sym main ∙ at in cc wrong)
   back_more k x (inr (y, is, below, before)) at = (
     below,
     λ c h.
         let same : y ≡ x = (let e : Of y ≡ Of x = sym is ∙ at in cc e) in
-        subst (λ (s : Step). IsChain E s (c ++ Of x ∷ [])) (sym at) (goes_on h (subst (λ (z : ModuleVersion). IsPredecessor E (visited steps visits (visit_at visits k).before) z) same before)),
+        subst (λ (s : Step). IsChain E s (c ++ Of x ∷ [])) (sym at) (goes_on h (subst (λ (z : ModuleVersion). IsPredecessor E (visited_step steps visits (visit_at visits k).before) z) same before)),
   )
 
   pub back_longer : (goal : ModuleVersion) (at s : Step) (items more : List Step) → more ≡ items ++ s ∷ [] → (c : List Step) → IsChain E (Of goal) ((c ++ s ∷ []) ++ reverse items) → IsChain E (Of goal) (c ++ reverse more)

@@ -15,10 +15,10 @@ edges_with vertices one = along one.to
     along [] = refl
     along (number ∷ to) = ap (λ (edges : List Edge). edge_with vertices (one.from, number) ∷ edges) (along to)
 
-pub edges_are : (vertices : List ModuleVersion) (all : List StepEdges) → map (edge_with vertices) (numbered_edges all) ≡ edges_of vertices all
-edges_are vertices [] = refl
-edges_are vertices (one ∷ all) =
-    map-append (edge_with vertices) (numbered_from one.from one.to) (numbered_edges all) ∙ ap₂ (λ (xs ys : List Edge). xs ++ ys) (sym (edges_with vertices one)) (edges_are vertices all)
+pub edges_of-numbered : (vertices : List ModuleVersion) (all : List StepEdges) → map (edge_with vertices) (numbered_edges all) ≡ edges_of vertices all
+edges_of-numbered vertices [] = refl
+edges_of-numbered vertices (one ∷ all) =
+    map-append (edge_with vertices) (numbered_from one.from one.to) (numbered_edges all) ∙ ap₂ (λ (xs ys : List Edge). xs ++ ys) (sym (edges_with vertices one)) (edges_of-numbered vertices all)
 
 pub pairs_below : (count : ℕ) (all : List StepEdges) → HaveNumbers count all → All (AreEndsBelow count) (numbered_edges all)
 pairs_below count [] numbered = All-nil (AreEndsBelow count)

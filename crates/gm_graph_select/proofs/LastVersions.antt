@@ -74,10 +74,10 @@ other_paths z (next ∷ zs) up e y h same = elim (member_cases next y zs h) [
     behind (inl less) = no_lower_path z y (sym same) (nat_list_cmp_total.trans z.0 next.0 y.0 above less)
     behind (inr found) = apart (found.0 ∙ same)
 
-neither : (a b : Bool) → (not a && not b) ≡ true → (a ≡ false) × (b ≡ false)
-neither true b e = absurd (false≢true e)
-neither false true e = absurd (false≢true e)
-neither false false e = (refl, refl)
+not_and_parts : (a b : Bool) → (not a && not b) ≡ true → (a ≡ false) × (b ≡ false)
+not_and_parts true b e = absurd (false≢true e)
+not_and_parts false true e = absurd (false≢true e)
+not_and_parts false false e = (refl, refl)
 
 both_not : (a b : Bool) → a ≡ false → b ≡ false → (not a && not b) ≡ true
 both_not true b e f = cc
@@ -100,7 +100,7 @@ IsGreatestOf main xs x = (x.0 ≢ main) × Contains xs x × ((y : ModuleVersion)
 -- one more vertex at the beginning
 selected_first : (main : List ℕ) (z : ModuleVersion) (zs : List ModuleVersion) → IsAscending pair_cmp (z ∷ zs) → is_selected main z zs ≡ true → IsGreatestOf main (z ∷ zs) z
 selected_first main z zs up e =
-    let two = neither (bytes_eq z.0 main) (first_has_path z.0 zs) e in (
+    let two = not_and_parts (bytes_eq z.0 main) (first_has_path z.0 zs) e in (
       texts_differ z.0 main two.0,
       member_head z zs,
       (λ y there same. elim (member_cases z y zs there) [
@@ -170,7 +170,7 @@ pairs_more x xs low up (suc i) (suc j) d lt below = up i j d (omega (arith, lt))
 ascend_by : (main : List ℕ) (z : ModuleVersion) (zs : List ModuleVersion) → IsAscending pair_cmp (z ∷ zs) → IsAscending path_cmp (greatest_of main zs) → (b : Bool) → is_selected main z zs ≡ b → IsAscending path_cmp (if b then z ∷ greatest_of main zs else greatest_of main zs)
 ascend_by main z zs up behind true e = pairs_more z (greatest_of main zs)
     (λ y h. let there = (selected_is main zs (pairs_tail Below z zs up) y h).1 in
-    lower_path z y (pairs_head Below z y zs up there) (other_paths z zs up (neither (bytes_eq z.0 main) (first_has_path z.0 zs) e).1 y there)) behind
+    lower_path z y (pairs_head Below z y zs up there) (other_paths z zs up (not_and_parts (bytes_eq z.0 main) (first_has_path z.0 zs) e).1 y there)) behind
 ascend_by main z zs up behind false e = behind
 
 selected_ascend : (main : List ℕ) (xs : List ModuleVersion) → IsAscending pair_cmp xs → IsAscending path_cmp (greatest_of main xs)

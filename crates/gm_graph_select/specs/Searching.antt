@@ -23,14 +23,14 @@ abbrev pub visit_at : List Visit → ℕ → Visit
 visit_at visits place = slice_index_or visits place (record { number = 0; before = 0 })
 
 -- the step that was visited at a place
-abbrev pub visited : List Step → List Visit → ℕ → Step
-visited steps visits place = step_at steps (visit_at visits place).number
+abbrev pub visited_step : List Step → List Visit → ℕ → Step
+visited_step steps visits place = step_at steps (visit_at visits place).number
 
 -- A visit is of the main module, or it names an earlier place, at which its step's predecessor was visited.
 abbrev pub IsTraced : Edges → List Step → List Visit → ℕ → Visit → Type 0
 IsTraced edges steps visits place visit = (step_at steps visit.number ≡ Main)
     ⊎ ((y : ModuleVersion) × (step_at steps visit.number ≡ Of y) × (visit.before < place)
-    × IsPredecessor edges (visited steps visits visit.before) y)
+    × IsPredecessor edges (visited_step steps visits visit.before) y)
 
 -- each of the visits
 pub record AreTraced (edges : Edges) (steps : List Step) (visits : List Visit) : Type 0 where
@@ -41,7 +41,7 @@ pub record AreTraced (edges : Edges) (steps : List Step) (visits : List Visit) :
 pub record IsTracedTo (graph : GraphView) (goal : ModuleVersion) (visits : List Visit) : Type 0 where
   pub each : AreTraced (graph_edges graph) (steps_of graph) visits
   pub some : 0 < length visits
-  pub last : IsPredecessor (graph_edges graph) (visited (steps_of graph) visits (length visits - 1)) goal
+  pub last : IsPredecessor (graph_edges graph) (visited_step (steps_of graph) visits (length visits - 1)) goal
 
 -- No two of the visits are to the same step.
 abbrev pub AreOnce : List Visit → Type 0

@@ -15,7 +15,7 @@ ghost use Rattle.gm_graph_select.specs.Adjacency.{GraphView};
 ghost use Rattle.gm_graph_select.specs.Order.{HaveSame};
 ghost use Rattle.gm_graph_select.specs.Chains.{IsReached};
 ghost use Rattle.gm_graph_select.specs.Numbering.{IsGraph, graph_edges, step_at, steps_of};
-ghost use Rattle.gm_graph_select.specs.Searching.{AreOnce, AreTried, IsVisitedNext, IsFollowed, IsSearchedTo, IsTracedTo, IsTurn, first_state, state_of, visit_at, visited};
+ghost use Rattle.gm_graph_select.specs.Searching.{AreOnce, AreTried, IsVisitedNext, IsFollowed, IsSearchedTo, IsTracedTo, IsTurn, first_state, state_of, visit_at, visited_step};
 
 use crate::graph::Graph;
 use crate::sorting::sorted;
@@ -92,7 +92,7 @@ impl Search {
         ensures passed { self.new.is_passed ≡ self.old.is_passed }
         ensures followed { OnOk result ((graph : GraphView) (goal : ModuleVersion) (level : ℕ) (found : List Bool)
             (tried : List Edge) (e : Edge) → IsGraph graph → length self.old.is_found.items ≡ length (steps_of graph)
-            → IsTurn graph level found tried e.from → visited (steps_of graph) self.old.visits.items before ≡ e.from
+            → IsTurn graph level found tried e.from → visited_step (steps_of graph) self.old.visits.items before ≡ e.from
             → before < length self.old.visits.items → step_at (steps_of graph) number ≡ Of e.to
             → Contains graph.edges e → e.to ≢ goal
             → IsFollowed graph goal level found tried (state_of self.old)

@@ -54,12 +54,12 @@ put_in {B} holds choice buckets old new at number value chosen within is puts n 
         ∙ sym (ap (λ (b : Bool). cond b (Some value) (value_in holds choice buckets n))
         (ne_eqb number n (λ same. apart (chosen ∙ ap (λ (m : ℕ). choice m (length buckets)) same))))
 
-below : (number many : ℕ) → number < 4294967296 → number * many + many ≤ 4294967296 * many
-below number zero small = omega (arith, mul-zero number)
-below number (suc many) small = omega (arith, small, below number many small, mul-suc number many)
+mul-below : (number many : ℕ) → number < 4294967296 → number * many + many ≤ 4294967296 * many
+mul-below number zero small = omega (arith, mul-zero number)
+mul-below number (suc many) small = omega (arith, small, mul-below number many small, mul-suc number many)
 
 -- A number of 32 bits chooses a bucket that there is.
 pub within : (number many : ℕ) → number < 4294967296 → 0 < many → bucket_of number many < many
 within number many fits some =
-    let product = below number many fits in
+    let product = mul-below number many fits in
     omega (arith, product, some)

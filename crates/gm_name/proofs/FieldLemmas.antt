@@ -163,8 +163,8 @@ put_some [] all words e some = cc some
 put_some (b ∷ word) all words e some = e
 
 -- a test of emptiness, moved along equalities
-pub is_none : (word w : List ℕ) (b : Bool) → w ≡ word → b ≡ (length w == 0) → b ≡ true → (length word == 0) ≡ true
-is_none word w b same test empty = ap (λ w. length w == 0) (sym same) ∙ sym test ∙ empty
+pub is_empty_word : (word w : List ℕ) (b : Bool) → w ≡ word → b ≡ (length w == 0) → b ≡ true → (length word == 0) ≡ true
+is_empty_word word w b same test empty = ap (λ w. length w == 0) (sym same) ∙ sym test ∙ empty
 
 pub is_some : (word w : List ℕ) (b : Bool) → w ≡ word → b ≡ (length w == 0) → b ≡ false → (length word == 0) ≡ false
 is_some word w b same test filled = ap (λ w. length w == 0) (sym same) ∙ sym test ∙ filled

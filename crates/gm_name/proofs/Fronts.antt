@@ -10,6 +10,7 @@ use Rattle.std.specs.List.{list_all, position_or_len, prefix_len, take_while}
 use Rattle.gm_name.specs.Element.{elements, is_element, is_path_byte, is_stem_byte, stem}
 use Rattle.gm_name.specs.Path.{is_byte_of_path}
 use Rattle.gm_name.proofs.Bytes.{elements-bytes}
+use Rattle.gm_name.proofs.Paths.{path_byte-no_slash}
 
 -- ---- bytes
 
@@ -22,11 +23,8 @@ stem_byte-no_dot b h = grind (arith, nat_tests)
 dot-from : (b : ℕ) → is_path_byte b ≡ true → is_stem_byte b ≡ false → (b == 46) ≡ true
 dot-from b path apart = grind (arith, nat_tests)
 
-path_byte-no_slash : (b : ℕ) → is_path_byte b ≡ true → (b == 47) ≡ false
-path_byte-no_slash b h = grind (arith, nat_tests)
-
-neither : (b : ℕ) → is_path_byte b ≡ false → b ≢ 47 → is_byte_of_path b ≡ false
-neither b bad other = grind (arith, nat_tests)
+outside_path : (b : ℕ) → is_path_byte b ≡ false → b ≢ 47 → is_byte_of_path b ≡ false
+outside_path b bad other = grind (arith, nat_tests)
 
 and-true : (b : Bool) → (b && true) ≡ b
 and-true true = refl
@@ -95,8 +93,8 @@ front-stem text =
 -- ---- the elements of a text, by its front
 
 -- the front is the whole text
-pub at-end : (text : List ℕ) → length text ≤ prefix_len is_path_byte text → list_all is_element (elements text) ≡ is_element (take_while is_path_byte text)
-at-end text end =
+pub elements-whole : (text : List ℕ) → length text ≤ prefix_len is_path_byte text → list_all is_element (elements text) ≡ is_element (take_while is_path_byte text)
+elements-whole text end =
     let whole = take_all (prefix_len is_path_byte text) text end in
     let one = slice_split_none (λ b. b == 47) text (λ k d lt. path_byte-no_slash _ (prefix_len_passes is_path_byte text k d (omega arith))) in
     rw (one, whole) (and-true (is_element text))
@@ -116,7 +114,7 @@ pub at-other : (text : List ℕ) → prefix_len is_path_byte text < length text 
     → list_all is_element (elements text) ≡ false
 at-other text inside other = false_from_ne_true (list_all is_element (elements text)) (λ all.
     let byte = AllPass-from_list_all is_byte_of_path text (elements-bytes text all) (prefix_len is_path_byte text) 0 inside in
-    let bad = neither _ (prefix_len_stops is_path_byte text 0 inside) other in
+    let bad = outside_path _ (prefix_len_stops is_path_byte text 0 inside) other in
     absurd (true≢false (sym byte ∙ bad)))
 
 -- the front is no element
@@ -126,7 +124,7 @@ no-element text bad = elim (cases_lt (prefix_len is_path_byte text) (length text
     | inl slash ↦ at-slash text inside slash ∙ and_left _ _ bad
     | inr other ↦ at-other text inside other
   ]
-  | inr end ↦ at-end text end ∙ bad
+  | inr end ↦ elements-whole text end ∙ bad
 ]
 
 -- ---- the text after a front

@@ -1,8 +1,8 @@
 -- A fingerprint, eight bytes further on, and at fewer than eight.
 use Rattle.std.proofs.Common.{◌≡◌, ◌<◌, ◌≤◌, ℕ, List, [], ◌∷◌, arith, drop, length, refl}
-use Rattle.gm_name.specs.Fingerprint.{by_bytes, fingerprint, first_eight, mixed}
+use Rattle.gm_name.specs.Fingerprint.{by_bytes, fingerprint, first_eight, number_with_word}
 
-pub after_eight : (number : ℕ) (xs : List ℕ) → 8 ≤ length xs → fingerprint (mixed number (first_eight xs)) (drop 8 xs) ≡ fingerprint number xs
+pub after_eight : (number : ℕ) (xs : List ℕ) → 8 ≤ length xs → fingerprint (number_with_word number (first_eight xs)) (drop 8 xs) ≡ fingerprint number xs
 after_eight number [] many = absurd (omega (arith, many))
 after_eight number (a ∷ []) many = absurd (omega (arith, many))
 after_eight number (a ∷ b ∷ []) many = absurd (omega (arith, many))

@@ -6,7 +6,7 @@ use Rattle.std.specs.Prelude.{◌≡◌, ◌<◌, ◌↔◌, not, true, List, �
 use Rattle.std.specs.Char.{is_ascii_uppercase}
 use Rattle.std.specs.List.{list_all}
 use Rattle.std.specs.declared.cmp.Ordering.TheVariants.{Equal, Greater, Less}
-use Rattle.gm_name.specs.Escape.{IsUnescaped, escaped, has_no_bang, is_escaped}
+use Rattle.gm_name.specs.Escape.{IsUnescaped, escaped_text, has_no_bang, is_escaped}
 use Rattle.gm_name.specs.Fit.{Fits}
 use Rattle.gm_name.specs.Names.{does_fit, is_path, is_version}
 use Rattle.gm_name.specs.Path.{HasMajor, IsPath, is_byte_of_path}
@@ -86,7 +86,7 @@ BaseForms = (version : List ℕ) → ((base : List ℕ) × IsBase version base)
 -- a text without '!' is what its escaped form unescapes to, and no other text is
 abbrev pub UnescapeInvertsEscape : Type 0
 UnescapeInvertsEscape = (text : List ℕ) → has_no_bang text ≡ true
-    → IsUnescaped text (escaped text) × ((other : List ℕ) → IsUnescaped other (escaped text) → other ≡ text)
+    → IsUnescaped text (escaped_text text) × ((other : List ℕ) → IsUnescaped other (escaped_text text) → other ≡ text)
 
 -- the escaped texts are exactly the texts made of pieces (`is_escaped`)
 abbrev pub EscapedTextsAreTested : Type 0
@@ -94,7 +94,7 @@ EscapedTextsAreTested = (name : List ℕ) → is_escaped name ≡ true ↔ ((tex
 
 -- an escaped text has no upper-case letter
 abbrev pub EscapedIsLowerCase : Type 0
-EscapedIsLowerCase = (text : List ℕ) → list_all (λ b. not (is_ascii_uppercase b)) (escaped text) ≡ true
+EscapedIsLowerCase = (text : List ℕ) → list_all (λ b. not (is_ascii_uppercase b)) (escaped_text text) ≡ true
 
 -- which bytes a path can have, and which a version
 abbrev pub BytesOfPath : Type 0
@@ -112,10 +112,10 @@ VersionHasNoBang = (text : List ℕ) → IsVersion text → has_no_bang text ≡
 
 -- so different paths, and different versions, have different escaped texts
 abbrev pub PathEscapingIsInjective : Type 0
-PathEscapingIsInjective = (p q : List ℕ) → IsPath p → IsPath q → escaped p ≡ escaped q → p ≡ q
+PathEscapingIsInjective = (p q : List ℕ) → IsPath p → IsPath q → escaped_text p ≡ escaped_text q → p ≡ q
 
 abbrev pub VersionEscapingIsInjective : Type 0
-VersionEscapingIsInjective = (v w : List ℕ) → IsVersion v → IsVersion w → escaped v ≡ escaped w → v ≡ w
+VersionEscapingIsInjective = (v w : List ℕ) → IsVersion v → IsVersion w → escaped_text v ≡ escaped_text w → v ≡ w
 
 -- the pseudo-versions are exactly the texts of the three forms
 abbrev pub PseudoIsSpelled : Type 0

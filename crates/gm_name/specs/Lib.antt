@@ -8,6 +8,7 @@ pub mod Laws
 pub mod Lines
 pub mod NameText
 pub mod Names
+pub mod OptionalPlaces
 pub mod Number
 pub mod PairFaults
 pub mod Path

@@ -4,16 +4,15 @@ ghost use Rattle.std.specs.Prelude.{◌≡◌, ◌<◌, ◌≤◌, ℕ, IfSome, 
 ghost use Rattle.gm_name.specs.Buckets.{PutsIn, bucket_of};
 ghost use Rattle.gm_name.specs.Slots.{IsEmptyAt, kept_in, place_in_bucket, place_in_slots};
 
-/// How many places there can be: all numbers of 32 bits but this one, which an empty slot has.
-pub const MOST_PLACES: u32 = 4_294_967_295;
+use crate::place::OptionalPlace;
 
 /// A place under its tag.
 #[derive(Clone, Copy)]
 struct Slot {
     /// The tag.
     tag: u32,
-    /// The place, or `MOST_PLACES` if the slot is empty.
-    place: u32,
+    /// The place, or none if the slot is empty.
+    place: OptionalPlace,
 }
 
 /// Up to eight places under their tags, beside each other in 64 bytes of memory.
@@ -41,7 +40,7 @@ fn kept_in(slot: Slot, bucket: usize, many: usize) -> Slot
     } else {
         Slot {
             tag: slot.tag,
-            place: MOST_PLACES,
+            place: OptionalPlace::none(),
         }
     }
 }
@@ -54,7 +53,7 @@ impl Bucket {
         Bucket {
             slots: [Slot {
                 tag: 0,
-                place: MOST_PLACES,
+                place: OptionalPlace::none(),
             }; 8],
         }
     }
@@ -64,8 +63,10 @@ impl Bucket {
         ensures { result ≡ place_in_slots self.now.slots tag }
     {
         for slot in &self.slots {
-            if slot.tag == tag && slot.place != MOST_PLACES {
-                return Some(slot.place);
+            if slot.tag == tag {
+                if let Some(place) = slot.place.get() {
+                    return Some(place);
+                }
             }
         }
         None
@@ -76,7 +77,7 @@ impl Bucket {
         ensures { IfSome result (λ at. IsEmptyAt self.now.slots at) }
     {
         for (at, slot) in self.slots.iter().enumerate() {
-            if slot.place == MOST_PLACES {
+            if !slot.place.is_some() {
                 return Some(at);
             }
         }
@@ -92,7 +93,10 @@ impl Bucket {
     {
         match self.empty_slot() {
             Some(at) => {
-                self.slots[at] = Slot { tag, place };
+                self.slots[at] = Slot {
+                    tag,
+                    place: OptionalPlace::some(place),
+                };
                 true
             }
             None => false,

@@ -1,7 +1,7 @@
 //! Fingerprints of texts: hashes to look names up by, because numbers compare faster than texts.
 
 ghost use Rattle.std.specs.Prelude.{◌≡◌, ◌≤◌, drop, length};
-ghost use Rattle.gm_name.specs.Fingerprint.{by_bytes, fingerprint, first_eight, mixed, tag_of};
+ghost use Rattle.gm_name.specs.Fingerprint.{by_bytes, fingerprint, first_eight, number_with_word, tag_of};
 
 /// A 64-bit hash of a text's bytes, computed from the number `start`. To hash two texts in a row, pass the first one's
 /// fingerprint as the `start` of the second.
@@ -61,7 +61,7 @@ fn by_bytes(start: u64, bytes: &[u8]) -> u64
 /// The hash of a number and one more word. The product's high half is mixed into its low half, which would otherwise
 /// depend on the low bytes of words alone.
 fn mixed(number: u64, word: u64) -> u64
-    ensures { result ≡ mixed number word }
+    ensures { result ≡ number_with_word number word }
 {
     let product = (number ^ word).wrapping_mul(FACTOR);
     product ^ (product >> 32)

@@ -11,11 +11,11 @@ ghost use Rattle.gm_name.specs.Version.{IsNotCanonical, IsSemVer, IsVersion};
 ghost use Rattle.gm_name.specs.PairFaults.{pair_fault_of_path, pair_fault_of_version};
 ghost use Rattle.gm_name.specs.declared.known_names.PairFault.TheVariants as pair;
 
-use crate::bucket::MOST_PLACES;
 use crate::fingerprints::{fingerprint, tag_of};
 use crate::fit::ModVer;
 use crate::kept_names::KeptNames;
 use crate::path::{ModPath, PathFault};
+use crate::place::MOST_PLACES;
 use crate::version::{ModVersion, VersionFault};
 use std::alloc::{AllocError, Global};
 use std::marker::Model;
@@ -63,8 +63,7 @@ impl From<VersionFault> for PairFault {
     fn from(fault: VersionFault) -> PairFault {
         match fault {
             VersionFault::NoMemory => PairFault::NoMemory,
-            VersionFault::BadVersion => PairFault::BadVersion,
-            VersionFault::NotCanonical => PairFault::BadVersion,
+            VersionFault::BadVersion | VersionFault::NotCanonical => PairFault::BadVersion,
         }
     }
 }

@@ -10,9 +10,9 @@ full_front n None new bs h short long = tt
 full_front n (Some all) None bs h short long = absurd h
 full_front n (Some all) (Some rest) bs h short long = grind (arith, common_steps)
 
-none_more : (before after piece : List ℕ) → after ≡ before ++ piece → length piece ≡ 0 → after ≡ before
-none_more before after [] e n = e ∙ append-nil before
-none_more before after (x ∷ xs) e n = absurd (omega arith)
+append-no_piece : (before after piece : List ℕ) → after ≡ before ++ piece → length piece ≡ 0 → after ≡ before
+append-no_piece before after [] e n = e ∙ append-nil before
+append-no_piece before after (x ∷ xs) e n = absurd (omega arith)
 
 ended_front : (n : ℕ) (old mid new : Option (List ℕ)) (bs : List ℕ) → Consumes old mid bs → length bs ≤ n → Consumes mid new [] → IsAtEnd new → IfSome old (λ all. bs ≡ take n all)
 ended_front n None mid new bs h short g end = tt
@@ -28,7 +28,7 @@ no_piece (x ∷ xs) e = absurd (omega arith)
 pub ended_by : (n room count : ℕ) (old mid new : Option (List ℕ)) (before after : List ℕ) → Consumes old mid before → length before ≤ n → AddsPiece mid new before after room count → count ≡ 0 → 0 < room → IfSome old (λ all. after ≡ take n all)
 ended_by n room count old mid new before after h short p zero some =
     let none : p.piece ≡ [] = no_piece p.piece (p.counted ∙ zero) in
-    subst (λ bytes. IfSome old (λ all. bytes ≡ take n all)) (sym (none_more before after p.piece p.added (p.counted ∙ zero)))
+    subst (λ bytes. IfSome old (λ all. bytes ≡ take n all)) (sym (append-no_piece before after p.piece p.added (p.counted ∙ zero)))
     (ended_front n old mid new before h short (subst (Consumes mid new) none p.given) (p.ended zero some))
 
 after_front : (n : ℕ) (all front rest : List ℕ) → all ≡ front ++ rest → length front ≤ n → n ≤ length front → rest ≡ drop n all

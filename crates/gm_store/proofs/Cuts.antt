@@ -1,6 +1,6 @@
 -- Parsing a proxy list character by character.
 use Rattle.std.proofs.Common.{◌≡◌, ◌<◌, ◌≤◌, ◌+◌, ◌/◌, ◌%◌, ℕ, true, false, not, List, [], ◌∷◌, ◌++◌, length, map, ap, ◌∙◌, sym, refl, inl, inr, arith, append_assoc, append-nil, length-append, map-id, Global, String}
-use Rattle.std.proofs.lemmas.Bool.{cases_lt, le-ltb, lt-ltb}
+use Rattle.std.proofs.lemmas.Bool.{cases_lt, le-ltb, lt-ltb, not-true}
 use Rattle.std.proofs.lemmas.Bool.Decides.{nat_tests}
 use Rattle.std.proofs.lemmas.List.Elements.{filter-append}
 use Rattle.std.specs.Cmp.{first_so, second_so}
@@ -14,7 +14,7 @@ use Rattle.std.specs.String.{string_bytes}
 use Rattle.gm_store.specs.Cutting.{IsParsedPrefix}
 use Rattle.gm_store.specs.Proxies.{is_proxy_mark, mark_at_byte}
 use Rattle.gm_store.specs.declared.fallback.proxy_list.Mark.{Mark}
-use Rattle.gm_store.proofs.Splits.{glue, glue-last, not_false, split-append, split_plain}
+use Rattle.gm_store.proofs.Splits.{glue, glue-last, split-append, split_plain}
 
 high : (b : ℕ) → 128 ≤ b → not (is_proxy_mark b) ≡ true
 high b le = grind (arith, nat_tests)
@@ -34,7 +34,7 @@ no_mark c apart = elim (cases_lt c 128) [
 
 filter_plain : (xs : List ℕ) → list_all (λ b. not (is_proxy_mark b)) xs ≡ true → filter is_proxy_mark xs ≡ []
 filter_plain [] e = refl
-filter_plain (x ∷ xs) e = rw (not_false (is_proxy_mark x) (first_so (not (is_proxy_mark x)) (list_all (λ b. not (is_proxy_mark b)) xs) e)) (filter_plain xs (second_so (not (is_proxy_mark x)) (list_all (λ b. not (is_proxy_mark b)) xs) e))
+filter_plain (x ∷ xs) e = rw (not-true (is_proxy_mark x) (first_so (not (is_proxy_mark x)) (list_all (λ b. not (is_proxy_mark b)) xs) e)) (filter_plain xs (second_so (not (is_proxy_mark x)) (list_all (λ b. not (is_proxy_mark b)) xs) e))
 
 filter-joined : (xs ys : List ℕ) → filter is_proxy_mark (xs ++ ys) ≡ filter is_proxy_mark xs ++ filter is_proxy_mark ys
 filter-joined xs ys = filter-append is_proxy_mark xs ys

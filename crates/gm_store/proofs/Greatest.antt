@@ -1,6 +1,7 @@
 -- The greatest of a growing list of versions.
 use Rattle.std.proofs.Common.{MatchOption, Bor, option_map, ◌≡◌, ◌⊎◌, ℕ, ◌<◌, ◌≤◌, Bool, true, false, List, [], ◌∷◌, ◌++◌, Option, Some, None, take, length, slice_index_or, inl, inr, sym, subst, ap, ◌∙◌, arith, refl, ◌+◌, ◌&&◌, add-one}
 use Rattle.std.proofs.Math.Seq.{take-length, take-suc}
+use Rattle.std.proofs.lemmas.Bool.{and_cases, and_parts}
 use Rattle.std.specs.Ordering.{is_gt, ordering_reverse}
 use Rattle.std.specs.declared.cmp.Ordering.{Ordering}
 use Rattle.std.specs.declared.cmp.Ordering.TheVariants.{Less, Equal, Greater}
@@ -40,8 +41,8 @@ turned r Less e g = (cc)
 turned r Equal e g = (cc)
 turned r Greater e g = ap is_gt e
 
-below : (x best : List ℕ) → is_gt (version_cmp x best) ≡ true → is_gt (version_cmp best x) ≡ false
-below x best more = turned (version_cmp best x) (version_cmp x best) (version_total.antisymm best x) more
+is_gt-turned : (x best : List ℕ) → is_gt (version_cmp x best) ≡ true → is_gt (version_cmp best x) ≡ false
+is_gt-turned x best more = turned (version_cmp best x) (version_cmp x best) (version_total.antisymm best x) more
 
 -- one more version, which is considered and greater
 pub greatest_more : (only : Bool) (xs : List (List ℕ)) (x : List ℕ) (best : Option (List ℕ)) → IsGreatestOrNone only xs best
@@ -58,7 +59,7 @@ greatest_more only xs x (Some best) known counted more = record {
   listed = Contains-push xs x;
   counted = counted;
   greatest = λ other inside count. elim (Contains-push_cases xs x other inside) [
-    | inl old ↦ upto version_total other best x (known.greatest other old count) (below x best more)
+    | inl old ↦ upto version_total other best x (known.greatest other old count) (is_gt-turned x best more)
     | inr same ↦ subst (λ v. is_gt (version_cmp v x) ≡ false) same (ap is_gt (tied_itself version_total x))
   ];
 }
@@ -67,27 +68,18 @@ greatest_more only xs x (Some best) known counted more = record {
 taken_more : (xs : List (List ℕ)) (i : ℕ) (x : List ℕ) → i < length xs → x ≡ slice_index_or xs i x → take i xs ++ x ∷ [] ≡ take (i + 1) xs
 taken_more xs i x within item = sym (ap (λ n. take n xs) (add-one i) ∙ take-suc xs i x within ∙ ap (λ (y : List ℕ). take i xs ++ y ∷ []) (sym item))
 
-refused : (a b : Bool) → (a && b) ≡ false → (a ≡ false) ⊎ (b ≡ false)
-refused true b e = inr e
-refused false b e = inl e
-
-both : (a b : Bool) → (a && b) ≡ true → (a ≡ true) × (b ≡ true)
-both true true e = (e, e)
-both true false e = cc e
-both false b e = cc e
-
 pub step_same : (only : Bool) (xs : List (List ℕ)) (i : ℕ) (x : List ℕ) (best : Option (List ℕ)) (better : Bool) → i < length xs
     → x ≡ slice_index_or xs i x → better ≡ (counts only x && is_greater x best) → better ≡ false → IsGreatestOrNone only (take i xs) best
     → IsGreatestOrNone only (take (i + 1) xs) best
 step_same only xs i x best better within item is not known =
     subst (λ ys. IsGreatestOrNone only ys best) (taken_more xs i x within item)
-    (greatest_same only (take i xs) x best known (refused _ _ (sym is ∙ not)))
+    (greatest_same only (take i xs) x best known (and_cases _ _ (sym is ∙ not)))
 
 pub step_more : (only : Bool) (xs : List (List ℕ)) (i : ℕ) (x : List ℕ) (best : Option (List ℕ)) (better : Bool) → i < length xs
     → x ≡ slice_index_or xs i x → better ≡ (counts only x && is_greater x best) → better ≡ true → IsGreatestOrNone only (take i xs) best
     → IsGreatestOrNone only (take (i + 1) xs) (Some x)
 step_more only xs i x best better within item is taken known =
-    let counted = both _ _ (sym is ∙ taken) in
+    let counted = and_parts _ _ (sym is ∙ taken) in
     subst (λ ys. IsGreatestOrNone only ys (Some x)) (taken_more xs i x within item)
     (greatest_more only (take i xs) x best known counted.0 counted.1)
 
@@ -97,8 +89,8 @@ none_listed [] none = refl
 none_listed (x ∷ xs) none = let e : true ≡ false = none x (0, omega arith, refl) in cc
 
 -- the versions up to the last are all versions
-pub whole : (xs : List (List ℕ)) (i : ℕ) → i ≤ length xs → length xs ≤ i → take i xs ≡ xs
-whole xs i below above = let same : i ≡ length xs = omega arith in ap (λ n. take n xs) same ∙ take-length xs
+pub take-whole : (xs : List (List ℕ)) (i : ℕ) → i ≤ length xs → length xs ≤ i → take i xs ≡ xs
+take-whole xs i is_gt-turned above = let same : i ≡ length xs = omega arith in ap (λ n. take n xs) same ∙ take-length xs
 
 -- if there is no release, the greatest of all versions is the latest
 pub latest_of_all : (xs : List (List ℕ)) (result : Option (Bor (List ℕ))) → NoneConsidered true xs

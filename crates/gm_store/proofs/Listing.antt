@@ -66,12 +66,12 @@ listed_from path text found sorted holds moved ordered = record {
   );
 }
 
-words_more : (lines : List (Bor (List ℕ))) (line : Bor (List ℕ)) → map first_word (map (λ line. line.now) (lines ++ line ∷ [])) ≡ map first_word (map (λ line. line.now) lines) ++ first_word line.now ∷ []
-words_more lines line = ap (map first_word) (map-append (λ (line : Bor (List ℕ)). line.now) lines (line ∷ [])) ∙ map-append first_word (map (λ line. line.now) lines) (line.now ∷ [])
+first_words-push : (lines : List (Bor (List ℕ))) (line : Bor (List ℕ)) → map first_word (map (λ line. line.now) (lines ++ line ∷ [])) ≡ map first_word (map (λ line. line.now) lines) ++ first_word line.now ∷ []
+first_words-push lines line = ap (map first_word) (map-append (λ (line : Bor (List ℕ)). line.now) lines (line ∷ [])) ∙ map-append first_word (map (λ line. line.now) lines) (line.now ∷ [])
 
 -- one more line
 pub line_more : (path : List ℕ) (lines : List (Bor (List ℕ))) (line : Bor (List ℕ)) (new : List (List ℕ)) → HoldsListable path (map first_word (map (λ line. line.now) lines) ++ first_word line.now ∷ []) new → HoldsListable path (map first_word (map (λ line. line.now) (lines ++ line ∷ []))) new
-line_more path lines line new holds = subst (λ words. HoldsListable path words new) (sym (words_more lines line)) holds
+line_more path lines line new holds = subst (λ words. HoldsListable path words new) (sym (first_words-push lines line)) holds
 
 -- one more word that was read, and it may be listed
 pub pushes_word : (words old new : List (List ℕ)) (path : List ℕ) (read first version : List ℕ) → read ≡ first → (version ≡ read) × IsListable path read → new ≡ old ++ version ∷ [] → HoldsListable path words old → HoldsListable path (words ++ first ∷ []) new

@@ -5,12 +5,12 @@ use native.Mathlib.Numerals.{unary_clauses}
 use Rattle.std.specs.List.{slice_range}
 use Rattle.std.specs.Prelude.{Contains}
 
-pub no_slash : (text : List ℕ) → ((i : ℕ) → i < length text → slice_index_or text i 0 ≢ 47) → ¬ (Contains text 47)
-no_slash text none (k, within, is) = none k within (get_or_default text k 0 47 within ∙ is)
+pub no_slash_anywhere : (text : List ℕ) → ((i : ℕ) → i < length text → slice_index_or text i 0 ≢ 47) → ¬ (Contains text 47)
+no_slash_anywhere text none (k, within, is) = none k within (get_or_default text k 0 47 within ∙ is)
 
 -- a text is the part before a slash, the slash, and the part after it
-pub cut_at : (text : List ℕ) (k : ℕ) → k < length text → slice_index_or text k 0 ≡ 47 → text ≡ take k text ++ codes "/" ++ drop (k + 1) text
-cut_at text k within is =
+pub take_drop-at : (text : List ℕ) (k : ℕ) → k < length text → slice_index_or text k 0 ≡ 47 → text ≡ take k text ++ codes "/" ++ drop (k + 1) text
+take_drop-at text k within is =
     sym (take-append-drop k text)
     ∙ ap (λ rest. take k text ++ rest) (drop_more text k 0 within ∙ ap (λ b. b ∷ drop (k + 1) text) is)
     ∙ sym (append_assoc (take k text) (47 ∷ []) (drop (k + 1) text))

@@ -1,5 +1,6 @@
 -- The order of file names is `Equal` if and only if the names are the same, so a map has one file for each name.
 use Rattle.std.proofs.Common.{◌≡◌, ℕ, Bool, true, false, cond, ◌&&◌, List, [], ◌∷◌, Option, Some, ap, ◌∙◌, sym, refl, subst, arith}
+use Rattle.std.proofs.lemmas.Bool.{and_from, and_parts}
 use Rattle.std.specs.Ordering.{is_eq, match_ordering, nat_cmp, ordering_then}
 use Rattle.std.specs.declared.cmp.Ordering.{Ordering}
 use Rattle.std.specs.declared.cmp.Ordering.TheVariants.{Less, Equal, Greater}
@@ -20,7 +21,6 @@ use Rattle.gm_store.specs.Memory.{held_at}
 use Rattle.gm_store.specs.declared.files.memory.MemoryFiles.{MemoryFiles}
 use Rattle.std.specs.Option.{option_map}
 use Rattle.std.specs.BTreeMap.{get_by, insert_entry}
-use Rattle.std.specs.Cmp.{first_so, second_so}
 use Rattle.std.proofs.Common.{Vec, Global}
 
 is_eq-then : (a b : Ordering) → is_eq (ordering_then a b) ≡ is_eq a && is_eq b
@@ -58,12 +58,6 @@ reply_for_long limit xs h = grind arith
 
 -- ---- equal names, and the contents of a map after an insertion
 
-and_true : (a b : Bool) → (a && b) ≡ true → (a ≡ true) × (b ≡ true)
-and_true a b e = (first_so a b e, second_so a b e)
-
-and_made : (a b : Bool) → a ≡ true → b ≡ true → (a && b) ≡ true
-and_made a b e f = cc
-
 pub bytes_same : (xs ys : List ℕ) → bytes_eq xs ys ≡ true → xs ≡ ys
 bytes_same xs ys e = (bytes_eq-Decides xs ys).0 e
 
@@ -83,7 +77,7 @@ greater_step false true x y r never = refl
 greater_step false false x y r never = refl
 
 pub names_equal : (m n : Name) → same_name m n ≡ true → m ≡ n
-names_equal (mod_file p v) (mod_file q w) e = let both = and_true (bytes_eq p q) (bytes_eq v w) e in ap (λ p. mod_file p v) (bytes_same p q both.0) ∙ ap (mod_file q) (bytes_same v w both.1)
+names_equal (mod_file p v) (mod_file q w) e = let both = and_parts (bytes_eq p q) (bytes_eq v w) e in ap (λ p. mod_file p v) (bytes_same p q both.0) ∙ ap (mod_file q) (bytes_same v w both.1)
 names_equal (folder_file t) (folder_file u) e = ap folder_file (bytes_same t u e)
 names_equal (list_file p) (list_file q) e = ap list_file (bytes_same p q e)
 names_equal (mod_file p v) (folder_file u) e = cc e
@@ -94,7 +88,7 @@ names_equal (list_file p) (mod_file q w) e = cc e
 names_equal (list_file p) (folder_file u) e = cc e
 
 pub name_itself : (n : Name) → same_name n n ≡ true
-name_itself (mod_file p v) = and_made (bytes_eq p p) (bytes_eq v v) (bytes_itself p) (bytes_itself v)
+name_itself (mod_file p v) = and_from (bytes_eq p p) (bytes_eq v v) (bytes_itself p) (bytes_itself v)
 name_itself (folder_file t) = bytes_itself t
 name_itself (list_file p) = bytes_itself p
 

@@ -1,5 +1,6 @@
 -- The split of two joined lists.
 use Rattle.std.proofs.Common.{◌≡◌, Bool, true, false, not, cond, List, [], ◌∷◌, ◌++◌, ap, ◌∙◌, sym, refl}
+use Rattle.std.proofs.lemmas.Bool.{not-true}
 use Rattle.std.specs.List.{list_all, onto_first, slice_split}
 use Rattle.std.specs.Cmp.{first_so, second_so}
 
@@ -55,13 +56,9 @@ glue-last [] f g gs = refl
 glue-last (a ∷ []) f g gs = refl
 glue-last (a ∷ b ∷ fs) f g gs = ap (λ rest. a ∷ rest) (glue-last (b ∷ fs) f g gs)
 
-pub not_false : (b : Bool) → not b ≡ true → b ≡ false
-not_false true e = cc e
-not_false false e = refl
-
 -- a list without separators is one part
 pub split_plain : {X : Type 0} (p : X → Bool) (xs : List X) → list_all (λ x. not (p x)) xs ≡ true → slice_split p xs ≡ xs ∷ []
 split_plain p [] e = refl
 split_plain p (x ∷ xs) e =
-    let no : p x ≡ false = not_false (p x) (first_so (not (p x)) (list_all (λ x. not (p x)) xs) e) in
+    let no : p x ≡ false = not-true (p x) (first_so (not (p x)) (list_all (λ x. not (p x)) xs) e) in
     rw (no, split_plain p xs (second_so (not (p x)) (list_all (λ x. not (p x)) xs) e)) refl

@@ -57,9 +57,9 @@ counted_both xs ys old mid new one two = (
 )
 
 -- the request falls back from one more folder
-pub one_more : (may_find : ℕ → Seen → Type 0) (marks : List Mark) (at : ℕ) (old new newer : Counts) (look : Seen) → HasPassed may_find marks at old new
+pub HasPassed-one_more : (may_find : ℕ → Seen → Type 0) (marks : List Mark) (at : ℕ) (old new newer : Counts) (look : Seen) → HasPassed may_find marks at old new
     → may_find at look → Go ≡ step_of look (slice_get marks at) → AreCounted (look ∷ []) new newer → HasPassed may_find marks (at + 1) old newer
-one_more may_find marks at old new newer look so_far seen goes grown = record {
+HasPassed-one_more may_find marks at old new newer look so_far seen goes grown = record {
   passed = so_far.passed ++ look ∷ [];
   many = length-append so_far.passed (look ∷ []) ∙ ap (λ n. n + 1) so_far.many;
   within = let marked = get_within marks at (go_marked look (slice_get marks at) (sym goes)) in omega arith;
@@ -114,14 +114,14 @@ none_passed may_find marks old few small = record {
   counted = (omega arith, omega arith);
 }
 
-above : (m old new n : ℕ) → new ≡ min (min (old + n) m + 1) m → old ≤ m → (old < new) ⊎ (old ≡ m)
-above m old new n e h = elim (cases_lt old m) [ inl less ↦ inl (omega arith) | inr more ↦ inr (omega arith) ]
+min-above : (m old new n : ℕ) → new ≡ min (min (old + n) m + 1) m → old ≤ m → (old < new) ⊎ (old ≡ m)
+min-above m old new n e h = elim (cases_lt old m) [ inl less ↦ inl (omega arith) | inr more ↦ inr (omega arith) ]
 
 -- a failure of the device at which the walk stops is counted
 pub fail_counts : (look : Seen) (mark : Option Mark) (old new newer : Counts) (at : ℕ) {may_find : ℕ → Seen → Type 0} {marks : List Mark} → HasPassed may_find marks at old new
     → Fail ≡ step_of look mark → AreCounted (look ∷ []) new newer → old.failures < 2 ^ 64 → (old.failures < newer.failures) ⊎ (old.failures ≡ 2 ^ 64 - 1)
 fail_counts failed mark old new newer at so_far fails grown small =
-    above (2 ^ 64 - 1) old.failures newer.failures (count_by has_failed so_far.passed) (grown.1 ∙ ap (λ n. min (n + 1) (2 ^ 64 - 1)) so_far.counted.1) (omega arith)
+    min-above (2 ^ 64 - 1) old.failures newer.failures (count_by has_failed so_far.passed) (grown.1 ∙ ap (λ n. min (n + 1) (2 ^ 64 - 1)) so_far.counted.1) (omega arith)
 fail_counts (found content) mark old new newer at so_far fails grown small = cc fails
 fail_counts too_long mark old new newer at so_far fails grown small = cc fails
 fail_counts absent None old new newer at so_far fails grown small = cc fails

@@ -3,8 +3,8 @@ use Rattle.gm_store.specs.declared.folders.counted.CountedFolders.{CountedFolder
 use Rattle.gm_store.specs.Steps.{Counts}
 
 -- the folders
-abbrev pub underlying : {F : Type 0} → CountedFolders F → F
-underlying folders = folders.folders
+abbrev pub inner_folders : {F : Type 0} → CountedFolders F → F
+inner_folders folders = folders.folders
 
 -- how often they were looked into, and how often that failed
 abbrev pub counts_in : {F : Type 0} → CountedFolders F → Counts

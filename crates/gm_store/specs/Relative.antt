@@ -4,7 +4,7 @@ use Rattle.std.specs.Prelude.{◌≡◌, ℕ, ◌==◌, ◌&&◌, not, nat_lt, B
 use Rattle.std.specs.List.{list_all, slice_split}
 use Rattle.std.specs.Str.{bytes_eq}
 use Rattle.std.specs.Char.{is_ascii_uppercase}
-use Rattle.gm_name.specs.Escape.{escaped}
+use Rattle.gm_name.specs.Escape.{escaped_text}
 use Rattle.gm_name.specs.Path.{IsPath}
 use Rattle.gm_name.specs.Version.{IsVersion}
 use Rattle.gm_store.specs.Asked.{Name, mod_file, folder_file, list_file}
@@ -24,8 +24,8 @@ below folder text = folder ++ (if ends_in_slash folder then text else codes "/" 
 -- the path of a file: of a module's file below a proxy folder, of a local folder's go.mod as `replace` names the
 -- folder
 abbrev pub relative_text : Name → List ℕ
-relative_text (mod_file path version) = escaped path ++ codes "/@v/" ++ escaped version ++ codes ".mod"
-relative_text (list_file path) = escaped path ++ codes "/@v/list"
+relative_text (mod_file path version) = escaped_text path ++ codes "/@v/" ++ escaped_text version ++ codes ".mod"
+relative_text (list_file path) = escaped_text path ++ codes "/@v/list"
 relative_text (folder_file text) = below text (codes "go.mod")
 
 -- a path element that leads downwards: not empty, and neither `.` nor `..`

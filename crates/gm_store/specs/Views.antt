@@ -5,13 +5,13 @@ use Rattle.gm_store.specs.declared.fallback.proxy_list.Mark.{Mark}
 use Rattle.gm_store.specs.declared.files.keeping.Keeps.{Ghosts as Kept}
 use Rattle.gm_store.specs.declared.folders.FolderList.{Ghosts}
 use Rattle.gm_store.specs.Asked.{Name, Reply, name_of}
-use Rattle.gm_store.specs.Counted.{counts_in, underlying}
+use Rattle.gm_store.specs.Counted.{counts_in, inner_folders}
 use Rattle.gm_store.specs.States.{StoreState}
 use Rattle.gm_store.specs.Steps.{Counts}
 
 -- the folders that requests are looked up in
 abbrev pub folders_under : {F K : Type 0} {g : Ghosts F} {h : Kept K} → FallbackStore F K g h → F
-folders_under store = underlying store.folders
+folders_under store = inner_folders store.folders
 
 -- the marks between the proxy folders
 abbrev pub marks_between : {F K : Type 0} {g : Ghosts F} {h : Kept K} → FallbackStore F K g h → List Mark

@@ -11,7 +11,8 @@
 //!   a file system; the latter keeps its last answer alone.
 //! - `MemoryFiles` is a map of files in memory, and `FailingFiles` adds one device failure to it, for tests.
 //! - `versions_of` reads a list file, and `latest` selects from its versions.
-//! - `read_limited` reads a file or stream up to a limit. `Sink` takes output, in memory or to a writer.
+//! - `read_limited` reads a file or stream up to a limit, `read_file` and `read_input` a named file and standard input.
+//!   `Sink` takes output, in memory or to a writer.
 //!
 //! Every call that may allocate reports when memory runs out. Stores and sinks count each failure of their device,
 //! including those that don't fail a request.
@@ -25,6 +26,7 @@ mod folders;
 pub mod laws;
 mod reading;
 mod sinks;
+mod standard_input;
 mod versions;
 
 pub use crate::byte_reader::ByteReader;
@@ -50,6 +52,7 @@ pub use crate::reading::{InputFault, LIMIT, read_limited};
 pub use crate::sinks::memory::MemorySink;
 pub use crate::sinks::writer::StdSink;
 pub use crate::sinks::{Sink, WriteFault, write_all};
+pub use crate::standard_input::{StandardInput, read_input};
 pub use crate::versions::latest::latest;
 pub use crate::versions::list::versions_of;
 pub use gm_name::NoMemory;

@@ -1,6 +1,6 @@
 -- Where the lines for a path and a version are in a table, and what they say about a hash.
 use Rattle.std.proofs.Common.{◌≡◌, ◌<◌, ◌≤◌, ◌+◌, ◌-◌, ℕ, Bool, true, false, not, List, [], length, map, ap, ◌∙◌, sym, refl, arith, slice_index_or, inl, inr}
-use Rattle.std.proofs.lemmas.Bool.{cases_lt}
+use Rattle.std.proofs.lemmas.Bool.{and_from, cases_lt, false_from_ne_true, true_from_ne_false}
 use Rattle.std.proofs.lemmas.Cmp.{nat_list_cmp_total, on_total, then_total, tied_itself}
 use Rattle.std.proofs.lemmas.List.{get_or_default}
 use Rattle.std.proofs.lemmas.List.Sorted.{sorted_far, ranks_by, searchable_from_sorted}
@@ -18,7 +18,7 @@ use Rattle.gm_store_sums.specs.Order.{AreInOrder, line_cmp, key_cmp, triple}
 use Rattle.gm_store_sums.specs.Sums.{is_line_for, is_other_hash}
 use Rattle.gm_store_sums.specs.declared.sum_table.Sum.TheVariants.{Good, Unlisted, Differs}
 use Rattle.gm_store_sums.specs.declared.sum_table.SumLine.{SumLine}
-use Rattle.gm_store_sums.proofs.Summing.{Triple, any_map, any_found, any_none, both_true, line_for, other_apart}
+use Rattle.gm_store_sums.proofs.Summing.{Triple, any_map, any_found, any_none, line_for, other_apart}
 
 abbrev Place : Type 0
 Place = List ℕ × List ℕ
@@ -95,7 +95,7 @@ between Greater e f = cc f
 is_at : (path version : List ℕ) (t : Triple) → is_lt (key_cmp t (path, version)) ≡ false → is_le (key_cmp t (path, version)) ≡ true → is_line_for path version t ≡ true
 is_at path version t low high =
     let even = between (key_cmp t (path, version)) low high in
-    both_true _ _ ((bytes_eq-Decides t.0 path).1 (same_texts t.0 path (then_first _ (slice_cmp nat_cmp t.1 version) even)))
+    and_from _ _ ((bytes_eq-Decides t.0 path).1 (same_texts t.0 path (then_first _ (slice_cmp nat_cmp t.1 version) even)))
     ((bytes_eq-Decides t.1 version).1 (same_texts t.1 version (then_second (slice_cmp nat_cmp t.0 path) _ even)))
 
 even_at : (path version : List ℕ) (t : Triple) → is_line_for path version t ≡ true → key_cmp t (path, version) ≡ Equal
@@ -106,23 +106,15 @@ even_at path version t e =
 
 -- ---- what is found
 
-neither : (o p : Ordering) → o ≡ ordering_reverse p → is_lt o ≡ false → is_lt p ≡ false → o ≡ Equal
-neither Less p e low high = cc low
-neither Equal p e low high = refl
-neither Greater Less e low high = cc high
-neither Greater Equal e low high = cc (ap is_gt e)
-neither Greater Greater e low high = cc (ap is_gt e)
+Equal-from_neither : (o p : Ordering) → o ≡ ordering_reverse p → is_lt o ≡ false → is_lt p ≡ false → o ≡ Equal
+Equal-from_neither Less p e low high = cc low
+Equal-from_neither Equal p e low high = refl
+Equal-from_neither Greater Less e low high = cc high
+Equal-from_neither Greater Equal e low high = cc (ap is_gt e)
+Equal-from_neither Greater Greater e low high = cc (ap is_gt e)
 
 ap2 : {A B C : Type 0} (f : A → B → C) {x y : A} {u v : B} → x ≡ y → u ≡ v → f x u ≡ f y v
 ap2 f {y = y} {u = u} e g = ap (λ a. f a u) e ∙ ap (f y) g
-
-never_true : (b : Bool) → (b ≡ true → ⊥) → b ≡ false
-never_true true never = absurd (never refl)
-never_true false never = refl
-
-never_false : (b : Bool) → (b ≡ false → ⊥) → b ≡ true
-never_false true never = refl
-never_false false never = absurd (never refl)
 
 less_is_le : (o : Ordering) → is_lt o ≡ true → is_le o ≡ true
 less_is_le Less e = refl
@@ -134,14 +126,14 @@ parted_at : {X : Type 0} (test : X → Bool) (xs : List X) (end : ℕ) → IsPar
     → ((d : X) → end < length xs → test (slice_index_or xs end d) ≡ false) → IsPartitionPoint (λ x. test x ≡ true) (λ x. test x ≡ false) xs end
 parted_at test xs end parted before fails = (
   before,
-  λ k d high within. never_true _ (λ e.
+  λ k d high within. false_from_ne_true _ (λ e.
       let never : false ≡ true = sym (fails d (omega arith)) ∙ parted end k d high within e in
       cc never),
 )
 
 -- a line that is not below a path and version, and not for them, is above them
-above : (path version : List ℕ) (t : Triple) → is_lt (key_cmp t (path, version)) ≡ false → is_line_for path version t ≡ false → is_le (key_cmp t (path, version)) ≡ false
-above path version t low other = never_true _ (λ e.
+key_above : (path version : List ℕ) (t : Triple) → is_lt (key_cmp t (path, version)) ≡ false → is_line_for path version t ≡ false → is_le (key_cmp t (path, version)) ≡ false
+key_above path version t low other = false_from_ne_true _ (λ e.
     let never : false ≡ true = sym other ∙ is_at path version t low e in
     cc never)
 
@@ -152,7 +144,7 @@ pub ends_at : (lines : List SumLine) (path version : List ℕ) (start : ℕ) →
     → IsPartitionPoint (λ line. is_le (key_cmp (triple line) (path, version)) ≡ true) (λ line. is_le (key_cmp (triple line) (path, version)) ≡ false) lines start
 ends_at lines path version start order before other =
     parted_at (λ line. is_le (key_cmp (triple line) (path, version))) lines start (parted_up_to lines path version order) (λ k d low high. less_is_le _ (before.0 k d low high))
-    (λ d within. above path version (triple (slice_index_or lines start d)) (before.1 start d (omega arith) within) (sym (other d within)))
+    (λ d within. key_above path version (triple (slice_index_or lines start d)) (before.1 start d (omega arith) within) (sym (other d within)))
 
 pub ends_after : (lines : List SumLine) (path version : List ℕ) (start : ℕ) → AreInOrder lines
     → IsPartitionPoint (λ line. is_lt (key_cmp (triple line) (path, version)) ≡ true) (λ line. is_lt (key_cmp (triple line) (path, version)) ≡ false) lines start → start < length lines
@@ -162,7 +154,7 @@ pub ends_after : (lines : List SumLine) (path version : List ℕ) (start : ℕ) 
 ends_after lines path version start order before some here other =
     parted_at (λ line. is_le (key_cmp (triple line) (path, version))) lines (start + 1) (parted_up_to lines path version order)
     (λ k d low high. parted_up_to lines path version order k start d (omega arith) some (ap is_le (even_at path version (triple (slice_index_or lines start d)) (sym (here d)))))
-    (λ d within. above path version (triple (slice_index_or lines (start + 1) d)) (before.1 (start + 1) d (omega arith) within) (sym (other d within)))
+    (λ d within. key_above path version (triple (slice_index_or lines (start + 1) d)) (before.1 (start + 1) d (omega arith) within) (sym (other d within)))
 
 -- the line that the code reads at a place: past the end, one of empty texts
 abbrev pub line_at : List SumLine → ℕ → SumLine
@@ -187,8 +179,8 @@ module _ (lines : List SumLine) (path version hash : List ℕ) (start end : ℕ)
 
   not_above : (y : SumLine) (k : ℕ) → slice_index_or lines k y ≡ y → is_line_for path version (triple y) ≡ true → k < length lines → end ≤ k → ⊥
   not_above y k is for in_list high =
-      let above : is_le (key_cmp (triple y) (path, version)) ≡ false = ap (λ line. is_le (key_cmp (triple line) (path, version))) (sym is) ∙ up_to.1 k y high in_list in
-      let never : true ≡ false = ap is_le (sym (even_at path version (triple y) for)) ∙ above in
+      let key_above : is_le (key_cmp (triple y) (path, version)) ≡ false = ap (λ line. is_le (key_cmp (triple line) (path, version))) (sym is) ∙ up_to.1 k y high in_list in
+      let never : true ≡ false = ap is_le (sym (even_at path version (triple y) for)) ∙ key_above in
       cc never
 
   pub found_at : (y : SumLine) → Contains lines y → is_line_for path version (triple y) ≡ true → (k : ℕ) × (start ≤ k) × (k < end) × (slice_index_or lines k y ≡ y)
@@ -209,7 +201,7 @@ module _ (lines : List SumLine) (path version hash : List ℕ) (start end : ℕ)
 
   pub unlisted : end ≤ start → Unlisted ≡ (if not (list_any (is_line_for path version) (map triple lines)) then Unlisted else (if list_any (is_other_hash path version hash) (map triple lines) then Differs else Good))
   unlisted same =
-      let nothing : list_any (is_line_for path version) (map triple lines) ≡ false = any_map (is_line_for path version) triple lines ∙ never_true _ (λ e.
+      let nothing : list_any (is_line_for path version) (map triple lines) ≡ false = any_map (is_line_for path version) triple lines ∙ false_from_ne_true _ (λ e.
       let y = any_found (λ line. is_line_for path version (triple line)) lines e in
       let k = found_at y.0 y.1 y.2 in
       let low = k.1 in
@@ -218,7 +210,7 @@ module _ (lines : List SumLine) (path version hash : List ℕ) (start end : ℕ)
       ap (λ b. if not b then Unlisted else (if list_any (is_other_hash path version hash) (map triple lines) then Differs else Good)) (sym nothing)
 
   listed : (y : SumLine) → slice_index_or lines start y ≡ y → start < end → list_any (is_line_for path version) (map triple lines) ≡ true
-  listed y is some = any_map (is_line_for path version) triple lines ∙ never_false _ (λ e.
+  listed y is some = any_map (is_line_for path version) triple lines ∙ true_from_ne_false _ (λ e.
       let none = any_none (λ line. is_line_for path version (triple line)) lines e y (start, omega arith, is) in
       let never : true ≡ false = sym (stands_for y start is (omega arith) some) ∙ none in
       cc never)
@@ -226,9 +218,9 @@ module _ (lines : List SumLine) (path version hash : List ℕ) (start end : ℕ)
   -- a line for the path and version with another hash
   pub differs : (first y : SumLine) (k : ℕ) → slice_index_or lines start first ≡ first → slice_index_or lines k y ≡ y → start ≤ k → k < end → bytes_eq y.hash.now hash ≡ false → Differs ≡ (if not (list_any (is_line_for path version) (map triple lines)) then Unlisted else (if list_any (is_other_hash path version hash) (map triple lines) then Differs else Good))
   differs first y k is_first is low high other =
-      let found : list_any (is_other_hash path version hash) (map triple lines) ≡ true = any_map (is_other_hash path version hash) triple lines ∙ never_false _ (λ e.
+      let found : list_any (is_other_hash path version hash) (map triple lines) ≡ true = any_map (is_other_hash path version hash) triple lines ∙ true_from_ne_false _ (λ e.
       let none = any_none (λ line. is_other_hash path version hash (triple line)) lines e y (k, omega arith, is) in
-      let both : is_other_hash path version hash (triple y) ≡ true = both_true _ _ (stands_for y k is low high) (ap not other) in
+      let both : is_other_hash path version hash (triple y) ≡ true = and_from _ _ (stands_for y k is low high) (ap not other) in
       let never : true ≡ false = sym both ∙ none in
       cc never) in
       sym (ap (λ b. if not b then Unlisted else (if list_any (is_other_hash path version hash) (map triple lines) then Differs else Good)) (listed first is_first (omega arith)) ∙ ap (λ b. if b then Differs else Good) found)
@@ -241,7 +233,7 @@ module _ (lines : List SumLine) (path version hash : List ℕ) (start end : ℕ)
   good first last order some is_first is_last same_first same_last =
       let first_is : triple first ≡ (path, version, hash) = whole first (stands_for first start is_first (omega arith) some) same_first in
       let last_is : triple last ≡ (path, version, hash) = whole last (stands_for last (end - 1) is_last (omega arith) (omega arith)) same_last in
-      let none : list_any (is_other_hash path version hash) (map triple lines) ≡ false = any_map (is_other_hash path version hash) triple lines ∙ never_true _ (λ e.
+      let none : list_any (is_other_hash path version hash) (map triple lines) ≡ false = any_map (is_other_hash path version hash) triple lines ∙ false_from_ne_true _ (λ e.
       let y = any_found (λ line. is_other_hash path version hash (triple line)) lines e in
       let for = first_so (is_line_for path version (triple y.0)) (not (bytes_eq y.0.hash.now hash)) y.2 in
       let k = found_at y.0 y.1 for in
@@ -251,7 +243,7 @@ module _ (lines : List SumLine) (path version hash : List ℕ) (start end : ℕ)
       let at_last : slice_index_or lines (end - 1) y.0 ≡ last = get_or_default lines (end - 1) y.0 last (omega arith) ∙ is_last in
       let up : is_lt (line_cmp (triple y.0) (triple first)) ≡ false = ap2 (λ a b. is_lt (line_cmp (triple a) (triple b))) (sym k.3) (sym at_first) ∙ sorted_far (λ x y. is_lt (line_cmp (triple x) (triple y))) (ranks_by line_total triple) lines order start k.0 y.0 low (omega arith) in
       let down : is_lt (line_cmp (triple last) (triple y.0)) ≡ false = ap2 (λ a b. is_lt (line_cmp (triple a) (triple b))) (sym at_last) (sym k.3) ∙ sorted_far (λ x y. is_lt (line_cmp (triple x) (triple y))) (ranks_by line_total triple) lines order k.0 (end - 1) y.0 (omega arith) (omega arith) in
-      let even : line_cmp (triple y.0) (path, version, hash) ≡ Equal = neither _ _ (line_total.antisymm (triple y.0) (path, version, hash)) (ap (λ t. is_lt (line_cmp (triple y.0) t)) (sym first_is) ∙ up) (ap (λ t. is_lt (line_cmp t (triple y.0))) (sym last_is) ∙ down) in
+      let even : line_cmp (triple y.0) (path, version, hash) ≡ Equal = Equal-from_neither _ _ (line_total.antisymm (triple y.0) (path, version, hash)) (ap (λ t. is_lt (line_cmp (triple y.0) t)) (sym first_is) ∙ up) (ap (λ t. is_lt (line_cmp t (triple y.0))) (sym last_is) ∙ down) in
       let hash_even : slice_cmp nat_cmp y.0.hash.now hash ≡ Equal = then_second (slice_cmp nat_cmp y.0.version.now version) _ (then_second (slice_cmp nat_cmp y.0.path.now path) _ even) in
       other_apart path version hash (triple y.0) y.2 (same_texts y.0.hash.now hash hash_even)) in
       sym (ap (λ b. if not b then Unlisted else (if list_any (is_other_hash path version hash) (map triple lines) then Differs else Good)) (listed first is_first some) ∙ ap (λ b. if b then Differs else Good) none)

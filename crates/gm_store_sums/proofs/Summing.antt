@@ -1,6 +1,6 @@
 -- The hashes that lines list, and what a table says about them.
 use Rattle.std.proofs.Common.{◌≡◌, ◌≢◌, ◌⊎◌, ◌-◌, ◌&&◌, ◌||◌, ℕ, Bool, true, false, not, zero, suc, List, [], ◌∷◌, ◌++◌, length, take, drop, map, ap, ◌∙◌, sym, refl, subst, inl, inr, arith, codes, Bor}
-use Rattle.std.proofs.lemmas.Bool.{cases_lt}
+use Rattle.std.proofs.lemmas.Bool.{and_from, cases_lt, not-true}
 use Rattle.std.proofs.lemmas.Grind.{common_steps}
 use Rattle.std.proofs.lemmas.List.{append_cancel_right, map-append}
 use Rattle.std.proofs.lemmas.List.Elements.{Contains-append_cases, Contains-append_left, Contains-append_right}
@@ -44,8 +44,8 @@ same_triple p v h path version hash e =
     let third : h ≡ hash = cc e in
     ap (λ a. (a, v, h)) first ∙ ap (λ b. (path, b, h)) second ∙ ap (λ d. (path, version, d)) third
 
-whole : (n : ℕ) (text : List ℕ) → text ≡ take n text ++ drop n text
-whole n text = grind (arith, common_steps)
+take-drop_whole : (n : ℕ) (text : List ℕ) → text ≡ take n text ++ drop n text
+take-drop_whole n text = grind (arith, common_steps)
 
 -- one more line, which lists a hash
 given_more : (given : List (List (List ℕ))) (sums : List Triple) (words : List (List ℕ)) (p v h : List ℕ) → HoldsGiven given sums → Gives words p v h → HoldsGiven (given ++ words ∷ []) (sums ++ (p, v, h) ∷ [])
@@ -68,17 +68,17 @@ given_same given sums words holds none = λ path version hash. (
       (λ new. absurd (none path version hash (one_only _ _ new, has.1))),
 )
 
-words_more : (seen : List (Bor (List ℕ))) (line : Bor (List ℕ)) → map fields (map (λ line. line.now) (seen ++ line ∷ [])) ≡ map fields (map (λ line. line.now) seen) ++ fields line.now ∷ []
-words_more seen line = ap (map fields) (map-append (λ (line : Bor (List ℕ)). line.now) seen (line ∷ [])) ∙ map-append fields (map (λ line. line.now) seen) (line.now ∷ [])
+fields-push : (seen : List (Bor (List ℕ))) (line : Bor (List ℕ)) → map fields (map (λ line. line.now) (seen ++ line ∷ [])) ≡ map fields (map (λ line. line.now) seen) ++ fields line.now ∷ []
+fields-push seen line = ap (map fields) (map-append (λ (line : Bor (List ℕ)). line.now) seen (line ∷ [])) ∙ map-append fields (map (λ line. line.now) seen) (line.now ∷ [])
 
 line_gives : (seen : List (Bor (List ℕ))) (line : Bor (List ℕ)) (sums new : List Triple) (p v h : List ℕ) → HoldsGiven (map fields (map (λ line. line.now) seen)) sums → Gives (fields line.now) p v h → new ≡ sums ++ (p, v, h) ∷ [] → HoldsGiven (map fields (map (λ line. line.now) (seen ++ line ∷ []))) new
 line_gives seen line sums new p v h holds gives grown =
-    subst (λ given. HoldsGiven given new) (sym (words_more seen line))
+    subst (λ given. HoldsGiven given new) (sym (fields-push seen line))
     (subst (HoldsGiven (map fields (map (λ line. line.now) seen) ++ fields line.now ∷ [])) (sym grown) (given_more _ sums (fields line.now) p v h holds gives))
 
 line_gives_none : (seen : List (Bor (List ℕ))) (line : Bor (List ℕ)) (sums : List Triple) → HoldsGiven (map fields (map (λ line. line.now) seen)) sums → ((p v h : List ℕ) → ¬ (Gives (fields line.now) p v h)) → HoldsGiven (map fields (map (λ line. line.now) (seen ++ line ∷ []))) sums
 line_gives_none seen line sums holds none =
-    subst (λ given. HoldsGiven given sums) (sym (words_more seen line)) (given_same _ sums (fields line.now) holds none)
+    subst (λ given. HoldsGiven given sums) (sym (fields-push seen line)) (given_same _ sums (fields line.now) holds none)
 
 -- one more line
 pub line_added : (seen : List (Bor (List ℕ))) (line : Bor (List ℕ)) (sums new : List Triple) → HoldsGiven (map fields (map (λ line. line.now) seen)) sums
@@ -116,7 +116,7 @@ valid_all text none = elim (cases_lt (lines_before_invalid text) (length (lines 
 pub stripped : (text ending front : List ℕ) → bytes_eq (drop (length text - length ending) text) ending ≡ true → front ≡ take (length text - length ending) text → text ≡ front ++ ending
 stripped text ending front same cut =
     let end : drop (length text - length ending) text ≡ ending = (bytes_eq-Decides _ ending).0 same in
-    whole (length text - length ending) text ∙ ap (λ t. t ++ drop (length text - length ending) text) (sym cut) ∙ ap (λ t. front ++ t) end
+    take-drop_whole (length text - length ending) text ∙ ap (λ t. t ++ drop (length text - length ending) text) (sym cut) ∙ ap (λ t. front ++ t) end
 
 -- ---- what a table says
 
@@ -148,9 +148,6 @@ any_none f (x ∷ xs) e y has = cases (Contains-append_cases (x ∷ []) xs y has
     (λ here. ap f (sym (one_only x y here)) ∙ none_left (f x) (list_any f xs) e)
     (λ later. any_none f xs (none_right (f x) (list_any f xs) e) y later)
 
-pub both_true : (a b : Bool) → a ≡ true → b ≡ true → (a && b) ≡ true
-both_true a b e f = cc
-
 -- the lines for a path and a version list its hashes
 pub line_for : (path version : List ℕ) (t : Triple) → is_line_for path version t ≡ true → t ≡ (path, version, t.2)
 line_for path version t e =
@@ -158,15 +155,11 @@ line_for path version t e =
     ∙ ap (λ b. (path, b, t.2)) ((bytes_eq-Decides t.1 version).0 (second_so (bytes_eq t.0 path) (bytes_eq t.1 version) e))
 
 is_for : (path version hash : List ℕ) → is_line_for path version (path, version, hash) ≡ true
-is_for path version hash = both_true _ _ ((bytes_eq-Decides path path).1 refl) ((bytes_eq-Decides version version).1 refl)
-
-not_true : (b : Bool) → not b ≡ true → b ≡ false
-not_true true e = cc e
-not_true false e = refl
+is_for path version hash = and_from _ _ ((bytes_eq-Decides path path).1 refl) ((bytes_eq-Decides version version).1 refl)
 
 pub other_apart : (path version hash : List ℕ) (t : Triple) → is_other_hash path version hash t ≡ true → t.2 ≢ hash
 other_apart path version hash t e same =
-    let differs = not_true (bytes_eq t.2 hash) (second_so (is_line_for path version t) (not (bytes_eq t.2 hash)) e) in
+    let differs = not-true (bytes_eq t.2 hash) (second_so (is_line_for path version t) (not (bytes_eq t.2 hash)) e) in
     let equal : bytes_eq t.2 hash ≡ true = (bytes_eq-Decides t.2 hash).1 same in
     let never : false ≡ true = sym differs ∙ equal in
     cc never

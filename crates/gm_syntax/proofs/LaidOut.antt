@@ -7,23 +7,23 @@ use Rattle.std.proofs.lemmas.Bool.{cases_Bool, true≢false}
 use Rattle.std.proofs.lemmas.List.{append-nil, append_cancel_left}
 use Rattle.gm_syntax.specs.Words.{Word}
 use Rattle.gm_syntax.specs.Document.{Line, Blank, inside_after}
-use Rattle.gm_syntax.specs.Layout.{line_text, is_open, is_close, is_blank_line, state_after, layout_from, layout, initial_state, gap_lines, layout_lines, filled, lines_text, begins_blank, ends_blank, gap_between, AreLaidOut, IsLayout, LayoutState}
+use Rattle.gm_syntax.specs.Layout.{line_text, is_open, is_close, is_blank_line, state_after, layout_from, layout, initial_state, gap_lines, layout_lines, filled_lines, lines_text, begins_blank, ends_blank, gap_between, AreLaidOut, IsLayout, LayoutState}
 use Rattle.gm_syntax.proofs.Laying.{layout_from_blank, layout_from_other, layout_from_none}
 use Rattle.gm_syntax.proofs.Stable.{and_both, layout_lines_blank, layout_lines_other, layout_lines_none, filled_blank, filled_other, filled_gap, filled_again}
 
-filled_none : filled [] ≡ []
-unfolding filled
+filled_none : filled_lines [] ≡ []
+unfolding filled_lines
 filled_none = refl
 
-filled-append : (xs ys : List (Line Word)) → filled (xs ++ ys) ≡ filled xs ++ filled ys
-filled-append [] ys = ap (λ (l : List (Line Word)). l ++ filled ys) (sym filled_none)
+filled-append : (xs ys : List (Line Word)) → filled_lines (xs ++ ys) ≡ filled_lines xs ++ filled_lines ys
+filled-append [] ys = ap (λ (l : List (Line Word)). l ++ filled_lines ys) (sym filled_none)
 filled-append (x ∷ xs) ys =
     elim (cases_Bool (is_blank_line x)) [
-      | inl k ↦ filled_blank x (xs ++ ys) k ∙ filled-append xs ys ∙ ap (λ (l : List (Line Word)). l ++ filled ys) (sym (filled_blank x xs k))
-      | inr k ↦ filled_other x (xs ++ ys) k ∙ ap (λ (l : List (Line Word)). x ∷ l) (filled-append xs ys) ∙ ap (λ (l : List (Line Word)). l ++ filled ys) (sym (filled_other x xs k))
+      | inl k ↦ filled_blank x (xs ++ ys) k ∙ filled-append xs ys ∙ ap (λ (l : List (Line Word)). l ++ filled_lines ys) (sym (filled_blank x xs k))
+      | inr k ↦ filled_other x (xs ++ ys) k ∙ ap (λ (l : List (Line Word)). x ∷ l) (filled-append xs ys) ∙ ap (λ (l : List (Line Word)). l ++ filled_lines ys) (sym (filled_other x xs k))
     ]
 
-filled_blanks : (blanks : List (Line Word)) → list_all is_blank_line blanks ≡ true → filled blanks ≡ []
+filled_blanks : (blanks : List (Line Word)) → list_all is_blank_line blanks ≡ true → filled_lines blanks ≡ []
 filled_blanks [] h = filled_none
 filled_blanks (b ∷ blanks) h = let p = and_both (is_blank_line b) (list_all is_blank_line blanks) h in filled_blank b blanks p.0 ∙ filled_blanks blanks p.1
 
@@ -77,9 +77,9 @@ record Split (b : LayoutState) (front rest : List (Line Word)) (line : Line Word
   pub before : List (Line Word)
   pub behind : LayoutState
   pub parts : layout_lines b (front ++ line ∷ rest) ≡ before ++ line ∷ layout_lines (state_after behind line) rest
-  pub same : filled before ≡ filled front
+  pub same : filled_lines before ≡ filled_lines front
 
-gap_filled : (c : Bool) → filled (cond c (Blank ∷ []) []) ≡ []
+gap_filled : (c : Bool) → filled_lines (cond c (Blank ∷ []) []) ≡ []
 gap_filled true = filled_blank Blank [] refl ∙ filled_none
 gap_filled false = filled_none
 
@@ -119,7 +119,7 @@ same_gap false true = refl
 same_gap false false = refl
 
 gap_is : (line next : Line Word) (blanks back : List (Line Word)) (inside : Bool) → list_all is_blank_line blanks ≡ true → is_blank_line next ≡ false
-    → (after : List (Line Word)) × (layout_lines (place (not (is_open line)) false inside) (blanks ++ next ∷ back) ≡ gap_between line blanks next ++ next ∷ after) × (filled after ≡ filled back)
+    → (after : List (Line Word)) × (layout_lines (place (not (is_open line)) false inside) (blanks ++ next ∷ back) ≡ gap_between line blanks next ++ next ∷ after) × (filled_lines after ≡ filled_lines back)
 gap_is line next [] back inside h k =
     let b = place (not (is_open line)) false inside in
     (layout_lines (state_after b next) back, layout_lines_other b next back k, filled_again (state_after b next) back)
@@ -149,19 +149,19 @@ are_laid_out lines = record {
 -- ---- no other lines are
 
 -- a line that is not blank, with the same lines before it, is at only one place of a list
-same_split : (f g x y : List (Line Word)) (a : Line Word) → is_blank_line a ≡ false → f ++ a ∷ x ≡ g ++ a ∷ y → filled f ≡ filled g → x ≡ y
+same_split : (f g x y : List (Line Word)) (a : Line Word) → is_blank_line a ≡ false → f ++ a ∷ x ≡ g ++ a ∷ y → filled_lines f ≡ filled_lines g → x ≡ y
 same_split [] [] x y a k e h = cc
 same_split [] (m ∷ g) x y a k e h =
     let same : a ≡ m = cc in
-    let none : filled [] ≡ m ∷ filled g = h ∙ filled_other m g (ap is_blank_line (sym same) ∙ k) in
-    absurd (nil_not_cons m (filled g) (sym filled_none ∙ none))
+    let none : filled_lines [] ≡ m ∷ filled_lines g = h ∙ filled_other m g (ap is_blank_line (sym same) ∙ k) in
+    absurd (nil_not_cons m (filled_lines g) (sym filled_none ∙ none))
   where
     nil_not_cons : (m : Line Word) (l : List (Line Word)) → [] ≡ m ∷ l → ⊥
     nil_not_cons m l e = cc
 same_split (l ∷ f) [] x y a k e h =
     let same : l ≡ a = cc in
-    let none : l ∷ filled f ≡ filled [] = sym (filled_other l f (ap is_blank_line same ∙ k)) ∙ h in
-    absurd (cons_not_nil l (filled f) (none ∙ filled_none))
+    let none : l ∷ filled_lines f ≡ filled_lines [] = sym (filled_other l f (ap is_blank_line same ∙ k)) ∙ h in
+    absurd (cons_not_nil l (filled_lines f) (none ∙ filled_none))
   where
     cons_not_nil : (m : Line Word) (l : List (Line Word)) → m ∷ l ≡ [] → ⊥
     cons_not_nil m l e = cc
@@ -171,8 +171,8 @@ same_split (l ∷ f) (m ∷ g) x y a k e h =
     elim (cases_Bool (is_blank_line l)) [
       | inl j ↦ same_split f g x y a k rest (sym (filled_blank l f j) ∙ h ∙ filled_blank m g (ap is_blank_line (sym same) ∙ j))
       | inr j ↦
-          let both : l ∷ filled f ≡ m ∷ filled g = sym (filled_other l f j) ∙ h ∙ filled_other m g (ap is_blank_line (sym same) ∙ j) in
-          same_split f g x y a k rest (tails l m (filled f) (filled g) both)
+          let both : l ∷ filled_lines f ≡ m ∷ filled_lines g = sym (filled_other l f j) ∙ h ∙ filled_other m g (ap is_blank_line (sym same) ∙ j) in
+          same_split f g x y a k rest (tails l m (filled_lines f) (filled_lines g) both)
     ]
   where
     tails : (l m : Line Word) (xs ys : List (Line Word)) → l ∷ xs ≡ m ∷ ys → xs ≡ ys
@@ -184,25 +184,25 @@ ends_blank-append (x ∷ []) ys y = refl
 ends_blank-append (x ∷ z ∷ xs) ys y = ends_blank-append (z ∷ xs) ys y
 
 -- if no line is kept, all lines are blank
-blank_front : (l : Line Word) (ls : List (Line Word)) → filled (l ∷ ls) ≡ [] → (is_blank_line l ≡ true) × (filled ls ≡ [])
+blank_front : (l : Line Word) (ls : List (Line Word)) → filled_lines (l ∷ ls) ≡ [] → (is_blank_line l ≡ true) × (filled_lines ls ≡ [])
 blank_front l ls e =
     elim (cases_Bool (is_blank_line l)) [
       | inl k ↦ (k, sym (filled_blank l ls k) ∙ e)
-      | inr k ↦ absurd (cons_not_nil l (filled ls) (sym (filled_other l ls k) ∙ e))
+      | inr k ↦ absurd (cons_not_nil l (filled_lines ls) (sym (filled_other l ls k) ∙ e))
     ]
   where
     cons_not_nil : (m : Line Word) (l : List (Line Word)) → m ∷ l ≡ [] → ⊥
     cons_not_nil m l e = cc
 
-blanks_end : (l : Line Word) (ls : List (Line Word)) → filled (l ∷ ls) ≡ [] → ends_blank (l ∷ ls) ≡ true
+blanks_end : (l : Line Word) (ls : List (Line Word)) → filled_lines (l ∷ ls) ≡ [] → ends_blank (l ∷ ls) ≡ true
 blanks_end l [] e = (blank_front l [] e).0
 blanks_end l (m ∷ ls) e = blanks_end m ls (blank_front l (m ∷ ls) e).1
 
-no_tail : (before tail : List (Line Word)) (line : Line Word) → filled tail ≡ [] → ends_blank (before ++ line ∷ tail) ≡ false → tail ≡ []
+no_tail : (before tail : List (Line Word)) (line : Line Word) → filled_lines tail ≡ [] → ends_blank (before ++ line ∷ tail) ≡ false → tail ≡ []
 no_tail before [] line e h = refl
 no_tail before (t ∷ tail) line e h = absurd (true≢false (sym (blanks_end t tail e) ∙ sym (ends_blank-append before (t ∷ tail) line) ∙ h))
 
-no_lines : (laid : List (Line Word)) → filled laid ≡ [] → begins_blank laid ≡ false → laid ≡ []
+no_lines : (laid : List (Line Word)) → filled_lines laid ≡ [] → begins_blank laid ≡ false → laid ≡ []
 no_lines [] e h = refl
 no_lines (l ∷ laid) e h = absurd (true≢false (sym (blank_front l laid e).0 ∙ h))
 
@@ -222,20 +222,20 @@ gap_same : (line next : Line Word) (blanks : List (Line Word)) → cond (is_some
 gap_same line next [] = refl
 gap_same line next (x ∷ blanks) = same_gap (is_open line) (is_close next)
 
-gap_none : (line next : Line Word) (blanks : List (Line Word)) → filled (gap_between line blanks next) ≡ []
-gap_none line next blanks = ap filled (sym (gap_same line next blanks)) ∙ gap_filled (is_some_line blanks && (not (is_open line) && not (is_close next)))
+gap_none : (line next : Line Word) (blanks : List (Line Word)) → filled_lines (gap_between line blanks next) ≡ []
+gap_none line next blanks = ap filled_lines (sym (gap_same line next blanks)) ∙ gap_filled (is_some_line blanks && (not (is_open line) && not (is_close next)))
 
 module _ (lines laid : List (Line Word)) (h : AreLaidOut lines laid) where
   -- after a kept line, laid has the same lines as the layout
   tail_is : (rest front blanks before tail : List (Line Word)) (line : Line Word) (inside : Bool) → is_blank_line line ≡ false → list_all is_blank_line blanks ≡ true
-      → lines ≡ front ++ line ∷ (blanks ++ rest) → laid ≡ before ++ line ∷ tail → filled before ≡ filled front
+      → lines ≡ front ++ line ∷ (blanks ++ rest) → laid ≡ before ++ line ∷ tail → filled_lines before ≡ filled_lines front
       → tail ≡ layout_lines (place (not (is_open line)) (is_some_line blanks) inside) rest
   tail_is [] front blanks before tail line inside k b e f same =
-      let left : filled laid ≡ filled front ++ line ∷ filled tail = ap filled f ∙ filled-append before (line ∷ tail) ∙ ap (λ (t : List (Line Word)). filled before ++ t) (filled_other line tail k) ∙ ap (λ (t : List (Line Word)). t ++ line ∷ filled tail) same in
-      let none : filled (blanks ++ []) ≡ [] = ap filled (append-nil blanks) ∙ filled_blanks blanks b in
-      let right : filled lines ≡ filled front ++ line ∷ [] = ap filled e ∙ filled-append front (line ∷ (blanks ++ [])) ∙ ap (λ (t : List (Line Word)). filled front ++ t) (filled_other line (blanks ++ []) k ∙ ap (λ (t : List (Line Word)). line ∷ t) none) in
-      let ends : line ∷ filled tail ≡ line ∷ [] = append_cancel_left (filled front) (line ∷ filled tail) (line ∷ []) (sym left ∙ h.kept ∙ right) in
-      no_tail before tail line (tails line (filled tail) [] ends) (ap ends_blank (sym f) ∙ h.no_blank_last) ∙ sym (layout_lines_none (place (not (is_open line)) (is_some_line blanks) inside))
+      let left : filled_lines laid ≡ filled_lines front ++ line ∷ filled_lines tail = ap filled_lines f ∙ filled-append before (line ∷ tail) ∙ ap (λ (t : List (Line Word)). filled_lines before ++ t) (filled_other line tail k) ∙ ap (λ (t : List (Line Word)). t ++ line ∷ filled_lines tail) same in
+      let none : filled_lines (blanks ++ []) ≡ [] = ap filled_lines (append-nil blanks) ∙ filled_blanks blanks b in
+      let right : filled_lines lines ≡ filled_lines front ++ line ∷ [] = ap filled_lines e ∙ filled-append front (line ∷ (blanks ++ [])) ∙ ap (λ (t : List (Line Word)). filled_lines front ++ t) (filled_other line (blanks ++ []) k ∙ ap (λ (t : List (Line Word)). line ∷ t) none) in
+      let ends : line ∷ filled_lines tail ≡ line ∷ [] = append_cancel_left (filled_lines front) (line ∷ filled_lines tail) (line ∷ []) (sym left ∙ h.kept ∙ right) in
+      no_tail before tail line (tails line (filled_lines tail) [] ends) (ap ends_blank (sym f) ∙ h.no_blank_last) ∙ sym (layout_lines_none (place (not (is_open line)) (is_some_line blanks) inside))
     where
       tails : (l : Line Word) (xs ys : List (Line Word)) → l ∷ xs ≡ l ∷ ys → xs ≡ ys
       tails l xs ys e = cc
@@ -250,9 +250,9 @@ module _ (lines laid : List (Line Word)) (h : AreLaidOut lines laid) where
             let here : tail ≡ gap ++ l ∷ p.1 = same_split before p.0 tail (gap ++ l ∷ p.1) line k (sym f ∙ p.2) (same ∙ sym p.3) in
             let lines_at : lines ≡ (front ++ line ∷ blanks) ++ l ∷ ([] ++ ls) = e ∙ sym (append_assoc front (line ∷ blanks) (l ∷ ls)) in
             let laid_at : laid ≡ (before ++ line ∷ gap) ++ l ∷ p.1 = f ∙ ap (λ (t : List (Line Word)). before ++ line ∷ t) here ∙ sym (append_assoc before (line ∷ gap) (l ∷ p.1)) in
-            let before_at : filled (before ++ line ∷ gap) ≡ filled (front ++ line ∷ blanks) =
-            filled-append before (line ∷ gap) ∙ ap (λ (t : List (Line Word)). filled before ++ t) (filled_other line gap k ∙ ap (λ (t : List (Line Word)). line ∷ t) (gap_none line l blanks)) ∙ ap (λ (t : List (Line Word)). t ++ line ∷ []) same
-            ∙ sym (filled-append front (line ∷ blanks) ∙ ap (λ (t : List (Line Word)). filled front ++ t) (filled_other line blanks k ∙ ap (λ (t : List (Line Word)). line ∷ t) (filled_blanks blanks b))) in
+            let before_at : filled_lines (before ++ line ∷ gap) ≡ filled_lines (front ++ line ∷ blanks) =
+            filled-append before (line ∷ gap) ∙ ap (λ (t : List (Line Word)). filled_lines before ++ t) (filled_other line gap k ∙ ap (λ (t : List (Line Word)). line ∷ t) (gap_none line l blanks)) ∙ ap (λ (t : List (Line Word)). t ++ line ∷ []) same
+            ∙ sym (filled-append front (line ∷ blanks) ∙ ap (λ (t : List (Line Word)). filled_lines front ++ t) (filled_other line blanks k ∙ ap (λ (t : List (Line Word)). line ∷ t) (filled_blanks blanks b))) in
             let past = tail_is ls (front ++ line ∷ blanks) [] (before ++ line ∷ gap) p.1 l (inside_after inside l) j refl lines_at laid_at before_at in
             here ∙ ap (λ (t : List (Line Word)). gap ++ l ∷ t) past ∙ ap (λ (t : List (Line Word)). t ++ l ∷ layout_lines (place (not (is_open l)) false (inside_after inside l)) ls) (sym (gap_same line l blanks))
             ∙ sym (layout_lines_other (place (not (is_open line)) (is_some_line blanks) inside) l ls j)
@@ -260,22 +260,22 @@ module _ (lines laid : List (Line Word)) (h : AreLaidOut lines laid) where
 
   all_is : (rest blanks : List (Line Word)) (gap_pending : Bool) → list_all is_blank_line blanks ≡ true → lines ≡ blanks ++ rest → laid ≡ layout_lines (place false gap_pending false) rest
   all_is [] blanks gap_pending b e =
-      no_lines laid (h.kept ∙ ap filled (e ∙ append-nil blanks) ∙ filled_blanks blanks b) h.no_blank_first ∙ sym (layout_lines_none (place false gap_pending false))
+      no_lines laid (h.kept ∙ ap filled_lines (e ∙ append-nil blanks) ∙ filled_blanks blanks b) h.no_blank_first ∙ sym (layout_lines_none (place false gap_pending false))
   all_is (l ∷ ls) blanks gap_pending b e =
       elim (cases_Bool (is_blank_line l)) [
         | inl j ↦ all_is ls (blanks ++ l ∷ []) true (all_push blanks l b j) (e ∙ sym (append_assoc blanks (l ∷ []) ls)) ∙ sym (layout_lines_blank (place false gap_pending false) l ls j)
         | inr j ↦
-            let keeps : filled laid ≡ l ∷ filled ls = h.kept ∙ ap filled e ∙ filled-append blanks (l ∷ ls) ∙ ap (λ (t : List (Line Word)). t ++ filled (l ∷ ls)) (filled_blanks blanks b) ∙ filled_other l ls j in
+            let keeps : filled_lines laid ≡ l ∷ filled_lines ls = h.kept ∙ ap filled_lines e ∙ filled-append blanks (l ∷ ls) ∙ ap (λ (t : List (Line Word)). t ++ filled_lines (l ∷ ls)) (filled_blanks blanks b) ∙ filled_other l ls j in
             by_first laid keeps h.no_blank_first j refl
       ]
     where
-      by_first : (all : List (Line Word)) → filled all ≡ l ∷ filled ls → begins_blank all ≡ false → is_blank_line l ≡ false → laid ≡ all → laid ≡ layout_lines (place false gap_pending false) (l ∷ ls)
-      by_first [] keeps first j f = absurd (nil_not_cons l (filled ls) (sym filled_none ∙ keeps))
+      by_first : (all : List (Line Word)) → filled_lines all ≡ l ∷ filled_lines ls → begins_blank all ≡ false → is_blank_line l ≡ false → laid ≡ all → laid ≡ layout_lines (place false gap_pending false) (l ∷ ls)
+      by_first [] keeps first j f = absurd (nil_not_cons l (filled_lines ls) (sym filled_none ∙ keeps))
         where
           nil_not_cons : (m : Line Word) (l : List (Line Word)) → [] ≡ m ∷ l → ⊥
           nil_not_cons m l e = cc
       by_first (m ∷ all) keeps first j f =
-          let same : m ≡ l = heads m l (filled all) (filled ls) (sym (filled_other m all first) ∙ keeps) in
+          let same : m ≡ l = heads m l (filled_lines all) (filled_lines ls) (sym (filled_other m all first) ∙ keeps) in
           let at : laid ≡ l ∷ all = f ∙ ap (λ (x : Line Word). x ∷ all) same in
           let past = tail_is ls blanks [] [] all l (inside_after false l) j refl e at (filled_none ∙ sym (filled_blanks blanks b)) in
           at ∙ ap (λ (t : List (Line Word)). l ∷ t) past

@@ -11,7 +11,7 @@ use Rattle.gm_syntax.specs.Bytes.{is_bracket_or_comma}
 use Rattle.gm_syntax.specs.Lines.{HasNoLineFeed}
 use Rattle.gm_syntax.specs.Words.{Word, IsBare, IsString, HasShape, HasValue, escaped_value, mark_text}
 use Rattle.gm_syntax.specs.Bare.{can_be_bare, in_quotes, new_word}
-use Rattle.gm_syntax.specs.Values.{all_but_last, string_value, unescaped, value_of, value_of_kind}
+use Rattle.gm_syntax.specs.Values.{all_but_last, string_value, unescaped_bytes, value_of, value_of_kind}
 use Rattle.gm_syntax.specs.Spelling.{IsWord}
 use Rattle.gm_syntax.specs.Document.{is_mark}
 use Rattle.gm_syntax.specs.Tokens.{Placed, IsNewWord}
@@ -26,23 +26,23 @@ last-cut text b =
     rw len (take_at text (b ∷ []) (length text) refl)
 
 -- a byte that needs no backslash, before others
-unescaped-plain : (b : ℕ) (bytes : List ℕ) → (b == 92) ≡ false → unescaped (b ∷ bytes) ≡ b ∷ unescaped bytes
+unescaped-plain : (b : ℕ) (bytes : List ℕ) → (b == 92) ≡ false → unescaped_bytes (b ∷ bytes) ≡ b ∷ unescaped_bytes bytes
 unescaped-plain b [] e = refl
 unescaped-plain b (c ∷ bytes) e = rw e refl
 
 escape-by : (b : ℕ) (rest : List ℕ) (q s : Bool) → q ≡ (b == 34) → s ≡ (b == 92)
-    → unescaped ((if q || s then 92 ∷ b ∷ [] else b ∷ []) ++ rest) ≡ b ∷ unescaped rest
+    → unescaped_bytes ((if q || s then 92 ∷ b ∷ [] else b ∷ []) ++ rest) ≡ b ∷ unescaped_bytes rest
 escape-by b rest true s eq es = refl
 escape-by b rest false true eq es = refl
 escape-by b rest false false eq es = unescaped-plain b rest (sym es)
 
-pub unescaped-escaped : (value : List ℕ) → unescaped (escaped_value value) ≡ value
+pub unescaped-escaped : (value : List ℕ) → unescaped_bytes (escaped_value value) ≡ value
 unescaped-escaped [] = refl
 unescaped-escaped (b ∷ value) =
     escape-by b (escaped_value value) (b == 34) (b == 92) refl refl ∙ ap (λ (t : List ℕ). b ∷ t) (unescaped-escaped value)
 
 string_is : (text value : List ℕ) → IsString text value → string_value text ≡ value
-string_is text value (inl e) = ap string_value e ∙ ap unescaped (last-cut (escaped_value value) 34) ∙ unescaped-escaped value
+string_is text value (inl e) = ap string_value e ∙ ap unescaped_bytes (last-cut (escaped_value value) 34) ∙ unescaped-escaped value
 string_is text value (inr e) = ap string_value e.0 ∙ last-cut value 96
 
 shape_is : (kind : Kind) (text value : List ℕ) → HasShape kind text value → value_of_kind kind text ≡ value

@@ -15,9 +15,9 @@ one_comment None (Some text) e = absurd cc
 one_comment (Some text) None e = absurd cc
 one_comment (Some text) (Some other) e = cc
 
-no_fault : (c : Option (List ℕ)) (kind : SyntaxKind) → Fault kind ≡ ending_of c → ⊥
-no_fault None kind e = cc
-no_fault (Some text) kind e = cc
+fault_no_ending : (c : Option (List ℕ)) (kind : SyntaxKind) → Fault kind ≡ ending_of c → ⊥
+fault_no_ending None kind e = cc
+fault_no_ending (Some text) kind e = cc
 
 abbrev refused : SyntaxKind → Result (Line Word) SyntaxKind
 refused kind = Err kind
@@ -32,7 +32,7 @@ module _ (inside : Bool) (text : List ℕ) (words : List Word) where
         (subst (λ (c : Option (List ℕ)). class_of inside words c ≡ answer) (sym (one_comment other comment same.1)) is)
 
     no_lexical : (kind : SyntaxKind) (others : List Word) → Reads None text others (Fault kind) → ⊥
-    no_lexical kind others reads = no_fault comment kind (so.only others (Fault kind) reads).1
+    no_lexical kind others reads = fault_no_ending comment kind (so.only others (Fault kind) reads).1
 
     pub one_line : (line : Line Word) → class_of inside words comment ≡ Ok line → IsOnlyLine inside text (Ok line)
     one_line line is = record {
@@ -60,7 +60,7 @@ module _ (inside : Bool) (text : List ℕ) (words : List Word) where
   pub one_fault : (kind : SyntaxKind) → IsOnlyReading text words (Fault kind) → IsOnlyLine inside text (Err kind)
   one_fault kind so = record {
     holds = inl (words, so.reads);
-    only_line = λ other at. absurd (no_fault at.comment kind (sym (so.only at.words (ending_of at.comment) at.spelled).1));
+    only_line = λ other at. absurd (fault_no_ending at.comment kind (sym (so.only at.words (ending_of at.comment) at.spelled).1));
     only_fault = fault;
   }
     where
@@ -71,7 +71,7 @@ module _ (inside : Bool) (text : List ℕ) (words : List Word) where
 
       fault : (other : SyntaxKind) → HasLineFault inside text other → refused kind ≡ refused other
       fault other (inl has) = ap refused (same has.0 other has.1)
-      fault other (inr has) = absurd (no_fault has.1 kind (sym (so.only has.0 (ending_of has.1) has.2).1))
+      fault other (inr has) = absurd (fault_no_ending has.1 kind (sym (so.only has.0 (ending_of has.1) has.2).1))
 
 -- what is wrong with a line is its only fault; nothing is said if memory runs out
 pub read_fault : (inside : Bool) (text : List ℕ) (fault : LineSyntaxFault) → IsReadAs (Err fault) text → IsLineReadAs inside text (Err fault)

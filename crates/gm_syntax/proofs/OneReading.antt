@@ -71,8 +71,8 @@ never_both line s f =
     let r = one_reading line in
     not_end s.1 f.0 ((r.only.only s.0 (ending_of s.1) s.2).1 ∙ sym (r.only.only f.1.0 (Fault f.0) f.1.1).1)
 
-pub either : (line : List ℕ) → IsSpelled line ⊎ IsFaulty line
-either line = by_ending (one_reading line).words (one_reading line).ending (one_reading line).only
+pub spelled_or_faulty : (line : List ℕ) → IsSpelled line ⊎ IsFaulty line
+spelled_or_faulty line = by_ending (one_reading line).words (one_reading line).ending (one_reading line).only
   where
     by_ending : (words : List Word) (e : Ending) → IsOnlyReading line words e → IsSpelled line ⊎ IsFaulty line
     by_ending words Nothing o = inl (words, None, o.reads)

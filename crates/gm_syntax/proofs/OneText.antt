@@ -16,7 +16,7 @@ use Rattle.gm_syntax.specs.Parsed.{IsParsedAs}
 use Rattle.gm_syntax.specs.Reader.{IsOnlyText}
 use Rattle.gm_syntax.specs.Documents.{is_open_after, HaveNoFault, IsNeverClosed, IsReading, IsReadingResult}
 use Rattle.gm_syntax.proofs.Stable.{line_ok, line_err, same_ok, not_ok}
-use Rattle.gm_syntax.proofs.OneReading.{one_spelling, one_fault, never_both, either}
+use Rattle.gm_syntax.proofs.OneReading.{one_spelling, one_fault, never_both, spelled_or_faulty}
 use Rattle.gm_syntax.proofs.TextPieces.{pieces_lines}
 use Rattle.gm_syntax.proofs.Readings.{reading_of, reads_as}
 
@@ -65,7 +65,7 @@ not_both_at inside text line kind a f =
 pub either_at : (inside : Bool) (text : List ℕ)
     → ((line : Line Word) × IsLineAt inside text line) ⊎ ((kind : SyntaxKind) × HasLineFault inside text kind)
 either_at inside text =
-    elim (either text) [
+    elim (spelled_or_faulty text) [
       | inl s ↦ by_class s.0 s.1 s.2 (class_of inside s.0 s.1) refl
       | inr f ↦ inr (f.0, inl f.1)
     ]

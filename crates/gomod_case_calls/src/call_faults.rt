@@ -1,11 +1,11 @@
 //! Why a call gives no value, and the line that says so. Calls go to functions of several crates, each with its own
 //! faults, and `?` turns these into one type.
 
-use gm_file::{DirectiveKind, FileFault};
+use gm_file::{BytesFault, FileFault, Misreading};
 use gm_file_edit::{EditFault, OpFault};
 use gm_name::{EscapeFault, PathFault, VersionFault};
 use gm_store_sums::SumFault;
-use gm_syntax::{SyntaxFault, SyntaxKind};
+use gm_syntax::SyntaxFault;
 use std::alloc::{AllocError, Global};
 
 /// Why a call gives no value. All but the first two are named in what it prints.
@@ -27,14 +27,10 @@ pub(crate) enum CallFault {
     BadEscape,
     /// A text is not an operation.
     Spelling,
-    /// A file has too many bytes.
-    TooMany,
-    /// A file isn't UTF-8.
-    NotUtf8,
-    /// The text of the line of this number can't be read.
-    Syntax(usize, SyntaxKind),
-    /// The directive of the line of this number can't be read. Line 0 is the whole file.
-    Directive(usize, DirectiveKind),
+    /// The line of this number in a file can't be read. Line 0 is the whole file.
+    Misread(usize, Misreading),
+    /// A go.sum has too many bytes.
+    LongSums,
     /// The line of this number in a go.sum is neither blank nor of three fields.
     BadSum(usize),
 }
@@ -52,9 +48,8 @@ impl CallFault {
     /// The line that names it.
     fn named(self, alloc: Global) -> Result<String, AllocError> {
         match self {
-            CallFault::TooMany | CallFault::NotUtf8 => format!(in alloc; "0 {self:?}\n"),
-            CallFault::Syntax(line, kind) => format!(in alloc; "{line} {kind:?}\n"),
-            CallFault::Directive(line, kind) => format!(in alloc; "{line} {kind:?}\n"),
+            CallFault::Misread(line, kind) => format!(in alloc; "{line} {}\n", kind.word()),
+            CallFault::LongSums => format!(in alloc; "0 TooMany\n"),
             CallFault::BadSum(line) => format!(in alloc; "{line} BadSum\n"),
             _ => format!(in alloc; "{self:?}\n"),
         }
@@ -95,23 +90,24 @@ impl From<EscapeFault> for CallFault {
     }
 }
 
+impl From<BytesFault> for CallFault {
+    fn from(fault: BytesFault) -> CallFault {
+        match fault {
+            BytesFault::NoMemory => CallFault::NoMemory,
+            BytesFault::Misread { line, kind } => CallFault::Misread(line, kind),
+        }
+    }
+}
+
 impl From<SyntaxFault> for CallFault {
     fn from(fault: SyntaxFault) -> CallFault {
-        match fault {
-            SyntaxFault::NoMemory => CallFault::NoMemory,
-            SyntaxFault::TooMany => CallFault::TooMany,
-            SyntaxFault::NotUtf8 => CallFault::NotUtf8,
-            SyntaxFault::Syntax { line, kind } => CallFault::Syntax(line, kind),
-        }
+        CallFault::from(BytesFault::from(fault))
     }
 }
 
 impl From<FileFault> for CallFault {
     fn from(fault: FileFault) -> CallFault {
-        match fault {
-            FileFault::NoMemory => CallFault::NoMemory,
-            FileFault::Directive { line, kind } => CallFault::Directive(line, kind),
-        }
+        CallFault::from(BytesFault::from(fault))
     }
 }
 
@@ -119,7 +115,7 @@ impl From<SumFault> for CallFault {
     fn from(fault: SumFault) -> CallFault {
         match fault {
             SumFault::NoMemory => CallFault::NoMemory,
-            SumFault::TooMany => CallFault::TooMany,
+            SumFault::TooMany => CallFault::LongSums,
             SumFault::BadSum { line } => CallFault::BadSum(line),
         }
     }

@@ -6,7 +6,6 @@ use crate::name_calls::{pair, yes_or_no};
 use gm_file::MainFile;
 use gm_file_edit::{Apply, Op};
 use gm_name::ModVer;
-use gm_syntax::Doc;
 use std::alloc::Global;
 
 /// What is asked of a main file.
@@ -25,8 +24,7 @@ enum Question<'a> {
 /// What a file answers as a main file.
 fn ask(alloc: Global, bytes: &[u8], question: Question<'_>) -> Result<String, CallFault> {
     // what owns a main file is proved through all its fields, so this alone does
-    let doc = Doc::parse(alloc, bytes)?;
-    let mut file = MainFile::read(alloc, doc)?;
+    let mut file = MainFile::read_bytes(alloc, bytes)?;
     answer(alloc, &mut file, question)
 }
 

@@ -3,7 +3,7 @@ use Rattle.std.proofs.Common.{◌≡◌, ◌⊎◌, Bool, true, false, cond, not
 use Rattle.std.proofs.lemmas.Bool.{false≢true}
 use Rattle.gm_name.specs.ModuleVersion.{ModuleVersion}
 use Rattle.gm_file.proofs.Members.{contains-tells}
-use Rattle.gm_graph.specs.Main.{Main, is_excluded, without_excluded}
+use Rattle.gm_file.specs.Main.{Main, is_excluded, without_excluded}
 use Rattle.gm_graph_select.proofs.Ascending.{member_cases, member_head, member_tail, no_member}
 
 -- ---- members of a filtered list

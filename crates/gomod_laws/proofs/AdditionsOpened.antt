@@ -4,7 +4,7 @@ use Rattle.std.proofs.lemmas.Bool.{false≢true}
 use Rattle.gm_name.specs.ModuleVersion.{ModuleVersion}
 use Rattle.gm_file.specs.Fields.{Dependency}
 use Rattle.gm_graph.specs.declared.cache.class.Class.{Class}
-use Rattle.gm_graph.specs.Main.{Main, is_pruned_by}
+use Rattle.gm_file.specs.Main.{Main, is_pruned_by}
 use Rattle.gm_graph.specs.Reading.{Readings, is_unpruned, is_unpruned_in, requirements_in, said_in, vertex_requirements}
 use Rattle.gm_graph_select.specs.declared.step.Step.{Step}
 use Rattle.gm_graph_select.specs.declared.step.Step.TheVariants.{Main as FromMain, Of}

@@ -7,7 +7,7 @@ use Rattle.gm_file.specs.Fields.{Dependency}
 use Rattle.gm_store.specs.Asked.{Name}
 use Rattle.gm_store_sums.specs.Sums.{Sums}
 use Rattle.gm_graph.specs.declared.cache.class.Class.{Class}
-use Rattle.gm_graph.specs.Main.{Main, replacement_in}
+use Rattle.gm_file.specs.Main.{Main, replacement_in, IsMainFile}
 use Rattle.gm_graph.specs.Reading.{Held, Tells, fault_in, file_named, file_of, is_askable, readings_by, with_right_path}
 use Rattle.gm_graph.proofs.ReadingIf.{reading_if}
 use Rattle.gm_graph_select.proofs.Ascending.{member_head, no_member}
@@ -16,7 +16,7 @@ use Rattle.gm_graph.specs.Graph.{IsOpened}
 use Rattle.gm_graph.specs.Outcome.{AreFaults}
 use Rattle.gm_graph.proofs.BuiltEdges.{fault_reading}
 use Rattle.gomod_run.specs.ListingLaws.{AllFilesAreValid, AnswerAlike}
-use Rattle.gomod_run.specs.Outcomes.{AreInvalidSums, AreKnown, AreSums, Given, IsMainFile, IsOutcome, IsOutcomeOver, IsStopped, Prints, device, faulty, too_many}
+use Rattle.gomod_run.specs.Outcomes.{AreInvalidSums, AreKnown, AreSums, Given, IsOutcome, IsOutcomeOver, IsStopped, Prints, device, faulty, too_many}
 use Rattle.gomod_run.specs.Outcome.{Outcome}
 use Rattle.gomod_run.proofs.OneRead.{misread_or_main, misread_or_sums, one_finding, one_main, tells_alike}
 use Rattle.gomod_run.proofs.OneQueryStore.{Agrees, stores_agree}

@@ -7,7 +7,7 @@ use Rattle.gm_file.specs.Fields.{Dependency}
 use Rattle.gm_store.specs.Asked.{Name, Reply}
 use Rattle.gm_store_sums.specs.Sums.{Sums}
 use Rattle.gm_graph.specs.declared.cache.class.Class.{Class}
-use Rattle.gm_graph.specs.Main.{Main, replacement_in, without_excluded}
+use Rattle.gm_file.specs.Main.{Main, replacement_in, without_excluded}
 use Rattle.gm_graph.specs.Reading.{IsTold, Readings, is_unpruned_in, requirements_in, said_in, vertex_requirements, with_right_path}
 use Rattle.gm_graph.proofs.ReadingIf.{reading_if}
 use Rattle.gm_graph.proofs.OneReading.{one_reading}

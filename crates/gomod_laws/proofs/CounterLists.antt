@@ -9,7 +9,7 @@ use Rattle.gm_name.specs.Path.{IsPath}
 use Rattle.gm_name.specs.Version.{IsVersion, version_cmp}
 use Rattle.gm_name.specs.ModuleVersion.{ModuleVersion}
 use Rattle.gm_file.specs.Directives.{Replacing}
-use Rattle.gm_graph.specs.Main.{Main, without_excluded}
+use Rattle.gm_file.specs.Main.{Main, without_excluded, IsMainFile}
 use Rattle.gm_graph.specs.Reading.{Held, Readings, readings_by}
 use Rattle.gm_graph_select.specs.declared.step.Step.TheVariants.{Main as FromMain, Of}
 use Rattle.gm_graph_select.specs.BuildList.{Entry, entry_of, main_entry, path_of}
@@ -17,7 +17,7 @@ use Rattle.gm_graph_select.specs.Laws.{entries_of_pages}
 use Rattle.gm_graph_select.proofs.Ascending.{member_cases, member_head, member_tail, no_member}
 use Rattle.gm_graph.specs.Graph.{IsDeep, IsOpened, IsTop, IsVertex, from_deep, from_main, from_top}
 use Rattle.gomod_run.specs.ListingLaws.{AllFilesAreValid, AreGreatest, ArePrintedPages, ShowsBuildList, no_row, one_page}
-use Rattle.gomod_run.specs.Outcomes.{Given, IsListOutcome, IsMainFile}
+use Rattle.gomod_run.specs.Outcomes.{Given, IsListOutcome}
 use Rattle.gm_graph.specs.Outcome.{AreRows}
 use Rattle.gomod_run.specs.Outcome.{Outcome, printed, refused}
 use Rattle.gomod_run.specs.PrintedLines.{AreProperRows, IsProperRow}

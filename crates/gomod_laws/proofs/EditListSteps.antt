@@ -13,8 +13,8 @@ use Rattle.gm_file_edit.specs.Edited.{edited}
 use Rattle.gm_file_edit.specs.Kinds.{is_fit}
 use Rattle.gm_file_edit.specs.Edits.{Edit as Operation, edit_in}
 use Rattle.gm_file_edit.specs.Laws.{IsEditOf, directives_of}
-use Rattle.gm_graph.specs.Main.{Main}
-use Rattle.gomod_run.specs.Outcomes.{IsMainFile, IsMainOf, longest}
+use Rattle.gm_file.specs.Main.{Main, IsMainFile, IsMainOf}
+use Rattle.gomod_run.specs.Outcomes.{longest}
 use Rattle.gomod_run.specs.Outcome.{Outcome, printed}
 use Rattle.gomod_run.specs.Reports.{main_line, edit_line}
 use Rattle.gomod_run.proofs.OneRead.{one_main}

@@ -22,7 +22,7 @@ use Rattle.gm_file_edit.specs.Undone.{undone_by}
 use Rattle.gm_file_edit.proofs.EitherOrder.{either-order}
 use Rattle.gm_file_edit.proofs.Places.{edited-same}
 use Rattle.gm_file_edit.proofs.Undone.{drop-undoes-layout}
-use Rattle.gomod_run.specs.Outcomes.{IsMainOf}
+use Rattle.gm_file.specs.Main.{IsMainOf}
 use Rattle.gomod_run.specs.Outcome.{Outcome, printed}
 use Rattle.gomod_run.proofs.OneRead.{misread_or_lines, same_lines}
 use Rattle.gomod_words.specs.declared.usage.Command.TheVariants.{Fmt}

@@ -11,12 +11,12 @@ use Rattle.gm_name.specs.ModuleVersion.{ModuleVersion, pair-self, pair_cmp, pair
 use Rattle.gm_file.specs.declared.fault.DirectiveKind.TheVariants.{NoModule}
 use Rattle.gm_file.specs.Fields.{Dependency}
 use Rattle.gm_store.specs.Asked.{Name, Reply, mod_file, folder_file, list_file, absent, answer_in, same_name}
-use Rattle.gm_graph.specs.Main.{Main}
+use Rattle.gm_file.specs.Main.{Main}
 use Rattle.gm_graph.specs.Reading.{Held, IsTold, Readings, Tells, file_of, is_askable, readings_by, requirements_in, said_in, vertex_fault, vertex_requirements}
 use Rattle.gm_graph.proofs.ReadingIf.{reading_if}
 use Rattle.gm_graph.specs.declared.cache.class.Class.{Class}
 use Rattle.gm_graph.specs.declared.cache.class.Class.TheVariants.{Missing}
-use Rattle.gm_graph.specs.declared.cache.class.Misreading.TheVariants as misreading
+use Rattle.gm_file.specs.declared.misreading.Misreading.TheVariants as misreading
 use Rattle.gm_graph_select.specs.declared.step.Step.TheVariants.{Main as FromMain, Of}
 use Rattle.gm_graph_select.specs.BuildList.{main_entry, path_cmp}
 use Rattle.gm_graph_select.specs.Graph.{IsEdgeEnd}

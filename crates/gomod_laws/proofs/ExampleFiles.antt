@@ -26,9 +26,9 @@ use Rattle.gm_file.specs.declared.fault.DirectiveKind.TheVariants.{NoModule}
 use Rattle.gm_file.specs.Directives.{Lax, Strict, directive_of, item_at}
 use Rattle.gm_file.specs.Faults.{directive_kinds, fault_of, faults}
 use Rattle.gm_file.specs.Fields.{dependency_of}
-use Rattle.gm_graph.specs.Main.{main_of}
-use Rattle.gm_graph.specs.declared.cache.class.Misreading.TheVariants as misreading
-use Rattle.gomod_run.specs.Outcomes.{IsMalformedMain}
+use Rattle.gm_file.specs.Main.{main_of}
+use Rattle.gm_file.specs.declared.misreading.Misreading.TheVariants as misreading
+use Rattle.gm_file.specs.Misreading.{IsMisread}
 use Rattle.gomod_run.proofs.ListLines.{lacks}
 use Rattle.gomod_laws.specs.ExampleRuns.{FilesAreRead, alone, main_requiring, requiring}
 use Rattle.gomod_laws.specs.ExampleWorld.{saying, top_one}
@@ -176,5 +176,5 @@ empty_has_none : fault_of Strict [] ≡ Some (0, NoModule)
 unfolding fault_of faults
 empty_has_none = refl
 
-pub empty_is_malformed : IsMalformedMain [] (0, misreading.Directive NoModule)
+pub empty_is_malformed : IsMisread Strict [] 0 (misreading.Directive NoModule)
 empty_is_malformed = ([], empty_parsed, empty_has_none)

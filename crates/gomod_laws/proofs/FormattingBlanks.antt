@@ -5,20 +5,20 @@ use Rattle.std.specs.List.{AllByRecursion, cons_option, filter_map, list_any}
 use Rattle.std.specs.Prelude.{Some, option_and_then, unwrap_or}
 use Rattle.gm_syntax.specs.Words.{Word}
 use Rattle.gm_syntax.specs.Document.{Line, Blank, Comment, Open, Close, Entry}
-use Rattle.gm_syntax.specs.Layout.{filled}
+use Rattle.gm_syntax.specs.Layout.{filled_lines}
 use Rattle.gm_file.specs.Directives.{Strict, Directive, directives, item_at, said, with_blocks_from}
 use Rattle.gm_file.specs.Faults.{fault_of, go_in, is_module}
 use Rattle.gm_file.specs.Fields.{as_exclusion, as_go, as_module, as_replacing, as_requirement, first}
 use Rattle.gm_file.specs.Pairwise.{IsRightAlone}
 use Rattle.gm_file.proofs.Pairwise.{AreApart, apart-faultless, faultless-apart}
-use Rattle.gm_graph.specs.Main.{Main}
+use Rattle.gm_file.specs.Main.{Main}
 
 -- each line has no fault by itself
 abbrev AreAlone : Option Word → List (Line Word) → Type 0
 AreAlone block lines = AllByRecursion IsRightAlone (with_blocks_from block lines)
 
-alone_filled : (block : Option Word) (lines : List (Line Word)) → AreAlone block lines → AreAlone block (filled lines)
-unfolding filled item_at
+alone_filled : (block : Option Word) (lines : List (Line Word)) → AreAlone block lines → AreAlone block (filled_lines lines)
+unfolding filled_lines item_at
 alone_filled block [] are = tt
 alone_filled block (Blank ∷ lines) are = alone_filled block lines are.1
 alone_filled block (Comment text ∷ lines) are = (are.0, alone_filled block lines are.1)
@@ -26,8 +26,8 @@ alone_filled block (Open verb suffix ∷ lines) are = (are.0, alone_filled (Some
 alone_filled block (Close suffix ∷ lines) are = (are.0, alone_filled None lines are.1)
 alone_filled block (Entry words suffix ∷ lines) are = (are.0, alone_filled block lines are.1)
 
-filled_alone : (block : Option Word) (lines : List (Line Word)) → AreAlone block (filled lines) → AreAlone block lines
-unfolding filled item_at
+filled_alone : (block : Option Word) (lines : List (Line Word)) → AreAlone block (filled_lines lines) → AreAlone block lines
+unfolding filled_lines item_at
 filled_alone block [] are = tt
 filled_alone block (Blank ∷ lines) are = (refl, filled_alone block lines are)
 filled_alone block (Comment text ∷ lines) are = (are.0, filled_alone block lines are.1)
@@ -35,8 +35,8 @@ filled_alone block (Open verb suffix ∷ lines) are = (are.0, filled_alone (Some
 filled_alone block (Close suffix ∷ lines) are = (are.0, filled_alone None lines are.1)
 filled_alone block (Entry words suffix ∷ lines) are = (are.0, filled_alone block lines are.1)
 
-said_filled : (block : Option Word) (lines : List (Line Word)) → filter_map (said Strict) (with_blocks_from block (filled lines)) ≡ filter_map (said Strict) (with_blocks_from block lines)
-unfolding filled item_at
+said_filled : (block : Option Word) (lines : List (Line Word)) → filter_map (said Strict) (with_blocks_from block (filled_lines lines)) ≡ filter_map (said Strict) (with_blocks_from block lines)
+unfolding filled_lines item_at
 said_filled block [] = refl
 said_filled block (Blank ∷ lines) = said_filled block lines
 said_filled block (Comment text ∷ lines) = said_filled block lines
@@ -56,7 +56,7 @@ main_said ds = record {
 
 -- ---- lines that are the same but for blank ones
 
-module _ (lines again : List (Line Word)) (same : filled again ≡ filled lines) where
+module _ (lines again : List (Line Word)) (same : filled_lines again ≡ filled_lines lines) where
   pub same_said : directives Strict again ≡ directives Strict lines
   same_said = sym (said_filled None again) ∙ ap (λ (ls : List (Line Word)). filter_map (said Strict) (with_blocks_from None ls)) same ∙ said_filled None lines
 

@@ -27,8 +27,7 @@ use Rattle.gm_file.specs.Directives.{Directive, VersionInterval, Left, Right, Fo
 use Rattle.gm_file.specs.Faults.{is_go, is_module}
 use Rattle.gm_file.specs.Values.{is_folder_path}
 use Rattle.gm_file_edit.specs.About.{about, is_replaced_by, requires_path}
-use Rattle.gm_file_edit.specs.Verbs.{is_exclude, is_replace, is_require, is_retract}
-use Rattle.gm_file_edit.specs.Edited.{added, after_closing, after_first_of, after_first_that, after_last_of, changed, edited, put_in}
+use Rattle.gm_file_edit.specs.Edited.{added, after_closing, after_first_of, after_first_that, after_last_of, changed, edited, has_verb, put_in}
 use Rattle.gm_file_edit.specs.Edits.{Edit, Set, ModuleIs, GoIs, RequireAt, Drop, Add, Exclude, ReplaceWith, Retract, edit_in, go_text_in, has_byte, left_in, module_of_pair, named, named_in, pair_in, replacing_in, right_in, sides_in, split_at_byte}
 use Rattle.gm_file_edit.specs.Fates.{Fate, dropped, dropping_from, fate_by, is_emptied, kept, remaining, renewed, renewing_from, widened_from}
 use Rattle.gm_file_edit.specs.Holding.{directive_at, passes}
@@ -376,12 +375,12 @@ after_last_good test verb arguments block (line ∷ lines) utf8 good are =
     by_test true rest = (are.0, (entry_good (is_some block) verb arguments utf8 good, are.1))
     by_test false rest = (are.0, rest)
 
-added_good : (test : Directive → Bool) (verb : List ℕ) (arguments : List Placed) (lines : List (Line Placed)) → IsUtf8 verb → AreGoodWords arguments → AreGood lines → AreGood (added test verb arguments lines)
+added_good : (verb : List ℕ) (arguments : List Placed) (lines : List (Line Placed)) → IsUtf8 verb → AreGoodWords arguments → AreGood lines → AreGood (added verb arguments lines)
 unfolding added
-added_good test verb arguments lines utf8 good are = by_test (is_there test lines)
+added_good verb arguments lines utf8 good are = by_test (is_there (has_verb verb) lines)
   where
-    by_test : (there : Bool) → AreGood (if there then after_last_of test verb arguments None lines else lines ++ Blank ∷ single verb arguments ∷ [])
-    by_test true = after_last_good test verb arguments None lines utf8 good are
+    by_test : (there : Bool) → AreGood (if there then after_last_of (has_verb verb) verb arguments None lines else lines ++ Blank ∷ single verb arguments ∷ [])
+    by_test true = after_last_good (has_verb verb) verb arguments None lines utf8 good are
     by_test false = all_append IsGood lines (Blank ∷ single verb arguments ∷ []) are (tt, (single_good verb arguments utf8 good, tt))
 
 closing_good : (new lines : List (Line Placed)) → AreGood new → AreGood lines → AreGood (after_closing new lines)
@@ -424,11 +423,11 @@ unfolding put_in
 put_in_good (Set (ModuleIs path)) lines sound utf8 are = are
 put_in_good (Set (GoIs text)) lines sound utf8 are =
     after_first_good is_module (Blank ∷ single (codes "go") (made_word text ∷ []) ∷ []) lines (tt, (single_good (codes "go") (made_word text ∷ []) (verb_utf8 (codes "go") refl) (new_utf8 text utf8, tt), tt)) are
-put_in_good (Set (RequireAt p)) lines sound utf8 are = added_good is_require (codes "require") (pair_words p) lines (verb_utf8 (codes "require") refl) (pair_good p sound) are
+put_in_good (Set (RequireAt p)) lines sound utf8 are = added_good (codes "require") (pair_words p) lines (verb_utf8 (codes "require") refl) (pair_good p sound) are
 put_in_good (Drop t) lines sound utf8 are = are
-put_in_good (Add (Exclude p)) lines sound utf8 are = added_good is_exclude (codes "exclude") (pair_words p) lines (verb_utf8 (codes "exclude") refl) (pair_good p sound) are
-put_in_good (Set (ReplaceWith r)) lines sound utf8 are = added_good is_replace (codes "replace") (replace_words r) lines (verb_utf8 (codes "replace") refl) (replace_good r sound.0 sound.1 utf8) are
-put_in_good (Add (Retract ends)) lines sound utf8 are = added_good is_retract (codes "retract") (interval_words ends) lines (verb_utf8 (codes "retract") refl) (interval_good ends sound) are
+put_in_good (Add (Exclude p)) lines sound utf8 are = added_good (codes "exclude") (pair_words p) lines (verb_utf8 (codes "exclude") refl) (pair_good p sound) are
+put_in_good (Set (ReplaceWith r)) lines sound utf8 are = added_good (codes "replace") (replace_words r) lines (verb_utf8 (codes "replace") refl) (replace_good r sound.0 sound.1 utf8) are
+put_in_good (Add (Retract ends)) lines sound utf8 are = added_good (codes "retract") (interval_words ends) lines (verb_utf8 (codes "retract") refl) (interval_good ends sound) are
 
 pass_good : (text : List ℕ) (edit : Edit) (lines : List (Line Placed)) → IsUtf8 text → edit_in text ≡ Some edit → IsSoundEdit edit → AreGood lines → AreGood (edited edit lines)
 unfolding edited

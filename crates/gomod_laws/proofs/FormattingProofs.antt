@@ -20,8 +20,8 @@ use Rattle.gm_file_edit.specs.Kinds.{is_fit}
 use Rattle.gm_file_edit.specs.Edits.{Edit as Change, edit_in}
 use Rattle.gm_file_edit.proofs.EditedSound.{edited-document}
 use Rattle.gm_file_edit.proofs.Written.{written-sound}
-use Rattle.gm_graph.specs.Main.{Main}
-use Rattle.gomod_run.specs.Outcomes.{IsMainFile, IsMainOf, longest}
+use Rattle.gm_file.specs.Main.{Main, IsMainFile, IsMainOf}
+use Rattle.gomod_run.specs.Outcomes.{longest}
 use Rattle.gomod_run.specs.Outcome.{Outcome, printed, refused}
 use Rattle.gomod_run.specs.Reports.{main_line}
 use Rattle.gomod_run.proofs.OneRead.{same_lines}

@@ -2,7 +2,7 @@
 use Rattle.std.proofs.Common.{◌≡◌, ◌≤◌, ℕ, List, [], ◌∷◌, length, map, Ok, IsUtf8, refl, sym, ap, subst, ◌∙◌}
 use Rattle.std.specs.List.{AllByRecursion}
 use Rattle.gm_syntax.specs.Document.{Line, Blank, Comment, Open, Close, Entry, AreLines, ReadsLines, Whole, after, map_line, start}
-use Rattle.gm_syntax.specs.Layout.{filled, initial_state, layout, layout_lines}
+use Rattle.gm_syntax.specs.Layout.{filled_lines, initial_state, layout, layout_lines}
 use Rattle.gm_syntax.specs.LineViews.{plain, plain_lines}
 use Rattle.gm_syntax.specs.Lines.{HasNoLineFeed, lines_of}
 use Rattle.gm_syntax.specs.Parsed.{IsParsedAs}
@@ -53,7 +53,7 @@ plain_placeless (line ∷ lines) =
 pub record IsLayoutRead (lines : List (Line Word)) : Type 0 where
   pub doc : List (Line Placed)
   pub parsed : IsParsedAs (layout lines) (Ok doc)
-  pub same_filled : filled (plain_lines doc) ≡ filled lines
+  pub same_filled : filled_lines (plain_lines doc) ≡ filled_lines lines
   pub same_layout : layout (plain_lines doc) ≡ layout lines
 
 pub layout_read : (lines : List (Line Word)) → AreLines start lines → AllByRecursion IsUtf8Line lines → length (layout lines) ≤ 16777216 → IsLayoutRead lines
@@ -67,7 +67,7 @@ layout_read lines document utf8 short =
     record {
       doc = doc;
       parsed = reading_parsed (layout lines) (Ok doc) ((short, text), reading_of (layout lines) (plain_lines doc) Whole reads);
-      same_filled = ap filled back ∙ stable.same_lines;
+      same_filled = ap filled_lines back ∙ stable.same_lines;
       same_layout = ap layout back ∙ stable.same_bytes;
     }
 

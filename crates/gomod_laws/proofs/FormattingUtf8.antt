@@ -11,9 +11,9 @@ use Rattle.gm_syntax.specs.declared.word.Kind.TheVariants.{Bare, Text, Mark}
 use Rattle.gm_syntax.specs.Bytes.{is_blank, is_bracket_or_comma}
 use Rattle.gm_syntax.specs.Document.{Line, Blank, Comment, Open, Close, Entry, ReadsLines, Whole, after, inside_after, start}
 use Rattle.gm_syntax.specs.Documents.{with_line_feed}
-use Rattle.gm_syntax.specs.Layout.{between, filled, indent, layout, line_text, lines_text, suffix_text, words_text}
+use Rattle.gm_syntax.specs.Layout.{between, filled_lines, indent, layout, line_text, lines_text, suffix_text, words_text}
 use Rattle.gm_syntax.specs.Lines.{lines_of}
-use Rattle.gm_syntax.specs.Spelling.{Ends, MayFollow, Reads, ending_of, touching}
+use Rattle.gm_syntax.specs.Spelling.{Ends, MayFollow, Reads, ending_of, touching_word}
 use Rattle.gm_syntax.specs.Words.{AllBlank, HasShape, IsMark, IsShaped, Word}
 use Rattle.gm_syntax.proofs.LaidOut.{is_layout}
 use Rattle.gm_syntax.proofs.Stable.{FromWords, from_words}
@@ -124,7 +124,7 @@ mark_begins text rest (inr is) = let low : 61 < 128 = omega arith in subst (λ (
 after_bare : (w : Word) (rest : List ℕ) (words : List Word) (comment : Option (List ℕ)) → w.kind ≡ Bare → Reads (Some w) rest words (ending_of comment) → BeginsAscii rest
 after_bare w rest [] comment bare r = by_blanks r.blanks r.rest comment r.parts r.are_blank r.ends
   where
-    by_blanks : (blanks last : List ℕ) (comment : Option (List ℕ)) → rest ≡ blanks ++ last → AllBlank blanks → Ends (touching (Some w) blanks) (ending_of comment) last → BeginsAscii rest
+    by_blanks : (blanks last : List ℕ) (comment : Option (List ℕ)) → rest ≡ blanks ++ last → AllBlank blanks → Ends (touching_word (Some w) blanks) (ending_of comment) last → BeginsAscii rest
     by_blanks (b ∷ blanks) last comment parts are ends = subst BeginsAscii (sym parts) (blank_ascii b are.0)
     by_blanks [] last None parts are ends = subst BeginsAscii (sym (parts ∙ ends)) tt
     by_blanks [] last (Some text) parts are ends =
@@ -132,7 +132,7 @@ after_bare w rest [] comment bare r = by_blanks r.blanks r.rest comment r.parts 
         subst BeginsAscii (sym (parts ∙ ends.4 ∙ ap (λ (t : List ℕ). t ++ ends.2) ends.1.slashes.1)) low
 after_bare w rest (v ∷ words) comment bare (more, r, others) = by_blanks r.blanks r.parts r.are_blank r.may_follow
   where
-    by_blanks : (blanks : List ℕ) → rest ≡ blanks ++ (v.spelling ++ more) → AllBlank blanks → MayFollow (touching (Some w) blanks) v → BeginsAscii rest
+    by_blanks : (blanks : List ℕ) → rest ≡ blanks ++ (v.spelling ++ more) → AllBlank blanks → MayFollow (touching_word (Some w) blanks) v → BeginsAscii rest
     by_blanks (b ∷ blanks) parts are follows = subst BeginsAscii (sym parts) (blank_ascii b are.0)
     by_blanks [] parts are follows = subst BeginsAscii (sym parts) (mark_begins v.spelling more (mark_of v (follows bare).0 r.shape))
 
@@ -273,8 +273,8 @@ line_utf8 inside (Entry words suffix) is =
     (suffix_utf8 suffix is.comment_is)
 
 -- the lines but the blank ones
-filled_utf8 : (lines : List (Line Word)) → AllByRecursion IsUtf8Line lines → AllByRecursion IsUtf8Line (filled lines)
-unfolding filled
+filled_utf8 : (lines : List (Line Word)) → AllByRecursion IsUtf8Line lines → AllByRecursion IsUtf8Line (filled_lines lines)
+unfolding filled_lines
 filled_utf8 [] are = tt
 filled_utf8 (Blank ∷ lines) are = filled_utf8 lines are.1
 filled_utf8 (Comment text ∷ lines) are = (are.0, filled_utf8 lines are.1)
@@ -282,8 +282,8 @@ filled_utf8 (Open verb suffix ∷ lines) are = (are.0, filled_utf8 lines are.1)
 filled_utf8 (Close suffix ∷ lines) are = (are.0, filled_utf8 lines are.1)
 filled_utf8 (Entry words suffix ∷ lines) are = (are.0, filled_utf8 lines are.1)
 
-utf8_filled : (lines : List (Line Word)) → AllByRecursion IsUtf8Line (filled lines) → AllByRecursion IsUtf8Line lines
-unfolding filled
+utf8_filled : (lines : List (Line Word)) → AllByRecursion IsUtf8Line (filled_lines lines) → AllByRecursion IsUtf8Line lines
+unfolding filled_lines
 utf8_filled [] are = tt
 utf8_filled (Blank ∷ lines) are = (tt, utf8_filled lines are)
 utf8_filled (Comment text ∷ lines) are = (are.0, utf8_filled lines are.1)
@@ -300,5 +300,5 @@ text_utf8 inside (line ∷ lines) are =
 pub layout_utf8 : (lines : List (Line Word)) → AllByRecursion IsUtf8Line lines → IsUtf8 (layout lines)
 layout_utf8 lines are =
     let is = is_layout lines in
-    let kept : AllByRecursion IsUtf8Line (filled is.laid) = subst (AllByRecursion IsUtf8Line) (sym is.are_laid.kept) (filled_utf8 lines are) in
+    let kept : AllByRecursion IsUtf8Line (filled_lines is.laid) = subst (AllByRecursion IsUtf8Line) (sym is.are_laid.kept) (filled_utf8 lines are) in
     subst IsUtf8 (sym is.is_text) (text_utf8 false is.laid (utf8_filled is.laid kept))

@@ -15,7 +15,7 @@ use Rattle.gm_file.specs.Faults.{fault_of, go_in, is_same_left, is_same_right, i
 use Rattle.gm_file.specs.Pairwise.{do_clash}
 use Rattle.gm_file.proofs.Pairwise.{AreApart, clash-mutual, faultless-apart}
 use Rattle.gm_file.specs.Fields.{as_exclusion, as_go, as_module, as_replacing, as_requirement, first, right_for}
-use Rattle.gm_graph.specs.Main.{is_excluded, is_pruned_by, main_of}
+use Rattle.gm_file.specs.Main.{is_excluded, is_pruned_by, main_of}
 use Rattle.gm_graph_select.proofs.Ascending.{member_cases, member_head, member_tail, no_member}
 use Rattle.gomod_laws.specs.LineOrderLaws.{HoldTheSame, LinesInAnyOrder}
 use Rattle.gomod_laws.proofs.FormattingBlanks.{main_said}

@@ -5,7 +5,7 @@ use mathlib.Core.Path.{fun_ext}
 use Rattle.gm_file.specs.Directives.{Right}
 use Rattle.gm_store.specs.Asked.{names_in}
 use Rattle.gm_store_sums.specs.Sums.{Sums}
-use Rattle.gm_graph.specs.Main.{Main}
+use Rattle.gm_file.specs.Main.{Main, IsMainFile}
 use Rattle.gm_graph.specs.Reading.{Held, Readings, readings_by}
 use Rattle.gm_graph_select.specs.declared.step.Step.TheVariants.{Of}
 use Rattle.gm_graph_select.specs.BuildList.{Entry, entry_of, main_entry}
@@ -14,7 +14,7 @@ use Rattle.gm_graph.specs.declared.fault.Fault.{Fault}
 use Rattle.gm_graph.specs.Graph.{IsEdge, IsOpened}
 use Rattle.gm_graph.specs.Loading.{AreAsked, AreFew, AreTooMany, IsNeeded}
 use Rattle.gm_graph.specs.Outcome.{AreFaults, AreRows}
-use Rattle.gomod_run.specs.Outcomes.{AreKnown, Answers, IsMainFile, IsOutcome, IsOutcomeOver, IsStopped, Prints, PrintsChain, PrintsGraph, PrintsList, device, faulty, given, too_many}
+use Rattle.gomod_run.specs.Outcomes.{AreKnown, Answers, IsOutcome, IsOutcomeOver, IsStopped, Prints, PrintsChain, PrintsGraph, PrintsList, device, faulty, given, too_many}
 use Rattle.gomod_run.specs.Outcome.{Outcome}
 use Rattle.gomod_run.proofs.OneRead.{misread_or_main, one_main}
 use Rattle.gomod_words.specs.declared.usage.Command.{Command}

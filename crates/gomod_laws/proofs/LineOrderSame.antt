@@ -10,7 +10,7 @@ use Rattle.gm_file.specs.Fields.{Dependency}
 use Rattle.gm_store.specs.Asked.{Name, Reply, answer_in}
 use Rattle.gm_graph.specs.declared.cache.class.Class.{Class}
 use Rattle.gm_graph.specs.declared.cache.class.Class.TheVariants.{NotFetchable}
-use Rattle.gm_graph.specs.Main.{Main, is_excluded, is_pruned_by, replacement_in, without_excluded}
+use Rattle.gm_file.specs.Main.{Main, is_excluded, is_pruned_by, replacement_in, without_excluded}
 use Rattle.gm_graph.specs.Reading.{Held, Readings, file_named, file_of, is_askable, readings_by, requirements_in, said_in, vertex_requirements, with_right_path}
 use Rattle.gm_graph.proofs.ReadingIf.{reading_if}
 use Rattle.gm_graph_select.specs.declared.step.Edge.{Edge}

@@ -1,7 +1,7 @@
 -- Runs of queries, and those that print.
 use Rattle.std.proofs.Common.{◌≡◌, ℕ, List, [], Option, subst, true}
 use Rattle.gm_store.specs.Asked.{Name, Reply}
-use Rattle.gm_graph.specs.Main.{Main}
+use Rattle.gm_file.specs.Main.{Main}
 use Rattle.gm_graph.specs.Reading.{Held}
 use Rattle.gomod_run.specs.ListingLaws.{AllFilesAreValid}
 use Rattle.gomod_run.specs.Outcomes.{answers, given}

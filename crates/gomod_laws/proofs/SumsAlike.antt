@@ -8,11 +8,11 @@ use Rattle.gm_store_sums.specs.Sums.{HasValidLines, IsSum, ReadsAs, Says, Sums, 
 use Rattle.gm_store_sums.specs.declared.sum_table.Sum.{Sum}
 use Rattle.gm_store_sums.specs.declared.sum_table.Sum.TheVariants.{Differs, Good, Unlisted}
 use Rattle.gm_graph.specs.declared.cache.class.Class.{Class}
-use Rattle.gm_graph.specs.Main.{Main}
+use Rattle.gm_file.specs.Main.{Main, IsMainFile}
 use Rattle.gm_graph.specs.Reading.{Held, IsReadUnless, IsTold, Tells, class_of_sum, file_of, is_askable, readings_by, sum_fault}
 use Rattle.gm_graph.specs.Loading.{AreTooMany, IsNeeded}
 use Rattle.gomod_run.specs.ListingLaws.{AnswerAlike}
-use Rattle.gomod_run.specs.Outcomes.{AreKnown, AreSums, IsMainFile, IsOutcome, IsOutcomeOver, Prints as PrintsOver, PrintsChain, PrintsGraph, PrintsList, answers, device, faulty, given, longest, too_many}
+use Rattle.gomod_run.specs.Outcomes.{AreKnown, AreSums, IsOutcome, IsOutcomeOver, Prints as PrintsOver, PrintsChain, PrintsGraph, PrintsList, answers, device, faulty, given, longest, too_many}
 use Rattle.gomod_run.specs.Needs.{GraphNeeds}
 use Rattle.gomod_run.specs.Outcome.{Outcome, refused}
 use Rattle.gomod_run.specs.Reports.{too_many_line}

@@ -10,7 +10,7 @@ use Rattle.gm_store_sums.specs.Sums.{ReadsAs, Says, Sums, check_in}
 use Rattle.gm_store_sums.specs.declared.sum_table.Sum.{Sum}
 use Rattle.gm_store_sums.specs.declared.sum_table.Sum.TheVariants.{Differs, Good, Unlisted}
 use Rattle.gm_graph.specs.declared.cache.class.Class.{Class}
-use Rattle.gm_graph.specs.Main.{Main}
+use Rattle.gm_file.specs.Main.{Main}
 use Rattle.gm_graph.specs.Reading.{Held, IsContentReading, IsFileReading, IsReadUnless, IsTold, Readings, Tells, class_of_sum, fault_in, file_of, is_askable, is_unpruned_in, readings_by, requirements_in, said_in, sum_fault, vertex_fault}
 use Rattle.gm_graph.proofs.ReadingIf.{reading_if}
 use Rattle.gm_graph_select.proofs.Ascending.{member_head, member_tail, no_member}

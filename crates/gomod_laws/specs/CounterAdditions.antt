@@ -1,6 +1,6 @@
 -- What the laws of two runs of queries conclude is false of pairs of outputs that contradict them.
 use Rattle.std.specs.Prelude.{List, None, codes, map}
-use Rattle.gm_graph.specs.Main.{Main}
+use Rattle.gm_file.specs.Main.{Main}
 use Rattle.gm_graph_select.specs.declared.step.Edge.{Edge}
 use Rattle.gm_graph_select.specs.BuildList.{Entry}
 use Rattle.gomod_run.specs.Outcomes.{Given}

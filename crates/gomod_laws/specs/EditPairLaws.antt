@@ -12,7 +12,8 @@ use Rattle.gm_file_edit.specs.Laws.{directives_of}
 use Rattle.gm_file_edit.specs.Undone.{undone_by}
 use Rattle.gm_store.specs.Asked.{Name, Reply}
 use Rattle.gomod_run.specs.ListingLaws.{AnswerAlike}
-use Rattle.gomod_run.specs.Outcomes.{IsMainOf, longest}
+use Rattle.gomod_run.specs.Outcomes.{longest}
+use Rattle.gm_file.specs.Main.{IsMainOf}
 use Rattle.gomod_run.specs.Outcome.{Outcome, printed}
 use Rattle.gomod_words.specs.Usage.{texts_in}
 use Rattle.gomod_words.specs.declared.usage.Command.{Command}

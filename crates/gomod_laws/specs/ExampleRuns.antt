@@ -2,9 +2,9 @@
 use Rattle.std.specs.Prelude.{◌≡◌, ℕ, List, [], ◌∷◌, Some, None, Ok, codes}
 use Rattle.gm_name.specs.ModuleVersion.{ModuleVersion}
 use Rattle.gm_store.specs.Asked.{Name, Reply, mod_file, absent, bytes}
-use Rattle.gm_graph.specs.Main.{Main}
+use Rattle.gm_file.specs.Main.{Main, IsMainFile}
 use Rattle.gm_graph.specs.Reading.{IsFileReading}
-use Rattle.gomod_run.specs.Outcomes.{Answers, Given, IsListOutcome, IsMainFile, IsOutcomeOver, PrintsList, answers, given}
+use Rattle.gomod_run.specs.Outcomes.{Answers, Given, IsListOutcome, IsOutcomeOver, PrintsList, answers, given}
 use Rattle.gomod_run.specs.Outcome.{Outcome, failed, printed, refused}
 use Rattle.gomod_laws.specs.ExampleWorld.{saying, top_one}
 

@@ -7,7 +7,7 @@ use Rattle.gm_file.specs.Fields.{Dependency}
 use Rattle.gm_store.specs.Asked.{Name, Reply, mod_file, folder_file, absent, too_long, same_name}
 use Rattle.gm_store_sums.specs.declared.sum_table.Sum.TheVariants.{Good, Unlisted, Differs}
 use Rattle.gm_store_sums.specs.Sums.{Sums}
-use Rattle.gm_graph.specs.Main.{Main, is_pruned_by, replacement_in}
+use Rattle.gm_file.specs.Main.{Main, is_pruned_by, replacement_in}
 use Rattle.gm_graph.specs.Reading.{Held, IsFileReading, Readings, Tells, class_of_sum, file_of, is_askable, is_right_path, is_unpruned, readings_by, vertex_fault, vertex_requirements}
 use Rattle.gm_graph.specs.declared.cache.class.Class.{Class}
 use Rattle.gm_graph.specs.declared.cache.class.Class.TheVariants.{Missing, NoSum, NotFetchable, SumDiffers, TooLong, WrongPath}

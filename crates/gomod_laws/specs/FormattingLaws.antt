@@ -1,9 +1,9 @@
 -- What formatting a file leaves as it is.
 use Rattle.std.specs.Prelude.{◌≡◌, ◌≤◌, ℕ, List, [], Option, None, length, true}
 use Rattle.gm_store.specs.Asked.{Name, Reply}
-use Rattle.gm_graph.specs.Main.{Main}
+use Rattle.gm_file.specs.Main.{Main, IsMainFile}
 use Rattle.gomod_run.specs.ListingLaws.{AnswerAlike}
-use Rattle.gomod_run.specs.Outcomes.{IsMainFile, longest}
+use Rattle.gomod_run.specs.Outcomes.{longest}
 use Rattle.gomod_run.specs.Outcome.{Outcome, printed}
 use Rattle.gomod_words.specs.declared.usage.Command.{Command}
 use Rattle.gomod_words.specs.declared.usage.Command.TheVariants.{Fmt}

@@ -2,7 +2,7 @@
 use Rattle.std.specs.Prelude.{◌≡◌, ◌++◌, ℕ, List, [], ◌∷◌, map, Option, Contains, codes}
 use Rattle.std.specs.List.{flat_map}
 use Rattle.gm_store.specs.Asked.{Name, Reply}
-use Rattle.gm_graph.specs.Main.{Main}
+use Rattle.gm_file.specs.Main.{Main}
 use Rattle.gm_graph_select.specs.declared.step.Edge.{Edge}
 use Rattle.gm_graph_select.specs.BuildList.{Entry, HasEntryFor, path_of}
 use Rattle.gomod_run.specs.ListingLaws.{AnswerAlike}

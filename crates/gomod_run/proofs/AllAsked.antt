@@ -7,11 +7,11 @@ use Rattle.gm_store.specs.Asked.{Name, Reply, absent, answer_in, bytes, too_long
 use Rattle.gm_store_sums.specs.Sums.{Sums}
 use Rattle.gm_graph.proofs.OneReading.{one_reading}
 use Rattle.gm_graph.specs.declared.cache.class.Class.{Class}
-use Rattle.gm_graph.specs.Main.{Main}
+use Rattle.gm_file.specs.Main.{Main, IsMainFile}
 use Rattle.gm_graph.specs.Reading.{Held, IsFileReading, IsReadUnless, IsTold, Tells, is_askable, readings_by}
 use Rattle.gm_graph.specs.Graph.{IsOpened}
 use Rattle.gm_graph.specs.Loading.{IsAnswered, IsNeeded}
-use Rattle.gomod_run.specs.Outcomes.{AreSums, IsMainFile, IsOutcome, Prints, PrintsChain, PrintsGraph, PrintsList, answers, device, faulty, given, too_many}
+use Rattle.gomod_run.specs.Outcomes.{AreSums, IsOutcome, Prints, PrintsChain, PrintsGraph, PrintsList, answers, device, faulty, given, too_many}
 use Rattle.gomod_run.specs.Needs.{AnsweredAll, AnswersByName, GraphNeeds}
 use Rattle.gomod_run.specs.Outcome.{OrNoMemory, Outcome}
 use Rattle.gomod_run.proofs.OneRead.{FindSame, one_finding, one_main}

@@ -11,9 +11,9 @@ use Rattle.gm_syntax.specs.declared.fault.SyntaxKind.TheVariants as syntax
 use Rattle.gm_file.specs.declared.fault.DirectiveKind.TheVariants as directive
 use Rattle.gm_graph.specs.declared.cache.class.Class.{Class}
 use Rattle.gm_graph.specs.declared.cache.class.Class.TheVariants.{NotFetchable, Missing, TooLong, NoSum, SumDiffers, Malformed, WrongPath}
-use Rattle.gm_graph.specs.declared.cache.class.Misreading.{Misreading}
-use Rattle.gm_graph.specs.declared.cache.class.Misreading.TheVariants as misreading
-use Rattle.gm_graph.specs.ClassWords.{misreading_word}
+use Rattle.gm_file.specs.declared.misreading.Misreading.{Misreading}
+use Rattle.gm_file.specs.declared.misreading.Misreading.TheVariants as misreading
+use Rattle.gm_file.specs.Misreading.{misreading_word}
 use Rattle.gomod_run.specs.PrintedLines.{IsProperClass}
 use Rattle.gomod_run.specs.Reports.{class_text, malformed_text}
 use Rattle.gomod_run.proofs.ListLines.{Lacks, both_lack, cut_at, has_it, lacks}

@@ -7,7 +7,10 @@ use Rattle.gm_store.specs.Asked.{Name, Reply, name_of}
 use Rattle.gm_store.specs.States.{StoreState}
 use Rattle.gm_store.specs.declared.files.FileName.{FileName}
 use Rattle.gm_store_sums.specs.Sums.{Sums}
-use Rattle.gm_graph.specs.Main.{Main, main_of}
+use Rattle.gm_file.specs.declared.misreading.BytesFault.{BytesFault}
+use Rattle.gm_file.specs.Directives.{Strict}
+use Rattle.gm_file.specs.Main.{Main, main_of, IsMainFile, IsMainOf}
+use Rattle.gm_file.specs.Misreading.{IsBytesFault}
 use Rattle.gm_graph.specs.Reading.{Held, Readings, Tells, readings_by}
 use Rattle.gm_graph.specs.Refusals.{refused_in, refused_names}
 use Rattle.gm_graph.specs.declared.cache.load_fault.LoadFault.{LoadFault}
@@ -20,16 +23,16 @@ use Rattle.gm_graph.specs.Graph.{IsEdge}
 use Rattle.gm_graph.specs.Loading.{AreTooMany, IsDue, Told}
 use Rattle.gm_graph.specs.Outcome.{AreFaults, IsLoaded, LoadedGraph as Loaded}
 use Rattle.gomod_run.specs.declared.reports.report.Report.{Report}
-use Rattle.gomod_run.specs.FromFaults.{report_by_load}
+use Rattle.gomod_run.specs.FromFaults.{report_by_bytes, report_by_load}
 use Rattle.gomod_run.specs.Outcome.{OrNoMemory, Outcome, failed, printed, refused, report_outcome}
 use Rattle.gomod_run.specs.Reports.{device_line}
 use Rattle.gomod_run.specs.declared.listing.answering.Read.{Read}
 use Rattle.gomod_run.specs.declared.listing.query.Query.{Query}
 use Rattle.gomod_run.specs.declared.listing.query.Query.TheVariants.{Graph, List as Rows, Chain}
 use Rattle.gomod_run.specs.ListingTexts.{limited, list_text}
-use Rattle.gomod_run.specs.Outcomes.{AreKnown, AreInvalidSums, AreSums, FilesReadAs, IsAnswerOver, IsMainFile, IsMainOf, IsOutcomeOver, IsRefusedRead, PrintsFor, PrintsRows, answers, device, faulty, too_many}
+use Rattle.gomod_run.specs.Outcomes.{AreKnown, AreInvalidSums, AreSums, FilesReadAs, IsAnswerOver, IsOutcomeOver, IsRefusedRead, PrintsFor, PrintsRows, answers, device, faulty, too_many}
 use Rattle.gomod_run.specs.Found.{IsOutcomeOfFound, PrintsFound, ReportsFaultsOr}
-use Rattle.gomod_run.proofs.MainMisreading.{IsMalformed}
+use Rattle.gomod_run.proofs.MainMisreading.{IsMalformed, main_refused}
 
 -- ---- what is printed
 
@@ -74,19 +77,12 @@ by_faults query main table old new loaded (first ∷ others) outcome (held, tell
 
 -- ---- what was read
 
-abbrev pub IsMainRead : List ℕ → Result (List (Line Placed)) Report → Type 0
-IsMainRead file r = MatchResult r (λ lines. IsMainOf file lines) (λ told. OrNoMemory (IsMalformed file) (report_outcome told))
-
-pub main_ok : (file : List ℕ) (r : Result (List (Line Placed)) Report) (lines : List (Line Placed)) → r ≡ Ok lines → IsMainRead file r → IsMainFile file (main_of lines)
-main_ok file r lines is match = (lines, subst (IsMainRead file) is match, refl)
-
 -- a main module's file that was not read refuses both
-pub main_told : (file : List ℕ) (sums : Option (List ℕ)) (r : Result (List (Line Placed)) Report) (told : Report) → r ≡ Err told → IsMainRead file r
-    → OrNoMemory (IsRefusedRead file sums) (report_outcome told)
-main_told file sums r told stops match = refused_main (subst (IsMainRead file) stops match)
+pub main_told : (file : List ℕ) (sums : Option (List ℕ)) (fault : BytesFault) → IsBytesFault Strict file fault → OrNoMemory (IsRefusedRead file sums) (report_outcome (report_by_bytes fault))
+main_told file sums fault is = refused_main (main_refused file fault is)
   where
-    refused_main : OrNoMemory (IsMalformed file) (report_outcome told) → OrNoMemory (IsRefusedRead file sums) (report_outcome told)
-    refused_main (inl is) = inl (inl is)
+    refused_main : OrNoMemory (IsMalformed file) (report_outcome (report_by_bytes fault)) → OrNoMemory (IsRefusedRead file sums) (report_outcome (report_by_bytes fault))
+    refused_main (inl malformed) = inl (inl malformed)
     refused_main (inr none) = inr none
 
 -- the go.sum is reported
@@ -108,9 +104,9 @@ sums_told file sums main r told is stops match = refused_sums (subst (AreSumsRea
     refused_sums (inl (report, misread, says)) = inl (inr (main, report, is, misread, says))
     refused_sums (inr none) = inr none
 
-pub both_read : (file : List ℕ) (sums : Option (List ℕ)) (r : Result (List (Line Placed)) Report) (s : Result (Option Sums) Report) (lines : List (Line Placed)) (table : Option Sums)
-    → r ≡ Ok lines → IsMainRead file r → s ≡ Ok table → AreSumsRead sums s → FilesReadAs file sums (main_of lines) table
-both_read file sums r s lines table is main are read = record { main_file = main_ok file r lines is main; sums = sums_ok sums s table are read }
+pub both_read : (file : List ℕ) (sums : Option (List ℕ)) (lines : List (Line Placed)) (s : Result (Option Sums) Report) (table : Option Sums)
+    → IsMainOf file lines → s ≡ Ok table → AreSumsRead sums s → FilesReadAs file sums (main_of lines) table
+both_read file sums lines s table is are read = record { main_file = (lines, is, refl); sums = sums_ok sums s table are read }
 
 abbrev pub IsBothRead : List ℕ → Option (List ℕ) → Result Read Report → Type 0
 IsBothRead file sums r =

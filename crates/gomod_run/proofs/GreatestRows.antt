@@ -8,7 +8,7 @@ use Rattle.std.proofs.lemmas.Bool.{false≢true}
 use Rattle.gm_name.specs.Version.{version_cmp}
 use Rattle.gm_name.specs.VersionOrder.{version_total, version-anti}
 use Rattle.gm_name.specs.ModuleVersion.{ModuleVersion}
-use Rattle.gm_graph.specs.Main.{Main}
+use Rattle.gm_file.specs.Main.{Main}
 use Rattle.gm_graph.specs.Reading.{Readings, readings_by}
 use Rattle.gm_graph_select.specs.BuildList.{IsBuildList, IsSelected, entry_of, main_entry, path_cmp}
 use Rattle.gm_graph_select.specs.Order.{IsAscending}

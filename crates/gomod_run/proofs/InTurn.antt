@@ -4,7 +4,7 @@ use Rattle.gm_store.specs.Asked.{Name, Reply, answer_in, name_of}
 use Rattle.gm_store.specs.States.{StoreState}
 use Rattle.gm_store.specs.declared.files.FileName.{FileName}
 use Rattle.gm_store_sums.specs.Sums.{Sums}
-use Rattle.gm_graph.specs.Main.{Main}
+use Rattle.gm_file.specs.Main.{Main}
 use Rattle.gm_graph.specs.Refusals.{refused_in}
 use Rattle.gm_graph.specs.declared.cache.load_fault.LoadFault.{LoadFault}
 use Rattle.gm_graph.specs.declared.cache.load_fault.LoadFault.TheVariants as load

@@ -19,9 +19,9 @@ use Rattle.gm_file.specs.Faults.{Fault, fault_of, faults, faults_after, first_of
 use Rattle.gm_file.proofs.Snoc.{length-with_blocks}
 use Rattle.gm_graph.proofs.Mapped.{from_mapped}
 use Rattle.gm_graph_select.proofs.Ascending.{no_member}
-use Rattle.gm_graph.specs.declared.cache.class.Misreading.{Misreading}
-use Rattle.gm_graph.specs.declared.cache.class.Misreading.TheVariants as misreading
-use Rattle.gm_graph.specs.Reading.{IsMisreadAt}
+use Rattle.gm_file.specs.declared.misreading.Misreading.{Misreading}
+use Rattle.gm_file.specs.declared.misreading.Misreading.TheVariants as misreading
+use Rattle.gm_file.specs.Misreading.{IsMisread}
 use Rattle.gomod_run.proofs.FileNames.{found_among}
 
 -- ---- lines of a text
@@ -96,7 +96,7 @@ document_few content doc (text, only) =
     omega (arith, read, lines_few content, text.0)
 
 -- the number of a line where a file is misread
-pub misread_few : (content : List ℕ) (number : ℕ) (kind : Misreading) → IsMisreadAt content number kind → number ≤ 16777216
+pub misread_few : (content : List ℕ) (number : ℕ) (kind : Misreading) → IsMisread Lax content number kind → number ≤ 16777216
 misread_few content number misreading.TooMany is = omega (arith, is.0)
 misread_few content number misreading.NotUtf8 is = omega (arith, is.0)
 misread_few content number (misreading.Syntax kind) (text, lines, only) =

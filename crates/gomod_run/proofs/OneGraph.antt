@@ -1,6 +1,6 @@
 -- `graph`, `list` and `chain` show the same graph.
 use Rattle.std.proofs.Common.{◌≡◌, ◌≢◌, ℕ, List, None, ap, subst, inl, inr}
-use Rattle.gm_graph.specs.Main.{Main}
+use Rattle.gm_file.specs.Main.{Main}
 use Rattle.gm_graph.specs.Reading.{readings_by}
 use Rattle.gm_graph_select.specs.BuildList.{Entry}
 use Rattle.gm_graph_select.specs.Graph.{Edges, among}

@@ -2,7 +2,7 @@
 use Rattle.std.proofs.Common.{◌≡◌, ◌∙◌, ◌≤◌, ℕ, List, [], ◌∷◌, length, Option, Some, sym, ap, refl, subst, arith, inl, inr}
 use Rattle.gm_store.specs.Asked.{Name, Reply}
 use Rattle.gm_store_sums.specs.Sums.{Sums}
-use Rattle.gm_graph.specs.Main.{Main}
+use Rattle.gm_file.specs.Main.{Main, IsMainFile}
 use Rattle.gm_graph.specs.Reading.{Held, Tells, readings_by}
 use Rattle.gm_graph_select.proofs.Same.{AreSame}
 use Rattle.gm_graph.specs.declared.fault.Fault.{Fault}
@@ -11,7 +11,7 @@ use Rattle.gm_graph.specs.Loading.{AreTooMany, Told}
 use Rattle.gm_graph.specs.Outcome.{AreFaults}
 use Rattle.gomod_run.specs.Found.{ReportsFaultsOr}
 use Rattle.gomod_run.specs.ListingLaws.{AlikeChains, AlikeGraphs, AlikeLists, AnswerAlike, AreAlike, AllFilesAreValid, OneChainOutcome, OneGraphOutcome, OneListOutcome}
-use Rattle.gomod_run.specs.Outcomes.{Answers, AreKnown, AreSums, FilesReadAs, Given, IsMainFile, IsOutcome, IsOutcomeOver, IsRefusedRead, Prints, PrintsChain, PrintsGraph, PrintsList, device, faulty, too_many}
+use Rattle.gomod_run.specs.Outcomes.{Answers, AreKnown, AreSums, FilesReadAs, Given, IsOutcome, IsOutcomeOver, IsRefusedRead, Prints, PrintsChain, PrintsGraph, PrintsList, device, faulty, too_many}
 use Rattle.gomod_run.specs.Outcome.{Outcome, failed, refused}
 use Rattle.gomod_run.specs.Reports.{FaultPlace, device_line, main_line, too_many_line}
 use Rattle.gomod_run.proofs.OnePrinted.{PrintsOnce, chain_once, graph_once, list_once, one_faults}

@@ -7,7 +7,7 @@ use Rattle.gm_file.specs.Fields.{Dependency}
 use Rattle.gm_store.specs.Asked.{Name, Reply, answer_in}
 use Rattle.gm_store_sums.specs.Sums.{Sums}
 use Rattle.gm_graph.specs.declared.cache.class.Class.{Class}
-use Rattle.gm_graph.specs.Main.{Main, replacement_in}
+use Rattle.gm_file.specs.Main.{Main, replacement_in}
 use Rattle.gm_graph.specs.Reading.{Held, IsTold, Readings, Tells, fault_in, vertex_fault, file_of, is_askable, is_unpruned_in, readings_by, requirements_in, vertex_requirements, said_in, with_right_path}
 use Rattle.gm_graph.proofs.ReadingIf.{reading_if}
 use Rattle.gm_graph.proofs.OneReading.{one_reading}

@@ -15,15 +15,16 @@ use Rattle.gm_store_sums.specs.Hash.{file_hash}
 use Rattle.gm_store_sums.specs.Sums.{ReadsAs, Says, Sums, check_in}
 use Rattle.gm_store_sums.specs.declared.sum_table.Sum.{Sum}
 use Rattle.gm_store_sums.specs.declared.sum_table.Sum.TheVariants.{Good, Unlisted, Differs}
-use Rattle.gm_graph.specs.Main.{Main}
+use Rattle.gm_file.specs.Main.{Main, IsMainFile, IsMainOf}
 use Rattle.gm_graph.specs.Reading.{Held, IsFileReading, IsReadUnless, IsTold, Tells, class_of_sum, sum_fault}
 use Rattle.gm_graph.specs.declared.cache.class.Class.{Class}
 use Rattle.gm_graph.specs.declared.cache.class.Class.TheVariants.{Malformed}
-use Rattle.gm_graph.specs.declared.cache.class.Misreading.{Misreading}
-use Rattle.gm_graph.specs.declared.cache.class.Misreading.TheVariants as misreading
+use Rattle.gm_file.specs.declared.misreading.Misreading.{Misreading}
+use Rattle.gm_file.specs.declared.misreading.Misreading.TheVariants as misreading
 use Rattle.gm_graph.proofs.OneReading.{one_reading}
 use Rattle.gomod_run.specs.Reports.{FaultPlace, bad_sum_line}
-use Rattle.gomod_run.specs.Outcomes.{AreInvalidSums, AreSums, IsMainFile, IsMainOf, IsMalformedMain}
+use Rattle.gomod_run.specs.Outcomes.{AreInvalidSums, AreSums}
+use Rattle.gm_file.specs.Misreading.{IsMisread}
 
 -- ---- the main module's file
 
@@ -58,7 +59,7 @@ place_of fault = (fault.0, misreading.Directive fault.1)
 abbrev IsFaulty : List ℕ → FaultPlace → Type 0
 IsFaulty content place = (lines : List (Line Placed)) × (fault : Fault) × IsParsedAs content (Ok lines) × (fault_of Strict (plain_lines lines) ≡ Some fault) × (place ≡ place_of fault)
 
-misread_as : (content : List ℕ) (place : FaultPlace) → IsMalformedMain content place → IsBroken content place ⊎ IsFaulty content place
+misread_as : (content : List ℕ) (place : FaultPlace) → IsMisread Strict content place.0 place.1 → IsBroken content place ⊎ IsFaulty content place
 misread_as content (number, misreading.TooMany) is = inl is
 misread_as content (number, misreading.NotUtf8) is = inl is
 misread_as content (number, misreading.Syntax kind) is = inl is
@@ -113,7 +114,7 @@ same_misreading content here there (inr is) (inl other) = absurd (broken_or_line
 same_misreading content here there (inr is) (inr other) = same_fault content here there is other
 
 -- an invalid file has exactly one place that is reported
-pub one_place : (content : List ℕ) (a b : FaultPlace) → IsMalformedMain content a → IsMalformedMain content b → a ≡ b
+pub one_place : (content : List ℕ) (a b : FaultPlace) → IsMisread Strict content a.0 a.1 → IsMisread Strict content b.0 b.1 → a ≡ b
 one_place content a b is other = same_misreading content a b (misread_as content a is) (misread_as content b other)
 
 misread_or_read : (content : List ℕ) (place : FaultPlace) (others : List (Line Placed)) → IsBroken content place ⊎ IsFaulty content place → IsMainOf content others → ⊥
@@ -121,10 +122,10 @@ misread_or_read content place others (inl is) (parsed, sound) = broken_or_lines 
 misread_or_read content place others (inr (lines, fault, parsed, first, at)) (other, sound) =
     let found : Some fault ≡ None = sym first ∙ ap (fault_of Strict) (same_lines content lines others parsed other) ∙ sound in cc found
 
-pub misread_or_lines : (content : List ℕ) (place : FaultPlace) (lines : List (Line Placed)) → IsMalformedMain content place → IsMainOf content lines → ⊥
+pub misread_or_lines : (content : List ℕ) (place : FaultPlace) (lines : List (Line Placed)) → IsMisread Strict content place.0 place.1 → IsMainOf content lines → ⊥
 misread_or_lines content place lines is other = misread_or_read content place lines (misread_as content place is) other
 
-pub misread_or_main : (content : List ℕ) (place : FaultPlace) (main : Main) → IsMalformedMain content place → IsMainFile content main → ⊥
+pub misread_or_main : (content : List ℕ) (place : FaultPlace) (main : Main) → IsMisread Strict content place.0 place.1 → IsMainFile content main → ⊥
 misread_or_main content place main is (lines, other, says) = misread_or_lines content place lines is other
 
 -- ---- the go.sum

@@ -7,7 +7,7 @@ use Rattle.std.proofs.lemmas.Grind.{flat_map-append}
 use Rattle.gm_name.specs.Version.{version_cmp}
 use Rattle.gm_name.specs.ModuleVersion.{ModuleVersion}
 use Rattle.gm_file.specs.Directives.{Replacing}
-use Rattle.gm_graph.specs.Main.{Main}
+use Rattle.gm_file.specs.Main.{Main}
 use Rattle.gm_graph.specs.Reading.{Held, Readings, readings_by}
 use Rattle.gm_graph_select.specs.declared.step.Edge.{Edge}
 use Rattle.gm_graph_select.specs.declared.step.Step.TheVariants.{Main as FromMain}

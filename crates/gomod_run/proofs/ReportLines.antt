@@ -7,7 +7,7 @@ use Rattle.gomod_run.specs.Taking.{Took}
 use Rattle.gm_graph.specs.ClassWords.{class_word}
 use Rattle.gm_graph.specs.declared.cache.class.Class.{Class}
 use Rattle.gm_graph.specs.declared.cache.class.Class.TheVariants.{NotFetchable, Missing, TooLong, NoSum, SumDiffers, Malformed, WrongPath}
-use Rattle.gm_graph.specs.declared.cache.class.Misreading.{Misreading}
+use Rattle.gm_file.specs.declared.misreading.Misreading.{Misreading}
 use Rattle.gomod_run.specs.Reports.{class_text}
 use Rattle.gomod_run.specs.ReportTexts.{line, vertex_text}
 

@@ -13,7 +13,7 @@ use Rattle.gm_store.specs.Asked.{Name, Reply, absent, answer_in, bytes, too_long
 use Rattle.gm_store_sums.specs.Sums.{Sums}
 use Rattle.gm_graph.specs.declared.cache.class.Class.{Class}
 use Rattle.gm_graph.specs.declared.cache.class.Class.TheVariants.{WrongPath}
-use Rattle.gm_graph.specs.Main.{Main, is_excluded, replacement_in, without_excluded}
+use Rattle.gm_file.specs.Main.{Main, is_excluded, replacement_in, without_excluded, IsMainFile}
 use Rattle.gm_graph.specs.Reading.{Held, IsFileReading, IsReadUnless, IsTold, file_of, is_askable, is_right_path, readings_by, requirements_in, said_in, sum_fault, with_right_path}
 use Rattle.gm_file.specs.DepLines.{IsDependencyIn}
 use Rattle.gm_graph.proofs.ReadingIf.{reading_if}
@@ -25,7 +25,7 @@ use Rattle.gm_graph_select.proofs.Ascending.{member_cases, member_head, member_t
 use Rattle.gm_graph.specs.Graph.{IsDeep, IsEdge, IsOpened, from_deep, from_main, from_top}
 use Rattle.gm_graph.proofs.Mapped.{from_mapped}
 use Rattle.gomod_run.specs.ListingLaws.{AllFilesAreValid}
-use Rattle.gomod_run.specs.Outcomes.{AreKnown, FilesReadAs, Given, IsMainFile}
+use Rattle.gomod_run.specs.Outcomes.{AreKnown, FilesReadAs, Given}
 use Rattle.gomod_run.specs.PrintedLines.{AreProperSteps, IsProperRight, IsProperRow, IsProperStep, RunHasNames, RunHasProperEdges, RunHasProperRows, RunHasProperSteps}
 use Rattle.gomod_run.proofs.FileNames.{declared_path, replaced_module, replacement_said, replaces_said, required_names}
 use Rattle.gomod_run.proofs.FolderNames.{is_folder}

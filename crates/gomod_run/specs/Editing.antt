@@ -10,7 +10,9 @@ use Rattle.gm_syntax.specs.Tokens.{Placed}
 use Rattle.gm_file_edit.specs.Edited.{edited}
 use Rattle.gm_file_edit.specs.Kinds.{is_fit}
 use Rattle.gm_file_edit.specs.Edits.{Edit, edit_in}
-use Rattle.gomod_run.specs.Outcomes.{IsMainOf, IsMalformedMain}
+use Rattle.gm_file.specs.Main.{IsMainOf}
+use Rattle.gm_file.specs.Misreading.{IsMisread}
+use Rattle.gm_file.specs.Directives.{Strict}
 use Rattle.gomod_run.specs.Outcome.{Outcome, printed, refused}
 use Rattle.gomod_run.specs.Reports.{FaultPlace, main_line, edit_line}
 
@@ -43,6 +45,6 @@ edits_outcome (refusal ∷ later) lines = refused (edit_line refusal)
 -- `edit FILE OP..` over the bytes of the file: the file is read strictly, then each operation is parsed and applied
 abbrev pub IsEditOutcome : List (List ℕ) → List ℕ → Outcome → Type 0
 IsEditOutcome texts file outcome =
-    ((place : FaultPlace) × IsMalformedMain file place × (outcome ≡ refused (main_line place)))
+    ((place : FaultPlace) × IsMisread Strict file place.0 place.1 × (outcome ≡ refused (main_line place)))
     ⊎ ((lines : List (Line Placed)) × IsMainOf file lines
     × (outcome ≡ edits_outcome (refusals_from 1 texts) (edited_in_turn (filter_map edit_in texts) lines)))

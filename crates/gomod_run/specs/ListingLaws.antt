@@ -8,7 +8,7 @@ use Rattle.gm_name.specs.Version.{version_cmp}
 use Rattle.gm_name.specs.ModuleVersion.{ModuleVersion}
 use Rattle.gm_store.specs.Asked.{Name, Reply, answer_in}
 use Rattle.gm_store_sums.specs.Sums.{Sums}
-use Rattle.gm_graph.specs.Main.{Main}
+use Rattle.gm_file.specs.Main.{Main}
 use Rattle.gm_graph.specs.Reading.{Held, Readings, readings_by}
 use Rattle.gm_graph_select.specs.declared.step.Edge.{Edge}
 use Rattle.gm_graph_select.specs.declared.step.Step.{Step}

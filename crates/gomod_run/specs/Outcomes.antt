@@ -1,20 +1,15 @@
 -- The outcomes of `graph`, `list` and `chain`, given the bytes of a main module's file, those of a go.sum and
 -- the answers of a store: Go Modules Reference, "Minimal version selection", "go.mod files", "go.sum files",
 -- "go mod graph", "go list -m".
-use Rattle.std.specs.Prelude.{◌≡◌, ◌<◌, ◌≤◌, ◌⊎◌, ◌++◌, ℕ, List, [], ◌∷◌, length, Option, Some, None, Ok, ⊤}
-use Rattle.gm_syntax.specs.Document.{Line}
-use Rattle.gm_syntax.specs.Tokens.{Placed}
-use Rattle.gm_syntax.specs.LineViews.{plain_lines}
-use Rattle.gm_syntax.specs.Parsed.{IsParsedAs}
+use Rattle.std.specs.Prelude.{◌≡◌, ◌<◌, ◌≤◌, ◌⊎◌, ◌++◌, ℕ, List, [], ◌∷◌, length, Option, Some, None, ⊤}
 use Rattle.gm_file.specs.Directives.{Strict}
-use Rattle.gm_file.specs.Faults.{fault_of}
 use Rattle.gm_store.specs.Asked.{Name, Reply, names_in}
 use Rattle.gm_store.specs.States.{StoreState}
 use Rattle.gm_store_sums.specs.Sums.{HasValidLines, IsFirstInvalid, ReadsAs, Sums}
-use Rattle.gm_graph.specs.Main.{Main, main_of}
+use Rattle.gm_file.specs.Main.{IsMainFile, Main}
 use Rattle.gm_name.specs.ModuleVersion.{ModuleVersion}
-use Rattle.gm_graph.specs.Reading.{Held, IsMisreadAt, Readings, Tells, readings_by}
-use Rattle.gm_graph.specs.declared.cache.class.Misreading.TheVariants as misreading
+use Rattle.gm_graph.specs.Reading.{Held, Readings, Tells, readings_by}
+use Rattle.gm_file.specs.Misreading.{IsMisread}
 use Rattle.gm_graph_select.specs.declared.step.Step.{Step}
 use Rattle.gm_graph_select.specs.declared.step.Edge.{Edge}
 use Rattle.gm_graph_select.specs.BuildList.{Entry, IsEntryOf, HasEntryFor, IsRestAfter}
@@ -57,25 +52,6 @@ given file sums told = record { file = file; sums = sums; told = told }
 -- the longest file and the longest list that is read, in bytes
 abbrev pub longest : ℕ
 longest = 16777216
-
--- the bytes are a valid main module's file with these lines
-abbrev pub IsMainOf : List ℕ → List (Line Placed) → Type 0
-IsMainOf bytes lines = IsParsedAs bytes (Ok lines) × (fault_of Strict (plain_lines lines) ≡ None)
-
--- the bytes are a valid main module's file, and this is what it says
-abbrev pub IsMainFile : List ℕ → Main → Type 0
-IsMainFile bytes main = (lines : List (Line Placed)) × IsMainOf bytes lines × (main_of lines ≡ main)
-
--- The bytes are not a valid main module's file: the line, or 0 for the whole file, and the kind of what is
--- wrong there. Bytes that are not a document are misread in the same way as a dependency's file; directives are
--- read strictly.
-abbrev pub IsMalformedMain : List ℕ → FaultPlace → Type 0
-IsMalformedMain bytes (number, misreading.TooMany) = IsMisreadAt bytes number misreading.TooMany
-IsMalformedMain bytes (number, misreading.NotUtf8) = IsMisreadAt bytes number misreading.NotUtf8
-IsMalformedMain bytes (number, misreading.Syntax kind) = IsMisreadAt bytes number (misreading.Syntax kind)
-IsMalformedMain bytes (number, misreading.Directive kind) =
-    (lines : List (Line Placed)) × IsParsedAs bytes (Ok lines)
-    × (fault_of Strict (plain_lines lines) ≡ Some (number, kind))
 
 -- The go.sum is valid, and the table is what it says; or no go.sum is given, and there is no table.
 abbrev pub AreSums : Option (List ℕ) → Option Sums → Type 0
@@ -142,7 +118,7 @@ IsOutcomeOver prints main table told outcome =
 -- go.sum is invalid.
 abbrev pub IsRefusedRead : List ℕ → Option (List ℕ) → Outcome → Type 0
 IsRefusedRead file sums outcome =
-    ((place : FaultPlace) × IsMalformedMain file place × (outcome ≡ refused (main_line place)))
+    ((place : FaultPlace) × IsMisread Strict file place.0 place.1 × (outcome ≡ refused (main_line place)))
     ⊎ ((main : Main) × (report : List ℕ) × IsMainFile file main × AreInvalidSums sums report
     × (outcome ≡ refused report))
 

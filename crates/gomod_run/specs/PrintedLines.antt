@@ -15,7 +15,7 @@ use Rattle.gm_graph_select.specs.Chains.{IsChain}
 use Rattle.gm_store_sums.specs.Sums.{Sums}
 use Rattle.gm_graph.specs.declared.cache.class.Class.{Class}
 use Rattle.gm_graph.specs.declared.cache.class.Class.TheVariants.{Malformed}
-use Rattle.gm_graph.specs.Main.{Main as MainFile}
+use Rattle.gm_file.specs.Main.{Main as MainFile}
 use Rattle.gm_graph.specs.Reading.{Held, readings_by}
 use Rattle.gm_graph.specs.declared.fault.Fault.{Fault}
 use Rattle.gm_graph.specs.Graph.{IsEdge, IsOpened, IsVertex}

@@ -5,14 +5,16 @@ ghost use Rattle.std.specs.Prelude.{◌≡◌, ◌∷◌, [], IfErr, MatchResult
 ghost use Rattle.std.specs.List.{filter_map};
 ghost use Rattle.std.specs.String.{string_bytes};
 ghost use Rattle.gm_file_edit.specs.Edits.{edit_in};
-ghost use Rattle.gomod_run.specs.Outcomes.{IsMainOf, IsMalformedMain};
+ghost use Rattle.gm_file.specs.Main.{IsMainOf};
+ghost use Rattle.gm_file.specs.Misreading.{IsMisread};
+ghost use Rattle.gm_file.specs.Directives.{Strict};
 ghost use Rattle.gomod_run.specs.Outcome.{OrNoMemory, outcome_view, refused, report_outcome};
 ghost use Rattle.gomod_run.specs.Reports.{FaultPlace, main_line};
 ghost use Rattle.gomod_run.specs.Editing.{IsEditOutcome, IsRefusedOperation, edited_in_turn, refusal_of};
 ghost use Rattle.gomod_run.specs.Refusals.{report_by_edit, report_by_op};
 
-use crate::listing::reading::main_file;
 use crate::reports::report::{Refusal, Report};
+use gm_file::MainFile;
 use gm_file_edit::{EditFault, Editor, Op, OpFault};
 use std::alloc::Global;
 
@@ -68,10 +70,10 @@ fn apply_text<'r>(
 fn editor_of<'a, 'r>(alloc: Global, file: &'a [u8]) -> Result<Editor<'a>, Report<'r>>
     ensures { MatchResult result
         (λ editor. IsMainOf file.now editor)
-        (λ told. OrNoMemory (λ outcome. (place : FaultPlace) × IsMalformedMain file.now place
+        (λ told. OrNoMemory (λ outcome. (place : FaultPlace) × IsMisread Strict file.now place.0 place.1
         × (outcome ≡ refused (main_line place))) (report_outcome told)) }
 {
-    let main = main_file(alloc, file)?;
+    let main = MainFile::read_bytes(alloc, file)?;
     Ok(Editor::of(alloc, main)?)
 }
 

@@ -18,8 +18,7 @@ fn layout(alloc: Global, text: &str) -> Result<String, SyntaxFault> {
 
 /// Reads the go.mod of a main module.
 pub(crate) fn main_file<'a>(alloc: Global, bytes: &'a [u8]) -> anyhow::Result<MainFile<'a>> {
-    let doc = Doc::parse(alloc, bytes)?;
-    Ok(MainFile::read(alloc, doc)?)
+    Ok(MainFile::read_bytes(alloc, bytes)?)
 }
 
 /// Prints what the go.mod of a main module says.

@@ -1,76 +1,10 @@
 //! The faults of vertices, and their names in reports.
-//!
-//! The names of all kinds are here alone, so that reports on the main file and on dependencies use the same ones.
 
 ghost use Rattle.std.specs.Prelude.{◌≡◌};
-ghost use Rattle.gm_graph.specs.ClassWords.{class_word, directive_word, misreading_word, syntax_word};
+ghost use Rattle.gm_graph.specs.ClassWords.{class_word};
 
-use gm_file::DirectiveKind;
-use gm_syntax::SyntaxKind;
+use gm_file::Misreading;
 use thiserror::Error;
-
-/// Why bytes can't be read as a dependency's go.mod file.
-#[derive(Clone, Copy, Debug, PartialEq, Eq, Error)]
-pub enum Misreading {
-    /// There are more than 16,777,216 bytes. No answer of a store has that many.
-    #[error("more than 16,777,216 bytes")]
-    TooMany,
-    /// The bytes aren't UTF-8.
-    #[error("not UTF-8")]
-    NotUtf8,
-    /// The line has a lexical or block error.
-    #[error("{0}")]
-    Syntax(SyntaxKind),
-    /// The line's directive is invalid.
-    #[error("{0}")]
-    Directive(DirectiveKind),
-}
-
-/// The name of a lexical or block error, as in reports.
-fn syntax_word(kind: SyntaxKind) -> &'static str
-    ensures { result.now ≡ syntax_word kind }
-{
-    match kind {
-        SyntaxKind::BadByte => "BadByte",
-        SyntaxKind::OpenString => "OpenString",
-        SyntaxKind::BadEscape => "BadEscape",
-        SyntaxKind::BlockComment => "BlockComment",
-        SyntaxKind::StrayClose => "StrayClose",
-        SyntaxKind::NestedOpen => "NestedOpen",
-        SyntaxKind::OpenBlock => "OpenBlock",
-    }
-}
-
-/// The name of an invalid directive's error, as in reports.
-fn directive_word(kind: DirectiveKind) -> &'static str
-    ensures { result.now ≡ directive_word kind }
-{
-    match kind {
-        DirectiveKind::UnknownVerb => "UnknownVerb",
-        DirectiveKind::WrongArguments => "WrongArguments",
-        DirectiveKind::BadPath => "BadPath",
-        DirectiveKind::BadVersion => "BadVersion",
-        DirectiveKind::Misfit => "Misfit",
-        DirectiveKind::Repeated => "Repeated",
-        DirectiveKind::NoModule => "NoModule",
-        DirectiveKind::ConflictingReplace => "ConflictingReplace",
-        DirectiveKind::BadGo => "BadGo",
-    }
-}
-
-impl Misreading {
-    /// The name of the kind, as in reports. It takes no memory.
-    pub fn word(self) -> &'static str
-        ensures { result.now ≡ misreading_word self }
-    {
-        match self {
-            Misreading::TooMany => "TooMany",
-            Misreading::NotUtf8 => "NotUtf8",
-            Misreading::Syntax(kind) => syntax_word(kind),
-            Misreading::Directive(kind) => directive_word(kind),
-        }
-    }
-}
 
 /// What is wrong with a vertex: the first of these that applies.
 #[derive(Clone, Copy, Debug, PartialEq, Eq, Error)]

@@ -7,7 +7,6 @@ ghost use Rattle.std.specs.Prelude.{◌≤◌, All, length};
 ghost use Rattle.std.specs.BTreeMap.{values};
 ghost use Rattle.gm_graph.specs.Places.{IsPlace};
 
-use crate::cache::main_view::replaces;
 use crate::cache::naming::right_name;
 use crate::cache::summary::{Kept, ListSpan};
 use gm_file::MainFile;
@@ -40,7 +39,7 @@ impl FileTable {
     ghost use Rattle.gm_name_table.specs.Listed.{BeginsWith};
     ghost use Rattle.gm_store.specs.Asked.{Name, name_of};
     ghost use Rattle.gm_graph.specs.FileTable.{PutsFile, HasReplacing, IsFileOf, IsOwnWithin, IsPlaceOf, KeepsFiles, KeepsOthers, KeepsOwn, KeepsPlaces, KeepsReplacing, PutsOwn, NotesPlace, PutsReplacing, kept_at, replacing_place};
-    ghost use Rattle.gm_graph.specs.Main.{Main, main_of};
+    ghost use Rattle.gm_file.specs.Main.{Main, main_of};
     ghost use Rattle.gm_name.specs.ModuleVersion.{ModuleVersion};
     ghost use Rattle.gm_graph.specs.Places.{no_place};
     ghost use Rattle.gm_graph.specs.Summaries.{span_found};
@@ -54,7 +53,7 @@ impl FileTable {
         ensures replacing { IfOk result (HasReplacing (main_of main.now)) }
     {
         let mut replacing = BTreeMap::new(alloc);
-        for replace in replaces(main) {
+        for replace in main.replaces() {
             replacing.insert(right_name(alloc, &replace.right)?, NO_PLACE)?;
         }
         Ok(FileTable {

@@ -4,10 +4,9 @@
 
 ghost use Rattle.std.specs.Prelude.{◌≡◌, Some};
 ghost use Rattle.gm_file.specs.Views.{right_view};
-ghost use Rattle.gm_graph.specs.Main.{main_of, replacement_in};
+ghost use Rattle.gm_file.specs.Main.{main_of, replacement_in};
 ghost use Rattle.gm_graph.specs.Reading.{declares, is_right_path};
 
-use crate::cache::main_view::replacement;
 use gm_file::{ListedFile, MainFile, Right};
 use gm_name::{ModPath, ModVer};
 
@@ -25,7 +24,7 @@ fn declares(path: &ModPath, file: &ListedFile) -> bool
 pub(crate) fn is_right_path(main: &MainFile, x: &ModVer, file: &ListedFile) -> bool
     ensures { result ≡ is_right_path x.now (replacement_in (main_of main.now) x.now) file.now.declared }
 {
-    match replacement(main, x) {
+    match main.replacement(x) {
         None => declares(x.path(), file),
         Some(right) => is_right_through(right, x, file),
     }

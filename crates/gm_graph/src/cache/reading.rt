@@ -2,14 +2,15 @@
 
 ghost use Rattle.std.specs.Prelude.{◌≡◌, ◌≤◌, ◌<◌, ℕ, List, drop, length, Err, IfOk};
 ghost use Rattle.gm_name_table.specs.Listed.{listed};
-ghost use Rattle.gm_file.specs.DepLines.{IsMisread};
+ghost use Rattle.gm_file.specs.Directives.{Lax};
+ghost use Rattle.gm_file.specs.Misreading.{IsBytesFault};
 ghost use Rattle.std.specs.Option.{option_copied};
 ghost use Rattle.gm_store.specs.Asked.{IsWithinLimit, bytes, name_of, reply_of};
 ghost use Rattle.gm_graph.specs.Reading.{IsContentReading, IsFileReading, class_of_sum, sum_fault};
 ghost use Rattle.gm_graph.specs.Summaries.{Grows, RetractsBy, listed_reading, reading_of};
 
-use crate::cache::class::{Class, Misreading};
-use gm_file::{DepFile, ListedFile, ReadFault};
+use crate::cache::class::Class;
+use gm_file::{BytesFault, DepFile, ListedFile, Misreading};
 use gm_name::{KnownNames, NoMemory};
 use gm_name_table::ModuleList;
 use gm_store::{Answer, FileName};
@@ -50,7 +51,7 @@ impl FileReading {
     {
         match DepFile::read_bytes(alloc, names, content) {
             Ok(file) => Ok(FileReading::Valid(file)),
-            Err(fault) => Ok(FileReading::Faulty(class_of_misread(fault)?)),
+            Err(fault) => Ok(FileReading::Faulty(class_of_fault(fault)?)),
         }
     }
 }
@@ -78,26 +79,16 @@ fn sum_fault(sums: Option<&SumTable>, name: &FileName, content: &[u8]) -> Option
 }
 
 /// The class of bytes that can't be read for this reason. The only refusal is `NoMemory`.
-fn class_of_misread(fault: ReadFault) -> Result<Class, NoMemory>
-    ensures reading { IfOk result (λ class. (content : List ℕ) → IsMisread content fault
+fn class_of_fault(fault: BytesFault) -> Result<Class, NoMemory>
+    ensures reading { IfOk result (λ class. (content : List ℕ) → IsBytesFault Lax content fault
         → length content ≤ 16777216 → IsContentReading content (Err class)) }
-    ensures too_many { IfOk result (λ class. (content : List ℕ) → IsMisread content fault
+    ensures too_many { IfOk result (λ class. (content : List ℕ) → IsBytesFault Lax content fault
         → 16777216 < length content → class ≡ Class.Malformed 0 Misreading.TooMany) }
 {
     match fault {
-        ReadFault::NoMemory => Err(AllocError),
-        ReadFault::TooMany => Ok(malformed(0, Misreading::TooMany)),
-        ReadFault::NotUtf8 => Ok(malformed(0, Misreading::NotUtf8)),
-        ReadFault::Syntax { line, kind } => Ok(malformed(line, Misreading::Syntax(kind))),
-        ReadFault::Directive { line, kind } => Ok(malformed(line, Misreading::Directive(kind))),
+        BytesFault::NoMemory => Err(AllocError),
+        BytesFault::Misread { line, kind } => Ok(Class::Malformed { line, kind }),
     }
-}
-
-/// The class of bytes that can't be read.
-fn malformed(line: usize, kind: Misreading) -> Class
-    ensures { result ≡ Class.Malformed line kind }
-{
-    Class::Malformed { line, kind }
 }
 
 /// Reads a dependency's file, and puts its requirements at the end of the list of modules. The result is what else it
@@ -114,7 +105,7 @@ fn read_content(
 {
     match DepFile::read_listed(alloc, names, modules, content) {
         Ok(file) => Ok(ListedReading::Valid(file)),
-        Err(fault) => Ok(ListedReading::Faulty(class_of_misread(fault)?)),
+        Err(fault) => Ok(ListedReading::Faulty(class_of_fault(fault)?)),
     }
 }
 

@@ -7,14 +7,13 @@ ghost use Rattle.std.specs.Prelude.{◌≡◌, ◌≤◌, List, IfOk, OnOk, Some
 ghost use Rattle.std.specs.List.{list_any};
 ghost use Rattle.gm_name.specs.ModuleVersion.{ModuleVersion};
 ghost use Rattle.gm_name_table.specs.Listed.{Appends, listed};
-ghost use Rattle.gm_graph.specs.Main.{is_excluded, without_excluded, main_of};
+ghost use Rattle.gm_file.specs.Main.{is_excluded, without_excluded, main_of};
 ghost use Rattle.gm_graph.specs.Reading.{said_in};
 ghost use Rattle.gm_graph.specs.Summaries.{Grows, IsSummary, at_span, nowhere, span_found, summary_reading};
 ghost use Rattle.gm_graph.specs.Turns.{leads_on_in};
 
 use crate::cache::class::Class;
 use crate::cache::depth::Depth;
-use crate::cache::main_view::{is_excluded, is_pruned};
 use gm_file::{ListedFile, MainFile};
 use gm_name::{ModVer, NoMemory};
 use gm_name_table::{ModuleList, Modules};
@@ -63,7 +62,7 @@ pub(crate) enum Kept {
 fn has_excluded(main: &MainFile, mut list: Modules<'_>) -> bool
     ensures { result ≡ list_any (is_excluded (main_of main.now)) list.entry }
 {
-    list.any(|x| is_excluded(main, x))
+    list.any(|x| main.excluded(x))
 }
 
 /// Copies of those that are not excluded.
@@ -72,7 +71,7 @@ fn copy_kept(alloc: Global, main: &MainFile, list: Modules<'_>) -> Result<Vec<Mo
 {
     let mut kept = Vec::new(alloc);
     for x in list {
-        if !is_excluded(main, x) {
+        if !main.excluded(x) {
             kept.push(x.copy(alloc)?)?;
         }
     }
@@ -132,7 +131,7 @@ impl Summary {
             → result ≡ leads_on_in (said_in (Some (summary_reading modules (Kept.Valid self.now)))) depth }
     {
         match depth {
-            Depth::Top => !is_pruned(self.file.go()),
+            Depth::Top => !self.file.is_pruned(),
             Depth::Deep => true,
         }
     }

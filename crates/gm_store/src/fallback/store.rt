@@ -5,7 +5,7 @@
 
 ghost use Rattle.std.specs.Prelude.{◌≡◌, ◌<◌, length};
 ghost use Rattle.gm_store.specs.Asked.{Name, name_of};
-ghost use Rattle.gm_store.specs.Counted.{underlying};
+ghost use Rattle.gm_store.specs.Counted.{inner_folders};
 ghost use Rattle.gm_store.specs.FolderLookups.{marks_for};
 
 use crate::fallback::proxy_list::Mark;
@@ -40,7 +40,7 @@ pub struct FallbackStore<F: FolderList, K: Keeps = AllAnswers> {
     /// The names whose requests were refused because the device failed, in order.
     refused: Vec<FileName>,
     // A folder follows each mark, for each name, so the walk can't leave the list.
-    ghost between: { (name : Name) → length (marks_for name marks.items) < F.count_for (underlying folders) name },
+    ghost between: { (name : Name) → length (marks_for name marks.items) < F.count_for (inner_folders folders) name },
 }
 
 impl<F: FolderList, K: Keeps> FallbackStore<F, K> {

@@ -5,7 +5,7 @@
 ghost use Rattle.std.specs.Prelude.{◌≡◌, ◌<◌, ℕ, length, slice_get, Some, IfNone, IfOk, IfSome, false};
 ghost use Rattle.std.specs.Option.{option_map};
 ghost use Rattle.gm_store.specs.Asked.{IsWithinLimit, name_of, reply_of};
-ghost use Rattle.gm_store.specs.Counted.{counts_in, underlying};
+ghost use Rattle.gm_store.specs.Counted.{counts_in, inner_folders};
 ghost use Rattle.gm_store.specs.Faults.{HasCountedFailure};
 ghost use Rattle.gm_store.specs.Steps.{HasCounted, MayStop, counted_up, has_failed, outcome_of, reply_in, result_of};
 
@@ -27,15 +27,15 @@ pub(crate) fn walk<F: FolderList>(
     marks: &[Mark],
     name: &FileName,
 ) -> Result<Option<Answer>, NoMemory>
-    requires { length marks.now < F.count_for (underlying folders.old) (name_of name.now) }
-    ensures folders { underlying folders.new ≡ underlying folders.old }
+    requires { length marks.now < F.count_for (inner_folders folders.old) (name_of name.now) }
+    ensures folders { inner_folders folders.new ≡ inner_folders folders.old }
     ensures cause { IfOk result (λ answer. IfNone answer
         (HasCountedFailure (counts_in folders.old).failures (counts_in folders.new).failures)) }
     ensures stop { IfOk result (λ answer. (failures : ℕ)
-        × MayStop (λ k seen. F.may_find (underlying folders.old) k (name_of name.now) seen) marks.now
+        × MayStop (λ k seen. F.may_find (inner_folders folders.old) k (name_of name.now) seen) marks.now
         (option_map reply_of answer) failures
         × ((counts_in folders.new).failures ≡ counted_up (counts_in folders.old).failures failures)) }
-    ensures lookups { HasCounted (λ k seen. F.may_find (underlying folders.old) k (name_of name.now) seen) marks.now
+    ensures lookups { HasCounted (λ k seen. F.may_find (inner_folders folders.old) k (name_of name.now) seen) marks.now
         (counts_in folders.old) (counts_in folders.new) }
     ensures within_limit { IfOk result (λ answer. IfSome answer (λ answer. IsWithinLimit (reply_of answer))) }
 {

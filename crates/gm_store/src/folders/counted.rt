@@ -25,12 +25,12 @@ pub struct CountedFolders<F> {
 impl<F: FolderList> CountedFolders<F> {
     ghost use Rattle.std.specs.Prelude.{◌<◌, IfOk, OnErr};
     ghost use Rattle.gm_store.specs.Asked.{IsWithinLimit, name_of};
-    ghost use Rattle.gm_store.specs.Counted.{counts_in, underlying};
+    ghost use Rattle.gm_store.specs.Counted.{counts_in, inner_folders};
     ghost use Rattle.gm_store.specs.Steps.{AreCounted, reply_in};
 
     /// Folders that were not looked into yet.
     pub(crate) fn new(folders: F) -> CountedFolders<F>
-        ensures folders { underlying result ≡ folders }
+        ensures folders { inner_folders result ≡ folders }
         ensures lookups { (counts_in result).lookups ≡ 0 }
         ensures failures { (counts_in result).failures ≡ 0 }
     {
@@ -50,9 +50,9 @@ impl<F: FolderList> CountedFolders<F> {
         folder: usize,
         name: &FileName,
     ) -> Result<Looked, NoMemory>
-        requires { folder < F.count_for (underlying self.old) (name_of name.now) }
-        ensures folders { underlying self.new ≡ underlying self.old }
-        ensures possible { IfOk result (λ looked. F.may_find (underlying self.old) folder (name_of name.now)
+        requires { folder < F.count_for (inner_folders self.old) (name_of name.now) }
+        ensures folders { inner_folders self.new ≡ inner_folders self.old }
+        ensures possible { IfOk result (λ looked. F.may_find (inner_folders self.old) folder (name_of name.now)
             (result_of looked)) }
         ensures within_limit { IfOk result (λ looked. IsWithinLimit (reply_in (result_of looked))) }
         ensures counted { IfOk result (λ looked. AreCounted (result_of looked ∷ [])

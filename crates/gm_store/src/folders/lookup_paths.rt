@@ -5,7 +5,7 @@
 
 ghost use Rattle.std.specs.Prelude.{◌≡◌, ◌<◌, ◌++◌, ℕ, List, OnOk, length, map, string_bytes};
 ghost use Rattle.gm_store.specs.Asked.{name_of};
-ghost use Rattle.gm_store.specs.Placed.{is_absolute, lookup_path_text, placed};
+ghost use Rattle.gm_store.specs.Placed.{is_absolute, lookup_path_text, placed_text};
 ghost use Rattle.gm_store.specs.FolderLookups.{count_for};
 
 use crate::files::FileName;
@@ -43,7 +43,7 @@ fn push_base(
 ) -> Result<(), NoMemory>
     requires { folder < count_for (length proxies.now) (name_of name.now) }
     ensures { OnOk result ((text : List ℕ) → string_bytes place.new ++ text
-        ≡ string_bytes place.old ++ placed main.now (map string_bytes proxies.now) folder (name_of name.now) text) }
+        ≡ string_bytes place.old ++ placed_text main.now (map string_bytes proxies.now) folder (name_of name.now) text) }
 {
     match name {
         FileName::Folder(text) if is_absolute(text.as_str()) => Ok(()),

@@ -5,7 +5,7 @@ ghost use Rattle.std.specs.Prelude.{◌≡◌, ◌++◌, ◌∷◌, [], MatchRes
 ghost use Rattle.std.specs.Option.{option_copied};
 ghost use Rattle.gm_store.specs.Asked.{Name};
 ghost use Rattle.gm_store.specs.States.{HasServed};
-ghost use Rattle.gm_graph.specs.Main.{main_of};
+ghost use Rattle.gm_file.specs.Main.{main_of};
 ghost use Rattle.gomod_run.specs.Outcomes.{FilesReadAs, IsAnswerOver, IsRefusedRead, PrintsFor};
 ghost use Rattle.gomod_run.specs.Needs.{AskedInTurn, FailsInTurn, GraphNeeds};
 ghost use Rattle.gomod_run.specs.Outcome.{OrNoMemory, failed, outcome_view, report_outcome};
@@ -13,7 +13,7 @@ ghost use Rattle.gomod_run.specs.Reports.{device_line};
 
 use crate::listing::printing::tell;
 use crate::listing::query::Query;
-use crate::listing::reading::{main_file, sum_table};
+use crate::listing::reading::sum_table;
 use crate::reports::report::Report;
 use gm_file::MainFile;
 use gm_graph::load;
@@ -40,7 +40,7 @@ fn read_files<'a, 'r>(
         (λ both. FilesReadAs file.now (option_copied sums.entry) (main_of both.main) both.table)
         (λ told. OrNoMemory (IsRefusedRead file.now (option_copied sums.entry)) (report_outcome told)) }
 {
-    let main = main_file(alloc, file)?;
+    let main = MainFile::read_bytes(alloc, file)?;
     let table = sum_table(alloc, sums)?;
     Ok(Read { main, table })
 }

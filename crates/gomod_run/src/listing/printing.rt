@@ -3,7 +3,7 @@
 
 ghost use Rattle.std.specs.Prelude.{◌≡◌, []};
 ghost use Rattle.std.specs.Option.{option_copied};
-ghost use Rattle.gm_graph.specs.Main.{main_of};
+ghost use Rattle.gm_file.specs.Main.{main_of};
 ghost use Rattle.gm_graph_select.specs.BuildList.{entries_of_rows};
 ghost use Rattle.gomod_run.specs.ListingTexts.{limited, list_text};
 ghost use Rattle.gomod_run.specs.Found.{IsOutcomeOfFound, PrintsEdges, PrintsFound, PrintsSteps};
@@ -15,7 +15,7 @@ use crate::listing::query::Query;
 use crate::listing::row_lines::list_text;
 use crate::reports::report::Report;
 use gm_file::MainFile;
-use gm_graph::{Loaded, main_path};
+use gm_graph::Loaded;
 use gm_graph_select::{ChainFault, Rows};
 use gm_name::ModPath;
 use std::alloc::Global;
@@ -28,7 +28,7 @@ fn print_graph<'r>(
 ) -> Result<String, Report<'r>>
     ensures { OrNoMemory (PrintsEdges (main_of main.now) loaded.now) (outcome_view result) }
 {
-    let text = graph_text(alloc, main_path(main), loaded.edges())?;
+    let text = graph_text(alloc, main.module(), loaded.edges())?;
     Ok(text)
 }
 
@@ -43,7 +43,7 @@ fn print_rows<'r>(
         ≡ printed (list_text (main_of main.now).path (limited limit (entries_of_rows rows.entry))))
         (outcome_view result) }
 {
-    let text = list_text(alloc, main_path(main), rows, limit)?;
+    let text = list_text(alloc, main.module(), rows, limit)?;
     Ok(text)
 }
 
@@ -83,7 +83,7 @@ fn print_chain<'q>(
 {
     match loaded.chain(alloc, path) {
         Ok(steps) => {
-            let text = chain_text(alloc, main_path(main), &steps)?;
+            let text = chain_text(alloc, main.module(), &steps)?;
             Ok(text)
         }
         Err(ChainFault::NotListed) => Err(Report::NotListed(path)),

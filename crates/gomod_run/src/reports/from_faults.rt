@@ -1,12 +1,13 @@
 //! The faults of the libraries below as reports, so that `?` passes them on.
 
 ghost use Rattle.std.specs.Prelude.{◌≡◌};
+ghost use Rattle.gm_file.specs.BytesFaults.{fault_by_syntax};
 ghost use Rattle.gomod_run.specs.declared.reports.report.Report.TheVariants as report;
-ghost use Rattle.gomod_run.specs.FromFaults.{report_by_file, report_by_load, report_by_sums, report_by_syntax};
+ghost use Rattle.gomod_run.specs.FromFaults.{report_by_bytes, report_by_load, report_by_sums};
 
 use crate::reports::report::Report;
-use gm_file::FileFault;
-use gm_graph::{LoadFault, Misreading};
+use gm_file::BytesFault;
+use gm_graph::LoadFault;
 use gm_store_sums::SumFault;
 use gm_syntax::SyntaxFault;
 use std::alloc::AllocError;
@@ -20,41 +21,24 @@ impl<'a> From<AllocError> for Report<'a> {
     }
 }
 
-impl<'a> From<SyntaxFault> for Report<'a> {
-    ghost from_gives = { λ fault told. told ≡ report_by_syntax fault };
+impl<'a> From<BytesFault> for Report<'a> {
+    ghost from_gives = { λ fault told. told ≡ report_by_bytes fault };
 
-    /// The report of a main file whose bytes are not a document.
-    fn from(fault: SyntaxFault) -> Report<'a> {
+    /// The report of a main file whose bytes can't be read.
+    fn from(fault: BytesFault) -> Report<'a> {
         match fault {
-            SyntaxFault::NoMemory => Report::NoMemory,
-            SyntaxFault::TooMany => Report::Main {
-                line: 0,
-                kind: Misreading::TooMany,
-            },
-            SyntaxFault::NotUtf8 => Report::Main {
-                line: 0,
-                kind: Misreading::NotUtf8,
-            },
-            SyntaxFault::Syntax { line, kind } => Report::Main {
-                line,
-                kind: Misreading::Syntax(kind),
-            },
+            BytesFault::NoMemory => Report::NoMemory,
+            BytesFault::Misread { line, kind } => Report::Main { line, kind },
         }
     }
 }
 
-impl<'a> From<FileFault> for Report<'a> {
-    ghost from_gives = { λ fault told. told ≡ report_by_file fault };
+impl<'a> From<SyntaxFault> for Report<'a> {
+    ghost from_gives = { λ fault told. told ≡ report_by_bytes (fault_by_syntax fault) };
 
-    /// The report of a main file with an invalid directive.
-    fn from(fault: FileFault) -> Report<'a> {
-        match fault {
-            FileFault::NoMemory => Report::NoMemory,
-            FileFault::Directive { line, kind } => Report::Main {
-                line,
-                kind: Misreading::Directive(kind),
-            },
-        }
+    /// The report of a main file whose bytes are not a document.
+    fn from(fault: SyntaxFault) -> Report<'a> {
+        Report::from(BytesFault::from(fault))
     }
 }
 

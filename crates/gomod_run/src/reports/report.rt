@@ -5,7 +5,8 @@ ghost use Rattle.gomod_run.specs.Outcome.{report_status};
 ghost use Rattle.gomod_run.specs.Reports.{refusal_word};
 
 use crate::reports::status::Status;
-use gm_graph::{Class, Fault, Misreading};
+use gm_file::Misreading;
+use gm_graph::{Class, Fault};
 use gm_name::{ModPath, ModVersion};
 use gm_store::FileName;
 

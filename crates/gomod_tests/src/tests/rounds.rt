@@ -2,8 +2,8 @@
 //! of deeply opened modules, and each round reads every file again. It ignores the go.sum.
 
 use super::{File, OUT_OF_MEMORY};
-use gm_file::{DepFile, FileFault, MainFile, Right};
-use gm_graph::{Class, Fault, Misreading};
+use gm_file::{DepFile, FileFault, MainFile, Misreading, Right};
+use gm_graph::{Class, Fault};
 use gm_graph_select::{Edge, Row, Step};
 use gm_name::ModVer;
 use gm_syntax::Doc;

@@ -1,21 +1,22 @@
 use Rattle.std.proofs.Common.{ℕ, List, [], ◌∷◌, ◌++◌, Err, ap, subst, sym, ◌∙◌}
 use Rattle.gm_syntax.specs.Parsed.{IsParsedAs}
-use Rattle.gm_file.specs.declared.fault.ReadFault.{ReadFault}
-use Rattle.gm_file.specs.DepLines.{IsMisread}
-use Rattle.gm_file.specs.ReadFaults.{read_by_file}
+use Rattle.gm_file.specs.declared.misreading.BytesFault.{BytesFault}
+use Rattle.gm_file.specs.BytesFaults.{fault_by_file}
+use Rattle.gm_file.specs.Directives.{Lax}
+use Rattle.gm_file.specs.Misreading.{IsBytesFault}
 use Rattle.gm_file.specs.Views.{file_fault_at}
 use Rattle.gm_file.proofs.DepReading.{misread-line, misread-syntax}
 use Rattle.gm_file.proofs.dep_lines.fault_of_all.Goals as goal
 
 pub returns-in-Ok : goal.returns-in-Ok
 returns-in-Ok c = λ lines here so told.
-    let fault = read_by_file (file_fault_at c.lines_read-number.result c.args.fault) in
+    let fault = fault_by_file (file_fault_at c.lines_read-number.result c.args.fault) in
     let misread = misread-line c.skip_rest.new.self lines here c.lines_read-number.result c.args.fault (c.lines_read-number.ensures (lines ++ here ∷ []) so) told
     (c.in-Ok.ensures.rest (lines ++ here ∷ []) so) in
-    subst (λ (f : ReadFault). IsMisread c.args.reader.now.source f) (sym (c.from.ensures ∙ ap read_by_file c.at_line.ensures))
-    (subst (λ (source : List ℕ). IsMisread source fault) c.in-Ok.ensures.source misread)
+    subst (λ (f : BytesFault). IsBytesFault Lax c.args.reader.now.source f) (sym (c.from.ensures ∙ ap fault_by_file c.at_line.ensures))
+    (subst (λ (source : List ℕ). IsBytesFault Lax source fault) c.in-Ok.ensures.source misread)
 
 pub returns-in-Err : goal.returns-in-Err
 returns-in-Err c = λ lines here so told.
     let parsed = subst (λ (source : List ℕ). IsParsedAs source (Err c.in-Err.syntax)) c.in-Err.ensures.source (c.in-Err.ensures.rest (lines ++ here ∷ []) so).2 in
-    subst (λ (f : ReadFault). IsMisread c.args.reader.now.source f) (sym c.from-in-Err.ensures) (misread-syntax c.args.reader.now.source c.in-Err.syntax parsed)
+    subst (λ (f : BytesFault). IsBytesFault Lax c.args.reader.now.source f) (sym c.from-in-Err.ensures) (misread-syntax Lax c.args.reader.now.source c.in-Err.syntax parsed)

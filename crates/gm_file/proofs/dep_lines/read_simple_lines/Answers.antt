@@ -1,5 +1,6 @@
 use Rattle.std.proofs.Common.{ℕ, List, subst, ◌∙◌, arith}
-use Rattle.gm_file.specs.DepLines.{IsMisread}
+use Rattle.gm_file.specs.Directives.{Lax}
+use Rattle.gm_file.specs.Misreading.{IsBytesFault}
 use Rattle.gm_file.proofs.SimpleLines.{sofar-more}
 use Rattle.gm_file.proofs.dep_lines.read_simple_lines.Goals as goal
 
@@ -21,4 +22,4 @@ pub returns-in-Err-clause-fault : goal.returns-in-Err-clause-fault
 returns-in-Err-clause-fault c =
     let so = c.loop-line.invariant.read in
     let said = c.in-Err.ensures.read so.0 c.next_simple.new.self so.2 (c.in-Some.ensures.read so.0 so.1) in
-    subst (λ (s : List ℕ). IsMisread s c.fault_of_all.result) (c.in-Some.ensures.source ∙ c.loop-line.invariant.source) (c.fault_of_all.ensures so.0 said.0 said.1 said.2)
+    subst (λ (s : List ℕ). IsBytesFault Lax s c.fault_of_all.result) (c.in-Some.ensures.source ∙ c.loop-line.invariant.source) (c.fault_of_all.ensures so.0 said.0 said.1 said.2)

@@ -1,4 +1,5 @@
 use Rattle.std.proofs.Common.{◌≡◌, ℕ, List, Option, ap, codes, sym, subst, ◌∙◌}
+use Rattle.std.proofs.lemmas.Bool.{not-false}
 use Rattle.std.specs.Prelude.{IfOk}
 use Rattle.std.specs.Option.{option_map}
 use Rattle.std.specs.Str.{bytes_eq}
@@ -6,7 +7,7 @@ use Rattle.gm_syntax.specs.Tokens.{words_of}
 use Rattle.gm_name.proofs.NameTests.{not_true}
 use Rattle.gm_file.specs.Directives.{VersionInterval}
 use Rattle.gm_file.specs.Views.{interval_view}
-use Rattle.gm_file.proofs.Retracted.{not-false, other-retracts, retract-retracts}
+use Rattle.gm_file.proofs.Retracted.{other-retracts, retract-retracts}
 use Rattle.gm_file.proofs.retractions.retraction_at.Goals as goal
 
 pub returns-then-ne : goal.returns-then-ne

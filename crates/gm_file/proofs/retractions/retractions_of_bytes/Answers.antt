@@ -2,6 +2,7 @@ use Rattle.std.proofs.Common.{ℕ, List, Err, subst, ◌∙◌}
 use Rattle.std.proofs.lemmas.Result.{err_from_is_err_and}
 use Rattle.gm_syntax.specs.LineViews.{line_of, plain_lines}
 use Rattle.gm_syntax.specs.Parsed.{IsParsedAs}
+use Rattle.gm_file.specs.Directives.{Lax}
 use Rattle.gm_file.proofs.DepReading.{misread-syntax}
 use Rattle.gm_file.proofs.Retracted.{retracted-sofar}
 use Rattle.gm_file.proofs.retractions.retractions_of_bytes.Goals as goal
@@ -13,7 +14,7 @@ returns-in_err-line-clause-fault c =
     let parsed : IsParsedAs c.args.bytes.now (Err fault) =
     subst (λ (source : List ℕ). IsParsedAs source (Err fault)) (c.in_err-line.ensures.source ∙ c.loop-said.invariant.source ∙ c.in_ok-reader.ensures.source) (c.in_err-line.ensures.next so.0 so.1) in
     let p = err_from_is_err_and c.from_residual-in_err-line.result c.from_residual-in_err-line.ensures.1 in
-    rw (p.1, p.2) (misread-syntax c.args.bytes.now fault parsed)
+    rw (p.1, p.2) (misread-syntax Lax c.args.bytes.now fault parsed)
 
 pub loop-said-preserved : goal.loop-said-preserved
 loop-said-preserved c =

@@ -9,5 +9,5 @@ returns-then-not-has_mark c =
 
 pub returns : goal.returns
 returns c =
-    c.keep_unmarked.ensures
-    ∙ pack-is c.args.marks.items c.widen.new.marks.items c.as_slice-2.result.now c.args.lines.now c.lines.result.now c.lines.ensures.lines c.as_slice-2.ensures.value c.widen.ensures.marks
+    c.remove_marked.ensures
+    ∙ pack-is c.args.marks.items c.widen.new.marks.items c.as_slice-2.result.now c.args.lines.now c.as_slice-2.ensures.value c.widen.ensures.marks

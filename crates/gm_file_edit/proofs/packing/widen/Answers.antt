@@ -10,13 +10,14 @@ loop-n-preserved c =
     let n = c.loop-n.n in
     let state = c.loop-n.state in
     let inside = c.loop-n-test.true in
+    let len = c.len-n-end.ensures in
     elim c.if-not-index.branch [
       | then-not-index w ↦
           let after = w.after_line-state.result in
           rw (w.marks-is, w.state-is)
-          (widen-line lines old n state.inside state.goes after.inside after.goes c.index.result.now after.mark c.loop-n.marks.items w.as_slice.result.now _ c.index-lines-n.result c.requires (omega (arith, inside)) c.index-lines-n.is
+          (widen-line lines old n state.inside state.goes after.inside after.goes c.index.result.now after.mark c.loop-n.marks.items w.as_slice.result.now _ c.requires (omega (arith, inside, len))
           c.index.ensures w.if-not-index.true w.as_slice.ensures.value w.after_line-state.ensures refl c.loop-n.invariant)
       | else-not-index w ↦
           rw (w.marks-is, w.state-is)
-          (widen-marked lines old n state.inside state.goes c.index.result.now c.loop-n.marks.items c.index-lines-n.result c.requires (omega (arith, inside)) c.index-lines-n.is c.index.ensures w.if-not-index.false c.loop-n.invariant)
+          (widen-marked lines old n state.inside state.goes c.index.result.now c.loop-n.marks.items c.requires (omega (arith, inside, len)) c.index.ensures w.if-not-index.false c.loop-n.invariant)
     ]

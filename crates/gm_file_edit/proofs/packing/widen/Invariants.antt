@@ -1,6 +1,5 @@
-use Rattle.gm_syntax.specs.LineViews.{line_views}
 use Rattle.gm_file_edit.proofs.Packs.{IsWidenedTo}
 use Rattle.gm_file_edit.proofs.packing.widen.Given as goal
 
 abbrev pub invariant-loop-n : goal.invariant-loop-n
-invariant-loop-n l = IsWidenedTo (line_views l.lines) l.initial.marks.items l.n l.state.inside l.state.goes l.marks.items
+invariant-loop-n l = IsWidenedTo l.lines l.initial.marks.items l.n l.state.inside l.state.goes l.marks.items

@@ -1,6 +1,6 @@
 use Rattle.std.proofs.Common.{◌≡◌, ◌++◌, drop}
 use Rattle.gm_name_table.specs.Listed.{listed}
-use Rattle.gm_graph.specs.Main.{main_of, without_excluded}
+use Rattle.gm_file.specs.Main.{main_of, without_excluded}
 use Rattle.gm_graph.proofs.cache.first_modules.Given as goal
 
 abbrev pub invariant-loop-y : goal.invariant-loop-y

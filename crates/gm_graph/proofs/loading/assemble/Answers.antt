@@ -1,5 +1,5 @@
 use Rattle.std.proofs.Common.{List, sym, subst}
-use Rattle.gm_graph.specs.Main.{main_of}
+use Rattle.gm_file.specs.Main.{main_of}
 use Rattle.gm_graph_select.specs.declared.step.Edge.{Edge}
 use Rattle.gm_graph_select.specs.Adjacency.{left_by}
 use Rattle.gm_graph_select.specs.BuildList.{Entry, IsBuildList, entries_of_rows}

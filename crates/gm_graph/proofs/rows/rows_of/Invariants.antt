@@ -1,5 +1,5 @@
 use Rattle.std.proofs.Common.{◌≡◌, ◌++◌, ◌∷◌, map}
-use Rattle.gm_graph.specs.Main.{main_of}
+use Rattle.gm_file.specs.Main.{main_of}
 use Rattle.gm_graph_select.specs.BuildList.{entries_of_rows, entry_of, main_entry}
 use Rattle.gm_graph.proofs.rows.rows_of.Given as goal
 

@@ -1,7 +1,7 @@
 use Rattle.std.proofs.Common.{◌∙◌, Err, List, ap, subst, sym}
 use Rattle.gm_name.specs.ModuleVersion.{ModuleVersion}
 use Rattle.gm_graph.specs.Lent.{lent_modules, lent_table}
-use Rattle.gm_graph.specs.Main.{main_of}
+use Rattle.gm_file.specs.Main.{main_of}
 use Rattle.gm_graph.specs.EdgeLists.{numbers_of}
 use Rattle.gm_graph.specs.Visiting.{IsFirstGraph}
 use Rattle.gm_graph.specs.declared.edge_lists.EdgeLists.{EdgeLists}

@@ -3,7 +3,7 @@ use Rattle.gm_name.specs.ModuleVersion.{ModuleVersion, module_at}
 use Rattle.gm_graph_select.specs.declared.step.Step.{Step}
 use Rattle.gm_graph_select.specs.declared.step.Step.TheVariants.{Main, Of}
 use Rattle.gm_graph_select.specs.Numbering.{graph_edges, steps_of}
-use Rattle.gm_graph_select.specs.Searching.{visited}
+use Rattle.gm_graph_select.specs.Searching.{visited_step}
 use Rattle.gm_graph_select.proofs.BreadthFirst.{back_begins, back_done, back_longer, back_more}
 use Rattle.gm_graph_select.proofs.chaining.walk_back.Goals as goal
 
@@ -25,7 +25,7 @@ back-preserved c =
     let more : c.push_step-in-Some.new.steps.items ≡ c.back.steps.items ++ Of c.in-Some.vertex.now ∷ [] = c.in_ok-push_step-2.ensures in
     record {
       inside = let room = c.back.invariant.inside in omega (arith, below, room);
-      chain = λ l h. back_longer E steps visits (module_at c.args.graph.now.vertices c.args.goal) (visited steps visits k) (Of c.in-Some.vertex.now) c.back.steps.items c.push_step-in-Some.new.steps.items more l (c.back.invariant.chain (l ++ Of c.in-Some.vertex.now ∷ []) (chain l h));
+      chain = λ l h. back_longer E steps visits (module_at c.args.graph.now.vertices c.args.goal) (visited_step steps visits k) (Of c.in-Some.vertex.now) c.back.steps.items c.push_step-in-Some.new.steps.items more l (c.back.invariant.chain (l ++ Of c.in-Some.vertex.now ∷ []) (chain l h));
     }
 
 pub returns : goal.returns
@@ -34,4 +34,4 @@ returns c =
     let steps = steps_of c.args.graph.now in
     let visits = c.args.visits.now in
     let all : c.reverse.new.self.items ≡ reverse (c.back.steps.items ++ Main ∷ []) = c.reverse.ensures.items ∙ ap reverse c.in_ok-push.ensures.items in
-    back_done E steps visits (module_at c.args.graph.now.vertices c.args.goal) (visited steps visits c.back.place) c.back.steps.items c.reverse.new.self.items c.in_default.ensures.none all c.back.invariant.chain
+    back_done E steps visits (module_at c.args.graph.now.vertices c.args.goal) (visited_step steps visits c.back.place) c.back.steps.items c.reverse.new.self.items c.in_default.ensures.none all c.back.invariant.chain

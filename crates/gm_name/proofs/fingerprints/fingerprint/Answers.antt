@@ -1,13 +1,13 @@
 use Rattle.std.proofs.Common.{◌∙◌, ℕ, List, ap}
-use Rattle.gm_name.specs.Fingerprint.{fingerprint, first_eight, mixed}
+use Rattle.gm_name.specs.Fingerprint.{fingerprint, first_eight, number_with_word}
 use Rattle.gm_name.proofs.Words.{after_eight, no_word}
 use Rattle.gm_name.proofs.fingerprints.fingerprint.Goals as goal
 
 pub words-preserved : goal.words-preserved
 words-preserved c =
     let was = c.words.rest.now in
-    ap (λ (number : ℕ). fingerprint number c.after_eight-rest.result.now) (c.mixed-number.ensures ∙ ap (mixed c.words.number) c.first_eight.ensures)
-    ∙ ap (λ (rest : List ℕ). fingerprint (mixed c.words.number (first_eight was)) rest) c.after_eight-rest.ensures
+    ap (λ (number : ℕ). fingerprint number c.after_eight-rest.result.now) (c.mixed-number.ensures ∙ ap (number_with_word c.words.number) c.first_eight.ensures)
+    ∙ ap (λ (rest : List ℕ). fingerprint (number_with_word c.words.number (first_eight was)) rest) c.after_eight-rest.ensures
     ∙ after_eight c.words.number was c.words-test.true
     ∙ c.words.invariant
 

@@ -4,7 +4,7 @@ use Rattle.std.proofs.iter.FirstChar.{cut}
 use Rattle.std.proofs.lemmas.List.{nil_from_length, take-append-drop}
 use Rattle.std.proofs.lemmas.Bool.{eqb-true, eqb-false}
 use Rattle.gm_syntax.specs.Lines.{lines_of, line_len}
-use Rattle.gm_syntax.proofs.Lines.{CutLine, cut_at, line_boundary, past_boundary}
+use Rattle.gm_syntax.proofs.Lines.{CutLine, CutLine-line_len, line_boundary, past_boundary}
 use Rattle.gm_syntax.proofs.Places.{suffix_of}
 use Rattle.gm_syntax.proofs.line_reader.split_first_line.Goals as goal
 use Rattle.gm_syntax.proofs.line_reader.split_first_line.Goals.{After-split_at}
@@ -13,7 +13,7 @@ len_is : (c : After-split_at) → c.line_len.result ≡ line_len c.args.text.now
 len_is c = c.line_len.ensures ∙ ap line_len c.as_bytes.ensures.value
 
 cut_is : (c : After-split_at) → CutLine c.args.text.now c.split_at.result.0.now c.split_at.result.1.now
-cut_is c = cut_at c.args.text.now c.split_at.result.0.now c.split_at.result.1.now c.requires (c.split_at.ensures.front ∙ ap (λ (n : ℕ). take n c.args.text.now) (len_is c)) (c.split_at.ensures.back ∙ ap (λ (n : ℕ). drop n c.args.text.now) (len_is c))
+cut_is c = CutLine-line_len c.args.text.now c.split_at.result.0.now c.split_at.result.1.now c.requires (c.split_at.ensures.front ∙ ap (λ (n : ℕ). take n c.args.text.now) (len_is c)) (c.split_at.ensures.back ∙ ap (λ (n : ℕ). drop n c.args.text.now) (len_is c))
 
 pub split_at-requires : goal.split_at-requires
 split_at-requires c = subst (IsCharBoundary c.args.text.now) (sym (c.line_len.ensures ∙ ap line_len c.as_bytes.ensures.value)) (line_boundary c.args.text.now c.utf8.text)

@@ -5,7 +5,7 @@ use Rattle.gm_graph.specs.declared.cache.load_fault.LoadFault.{LoadFault}
 use Rattle.gm_graph.specs.declared.cache.load_fault.LoadFault.TheVariants as load
 use Rattle.gm_graph.specs.Asking.{StillLacks}
 use Rattle.gm_graph.specs.Cached.{IsKnownAs, IsPlaceFor, held_of, main_in, modules_in, numbered}
-use Rattle.gm_graph.specs.Main.{Main, main_of}
+use Rattle.gm_file.specs.Main.{Main, main_of}
 use Rattle.gm_graph.specs.Reading.{file_of}
 use Rattle.gm_graph.specs.Refusals.{refused_names}
 use Rattle.gm_graph.proofs.Growing.{number_below, number_stays}

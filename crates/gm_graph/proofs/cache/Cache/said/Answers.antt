@@ -9,7 +9,7 @@ use Rattle.gm_graph.specs.declared.cache.summary.Kept.{Kept}
 use Rattle.gm_graph.specs.declared.cache.summary.Kept.TheVariants.{Valid}
 use Rattle.gm_graph.specs.declared.cache.visit.Visit.TheVariants as visit
 use Rattle.gm_graph.specs.Cached.{HasFileAt, IsPlaceFor, IsSound, held_of, main_in, numbered, summary_at}
-use Rattle.gm_graph.specs.Main.{replacement_in}
+use Rattle.gm_file.specs.Main.{replacement_in}
 use Rattle.gm_graph.specs.Reading.{file_of, is_right_path, readings_by, requirements_in, said_in}
 use Rattle.gm_graph.specs.Summaries.{at_span, summary_reading}
 use Rattle.gm_graph.specs.Turns.{leads_on_in}

@@ -1,5 +1,5 @@
 use Rattle.std.proofs.Common.{◌≡◌, ◌++◌}
-use Rattle.gm_graph.specs.Main.{without_excluded, main_of}
+use Rattle.gm_file.specs.Main.{without_excluded, main_of}
 use Rattle.gm_graph.proofs.cache.summary.copy_kept.Given as goal
 
 abbrev pub invariant-loop-x : goal.invariant-loop-x

@@ -3,7 +3,7 @@ use Rattle.std.proofs.lemmas.List.{length-map}
 use Rattle.std.specs.List.{list_any}
 use Rattle.gm_name.specs.ModuleVersion.{module_at}
 use Rattle.gm_name_table.specs.Listed.{listed}
-use Rattle.gm_graph.specs.Main.{is_excluded, main_of}
+use Rattle.gm_file.specs.Main.{is_excluded, main_of}
 use Rattle.gm_graph.proofs.Spans.{summary_together}
 use Rattle.gm_graph.proofs.cache.summary.summary_of.Goals as goal
 

@@ -2,7 +2,7 @@ use Rattle.std.proofs.Common.{◌∙◌, List, ap, length, map, subst, sym}
 use Rattle.std.specs.Prelude.{All}
 use Rattle.gm_graph_select.specs.Adjacency.{by_step}
 use Rattle.gm_graph_select.specs.EdgeList.{AreEndsBelow, NumberedEdge, edge_with}
-use Rattle.gm_graph_select.proofs.EdgeLists.{edges_are, pairs_below}
+use Rattle.gm_graph_select.proofs.EdgeLists.{edges_of-numbered, pairs_below}
 use Rattle.gm_graph_select.proofs.edge_list.Edges.all.Goals as goal
 
 pub invariant_of-result : goal.invariant_of-result
@@ -11,4 +11,4 @@ invariant_of-result c =
     subst (λ (pairs : List NumberedEdge). All (AreEndsBelow count) pairs) (sym c.all.ensures) (pairs_below count (by_step c.args.lists.now c.args.sources.now) c.requires)
 
 pub returns : goal.returns
-returns c = ap (λ (pairs : List NumberedEdge). map (edge_with c.args.vertices.now) pairs) c.all.ensures ∙ edges_are c.args.vertices.now (by_step c.args.lists.now c.args.sources.now)
+returns c = ap (λ (pairs : List NumberedEdge). map (edge_with c.args.vertices.now) pairs) c.all.ensures ∙ edges_of-numbered c.args.vertices.now (by_step c.args.lists.now c.args.sources.now)

@@ -1,10 +1,10 @@
 use Rattle.std.proofs.Common.{◌∙◌, ap, arith, refl, subst, sym}
 use Rattle.gm_store.specs.Asked.{name_of}
-use Rattle.gm_store.specs.Counted.{counts_in, underlying}
+use Rattle.gm_store.specs.Counted.{counts_in, inner_folders}
 use Rattle.gm_store.specs.Steps.{Counts, HasCounted, reply_in, result_of, step_of}
 use Rattle.gm_store.specs.declared.fallback.step.Next.TheVariants.{Take, Fail}
 use Rattle.gm_store.proofs.Limits.{same_limit}
-use Rattle.gm_store.proofs.Walks.{fail_counts, fail_outcome, none_passed, one_more, passed_counts, stop_counts, take_sound, walk_ends}
+use Rattle.gm_store.proofs.Walks.{fail_counts, fail_outcome, none_passed, HasPassed-one_more, passed_counts, stop_counts, take_sound, walk_ends}
 use Rattle.gm_store.proofs.fallback.walk.walk.Goals as goal
 
 pub turns-init : goal.turns-init
@@ -14,7 +14,7 @@ pub turns-preserved : goal.turns-preserved
 turns-preserved g c =
     let seen = subst (λ folders. g.F.FolderList.may_find folders c.turns.at (name_of c.args.name.now) (result_of c.in_ok-looked.looked)) c.turns.invariant.0 c.in_ok-looked.ensures.possible in (
       c.look.ensures.folders ∙ c.turns.invariant.0,
-      one_more _ c.args.marks.now c.turns.at (counts_in c.args.folders.now) (counts_in c.turns.folders) _ (result_of c.in_ok-looked.looked) c.turns.invariant.1 seen
+      HasPassed-one_more _ c.args.marks.now c.turns.at (counts_in c.args.folders.now) (counts_in c.turns.folders) _ (result_of c.in_ok-looked.looked) c.turns.invariant.1 seen
           (c.in-Go.ensures ∙ ap (step_of (result_of c.in_ok-looked.looked)) c.mark_at.ensures) c.in_ok-looked.ensures.counted,
     )
 
@@ -50,4 +50,4 @@ returns-in-Fail-clause-lookups g c =
 
 pub returns-in_err-looked-clause-lookups : goal.returns-in_err-looked-clause-lookups
 returns-in_err-looked-clause-lookups g c =
-    subst (λ (counts : Counts). HasCounted (λ k seen. g.F.FolderList.may_find (underlying c.args.folders.now) k (name_of c.args.name.now) seen) c.args.marks.now (counts_in c.args.folders.now) counts) (sym c.in_err-looked.ensures.no_memory) (passed_counts c.turns.invariant.1)
+    subst (λ (counts : Counts). HasCounted (λ k seen. g.F.FolderList.may_find (inner_folders c.args.folders.now) k (name_of c.args.name.now) seen) c.args.marks.now (counts_in c.args.folders.now) counts) (sym c.in_err-looked.ensures.no_memory) (passed_counts c.turns.invariant.1)

@@ -1,6 +1,6 @@
 use Rattle.std.proofs.Common.{◌+◌, ℕ, Bor, List, Option, subst, sym, take, option_map}
 use Rattle.gm_store.specs.Latest.{IsGreatestOrNone}
-use Rattle.gm_store.proofs.Greatest.{step_more, step_same, whole}
+use Rattle.gm_store.proofs.Greatest.{step_more, step_same, take-whole}
 use Rattle.gm_store.proofs.versions.latest.greatest.Goals as goal
 use Rattle.gm_store.proofs.versions.latest.greatest.Goals.{then-is_better, else-is_better}
 
@@ -18,4 +18,4 @@ loop-version-preserved c =
 
 pub returns : goal.returns
 returns c = subst (λ xs. IsGreatestOrNone c.args.releases_only xs (option_map (λ best. best.now) c.loop-version.best))
-    (whole c.args.versions.now c.loop-version.version-index c.loop-version.auto.version-index-end c.loop-version-test.false) c.loop-version.invariant
+    (take-whole c.args.versions.now c.loop-version.version-index c.loop-version.auto.version-index-end c.loop-version-test.false) c.loop-version.invariant

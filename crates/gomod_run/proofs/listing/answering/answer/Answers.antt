@@ -1,7 +1,7 @@
 use Rattle.std.proofs.lemmas.Result.{err_from_is_err_and}
 use Rattle.std.specs.Option.{option_copied}
 use Rattle.gm_store.proofs.Serving.{nothing_served}
-use Rattle.gm_graph.specs.Main.{main_of}
+use Rattle.gm_file.specs.Main.{main_of}
 use Rattle.gomod_run.specs.Outcome.{outcome_view}
 use Rattle.gomod_run.specs.Needs.{GraphNeeds}
 use Rattle.gomod_run.proofs.CommandOutcomes.{answered, both_ok, broken, not_broken, not_loaded, refused_read, unasked}

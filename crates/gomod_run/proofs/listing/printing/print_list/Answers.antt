@@ -1,6 +1,6 @@
 use Rattle.std.proofs.Common.{sym, subst}
 use Rattle.std.specs.Option.{option_copied}
-use Rattle.gm_graph.specs.Main.{main_of}
+use Rattle.gm_file.specs.Main.{main_of}
 use Rattle.gm_graph_select.specs.BuildList.{IsRestAfter, entries_of_rows}
 use Rattle.gomod_run.specs.Outcome.{OrNoMemory, outcome_view}
 use Rattle.gomod_run.specs.Outcomes.{PrintsRows}

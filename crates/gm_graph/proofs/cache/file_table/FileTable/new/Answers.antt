@@ -2,7 +2,7 @@ use Rattle.std.proofs.Common.{◌≡◌, refl}
 use Rattle.std.proofs.lemmas.List.{take_all}
 use Rattle.std.proofs.lemmas.Map.Views.{All-values-insert_entry}
 use Rattle.gm_store.specs.contracts.files.FileNameOrd.TheImpl.{cmp-value}
-use Rattle.gm_graph.specs.Main.{main_of}
+use Rattle.gm_file.specs.Main.{main_of}
 use Rattle.gm_graph.specs.Places.{no_place}
 use Rattle.gm_graph.proofs.Replacements.{has_replacing, one_more_line}
 use Rattle.gm_graph.proofs.cache.file_table.FileTable.new.Goals as goal

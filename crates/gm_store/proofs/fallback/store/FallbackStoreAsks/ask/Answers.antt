@@ -1,7 +1,7 @@
 use Rattle.std.proofs.Common.{◌∙◌, List, Some, None, ap, arith, refl, subst}
 use Rattle.std.specs.Prelude.{map}
 use Rattle.gm_store.specs.Asked.{name_of, reply_of}
-use Rattle.gm_store.specs.Counted.{counts_in, underlying}
+use Rattle.gm_store.specs.Counted.{counts_in, inner_folders}
 use Rattle.gm_store.specs.FolderLookups.{MayAnswerFrom, marks_for}
 use Rattle.gm_store.specs.Steps.{HasCounted, MayStop}
 use Rattle.gm_store.specs.declared.fallback.proxy_list.Mark.{Mark}
@@ -14,27 +14,27 @@ use Rattle.gm_store.proofs.fallback.store.FallbackStoreAsks.ask.Goals as goal
 pub returns-in_err-outcome-clause-lookups : goal.returns-in_err-outcome-clause-lookups
 returns-in_err-outcome-clause-lookups g c =
     let marks = c.marks_for-marks.ensures ∙ ap (marks_for (name_of c.args.name.now)) c.deref.ensures.value in
-    subst (λ (ms : List Mark). HasCounted (λ k seen. g.F.FolderList.may_find (underlying c.args.self.now.folders) k (name_of c.args.name.now) seen) ms (counts_in c.args.self.now.folders) (counts_in c.walk.new.folders)) marks c.walk.ensures.lookups
+    subst (λ (ms : List Mark). HasCounted (λ k seen. g.F.FolderList.may_find (inner_folders c.args.self.now.folders) k (name_of c.args.name.now) seen) ms (counts_in c.args.self.now.folders) (counts_in c.walk.new.folders)) marks c.walk.ensures.lookups
 
 pub returns-in_err-keep-in-Some-clause-lookups : goal.returns-in_err-keep-in-Some-clause-lookups
 returns-in_err-keep-in-Some-clause-lookups g c =
     let marks = c.marks_for-marks.ensures ∙ ap (marks_for (name_of c.args.name.now)) c.deref.ensures.value in
-    subst (λ (ms : List Mark). HasCounted (λ k seen. g.F.FolderList.may_find (underlying c.args.self.now.folders) k (name_of c.args.name.now) seen) ms (counts_in c.args.self.now.folders) (counts_in c.walk.new.folders)) marks c.walk.ensures.lookups
+    subst (λ (ms : List Mark). HasCounted (λ k seen. g.F.FolderList.may_find (inner_folders c.args.self.now.folders) k (name_of c.args.name.now) seen) ms (counts_in c.args.self.now.folders) (counts_in c.walk.new.folders)) marks c.walk.ensures.lookups
 
 pub returns-in_ok-keep-in-Some-clause-lookups : goal.returns-in_ok-keep-in-Some-clause-lookups
 returns-in_ok-keep-in-Some-clause-lookups g c =
     let marks = c.marks_for-marks.ensures ∙ ap (marks_for (name_of c.args.name.now)) c.deref.ensures.value in
-    subst (λ (ms : List Mark). HasCounted (λ k seen. g.F.FolderList.may_find (underlying c.args.self.now.folders) k (name_of c.args.name.now) seen) ms (counts_in c.args.self.now.folders) (counts_in c.walk.new.folders)) marks c.walk.ensures.lookups
+    subst (λ (ms : List Mark). HasCounted (λ k seen. g.F.FolderList.may_find (inner_folders c.args.self.now.folders) k (name_of c.args.name.now) seen) ms (counts_in c.args.self.now.folders) (counts_in c.walk.new.folders)) marks c.walk.ensures.lookups
 
 pub returns-in_err-keep_name-in-None-clause-lookups : goal.returns-in_err-keep_name-in-None-clause-lookups
 returns-in_err-keep_name-in-None-clause-lookups g c =
     let marks = c.marks_for-marks.ensures ∙ ap (marks_for (name_of c.args.name.now)) c.deref.ensures.value in
-    subst (λ (ms : List Mark). HasCounted (λ k seen. g.F.FolderList.may_find (underlying c.args.self.now.folders) k (name_of c.args.name.now) seen) ms (counts_in c.args.self.now.folders) (counts_in c.walk.new.folders)) marks c.walk.ensures.lookups
+    subst (λ (ms : List Mark). HasCounted (λ k seen. g.F.FolderList.may_find (inner_folders c.args.self.now.folders) k (name_of c.args.name.now) seen) ms (counts_in c.args.self.now.folders) (counts_in c.walk.new.folders)) marks c.walk.ensures.lookups
 
 pub returns-in_ok-keep_name-in-None-clause-lookups : goal.returns-in_ok-keep_name-in-None-clause-lookups
 returns-in_ok-keep_name-in-None-clause-lookups g c =
     let marks = c.marks_for-marks.ensures ∙ ap (marks_for (name_of c.args.name.now)) c.deref.ensures.value in
-    subst (λ (ms : List Mark). HasCounted (λ k seen. g.F.FolderList.may_find (underlying c.args.self.now.folders) k (name_of c.args.name.now) seen) ms (counts_in c.args.self.now.folders) (counts_in c.walk.new.folders)) marks c.walk.ensures.lookups
+    subst (λ (ms : List Mark). HasCounted (λ k seen. g.F.FolderList.may_find (inner_folders c.args.self.now.folders) k (name_of c.args.name.now) seen) ms (counts_in c.args.self.now.folders) (counts_in c.walk.new.folders)) marks c.walk.ensures.lookups
 
 -- ---- memory ran out, so the device's failure is not the cause
 
@@ -53,7 +53,7 @@ returns-in_ok-keep-in-Some-clause-counted g c =
     let marks = c.marks_for-marks.ensures ∙ ap (marks_for (name_of c.args.name.now)) c.deref.ensures.value in (
       reply_of c.in-Some.answer,
       stop.0,
-      subst (λ (ms : List Mark). MayStop (λ k seen. g.F.FolderList.may_find (underlying c.args.self.now.folders) k (name_of c.args.name.now) seen) ms (Some (reply_of c.in-Some.answer)) stop.0) marks stop.1,
+      subst (λ (ms : List Mark). MayStop (λ k seen. g.F.FolderList.may_find (inner_folders c.args.self.now.folders) k (name_of c.args.name.now) seen) ms (Some (reply_of c.in-Some.answer)) stop.0) marks stop.1,
       c.in_ok-keep-in-Some.ensures.ok,
       stop.2,
     )
@@ -62,7 +62,7 @@ pub returns-in_ok-keep_name-in-None-clause-device : goal.returns-in_ok-keep_name
 returns-in_ok-keep_name-in-None-clause-device g c = λ _.
     let stop = rw c.in-None.is at c.in_ok-outcome.ensures.stop in
     let marks = c.marks_for-marks.ensures ∙ ap (marks_for (name_of c.args.name.now)) c.deref.ensures.value in
-    (stop.0, subst (λ (ms : List Mark). MayStop (λ k seen. g.F.FolderList.may_find (underlying c.args.self.now.folders) k (name_of c.args.name.now) seen) ms None stop.0) marks stop.1, stop.2)
+    (stop.0, subst (λ (ms : List Mark). MayStop (λ k seen. g.F.FolderList.may_find (inner_folders c.args.self.now.folders) k (name_of c.args.name.now) seen) ms None stop.0) marks stop.1, stop.2)
 
 -- ---- what the request did
 
@@ -72,7 +72,7 @@ returns-in_ok-keep-in-Some-clause-request g c =
     let marks = c.marks_for-marks.ensures ∙ ap (marks_for (name_of c.args.name.now)) c.deref.ensures.value in
     let small = rw c.in-Some.is at c.in_ok-outcome.ensures.within_limit in
     request_answered _ _ _ _ (name_of c.args.name.now) (λ n r is. subst (λ folders. MayAnswerFrom (g.F.FolderList.may_find folders) c.args.self.now.marks.items n r) c.walk.ensures.folders is) (count_rises _ _ _ stop.2 (omega arith)) (reply_of c.in-Some.answer)
-    (stop.0, subst (λ (ms : List Mark). MayStop (λ k seen. g.F.FolderList.may_find (underlying c.args.self.now.folders) k (name_of c.args.name.now) seen) ms (Some (reply_of c.in-Some.answer)) stop.0) marks stop.1)
+    (stop.0, subst (λ (ms : List Mark). MayStop (λ k seen. g.F.FolderList.may_find (inner_folders c.args.self.now.folders) k (name_of c.args.name.now) seen) ms (Some (reply_of c.in-Some.answer)) stop.0) marks stop.1)
     small c.in_ok-keep-in-Some.ensures.ok refl
 
 pub returns-in_ok-keep_name-in-None-clause-request : goal.returns-in_ok-keep_name-in-None-clause-request

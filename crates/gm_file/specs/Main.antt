@@ -1,11 +1,13 @@
 -- What the main module's file says, and what that means for a module at a version.
-use Rattle.std.specs.Prelude.{ℕ, ◌==◌, ◌&&◌, ◌||◌, not, nat_lt, nat_le, Bool, List, [], filter, Option, unwrap_or}
+use Rattle.std.specs.Prelude.{◌≡◌, ℕ, ◌==◌, ◌&&◌, ◌||◌, not, nat_lt, nat_le, Bool, List, [], filter, Option, None, Ok, unwrap_or}
 use Rattle.std.specs.List.{list_any}
 use Rattle.gm_name.specs.ModuleVersion.{ModuleVersion, pair_eq}
 use Rattle.gm_syntax.specs.Tokens.{Placed}
 use Rattle.gm_syntax.specs.Document.{Line}
 use Rattle.gm_syntax.specs.LineViews.{plain_lines}
+use Rattle.gm_syntax.specs.Parsed.{IsParsedAs}
 use Rattle.gm_file.specs.Directives.{Strict, Replacing, Right}
+use Rattle.gm_file.specs.Faults.{fault_of}
 use Rattle.gm_file.specs.Fields.{module_of, go_of, requirements_of, excludes_of, replaces_of, replacement_of}
 
 -- what the main module's file says (Go Modules Reference, "go.mod files")
@@ -25,6 +27,14 @@ main_of lines = record {
   excludes = excludes_of (plain_lines lines);
   replaces = replaces_of (plain_lines lines);
 }
+
+-- the bytes are a valid main module's file with these lines
+abbrev pub IsMainOf : List ℕ → List (Line Placed) → Type 0
+IsMainOf bytes lines = IsParsedAs bytes (Ok lines) × (fault_of Strict (plain_lines lines) ≡ None)
+
+-- the bytes are a valid main module's file, and this is what it says
+abbrev pub IsMainFile : List ℕ → Main → Type 0
+IsMainFile bytes main = (lines : List (Line Placed)) × IsMainOf bytes lines × (main_of lines ≡ main)
 
 -- The main file excludes that version of that path (Go Modules Reference, "exclude directive").
 abbrev pub is_excluded : Main → ModuleVersion → Bool

@@ -1,0 +1,372 @@
+"""A reading of docs/proof/HEADLINE.md in Python, compared with bin/gomod on random modules by tools/check-page.sh.
+
+`Page` has what the page defines, under the names that SPEC.md gives it: one method for one rule. `WRONG` has misreadings,
+each of one rule. A misreading that no world refutes shows that the worlds are too poor.
+"""
+import dataclasses
+import os
+import random
+import re
+import subprocess
+import sys
+import tempfile
+
+from go_worlds import hash_of, order_of, write
+
+MAIN = "example.com/m"
+PATHS = [f"example.com/{name}" for name in "abcdef"]
+VERSIONS = ["v1.0.0", "v1.2.0", "v1.9.0", "v1.10.0", "v1.10.0-rc.1"]
+FOLDERS = ["./x", "./y"]
+MALFORMED = "require example.com/a\n"
+
+
+@dataclasses.dataclass
+class File:
+    """What a go.mod file says: the main module's, or without excludes and replaces another's."""
+
+    declared: str | None
+    go: tuple = (1, 16)
+    requirements: list = dataclasses.field(default_factory=list)
+    excludes: list = dataclasses.field(default_factory=list)
+    replaces: dict = dataclasses.field(default_factory=dict)
+
+    def text(self):
+        lines = [f"module {self.declared}"] * (self.declared is not None)
+        lines += [f"go {self.go[0]}.{self.go[1]}"] * (self.go != (1, 16))
+        lines += [f"require {path} {version}" for path, version in self.requirements]
+        lines += [f"exclude {path} {version}" for path, version in self.excludes]
+        lines += ["replace " + " ".join([*filter(None, left), "=>", *right]) for left, right in self.replaces.items()]
+        return "\n".join([*lines, ""])
+
+
+class Page:
+    """The outcome of `list`: what is printed, what is reported and the exit status.
+
+    A module is a pair of a path and a version, a right side of a replace a folder alone or such a pair. The name of a
+    file is a right side too. `answers` has the texts of the files that there are, `sums` the hashes of each .mod file or
+    nothing, if no go.sum is given.
+    """
+
+    def __init__(self, world):
+        self.main, self.sums, self.answers, self.faulty = world.main, world.sums, world.answers, world.faulty
+        self.known = {}
+
+    # 2. the file of a module
+    def replacement(self, x):
+        return self.main.replaces.get(x) or self.main.replaces.get((x[0], None))
+
+    def file_of(self, x):
+        return self.replacement(x) or x
+
+    def is_folder(self, name):
+        return len(name) == 1
+
+    def is_fetchable(self, path):
+        first = path.split("/")[0]
+        return "." in first and bool(re.fullmatch(r"[a-z0-9.][a-z0-9.-]*", first))
+
+    def is_askable(self, x):
+        return self.is_folder(self.file_of(x)) or self.is_fetchable(self.file_of(x)[0])
+
+    # 3. the fault of a module
+    def sum_fault(self, name, text):
+        if self.sums is None or self.is_folder(name):
+            return None
+        if not self.sums.get(name):
+            return "NoSum"
+        return "SumDiffers" if any(it != hash_of(text) for it in self.sums[name]) else None
+
+    def content(self, text):
+        """What the text of a dependency's file says, or its misreading; worlds have no other lines."""
+        file = File(None)
+        for number, line in enumerate(text.split("\n"), 1):
+            match line.split():
+                case ["module", path]:
+                    file.declared = path
+                case ["go", version]:
+                    file.go = tuple(int(it) for it in version.split("."))
+                case ["require", path, version]:
+                    file.requirements.append((path, version))
+                case ["require", *_]:
+                    return f"Malformed {number} WrongArguments"
+        return file
+
+    def is_right_path(self, x, declared):
+        right = self.replacement(x)
+        if right is None:
+            return declared == x[0]
+        return self.is_folder(right) or declared in (x[0], right[0])
+
+    def says(self, x):
+        """What a module's file says, or the class of its fault: the first that applies."""
+        if x not in self.known:
+            self.known[x] = self.first_that_applies(x, self.file_of(x))
+        return self.known[x]
+
+    def first_that_applies(self, x, name):
+        if not self.is_askable(x):
+            return "NotFetchable"
+        if name not in self.answers:
+            return "Missing"
+        text = self.answers[name]
+        said = self.sum_fault(name, text) or self.content(text)
+        if isinstance(said, File) and not self.is_right_path(x, said.declared):
+            return "WrongPath"
+        return said
+
+    def fault(self, x):
+        return self.says(x) if isinstance(self.says(x), str) else None
+
+    # 4, 5. requirements and pruning
+    def without_excluded(self, modules):
+        return [x for x in modules if x not in self.main.excludes]
+
+    def requirements(self, x):
+        return [] if self.fault(x) else self.without_excluded(self.says(x).requirements)
+
+    def is_pruned(self, go):
+        return go >= (1, 17)
+
+    def is_unpruned(self, x):
+        return not self.fault(x) and not self.is_pruned(self.says(x).go)
+
+    # 6. opened modules
+    def top(self):
+        return set(self.without_excluded(self.main.requirements))
+
+    def from_main(self):
+        return set() if self.is_pruned(self.main.go) else self.top()
+
+    def from_top(self):
+        return {y for x in self.top() if self.is_unpruned(x) for y in self.requirements(x)}
+
+    def from_deep(self, deep):
+        return {y for x in deep for y in self.requirements(x)}
+
+    def deep(self):
+        found = self.from_main() | self.from_top()
+        while not self.from_deep(found) <= found:
+            found |= self.from_deep(found)
+        return found
+
+    def opened(self):
+        return self.top() | self.deep()
+
+    # 7. edges
+    def edge_ends(self):
+        return self.top() | {y for x in self.opened() for y in self.requirements(x)}
+
+    # 8. the build list
+    def is_greater(self, version, other):
+        return order_of(version) > order_of(other)
+
+    def selected(self):
+        ends = self.edge_ends()
+        return sorted(x for x in ends if x[0] != self.main.declared
+                      and not any(y[0] == x[0] and self.is_greater(y[1], x[1]) for y in ends))
+
+    def rest_after(self, rows, path):
+        """What follows the row of a path."""
+        if path is None:
+            return rows
+        at = [row[0] for row in rows].index(path)
+        return rows[at + 1:]
+
+    # 9. the text of the list
+    def row_text(self, x):
+        right = self.replacement(x) if len(x) == 2 else None
+        return " ".join([*x, *(["=>", *right] if right else [])]) + "\n"
+
+    # 10. the outcome
+    def faults(self):
+        found = [x for x in self.opened() if self.fault(x)]
+        return sorted(found, key=lambda x: (x[0], order_of(x[1])))
+
+    def outcome(self, after, limit):
+        if self.faulty:
+            return "", self.faulty + "\n", 1
+        if found := self.faults():
+            return "", "".join(f"{x[0]}@{x[1]}: {self.fault(x)}\n" for x in found), 1
+        rows = [(self.main.declared,), *self.selected()]
+        if after is not None and after not in [row[0] for row in rows]:
+            return "", f"{after}: NotListed\n", 1
+        return "".join(map(self.row_text, self.rest_after(rows, after)[:limit])), "", 0
+
+
+class World:
+    """A main module, a proxy folder, folders that replace modules, and a go.sum or none; all from one number."""
+
+    def __init__(self, seed):
+        self.random = random.Random(seed)
+        self.answers, self.faulty = {}, None
+        for path in PATHS:
+            for version in VERSIONS:
+                if self.chance(0.96):
+                    self.answers[path, version] = self.module_text(path)
+        for folder in FOLDERS:
+            if self.chance(0.9):
+                self.answers[folder,] = self.module_text(self.random.choice([None, MAIN, *PATHS]))
+        if self.chance(0.9):
+            self.answers[MAIN, "v1.0.0"] = self.module_text(MAIN)
+        self.main = File(MAIN, self.go(), [self.module() for _ in range(self.random.randint(1, 3))])
+        self.main.excludes = [self.module() for _ in range(self.random.choice([0, 0, 1, 2]))]
+        self.add_replaces()
+        self.add_sums()
+        self.after = self.random.choice([None, None, MAIN, *self.random.sample(PATHS, 2)])
+        self.limit = self.random.choice([None, None, 1, 2])
+
+    def chance(self, share):
+        return self.random.random() < share
+
+    def go(self):
+        return self.random.choice([(1, 16), (1, 15), (1, 17), (1, 21)])
+
+    def module(self):
+        if self.chance(0.05):
+            return self.random.choice(["local", MAIN]), "v1.0.0"
+        return self.random.choice(PATHS), self.random.choice(VERSIONS)
+
+    def module_text(self, path):
+        declared = path if self.chance(0.98) else self.random.choice(PATHS)
+        file = File(declared, self.go(), [self.module() for _ in range(self.random.choice([0, 1, 1, 2]))])
+        return file.text() + (MALFORMED if self.chance(0.02) else "")
+
+    def add_replaces(self):
+        for _ in range(self.random.choice([0, 0, 1, 2, 3])):
+            path, version = ("local", "v1.0.0") if self.chance(0.2) else self.module()
+            if self.chance(0.2):
+                path, version = self.main.requirements[0]
+            right = self.random.choice([(self.random.choice(FOLDERS),), self.module()])
+            self.main.replaces[path, self.random.choice([None, version])] = right
+            if right in self.answers and len(right) == 2 and self.chance(0.5):
+                self.answers[right] = self.answers[right].replace(f"module {right[0]}\n", f"module {path}\n")
+
+    def add_sums(self):
+        self.sums = None
+        if self.chance(0.4):
+            self.sums = {name: [hash_of(text)] for name, text in self.answers.items() if len(name) == 2}
+        for name in self.sums or {}:
+            if self.chance(0.4 if self.answers[name].endswith(MALFORMED) else 0.03):
+                self.sums[name] = self.random.choice([[], [hash_of("other")], [*self.sums[name], hash_of("other")]])
+
+    def lay(self, room):
+        """Writes the world below a folder, and gives the arguments of the run."""
+        main = self.main.text()
+        words = ["list", "--mod", f"{room}/go.mod", "--proxy", f"{room}/proxy"]
+        os.mkdir(f"{room}/proxy")
+        for name, text in self.answers.items():
+            write(f"{room}/{name[0]}/go.mod" if len(name) == 1 else f"{room}/proxy/{name[0]}/@v/{name[1]}.mod", text)
+        if self.sums is not None:
+            lines = [f"{path} {version}/go.mod {it}\n" for (path, version), all in self.sums.items() for it in all]
+            if self.chance(0.03):
+                lines.append("example.com/a v1.0.0\n")
+                self.faulty = f"go.sum:{len(lines)}: BadSum"
+            write(f"{room}/go.sum", "".join(lines))
+            words += ["--sum", f"{room}/go.sum"]
+        if self.chance(0.02):
+            main += MALFORMED
+            self.faulty = "go.mod:%d: WrongArguments" % main.count("\n")
+        write(f"{room}/go.mod", main)
+        words += ["--after", self.after] if self.after else []
+        return words + (["--limit", str(self.limit)] if self.limit else [])
+
+
+def wrong(title, **rules):
+    """A page on which some rules read otherwise."""
+    return type(title, (Page,), rules)
+
+
+def later_faults(self):
+    return [x for x in Page.faults(self) if x not in self.top()] or Page.faults(self)
+
+
+WRONG = [
+    wrong("a replace of the whole path has precedence",
+          replacement=lambda self, x: self.main.replaces.get((x[0], None)) or self.main.replaces.get(x)),
+    wrong("a replace of a version counts for each version", replacement=lambda self, x: next(
+        (right for left, right in self.main.replaces.items() if left[0] == x[0]), None)),
+    wrong("a replaced module must be fetchable itself", is_askable=lambda self, x: self.is_fetchable(x[0])),
+    wrong("a folder's file is checked against the go.sum", sum_fault=lambda self, name, text: "NoSum"
+          if self.sums is not None and self.is_folder(name) else Page.sum_fault(self, name, text)),
+    wrong("one equal hash is enough", sum_fault=lambda self, name, text: None
+          if hash_of(text) in (self.sums or {}).get(name, []) else Page.sum_fault(self, name, text)),
+    wrong("no hash is no fault", sum_fault=lambda self, name, text: None
+          if not (self.sums or {}).get(name) else Page.sum_fault(self, name, text)),
+    wrong("what a file says comes before its hash", first_that_applies=lambda self, x, name: Page.first_that_applies(
+        self, x, name) if not self.is_askable(x) or name not in self.answers or isinstance(
+            self.content(self.answers[name]), File) else self.content(self.answers[name])),
+    wrong("a folder's file declares the path", is_right_path=lambda self, x, declared: declared == x[0]
+          if self.is_folder(self.file_of(x)) else Page.is_right_path(self, x, declared)),
+    wrong("a replacing module declares its own path", is_right_path=lambda self, x, declared: Page.is_right_path(
+        self, x, declared) and declared in (None, self.file_of(x)[0]) or self.is_folder(self.file_of(x))),
+    wrong("a replacing module declares the replaced path", is_right_path=lambda self, x, declared: declared == x[0]
+          or self.is_folder(self.file_of(x))),
+    wrong("every path is right", is_right_path=lambda self, x, declared: True),
+    wrong("nothing is excluded", without_excluded=lambda self, modules: modules),
+    wrong("only the main file's requirements are excluded", requirements=lambda self, x: []
+          if self.fault(x) else self.says(x).requirements),
+    wrong("an excluded version excludes its path", without_excluded=lambda self, modules: [
+        x for x in modules if x[0] not in [y[0] for y in self.main.excludes]]),
+    wrong("go 1.16 is pruned", is_pruned=lambda self, go: go >= (1, 16)),
+    wrong("go 1.17 is not pruned", is_pruned=lambda self, go: go > (1, 17)),
+    wrong("every file is pruned", is_pruned=lambda self, go: True),
+    wrong("no file is pruned", is_pruned=lambda self, go: False),
+    wrong("the main file opens nothing deeply", from_main=lambda self: set()),
+    wrong("an unpruned file opens nothing deeply", from_top=lambda self: set()),
+    wrong("a pruned file opens deeply too", from_top=lambda self: {y for x in self.top() for y in self.requirements(x)}),
+    wrong("deep modules end at pruned files", from_deep=lambda self, deep: {
+        y for x in deep if self.is_unpruned(x) for y in self.requirements(x)}),
+    wrong("deep modules open nothing", from_deep=lambda self, deep: set()),
+    wrong("edges lead to opened modules alone", edge_ends=lambda self: self.opened()),
+    wrong("edges leave deep modules alone", edge_ends=lambda self: self.top() | {
+        y for x in self.deep() for y in self.requirements(x)}),
+    wrong("versions are ordered as texts", is_greater=lambda self, version, other: version > other),
+    wrong("the least version is selected", is_greater=lambda self, version, other: order_of(version) < order_of(other)),
+    wrong("a pre-release is greater than its release", is_greater=lambda self, version, other: (
+        order_of(version)[0], order_of(other)[1]) > (order_of(other)[0], order_of(version)[1])),
+    wrong("the main module's path has a row too", selected=lambda self: sorted(
+        [*Page.selected(self), *{x for x in self.edge_ends() if x[0] == self.main.declared}])),
+    wrong("a row stands in its own rest", rest_after=lambda self, rows, path: rows
+          if path is None else [row for row in rows if row[0] >= path]),
+    wrong("the rest has paths greater than the main module's alone", rest_after=lambda self, rows, path: rows
+          if path is None else [row for row in rows if row[0] > path]),
+    wrong("a row has no replacement", row_text=lambda self, x: " ".join(x) + "\n"),
+    wrong("faults come in the order of texts", faults=lambda self: sorted(Page.faults(self))),
+    wrong("only the first fault is reported", faults=lambda self: Page.faults(self)[:1]),
+    wrong("faults of modules opened at the top come alone", faults=lambda self: [
+        x for x in Page.faults(self) if x in self.top()]),
+    wrong("each vertex is looked at for faults", faults=lambda self: sorted(
+        (x for x in self.edge_ends() | self.opened() if self.fault(x)), key=lambda x: (x[0], order_of(x[1])))),
+]
+
+
+def run(program, world, room):
+    words = world.lay(room)
+    done = subprocess.run([program, *words], capture_output=True, text=True, encoding="utf-8", errors="replace")
+    return words, (done.stdout, done.stderr, done.returncode)
+
+
+def main():
+    program, count, seed = sys.argv[1], int(sys.argv[2]), int(sys.argv[3])
+    unrefuted, differing, printed = dict.fromkeys(WRONG), 0, 0
+    for number in range(seed, seed + count):
+        world = World(number)
+        with tempfile.TemporaryDirectory() as room:
+            words, got = run(program, world, room)
+        want = Page(world).outcome(world.after, world.limit)
+        printed += want[2] == 0
+        if got != want:
+            differing += 1
+            print(f"check-page: world {number}: {' '.join(words)}\n  the page: {want}\n  the program: {got}")
+        for page in [*unrefuted]:
+            if page(world).outcome(world.after, world.limit) != want:
+                del unrefuted[page]
+    for page in unrefuted:
+        print(f"check-page: no world refutes this misreading: {page.__name__}")
+    print(f"{count} worlds, {printed} of them with a list, {differing} differ; "
+          f"{len(WRONG) - len(unrefuted)} of {len(WRONG)} misreadings are refuted")
+    sys.exit(bool(differing or unrefuted or printed * 4 < count))
+
+
+if __name__ == "__main__":
+    main()
