@@ -1,8 +1,8 @@
-use Rattle.std.proofs.Common.{◌∙◌, Contains, Err, List, Option, sym, ap, subst}
+use Rattle.std.proofs.Common.{◌∙◌, ◌++◌, Contains, Err, List, Option, append-nil, sym, ap, subst}
 use Rattle.std.specs.List.{IsDistinct}
 use Rattle.std.specs.Option.{option_copied}
 use Rattle.gm_name.specs.ModuleVersion.{ModuleVersion}
-use Rattle.gm_store.specs.Asked.{name_of}
+use Rattle.gm_store.specs.Asked.{Name, name_of}
 use Rattle.gm_store_sums.specs.Sums.{Sums}
 use Rattle.gm_graph.specs.Cached.{main_in}
 use Rattle.gm_file.specs.Main.{Main, main_of}
@@ -14,13 +14,19 @@ use Rattle.gm_graph_select.specs.StepOrder.{step_eq}
 use Rattle.gm_graph.specs.Builder.{IsBuilder, edges_in, sources_in}
 use Rattle.gm_graph.specs.Loading.{AreTooMany, IsDue, Told}
 use Rattle.gm_store.proofs.Serving.{nothing_served}
-use Rattle.gm_graph.proofs.Dues.{asks_nothing}
+use Rattle.gm_graph.proofs.Dues.{asks_nothing, refused_same}
 use Rattle.gm_graph.proofs.Loads.{asks_of, gathered_ends, gathered_rooted, loads_of, too_many_first}
 use Rattle.gm_graph.proofs.RunReadings.{asks_told, due_told, many_told}
 use Rattle.gm_graph.proofs.loading.load.Goals as goal
 
 pub returns-in_err-builder-clause-asks : goal.returns-in_err-builder-clause-asks
 returns-in_err-builder-clause-asks g c = asks_told _ _ (asks_nothing _ _ _ c.requires)
+
+pub returns-in_err-builder-clause-refused : goal.returns-in_err-builder-clause-refused
+returns-in_err-builder-clause-refused g c =
+    let refused = (g.F.Asks.state c.args.files.now).refused in
+    let same = refused_same c.from_residual-in_err-builder.result c.in_err-builder.field-0.0 (λ f e. rw e at c.from_residual-in_err-builder.ensures.1) c.from_residual-in_err-builder.ensures.0 in
+    sym (append-nil refused) ∙ ap (λ (ns : List Name). refused ++ ns) (sym (same ∙ c.in_err-builder.ensures.not_refused))
 
 pub returns-in_err-cache-clause-asks : goal.returns-in_err-cache-clause-asks
 returns-in_err-cache-clause-asks g c = asks_told _ _ (asks_nothing _ _ _ c.requires)
