@@ -60,6 +60,17 @@ follows_nothing main readings turns x d known nothing = record {
   only = λ next h. inl h;
 }
 
+-- a turn of a vertex that requires nothing
+pub follows_leaf : (main : Main) (readings : Readings) (turns : List Turn) (x : ModuleVersion) (d : Depth) → IsSome (readings x) → vertex_requirements main readings x ≡ [] → Visits main readings turns turns (turn x d)
+follows_leaf main readings turns x d known none = record {
+  extends = ([], sym (append-nil turns));
+  done = record {
+    answered = known;
+    followed = λ leads y h. absurd (let in_none : Contains [] y = subst (λ (ys : List ModuleVersion). Contains ys y) none h in omega (arith, in_none.1));
+  };
+  only = λ next h. inl h;
+}
+
 -- A known reading stays the same with more answers.
 pub known-same : (a b : Option (Result Dependency Class)) → ((s : Result Dependency Class) → a ≡ Some s → b ≡ Some s) → IsSome a → b ≡ a
 known-same None b keeps h = absurd (false≢true h)

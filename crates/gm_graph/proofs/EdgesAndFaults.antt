@@ -5,25 +5,21 @@ use Rattle.std.specs.BTreeMap as tree
 use Rattle.std.specs.Ordering.{is_eq}
 use Rattle.gm_name.specs.ModuleVersion.{ModuleVersion, module_at, pair_cmp, pair_eq, pair_ties}
 use Rattle.gm_graph.specs.declared.cache.class.Class.{Class}
-use Rattle.gm_graph.specs.declared.cache.finding.Finding.{Finding}
-use Rattle.gm_graph.specs.declared.cache.finding.Finding.TheVariants.{Fault}
 use Rattle.gm_graph_select.specs.declared.step.Edge.{Edge}
 use Rattle.gm_graph_select.specs.declared.step.Step.{Step}
 use Rattle.gm_graph_select.specs.Adjacency.{StepEdges, edges_from, edges_of, left_by}
 use Rattle.gm_graph_select.specs.Graph.{edge}
-use Rattle.gm_graph.specs.Building.{found_fault, noted}
+use Rattle.gm_graph.specs.Building.{noted}
 
 -- A fault was put into the map.
-pub fault_put : (old new : tree.BTreeMap ModuleVersion Class) (x v : ModuleVersion) (class : Class) (found : Finding)
-    → found ≡ Fault class → v ≡ x
+pub fault_put : (old new : tree.BTreeMap ModuleVersion Class) (x v : ModuleVersion) (class : Class) → v ≡ x
     → ((q : ModuleVersion) → tree.get pair_cmp new q
     ≡ cond (is_eq (pair_cmp v q)) (Some class) (tree.get pair_cmp old q))
-    → (q : ModuleVersion) → tree.get pair_cmp new q ≡ noted (found_fault found) x (λ y. tree.get pair_cmp old y) q
-fault_put old new x v class found e f puts q =
+    → (q : ModuleVersion) → tree.get pair_cmp new q ≡ noted (Some class) x (λ y. tree.get pair_cmp old y) q
+fault_put old new x v class f puts q =
     puts q
     ∙ ap (λ (b : Bool). cond b (Some class) (tree.get pair_cmp old q)) (sym (pair_ties v q))
     ∙ ap (λ (w : ModuleVersion). if pair_eq w q then Some class else tree.get pair_cmp old q) f
-    ∙ ap (λ (n : Finding). noted (found_fault n) x (λ y. tree.get pair_cmp old y) q) (sym e)
 
 -- the edges that leave one step
 from_numbers : (vertices : List ModuleVersion) (step : Step) (numbers : List ℕ)

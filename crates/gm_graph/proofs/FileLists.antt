@@ -9,22 +9,22 @@ use Rattle.std.proofs.lemmas.Map.Keys.{apart_from_distinct}
 use Rattle.gm_name.specs.ModuleVersion.{ModuleVersion, module_at, pair_eq, pairs-equivalence}
 use Rattle.gm_name_table.specs.Listed.{AreModuleNumbers, BeginsWith, modules_at}
 use Rattle.gm_graph.specs.declared.cache.Cache.{Cache}
-use Rattle.gm_graph.specs.declared.cache.depth.Turn.{Turn}
-use Rattle.gm_graph.specs.declared.cache.finding.Finding.{Finding}
-use Rattle.gm_graph.specs.declared.cache.finding.Finding.TheVariants.{Fault, Sound}
-use Rattle.gm_graph.specs.Cached.{AddsTurn, IsFinding, IsSound, KeepsSound, LendsKept, LentSame, held_of, main_in, modules_in}
-use Rattle.gm_file.specs.Main.{Main, main_of}
+use Rattle.gm_graph.specs.declared.cache.depth.Depth.{Depth}
+use Rattle.gm_graph.specs.declared.cache.visit.Required.{Required}
+use Rattle.gm_graph.specs.declared.cache.visit.Visit.{Visit}
+use Rattle.gm_graph.specs.declared.cache.visit.Visit.TheVariants as visit
+use Rattle.gm_graph.specs.Cached.{IsSound, KeepsSound, LendsKept, held_of, main_in, modules_in}
+use Rattle.gm_file.specs.Main.{Main}
 use Rattle.gm_file.specs.Fields.{Dependency}
 use Rattle.gm_graph.specs.declared.cache.class.Class.{Class}
-use Rattle.gm_graph.specs.Reading.{KeepsHeld, Readings, readings_by, requirements_in, said_in, vertex_requirements}
+use Rattle.gm_graph.specs.Reading.{readings_by, requirements_in, said_in, vertex_requirements}
 use Rattle.gm_graph.proofs.Keeping.{readings_stay}
 use Rattle.gm_graph.proofs.Lending.{lent_kept}
 use Rattle.gm_graph_select.specs.Adjacency.{list_at}
 use Rattle.gm_graph.specs.declared.edge_lists.EdgeLists.{EdgeLists}
 use Rattle.gm_graph.specs.EdgeLists.{AreLists, HasNumbers, IsListFor, IsPushed, KeepsLists, list_by, list_of, numbers_of}
 use Rattle.gm_graph.specs.FileLists.{AddsFileList, AreNumbersOf, HasNumbersOf, HaveFiles}
-use Rattle.gm_graph.specs.Visiting.{lender_of, readings_in}
-use Rattle.gm_graph.proofs.Caching.{readings_same}
+use Rattle.gm_graph.specs.Visiting.{Continues, IsVisit, LendsFile, LendsOver, readings_in, required_by, table_of}
 use Rattle.gm_graph.proofs.Growing.{vertex_stays}
 use Rattle.gm_graph.proofs.PushedEdges.{one_longer, pushed_kept, pushed_there}
 
@@ -156,57 +156,7 @@ module _ (old mid new : EdgeLists) (file : Option ℕ) (numbers : List ℕ) (pla
     keeps = λ f held e. keeps_by f held (list_of new f) refl e;
   }
 
--- ---- vertices that share a file
-
--- They require the same.
-pub same_requirements : (cache : Cache) (x y : ModuleVersion) (file : ℕ) → LendsKept cache → IsSound cache x file
-    → IsSound cache y file
-    → vertex_requirements (main_in cache) (readings_in cache) x ≡ vertex_requirements (main_in cache) (readings_in cache) y
-same_requirements cache x y file lends one other =
-    sym (lent_kept cache x (Some file) lends one) ∙ lent_kept cache y (Some file) lends other
-
--- A vertex that was found has the list of its file.
-pub has_its_numbers : (cache : Cache) (edges : EdgeLists) (x : ModuleVersion) (found : Finding) → LendsKept cache
-    → IsFinding cache x found → HaveFiles cache edges
-    → HasNumbersOf edges (lender_of found) (modules_in cache) (vertex_requirements (main_in cache) (readings_in cache) x)
-has_its_numbers cache edges x (Fault class) lends is have = λ f held e. absurd (cc e)
-has_its_numbers cache edges x (Sound place) lends sound have = λ f held e there.
-    let file_is : place ≡ f = cc e in
-    let of_file = have f held there in
-    subst (λ (xs : List ModuleVersion). AreNumbersOf (modules_in cache) held xs)
-    (same_requirements cache of_file.vertex x f lends of_file.sound (subst (λ (p : ℕ). IsSound cache x p) file_is sound))
-    of_file.numbers_are
-
--- The lists are still of files after its own was added.
-pub have_files_more : (cache : Cache) (old new : EdgeLists) (x : ModuleVersion) (found : Finding)
-    → IsFinding cache x found → HaveFiles cache old
-    → AddsFileList old new (lender_of found) (modules_in cache) (vertex_requirements (main_in cache) (readings_in cache) x)
-    → HaveFiles cache new
-have_files_more cache old new x (Fault class) is have adds = λ f held e. elim (adds f held e) [
-  | inl was ↦ have f held was
-  | inr none ↦ absurd (cc none.0)
-]
-have_files_more cache old new x (Sound place) sound have adds = λ f held e. elim (adds f held e) [
-  | inl was ↦ have f held was
-  | inr added ↦
-      (let file_is : place ≡ f = cc added.0 in
-      record {
-        vertex = x;
-        sound = subst (λ (p : ℕ). IsSound cache x p) file_is sound;
-        numbers_are = added.1;
-      })
-]
-
--- No list was added but that of no file.
-pub have_files_first : (cache : Cache) (old new : EdgeLists) (modules xs : List ModuleVersion)
-    → ((f : ℕ) (held : List ℕ) → numbers_of old f ≡ Some held → ⊥) → AddsFileList old new None modules xs
-    → HaveFiles cache new
-have_files_first cache old new modules xs none adds = λ f held e. elim (adds f held e) [
-  | inl was ↦ absurd (none f held was)
-  | inr added ↦ absurd (cc added.0)
-]
-
--- ---- a cache that knows more
+-- ---- more modules
 
 modules_stay : (modules more : List ModuleVersion) (numbers : List ℕ) → AreModuleNumbers modules numbers
     → modules_at (modules ++ more) numbers ≡ modules_at modules numbers
@@ -224,37 +174,89 @@ numbers_over old new numbers xs begins these = subst (λ (ms : List ModuleVersio
       are = modules_stay old begins.0 numbers these.below ∙ these.are;
     } in over)
 
--- What a vertex requires whose file was read stays.
-pub requirements_known : (old mid : Cache) → LentSame old mid → KeepsHeld (held_of old) (held_of mid) → (x : ModuleVersion) (file : ℕ)
-    → IsSound old x file
-    → vertex_requirements (main_in old) (readings_in old) x ≡ vertex_requirements (main_in mid) (readings_in mid) x
-requirements_known old mid lent grows x file sound =
-    let still = readings_stay (main_in old) (held_of old) (held_of mid) grows x (Ok sound.file) sound.reading in
-    ap (λ (o : Option (Result Dependency Class)). requirements_in (main_in old) (said_in o)) (sound.reading ∙ sym still)
-    ∙ ap (λ (m : Main). vertex_requirements m (readings_by m (held_of mid)) x) (sym (ap main_of lent.main))
+-- ---- vertices that share a file
 
-pub have_files_known : (old mid : Cache) (edges : EdgeLists) → LentSame old mid → KeepsHeld (held_of old) (held_of mid)
-    → BeginsWith (modules_in old) (modules_in mid) → KeepsSound old mid → HaveFiles old edges → HaveFiles mid edges
-have_files_known old mid edges lent grows numbered keeps have = λ f held e.
+-- They require the same.
+pub same_requirements : (cache : Cache) (x y : ModuleVersion) (file : ℕ) → LendsKept cache → IsSound cache x file
+    → IsSound cache y file
+    → vertex_requirements (main_in cache) (readings_in cache) x ≡ vertex_requirements (main_in cache) (readings_in cache) y
+same_requirements cache x y file lends one other =
+    sym (lent_kept cache x (Some file) lends one) ∙ lent_kept cache y (Some file) lends other
+
+-- What was lent over them has the list of its file.
+pub has_its_numbers : (old : Cache) (edges : EdgeLists) (required : Required) → LendsFile old required
+    → HaveFiles old edges → HasNumbersOf edges (Some required.file) (table_of required) (required_by required)
+has_its_numbers old edges required lends have = λ f held e there.
+    let file_is : f ≡ required.file = cc e in
+    let of_file = have f held there in
+    let x = of_file.vertex in
+    subst (λ (xs : List ModuleVersion). AreNumbersOf (table_of required) held xs)
+    (sym (lends.shared x (subst (λ (p : ℕ). IsSound old x p) file_is of_file.sound)))
+    (numbers_over (modules_in old) (table_of required) held (vertex_requirements (main_in old) (readings_in old) x) lends.begins of_file.numbers_are)
+
+-- The lists are still of files after that of a vertex's file was added.
+pub have_files_more : (cache : Cache) (old new : EdgeLists) (x : ModuleVersion) (d : Depth) (required : Required)
+    → IsVisit cache x d (visit.Required required) → HaveFiles cache old
+    → AddsFileList old new (Some required.file) (table_of required) (required_by required) → HaveFiles cache new
+have_files_more cache old new x d required is have adds = λ f held e. elim (adds f held e) [
+  | inl was ↦ have f held was
+  | inr added ↦
+      (let file_is : required.file ≡ f = cc added.0 in
+      record {
+        vertex = x;
+        sound = subst (λ (p : ℕ). IsSound cache x p) file_is is.0;
+        numbers_are = subst (λ (ms : List ModuleVersion). AreNumbersOf ms held (vertex_requirements (main_in cache) (readings_in cache) x)) is.2
+            (subst (λ (xs : List ModuleVersion). AreNumbersOf (table_of required) held xs) is.1.modules added.1);
+      })
+]
+
+-- So are they after none was added.
+pub have_files_still : (cache : Cache) (old new : EdgeLists) → HaveFiles cache old → KeepsLists old new None []
+    → HaveFiles cache new
+have_files_still cache old new have keeps = λ f held e. elim (keeps f held e) [
+  | inl was ↦ have f held was
+  | inr none ↦ absurd (cc none.0)
+]
+
+-- No list was added but that of no file.
+pub have_files_first : (cache : Cache) (old new : EdgeLists) (modules xs : List ModuleVersion)
+    → ((f : ℕ) (held : List ℕ) → numbers_of old f ≡ Some held → ⊥) → AddsFileList old new None modules xs
+    → HaveFiles cache new
+have_files_first cache old new modules xs none adds = λ f held e. elim (adds f held e) [
+  | inl was ↦ absurd (none f held was)
+  | inr added ↦ absurd (cc added.0)
+]
+
+-- ---- a cache that knows more
+
+-- What a vertex requires whose file was read stays.
+pub requirements_known : (old new : Cache) → Continues old new → (x : ModuleVersion) (file : ℕ) → IsSound old x file
+    → vertex_requirements (main_in old) (readings_in old) x ≡ vertex_requirements (main_in new) (readings_in new) x
+requirements_known old new continues x file sound =
+    let still = readings_stay (main_in old) (held_of old) (held_of new) continues.held x (Ok sound.file) sound.reading in
+    ap (λ (o : Option (Result Dependency Class)). requirements_in (main_in old) (said_in o)) (sound.reading ∙ sym still)
+    ∙ ap (λ (m : Main). vertex_requirements m (readings_by m (held_of new)) x) (sym continues.main)
+
+pub have_files_known : (old new : Cache) (edges : EdgeLists) → Continues old new → KeepsSound old new
+    → HaveFiles old edges → HaveFiles new edges
+have_files_known old new edges continues keeps have = λ f held e.
     let of_file = have f held e in
     let x = of_file.vertex in
-    let required = requirements_known old mid lent grows x f of_file.sound in
+    let required = requirements_known old new continues x f of_file.sound in
     record {
       vertex = x;
       sound = keeps x f of_file.sound;
-      numbers_are = subst (λ (xs : List ModuleVersion). AreNumbersOf (modules_in mid) held xs) required
-          (numbers_over (modules_in old) (modules_in mid) held (vertex_requirements (main_in old) (readings_in old) x) numbered of_file.numbers_are);
+      numbers_are = subst (λ (xs : List ModuleVersion). AreNumbersOf (modules_in new) held xs) required
+          (numbers_over (modules_in old) (modules_in new) held (vertex_requirements (main_in old) (readings_in old) x) continues.numbered of_file.numbers_are);
     }
 
--- The cache has one more turn.
-pub have_files_lent : (mid new : Cache) (one : Turn) (edges : EdgeLists) → AddsTurn mid new one → HaveFiles mid edges
-    → HaveFiles new edges
-have_files_lent mid new one edges adds have = λ f held e.
-    let of_file = have f held e in
-    record {
-      vertex = of_file.vertex;
-      sound = adds.holds.sound of_file.vertex f of_file.sound;
-      numbers_are = readings_same mid new one adds
-          (λ (m : Main) (r : Readings) (ms : List ModuleVersion). AreNumbersOf ms held (vertex_requirements m r of_file.vertex))
-          of_file.numbers_are;
-    }
+-- What a visit gets is what each vertex requires that had this file.
+pub lends_over : (old new : Cache) (x : ModuleVersion) (d : Depth) (got : Visit) → Continues old new → KeepsSound old new
+    → LendsKept new → IsDistinct pair_eq (modules_in new) → IsVisit new x d got → LendsOver old got
+lends_over old new x d (visit.Fault vertex class) continues keeps lends distinct is = tt
+lends_over old new x d (visit.Required required) continues keeps lends distinct is = record {
+  begins = subst (λ (ms : List ModuleVersion). BeginsWith (modules_in old) ms) (sym is.2) continues.numbered;
+  distinct = subst (λ (ms : List ModuleVersion). IsDistinct pair_eq ms) (sym is.2) distinct;
+  shared = λ y sound. is.1.modules ∙ same_requirements new x y required.file lends is.0 (keeps y required.file sound)
+      ∙ sym (requirements_known old new continues y required.file sound);
+}

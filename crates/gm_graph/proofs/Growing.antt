@@ -77,6 +77,16 @@ module _ (modules more : List ModuleVersion) where
       (edges_from_stay one (All-head (IsNumbered (length modules)) one all h))
       (edges_stay all (All-tail (IsNumbered (length modules)) one all h))
 
+-- A module has its number still, and the number is one of a module.
+pub number_stays : (old new : List ModuleVersion) (number : ℕ) → BeginsWith old new → number < length old
+    → module_at new number ≡ module_at old number
+number_stays old new number begins below =
+    ap (λ (modules : List ModuleVersion). module_at modules number) begins.1 ∙ vertex_stays old begins.0 number below
+
+pub number_below : (old new : List ModuleVersion) (number : ℕ) → BeginsWith old new → number < length old
+    → number < length new
+number_below old new number begins below = omega (arith, below, ap length begins.1, length-append old begins.0)
+
 -- ---- more numbers
 
 module _ (count more : ℕ) (grows : count ≤ more) where

@@ -3,7 +3,12 @@ use Rattle.std.proofs.Common.{◌≡◌, ◌∙◌, ◌<◌, ℕ, zero, suc, Boo
 use Rattle.std.specs.Prelude.{IsErrAnd, OnErr, slice_get}
 use Rattle.std.specs.Option.{option_map}
 use Rattle.gm_file.specs.Fields.{Dependency}
-use Rattle.gm_store.specs.Asked.{Name, Reply, answer_in, same_name}
+use Rattle.gm_store.specs.Asked.{Name, Reply, answer_in, name_of, same_name}
+use Rattle.gm_store.specs.Requests.{refused_for}
+use Rattle.gm_store.specs.States.{StoreState}
+use Rattle.gm_store.specs.declared.files.AskFault.{AskFault}
+use Rattle.gm_store.specs.declared.files.AskFault.TheVariants as ask
+use Rattle.gm_store.specs.declared.files.FileName.{FileName}
 use Rattle.gm_store_sums.specs.Sums.{Sums}
 use Rattle.gm_graph.specs.declared.cache.class.Class.{Class}
 use Rattle.std.proofs.Math.Path.{fun_ext}
@@ -18,7 +23,8 @@ use Rattle.gm_graph.proofs.ReadingIf.{reading_if}
 use Rattle.gm_graph.specs.FileTable.{KeepsFiles, kept_at}
 use Rattle.gm_graph.specs.Summaries.{Grows, IsKept, summary_reading}
 use Rattle.gm_graph.specs.Cached.{HoldsSame, KeepsSound, Knows, LendsKept, LentSame, held_of, kept_file, main_in, modules_in, summary_at, sums_in}
-use Rattle.gm_graph.specs.Refusals.{refused_in, refused_names}
+use Rattle.gm_graph.specs.Asking.{FailsFor, StillLacks}
+use Rattle.gm_graph.specs.Refusals.{load_fault_at, refused_in, refused_names}
 use Rattle.gm_graph.specs.declared.cache.load_fault.LoadFault.{LoadFault}
 use Rattle.gm_graph.specs.declared.cache.load_fault.LoadFault.TheVariants as load
 use Rattle.gm_graph.proofs.OneReading.{one_reading}
@@ -213,6 +219,17 @@ keeps_same old new same name reading e = ap (λ (held : Held). held name) (held_
 pub lent_after : (old mid new : Cache) → LentSame old mid → LentSame mid new → LentSame old new
 lent_after old mid new one two = record { main = two.main ∙ one.main; sums = two.sums ∙ one.sums; turns = two.turns ∙ one.turns }
 
+-- So does a cache that differs in what was refused alone.
+pub holds_failed : (old mid new : Cache) → HoldsSame old mid → new.main.now ≡ mid.main.now → sums_in new ≡ sums_in mid
+    → new.files ≡ mid.files → new.modules ≡ mid.modules → HoldsSame old new
+holds_failed old mid new same main sums files modules = holds_after old mid new same
+    (holds_listed mid new main sums (λ name. ap (λ (kept : FileTable). kept_at (modules_in mid) kept name) files)
+    ([], ap (λ (kept : FileTable). kept.files.items) files ∙ sym (append-nil mid.files.files.items)) modules)
+
+pub sound_failed : (old mid new : Cache) → HoldsSame old mid → new.main.now ≡ mid.main.now → sums_in new ≡ sums_in mid
+    → new.files ≡ mid.files → new.modules ≡ mid.modules → KeepsSound old new
+sound_failed old mid new same main sums files modules = (holds_failed old mid new same main sums files modules).sound
+
 -- ---- refusals
 
 pub any_err : {T E P : Type 0} (result : Result T E) → P → OnErr result P
@@ -226,3 +243,36 @@ names_none fault is = ap refused_names is
 pub none_refused : {T : Type 0} (result : Result T LoadFault) (old new : List Name) → IsErrAnd result (λ fault. fault ≡ load.NoMemory) → new ≡ old → new ≡ old ++ refused_in result
 none_refused (Ok value) old new given same = absurd given
 none_refused (Err fault) old new given same = same ∙ sym (append-nil old) ∙ ap (λ (names : List Name). old ++ names) (sym (names_none fault given))
+
+names_for_none : (T : Type 0) (name : Name) (fault : AskFault) → fault ≡ ask.NoMemory → refused_for {T = T} name (Err fault) ≡ []
+names_for_none T name fault is = ap (λ (f : AskFault). refused_for {T = T} name (Err f)) is
+
+pub none_refused_for : (T : Type 0) (result : Result T AskFault) (old new : List Name) (name : Name)
+    → IsErrAnd result (λ fault. fault ≡ ask.NoMemory) → new ≡ old → new ≡ old ++ refused_for name result
+none_refused_for T (Ok value) old new name given same = absurd given
+none_refused_for T (Err fault) old new name given same =
+    same ∙ sym (append-nil old) ∙ ap (λ (names : List Name). old ++ names) (sym (names_for_none T name fault given))
+
+-- ---- the name at which the device failed
+
+module _ (main : Main) (before after : StoreState) (x : ModuleVersion) where
+  pub device_failed : (fault : AskFault) (failed : Option FileName) (name : FileName)
+      → (fault ≡ ask.Device → FailsFor main before after x failed) → load_fault_at fault failed ≡ load.Device name
+      → StillLacks main before after x (name_of name)
+  device_failed ask.NoMemory failed name fails e = absurd (cc e)
+  device_failed ask.Device None name fails e = absurd (fails refl)
+  device_failed ask.Device (Some there) name fails e =
+      let same : there ≡ name = cc e in
+      subst (λ (n : FileName). StillLacks main before after x (name_of n)) same (fails refl)
+
+  pub refused_failed : (T : Type 0) (fault : AskFault) (failed : Option FileName)
+      → (fault ≡ ask.Device → FailsFor main before after x failed)
+      → refused_for {T = T} (file_of main x) (Err fault) ≡ refused_names (load_fault_at fault failed)
+  refused_failed T ask.NoMemory failed fails = refl
+  refused_failed T ask.Device None fails = absurd (fails refl)
+  refused_failed T ask.Device (Some there) fails = ap (λ (n : Name). n ∷ []) (sym (fails refl).1)
+
+pub never_many : (fault : AskFault) (failed : Option FileName) → load_fault_at fault failed ≡ load.TooMany → ⊥
+never_many ask.NoMemory failed e = cc e
+never_many ask.Device None e = cc e
+never_many ask.Device (Some there) e = cc e

@@ -13,7 +13,7 @@ use Rattle.gm_graph.specs.declared.cache.summary.Kept.TheVariants.{Valid, Faulty
 use Rattle.gm_graph.specs.declared.cache.summary.ListSpan.{ListSpan}
 use Rattle.gm_graph.specs.declared.cache.Cache.{Cache}
 use Rattle.gm_file.specs.Main.{Main, without_excluded, replacement_in}
-use Rattle.gm_graph.specs.Reading.{Held, file_of, is_askable, is_right_path, is_unpruned, is_unpruned_in, readings_by, requirements_in, vertex_requirements, said_in, with_right_path}
+use Rattle.gm_graph.specs.Reading.{Held, file_of, is_askable, is_right_path, readings_by, requirements_in, vertex_requirements, said_in, with_right_path}
 use Rattle.gm_graph.proofs.ReadingIf.{reading_if}
 use Rattle.gm_graph.specs.Summaries.{IsKept, IsWithinList, at_span, span_found, summary_reading}
 use Rattle.gm_graph.specs.Cached.{IsLender, IsSound, LendsKept, kept_file, file_count, held_of, main_in}
@@ -69,10 +69,3 @@ lent_within cache x (Some place) lends lender =
 pub lender_within : (cache : Cache) (x : ModuleVersion) (place : Option ℕ) → IsLender cache x place → IfSome place (λ there. there < file_count cache)
 lender_within cache x None lender = tt
 lender_within cache x (Some place) lender = lender.within
-
--- What is kept at the place of a vertex's file says whether the vertex is unpruned.
-pub unpruned_same : (cache : Cache) (x : ModuleVersion) (place : ℕ) (one : Kept) → kept_file cache place ≡ Some one → IsSound cache x place
-    → is_unpruned_in (said_in (Some (summary_reading (listed cache.modules) one))) ≡ is_unpruned (readings_by (main_in cache) (held_of cache)) x
-unpruned_same cache x place one there sound =
-    ap (λ (r : Option (Result Dependency Class)). is_unpruned_in (said_in r))
-    (sym (ap (option_map (summary_reading (listed cache.modules))) there) ∙ held_there cache x place sound ∙ sym sound.reading)

@@ -1,5 +1,5 @@
 -- The calls of a cache that name modules and files.
-use Rattle.std.proofs.Common.{◌≡◌, ◌∙◌, Bool, true, false, Option, None, Some, Result, Ok, ap, refl, subst, sym}
+use Rattle.std.proofs.Common.{◌≡◌, ◌∙◌, ℕ, Bool, true, false, Option, None, Some, Result, Ok, ap, refl, subst, sym}
 use Rattle.std.specs.Option.{option_map}
 use Rattle.gm_name.specs.ModuleVersion.{ModuleVersion}
 use Rattle.gm_name_table.specs.Listed.{listed}
@@ -7,10 +7,10 @@ use Rattle.gm_file.specs.Fields.{Dependency}
 use Rattle.gm_store.specs.Asked.{Name}
 use Rattle.gm_store.specs.States.{StoreState}
 use Rattle.gm_graph.specs.declared.cache.class.Class.{Class}
-use Rattle.gm_graph.specs.declared.cache.finding.Finding.TheVariants.{Fault}
 use Rattle.gm_graph.specs.declared.cache.Cache.{Cache}
-use Rattle.gm_graph.specs.Cached.{HasSoundFile, HoldsSame, IsFinding, IsLenderNamed, held_of, main_in, summary_at}
+use Rattle.gm_graph.specs.Cached.{HasSoundFile, HoldsSame, IsLender, IsLenderNamed, held_of, main_in, modules_in, summary_at}
 use Rattle.gm_graph.specs.Asking.{AsksFor}
+use Rattle.gm_graph.specs.FileTable.{IsPlaceOf}
 use Rattle.gm_file.specs.Main.{Main, main_of}
 use Rattle.gm_graph.specs.Reading.{Held, file_of, is_askable, readings_by, vertex_requirements}
 use Rattle.gm_graph.specs.Summaries.{summary_reading}
@@ -37,9 +37,15 @@ module _ (cache : Cache) (x : ModuleVersion) (name : Name) (is : HasSoundFile (m
       let here : held_of cache name ≡ Some (Ok is.file) = ap (held_of cache) is.name_is ∙ held in
       cc (sym empty ∙ here)
 
-  -- The vertex has no fault.
-  pub named_sound : (class : Class) → IsFinding cache x (Fault class) → ⊥
-  named_sound class fault = cc (sym is.reading ∙ fault)
+  -- The place at which it is found is that of the vertex's file.
+  pub lender_named : (place : Option ℕ) → IsPlaceOf (modules_in cache) cache.files name place → IsLender cache x place
+  lender_named None none = absurd (named_kept none)
+  lender_named (Some place) at = record {
+    within = at.0;
+    kept = at.1 ∙ ap (summary_at cache) is.name_is;
+    file = is.file;
+    reading = is.reading;
+  }
 
 -- The name that was given.
 pub name_here : {A : Type 0} (f : A → Name) (main : Main) (held : Held) (x : ModuleVersion) (o : Option A) (a : A) → o ≡ Some a

@@ -1,40 +1,21 @@
 -- What one visit adds to the graph builder.
-use Rattle.std.proofs.Common.{◌≡◌, ◌⊎◌, ◌++◌, ◌∷◌, Bool, true, false, List, [], Option, None, IsSome, Contains, map, ap, ◌∙◌, sym, refl, subst, inl, inr, append-nil, arith}
+use Rattle.std.proofs.Common.{◌≡◌, ◌⊎◌, ◌++◌, ◌∷◌, Bool, true, false, List, [], Option, None, Contains, map, ap, ◌∙◌, sym, subst, inl, inr, append-nil, arith}
 use Rattle.std.proofs.lemmas.List.Elements.{Contains-append_cases, Contains-append_right}
 use Rattle.std.proofs.lemmas.Bool.{false≢true}
 use Rattle.gm_name.specs.ModuleVersion.{ModuleVersion}
 use Rattle.gm_graph.specs.declared.cache.class.Class.{Class}
 use Rattle.gm_graph.specs.declared.cache.depth.Depth.{Depth}
-use Rattle.gm_graph.specs.declared.cache.finding.Finding.{Finding}
-use Rattle.gm_graph.specs.declared.cache.finding.Finding.TheVariants.{Fault, Sound}
 use Rattle.gm_graph.specs.declared.cache.depth.Turn.{Turn}
-use Rattle.gm_graph.specs.declared.cache.Cache.{Cache}
-use Rattle.gm_graph.specs.Cached.{IsFinding, IsLender}
 use Rattle.gm_graph.specs.Turns.{turn}
 use Rattle.gm_file.specs.Main.{Main, without_excluded}
-use Rattle.gm_graph.specs.Reading.{Readings, fault_in, vertex_fault, vertex_requirements}
+use Rattle.gm_graph.specs.Reading.{Readings, vertex_fault, vertex_requirements}
 use Rattle.gm_graph_select.specs.declared.step.Edge.{Edge}
 use Rattle.gm_graph_select.specs.declared.step.Step.{Step}
 use Rattle.gm_graph_select.specs.declared.step.Step.TheVariants.{Main as FromMain, Of}
 use Rattle.gm_graph_select.specs.Graph.{edge}
-use Rattle.gm_graph.specs.Building.{AddsSource, AreGathered, Faults, Gathers, found_fault, gathers, noted}
+use Rattle.gm_graph.specs.Building.{AddsSource, AreGathered, Faults, Gathers, gathers, noted}
 use Rattle.gm_graph.specs.Graph.{IsEdge}
-use Rattle.gm_graph.specs.Visiting.{lender_of, readings_in}
 use Rattle.gm_graph.proofs.Mapped.{from_mapped, in_mapped}
-
-pub finding_fault : (cache : Cache) (x : ModuleVersion) (f : Finding) → IsFinding cache x f → found_fault f ≡ vertex_fault (readings_in cache) x
-finding_fault cache x (Fault class) e = sym (ap fault_in e)
-finding_fault cache x (Sound place) sound = sym (ap fault_in sound.reading)
-
--- What is found of a vertex is known.
-pub finding_known : (cache : Cache) (x : ModuleVersion) (f : Finding) → IsFinding cache x f → IsSome (readings_in cache x)
-finding_known cache x (Fault class) e = subst (λ o. IsSome o) (sym e) refl
-finding_known cache x (Sound place) sound = subst (λ o. IsSome o) (sym sound.reading) refl
-
--- Its requirements are lent at this place.
-pub lender_is : (cache : Cache) (x : ModuleVersion) (f : Finding) → IsFinding cache x f → IsLender cache x (lender_of f)
-lender_is cache x (Fault class) e = (class, e)
-lender_is cache x (Sound place) sound = sound
 
 -- Edges from one step to some vertices were added.
 each_added : (old new : List Edge) (s : Step) (ys : List ModuleVersion) → new ≡ old ++ map (edge s) ys → (y : ModuleVersion) → Contains ys y → Contains new (edge s y)
@@ -46,10 +27,10 @@ only_added old new s ys more e h = elim (Contains-append_cases old (map (edge s)
   | inr new ↦ (let (y, in_ys, same) = from_mapped (edge s) ys e new in inr (y, in_ys, sym same))
 ]
 
-module _ (main : Main) (readings : Readings) (turns : List Turn) (x : ModuleVersion) (d : Depth) (f : Finding) (is_fault : found_fault f ≡ vertex_fault readings x) (old new : List Edge) (before after : Faults)
-    (noting : (q : ModuleVersion) → after q ≡ noted (found_fault f) x before q) where
+module _ (main : Main) (readings : Readings) (turns : List Turn) (x : ModuleVersion) (d : Depth) (o : Option Class) (is_fault : o ≡ vertex_fault readings x) (old new : List Edge) (before after : Faults)
+    (noting : (q : ModuleVersion) → after q ≡ noted o x before q) where
   noting_fault : (q : ModuleVersion) → after q ≡ noted (vertex_fault readings x) x before q
-  noting_fault q = noting q ∙ ap (λ (o : Option Class). noted o x before q) is_fault
+  noting_fault q = noting q ∙ ap (λ (p : Option Class). noted p x before q) is_fault
 
   -- a visit that adds edges
   pub gathers_edges : new ≡ old ++ map (edge (Of x)) (vertex_requirements main readings x) → Gathers main readings turns old new before after (turn x d)

@@ -1,5 +1,5 @@
 -- One visit: a builder before it, and those after its steps.
-use Rattle.std.proofs.Common.{◌≡◌, ◌++◌, ◌∷◌, Bool, true, false, List, [], IsSome, map, ap, ◌∙◌, sym, subst, inl, inr}
+use Rattle.std.proofs.Common.{◌≡◌, ◌++◌, ◌∷◌, Bool, true, false, List, [], Option, None, IsSome, map, refl, ap, ◌∙◌, sym, subst, inl, inr}
 use Rattle.std.specs.BTreeMap as tree
 use Rattle.std.proofs.lemmas.Bool.{cases_Bool, false≢true}
 use Rattle.gm_name.specs.ModuleVersion.{ModuleVersion, pair_cmp}
@@ -7,7 +7,6 @@ use Rattle.gm_graph.specs.declared.cache.class.Class.{Class}
 use Rattle.gm_graph.specs.declared.cache.depth.Depth.{Depth}
 use Rattle.gm_graph.specs.declared.cache.depth.Depth.TheVariants.{Deep}
 use Rattle.gm_graph.specs.declared.cache.depth.Turn.{Turn}
-use Rattle.gm_graph.specs.declared.cache.finding.Finding.{Finding}
 use Rattle.gm_file.specs.Main.{Main}
 use Rattle.gm_graph.specs.Reading.{Readings, vertex_fault, vertex_requirements}
 use Rattle.gm_graph.specs.Turns.{turn, AddsAll, Visits, leads_on}
@@ -21,9 +20,9 @@ use Rattle.gm_graph.specs.declared.edge_lists.EdgeLists.{EdgeLists}
 use Rattle.gm_graph.specs.declared.graph_builder.GraphBuilder.{GraphBuilder}
 use Rattle.gm_graph.specs.declared.graph_builder.NumberedTurn.{NumberedTurn}
 use Rattle.gm_graph.specs.Builder.{Built, KeepsGraph, KeepsTurns, built, turn_of, turns_of}
-use Rattle.gm_graph.specs.Building.{AddsSource, Gathers, found_fault, gathers, noted as with_fault}
+use Rattle.gm_graph.specs.Building.{AddsSource, Gathers, gathers, noted as with_fault}
 use Rattle.gm_graph.specs.Visiting.{IsVisited}
-use Rattle.gm_graph.proofs.Deepening.{follows_adds, follows_nothing}
+use Rattle.gm_graph.proofs.Deepening.{follows_adds, follows_leaf, follows_nothing}
 use Rattle.gm_graph.proofs.Turning.{adds_no_source, adds_source, gathers_edges, gathers_no_edges}
 
 -- ---- its steps
@@ -43,25 +42,25 @@ pub record Opens (main : Main) (readings : Readings) (old new : Built) (x : Modu
   pub faults : (y : ModuleVersion) → new.faults y ≡ old.faults y
 
 -- The fault of a vertex was noted, and nothing else.
-pub record Notes (old new : Built) (x : ModuleVersion) (f : Finding) : Type 0 where
+pub record Notes (old new : Built) (x : ModuleVersion) (o : Option Class) : Type 0 where
   pub turns : new.turns ≡ old.turns
   pub edges : new.edges ≡ old.edges
   pub sources : new.sources ≡ old.sources
-  pub faults : (y : ModuleVersion) → new.faults y ≡ with_fault (found_fault f) x old.faults y
+  pub faults : (y : ModuleVersion) → new.faults y ≡ with_fault o x old.faults y
 
-module _ (main : Main) (readings : Readings) (x : ModuleVersion) (d : Depth) (f : Finding) (is_fault : found_fault f ≡ vertex_fault readings x) (old noted turned new : Built) (notes : Notes old noted x f) (opens : Opens main readings noted turned x d)
+module _ (main : Main) (readings : Readings) (x : ModuleVersion) (d : Depth) (o : Option Class) (is_fault : o ≡ vertex_fault readings x) (old noted turned new : Built) (notes : Notes old noted x o) (opens : Opens main readings noted turned x d)
     (adds : AddsIf (gathers old.turns (turn x d)) turned new x (vertex_requirements main readings x)) where
   edges_before : turned.edges ≡ old.edges
   edges_before = opens.edges ∙ notes.edges
 
-  faults_after : (y : ModuleVersion) → new.faults y ≡ with_fault (found_fault f) x old.faults y
+  faults_after : (y : ModuleVersion) → new.faults y ≡ with_fault o x old.faults y
   faults_after y = adds.faults y ∙ opens.faults y ∙ notes.faults y
 
   gathered : Gathers main readings old.turns old.edges new.edges old.faults new.faults (turn x d)
   gathered = elim (cases_Bool (gathers old.turns (turn x d))) [
-    | inl does ↦ gathers_edges main readings old.turns x d f is_fault old.edges new.edges old.faults new.faults faults_after
+    | inl does ↦ gathers_edges main readings old.turns x d o is_fault old.edges new.edges old.faults new.faults faults_after
         (adds.edges.0 does ∙ ap (λ (es : List Edge). es ++ map (edge (Of x)) (vertex_requirements main readings x)) edges_before)
-    | inr not_so ↦ gathers_no_edges main readings old.turns x d f is_fault old.edges new.edges old.faults new.faults faults_after not_so
+    | inr not_so ↦ gathers_no_edges main readings old.turns x d o is_fault old.edges new.edges old.faults new.faults faults_after not_so
         (adds.edges.1 not_so ∙ edges_before)
   ]
 
@@ -88,9 +87,9 @@ module _ (modules : List ModuleVersion) (old new : GraphBuilder) where
   same_faults : new.faults ≡ old.faults → (y : ModuleVersion) → (built modules new).faults y ≡ (built modules old).faults y
   same_faults keeps y = ap (λ (faults : tree.BTreeMap ModuleVersion Class). tree.get pair_cmp faults y) keeps
 
-  pub notes_fault : (x : ModuleVersion) (f : Finding) → KeepsTurns old new → new.edges ≡ old.edges → ((y : ModuleVersion) → (built modules new).faults y ≡ with_fault (found_fault f) x (built modules old).faults y)
-      → Notes (built modules old) (built modules new) x f
-  notes_fault x f turns kept faults = record { turns = same_turns turns; edges = same_edges kept; sources = same_sources kept; faults = faults }
+  pub notes_fault : (x : ModuleVersion) (o : Option Class) → KeepsTurns old new → new.edges ≡ old.edges → ((y : ModuleVersion) → (built modules new).faults y ≡ with_fault o x (built modules old).faults y)
+      → Notes (built modules old) (built modules new) x o
+  notes_fault x o turns kept faults = record { turns = same_turns turns; edges = same_edges kept; sources = same_sources kept; faults = faults }
 
   pub adds_nothing : (adds : Bool) (x : ModuleVersion) (ys : List ModuleVersion) → adds ≡ false → new ≡ old → AddsIf adds (built modules old) (built modules new) x ys
   adds_nothing adds x ys not_so same =
@@ -124,3 +123,13 @@ module _ (modules : List ModuleVersion) (old new : GraphBuilder) where
     opens_none stops same =
         opens_by (record { edges = ap (λ (b : GraphBuilder). b.edges) same; faults = ap (λ (b : GraphBuilder). b.faults) same })
         (subst (λ (b : GraphBuilder). Visits main readings (turns_of modules old) (turns_of modules b) (turn x d)) (sym same) (follows_nothing main readings (turns_of modules old) x d known stops))
+
+    -- a vertex that requires nothing
+    pub opens_leaf : vertex_requirements main readings x ≡ [] → KeepsGraph old new → KeepsTurns old new → Opens main readings (built modules old) (built modules new) x d
+    opens_leaf none kept turns = opens_by kept
+        (subst (λ (ts : List Turn). Visits main readings (turns_of modules old) ts (turn x d)) (sym (same_turns turns))
+        (follows_leaf main readings (turns_of modules old) x d known none))
+
+-- No fault was noted.
+pub notes_none : (old : Built) (x : ModuleVersion) → Notes old old x None
+notes_none old x = record { turns = refl; edges = refl; sources = refl; faults = λ y. refl }

@@ -1,7 +1,8 @@
 -- What a store is asked for.
-use Rattle.std.specs.Prelude.{◌≡◌, ◌⊎◌, true, None}
+use Rattle.std.specs.Prelude.{◌≡◌, ◌⊎◌, true, Option, None, Some}
 use Rattle.gm_name.specs.ModuleVersion.{ModuleVersion}
-use Rattle.gm_store.specs.Asked.{Name, Reply, answer_in}
+use Rattle.gm_store.specs.Asked.{Name, Reply, answer_in, name_of}
+use Rattle.gm_store.specs.declared.files.FileName.{FileName}
 use Rattle.gm_store.specs.States.{AddsAnswer, StoreState}
 use Rattle.gm_file.specs.Main.{Main}
 use Rattle.gm_graph.specs.Reading.{file_of, is_askable}
@@ -21,3 +22,8 @@ AsksFor main old new x = (new.asked ≡ old.asked)
 abbrev pub StillLacks : Main → StoreState → StoreState → ModuleVersion → Name → Type 0
 StillLacks main old new x name = (new.asked ≡ old.asked) × (name ≡ file_of main x) × (is_askable name ≡ true)
     × (answer_in old.asked name ≡ None)
+
+-- The device failed when the store was asked for the file of this vertex, and this is the file's name.
+abbrev pub FailsFor : Main → StoreState → StoreState → ModuleVersion → Option FileName → Type 0
+FailsFor main old new x None = ⊥
+FailsFor main old new x (Some name) = StillLacks main old new x (name_of name)

@@ -6,8 +6,6 @@ use Rattle.gm_graph.specs.declared.cache.class.Class.{Class}
 use Rattle.gm_graph.specs.declared.cache.depth.Depth.{Depth}
 use Rattle.gm_graph.specs.declared.cache.depth.Depth.TheVariants.{Top, Deep}
 use Rattle.gm_graph.specs.declared.cache.depth.Turn.{Turn}
-use Rattle.gm_graph.specs.declared.cache.finding.Finding.{Finding}
-use Rattle.gm_graph.specs.declared.cache.finding.Finding.TheVariants.{Fault, Sound}
 use Rattle.gm_graph.specs.Turns.{turn, same_turn}
 use Rattle.gm_file.specs.Main.{Main}
 use Rattle.gm_graph.specs.Reading.{Readings, vertex_fault, vertex_requirements}
@@ -31,11 +29,6 @@ Faults = ModuleVersion → Option Class
 abbrev pub noted : Option Class → ModuleVersion → Faults → Faults
 noted None x faults y = faults y
 noted (Some class) x faults y = if pair_eq x y then Some class else faults y
-
--- the fault that was found
-abbrev pub found_fault : Finding → Option Class
-found_fault (Fault class) = Some class
-found_fault (Sound place) = None
 
 -- Whether a vertex's edges are added in a visit to this depth: if it is visited at both depths, at the top only.
 abbrev pub gathers_at : Depth → Bool → Bool

@@ -1,5 +1,5 @@
 -- What a cache holds, what it finds of a vertex, and which requirements it returns.
-use Rattle.std.specs.Prelude.{◌≡◌, ◌<◌, ℕ, List, [], ◌∷◌, ◌++◌, Option, Some, None, MatchResult, Result, Ok, Err, length, slice_get}
+use Rattle.std.specs.Prelude.{◌≡◌, ◌<◌, ℕ, true, false, List, [], ◌∷◌, ◌++◌, Option, Some, None, MatchResult, Result, Ok, Err, length, slice_get}
 use Rattle.std.specs.Option.{option_copied, option_map}
 use Rattle.std.specs.Borrow.{Fml, MutBor}
 use Rattle.std.specs.Io.BufRead.{Rests}
@@ -12,14 +12,12 @@ use Rattle.gm_graph.specs.declared.cache.by_name.Known.{Known}
 use Rattle.gm_graph.specs.declared.cache.by_name.Known.TheVariants as known
 use Rattle.gm_graph.specs.declared.cache.class.Class.{Class}
 use Rattle.gm_graph.specs.declared.cache.depth.Turn.{Turn}
-use Rattle.gm_graph.specs.declared.cache.finding.Finding.{Finding}
-use Rattle.gm_graph.specs.declared.cache.finding.Finding.TheVariants.{Fault, Sound}
 use Rattle.gm_graph.specs.declared.cache.summary.Kept.{Kept}
 use Rattle.gm_graph.specs.declared.cache.Cache.{Cache}
 use Rattle.gm_file.specs.Main.{Main, main_of}
 use Rattle.gm_graph.specs.FileTable.{kept_at}
 use Rattle.gm_graph.specs.Summaries.{IsKept, summary_reading}
-use Rattle.gm_graph.specs.Reading.{Held, Tells, readings_by, file_of}
+use Rattle.gm_graph.specs.Reading.{Held, Tells, readings_by, file_of, is_askable}
 use mir.Syntax.{named}
 use Rattle.gm_graph.specs.contracts.cache.Cache.{the_row}
 
@@ -70,10 +68,6 @@ pub record Knows (cache : Cache) (pairs : List (Name × Reply)) : Type 0 where
 
 -- ---- what is found of a vertex
 
--- what was read of the file at a place
-abbrev pub read_at : Cache → ℕ → Option (Result Dependency Class)
-read_at cache place = option_map (summary_reading (listed cache.modules)) (kept_file cache place)
-
 -- The vertex has no fault, and what is kept at this place is what was read of its file.
 pub record IsSound (cache : Cache) (x : ModuleVersion) (place : ℕ) : Type 0 where
   pub within : place < file_count cache
@@ -81,10 +75,16 @@ pub record IsSound (cache : Cache) (x : ModuleVersion) (place : ℕ) : Type 0 wh
   pub file : Dependency
   pub reading : readings_by (main_in cache) (held_of cache) x ≡ Some (Ok file)
 
--- What is found of a vertex: its fault, or the place of its file if that has no fault.
-abbrev pub IsFinding : Cache → ModuleVersion → Finding → Type 0
-IsFinding cache x (Fault class) = readings_by (main_in cache) (held_of cache) x ≡ Some (Err class)
-IsFinding cache x (Sound place) = IsSound cache x place
+-- The vertex's file may be asked for, and what is kept at this place is what was read of it.
+pub record HasFileAt (cache : Cache) (x : ModuleVersion) (place : ℕ) : Type 0 where
+  pub within : place < file_count cache
+  pub kept : kept_file cache place ≡ summary_at cache (file_of (main_in cache) x)
+  pub askable : is_askable (file_of (main_in cache) x) ≡ true
+
+-- The place of a vertex's file: none if the file may not be asked for.
+abbrev pub IsPlaceFor : Cache → ModuleVersion → Option ℕ → Type 0
+IsPlaceFor cache x None = is_askable (file_of (main_in cache) x) ≡ false
+IsPlaceFor cache x (Some place) = HasFileAt cache x place
 
 -- The place at which a vertex's requirements are found: none if the vertex has a fault, otherwise that of its file.
 abbrev pub IsLender : Cache → ModuleVersion → Option ℕ → Type 0
@@ -129,32 +129,12 @@ pub record LentSame (old new : Cache) : Type 0 where
   pub sums : sums_in new ≡ sums_in old
   pub turns : turns_in new ≡ turns_in old
 
--- The list has one more turn at its end, and everything else is the same.
-pub record AddsTurn (old new : Cache) (one : Turn) : Type 0 where
-  pub turns : turns_in new ≡ turns_in old ++ one ∷ []
-  pub modules : modules_in new ≡ modules_in old
-  pub files : file_count new ≡ file_count old
-  pub holds : HoldsSame old new
-
--- Everything is the same.
-pub record IsUnchanged (old new : Cache) : Type 0 where
-  pub turns : turns_in new ≡ turns_in old
-  pub modules : modules_in new ≡ modules_in old
-  pub holds : HoldsSame old new
-
 -- The list has these turns more at its end, and what is held is the same. More modules may have numbers.
 pub record HasMoreTurns (old new : Cache) (more : List Turn) : Type 0 where
   pub turns : turns_in new ≡ turns_in old ++ more
   pub holds : HoldsSame old new
 
--- Once the borrow of the requirements ends, the cache has one more turn. If the call was refused, the cache is
--- unchanged.
-abbrev pub Lends : {T E : Type 0} → MutBor Cache → Turn → Result T E → Fml
-Lends cache one result =
-    Rests (the_row (record { mir = named 1; lft = [] })) cache
-    (λ end. MatchResult result (λ _. AddsTurn cache.now end one) (λ _. IsUnchanged cache.now end))
-
--- The same of a call that names the vertex.
+-- Once the borrow of the requirements ends, the cache has one more turn. If the call was refused, it has the same.
 abbrev pub LendsNamed : {T E : Type 0} → MutBor Cache → Turn → Result T E → Fml
 LendsNamed cache one result =
     Rests (the_row (record { mir = named 1; lft = [] })) cache

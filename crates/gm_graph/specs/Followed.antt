@@ -1,5 +1,5 @@
 -- The files that were followed: what they require has turns at full depth.
-use Rattle.std.specs.Prelude.{◌≡◌, ◌⊎◌, ℕ, Bool, Contains, List, Option, None, Some, false, slice_index_or, true}
+use Rattle.std.specs.Prelude.{◌≡◌, ◌⊎◌, ℕ, Bool, Contains, List, false, slice_index_or, true}
 use Rattle.gm_name.specs.ModuleVersion.{ModuleVersion}
 use Rattle.gm_graph.specs.declared.cache.Cache.{Cache}
 use Rattle.gm_graph.specs.declared.cache.depth.Depth.TheVariants.{Deep}
@@ -14,13 +14,14 @@ use Rattle.gm_graph.specs.Visiting.{readings_in}
 abbrev pub followed_at : Followed → ℕ → Bool
 followed_at followed file = slice_index_or followed.files.items file false
 
-abbrev pub followed_by : Followed → Option ℕ → Bool
-followed_by followed None = false
-followed_by followed (Some file) = followed_at followed file
-
 -- No files were added but this one.
-abbrev pub AddsFollowed : Followed → Followed → Option ℕ → Type 0
-AddsFollowed old new file = (f : ℕ) → followed_at new f ≡ true → (followed_at old f ≡ true) ⊎ (file ≡ Some f)
+abbrev pub AddsFollowed : Followed → Followed → ℕ → Type 0
+AddsFollowed old new file = (f : ℕ) → followed_at new f ≡ true → (followed_at old f ≡ true) ⊎ (file ≡ f)
+
+-- No files were added but this one, and if it was, these modules, which it requires, have turns at full depth.
+abbrev pub FollowsFile : Followed → Followed → ℕ → List Turn → List ModuleVersion → Type 0
+FollowsFile old new file turns xs = (f : ℕ) → followed_at new f ≡ true
+    → (followed_at old f ≡ true) ⊎ ((file ≡ f) × ((y : ModuleVersion) → Contains xs y → Contains turns (turn y Deep)))
 
 -- What the file at a place requires has turns at full depth: a vertex has that file.
 pub record IsFollowedIn (cache : Cache) (turns : List Turn) (file : ℕ) : Type 0 where

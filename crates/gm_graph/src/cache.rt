@@ -16,15 +16,15 @@ pub(crate) mod by_name;
 pub(crate) mod class;
 pub(crate) mod depth;
 pub(crate) mod file_table;
-pub(crate) mod finding;
 pub(crate) mod lent;
 pub(crate) mod load_fault;
 pub(crate) mod naming;
 pub(crate) mod paths;
 pub(crate) mod reading;
 pub(crate) mod summary;
+pub(crate) mod visit;
 
-ghost use Rattle.std.specs.Prelude.{◌≡◌, ◌≤◌, ◌<◌, ◌+◌, ◌++◌, ◌∷◌, [], IfOk, OnOk, OnErr, MatchOption, None, Err, length, take, true};
+ghost use Rattle.std.specs.Prelude.{◌≡◌, ◌≤◌, ◌<◌, ◌+◌, ◌++◌, ◌∷◌, [], List, IfOk, OnOk, OnErr, None, Some, Err, length, take, true};
 ghost use Rattle.std.specs.Option.{option_copied};
 ghost use Rattle.gm_name.specs.ModuleVersion.{ModuleVersion};
 ghost use Rattle.gm_name_table.specs.Listed.{listed};
@@ -33,24 +33,24 @@ ghost use Rattle.gm_store.specs.Requests.{refused_for};
 ghost use Rattle.gm_store.specs.States.{AddsAnswer, HasServed};
 ghost use Rattle.gm_store.specs.declared.files.FileName.{FileName};
 ghost use Rattle.gm_file.specs.Main.{main_of, without_excluded};
-ghost use Rattle.gm_graph.specs.Asking.{AsksAtMost, AsksFor, StillLacks};
-ghost use Rattle.gm_graph.specs.Reading.{IsFileReading, KeepsHeld, file_of, is_askable as may_be_asked, is_unpruned, is_unpruned_in, readings_by, said_in, vertex_requirements};
-ghost use Rattle.gm_graph.specs.Refusals.{refused_in};
+ghost use Rattle.gm_graph.specs.Asking.{AsksAtMost, AsksFor, FailsFor};
+ghost use Rattle.gm_graph.specs.Reading.{IsFileReading, KeepsHeld, file_of, is_askable as may_be_asked, said_in};
+ghost use Rattle.gm_graph.specs.Refusals.{load_fault_at};
 ghost use Rattle.gm_graph.specs.FileTable.{PutsFile, HasReplacing};
 ghost use Rattle.gm_graph.specs.Lent.{lent_modules};
-ghost use Rattle.gm_graph.specs.Summaries.{Grows, IsKept, summary_reading};
-ghost use Rattle.gm_graph.specs.Turns.{turn};
+ghost use Rattle.gm_graph.specs.Summaries.{Grows, IsKept, IsWithinList, at_span, summary_reading};
+ghost use Rattle.gm_graph.specs.Turns.{turn, leads_on_in};
 
 use crate::cache::class::Class;
 use crate::cache::depth::{Depth, Turn};
 use crate::cache::file_table::FileTable;
-use crate::cache::finding::Finding;
 use crate::cache::lent::Lent;
 use crate::cache::load_fault::LoadFault;
 use crate::cache::naming::{file_name, is_askable};
 use crate::cache::paths::is_right_path;
 use crate::cache::reading::{ListedReading, read_answer};
-use crate::cache::summary::{Kept, ListSpan, summary_of};
+use crate::cache::summary::{Kept, ListSpan, Summary, summary_of};
+use crate::cache::visit::{Required, Visit};
 use gm_file::MainFile;
 use gm_name::{KnownNames, ModVer, NoMemory};
 use gm_name_table::ModuleList;
@@ -79,6 +79,8 @@ pub struct Cache<'a> {
     files: FileTable,
     /// The turns whose requirements were requested, in order.
     turns: Vec<Turn>,
+    /// The name of the file of the last request that was refused.
+    failed: Option<FileName>,
     ghost first_within: { first ≤ length modules.numbers },
     ghost first_are: { take first (listed modules)
         ≡ without_excluded (main_of main.now) (main_of main.now).requirements },
@@ -166,8 +168,10 @@ impl<'a> Cache<'a> {
     ghost use Rattle.std.specs.List.{IsDistinct};
     ghost use Rattle.gm_name.specs.ModuleVersion.{pair_eq};
     ghost use Rattle.gm_name_table.specs.Listed.{BeginsWith};
-    ghost use Rattle.gm_graph.specs.Cached.{HoldsSame, IsFinding, IsLender, IsSound, KeepsSound, Knows, LendsKept, LentSame, Lends, kept_file, file_count, held_of, main_in, modules_in, numbered, read_at, summary_at, sums_in, turns_in};
+    ghost use Rattle.gm_graph.specs.Cached.{HasFileAt, HoldsSame, IsPlaceFor, KeepsSound, Knows, LendsKept, LentSame, file_count, held_of, main_in, modules_in, numbered, sums_in, turns_in};
     ghost use Rattle.gm_graph.specs.Lent.{lent_table};
+    ghost use Rattle.gm_graph.specs.declared.cache.Cache.{Cache};
+    ghost use Rattle.gm_graph.specs.Visiting.{Continues, IsVisit, LendsOver, Visits};
 
     /// A cache for a main file, without files. If there is a go.sum, the files that come from proxies are checked
     /// against it. The only refusal is `NoMemory`.
@@ -197,6 +201,7 @@ impl<'a> Cache<'a> {
             first,
             files,
             turns: Vec::new(alloc),
+            failed: None,
         })
     }
 
@@ -233,41 +238,9 @@ impl<'a> Cache<'a> {
         Ok(kept)
     }
 
-    /// What is found of a vertex whose file is kept at this place.
-    fn finding(&self, x: &ModVer, place: u32) -> Finding
-        requires within { place < file_count self.now }
-        requires kept { kept_file self.now place ≡ summary_at self.now (file_of (main_in self.now) x.now) }
-        requires askable { may_be_asked (file_of (main_in self.now) x.now) ≡ true }
-        ensures { IsFinding self.now x.now result }
-    {
-        match self.files.at(place) {
-            Kept::Faulty(class) => Finding::Fault(*class),
-            Kept::Valid(summary) => {
-                if is_right_path(self.main, x, &summary.file) {
-                    Finding::Sound(place)
-                } else {
-                    Finding::Fault(Class::WrongPath)
-                }
-            }
-        }
-    }
-
-    /// What is found of the vertex with a number, if its file, which has this name, was read.
-    fn found(&self, name: &FileName, number: u32) -> Option<Finding>
-        requires vertex { number < length (modules_in self.now) }
-        requires file { name_of name.now ≡ file_of (main_in self.now) (numbered self.now number) }
-        requires askable { may_be_asked (name_of name.now) ≡ true }
-        ensures { MatchOption result (summary_at self.now (name_of name.now) ≡ None)
-            (IsFinding self.now (numbered self.now number)) }
-    {
-        let x = self.modules.module(number);
-        let place = self.files.place_of(name, number)?;
-        Some(self.finding(x, place))
-    }
-
-    /// Keeps what was read of the file of the vertex with a number, of which nothing was kept, and reports what is
-    /// found of the vertex. The only refusal is `NoMemory`, which leaves the cache unchanged.
-    fn keep(&mut self, number: u32, name: &FileName, kept: Kept) -> Result<Finding, NoMemory>
+    /// Keeps what was read of the file of the vertex with a number, of which nothing was kept, and returns the place.
+    /// The only refusal is `NoMemory`, which leaves the cache unchanged.
+    fn keep(&mut self, number: u32, name: &FileName, kept: Kept) -> Result<u32, NoMemory>
         requires vertex { number < length (modules_in self.old) }
         requires file { name_of name.now ≡ file_of (main_in self.old) (numbered self.old number) }
         requires askable { may_be_asked (name_of name.now) ≡ true }
@@ -276,23 +249,14 @@ impl<'a> Cache<'a> {
         ensures adds { OnOk result
             (PutsFile (modules_in self.old) self.old.files self.new.files (name_of name.now) kept) }
         ensures modules { self.new.modules ≡ self.old.modules }
-        ensures distinct { OnOk result (IsDistinct pair_eq (modules_in self.new)) }
         ensures files { BeginsWith self.old.files.files.items self.new.files.files.items }
-        ensures finding { IfOk result (IsFinding self.new (numbered self.old number)) }
+        ensures place { IfOk result (HasFileAt self.new (numbered self.old number)) }
         ensures lent { LentSame self.old self.new }
         ensures err { OnErr result (HoldsSame self.old self.new) }
     {
-        let place = self.files.add(name, number, kept)?;
-        Ok(self.finding(self.modules.module(number), place))
-    }
-
-    /// The module with a number. Numbers never change.
-    pub(crate) fn module(&self, number: u32) -> &ModVer
-        requires { number < length (modules_in self.now) }
-        ensures module { result.now ≡ numbered self.now number }
-        ensures distinct { IsDistinct pair_eq (modules_in self.now) }
-    {
-        self.modules.module(number)
+        // By this no module has two numbers, so the file is found by this one.
+        let _ = self.modules.module(number);
+        self.files.add(name, number, kept)
     }
 
     /// The requirements of the main file, without the excluded ones.
@@ -308,88 +272,133 @@ impl<'a> Cache<'a> {
         Lent::at(&self.modules, span)
     }
 
-    /// Makes the file of the vertex with a number known, and reports what is found of the vertex. The store is asked
-    /// for that file unless it is known already, or comes from a proxy and its path isn't fetchable.
+    /// Makes the file of the vertex with a number known, and returns its place, or `None` if it comes from a proxy and
+    /// its path isn't fetchable. The store is asked for the file unless it is known already.
     ///
     /// `NoMemory` is returned if memory runs out; the store may then hold an answer that the cache doesn't.
-    /// `Device` is returned exactly if the store's device fails in this request. `TooMany` is never returned. After
-    /// any refusal the cache holds the same; more modules may have numbers.
-    pub(crate) fn known_at<F: Asks>(
-        &mut self,
-        files: &mut F,
-        number: u32,
-    ) -> Result<Finding, LoadFault>
+    /// `Device` is returned exactly if the store's device fails in this request; the cache then has the file's name.
+    /// After any refusal the cache holds the same; more modules may have numbers.
+    fn known_at<F: Asks>(&mut self, files: &mut F, number: u32) -> Result<Option<u32>, AskFault>
         requires knows { Knows self.old (F.state files.old).asked }
         requires vertex { number < length (modules_in self.old) }
         requires few { file_count self.old < 4294967295 }
         ensures count { file_count self.new ≤ file_count self.old + 1 }
         ensures knows { OnOk result (Knows self.new (F.state files.new).asked) }
-        ensures finding { IfOk result (IsFinding self.new (numbered self.old number)) }
+        ensures place { IfOk result (IsPlaceFor self.new (numbered self.old number)) }
         ensures lent { LentSame self.old self.new }
         ensures grows { KeepsHeld (held_of self.old) (held_of self.new) }
         ensures numbered { BeginsWith (modules_in self.old) (modules_in self.new) }
-        ensures distinct { OnOk result (IsDistinct pair_eq (modules_in self.new)) }
         ensures sound { KeepsSound self.old self.new }
         ensures err { OnErr result (HoldsSame self.old self.new) }
         ensures asks { AsksFor (main_in self.old) (F.state files.old) (F.state files.new) (numbered self.old number) }
-        ensures not_too_many { result ≡ Err LoadFault.TooMany → ⊥ }
-        ensures device { (name : FileName) → result ≡ Err (LoadFault.Device name)
-            → StillLacks (main_in self.old) (F.state files.old) (F.state files.new)
-            (numbered self.old number) (name_of name) }
-        ensures refused { (F.state files.new).refused ≡ (F.state files.old).refused ++ refused_in result }
+        ensures device { result ≡ Err AskFault.Device → FailsFor (main_in self.old) (F.state files.old)
+            (F.state files.new) (numbered self.old number) self.new.failed }
+        ensures refused { (F.state files.new).refused ≡ (F.state files.old).refused
+            ++ refused_for (file_of (main_in self.old) (numbered self.old number)) result }
         ensures served { HasServed (F.may_answer files.old) (F.may_answer files.new)
             (F.state files.old) (F.state files.new) }
     {
         let name = file_name(self.alloc, self.main, self.modules.module(number))?;
         if !is_askable(&name) {
-            return Ok(Finding::Fault(Class::NotFetchable));
+            return Ok(None);
         }
-        if let Some(finding) = self.found(&name, number) {
-            return Ok(finding);
+        if let Some(place) = self.files.place_of(&name, number) {
+            return Ok(Some(place));
         }
         match self.read_file(files, &name) {
-            Ok(kept) => Ok(self.keep(number, &name, kept)?),
-            Err(AskFault::NoMemory) => Err(LoadFault::NoMemory),
-            Err(AskFault::Device) => Err(LoadFault::Device(name)),
+            Ok(kept) => Ok(Some(self.keep(number, &name, kept)?)),
+            Err(fault) => {
+                self.failed = Some(name);
+                Err(fault)
+            }
         }
     }
 
-    /// Returns the requirements of the vertex with a number, without the excluded ones, and appends the vertex and the
-    /// depth to the list of turns. For a vertex with a fault `place` is `None`, and there are no requirements; for any
-    /// other vertex `place` is that of its file. `NoMemory`, the only refusal, leaves the cache unchanged.
-    pub(crate) fn lend_at(
+    /// What a visit to this depth gets of a vertex without a fault, whose valid file is kept at this place.
+    fn required(&self, place: u32, summary: &Summary, depth: Depth) -> Required<'_>
+        requires within { IsWithinList (listed self.now.modules) summary.now.kept }
+        ensures file { result.file ≡ place }
+        ensures leads { (modules : List ModuleVersion)
+            → result.leads ≡ leads_on_in (said_in (Some (summary_reading modules (Kept.Valid summary.now)))) depth }
+        ensures modules { lent_modules result.list ≡ at_span (listed self.now.modules) summary.now.kept }
+        ensures table { lent_table result.list ≡ modules_in self.now }
+    {
+        Required {
+            file: place,
+            leads: summary.leads_on(depth),
+            list: Lent::at(&self.modules, summary.kept),
+        }
+    }
+
+    /// What a visit to this depth gets of the vertex with a number, whose file is kept at this place. There is no place
+    /// if the file comes from a proxy and its path isn't fetchable.
+    fn said(&self, number: u32, depth: Depth, place: Option<u32>) -> Visit<'_>
+        requires vertex { number < length (modules_in self.now) }
+        requires place { IsPlaceFor self.now (numbered self.now number) place }
+        requires lends { LendsKept self.now }
+        ensures visit { IsVisit self.now (numbered self.now number) depth result }
+        ensures lends { (old : Cache) → Continues old self.now → KeepsSound old self.now → LendsOver old result }
+        ensures distinct { IsDistinct pair_eq (modules_in self.now) }
+    {
+        let vertex = self.modules.module(number);
+        let Some(place) = place else {
+            return Visit::Fault(vertex, Class::NotFetchable);
+        };
+        match self.files.at(place) {
+            Kept::Faulty(class) => Visit::Fault(vertex, *class),
+            Kept::Valid(summary) => {
+                if is_right_path(self.main, vertex, &summary.file) {
+                    Visit::Required(self.required(place, summary, depth))
+                } else {
+                    Visit::Fault(vertex, Class::WrongPath)
+                }
+            }
+        }
+    }
+
+    /// Visits the vertex with a number: makes its file known, appends the vertex and the depth to the list of turns, and
+    /// returns the vertex's fault or what it requires. The store is asked for the file unless it is known already, or
+    /// comes from a proxy and its path isn't fetchable.
+    ///
+    /// `NoMemory` is returned if memory runs out; the store may then hold an answer that the cache doesn't.
+    /// `Device` is returned exactly if the store's device fails in this request; `load_fault` then gives the file's
+    /// name. After any refusal the list of turns is the same.
+    pub(crate) fn visit<F: Asks>(
         &mut self,
+        files: &mut F,
         number: u32,
         depth: Depth,
-        place: Option<u32>,
-    ) -> Result<Lent<'_>, NoMemory>
-        requires lends { LendsKept self.old }
+    ) -> Result<Visit<'_>, AskFault>
+        requires knows { Knows self.old (F.state files.old).asked }
         requires vertex { number < length (modules_in self.old) }
-        requires lender { IsLender self.old (numbered self.old number) place }
-        ensures lent { IfOk result (λ lent. lent_modules lent ≡ vertex_requirements (main_in self.old)
-            (readings_by (main_in self.old) (held_of self.old)) (numbered self.old number)) }
-        ensures table { IfOk result (λ lent. lent_table lent ≡ modules_in self.old) }
-        ensures* after { sem 𝓛 (Lends self.entry (turn (numbered self.entry.now number) depth) result) }
+        requires few { file_count self.old < 4294967295 }
+        ensures lends { IfOk result (LendsOver self.old) }
+        ensures asks { AsksFor (main_in self.old) (F.state files.old) (F.state files.new) (numbered self.old number) }
+        ensures refused { (F.state files.new).refused ≡ (F.state files.old).refused
+            ++ refused_for (file_of (main_in self.old) (numbered self.old number)) result }
+        ensures served { HasServed (F.may_answer files.old) (F.may_answer files.new)
+            (F.state files.old) (F.state files.new) }
+        ensures* after { sem 𝓛 (Visits self.entry (F.state files.old) (F.state files.new) number depth result) }
     {
-        let span = self.files.span_of(place);
+        let place = self.known_at(files, number)?;
         push_turn(
             self.alloc,
             &mut self.turns,
             self.modules.module(number),
             depth,
         )?;
-        Ok(Lent::at(&self.modules, span))
+        Ok(self.said(number, depth, place))
     }
 
-    /// Whether the file at a place has no fault and is unpruned, that is, whether the first two numbers of its go
-    /// version are below 1.17 (Go Modules Reference, "Module graph pruning").
-    pub(crate) fn is_unpruned(&self, place: u32) -> bool
-        requires { place < file_count self.now }
-        ensures read { result ≡ is_unpruned_in (said_in (read_at self.now place)) }
-        ensures vertex { (x : ModuleVersion) → IsSound self.now x place
-            → result ≡ is_unpruned (readings_by (main_in self.now) (held_of self.now)) x }
+    /// Why loading stops after this fault of a visit. The name of the file is given once.
+    pub(crate) fn load_fault(&mut self, fault: AskFault) -> LoadFault
+        ensures fault { result ≡ load_fault_at fault self.old.failed }
+        ensures holds { HoldsSame self.old self.new }
+        ensures lent { LentSame self.old self.new }
+        ensures count { file_count self.new ≡ file_count self.old }
     {
-        self.files.at(place).is_unpruned()
+        let failed = self.failed.take();
+        LoadFault::of_request(fault, failed)
     }
 
     /// The modules in the order of their numbers, and the list of turns. The rest of the cache is dropped.

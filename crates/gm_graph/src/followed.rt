@@ -2,7 +2,7 @@
 //!
 //! Both depths lead on at full depth, so one mark a file is enough, whatever vertices have it.
 
-ghost use Rattle.std.specs.Prelude.{◌≡◌, ◌⊎◌, ◌++◌, ℕ, Contains, Err, OnOk, Some, true};
+ghost use Rattle.std.specs.Prelude.{◌≡◌, ◌⊎◌, ◌++◌, ℕ, Contains, Err, OnOk, true};
 ghost use Rattle.gm_name.specs.ModuleVersion.{ModuleVersion};
 ghost use Rattle.gm_graph.specs.Lent.{lent_modules, lent_table};
 ghost use Rattle.gm_graph.specs.Turns.{turn, AddsAll, OverflowsWith};
@@ -24,7 +24,7 @@ pub(crate) struct Followed {
 }
 
 impl Followed {
-    ghost use Rattle.gm_graph.specs.Followed.{AddsFollowed, followed_at, followed_by};
+    ghost use Rattle.gm_graph.specs.Followed.{AddsFollowed, followed_at};
 
     /// No files.
     pub(crate) fn new(alloc: Global) -> Followed
@@ -36,46 +36,40 @@ impl Followed {
     }
 
     /// Whether this file was followed.
-    fn has(&self, file: Option<u32>) -> bool
-        ensures { result ≡ followed_by self.now file }
+    fn has(&self, file: u32) -> bool
+        ensures { result ≡ followed_at self.now file }
     {
-        match file {
+        match self.files.get(file as usize) {
             None => false,
-            Some(file) => match self.files.get(file as usize) {
-                None => false,
-                Some(followed) => *followed,
-            },
+            Some(followed) => *followed,
         }
     }
 
     /// Adds this file.
-    fn add(&mut self, file: Option<u32>) -> Result<(), AllocError>
+    fn add(&mut self, file: u32) -> Result<(), AllocError>
         ensures only { OnOk result (AddsFollowed self.old self.new file) }
-        ensures added { OnOk result ((f : ℕ) → file ≡ Some f → followed_at self.new f ≡ true) }
+        ensures added { OnOk result (followed_at self.new file ≡ true) }
     {
-        if let Some(file) = file {
-            put_at(&mut self.files, file, false, true)?;
-        }
-        Ok(())
+        put_at(&mut self.files, file, false, true)
     }
 
     /// Adds a turn at full depth for each of these modules, which a file requires, unless the file was followed.
     pub(crate) fn follow(
         &mut self,
         builder: &mut GraphBuilder,
-        file: Option<u32>,
+        file: u32,
         list: Lent<'_>,
     ) -> Result<(), AddFault>
         requires builder { IsBuilder (lent_table list) builder.old }
-        requires followed { followed_by self.old file ≡ true → (y : ModuleVersion) → Contains (lent_modules list) y
+        requires followed { followed_at self.old file ≡ true → (y : ModuleVersion) → Contains (lent_modules list) y
             → Contains (turns_of (lent_table list) builder.old) (turn y Deep) }
         ensures builder { OnOk result (IsBuilder (lent_table list.entry) builder.new) }
         ensures adds { OnOk result (AddsAll (turns_of (lent_table list.entry) builder.old)
             (turns_of (lent_table list.entry) builder.new) (lent_modules list.entry) Deep) }
         ensures graph { OnOk result (KeepsGraph builder.old builder.new) }
         ensures files { OnOk result (AddsFollowed self.old self.new file) }
-        ensures added { OnOk result ((f : ℕ) → file ≡ Some f → followed_at self.new f ≡ true) }
-        ensures once { followed_by self.old file ≡ true → builder.new ≡ builder.old }
+        ensures added { OnOk result (followed_at self.new file ≡ true) }
+        ensures once { followed_at self.old file ≡ true → builder.new ≡ builder.old }
         ensures too_many { result ≡ Err AddFault.TooMany
             → OverflowsWith (turns_of (lent_table list.entry) builder.old) (lent_modules list.entry) }
     {

@@ -12,11 +12,10 @@ ghost use Rattle.gm_name.specs.ModuleVersion.{ModuleVersion, pair_cmp, pair_eq};
 ghost use Rattle.gm_graph.specs.Lent.{lent_modules, lent_table};
 ghost use Rattle.gm_graph_select.specs.Adjacency.{IsBelow, step_with};
 ghost use Rattle.gm_graph_select.specs.Graph.{edge};
-ghost use Rattle.gm_graph.specs.Building.{fault, found_fault, noted};
+ghost use Rattle.gm_graph.specs.Building.{fault, noted};
 
 use crate::cache::class::Class;
 use crate::cache::depth::Depth;
-use crate::cache::finding::Finding;
 use crate::cache::lent::Lent;
 use crate::edge_lists::EdgeLists;
 use crate::fault::Fault;
@@ -54,7 +53,10 @@ pub(crate) struct GraphBuilder {
 
 impl GraphBuilder {
     ghost use Rattle.gm_graph.specs.Builder.{IsBuilder, KeepsTurns, edges_in, faults_by_vertex, sources_in};
-    ghost use Rattle.gm_graph.specs.EdgeLists.{numbers_of, steps_in};
+    ghost use Rattle.std.specs.Prelude.{◌<◌, None};
+    ghost use Rattle.gm_name.specs.ModuleVersion.{module_at};
+    ghost use Rattle.gm_graph_select.specs.declared.step.Step.TheVariants.{Of};
+    ghost use Rattle.gm_graph.specs.EdgeLists.{AreLists, KeepsLists, numbers_of, steps_in};
     ghost use Rattle.gm_graph.specs.FileLists.{AddsFileList, HasNumbersOf};
 
     /// A graph with nothing in it, and with room for the marks of so many modules.
@@ -77,18 +79,16 @@ impl GraphBuilder {
         })
     }
 
-    /// Records the fault of a vertex, if it has one.
-    pub(crate) fn note(&mut self, vertex: &ModVer, finding: &Finding) -> Result<(), AllocError>
+    /// Records the fault of a vertex.
+    pub(crate) fn note(&mut self, vertex: &ModVer, class: Class) -> Result<(), AllocError>
         ensures builder { (modules : List ModuleVersion) → IsBuilder modules self.old
             → OnOk result (IsBuilder modules self.new) }
         ensures faults { OnOk result ((x : ModuleVersion) → faults_by_vertex self.new x
-            ≡ noted (found_fault finding.now) vertex.now (faults_by_vertex self.old) x) }
+            ≡ noted (Some class) vertex.now (faults_by_vertex self.old) x) }
         ensures turns { OnOk result (KeepsTurns self.old self.new) }
         ensures edges { OnOk result (self.new.edges ≡ self.old.edges) }
     {
-        if let Finding::Fault(class) = finding {
-            self.faults.insert(vertex.copy(self.alloc)?, *class)?;
-        }
+        self.faults.insert(vertex.copy(self.alloc)?, class)?;
         Ok(())
     }
 
@@ -115,6 +115,23 @@ impl GraphBuilder {
             (lent_table list.entry) (lent_modules list.entry)) }
     {
         self.edges.add(self.alloc, from, file, list.numbers())?;
+        Ok(())
+    }
+
+    /// Adds the vertex with a number as one that requires nothing.
+    pub(crate) fn add_leaf(&mut self, number: u32) -> Result<(), AllocError>
+        requires lists { AreLists self.old.edges }
+        ensures builder { (modules : List ModuleVersion) → IsBuilder modules self.old → number < length modules
+            → OnOk result (IsBuilder modules self.new) }
+        ensures edges { OnOk result ((modules : List ModuleVersion)
+            → edges_in modules self.new ≡ edges_in modules self.old) }
+        ensures sources { OnOk result ((modules : List ModuleVersion) → sources_in modules self.new
+            ≡ sources_in modules self.old ++ Of (module_at modules number) ∷ []) }
+        ensures turns { OnOk result (KeepsTurns self.old self.new) }
+        ensures faults { OnOk result (self.new.faults ≡ self.old.faults) }
+        ensures files { OnOk result (KeepsLists self.old.edges self.new.edges None []) }
+    {
+        self.edges.add(self.alloc, Some(number), None, &[])?;
         Ok(())
     }
 }

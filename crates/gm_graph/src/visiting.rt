@@ -1,90 +1,92 @@
 //! One visit of the worklist: what reading one vertex adds to the worklist and to the graph.
 
-ghost use Rattle.std.specs.Prelude.{◌≡◌, ◌<◌, ◌≤◌, ◌+◌, ◌++◌, ◌∷◌, [], OnOk, Err, length};
-ghost use Rattle.gm_name.specs.ModuleVersion.{ModuleVersion};
+ghost use Rattle.std.specs.Prelude.{◌≡◌, ◌<◌, ◌≤◌, ◌+◌, ◌++◌, ◌∷◌, [], List, OnOk, Contains, Err, None, Some, length, true};
+ghost use Rattle.gm_name.specs.ModuleVersion.{ModuleVersion, module_at};
 ghost use Rattle.gm_store.specs.Asked.{name_of};
 ghost use Rattle.gm_store.specs.States.{HasServed};
 ghost use Rattle.gm_store.specs.declared.files.FileName.{FileName};
 ghost use Rattle.gm_graph.specs.Asking.{AsksFor, StillLacks};
-ghost use Rattle.gm_graph.specs.Cached.{AddsTurn, IsFinding, Knows, LendsKept, file_count, main_in, modules_in, numbered, turns_in};
+ghost use Rattle.gm_graph.specs.Cached.{Knows, file_count, main_in, modules_in, numbered, turns_in};
 ghost use Rattle.gm_graph.specs.Refusals.{refused_in};
-ghost use Rattle.gm_graph.specs.Builder.{IsBuilder, built, turn_of, turns_of};
-ghost use Rattle.gm_graph.specs.FileLists.{HaveFiles};
-ghost use Rattle.gm_graph.specs.Followed.{AreFollowedIn};
-ghost use Rattle.gm_graph.specs.Turns.{VisitOverflows, leads_on};
-ghost use Rattle.gm_graph.specs.Visiting.{Continues, IsVisited, OverflowsAt, lender_of, readings_in};
+ghost use Rattle.gm_graph.specs.Builder.{IsBuilder, KeepsTurns, built, turn_of, turns_of};
+ghost use Rattle.gm_graph.specs.EdgeLists.{AreLists, KeepsLists};
+ghost use Rattle.gm_graph.specs.FileLists.{AddsFileList, HasNumbersOf, HaveFiles};
+ghost use Rattle.gm_graph.specs.Followed.{AreFollowedIn, FollowsFile, followed_at};
+ghost use Rattle.gm_file.specs.Main.{Main};
+ghost use Rattle.gm_graph.specs.Reading.{Readings};
+ghost use Rattle.gm_graph.specs.Turns.{turn, OverflowsWith};
+ghost use Rattle.gm_graph.specs.Visiting.{Continues, IsVisited, OverflowsAt, SaysRequired, readings_in, required_by, table_of};
+ghost use Rattle.gm_graph.specs.declared.cache.depth.Depth.TheVariants.{Deep};
 
 use crate::cache::Cache;
-use crate::cache::depth::Depth;
-use crate::cache::finding::Finding;
+use crate::cache::class::Class;
 use crate::cache::load_fault::LoadFault;
+use crate::cache::visit::{Required, Visit};
 use crate::followed::Followed;
 use crate::graph_builder::{GraphBuilder, NumberedTurn};
+use gm_name::ModVer;
 use gm_store::Asks;
 
-/// The place at which the cache has the requirements of a vertex, or `None` if the vertex has a fault.
-fn lender(finding: &Finding) -> Option<u32>
-    ensures { result ≡ lender_of finding.now }
+/// Adds the fault of a vertex to the graph, and the vertex as one that requires nothing.
+fn add_fault(
+    builder: &mut GraphBuilder,
+    one: NumberedTurn,
+    vertex: &ModVer,
+    class: Class,
+) -> Result<(), LoadFault>
+    requires lists { AreLists builder.old.edges }
+    ensures builder { (modules : List ModuleVersion) → IsBuilder modules builder.old → one.number < length modules
+        → OnOk result (IsBuilder modules builder.new) }
+    ensures visited { (modules : List ModuleVersion) (main : Main) (readings : Readings)
+        → IsBuilder modules builder.old → one.number < length modules → vertex.now ≡ module_at modules one.number
+        → readings vertex.now ≡ Some (Err class) → OnOk result (IsVisited main readings
+        (built modules builder.old) (built modules builder.new) vertex.now one.depth) }
+    ensures turns { OnOk result (KeepsTurns builder.old builder.new) }
+    ensures files { OnOk result (KeepsLists builder.old.edges builder.new.edges None []) }
+    ensures not_refused { refused_in result ≡ [] }
+    ensures not_too_many { result ≡ Err LoadFault.TooMany → ⊥ }
 {
-    match finding {
-        Finding::Fault(_) => None,
-        Finding::Sound(place) => Some(*place),
+    let gathers = builder.gathers(one);
+    builder.note(vertex, class)?;
+    if gathers {
+        builder.add_leaf(one.number)?;
     }
+    Ok(())
 }
 
-/// Whether a visit to this depth also opens what the vertex requires. `finding` is what was found of the vertex.
-fn leads_on(cache: &Cache<'_>, depth: Depth, finding: &Finding) -> bool
-    requires { (x : ModuleVersion) × IsFinding cache.now x finding.now }
-    ensures { (x : ModuleVersion) → IsFinding cache.now x finding.now
-        → result ≡ leads_on (readings_in cache.now) x depth }
-{
-    match depth {
-        Depth::Top => match finding {
-            Finding::Fault(_) => false,
-            Finding::Sound(place) => cache.is_unpruned(*place),
-        },
-        Depth::Deep => true,
-    }
-}
-
-/// Processes the requirements of a vertex that was read. Its edges and its fault are added to the graph, and, if the
-/// visit leads further, the turns of the required vertices to the worklist.
+/// Adds the edges of a vertex without a fault to the graph, and, if the visit leads further, the turns of what it
+/// requires to the worklist.
 fn add_requirements(
-    cache: &mut Cache<'_>,
     builder: &mut GraphBuilder,
     followed: &mut Followed,
     one: NumberedTurn,
-    finding: &Finding,
+    required: Required<'_>,
 ) -> Result<(), LoadFault>
-    requires lends { LendsKept cache.old }
-    requires builder { IsBuilder (modules_in cache.old) builder.old }
-    requires below { one.number < length (modules_in cache.old) }
-    requires finding { IsFinding cache.old (numbered cache.old one.number) finding.now }
-    requires files { HaveFiles cache.old builder.old.edges }
-    requires followed { AreFollowedIn cache.old (turns_of (modules_in cache.old) builder.old) followed.old }
-    ensures builder { OnOk result (IsBuilder (modules_in cache.old) builder.new) }
-    ensures files { OnOk result (HaveFiles cache.old builder.new.edges) }
-    ensures followed { OnOk result
-        (AreFollowedIn cache.old (turns_of (modules_in cache.old) builder.new) followed.new) }
-    ensures visited { OnOk result (IsVisited (main_in cache.old) (readings_in cache.old)
-        (built (modules_in cache.old) builder.old) (built (modules_in cache.old) builder.new)
-        (numbered cache.old one.number) one.depth) }
-    ensures cache { OnOk result (AddsTurn cache.old cache.new (turn_of (modules_in cache.old) one)) }
-    ensures too_many { result ≡ Err LoadFault.TooMany
-        → VisitOverflows (main_in cache.old) (readings_in cache.old) (turns_of (modules_in cache.old) builder.old)
-        (numbered cache.old one.number) one.depth }
+    requires builder { IsBuilder (table_of required) builder.old }
+    requires below { one.number < length (table_of required) }
+    requires edges { HasNumbersOf builder.old.edges (Some required.file) (table_of required) (required_by required) }
+    requires followed { followed_at followed.old required.file ≡ true → (y : ModuleVersion)
+        → Contains (required_by required) y → Contains (turns_of (table_of required) builder.old) (turn y Deep) }
+    ensures builder { OnOk result (IsBuilder (table_of required.entry) builder.new) }
+    ensures visited { (main : Main) (readings : Readings) (x : ModuleVersion)
+        → x ≡ module_at (table_of required.entry) one.number → SaysRequired main readings x one.depth required.entry
+        → OnOk result (IsVisited main readings (built (table_of required.entry) builder.old)
+        (built (table_of required.entry) builder.new) x one.depth) }
+    ensures files { OnOk result (AddsFileList builder.old.edges builder.new.edges (Some required.entry.file)
+        (table_of required.entry) (required_by required.entry)) }
+    ensures followed { OnOk result (FollowsFile followed.old followed.new required.entry.file
+        (turns_of (table_of required.entry) builder.new) (required_by required.entry)) }
+    ensures too_many { result ≡ Err LoadFault.TooMany → (required.entry.leads ≡ true)
+        × OverflowsWith (turns_of (table_of required.entry) builder.old) (required_by required.entry) }
     ensures not_refused { refused_in result ≡ [] }
 {
-    let leads = leads_on(cache, one.depth, finding);
+    let Required { file, leads, list } = required;
     let gathers = builder.gathers(one);
-    builder.note(cache.module(one.number), finding)?;
-    let file = lender(finding);
-    let required = cache.lend_at(one.number, one.depth, file)?;
     if leads {
-        followed.follow(builder, file, required)?;
+        followed.follow(builder, file, list)?;
     }
     if gathers {
-        builder.add_edges(Some(one.number), file, required)?;
+        builder.add_edges(Some(one.number), Some(file), list)?;
     }
     Ok(())
 }
@@ -130,6 +132,9 @@ pub(crate) fn visit<F: Asks>(
     ensures served { HasServed (F.may_answer files.old) (F.may_answer files.new)
         (F.state files.old) (F.state files.new) }
 {
-    let finding = cache.known_at(files, one.number)?;
-    add_requirements(cache, builder, followed, one, &finding)
+    match cache.visit(files, one.number, one.depth) {
+        Ok(Visit::Fault(vertex, class)) => add_fault(builder, one, vertex, class),
+        Ok(Visit::Required(required)) => add_requirements(builder, followed, one, required),
+        Err(fault) => Err(cache.load_fault(fault)),
+    }
 }

@@ -16,7 +16,9 @@ use Rattle.gm_graph.specs.Graph.{IsOpened}
 use Rattle.gm_graph.specs.Outcome.{AreFaults}
 use Rattle.gm_graph.proofs.BuiltEdges.{fault_reading}
 use Rattle.gomod_run.specs.ListingLaws.{AnswerAlike}
-use Rattle.gomod_run.specs.Outcomes.{AllFilesAreValid, AreInvalidSums, AreKnown, AreSums, Given, Prints, QueryEnds}
+use Rattle.gomod_run.specs.Outcomes.{AreInvalidSums, AreSums, Given}
+use Rattle.gomod_run.specs.HeldFiles.{AllFilesAreValid, AreKnown}
+use Rattle.gomod_run.proofs.HeldEnds.{Prints, QueryEnds}
 use Rattle.gomod_run.specs.Outcome.{Outcome}
 use Rattle.gomod_run.proofs.OneRead.{misread_or_main, misread_or_sums, one_finding, one_main, tells_alike}
 use Rattle.gomod_run.proofs.OneQueryStore.{Agrees, stores_agree}

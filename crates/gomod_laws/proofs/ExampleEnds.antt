@@ -25,7 +25,9 @@ use Rattle.gm_graph.specs.Graph.{IsEdge, IsOpened, IsTop, from_deep, from_main, 
 use Rattle.gm_graph.specs.Loading.{AreAsked, AreFew, AreTooMany, IsDue, IsNeeded}
 use Rattle.gm_graph.specs.Outcome.{AreFaults, AreRows}
 use Rattle.gm_graph.specs.declared.fault.Fault.{Fault}
-use Rattle.gomod_run.specs.Outcomes.{AreKnown, ListEnds, PrintsList, answers, bad_main, bad_sums, device, faulty, no_fault}
+use Rattle.gomod_run.specs.Outcomes.{answers}
+use Rattle.gomod_run.specs.HeldFiles.{AreKnown}
+use Rattle.gomod_run.proofs.HeldEnds.{ListEnds, PrintsList, bad_main, bad_sums, device, faulty, no_fault, list_held, list_said}
 use Rattle.gomod_run.specs.Outcome.{Outcome, printed, refused}
 use Rattle.gomod_run.proofs.OneOutcome.{ends_once}
 use Rattle.gomod_run.proofs.OnePrinted.{list_once}
@@ -100,8 +102,8 @@ alone_listed =
 
 pub is_listed_alone : IsListedAlone
 is_listed_alone = record {
-  listed = alone_listed;
-  only = λ outcome is. ends_once (PrintsList None None) (list_once None None) (run_of alone [] []) outcome (printed (codes "m\n")) is alone_listed;
+  listed = list_said (run_of alone [] []) _ None None alone_listed;
+  only = λ outcome is. ends_once (PrintsList None None) (list_once None None) (run_of alone [] []) outcome (printed (codes "m\n")) (list_held (run_of alone [] []) outcome None None is) alone_listed;
 }
 
 -- ---- a go.sum with a line of two fields
@@ -112,14 +114,16 @@ bad_sum_reported =
 
 pub bad_sum_is_refused : BadSumIsRefused
 bad_sum_is_refused = record {
-  reported = bad_sum_reported;
-  only = λ outcome is. ends_once (PrintsList None None) (list_once None None) run_with_bad_sum outcome (refused (codes "go.sum:1: BadSum\n")) is bad_sum_reported;
+  reported = list_said run_with_bad_sum _ None None bad_sum_reported;
+  only = λ outcome is. ends_once (PrintsList None None) (list_once None None) run_with_bad_sum outcome (refused (codes "go.sum:1: BadSum\n")) (list_held run_with_bad_sum outcome None None is) bad_sum_reported;
 }
 
 -- ---- the empty file
 
 pub empty_is_refused : EmptyIsRefused
-empty_is_refused = bad_main (0, misreading.Directive NoModule) empty_is_malformed (refl, refl) (rw (decimal_digit 0 (lit< tt)) refl)
+empty_is_refused =
+    list_said (run_of [] [] []) _ None None
+    (bad_main (0, misreading.Directive NoModule) empty_is_malformed (refl, refl) (rw (decimal_digit 0 (lit< tt)) refl))
 
 -- ---- a main module that requires one, of which no file says anything
 
@@ -178,7 +182,7 @@ top_askable = refl
 
 -- an end of `list` on the two lines is one of loading by what they say
 by_loading : (asked : List (Name × Reply)) (refusals : List Name) → ((outcome : Outcome) → LoadingEnd (PrintsList None None) main None (answers asked refusals) outcome → ⊥) → HasNoOutcome asked refusals
-by_loading asked refusals none outcome ends = by (parts (PrintsList None None) (run_of requiring asked refusals) outcome ends)
+by_loading asked refusals none outcome ends = by (parts (PrintsList None None) (run_of requiring asked refusals) outcome (list_held (run_of requiring asked refusals) outcome None None ends))
   where
     by : Parts (PrintsList None None) (run_of requiring asked refusals) outcome → ⊥
     by (unread (inl (place, misread, says)) unasked) = misread_or_main requiring place main misread files_are_read.two
@@ -334,8 +338,10 @@ missing_faulty = record {
 
 pub required_is_asked : RequiredIsAsked
 required_is_asked = record {
-  missing = faulty main None missing top_fault [] (record { main_file = files_are_read.two; sums = tt }) missing_known missing_faulty refl;
-  device = device main None top_name (record { main_file = files_are_read.two; sums = tt }) ((nothing, nothing_told, (top_one, inl is_top, refl, top_askable)), refl) refl refl;
+  missing = list_said (run_of requiring ((top_name, absent) ∷ []) []) _ None None
+      (faulty main None missing top_fault [] (record { main_file = files_are_read.two; sums = tt }) missing_known missing_faulty refl);
+  device = list_said (run_of requiring [] (top_name ∷ [])) _ None None
+      (device main None top_name (record { main_file = files_are_read.two; sums = tt }) ((nothing, nothing_told, (top_one, inl is_top, refl, top_askable)), refl) refl refl);
   unasked = by_loading [] [] not_ended;
   undue = by_loading [] (low_name ∷ []) (not_ended_undue [] low_name low_not_due);
   answered = by_loading ((top_name, absent) ∷ []) (top_name ∷ []) (not_ended_undue ((top_name, absent) ∷ []) top_name top_not_due);

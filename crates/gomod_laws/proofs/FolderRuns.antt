@@ -17,7 +17,8 @@ use Rattle.gm_graph_select.proofs.Ascending.{member_cases, no_member}
 use Rattle.gm_graph.specs.declared.fault.Fault.{Fault}
 use Rattle.gm_graph.specs.Loading.{IsNeeded}
 use Rattle.gomod_run.specs.ListingLaws.{AnswerAlike}
-use Rattle.gomod_run.specs.Outcomes.{Given, answers, given, AllFilesAreValid}
+use Rattle.gomod_run.specs.Outcomes.{Given, answers, given}
+use Rattle.gomod_run.specs.HeldFiles.{AllFilesAreValid}
 use Rattle.gomod_run.specs.Needs.{AnsweredAll, AnswersByName, AskedAfter, AskedInTurn}
 use Rattle.gomod_run.specs.Outcome.{Outcome}
 use Rattle.gomod_run.proofs.OneRead.{one_finding, one_main, tells_alike}

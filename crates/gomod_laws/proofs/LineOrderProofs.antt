@@ -14,9 +14,10 @@ use Rattle.gm_graph.specs.declared.fault.Fault.{Fault}
 use Rattle.gm_graph.specs.Graph.{IsEdge, IsOpened}
 use Rattle.gm_graph.specs.Loading.{AreAsked, AreFew, AreTooMany, IsNeeded}
 use Rattle.gm_graph.specs.Outcome.{AreFaults, AreRows}
-use Rattle.gomod_run.specs.Outcomes.{AreKnown, Answers, Prints, PrintsChain, PrintsGraph, PrintsList, QueryEnds, bad_sums, given}
+use Rattle.gomod_run.specs.Outcomes.{Answers, given}
+use Rattle.gomod_run.specs.HeldFiles.{AreKnown}
+use Rattle.gomod_run.proofs.HeldEnds.{Prints, PrintsChain, PrintsGraph, PrintsList, QueryEnds, bad_sums, PrintsOf}
 use Rattle.gomod_run.specs.Outcome.{Outcome}
-use Rattle.gomod_run.specs.Runs.{PrintsOf}
 use Rattle.gomod_run.proofs.OneRead.{misread_or_main, one_main}
 use Rattle.gomod_run.proofs.QueryParts.{LoadingEnd, Parts, are_read, is_broken, is_known, is_many, joined, parts, unread}
 use Rattle.gomod_words.specs.declared.usage.Command.{Command}

@@ -11,7 +11,11 @@ use Rattle.gm_file.specs.Main.{Main, IsMainFile}
 use Rattle.gm_graph.specs.Reading.{Held, IsReadUnless, IsTold, Tells, class_of_sum, file_of, is_askable, readings_by, sum_fault}
 use Rattle.gm_graph.specs.Loading.{AreTooMany, IsNeeded}
 use Rattle.gomod_run.specs.ListingLaws.{AnswerAlike}
-use Rattle.gomod_run.specs.Outcomes.{AreKnown, AreSums, Prints as PrintsOver, PrintsChain, PrintsGraph, PrintsList, QueryEnds, answers, bad_main, given, longest}
+use Rattle.gm_graph.specs.Run.{run_of}
+use Rattle.gm_graph.proofs.RunReadings.{is_read, needed_same}
+use Rattle.gomod_run.specs.Outcomes.{AreSums, answers, given, longest}
+use Rattle.gomod_run.specs.HeldFiles.{AreKnown}
+use Rattle.gomod_run.proofs.HeldEnds.{Prints as PrintsOver, PrintsChain, PrintsGraph, PrintsList, QueryEnds, bad_main, chain_held, graph_held, list_held}
 use Rattle.gomod_run.specs.Needs.{GraphNeeds}
 use Rattle.gomod_run.specs.Outcome.{Outcome, refused}
 use Rattle.gomod_run.specs.Reports.{too_many_line}
@@ -100,7 +104,13 @@ module _ (prints : PrintsOver) (once : PrintsOnce prints) (main one other : List
         same_for : (name : Name) → IsNeeded said (readings_by said held) name → HaveSameFor one other name
         same_for (mod_file path version) needed =
             λ hash. are.same path version hash
-            (record { main = said; table = Some t; held = held; read = record { main_file = is_main; sums = reads }; files_read = told; needed = needed })
+            (record {
+              main = said;
+              table = Some t;
+              read = record { main_file = is_main; sums = reads };
+              known = is_read (run_of said (Some t) asked) held told;
+              needed = (needed_same (run_of said (Some t) asked) held told (mod_file path version)).1 needed;
+            })
         same_for (folder_file folder) needed = tt
         same_for (list_file path) needed = tt
 
@@ -196,13 +206,15 @@ same_sums_change_nothing (Versions path all) main one other asked others a b ali
     same_unread (Versions path all) main one other asked others a b alike (λ run. run) is be
 same_sums_change_nothing Graph main one other asked others a b alike are is be =
     same_runs PrintsGraph graph_once main one other asked others a b alike are
-    is be
+    (graph_held (given main (Some one) (answers asked [])) a is) (graph_held (given main (Some other) (answers others [])) b be)
 same_sums_change_nothing (Rows after limit) main one other asked others a b alike are is be =
     same_runs (PrintsList after limit) (list_once after limit) main one other asked others a b alike are
-    is be
+    (list_held (given main (Some one) (answers asked [])) a after limit is)
+    (list_held (given main (Some other) (answers others [])) b after limit be)
 same_sums_change_nothing (Chain path) main one other asked others a b alike are is be =
     same_runs (PrintsChain path) (chain_once path) main one other asked others a b alike are
-    is be
+    (chain_held (given main (Some one) (answers asked [])) a path is)
+    (chain_held (given main (Some other) (answers others [])) b path be)
 
 by_needed : (main one other : List ℕ) (asked : List (Name × Reply)) → HasNeedlessLines main one other asked → HaveSameSums main one other asked
 by_needed main one other asked are = record {

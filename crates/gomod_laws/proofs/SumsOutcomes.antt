@@ -6,7 +6,11 @@ use Rattle.gm_file.specs.Main.{Main, IsMainFile}
 use Rattle.gm_graph.specs.Reading.{Held, Tells, readings_by, sum_fault}
 use Rattle.gm_graph.specs.Loading.{AreTooMany, IsNeeded, Told}
 use Rattle.gomod_run.specs.ListingLaws.{AnswerAlike}
-use Rattle.gomod_run.specs.Outcomes.{AreKnown, AreSums, Prints as PrintsOver, PrintsChain, PrintsGraph, PrintsList, QueryEnds, answers, bad_main, given, longest, no_fault}
+use Rattle.gm_graph.specs.Run.{run_of}
+use Rattle.gm_graph.proofs.RunReadings.{is_read, needed_same}
+use Rattle.gomod_run.specs.Outcomes.{AreSums, answers, given, longest}
+use Rattle.gomod_run.specs.HeldFiles.{AreKnown}
+use Rattle.gomod_run.proofs.HeldEnds.{Prints as PrintsOver, PrintsChain, PrintsGraph, PrintsList, QueryEnds, bad_main, no_fault, chain_held, graph_held, list_held}
 use Rattle.gomod_run.specs.Needs.{GraphNeeds}
 use Rattle.gomod_run.specs.Outcome.{Outcome}
 use Rattle.gomod_run.proofs.OneOutcome.{one_end}
@@ -53,15 +57,15 @@ only_refuses (Versions path all) main sums asked others one other alike is be en
     sym (same_unread (Versions path all) main sums asked others one other alike (λ run. run) is be)
 only_refuses Graph main sums asked others one other alike is be ends =
     one_unchecked PrintsGraph graph_once main sums asked others one other alike ends
-    is be
+    (graph_held (given main (Some sums) (answers asked [])) one is) (graph_held (given main None (answers others [])) other be)
 only_refuses (Rows after limit) main sums asked others one other alike is be ends =
     one_unchecked (PrintsList after limit) (list_once after limit) main sums asked others one other alike ends
-    is
-    be
+    (list_held (given main (Some sums) (answers asked [])) one after limit is)
+    (list_held (given main None (answers others [])) other after limit be)
 only_refuses (Chain path) main sums asked others one other alike is be ends =
     one_unchecked (PrintsChain path) (chain_once path) main sums asked others one other alike ends
-    is
-    be
+    (chain_held (given main (Some sums) (answers asked [])) one path is)
+    (chain_held (given main None (answers others [])) other path be)
 
 -- ---- a go.sum with the right hashes changes nothing
 
@@ -96,10 +100,9 @@ module _ (main sums : List ℕ) (asked : List (Name × Reply)) (right : AreRight
       (record {
         main = said;
         table = None;
-        held = held;
         read = record { main_file = is_main; sums = tt };
-        files_read = tells;
-        needed = needed;
+        known = is_read (run_of said None asked) held tells;
+        needed = (needed_same (run_of said None asked) held tells name).1 needed;
       })
       answered)
 
@@ -168,12 +171,12 @@ right_sums_change_nothing (Versions path all) main sums asked others one other a
     (λ run. run) be is
 right_sums_change_nothing Graph main sums asked others one other alike right is be =
     one_checked PrintsGraph graph_once main sums asked others one other alike right
-    is be
+    (graph_held (given main None (answers asked [])) one is) (graph_held (given main (Some sums) (answers others [])) other be)
 right_sums_change_nothing (Rows after limit) main sums asked others one other alike right is be =
     one_checked (PrintsList after limit) (list_once after limit) main sums asked others one other alike right
-    is
-    be
+    (list_held (given main None (answers asked [])) one after limit is)
+    (list_held (given main (Some sums) (answers others [])) other after limit be)
 right_sums_change_nothing (Chain path) main sums asked others one other alike right is be =
     one_checked (PrintsChain path) (chain_once path) main sums asked others one other alike right
-    is
-    be
+    (chain_held (given main None (answers asked [])) one path is)
+    (chain_held (given main (Some sums) (answers others [])) other path be)

@@ -13,7 +13,10 @@ use Rattle.gm_file.specs.Main.{Main, IsMainFile}
 use Rattle.gm_graph.specs.Reading.{Held, IsFileReading, IsReadUnless, IsTold, Tells, is_askable, readings_by}
 use Rattle.gm_graph.specs.Graph.{IsOpened}
 use Rattle.gm_graph.specs.Loading.{IsAnswered, IsNeeded}
-use Rattle.gomod_run.specs.Outcomes.{Answers, AreSums, Given, Prints, PrintsChain, PrintsGraph, PrintsList, QueryEnds}
+use Rattle.gomod_run.specs.Outcomes.{Answers, AreSums, Given}
+use Rattle.gm_graph.specs.Run.{run_of}
+use Rattle.gm_graph.proofs.RunReadings.{held_by, needed_same}
+use Rattle.gomod_run.proofs.HeldEnds.{chain_held, graph_held, list_held, Prints, PrintsChain, PrintsGraph, PrintsList, QueryEnds}
 use Rattle.gomod_run.specs.Needs.{AnsweredAll, AnswersByName, GraphNeeds}
 use Rattle.gomod_run.specs.Outcome.{OrNoMemory, Outcome, failed}
 use Rattle.gomod_run.specs.Reports.{device_line}
@@ -62,10 +65,12 @@ module _ (file : List ℕ) (sums : Option (List ℕ)) (asked : List (Name × Rep
 
   all_answered : AnsweredAll (GraphNeeds file sums) (answer_in asked)
   all_answered name needs =
-      let held_same : needs.held ≡ held =
-      fun_ext (λ (n : Name). same_told needs.table table (one_finding sums needs.table table needs.read.sums sums_read) n (answer_in asked n) (needs.held n) (held n) (needs.files_read n) (tells n)) in
+      let theirs = run_of needs.main needs.table asked in
+      let (h, reads) = held_by theirs needs.known in
+      let held_same : h ≡ held =
+      fun_ext (λ (n : Name). same_told needs.table table (one_finding sums needs.table table needs.read.sums sums_read) n (answer_in asked n) (h n) (held n) (reads n) (tells n)) in
       let by_held : IsNeeded needs.main (readings_by needs.main held) name =
-      subst (λ (h : Held). IsNeeded needs.main (readings_by needs.main h) name) held_same needs.needed in
+      subst (λ (h : Held). IsNeeded needs.main (readings_by needs.main h) name) held_same ((needed_same theirs h reads name).0 needs.needed) in
       needed_answered name (subst (λ (m : Main). IsNeeded m (readings_by m held) name) (one_main file needs.main main needs.read.main_file main_reads) by_held)
 
 -- ---- what `versions` needs
@@ -114,9 +119,9 @@ pub done_answers : (command : Command) (run : Given) (outcome : Outcome) → Run
 done_answers Fmt run outcome is done = λ name need. absurd need
 done_answers (Edit operations) run outcome is done = λ name need. absurd need
 done_answers (Versions path all) run outcome is done = versions_done path all run.told outcome is done
-done_answers Graph run outcome is done = query_done PrintsGraph run outcome is done
-done_answers (Rows after limit) run outcome is done = query_done (PrintsList after limit) run outcome is done
-done_answers (Chain path) run outcome is done = query_done (PrintsChain path) run outcome is done
+done_answers Graph run outcome is done = query_done PrintsGraph run outcome (graph_held run outcome is) done
+done_answers (Rows after limit) run outcome is done = query_done (PrintsList after limit) run outcome (list_held run outcome after limit is) done
+done_answers (Chain path) run outcome is done = query_done (PrintsChain path) run outcome (chain_held run outcome path is) done
 
 -- the same where memory may have run out: its report has another status
 pub done_if_memory : (command : Command) (run : Given) (outcome : Outcome) → OrNoMemory (RunEnds command run) outcome → outcome.status ≡ 0

@@ -4,7 +4,7 @@ use Rattle.std.proofs.Math.Seq.{drop-append_seam}
 use Rattle.std.proofs.lemmas.List.{append_cancel_left}
 use Rattle.gm_syntax.specs.Document.{Line}
 use Rattle.gm_syntax.specs.Tokens.{Placed}
-use Rattle.gm_store.specs.Asked.{Name, Reply, answer_in, name_of}
+use Rattle.gm_store.specs.Asked.{Name, Reply, answer_in, name_of, names_in}
 use Rattle.gm_store.specs.States.{HasServed, StoreState}
 use Rattle.gm_store.proofs.Serving.{nothing_served}
 use Rattle.gm_store.specs.declared.files.FileName.{FileName}
@@ -13,7 +13,6 @@ use Rattle.gm_file.specs.declared.misreading.BytesFault.{BytesFault}
 use Rattle.gm_file.specs.Directives.{Strict}
 use Rattle.gm_file.specs.Main.{Main, main_of, IsMainFile, IsMainOf}
 use Rattle.gm_file.specs.Misreading.{IsBytesFault}
-use Rattle.gm_graph.specs.Reading.{Held, Readings, Tells, readings_by}
 use Rattle.gm_graph.specs.Refusals.{refused_in, refused_names}
 use Rattle.gm_graph.specs.declared.cache.load_fault.LoadFault.{LoadFault}
 use Rattle.gm_graph.specs.declared.cache.load_fault.LoadFault.TheVariants as load
@@ -21,9 +20,8 @@ use Rattle.gm_graph_select.specs.BuildList.{Entry, IsRestAfter}
 use Rattle.gm_graph_select.specs.Graph.{among, edge}
 use Rattle.gm_graph_select.proofs.Same.{same_chain}
 use Rattle.gm_graph.specs.declared.fault.Fault.{Fault}
-use Rattle.gm_graph.specs.Graph.{IsEdge}
-use Rattle.gm_graph.specs.Loading.{AreTooMany, IsDue, Told}
-use Rattle.gm_graph.specs.Outcome.{AreFaults, IsLoaded, LoadedGraph as Loaded}
+use Rattle.gm_graph.specs.Run.{AreFaults, AreTooMany, IsDue, IsEdge, IsRead, Run, run_of}
+use Rattle.gm_graph.specs.Outcome.{IsLoaded, LoadedGraph as Loaded}
 use Rattle.gomod_run.specs.declared.reports.report.Report.{Report}
 use Rattle.gomod_run.specs.FromFaults.{report_by_bytes, report_by_load}
 use Rattle.gomod_run.specs.Outcome.{OrNoMemory, Outcome, failed, printed, refused, report_outcome}
@@ -32,7 +30,7 @@ use Rattle.gomod_run.specs.declared.listing.answering.Read.{Read}
 use Rattle.gomod_run.specs.declared.listing.query.Query.{Query}
 use Rattle.gomod_run.specs.declared.listing.query.Query.TheVariants.{Graph, List as Rows, Chain}
 use Rattle.gomod_run.specs.ListingTexts.{limited, list_text}
-use Rattle.gomod_run.specs.Outcomes.{AreKnown, AreInvalidSums, AreSums, FilesReadAs, Given, PrintsRows, QueryEnds, answers, bad_main, bad_sums, device, faulty, given, no_fault, too_many}
+use Rattle.gomod_run.specs.Outcomes.{AreInvalidSums, AreSums, FilesReadAs, Given, PrintsRows, QueryEnds, answers, bad_main, bad_sums, device, faulty, given, no_fault, too_many}
 use Rattle.gomod_run.specs.Needs.{AnswersByName, AskedInTurn, FailsInTurn, GraphNeeds}
 use Rattle.gomod_run.specs.Refusals.{IsRefusedRead}
 use Rattle.gomod_run.specs.Runs.{ComesTo, Needs, PrintsOf, RunEnds, command_of, run_between}
@@ -51,29 +49,26 @@ pub rest_printed : (main : Main) (rows rest : List Entry) (path : List ℕ) (lim
 rest_printed main rows rest path limit outcome is (inl says) = inl (inl (rest, is, says))
 rest_printed main rows rest path limit outcome is (inr none) = inr none
 
--- the files of the opened modules are known
-pub known : (main : Main) (table : Option Sums) (asked : List (Name × Reply)) (loaded : Loaded) (held : Held) → Tells table asked held
-    → IsLoaded main asked loaded (readings_by main held) → AreKnown main table (answers asked []) held
-known main table asked loaded held tells is = record { tells = tells; answered = is.answered; asked = is.asked; few = is.few; none_failed = refl }
-
--- a command prints the same of what was found as of the readings
-pub prints_for : (query : Query) (main : Main) (asked : List (Name × Reply)) (loaded : Loaded) (readings : Readings) (outcome : Outcome) → IsLoaded main asked loaded readings
-    → PrintsFound query main loaded outcome → PrintsOf (command_of query) main readings outcome
-prints_for Graph main asked loaded readings outcome is prints = (loaded.edges, is.edges, prints)
-prints_for (Rows after limit) main asked loaded readings outcome is prints = (loaded.rows, is.rows, prints)
-prints_for (Chain path) main asked loaded readings outcome is (inl (s, steps, entry, chain, says)) =
-    (loaded.rows, is.rows, inl (s, steps, entry, same_chain (among loaded.edges) (IsEdge main readings) (λ t y. is.edges.each (edge t y)) chain, says))
-prints_for (Chain path) main asked loaded readings outcome is (inr unlisted) = (loaded.rows, is.rows, inr unlisted)
+-- a command prints the same of what was found as of the run
+pub prints_for : (query : Query) (run : Run) (asked : List Name) (loaded : Loaded) (outcome : Outcome) → IsLoaded run asked loaded
+    → PrintsFound query run.main loaded outcome → PrintsOf (command_of query) run outcome
+prints_for Graph run asked loaded outcome is prints = (loaded.edges, is.edges, prints)
+prints_for (Rows after limit) run asked loaded outcome is prints = (loaded.rows, is.rows, prints)
+prints_for (Chain path) run asked loaded outcome is (inl (s, steps, entry, chain, says)) =
+    (loaded.rows, is.rows, inl (s, steps, entry, same_chain (among loaded.edges) (IsEdge run) (λ t y. is.edges.each (edge t y)) chain, says))
+prints_for (Chain path) run asked loaded outcome is (inr unlisted) = (loaded.rows, is.rows, inr unlisted)
 
 by_faults : (query : Query) (file : List ℕ) (sums : Option (List ℕ)) (main : Main) (table : Option Sums) (asked : List (Name × Reply)) (loaded : Loaded) (faults : List Fault) (outcome : Outcome)
-    → FilesReadAs file sums main table → Told main table asked (IsLoaded main asked loaded) → faults ≡ loaded.faults
+    → FilesReadAs file sums main table → IsLoaded (run_of main table asked) (names_in asked) loaded → faults ≡ loaded.faults
     → ReportsFaultsOr faults (PrintsFound query main loaded outcome) outcome → QueryEnds (PrintsOf (command_of query)) (given file sums (answers asked [])) outcome
-by_faults query file sums main table asked loaded [] outcome read (held, tells, is) same told =
-    no_fault main held
-    (record { table = table; read = read; known = known main table asked loaded held tells is; sound = subst (AreFaults main (readings_by main held)) (sym same) is.faults })
-    (prints_for query main asked loaded (readings_by main held) outcome is told)
-by_faults query file sums main table asked loaded (first ∷ others) outcome read (held, tells, is) same told =
-    faulty main table held first others read (known main table asked loaded held tells is) (subst (AreFaults main (readings_by main held)) (sym same) is.faults) told
+by_faults query file sums main table asked loaded [] outcome read is same told =
+    no_fault main table
+    (record { read = read; settled = is.settled; faults_are = subst (AreFaults (run_of main table asked)) (sym same) is.faults; none_failed = refl })
+    (prints_for query (run_of main table asked) (names_in asked) loaded outcome is told)
+by_faults query file sums main table asked loaded (first ∷ others) outcome read is same told =
+    faulty main table first others
+    (record { read = read; settled = is.settled; faults_are = subst (AreFaults (run_of main table asked)) (sym same) is.faults; none_failed = refl })
+    told
 
 -- ---- what was read
 
@@ -150,23 +145,23 @@ refused_read query file sums state r told none stops read = refused_run (subst (
 
 -- both files are valid, and loading was refused
 pub not_loaded : (query : Query) (file : List ℕ) (sums : Option (List ℕ)) (main : Main) (table : Option Sums) (old new : StoreState) (result : Result Loaded LoadFault) (fault : LoadFault)
-    → result ≡ Err fault → FilesReadAs file sums main table → (result ≡ Err load.TooMany → Told main table new.asked (AreTooMany main))
-    → ((name : FileName) → result ≡ Err (load.Device name) → IsDue main table new.asked (name_of name))
+    → result ≡ Err fault → FilesReadAs file sums main table → (result ≡ Err load.TooMany → IsRead (run_of main table new.asked) × AreTooMany (run_of main table new.asked))
+    → ((name : FileName) → result ≡ Err (load.Device name) → IsDue (run_of main table new.asked) (name_of name))
     → new.refused ≡ old.refused ++ refused_in result → OrNoMemory (RunEnds (command_of query) (run_between file sums old new)) (report_outcome (report_by_load fault))
 not_loaded query file sums main table old new result load.NoMemory is read many due grown = inr refl
 not_loaded query file sums main table old new result load.TooMany is read many due grown =
     let none = subst (λ r. new.refused ≡ old.refused ++ refused_in r) is grown in
-    inl (ended query file sums old new [] _ none (too_many main table read (many is) refl refl))
+    inl (ended query file sums old new [] _ none (let over = many is in too_many main table read over.0 over.1 refl refl))
 not_loaded query file sums main table old new result (load.Device name) is read many due grown =
     let one = subst (λ r. new.refused ≡ old.refused ++ refused_in r) is grown in
     inl (ended query file sums old new (name_of name ∷ []) _ one (device main table (name_of name) read (due name is) refl refl))
 
 -- both files are valid, and loading found a graph
 pub answered : (query : Query) (file : List ℕ) (sums : Option (List ℕ)) (main : Main) (table : Option Sums) (old new : StoreState) (result : Result Loaded LoadFault) (loaded : Loaded)
-    (outcome : Outcome) → result ≡ Ok loaded → FilesReadAs file sums main table → IfOk result (λ loaded. Told main table new.asked (IsLoaded main new.asked loaded))
+    (outcome : Outcome) → result ≡ Ok loaded → FilesReadAs file sums main table → IfOk result (IsLoaded (run_of main table new.asked) (names_in new.asked))
     → new.refused ≡ old.refused ++ refused_in result → OrNoMemory (IsOutcomeOfFound query main loaded) outcome → OrNoMemory (RunEnds (command_of query) (run_between file sums old new)) outcome
 answered query file sums main table old new result loaded outcome ok read is grown (inl told) =
-    let found = subst (λ r. IfOk r (λ loaded. Told main table new.asked (IsLoaded main new.asked loaded))) ok is in
+    let found = subst (λ r. IfOk r (IsLoaded (run_of main table new.asked) (names_in new.asked))) ok is in
     let none = subst (λ r. new.refused ≡ old.refused ++ refused_in r) ok grown in
     inl (ended query file sums old new [] outcome none (by_faults query file sums main table new.asked loaded loaded.faults outcome read found refl told))
 answered query file sums main table old new result loaded outcome ok read is grown (inr memory) = inr memory

@@ -25,6 +25,7 @@ pub mod OnePrinted
 pub mod OneOutcome
 pub mod PrintedList
 pub mod QueryParts
+pub mod HeldEnds
 pub mod OneGraph
 pub mod GreatestRows
 pub mod ShortestChain

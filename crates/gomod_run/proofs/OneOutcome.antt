@@ -10,7 +10,9 @@ use Rattle.gm_graph.specs.Graph.{IsEdge}
 use Rattle.gm_graph.specs.Loading.{AreTooMany, Told}
 use Rattle.gomod_run.specs.Found.{ReportsFaultsOr}
 use Rattle.gomod_run.specs.ListingLaws.{AnswerAlike, AreAlike}
-use Rattle.gomod_run.specs.Outcomes.{AllFilesAreValid, Answers, AreKnown, AreSums, FilesReadAs, Given, Prints, QueryEnds}
+use Rattle.gomod_run.specs.Outcomes.{Answers, AreSums, FilesReadAs, Given}
+use Rattle.gomod_run.specs.HeldFiles.{AllFilesAreValid, AreKnown}
+use Rattle.gomod_run.proofs.HeldEnds.{Prints, QueryEnds}
 use Rattle.gomod_run.specs.Refusals.{IsRefusedRead}
 use Rattle.gomod_run.proofs.QueryParts.{LoadingEnd, Parts, are_read, is_broken, is_known, is_many, parts, unread}
 use Rattle.gomod_run.specs.Outcome.{Outcome, failed, refused}

@@ -22,11 +22,14 @@ use Rattle.gm_graph.specs.Graph.{IsEdge, IsVertex}
 use Rattle.gm_graph.specs.Loading.{AreFew}
 use Rattle.gm_graph.proofs.Mapped.{from_mapped, in_mapped}
 use Rattle.gomod_run.specs.ListingLaws.{AreGreatest, ArePrintedPages, ListIsBuildList, PrintedPagesJoin, no_row, one_page}
-use Rattle.gomod_run.specs.Outcomes.{Given, ListEnds, QueryEnds, Prints, PrintsList, bad_main, bad_sums, device, faulty, no_fault, too_many, AllFilesAreValid}
+use Rattle.gomod_run.specs.Outcomes.{Given}
+use Rattle.gomod_run.specs.HeldFiles.{AllFilesAreValid}
+use Rattle.gomod_run.proofs.HeldEnds.{QueryEnds, Prints, PrintsList, bad_main, bad_sums, device, faulty, no_fault, too_many, list_held, list_said}
 use Rattle.gm_graph.specs.Outcome.{AreRows}
 use Rattle.gomod_run.specs.Outcome.{Outcome, failed, printed, refused}
 use Rattle.gomod_run.specs.ListingTexts.{list_text}
 use Rattle.gomod_run.proofs.FewOpened.{edges_listed}
+use Rattle.gomod_run.specs.Outcomes as ends
 
 -- ---- a run that prints
 
@@ -90,7 +93,7 @@ module _ (main : Main) (readings : Readings) (few : AreFew main readings) (rows 
 
 pub list_is_build_list : ListIsBuildList
 list_is_build_list run outcome is ends =
-    let (main, held, found, (rows, list, says)) = printed_run (PrintsList None None) run outcome is ends in (
+    let (main, held, found, (rows, list, says)) = printed_run (PrintsList None None) run outcome (list_held run outcome None None is) ends in (
       main,
       held,
       list.selected,
@@ -146,21 +149,21 @@ module _ (run : Given) (main : Main) (held : Held) (found : AllFilesAreValid run
   AreLeft None left = left ≡ rows
   AreLeft (Some path) left = IsRestAfter main.path rows path left
 
-  page_printed : (after : Option (List ℕ)) (left : List Entry) → AreLeft after left → ListEnds after (Some n) run (printed (list_text main.path (take n left)))
-  page_printed None left is = no_fault main held found (rows, list, ap (λ (es : List Entry). printed (list_text main.path (take n es))) is)
-  page_printed (Some path) left is = no_fault main held found (rows, list, inl (left, is, refl))
+  page_printed : (after : Option (List ℕ)) (left : List Entry) → AreLeft after left → ends.ListEnds after (Some n) run (printed (list_text main.path (take n left)))
+  page_printed None left is = list_said run _ None (Some n) (no_fault main held found (rows, list, ap (λ (es : List Entry). printed (list_text main.path (take n es))) is))
+  page_printed (Some path) left is = list_said run _ (Some path) (Some n) (no_fault main held found (rows, list, inl (left, is, refl)))
 
   paged : {left : List Entry} {pages : List (List Entry)} (after : Option (List ℕ)) → AreLeft after left → AreRowPages main.path rows n left pages → ArePrintedPages run main.path n after pages
-  paged after is no_more = no_row (subst (λ (es : List Entry). ListEnds after (Some n) run (printed (list_text main.path es))) (take_none n) (page_printed after [] is))
+  paged after is no_more = no_row (subst (λ (es : List Entry). ends.ListEnds after (Some n) run (printed (list_text main.path es))) (take_none n) (page_printed after [] is))
   paged after is (one_more {left} {rest} {pages} front last page behind more) =
       subst (λ (es : List Entry). ArePrintedPages run main.path n after (es ∷ pages)) (sym page)
       (one_page front last
-      (subst (λ (es : List Entry). ListEnds after (Some n) run (printed (list_text main.path es))) page (page_printed after left is))
+      (subst (λ (es : List Entry). ends.ListEnds after (Some n) run (printed (list_text main.path es))) page (page_printed after left is))
       (paged (Some (path_of main.path last.0)) behind more))
 
 pub pages_join : PrintedPagesJoin
 pages_join run n whole some is ends =
-    let (main, held, found, (rows, list, says)) = printed_run (PrintsList None None) run whole is ends in
+    let (main, held, found, (rows, list, says)) = printed_run (PrintsList None None) run whole (list_held run whole None None is) ends in
     let readings : Readings = readings_by main held in
     let (pages, paging, joins) = row_pages main.path main.replaces (IsEdge main readings) rows list n some in (
       main,

@@ -8,7 +8,9 @@ use Rattle.gm_graph.specs.declared.fault.Fault.{Fault}
 use Rattle.gm_graph.specs.Loading.{AreTooMany, IsDue, Told}
 use Rattle.gm_graph.specs.Outcome.{AreFaults}
 use Rattle.gomod_run.specs.Found.{ReportsFaultsOr}
-use Rattle.gomod_run.specs.Outcomes.{Answers, AreKnown, FilesReadAs, Given, IsUnasked, Prints, QueryEnds, bad_main, bad_sums, device, faulty, no_fault, too_many}
+use Rattle.gomod_run.specs.Outcomes.{Answers, FilesReadAs, Given, IsUnasked}
+use Rattle.gomod_run.specs.HeldFiles.{AreKnown}
+use Rattle.gomod_run.proofs.HeldEnds.{Prints, QueryEnds, bad_main, bad_sums, device, faulty, no_fault, too_many}
 use Rattle.gomod_run.specs.Outcome.{Outcome, failed, refused}
 use Rattle.gomod_run.specs.Refusals.{IsRefusedRead}
 use Rattle.gomod_run.specs.Reports.{device_line, too_many_line}

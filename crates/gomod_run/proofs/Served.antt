@@ -20,7 +20,7 @@ use Rattle.gomod_run.specs.Outcome.{OrNoMemory, Outcome, code_of, report_outcome
 use Rattle.gomod_run.specs.declared.reports.report.Report.{Report}
 use Rattle.gomod_run.specs.declared.reports.status.Status.{Status}
 use Rattle.gomod_run.specs.declared.inputs.Inputs.{Inputs}
-use Rattle.gomod_run.specs.Program.{IsInputServed, IsMainServed, IsServed, IsStoreRun, IsSumsServed, MayBeTold}
+use Rattle.gomod_run.specs.Program.{IsInputServed, IsMainServed, IsServed, IsStoreRun, IsSumsServed, MayBeTold, untaken}
 use Rattle.gomod_run.specs.Reads.{AreBothRead, AreInputs, AreSumsInput, AreSumsUnread, HoldsInput, HoldsNothing, IsOneUnread, IsStoreFolder, IsUnreadInput, IsUnreadList, versions_path, with_proxy}
 use Rattle.gomod_run.specs.Runs.{RunEnds, run_between}
 use Rattle.gomod_run.specs.Written.{EndsAsStated, IsWritten}
@@ -92,7 +92,7 @@ same_run command inputs main sums old new same_main same_sums outcome runs =
 pub folders_served : (may_open : List ℕ → Opening → Type 0) (command : Command) (places : Places) (folders : ProxyList) (folder : List ℕ) (inputs : Inputs) (old new : StoreState)
     → AreInputs may_open command places inputs → IsStoreFolder command (string_bytes places.main) folder
     → ((name : Name) (reply : Reply) → Contains new.asked (name, reply) → MayBeTold may_open folder (Some folders) name reply)
-    → (outcome : Outcome) → RunEnds command (run_between inputs.main.items (option_map (λ sums. sums.items) inputs.sums) old new) outcome → IsServed may_open command (with_proxy places (Some folders)) outcome
+    → (outcome : Outcome) → RunEnds command (run_between inputs.main.items (option_map (λ sums. sums.items) inputs.sums) old new) outcome → IsServed may_open untaken command (with_proxy places (Some folders)) outcome
 folders_served may_open Fmt places folders folder inputs old new read is told outcome runs = (Ok inputs.main, read.0, runs)
 folders_served may_open (Edit operations) places folders folder inputs old new read is told outcome runs = (Ok inputs.main, read.0, runs)
 folders_served may_open (Versions path all) places folders folder inputs old new read is told outcome runs =
@@ -153,7 +153,7 @@ pub memory_served : (may_open : List ℕ → Opening → Type 0) (command : Comm
     → versions_path command ≡ None → AreInputs may_open command places inputs → HoldsNothing before
     → ((name : Name) (reply : Reply) → Contains (pairs_of after) (name, reply) → may_give before name reply)
     → (outcome : Outcome) → RunEnds command (run_between inputs.main.items (option_map (λ sums. sums.items) inputs.sums) (memory_files_state before) (memory_files_state after)) outcome
-    → IsServed may_open command (with_proxy places None) outcome
+    → IsServed may_open untaken command (with_proxy places None) outcome
 memory_served may_open Fmt places inputs before after other read holds allowed outcome runs = (Ok inputs.main, read.0, runs)
 memory_served may_open (Edit operations) places inputs before after other read holds allowed outcome runs = (Ok inputs.main, read.0, runs)
 memory_served may_open (Versions path all) places inputs before after other read holds allowed outcome runs = cc other
@@ -165,27 +165,27 @@ memory_served may_open (Chain path) places inputs before after other read holds 
     let folder = a_folder (string_bytes places.main) in (folder.0, folder.1, query_in_memory may_open (Chain path) places inputs before after read holds allowed folder.0 outcome runs)
 
 -- `versions` over standard input
-pub input_served : (command : Command) (path : List ℕ) (before after : MemoryFiles) → versions_path command ≡ Some path → HoldsInput path before
+pub input_served : (may_take : Opening → Type 0) (command : Command) (path : List ℕ) (before after : MemoryFiles) → versions_path command ≡ Some path → HoldsInput may_take path before
     → ((name : Name) (reply : Reply) → Contains (pairs_of after) (name, reply) → may_give before name reply)
-    → (outcome : Outcome) → RunEnds command (run_between [] None (memory_files_state before) (memory_files_state after)) outcome → IsInputServed command path outcome
-input_served (Versions path all) own before after is holds allowed outcome runs =
-    (Ok holds.0, input_weaken (Versions path all) own holds.0.items before (pairs_of after) (memory_files_state before) (memory_files_state after) refl refl refl holds.1 allowed outcome runs)
-input_served Fmt own before after is holds allowed outcome runs = cc is
-input_served (Edit operations) own before after is holds allowed outcome runs = cc is
-input_served Graph own before after is holds allowed outcome runs = cc is
-input_served (Rows after' limit) own before after is holds allowed outcome runs = cc is
-input_served (Chain path) own before after is holds allowed outcome runs = cc is
+    → (outcome : Outcome) → RunEnds command (run_between [] None (memory_files_state before) (memory_files_state after)) outcome → IsInputServed may_take command path outcome
+input_served may_take (Versions path all) own before after is holds allowed outcome runs =
+    (Ok holds.0, holds.1, input_weaken (Versions path all) own holds.0.items before (pairs_of after) (memory_files_state before) (memory_files_state after) refl refl refl holds.2 allowed outcome runs)
+input_served may_take Fmt own before after is holds allowed outcome runs = cc is
+input_served may_take (Edit operations) own before after is holds allowed outcome runs = cc is
+input_served may_take Graph own before after is holds allowed outcome runs = cc is
+input_served may_take (Rows after' limit) own before after is holds allowed outcome runs = cc is
+input_served may_take (Chain path) own before after is holds allowed outcome runs = cc is
 
 -- which is what it comes to without proxy folders
-input_is_served : (may_open : List ℕ → Opening → Type 0) (command : Command) (path : List ℕ) (places : Places) → versions_path command ≡ Some path
-    → (outcome : Outcome) → IsInputServed command path outcome → IsServed may_open command (with_proxy places None) outcome
-input_is_served may_open (Versions path all) own places is outcome served =
-    let same : own ≡ path = cc is in subst (λ (path' : List ℕ). IsInputServed (Versions path all) path' outcome) same served
-input_is_served may_open Fmt own places is outcome served = cc is
-input_is_served may_open (Edit operations) own places is outcome served = cc is
-input_is_served may_open Graph own places is outcome served = cc is
-input_is_served may_open (Rows after limit) own places is outcome served = cc is
-input_is_served may_open (Chain path) own places is outcome served = cc is
+input_is_served : (may_open : List ℕ → Opening → Type 0) (may_take : Opening → Type 0) (command : Command) (path : List ℕ) (places : Places) → versions_path command ≡ Some path
+    → (outcome : Outcome) → IsInputServed may_take command path outcome → IsServed may_open may_take command (with_proxy places None) outcome
+input_is_served may_open may_take (Versions path all) own places is outcome served =
+    let same : own ≡ path = cc is in subst (λ (path' : List ℕ). IsInputServed may_take (Versions path all) path' outcome) same served
+input_is_served may_open may_take Fmt own places is outcome served = cc is
+input_is_served may_open may_take (Edit operations) own places is outcome served = cc is
+input_is_served may_open may_take Graph own places is outcome served = cc is
+input_is_served may_open may_take (Rows after limit) own places is outcome served = cc is
+input_is_served may_open may_take (Chain path) own places is outcome served = cc is
 
 -- ---- what can't be read
 
@@ -196,7 +196,7 @@ passed_on stated error (Ok value) same is = tt
 
 -- the report of a file that can't be read is an outcome of the command
 pub input_unserved : (may_open : List ℕ → Opening → Type 0) (command : Command) (places : Places) (proxy : Option ProxyList) (outcome : Outcome) → IsUnreadInput may_open command places outcome
-    → IsServed may_open command (with_proxy places proxy) outcome
+    → IsServed may_open untaken command (with_proxy places proxy) outcome
 input_unserved may_open Fmt places proxy outcome (fault, may, is) = (Err fault, may, is)
 input_unserved may_open (Edit operations) places proxy outcome (fault, may, is) = (Err fault, may, is)
 input_unserved may_open (Versions path all) places proxy outcome is = absurd is
@@ -208,64 +208,95 @@ input_unserved may_open (Chain path) places proxy outcome is =
     let folder = a_folder (string_bytes places.main) in (folder.0, folder.1, one_unserved may_open (MayBeTold may_open folder.0 proxy) (Chain path) places outcome is)
 
 -- and so is the report of standard input
-pub input_unread : (command : Command) (path : List ℕ) (outcome : Outcome) → IsUnreadList outcome → IsInputServed command path outcome
-input_unread command path outcome (fault, is) = (Err fault, is)
+pub input_unread : (may_take : Opening → Type 0) (command : Command) (path : List ℕ) (outcome : Outcome) → IsUnreadList may_take outcome → IsInputServed may_take command path outcome
+input_unread may_take command path outcome (fault, may, is) = (Err fault, may, is)
 
 -- ---- the end
 
 -- what a run over a store gives its caller: an end, or what can't be read, where nothing was written
-pub record IsRun (may_open : List ℕ → Opening → Type 0) (command : Command) (places : Places) (out out' report report' : SinkState) (served : Result Status Report) : Type 0 where
-  pub ends : IfOk served (λ status. EndsAsStated (IsServed may_open command places) out out' report report' (code_of status))
-  pub unread : IfErr served (λ told. OrNoMemory (IsServed may_open command places) (report_outcome told))
+pub record IsRun (may_open : List ℕ → Opening → Type 0) (may_take : Opening → Type 0) (command : Command) (places : Places) (out out' report report' : SinkState) (served : Result Status Report) : Type 0 where
+  pub ends : IfOk served (λ status. EndsAsStated (IsServed may_open may_take command places) out out' report report' (code_of status))
+  pub unread : IfErr served (λ told. OrNoMemory (IsServed may_open may_take command places) (report_outcome told))
   pub no_text : IfErr served (λ _. out' ≡ out)
   pub no_report : IfErr served (λ _. report' ≡ report)
 
 -- a run of `versions` over standard input is one without proxy folders
-pub input_run : (may_open : List ℕ → Opening → Type 0) (command : Command) (path : List ℕ) (places : Places) (out out' report report' : SinkState) (made : Result Status Report)
-    → versions_path command ≡ Some path → IfOk made (λ status. EndsAsStated (IsInputServed command path) out out' report report' (code_of status))
-    → IfErr made (λ told. OrNoMemory (IsInputServed command path) (report_outcome told)) → IfErr made (λ _. out' ≡ out) → IfErr made (λ _. report' ≡ report)
-    → IsRun may_open command (with_proxy places None) out out' report report' made
-input_run may_open command path places out out' report report' (Ok status) is ends unread no_text no_report = record {
-  ends = ends_weaken _ _ _ _ _ _ _ (input_is_served may_open command path places is) ends;
+pub input_run : (may_open : List ℕ → Opening → Type 0) (may_take : Opening → Type 0) (command : Command) (path : List ℕ) (places : Places) (out out' report report' : SinkState) (made : Result Status Report)
+    → versions_path command ≡ Some path → IfOk made (λ status. EndsAsStated (IsInputServed may_take command path) out out' report report' (code_of status))
+    → IfErr made (λ told. OrNoMemory (IsInputServed may_take command path) (report_outcome told)) → IfErr made (λ _. out' ≡ out) → IfErr made (λ _. report' ≡ report)
+    → IsRun may_open may_take command (with_proxy places None) out out' report report' made
+input_run may_open may_take command path places out out' report report' (Ok status) is ends unread no_text no_report = record {
+  ends = ends_weaken _ _ _ _ _ _ _ (input_is_served may_open may_take command path places is) ends;
   unread = tt;
   no_text = tt;
   no_report = tt;
 }
-input_run may_open command path places out out' report report' (Err told) is ends unread no_text no_report = record {
+input_run may_open may_take command path places out out' report report' (Err told) is ends unread no_text no_report = record {
   ends = tt;
-  unread = elim unread [ inl stated ↦ inl (input_is_served may_open command path places is (report_outcome told) stated) | inr memory ↦ inr memory ];
+  unread = elim unread [ inl stated ↦ inl (input_is_served may_open may_take command path places is (report_outcome told) stated) | inr memory ↦ inr memory ];
   no_text = no_text;
   no_report = no_report;
 }
 
+-- a run of `versions` that took no standard input was one over proxy folders
+untaken_versions : (may_open : List ℕ → Opening → Type 0) (may_take : Opening → Type 0) (command : Command) (path : List ℕ) (proxy : Option ProxyList) (outcome : Outcome)
+    → IsVersionsServed may_open untaken command path proxy outcome → IsVersionsServed may_open may_take command path proxy outcome
+untaken_versions may_open may_take command path None outcome (read, may, is) = absurd may.1
+untaken_versions may_open may_take command path (Some folders) outcome served = served
+
+-- a run that took no standard input is one whatever comes of taking it
+untaken_served : (may_open : List ℕ → Opening → Type 0) (may_take : Opening → Type 0) (command : Command) (places : Places) (outcome : Outcome)
+    → IsServed may_open untaken command places outcome → IsServed may_open may_take command places outcome
+untaken_served may_open may_take Fmt places outcome served = served
+untaken_served may_open may_take (Edit operations) places outcome served = served
+untaken_served may_open may_take (Versions path all) places outcome served = untaken_versions may_open may_take (Versions path all) path places.proxy outcome served
+untaken_served may_open may_take Graph places outcome served = served
+untaken_served may_open may_take (Rows after limit) places outcome served = served
+untaken_served may_open may_take (Chain path) places outcome served = served
+
+pub untaken_run : (may_open : List ℕ → Opening → Type 0) (may_take : Opening → Type 0) (command : Command) (places : Places) (out out' report report' : SinkState) (made : Result Status Report)
+    → IsRun may_open untaken command places out out' report report' made → IsRun may_open may_take command places out out' report report' made
+untaken_run may_open may_take command places out out' report report' (Ok status) run = record {
+  ends = ends_weaken _ _ _ _ _ _ _ (untaken_served may_open may_take command places) run.ends;
+  unread = tt;
+  no_text = tt;
+  no_report = tt;
+}
+untaken_run may_open may_take command places out out' report report' (Err told) run = record {
+  ends = tt;
+  unread = elim run.unread [ inl stated ↦ inl (untaken_served may_open may_take command places (report_outcome told) stated) | inr memory ↦ inr memory ];
+  no_text = run.no_text;
+  no_report = run.no_report;
+}
+
 -- it gives the same where its results have other names
-pub same_served : (may_open : List ℕ → Opening → Type 0) (command : Command) (places : Places) (proxy : Option ProxyList) (out mid out' report between report' : SinkState) (made served : Result Status Report)
+pub same_served : (may_open : List ℕ → Opening → Type 0) (may_take : Opening → Type 0) (command : Command) (places : Places) (proxy : Option ProxyList) (out mid out' report between report' : SinkState) (made served : Result Status Report)
     → proxy ≡ places.proxy → out' ≡ mid → report' ≡ between → served ≡ made
-    → IsRun may_open command (with_proxy places proxy) out mid report between made → IsRun may_open command places out out' report report' served
-same_served may_open command places proxy out mid out' report between report' made served same_proxy same_out same_report same run =
-    let P : Option ProxyList → Type 0 = λ proxy. IsRun may_open command (with_proxy places proxy) out mid report between made in
-    let Q : SinkState → Type 0 = λ out'. IsRun may_open command places out out' report between made in
-    let R : SinkState → Type 0 = λ report'. IsRun may_open command places out out' report report' made in
-    let S : Result Status Report → Type 0 = λ served. IsRun may_open command places out out' report report' served in
+    → IsRun may_open may_take command (with_proxy places proxy) out mid report between made → IsRun may_open may_take command places out out' report report' served
+same_served may_open may_take command places proxy out mid out' report between report' made served same_proxy same_out same_report same run =
+    let P : Option ProxyList → Type 0 = λ proxy. IsRun may_open may_take command (with_proxy places proxy) out mid report between made in
+    let Q : SinkState → Type 0 = λ out'. IsRun may_open may_take command places out out' report between made in
+    let R : SinkState → Type 0 = λ report'. IsRun may_open may_take command places out out' report report' made in
+    let S : Result Status Report → Type 0 = λ served. IsRun may_open may_take command places out out' report report' served in
     subst S (sym same) (subst R (sym same_report) (subst Q (sym same_out) (subst P same_proxy run)))
 
 -- the end of a command whose run has none: what can't be read is reported
-pub stopped_ends : (may_open : List ℕ → Opening → Type 0) (command : Command) (places : Places) (told : Report) (out mid out' report between report' : SinkState) (served : Result Status Report) (status : ℕ) → served ≡ Err told
-    → IsRun may_open command places out mid report between served
-    → IsWritten (report_outcome told) mid out' between report' status → EndsAsStated (IsServed may_open command places) out out' report report' status
-stopped_ends may_open command places told out mid out' report between report' served status is run written =
-    let run' = subst (IsRun may_open command places out mid report between) is run in
+pub stopped_ends : (may_open : List ℕ → Opening → Type 0) (may_take : Opening → Type 0) (command : Command) (places : Places) (told : Report) (out mid out' report between report' : SinkState) (served : Result Status Report) (status : ℕ) → served ≡ Err told
+    → IsRun may_open may_take command places out mid report between served
+    → IsWritten (report_outcome told) mid out' between report' status → EndsAsStated (IsServed may_open may_take command places) out out' report report' status
+stopped_ends may_open may_take command places told out mid out' report between report' served status is run written =
+    let run' = subst (IsRun may_open may_take command places out mid report between) is run in
     let P : SinkState → Type 0 = λ report. IsWritten (report_outcome told) mid out' report report' status in
     let Q : SinkState → Type 0 = λ out. IsWritten (report_outcome told) out out' report report' status in
     record { outcome = report_outcome told; as_stated = run'.unread; written = subst Q run'.no_text (subst P run'.no_report written) }
 
 -- the end of a command that was served
-pub served_ends : (may_open : List ℕ → Opening → Type 0) (command : Command) (places : Places) (out mid report between report' : SinkState) (served : Result Status Report) (status : Status)
-    → IsRun may_open command places out mid report between served → IfOk served (λ ran. status ≡ ran) → IfOk served (λ _. report' ≡ between)
+pub served_ends : (may_open : List ℕ → Opening → Type 0) (may_take : Opening → Type 0) (command : Command) (places : Places) (out mid report between report' : SinkState) (served : Result Status Report) (status : Status)
+    → IsRun may_open may_take command places out mid report between served → IfOk served (λ ran. status ≡ ran) → IfOk served (λ _. report' ≡ between)
     → IfErr served (λ told. (any : SinkState) → IsWritten (report_outcome told) any any between report' (code_of status))
-    → EndsAsStated (IsServed may_open command places) out mid report report' (code_of status)
-served_ends may_open command places out mid report between report' (Ok ran) status run is same written =
-    subst (λ (last : SinkState). EndsAsStated (IsServed may_open command places) out mid report last (code_of status)) (sym same)
-    (subst (λ (code : Status). EndsAsStated (IsServed may_open command places) out mid report between (code_of code)) (sym is) run.ends)
-served_ends may_open command places out mid report between report' (Err told) status run is same written =
-    stopped_ends may_open command places told out mid mid report between report' (Err told) (code_of status) refl run (written mid)
+    → EndsAsStated (IsServed may_open may_take command places) out mid report report' (code_of status)
+served_ends may_open may_take command places out mid report between report' (Ok ran) status run is same written =
+    subst (λ (last : SinkState). EndsAsStated (IsServed may_open may_take command places) out mid report last (code_of status)) (sym same)
+    (subst (λ (code : Status). EndsAsStated (IsServed may_open may_take command places) out mid report between (code_of code)) (sym is) run.ends)
+served_ends may_open may_take command places out mid report between report' (Err told) status run is same written =
+    stopped_ends may_open may_take command places told out mid mid report between report' (Err told) (code_of status) refl run (written mid)

@@ -5,7 +5,7 @@ use Rattle.gomod_run.specs.Outcome.{Outcome, printed, out_of_memory}
 use Rattle.gomod_run.specs.Outcomes.{Given}
 use Rattle.gomod_words.specs.Usage.{version_line}
 use Rattle.gomod_words.specs.declared.usage.Command.{Command}
-use Rattle.gomod_run.specs.Program.{IsWordsOutcome, anything}
+use Rattle.gomod_run.specs.Program.{IsWordsOutcome, any_input, anything}
 use Rattle.gomod_run.specs.Runs.{RunEnds}
 
 -- Each command: the outcome is a function of what is read, of what a store was asked and answered in the run, and of
@@ -20,14 +20,15 @@ abbrev pub OneForStores : Type 0
 OneForStores = (command : Command) (run next : Given) (one other : Outcome)
     → AreAlike run next → RunEnds command run one → RunEnds command next other → one ≡ other
 
--- `gomod --version` and `gomod -V` print the version, or memory runs out, whatever comes of opening files
+-- `gomod --version` and `gomod -V` print the version, or memory runs out, whatever comes of opening files and of taking
+-- standard input
 abbrev pub VersionIsPrinted : Type 0
 VersionIsPrinted = (program flag : List ℕ) (outcome : Outcome)
-    → (flag ≡ codes "--version") ⊎ (flag ≡ codes "-V") → IsWordsOutcome anything (program ∷ flag ∷ []) outcome
+    → (flag ≡ codes "--version") ⊎ (flag ≡ codes "-V") → IsWordsOutcome anything any_input (program ∷ flag ∷ []) outcome
     → (outcome ≡ printed version_line) ⊎ (outcome ≡ out_of_memory)
 
 -- `gomod` without words prints nothing and ends with the status of a usage error, or memory runs out, whatever comes
--- of opening files
+-- of opening files and of taking standard input
 abbrev pub NothingIsPrinted : Type 0
-NothingIsPrinted = (program : List ℕ) (outcome : Outcome) → IsWordsOutcome anything (program ∷ []) outcome
+NothingIsPrinted = (program : List ℕ) (outcome : Outcome) → IsWordsOutcome anything any_input (program ∷ []) outcome
     → ((outcome.text ≡ []) × (outcome.status ≡ 2)) ⊎ (outcome ≡ out_of_memory)

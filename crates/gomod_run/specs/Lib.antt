@@ -17,6 +17,7 @@ pub mod Taking
 pub mod Giving
 pub mod ListingTexts
 pub mod Outcomes
+pub mod HeldFiles
 pub mod Needs
 pub mod Found
 pub mod ListingLaws

@@ -6,8 +6,6 @@ use Rattle.gm_file.specs.Directives.{Strict}
 use Rattle.gm_store.specs.Asked.{Name, Reply, names_in}
 use Rattle.gm_store_sums.specs.Sums.{HasValidLines, IsFirstInvalid, ReadsAs, Sums}
 use Rattle.gm_file.specs.Main.{IsMainFile, Main}
-use Rattle.gm_name.specs.ModuleVersion.{ModuleVersion}
-use Rattle.gm_graph.specs.Reading.{Held, Readings, Tells, readings_by}
 use Rattle.gm_file.specs.Misreading.{IsMisread}
 use Rattle.gm_graph_select.specs.declared.step.Step.{Step}
 use Rattle.gm_graph_select.specs.declared.step.Edge.{Edge}
@@ -15,9 +13,7 @@ use Rattle.gm_graph_select.specs.BuildList.{Entry, IsEntryOf, HasEntryFor, IsRes
 use Rattle.gm_graph_select.specs.Chains.{IsChain}
 use Rattle.gm_graph_select.specs.Graph.{Edges}
 use Rattle.gm_graph.specs.declared.fault.Fault.{Fault}
-use Rattle.gm_graph.specs.Graph.{IsEdge, IsOpened}
-use Rattle.gm_graph.specs.Loading.{AreAsked, AreFew, AreTooMany, IsAnswered, IsDue, Told}
-use Rattle.gm_graph.specs.Outcome.{AreEdges, AreFaults, AreRows}
+use Rattle.gm_graph.specs.Run.{AreEdges, AreFaults, AreRows, AreTooMany, IsDue, IsEdge, IsRead, IsSettled, Run, run_of}
 use Rattle.gomod_run.specs.ListingTexts.{chain_text, graph_text, limited, list_text}
 use Rattle.gomod_run.specs.Outcome.{Outcome, failed, printed, refused}
 use Rattle.gomod_run.specs.Reports.{FaultPlace, bad_sum_line, device_line, faults_text, long_sums_line, main_line, not_listed_line, too_many_line}
@@ -75,27 +71,17 @@ pub record FilesReadAs (file : List ℕ) (sums_text : Option (List ℕ)) (main :
 abbrev pub IsUnasked : Answers → Type 0
 IsUnasked told = (told.asked ≡ []) × (told.failed ≡ [])
 
--- Of the files of the opened modules, those that may be asked for were asked for, each once, and no other
--- file was. This is what the files say. At most 65,536 modules are opened, and the device did not fail.
-pub record AreKnown (main : Main) (table : Option Sums) (told : Answers) (held : Held) : Type 0 where
-  pub tells : Tells table told.asked held
-  pub answered : (x : ModuleVersion) → IsOpened main (readings_by main held) x → IsAnswered main told.asked x
-  pub asked : AreAsked main (readings_by main held) (names_in told.asked)
-  pub few : AreFew main (readings_by main held)
-  pub none_failed : told.failed ≡ []
-
--- Both files are valid, and the files of the opened modules were asked for, each once, are known, and have no
--- faults.
-pub record AllFilesAreValid (run : Given) (main : Main) (held : Held) : Type 0 where
-  pub table : Option Sums
+-- Both files are valid, and exactly the needed files of modules were asked for, each once. At most 65,536 modules are
+-- opened, these are the faults, and the device did not fail.
+pub record AreFound (run : Given) (main : Main) (table : Option Sums) (faults : List Fault) : Type 0 where
   pub read : FilesReadAs run.file run.sums main table
-  pub known : AreKnown main table run.told held
-  pub sound : AreFaults main (readings_by main held) []
+  pub settled : IsSettled (run_of main table run.told.asked) (names_in run.told.asked)
+  pub faults_are : AreFaults (run_of main table run.told.asked) faults
+  pub none_failed : run.told.failed ≡ []
 
--- What a command prints: a relation between what the main file says, what the files of modules say, and the
--- outcome.
+-- What a command prints: a relation between what the files say and the outcome.
 abbrev pub Prints : Type 1
-Prints = Main → Readings → Outcome → Type 0
+Prints = Run → Outcome → Type 0
 
 -- How `graph`, `list` and `chain` end, if memory doesn't run out. They differ in what they print of a module graph
 -- without faults.
@@ -108,27 +94,26 @@ pub data QueryEnds (prints : Prints) (run : Given) (outcome : Outcome) : Type 0 
       → IsUnasked run.told → outcome ≡ refused report → QueryEnds prints run outcome
   -- the store's device failed on the file of an opened module
   device : (main : Main) (table : Option Sums) (name : Name) → FilesReadAs run.file run.sums main table
-      → IsDue main table run.told.asked name → run.told.failed ≡ name ∷ []
+      → IsDue (run_of main table run.told.asked) name → run.told.failed ≡ name ∷ []
       → outcome ≡ failed (device_line name) → QueryEnds prints run outcome
   -- more than 65,536 modules are opened
   too_many : (main : Main) (table : Option Sums) → FilesReadAs run.file run.sums main table
-      → Told main table run.told.asked (AreTooMany main) → run.told.failed ≡ []
-      → outcome ≡ refused too_many_line → QueryEnds prints run outcome
+      → IsRead (run_of main table run.told.asked) → AreTooMany (run_of main table run.told.asked)
+      → run.told.failed ≡ [] → outcome ≡ refused too_many_line → QueryEnds prints run outcome
   -- some of the opened modules have faults: these are reported, and no others
-  faulty : (main : Main) (table : Option Sums) (held : Held) (first : Fault) (others : List Fault)
-      → FilesReadAs run.file run.sums main table → AreKnown main table run.told held
-      → AreFaults main (readings_by main held) (first ∷ others)
+  faulty : (main : Main) (table : Option Sums) (first : Fault) (others : List Fault)
+      → AreFound run main table (first ∷ others)
       → outcome ≡ refused (faults_text (first ∷ others)) → QueryEnds prints run outcome
   -- no opened module has a fault, and the command prints
-  no_fault : (main : Main) (held : Held) → AllFilesAreValid run main held → prints main (readings_by main held) outcome
-      → QueryEnds prints run outcome
+  no_fault : (main : Main) (table : Option Sums) → AreFound run main table []
+      → prints (run_of main table run.told.asked) outcome → QueryEnds prints run outcome
 
 -- ---- graph
 
 -- each edge of the module graph once, in ascending order
 abbrev pub PrintsGraph : Prints
-PrintsGraph main readings outcome =
-    (edges : List Edge) × AreEdges main readings edges × (outcome ≡ printed (graph_text main.path edges))
+PrintsGraph run outcome =
+    (edges : List Edge) × AreEdges run edges × (outcome ≡ printed (graph_text run.main.path edges))
 
 -- how `graph` ends
 abbrev pub GraphEnds : Given → Outcome → Type 0
@@ -150,8 +135,8 @@ PrintsRows main rows (Some path) limit outcome =
 
 -- what `list` prints of the build list
 abbrev pub PrintsList : Option (List ℕ) → Option ℕ → Prints
-PrintsList after limit main readings outcome =
-    (rows : List Entry) × AreRows main readings rows × PrintsRows main rows after limit outcome
+PrintsList after limit run outcome =
+    (rows : List Entry) × AreRows run rows × PrintsRows run.main rows after limit outcome
 
 -- how `list` ends
 abbrev pub ListEnds : Option (List ℕ) → Option ℕ → Given → Outcome → Type 0
@@ -169,8 +154,8 @@ ShowsChain path main edges rows outcome =
 
 -- what `chain` prints over the module graph and the build list
 abbrev pub PrintsChain : List ℕ → Prints
-PrintsChain path main readings outcome = (rows : List Entry) × AreRows main readings rows
-    × ShowsChain path main (IsEdge main readings) rows outcome
+PrintsChain path run outcome = (rows : List Entry) × AreRows run rows
+    × ShowsChain path run.main (IsEdge run) rows outcome
 
 -- how `chain` ends
 abbrev pub ChainEnds : List ℕ → Given → Outcome → Type 0

@@ -1,7 +1,6 @@
 -- The outcomes of the whole program, from its words to its exit status.
 use Rattle.std.specs.Prelude.{◌≡◌, ◌⊎◌, ◌++◌, ◌∷◌, ℕ, Contains, List, [], Option, Some, None, Result, Ok, Err, codes, option_map, if◌then◌else◌}
 use Rattle.std.specs.Global.{Vec}
-use Rattle.std.specs.Str.{IsUtf8}
 use Rattle.std.specs.String.{string_bytes}
 use Rattle.gm_store.specs.Asked.{Name, Reply, absent, list_file, reply_for, same_name}
 use Rattle.gm_store.specs.DiskAnswers.{MayAnswer}
@@ -11,6 +10,7 @@ use Rattle.gm_store.specs.Relative.{IsFolderOf}
 use Rattle.gm_store.specs.declared.fallback.proxy_list.ProxyList.{ProxyList}
 use Rattle.gm_store.specs.declared.reading.InputFault.{InputFault}
 use Rattle.gm_store.specs.declared.reading.InputFault.TheVariants as reading
+use Rattle.gomod_words.specs.Given.{AreGiven, first_unreadable}
 use Rattle.gomod_words.specs.Usage.{AskFor, IsFaultOf, unreadable_text}
 use Rattle.gomod_words.specs.declared.usage.Command.{Command}
 use Rattle.gomod_words.specs.declared.usage.Command.TheVariants.{Fmt, Edit, Versions}
@@ -62,6 +62,14 @@ IsInputOutcome command path list outcome = (asked : List (Name × Reply)) × Are
 abbrev pub anything : List ℕ → Opening → Type 0
 anything path opening = Unit {0}
 
+-- In what follows `may_take` says what may come of taking standard input. This one is of one of which nothing is known,
+-- and the next of one that is not taken.
+abbrev pub any_input : Opening → Type 0
+any_input opening = Unit {0}
+
+abbrev pub untaken : Opening → Type 0
+untaken opening = ⊥
+
 -- the answers that proxy folders may give to a name, with this folder of the main file; if there are none, each file
 -- is absent
 abbrev pub MayBeTold : (List ℕ → Opening → Type 0) → List ℕ → Option ProxyList → Name → Reply → Type 0
@@ -77,15 +85,17 @@ IsStoreRun may_answer command main sums outcome = (told : Told)
     × RunEnds command (given main sums told) outcome
 
 -- `versions PATH` without proxy folders: standard input is read as the module's list, or can't be
-abbrev pub IsInputServed : Command → List ℕ → Outcome → Type 0
-IsInputServed command path outcome =
+abbrev pub IsInputServed : (Opening → Type 0) → Command → List ℕ → Outcome → Type 0
+IsInputServed may_take command path outcome =
     (read : Result (Vec ℕ) InputFault)
+    × MayRead may_take read
     × IsReadOutcome (codes "-") (IsInputOutcome command path) read outcome
 
 -- `versions PATH`: over standard input, or over proxy folders if there are any
-abbrev pub IsVersionsServed : (List ℕ → Opening → Type 0) → Command → List ℕ → Option ProxyList → Outcome → Type 0
-IsVersionsServed may_open command path None outcome = IsInputServed command path outcome
-IsVersionsServed may_open command path (Some folders) outcome =
+abbrev pub IsVersionsServed : (List ℕ → Opening → Type 0) → (Opening → Type 0) → Command → List ℕ → Option ProxyList
+    → Outcome → Type 0
+IsVersionsServed may_open may_take command path None outcome = IsInputServed may_take command path outcome
+IsVersionsServed may_open may_take command path (Some folders) outcome =
     IsStoreRun (MayBeTold may_open (codes ".") (Some folders)) command [] None outcome
 
 -- the go.sum is read if one is named
@@ -115,34 +125,38 @@ IsFileServed may_open command name outcome = (read : Result (Vec ℕ) InputFault
     × MayRead (may_open name) read
     × IsReadOutcome name (λ main outcome. RunEnds command (given main None (answers [] [])) outcome) read outcome
 
--- a command over the files that the words name
-abbrev pub IsServed : (List ℕ → Opening → Type 0) → Command → Places → Outcome → Type 0
-IsServed may_open Fmt places outcome = IsFileServed may_open Fmt (string_bytes places.main) outcome
-IsServed may_open (Edit operations) places outcome =
+-- a command over the files that the words name, or over standard input
+abbrev pub IsServed : (List ℕ → Opening → Type 0) → (Opening → Type 0) → Command → Places → Outcome → Type 0
+IsServed may_open may_take Fmt places outcome = IsFileServed may_open Fmt (string_bytes places.main) outcome
+IsServed may_open may_take (Edit operations) places outcome =
     IsFileServed may_open (Edit operations) (string_bytes places.main) outcome
-IsServed may_open (Versions path all) places outcome =
-    IsVersionsServed may_open (Versions path all) path places.proxy outcome
-IsServed may_open query places outcome = IsQueryServed may_open query places outcome
+IsServed may_open may_take (Versions path all) places outcome =
+    IsVersionsServed may_open may_take (Versions path all) path places.proxy outcome
+IsServed may_open may_take query places outcome = IsQueryServed may_open query places outcome
 
--- the outcome for these words: their usage error, or the outcome of their command over the files that they name
-abbrev pub IsWordsOutcome : (List ℕ → Opening → Type 0) → List (List ℕ) → Outcome → Type 0
-IsWordsOutcome may_open words outcome =
+-- the outcome for these words: their usage error, or the outcome of their command over the files that they name, or
+-- over standard input
+abbrev pub IsWordsOutcome : (List ℕ → Opening → Type 0) → (Opening → Type 0) → List (List ℕ) → Outcome → Type 0
+IsWordsOutcome may_open may_take words outcome =
     ((fault : UsageFault) × IsFaultOf words fault × (outcome ≡ usage_outcome fault))
-    ⊎ ((command : Command) × (places : Places) × AskFor words command places × IsServed may_open command places outcome)
+    ⊎ ((command : Command) × (places : Places) × AskFor words command places
+    × IsServed may_open may_take command places outcome)
 
--- the error of a command line with a word that is not UTF-8, which shows the word, or for which memory ran out
-abbrev pub IsUnreadableWords : UsageFault → Type 0
-IsUnreadableWords usage.NoMemory = Unit {0}
-IsUnreadableWords (usage.Line text) =
-    (word : List ℕ) × ¬ (IsUtf8 word) × (string_bytes text ≡ unreadable_text word)
-IsUnreadableWords fault = ⊥
+-- the outcome for these words after the program's own name, given the first that is not UTF-8, if there is one: its
+-- usage error; otherwise the outcome for the words
+abbrev pub IsOutcomeUnless : (List ℕ → Opening → Type 0) → (Opening → Type 0) → List (List ℕ) → Option (List ℕ)
+    → Outcome → Type 0
+IsOutcomeUnless may_open may_take words None outcome =
+    IsWordsOutcome may_open may_take (codes "gomod" ∷ words) outcome
+IsOutcomeUnless may_open may_take words (Some unreadable) outcome =
+    outcome ≡ usage_error (unreadable_text unreadable)
 
--- the outcome of the program: that of the words after its own name, whatever that is, or the error if one of these
--- words is not UTF-8
-abbrev pub IsProgramOutcome : (List ℕ → Opening → Type 0) → Outcome → Type 0
-IsProgramOutcome may_open outcome =
-    ((words : List (List ℕ)) × IsWordsOutcome may_open (codes "gomod" ∷ words) outcome)
-    ⊎ ((fault : UsageFault) × IsUnreadableWords fault × (outcome ≡ usage_outcome fault))
+-- the outcome of the program: that of the words after its own name, whatever that is. They are the given ones, if these
+-- are known.
+abbrev pub IsProgramOutcome : (List ℕ → Opening → Type 0) → (Opening → Type 0) → Option (List (List ℕ)) → Outcome
+    → Type 0
+IsProgramOutcome may_open may_take given outcome = (words : List (List ℕ)) × AreGiven given words
+    × IsOutcomeUnless may_open may_take words (first_unreadable words) outcome
 
 -- the exit status of an ending
 abbrev pub ending_code : Ending → ℕ
@@ -150,6 +164,7 @@ ending_code (Run status) = code_of status
 ending_code Usage = 2
 
 -- the exit status: that of the program's outcome, or 3 if memory runs out or an output fails
-abbrev pub IsProgramStatus : (List ℕ → Opening → Type 0) → ℕ → Type 0
-IsProgramStatus may_open status =
-    ((outcome : Outcome) × IsProgramOutcome may_open outcome × (status ≡ outcome.status)) ⊎ (status ≡ 3)
+abbrev pub IsProgramStatus : (List ℕ → Opening → Type 0) → (Opening → Type 0) → Option (List (List ℕ)) → ℕ → Type 0
+IsProgramStatus may_open may_take given status =
+    ((outcome : Outcome) × IsProgramOutcome may_open may_take given outcome × (status ≡ outcome.status))
+    ⊎ (status ≡ 3)

@@ -35,7 +35,7 @@ abbrev pub PrintsOf : Command → Prints
 PrintsOf Graph = PrintsGraph
 PrintsOf (Rows after limit) = PrintsList after limit
 PrintsOf (Chain path) = PrintsChain path
-PrintsOf _ = λ main readings outcome. ⊥
+PrintsOf _ = λ run outcome. ⊥
 
 -- the command that asks this
 abbrev pub command_of : Query → Command

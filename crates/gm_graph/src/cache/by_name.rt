@@ -10,17 +10,17 @@ ghost use Rattle.gm_store.specs.Asked.{name_of};
 ghost use Rattle.gm_store.specs.States.{HasServed};
 ghost use Rattle.gm_graph.specs.Asking.{AsksFor, StillLacks};
 ghost use Rattle.gm_graph.specs.Lent.{lent_modules};
-ghost use Rattle.gm_graph.specs.Reading.{KeepsHeld, readings_by, vertex_requirements};
+ghost use Rattle.gm_graph.specs.Reading.{KeepsHeld, file_of, readings_by, vertex_requirements};
 ghost use Rattle.gm_graph.specs.Refusals.{refused_in};
 ghost use Rattle.gm_graph.specs.Summaries.{Grows};
 ghost use Rattle.gm_graph.specs.Turns.{turn};
 
 use crate::cache::class::Class;
 use crate::cache::depth::Depth;
-use crate::cache::finding::Finding;
 use crate::cache::lent::Lent;
 use crate::cache::load_fault::LoadFault;
 use crate::cache::naming::file_name;
+use crate::cache::visit::Visit;
 use crate::cache::{Cache, push_turn};
 use gm_name::{ModVer, NoMemory};
 use gm_name_table::ModuleList;
@@ -49,7 +49,7 @@ fn number_of(modules: &mut ModuleList, x: &ModVer) -> Result<u32, NoMemory>
 impl<'a> Cache<'a> {
     ghost use Rattle.std.specs.Borrow.{sem};
     ghost use Rattle.std.specs.Prelude.{IfSome};
-    ghost use Rattle.gm_graph.specs.Cached.{HoldsSame, IsKnownAs, IsLender, IsLenderNamed, Knows, LendsKept, LendsNamed, LentSame, file_count, held_of, main_in, modules_in, numbered};
+    ghost use Rattle.gm_graph.specs.Cached.{HoldsSame, IsKnownAs, IsLender, IsPlaceFor, IsLenderNamed, Knows, LendsKept, LendsNamed, LentSame, file_count, held_of, main_in, modules_in, numbered};
 
     /// The number of a module, which gets one if it has none. The only refusal is `NoMemory`.
     fn number(&mut self, x: &ModVer) -> Result<u32, NoMemory>
@@ -90,9 +90,23 @@ impl<'a> Cache<'a> {
         let name = file_name(self.alloc, self.main, vertex)?;
         let number = self.number(vertex)?;
         match self.known_at(files, number) {
-            Ok(Finding::Fault(class)) => Ok(Known::Fault(class)),
-            Ok(Finding::Sound(_)) => Ok(Known::Sound(name)),
-            Err(fault) => Err(fault),
+            Ok(place) => Ok(self.known_by(number, place, name)),
+            Err(fault) => Err(self.load_fault(fault)),
+        }
+    }
+
+    /// What is known of the vertex with a number, whose file has this name, and is kept at this place. There is no place
+    /// if the file comes from a proxy and its path isn't fetchable.
+    fn known_by(&self, number: u32, place: Option<u32>, name: FileName) -> Known
+        requires vertex { number < length (modules_in self.now) }
+        requires place { IsPlaceFor self.now (numbered self.now number) place }
+        requires lends { LendsKept self.now }
+        requires name { name_of name ≡ file_of (main_in self.now) (numbered self.now number) }
+        ensures { IsKnownAs (main_in self.now) (held_of self.now) (numbered self.now number) result }
+    {
+        match self.said(number, Depth::Deep, place) {
+            Visit::Fault(_, class) => Known::Fault(class),
+            Visit::Required(_) => Known::Sound(name),
         }
     }
 
@@ -106,10 +120,11 @@ impl<'a> Cache<'a> {
     {
         match name {
             None => None,
-            Some(name) => match self.found(name, number) {
-                Some(Finding::Sound(place)) => Some(place),
-                Some(Finding::Fault(_)) | None => None,
-            },
+            Some(name) => {
+                // By this no module has two numbers, so the file is found by this one.
+                let _ = self.modules.module(number);
+                self.files.place_of(name, number)
+            }
         }
     }
 

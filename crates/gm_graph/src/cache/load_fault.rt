@@ -1,9 +1,10 @@
 //! Why loading a module graph stops.
 
 ghost use Rattle.std.specs.Prelude.{◌≡◌};
+ghost use Rattle.gm_graph.specs.Refusals.{load_fault_at};
 ghost use Rattle.gm_graph.specs.declared.cache.load_fault.LoadFault.TheVariants as load;
 
-use gm_store::FileName;
+use gm_store::{AskFault, FileName};
 use std::alloc::{AllocError, AllocFailed};
 use thiserror::Error;
 
@@ -19,6 +20,21 @@ pub enum LoadFault {
     /// More than 65,536 vertices would be opened.
     #[error("more than 65,536 modules")]
     TooMany,
+}
+
+impl LoadFault {
+    /// Why loading stops after this refusal of a request for the file with a name.
+    pub(crate) fn of_request(fault: AskFault, name: Option<FileName>) -> LoadFault
+        ensures { result ≡ load_fault_at fault name }
+    {
+        match fault {
+            AskFault::NoMemory => LoadFault::NoMemory,
+            AskFault::Device => match name {
+                Some(name) => LoadFault::Device(name),
+                None => LoadFault::NoMemory,
+            },
+        }
+    }
 }
 
 impl From<AllocError> for LoadFault {

@@ -8,10 +8,12 @@ ghost use Rattle.std.specs.List.{list_any};
 ghost use Rattle.gm_name.specs.ModuleVersion.{ModuleVersion};
 ghost use Rattle.gm_name_table.specs.Listed.{Appends, listed};
 ghost use Rattle.gm_file.specs.Main.{is_excluded, without_excluded, main_of};
-ghost use Rattle.gm_graph.specs.Reading.{is_unpruned_in, said_in};
+ghost use Rattle.gm_graph.specs.Reading.{said_in};
 ghost use Rattle.gm_graph.specs.Summaries.{Grows, IsSummary, at_span, nowhere, span_found, summary_reading};
+ghost use Rattle.gm_graph.specs.Turns.{leads_on_in};
 
 use crate::cache::class::Class;
+use crate::cache::depth::Depth;
 use gm_file::{ListedFile, MainFile};
 use gm_name::{ModVer, NoMemory};
 use gm_name_table::{ModuleList, Modules};
@@ -120,18 +122,22 @@ pub(crate) fn summary_of(
     Ok(Summary { file, all, kept })
 }
 
-impl Kept {
-    /// Whether the file is valid and unpruned.
-    pub(crate) fn is_unpruned(&self) -> bool
+impl Summary {
+    /// Whether a visit to this depth also opens what the file requires: always at full depth, at the top only if the
+    /// file is unpruned, that is, if the first two numbers of its go version are below 1.17 (Go Modules Reference,
+    /// "Module graph pruning").
+    pub(crate) fn leads_on(&self, depth: Depth) -> bool
         ensures { (modules : List ModuleVersion)
-            → result ≡ is_unpruned_in (said_in (Some (summary_reading modules self.now))) }
+            → result ≡ leads_on_in (said_in (Some (summary_reading modules (Kept.Valid self.now)))) depth }
     {
-        match self {
-            Kept::Valid(summary) => !summary.file.is_pruned(),
-            Kept::Faulty(_) => false,
+        match depth {
+            Depth::Top => !self.file.is_pruned(),
+            Depth::Deep => true,
         }
     }
+}
 
+impl Kept {
     /// Where the requirements without the excluded ones are: nowhere if the file has a fault.
     pub(crate) fn span(&self) -> ListSpan
         ensures { result ≡ span_found (Some self.now) }

@@ -1,194 +1,138 @@
-use Rattle.std.proofs.Common.{◌≡◌, ◌++◌, ◌∷◌, ◌∙◌, [], ℕ, Contains, List, Option, Err, true, ap, map, subst, sym}
+use Rattle.std.proofs.Common.{◌≡◌, ◌++◌, ◌∷◌, ◌∙◌, [], List, Option, None, Some, Result, Err, IsSome, ap, inl, map, refl, subst, sym}
 use Rattle.gm_name.specs.ModuleVersion.{ModuleVersion, module_at}
-use Rattle.gm_graph.specs.Cached.{IsLender, main_in, modules_in, numbered}
-use Rattle.gm_graph.specs.Lent.{lent_modules, lent_table}
+use Rattle.gm_file.specs.Fields.{Dependency}
+use Rattle.gm_graph.specs.declared.cache.class.Class.{Class}
 use Rattle.gm_graph.specs.declared.cache.depth.Depth.TheVariants.{Deep}
 use Rattle.gm_graph.specs.declared.cache.depth.Turn.{Turn}
-use Rattle.gm_graph.specs.Reading.{vertex_requirements}
-use Rattle.gm_graph.specs.Turns.{turn, AddsAll, OverflowsWith, leads_on}
-use Rattle.gm_graph_select.specs.Graph.{edge}
-use Rattle.gm_graph_select.specs.declared.step.Step.TheVariants.{Of}
+use Rattle.gm_graph.specs.declared.edge_lists.EdgeLists.{EdgeLists}
+use Rattle.gm_graph.specs.declared.followed.Followed.{Followed}
 use Rattle.gm_graph.specs.declared.graph_builder.GraphBuilder.{GraphBuilder}
 use Rattle.gm_graph.specs.declared.graph_builder.NumberedTurn.{NumberedTurn}
-use Rattle.gm_graph.specs.Builder.{IsBuilder, built, edges_in, faults_by_vertex, sources_in, turn_of, turns_of}
-use Rattle.gm_graph.specs.Building.{found_fault, gathers, noted as with_fault}
-use Rattle.gm_graph.specs.Followed.{AddsFollowed, AreFollowedIn, followed_by}
-use Rattle.gm_graph.specs.declared.followed.Followed.{Followed}
-use Rattle.gm_graph.specs.FileLists.{AddsFileList, HasNumbersOf, HaveFiles}
-use Rattle.gm_graph.specs.Visiting.{lender_of, readings_in}
-use Rattle.gm_graph.specs.declared.edge_lists.EdgeLists.{EdgeLists}
+use Rattle.gm_graph.specs.Builder.{IsBuilder, built, edges_in, sources_in, turn_of, turns_of}
+use Rattle.gm_graph.specs.Building.{gathers}
+use Rattle.gm_graph.specs.EdgeLists.{numbers_of}
+use Rattle.gm_graph.specs.FileLists.{AddsFileList, HasNumbersOf}
+use Rattle.gm_graph.specs.Followed.{FollowsFile}
+use Rattle.gm_graph.specs.Reading.{fault_in, vertex_requirements}
+use Rattle.gm_graph.specs.Turns.{turn, AddsAll, leads_on}
+use Rattle.gm_graph.specs.Visiting.{required_by, table_of}
+use Rattle.gm_graph_select.specs.Graph.{edge}
+use Rattle.gm_graph_select.specs.declared.step.Step.TheVariants.{Of}
 use Rattle.gm_graph.proofs.AddFaults.{add_too_many}
-use Rattle.gm_graph.proofs.FollowedFiles.{followed_more, has_its_turns}
-use Rattle.gm_graph.proofs.FileLists.{has_its_numbers, have_files_more}
-use Rattle.gm_graph.proofs.Turning.{finding_fault, finding_known, lender_is}
-use Rattle.gm_graph.proofs.Visited.{AddsIf, Notes, Opens, adds_nothing, adds_them, notes_fault, opens_all, opens_none, visited}
+use Rattle.gm_graph.proofs.FollowedFiles.{follows_file, follows_none}
+use Rattle.gm_graph.proofs.Visited.{AddsIf, Opens, adds_nothing, adds_them, notes_none, opens_all, opens_none, visited}
 use Rattle.gm_graph.proofs.visiting.add_requirements.Goals as goal
 use Rattle.gm_graph.proofs.visiting.add_requirements.Goals.{then-gathers+in_ok-add_edges, else-gathers, then-leads+in_ok-follow, else-leads}
 
-pub lend_at-requires-clause-lender : goal.lend_at-requires-clause-lender
-lend_at-requires-clause-lender c =
-    let cache = c.args.cache.now in
-    let x = numbered cache c.args.one.number in
-    subst (λ (place : Option ℕ). IsLender cache x place) (sym c.lender-file.ensures) (lender_is cache x c.args.finding.now c.requires.finding)
-
 pub returns-in_err-follow-clause-too_many : goal.returns-in_err-follow-clause-too_many
 returns-in_err-follow-clause-too_many c = λ e.
-    let cache = c.args.cache.now in
-    let modules = modules_in cache in
-    let x = numbered cache c.args.one.number in
-    let noted = c.note.new.self in
-    let many = add_too_many c.from_residual-in_err-follow.result c.in_err-follow.field-0.0 c.from_residual-in_err-follow.ensures.1 e in (
-      sym (c.leads_on-leads.ensures x c.requires.finding) ∙ c.if-leads.true,
-      subst (λ (ts : List Turn). OverflowsWith ts (vertex_requirements (main_in cache) (readings_in cache) x)) (ap (λ (ts : List NumberedTurn). map (turn_of modules) ts) c.in_ok-note.ensures.turns)
-          (subst (λ (table : List ModuleVersion). OverflowsWith (turns_of table noted) (vertex_requirements (main_in cache) (readings_in cache) x)) c.in_ok-required.ensures.table
-          (subst (λ (ys : List ModuleVersion). OverflowsWith (turns_of (lent_table c.in_ok-required.required) noted) ys) c.in_ok-required.ensures.lent
-          (c.in_err-follow.ensures.too_many (ap Err many)))),
-    )
+    let many = add_too_many c.from_residual.result c.in_err-follow.field-0.0 c.from_residual.ensures.1 e in
+    (c.if-leads.true, c.in_err-follow.ensures.too_many (ap Err many))
 
 pub add_edges-requires-clause-builder : goal.add_edges-requires-clause-builder
 add_edges-requires-clause-builder c =
-    let table = lent_table c.in_ok-required.required in
-    let noted = c.in_ok-note.ensures.builder (modules_in c.args.cache.now) c.requires.builder in
+    let table = table_of c.args.required in
     elim c.if-leads.branch [
       | then-leads+in_ok-follow w ↦ subst (λ (b : GraphBuilder). IsBuilder table b) (sym w.builder-is) w.in_ok-follow.ensures.builder
-      | else-leads w ↦ subst (λ (b : GraphBuilder). IsBuilder table b) (sym w.builder-is)
-          (subst (λ (ms : List ModuleVersion). IsBuilder ms c.note.new.self) (sym c.in_ok-required.ensures.table) noted)
+      | else-leads w ↦ subst (λ (b : GraphBuilder). IsBuilder table b) (sym w.builder-is) c.requires.builder
     ]
 
 pub add_edges-requires-clause-file : goal.add_edges-requires-clause-file
 add_edges-requires-clause-file c =
-    let cache = c.args.cache.now in
-    let x = numbered cache c.args.one.number in
-    let turned : HaveFiles cache c.if-leads.builder.edges = elim c.if-leads.branch [
-      | then-leads+in_ok-follow w ↦ subst (λ (b : GraphBuilder). HaveFiles cache b.edges) (sym w.builder-is)
-          (subst (λ (edges : EdgeLists). HaveFiles cache edges) (sym (w.in_ok-follow.ensures.graph.edges ∙ c.in_ok-note.ensures.edges)) c.requires.files)
-      | else-leads w ↦ subst (λ (b : GraphBuilder). HaveFiles cache b.edges) (sym w.builder-is)
-          (subst (λ (edges : EdgeLists). HaveFiles cache edges) (sym c.in_ok-note.ensures.edges) c.requires.files)
+    let table = table_of c.args.required in
+    let xs = required_by c.args.required in
+    let kept : c.if-leads.builder.edges ≡ c.args.builder.now.edges = elim c.if-leads.branch [
+      | then-leads+in_ok-follow w ↦ ap (λ (b : GraphBuilder). b.edges) w.builder-is ∙ w.in_ok-follow.ensures.graph.edges
+      | else-leads w ↦ ap (λ (b : GraphBuilder). b.edges) w.builder-is
     ] in
-    subst (λ (file : Option ℕ). HasNumbersOf c.if-leads.builder.edges file (lent_table c.in_ok-required.required) (lent_modules c.in_ok-required.required)) (sym c.lender-file.ensures)
-    (subst (λ (ms : List ModuleVersion). HasNumbersOf c.if-leads.builder.edges (lender_of c.args.finding.now) ms (lent_modules c.in_ok-required.required)) (sym c.in_ok-required.ensures.table)
-    (subst (λ (xs : List ModuleVersion). HasNumbersOf c.if-leads.builder.edges (lender_of c.args.finding.now) (modules_in cache) xs) (sym c.in_ok-required.ensures.lent)
-    (has_its_numbers cache c.if-leads.builder.edges x c.args.finding.now c.requires.lends c.requires.finding turned)))
+    subst (λ (edges : EdgeLists). HasNumbersOf edges (Some c.args.required.file) table xs) (sym kept) c.requires.edges
 
--- what the file requires has turns, if it was followed
-pub follow-requires-clause-followed : goal.follow-requires-clause-followed
-follow-requires-clause-followed c = λ by.
-    let cache = c.args.cache.now in
-    let modules = modules_in cache in
-    let x = numbered cache c.args.one.number in
-    let noted : turns_of modules c.note.new.self ≡ turns_of modules c.args.builder.now = ap (λ (ts : List NumberedTurn). map (turn_of modules) ts) c.in_ok-note.ensures.turns in
-    subst (λ (table : List ModuleVersion). (y : ModuleVersion) → Contains (lent_modules c.in_ok-required.required) y → Contains (turns_of table c.note.new.self) (turn y Deep)) (sym c.in_ok-required.ensures.table)
-    (subst (λ (xs : List ModuleVersion). (y : ModuleVersion) → Contains xs y → Contains (turns_of modules c.note.new.self) (turn y Deep)) (sym c.in_ok-required.ensures.lent)
-    (subst (λ (ts : List Turn). (y : ModuleVersion) → Contains (vertex_requirements (main_in cache) (readings_in cache) x) y → Contains ts (turn y Deep)) (sym noted)
-    (has_its_turns cache (turns_of modules c.args.builder.now) c.args.followed.now x c.args.finding.now c.requires.lends c.requires.finding c.requires.followed
-    (subst (λ (file : Option ℕ). followed_by c.args.followed.now file ≡ true) c.lender-file.ensures by))))
-
-pub returns-clause-followed : goal.returns-clause-followed
-returns-clause-followed c =
-    let cache = c.args.cache.now in
-    let modules = modules_in cache in
-    let x = numbered cache c.args.one.number in
-    let ys = vertex_requirements (main_in cache) (readings_in cache) x in
-    let table = c.in_ok-required.ensures.table in
-    let noted : turns_of modules c.note.new.self ≡ turns_of modules c.args.builder.now = ap (λ (ts : List NumberedTurn). map (turn_of modules) ts) c.in_ok-note.ensures.turns in
-    let before : AreFollowedIn cache (turns_of modules c.note.new.self) c.args.followed.now = subst (λ (ts : List Turn). AreFollowedIn cache ts c.args.followed.now) (sym noted) c.requires.followed in
-    let led : AreFollowedIn cache (turns_of modules c.if-leads.builder) c.if-leads.followed = elim c.if-leads.branch [
-      | then-leads+in_ok-follow w ↦
-          let after = w.follow.new.builder in
-          subst (λ (b : GraphBuilder). AreFollowedIn cache (turns_of modules b) c.if-leads.followed) (sym w.builder-is)
-          (subst (λ (f : Followed). AreFollowedIn cache (turns_of modules after) f) (sym w.followed-is)
-          (followed_more cache (turns_of modules c.note.new.self) (turns_of modules after) c.args.followed.now w.follow.new.self x c.args.finding.now c.requires.finding before
-          (subst (λ (ms : List ModuleVersion). AddsAll (turns_of ms c.note.new.self) (turns_of ms after) ys Deep) table
-          (subst (λ (zs : List ModuleVersion). AddsAll (turns_of (lent_table c.in_ok-required.required) c.note.new.self) (turns_of (lent_table c.in_ok-required.required) after) zs Deep) c.in_ok-required.ensures.lent w.in_ok-follow.ensures.adds))
-          (subst (λ (file : Option ℕ). AddsFollowed c.args.followed.now w.follow.new.self file) c.lender-file.ensures w.in_ok-follow.ensures.files)))
-      | else-leads w ↦
-          subst (λ (b : GraphBuilder). AreFollowedIn cache (turns_of modules b) c.if-leads.followed) (sym w.builder-is)
-          (subst (λ (f : Followed). AreFollowedIn cache (turns_of modules c.note.new.self) f) (sym w.followed-is) before)
+pub returns-clause-builder : goal.returns-clause-builder
+returns-clause-builder c =
+    let table = table_of c.args.required in
+    let turned : IsBuilder table c.if-leads.builder = elim c.if-leads.branch [
+      | then-leads+in_ok-follow w ↦ subst (λ (b : GraphBuilder). IsBuilder table b) (sym w.builder-is) w.in_ok-follow.ensures.builder
+      | else-leads w ↦ subst (λ (b : GraphBuilder). IsBuilder table b) (sym w.builder-is) c.requires.builder
     ] in
     elim c.if-gathers.branch [
-      | then-gathers+in_ok-add_edges w ↦
-          subst (λ (b : GraphBuilder). AreFollowedIn cache (turns_of modules b) c.if-leads.followed) (sym w.builder-is)
-          (subst (λ (ts : List Turn). AreFollowedIn cache ts c.if-leads.followed) (sym (ap (λ (ts : List NumberedTurn). map (turn_of modules) ts) w.in_ok-add_edges.ensures.turns)) led)
-      | else-gathers w ↦ subst (λ (b : GraphBuilder). AreFollowedIn cache (turns_of modules b) c.if-leads.followed) (sym w.builder-is) led
+      | then-gathers+in_ok-add_edges w ↦ subst (λ (b : GraphBuilder). IsBuilder table b) (sym w.builder-is) w.in_ok-add_edges.ensures.builder
+      | else-gathers w ↦ subst (λ (b : GraphBuilder). IsBuilder table b) (sym w.builder-is) turned
     ]
 
 pub returns-clause-files : goal.returns-clause-files
 returns-clause-files c =
-    let cache = c.args.cache.now in
-    let x = numbered cache c.args.one.number in
-    let turned : HaveFiles cache c.if-leads.builder.edges = elim c.if-leads.branch [
-      | then-leads+in_ok-follow w ↦ subst (λ (b : GraphBuilder). HaveFiles cache b.edges) (sym w.builder-is)
-          (subst (λ (edges : EdgeLists). HaveFiles cache edges) (sym (w.in_ok-follow.ensures.graph.edges ∙ c.in_ok-note.ensures.edges)) c.requires.files)
-      | else-leads w ↦ subst (λ (b : GraphBuilder). HaveFiles cache b.edges) (sym w.builder-is)
-          (subst (λ (edges : EdgeLists). HaveFiles cache edges) (sym c.in_ok-note.ensures.edges) c.requires.files)
+    let table = table_of c.args.required in
+    let xs = required_by c.args.required in
+    let file = Some c.args.required.file in
+    let old = c.args.builder.now.edges in
+    let kept : c.if-leads.builder.edges ≡ old = elim c.if-leads.branch [
+      | then-leads+in_ok-follow w ↦ ap (λ (b : GraphBuilder). b.edges) w.builder-is ∙ w.in_ok-follow.ensures.graph.edges
+      | else-leads w ↦ ap (λ (b : GraphBuilder). b.edges) w.builder-is
     ] in
     elim c.if-gathers.branch [
-      | then-gathers+in_ok-add_edges w ↦ subst (λ (b : GraphBuilder). HaveFiles cache b.edges) (sym w.builder-is)
-          (have_files_more cache c.if-leads.builder.edges w.add_edges.new.self.edges x c.args.finding.now c.requires.finding turned
-          (subst (λ (file : Option ℕ). AddsFileList c.if-leads.builder.edges w.add_edges.new.self.edges file (modules_in cache) (vertex_requirements (main_in cache) (readings_in cache) x)) c.lender-file.ensures
-          (subst (λ (ms : List ModuleVersion). AddsFileList c.if-leads.builder.edges w.add_edges.new.self.edges c.lender-file.result ms (vertex_requirements (main_in cache) (readings_in cache) x)) c.in_ok-required.ensures.table
-          (subst (λ (xs : List ModuleVersion). AddsFileList c.if-leads.builder.edges w.add_edges.new.self.edges c.lender-file.result (lent_table c.in_ok-required.required) xs) c.in_ok-required.ensures.lent
-          w.in_ok-add_edges.ensures.files))))
-      | else-gathers w ↦ subst (λ (b : GraphBuilder). HaveFiles cache b.edges) (sym w.builder-is) turned
+      | then-gathers+in_ok-add_edges w ↦ subst (λ (b : GraphBuilder). AddsFileList old b.edges file table xs) (sym w.builder-is)
+          (subst (λ (edges : EdgeLists). AddsFileList edges w.add_edges.new.self.edges file table xs) kept w.in_ok-add_edges.ensures.files)
+      | else-gathers w ↦ λ f held e.
+          inl (subst (λ (edges : EdgeLists). numbers_of edges f ≡ Some held) (ap (λ (b : GraphBuilder). b.edges) w.builder-is ∙ kept) e)
     ]
 
-pub returns-clause-builder : goal.returns-clause-builder
-returns-clause-builder c =
-    let modules = modules_in c.args.cache.now in
-    let table = c.in_ok-required.ensures.table in
-    let noted = c.in_ok-note.ensures.builder modules c.requires.builder in
-    let turned : IsBuilder modules c.if-leads.builder = elim c.if-leads.branch [
-      | then-leads+in_ok-follow w ↦ subst (λ (b : GraphBuilder). IsBuilder modules b) (sym w.builder-is)
-          (subst (λ (ms : List ModuleVersion). IsBuilder ms w.follow.new.builder) table w.in_ok-follow.ensures.builder)
-      | else-leads w ↦ subst (λ (b : GraphBuilder). IsBuilder modules b) (sym w.builder-is) noted
+pub returns-clause-followed : goal.returns-clause-followed
+returns-clause-followed c =
+    let table = table_of c.args.required in
+    let xs = required_by c.args.required in
+    let file = c.args.required.file in
+    let before = c.args.followed.now in
+    let turned : FollowsFile before c.if-leads.followed file (turns_of table c.if-leads.builder) xs = elim c.if-leads.branch [
+      | then-leads+in_ok-follow w ↦
+          subst (λ (b : GraphBuilder). FollowsFile before c.if-leads.followed file (turns_of table b) xs) (sym w.builder-is)
+          (subst (λ (f : Followed). FollowsFile before f file (turns_of table w.follow.new.builder) xs) (sym w.followed-is)
+          (follows_file before w.follow.new.self file (turns_of table c.args.builder.now) (turns_of table w.follow.new.builder) xs
+          w.in_ok-follow.ensures.files w.in_ok-follow.ensures.adds))
+      | else-leads w ↦ subst (λ (f : Followed). FollowsFile before f file (turns_of table c.if-leads.builder) xs) (sym w.followed-is)
+          (follows_none before file (turns_of table c.if-leads.builder) xs)
     ] in
-    elim c.if-gathers.branch [
-      | then-gathers+in_ok-add_edges w ↦ subst (λ (b : GraphBuilder). IsBuilder modules b) (sym w.builder-is)
-          (subst (λ (ms : List ModuleVersion). IsBuilder ms w.add_edges.new.self) table w.in_ok-add_edges.ensures.builder)
-      | else-gathers w ↦ subst (λ (b : GraphBuilder). IsBuilder modules b) (sym w.builder-is) turned
-    ]
+    let same : turns_of table c.if-gathers.builder ≡ turns_of table c.if-leads.builder = elim c.if-gathers.branch [
+      | then-gathers+in_ok-add_edges w ↦ ap (λ (b : GraphBuilder). turns_of table b) w.builder-is
+          ∙ ap (λ (ts : List NumberedTurn). map (turn_of table) ts) w.in_ok-add_edges.ensures.turns
+      | else-gathers w ↦ ap (λ (b : GraphBuilder). turns_of table b) w.builder-is
+    ] in
+    subst (λ (ts : List Turn). FollowsFile before c.if-leads.followed file ts xs) (sym same) turned
 
 pub returns-clause-visited : goal.returns-clause-visited
-returns-clause-visited c =
-    let cache = c.args.cache.now in
-    let main = main_in cache in
-    let readings = readings_in cache in
-    let modules = modules_in cache in
+returns-clause-visited c = λ main readings x at says.
+    let required = c.args.required in
+    let table = table_of required in
     let number = c.args.one.number in
-    let x = numbered cache number in
     let d = c.args.one.depth in
-    let found = c.args.finding.now in
     let old = c.args.builder.now in
-    let noted = c.note.new.self in
     let turned = c.if-leads.builder in
     let new = c.if-gathers.builder in
     let ys = vertex_requirements main readings x in
-    let table = c.in_ok-required.ensures.table in
-    let lent = c.in_ok-required.ensures.lent in
-    let known = finding_known cache x found c.requires.finding in
-    let leads : c.leads_on-leads.result ≡ leads_on readings x d = c.leads_on-leads.ensures x c.requires.finding in
-    let adds_edges : c.gathers-gathers.result ≡ gathers (turns_of modules old) (turn x d) = c.gathers-gathers.ensures modules c.requires.builder c.requires.below in
-    let notes : Notes (built modules old) (built modules noted) x found = notes_fault modules old noted x found c.in_ok-note.ensures.turns c.in_ok-note.ensures.edges
-    (λ y. c.in_ok-note.ensures.faults y ∙ ap (λ (v : ModuleVersion). with_fault (found_fault found) v (faults_by_vertex old) y) c.module.ensures.module) in
-    let opens : Opens main readings (built modules noted) (built modules turned) x d = elim c.if-leads.branch [
+    let does = gathers (turns_of table old) (turn x d) in
+    let known : IsSome (readings x) = subst (λ (o : Option (Result Dependency Class)). IsSome o) (sym says.reading) refl in
+    let leads : required.leads ≡ leads_on readings x d = says.leads in
+    let adds_edges : c.gathers-gathers.result ≡ does =
+    c.gathers-gathers.ensures table c.requires.builder c.requires.below
+    ∙ ap (λ (v : ModuleVersion). gathers (turns_of table old) (turn v d)) (sym at) in
+    let opens : Opens main readings (built table old) (built table turned) x d = elim c.if-leads.branch [
       | then-leads+in_ok-follow w ↦
           let after = w.follow.new.builder in
-          subst (λ (b : GraphBuilder). Opens main readings (built modules noted) (built modules b) x d) (sym w.builder-is)
-          (opens_all modules noted after main readings x d known (sym leads ∙ w.if-leads.true) w.in_ok-follow.ensures.graph
-          (subst (λ (ms : List ModuleVersion). AddsAll (turns_of ms noted) (turns_of ms after) ys Deep) table
-          (subst (λ (zs : List ModuleVersion). AddsAll (turns_of (lent_table c.in_ok-required.required) noted) (turns_of (lent_table c.in_ok-required.required) after) zs Deep) lent w.in_ok-follow.ensures.adds)))
-      | else-leads w ↦ opens_none modules noted turned main readings x d known (sym leads ∙ w.if-leads.false) w.builder-is
+          subst (λ (b : GraphBuilder). Opens main readings (built table old) (built table b) x d) (sym w.builder-is)
+          (opens_all table old after main readings x d known (sym leads ∙ w.if-leads.true) w.in_ok-follow.ensures.graph
+          (subst (λ (zs : List ModuleVersion). AddsAll (turns_of table old) (turns_of table after) zs Deep) says.modules w.in_ok-follow.ensures.adds))
+      | else-leads w ↦ opens_none table old turned main readings x d known (sym leads ∙ w.if-leads.false) w.builder-is
     ] in
-    let adds : AddsIf (gathers (turns_of modules old) (turn x d)) (built modules turned) (built modules new) x ys = elim c.if-gathers.branch [
+    let adds : AddsIf does (built table turned) (built table new) x ys = elim c.if-gathers.branch [
       | then-gathers+in_ok-add_edges w ↦
           let more = w.in_ok-add_edges.ensures in
           let after = w.add_edges.new.self in
-          subst (λ (b : GraphBuilder). AddsIf (gathers (turns_of modules old) (turn x d)) (built modules turned) (built modules b) x ys) (sym w.builder-is)
-          (adds_them modules turned after (gathers (turns_of modules old) (turn x d)) x ys (sym adds_edges ∙ w.if-gathers.true)
-          (subst (λ (ms : List ModuleVersion). edges_in ms after ≡ edges_in ms turned ++ map (edge (Of (module_at ms number))) ys) table
-          (more.edges ∙ ap (λ (zs : List ModuleVersion). edges_in (lent_table c.in_ok-required.required) turned ++ map (edge (Of (module_at (lent_table c.in_ok-required.required) number))) zs) lent))
-          (subst (λ (ms : List ModuleVersion). sources_in ms after ≡ sources_in ms turned ++ Of (module_at ms number) ∷ []) table more.sources)
+          subst (λ (b : GraphBuilder). AddsIf does (built table turned) (built table b) x ys) (sym w.builder-is)
+          (adds_them table turned after does x ys (sym adds_edges ∙ w.if-gathers.true)
+          (more.edges ∙ ap (λ (zs : List ModuleVersion). edges_in table turned ++ map (edge (Of (module_at table number))) zs) says.modules
+          ∙ ap (λ (v : ModuleVersion). edges_in table turned ++ map (edge (Of v)) ys) (sym at))
+          (more.sources ∙ ap (λ (v : ModuleVersion). sources_in table turned ++ Of v ∷ []) (sym at))
           more.turns more.faults)
-      | else-gathers w ↦ adds_nothing modules turned new (gathers (turns_of modules old) (turn x d)) x ys (sym adds_edges ∙ w.if-gathers.false) w.builder-is
+      | else-gathers w ↦ adds_nothing table turned new does x ys (sym adds_edges ∙ w.if-gathers.false) w.builder-is
     ] in
-    visited main readings x d found (finding_fault cache x found c.requires.finding) (built modules old) (built modules noted) (built modules turned) (built modules new) notes opens adds
+    visited main readings x d None (sym (ap fault_in says.reading)) (built table old) (built table old) (built table turned) (built table new)
+    (notes_none (built table old) x) opens adds

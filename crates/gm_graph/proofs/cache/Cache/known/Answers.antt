@@ -1,9 +1,15 @@
-use Rattle.std.proofs.Common.{◌∙◌, ap, subst, sym}
-use Rattle.gm_graph.specs.Cached.{IsFinding, held_of, main_in, numbered}
-use Rattle.gm_file.specs.Main.{main_of}
-use Rattle.gm_graph.specs.Reading.{file_of, readings_by}
-use Rattle.gm_graph.specs.declared.cache.finding.Finding.{Finding}
-use Rattle.gm_graph.proofs.Keeping.{holds_after, keeps_same, knows_still}
+use Rattle.std.proofs.Common.{◌≡◌, ◌∙◌, ◌++◌, ℕ, List, Option, Err, ap, subst, sym}
+use Rattle.gm_name.specs.ModuleVersion.{ModuleVersion}
+use Rattle.gm_store.specs.Asked.{Name, name_of}
+use Rattle.gm_graph.specs.declared.cache.load_fault.LoadFault.{LoadFault}
+use Rattle.gm_graph.specs.declared.cache.load_fault.LoadFault.TheVariants as load
+use Rattle.gm_graph.specs.Asking.{StillLacks}
+use Rattle.gm_graph.specs.Cached.{IsKnownAs, IsPlaceFor, held_of, main_in, modules_in, numbered}
+use Rattle.gm_file.specs.Main.{Main, main_of}
+use Rattle.gm_graph.specs.Reading.{file_of}
+use Rattle.gm_graph.specs.Refusals.{refused_names}
+use Rattle.gm_graph.proofs.Growing.{number_below, number_stays}
+use Rattle.gm_graph.proofs.Keeping.{device_failed, holds_after, keeps_same, knows_still, lent_after, never_many, refused_failed}
 use Rattle.gm_graph.proofs.Named.{asks_named}
 use Rattle.gm_graph.proofs.cache.Cache.known.Goals as goal
 
@@ -13,44 +19,12 @@ known_at-requires-clause-knows g c = knows_still c.args.self.now c.number.new.se
 pub returns-in_err-number-clause-grows : goal.returns-in_err-number-clause-grows
 returns-in_err-number-clause-grows g c = keeps_same c.args.self.now c.number.new.self c.number.ensures.holds
 
-pub returns-in-Ok-Fault-clause-grows : goal.returns-in-Ok-Fault-clause-grows
-returns-in-Ok-Fault-clause-grows g c = λ name reading e.
+pub returns-in-Ok-clause-grows : goal.returns-in-Ok-clause-grows
+returns-in-Ok-clause-grows g c = λ name reading e.
     c.known_at.ensures.grows name reading (keeps_same c.args.self.now c.number.new.self c.number.ensures.holds name reading e)
 
-pub returns-in-Ok-Sound-clause-grows : goal.returns-in-Ok-Sound-clause-grows
-returns-in-Ok-Sound-clause-grows g c = λ name reading e.
-    c.known_at.ensures.grows name reading (keeps_same c.args.self.now c.number.new.self c.number.ensures.holds name reading e)
-
-pub returns-in-Err-clause-grows : goal.returns-in-Err-clause-grows
-returns-in-Err-clause-grows g c = λ name reading e.
-    c.known_at.ensures.grows name reading (keeps_same c.args.self.now c.number.new.self c.number.ensures.holds name reading e)
-
-pub returns-in-Err-clause-err : goal.returns-in-Err-clause-err
-returns-in-Err-clause-err g c = holds_after c.args.self.now c.number.new.self c.known_at.new.self c.number.ensures.holds c.in-Err.ensures.err
-
-pub returns-in-Ok-Fault-clause-known : goal.returns-in-Ok-Fault-clause-known
-returns-in-Ok-Fault-clause-known g c =
-    let new = c.known_at.new.self in
-    ap (readings_by (main_in new) (held_of new)) (sym c.in_ok-number.ensures.module)
-    ∙ subst (λ (f : Finding). IsFinding new (numbered c.number.new.self c.in_ok-number.number) f) c.in-Ok-Fault.field-0-is c.in-Ok-Fault.ensures.finding
-
-pub returns-in-Ok-Sound-clause-known : goal.returns-in-Ok-Sound-clause-known
-returns-in-Ok-Sound-clause-known g c =
-    let new = c.known_at.new.self in
-    let sound = subst (λ (f : Finding). IsFinding new (numbered c.number.new.self c.in_ok-number.number) f) c.in-Ok-Sound.field-0-is c.in-Ok-Sound.ensures.finding in
-    record {
-      name_is = c.in_ok-name.ensures ∙ ap (λ m. file_of (main_of m) c.args.vertex.now) (sym (c.known_at.ensures.lent.main ∙ c.number.ensures.lent.main));
-      file = sound.file;
-      reading = ap (readings_by (main_in new) (held_of new)) (sym c.in_ok-number.ensures.module) ∙ sound.reading;
-    }
-
-pub returns-in-Ok-Fault-clause-asks : goal.returns-in-Ok-Fault-clause-asks
-returns-in-Ok-Fault-clause-asks g c =
-    asks_named c.args.self.now c.number.new.self (g.F.Asks.state c.args.files.now) (g.F.Asks.state c.known_at.new.files) c.args.vertex.now
-    (numbered c.number.new.self c.in_ok-number.number) c.number.ensures.holds.main c.in_ok-number.ensures.module c.known_at.ensures.asks
-
-pub returns-in-Ok-Sound-clause-asks : goal.returns-in-Ok-Sound-clause-asks
-returns-in-Ok-Sound-clause-asks g c =
+pub returns-in-Ok-clause-asks : goal.returns-in-Ok-clause-asks
+returns-in-Ok-clause-asks g c =
     asks_named c.args.self.now c.number.new.self (g.F.Asks.state c.args.files.now) (g.F.Asks.state c.known_at.new.files) c.args.vertex.now
     (numbered c.number.new.self c.in_ok-number.number) c.number.ensures.holds.main c.in_ok-number.ensures.module c.known_at.ensures.asks
 
@@ -58,3 +32,73 @@ pub returns-in-Err-clause-asks : goal.returns-in-Err-clause-asks
 returns-in-Err-clause-asks g c =
     asks_named c.args.self.now c.number.new.self (g.F.Asks.state c.args.files.now) (g.F.Asks.state c.known_at.new.files) c.args.vertex.now
     (numbered c.number.new.self c.in_ok-number.number) c.number.ensures.holds.main c.in_ok-number.ensures.module c.known_at.ensures.asks
+
+pub returns-in-Err-clause-lent : goal.returns-in-Err-clause-lent
+returns-in-Err-clause-lent g c =
+    lent_after c.args.self.now c.number.new.self c.load_fault.new.self c.number.ensures.lent
+    (lent_after c.number.new.self c.known_at.new.self c.load_fault.new.self c.known_at.ensures.lent c.load_fault.ensures.lent)
+
+pub returns-in-Err-clause-err : goal.returns-in-Err-clause-err
+returns-in-Err-clause-err g c =
+    holds_after c.args.self.now c.number.new.self c.load_fault.new.self c.number.ensures.holds
+    (holds_after c.number.new.self c.known_at.new.self c.load_fault.new.self c.in-Err.ensures.err c.load_fault.ensures.holds)
+
+pub returns-in-Err-clause-grows : goal.returns-in-Err-clause-grows
+returns-in-Err-clause-grows g c = keeps_same c.args.self.now c.load_fault.new.self
+    (holds_after c.args.self.now c.number.new.self c.load_fault.new.self c.number.ensures.holds
+    (holds_after c.number.new.self c.known_at.new.self c.load_fault.new.self c.in-Err.ensures.err c.load_fault.ensures.holds))
+
+pub returns-in-Ok-clause-known : goal.returns-in-Ok-clause-known
+returns-in-Ok-clause-known g c =
+    let new = c.known_at.new.self in
+    let number = c.in_ok-number.number in
+    subst (λ (v : ModuleVersion). IsKnownAs (main_in new) (held_of new) v c.known_by.result)
+    (number_stays (modules_in c.number.new.self) (modules_in new) number c.known_at.ensures.numbered c.in_ok-number.ensures.number
+    ∙ c.in_ok-number.ensures.module)
+    c.known_by.ensures
+
+pub known_by-requires-clause-name : goal.known_by-requires-clause-name
+known_by-requires-clause-name g c =
+    let new = c.known_at.new.self in
+    let number = c.in_ok-number.number in
+    c.in_ok-name.ensures
+    ∙ ap (λ (v : ModuleVersion). file_of (main_in c.args.self.now) v) (sym (number_stays (modules_in c.number.new.self) (modules_in new) number c.known_at.ensures.numbered c.in_ok-number.ensures.number
+    ∙ c.in_ok-number.ensures.module))
+    ∙ ap (λ m. file_of (main_of m) (numbered new number)) (sym (c.known_at.ensures.lent.main ∙ c.number.ensures.lent.main))
+
+pub known_by-requires-clause-vertex : goal.known_by-requires-clause-vertex
+known_by-requires-clause-vertex g c =
+    number_below (modules_in c.number.new.self) (modules_in c.known_at.new.self) c.in_ok-number.number c.known_at.ensures.numbered c.in_ok-number.ensures.number
+
+pub known_by-requires-clause-place : goal.known_by-requires-clause-place
+known_by-requires-clause-place g c =
+    subst (λ (v : ModuleVersion). IsPlaceFor c.known_at.new.self v c.in-Ok.place)
+    (sym (number_stays (modules_in c.number.new.self) (modules_in c.known_at.new.self) c.in_ok-number.number c.known_at.ensures.numbered c.in_ok-number.ensures.number))
+    c.in-Ok.ensures.place
+
+pub returns-in-Err-clause-not_too_many : goal.returns-in-Err-clause-not_too_many
+returns-in-Err-clause-not_too_many g c = λ e.
+    let same : c.load_fault.result ≡ load.TooMany = cc e in
+    never_many c.in-Err.fault c.known_at.new.self.failed (sym c.load_fault.ensures.fault ∙ same)
+
+pub returns-in-Err-clause-device : goal.returns-in-Err-clause-device
+returns-in-Err-clause-device g c = λ name e.
+    let mid = c.number.new.self in
+    let before = g.F.Asks.state c.args.files.now in
+    let after = g.F.Asks.state c.known_at.new.files in
+    let x = numbered mid c.in_ok-number.number in
+    let same : c.load_fault.result ≡ load.Device name = cc e in
+    subst (λ (m : Main). StillLacks m before after c.args.vertex.now (name_of name)) (ap main_of c.number.ensures.holds.main)
+    (subst (λ (v : ModuleVersion). StillLacks (main_in mid) before after v (name_of name)) c.in_ok-number.ensures.module
+    (device_failed (main_in mid) before after x c.in-Err.fault c.known_at.new.self.failed name (λ is. c.in-Err.ensures.device (ap Err is))
+    (sym c.load_fault.ensures.fault ∙ same)))
+
+pub returns-in-Err-clause-refused : goal.returns-in-Err-clause-refused
+returns-in-Err-clause-refused g c =
+    let mid = c.number.new.self in
+    let before = g.F.Asks.state c.args.files.now in
+    let after = g.F.Asks.state c.known_at.new.files in
+    c.in-Err.ensures.refused
+    ∙ ap (λ (ns : List Name). before.refused ++ ns)
+    (refused_failed (main_in mid) before after (numbered mid c.in_ok-number.number) (Option ℕ) c.in-Err.fault c.known_at.new.self.failed (λ is. c.in-Err.ensures.device (ap Err is))
+    ∙ ap (λ (f : LoadFault). refused_names f) (sym c.load_fault.ensures.fault))
