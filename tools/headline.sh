@@ -39,7 +39,7 @@ from collections import defaultdict
 CRATES = pathlib.Path("crates")
 PAGES = [pathlib.Path("docs/proof") / name for name in ("HEADLINE.md", "REPORTS.md", "BYTES.md", "DIRECTIVES.md", "EDITS.md", "NAMES.md")]
 RUNNING = "gomod_run/src/running.rt"
-LIST = [("Rattle.gomod_run.specs.Outcomes", "IsListOutcome"), ("Rattle.gomod_run.specs.Written", "EndsAsStated")]
+LIST = [("Rattle.gomod_run.specs.Outcomes", "ListEnds"), ("Rattle.gomod_run.specs.Written", "EndsAsStated")]
 HEAD = re.compile(r"(?:(?:abbrev|unfoldable|opaque)\s+)?(?:pub\s+)?(?:(record|data)\s+)?([^\s:({]+)")
 NAME = re.compile(r"(?<![\w.'])(?:([A-Za-z_]\w*)\.)?([A-Za-z_][\w'-]*)")
 SHOWN = re.compile(r"(?ms)^<!-- show ([^\n]*?) -->\n(.*?)^<!-- end -->$")

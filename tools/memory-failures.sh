@@ -48,19 +48,20 @@ gm_store_sums/src/sum_lines.rt fault_of: no line is invalid, so reading stopped 
   match first_invalid_line(text) { None => SumFault::NoMemory
 gomod_run/src/program.rt ending_of: the list of words could not be made
   match texts_of(rt.alloc(), words.as_slice()) { Err(_) => Ending::Run(write_report(report, &Report::NoMemory))
-gomod_run/src/program.rt words_of: the list of words could not grow
-  for number in 1..usize::MAX { if words.push(word).is_err() { return Err(UsageFault::NoMemory)
-gomod_run/src/program.rt word_at: the buffer has the greatest size
-  let mut room = FIRST_ROOM; for _ in 0..usize::BITS { let mut word = Vec::new(rt.alloc()); word.resize(room, 0u8)?;
-  match rt.arg(number, word.as_mut_slice()) { Ok(length) => { word.truncate(length); return Ok(Some(word)); }
-  Err(FillError::NotPresent) => return Ok(None), Err(FillError::TooLong) => room = room.saturating_mul(2), } }
-  Err(AllocError) where FIRST_ROOM is 256
 gomod_words/src/advice.rt advised: what to type could not be made
   match tip_for(alloc, kind, refusal, words) { Err(_) => UsageFault::NoMemory
 gomod_words/src/advice.rt with_tip: the message could not be made
   match format!(in alloc; "{message}\n\n tip: {tip}") { Err(_) => UsageFault::NoMemory
 gomod_words/src/dashed.rt dashed: the message could not be made
   match dashed_message(alloc, operation, words_after(words)) { Err(_) => UsageFault::NoMemory
+gomod_words/src/given.rt given_words: the list of words could not grow, or has the greatest size
+  let mut words = Vec::new(rt.alloc()); for number in 0..usize::MAX { let Some(word) = word_of(rt, number)? else {
+  return Ok(words); }; if words.push(word).is_err() { break; } } Err(UsageFault::NoMemory)
+gomod_words/src/given.rt word_at: the buffer has the greatest size
+  let mut room = FIRST_ROOM; for _ in 0..usize::BITS { let mut word = Vec::new(rt.alloc()); word.resize(room, 0u8)?;
+  match rt.fill_word(number, word.as_mut_slice()) { Ok(length) => { word.truncate(length); return Ok(Some(word)); }
+  Err(FillError::NotPresent) => return Ok(None), Err(FillError::TooLong) => room = room.saturating_mul(2), } }
+  Err(AllocError) where FIRST_ROOM is 256
 gomod_words/src/query.rt bad_limit: the message could not be made
   match format!(in alloc; "error: invalid value '{text}' for '--limit <N>': not a number from 1 to 4294967295" ) {
   Err(_) => UsageFault::NoMemory

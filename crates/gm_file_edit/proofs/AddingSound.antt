@@ -18,11 +18,10 @@ use Rattle.gm_file.proofs.DirectiveVerbs.{directive-verb, same-verb}
 use Rattle.gm_file.proofs.Pairwise.{IsClear}
 use Rattle.gm_file_edit.specs.Edited.{added, after_first_that, has_verb}
 use Rattle.gm_file_edit.specs.declared.adding.Spot.{Spot}
-use Rattle.gm_file_edit.specs.Adding.{added_at, spot_after_first, spot_after_last, spot_after_line, close_len, further, past_block, insert_at_spot}
 use Rattle.gm_file_edit.specs.NewWords.{entry_at, single}
 use Rattle.gm_file_edit.specs.Holding.{directive_at, item_of, passes}
 use Rattle.gm_file_edit.proofs.Pairs.{IsSound, block-append, held_in, no-block, plain-held, put-line}
-use Rattle.gm_file_edit.proofs.Spots.{added-spot, first-spot}
+use Rattle.gm_file_edit.proofs.Spots.{added-spot, added_at, close_len, first-spot, further, insert_at_spot, past_block, spot_after_first, spot_after_last, spot_after_line}
 
 -- ---- the directives of lines
 

@@ -1,5 +1,5 @@
 -- Where an operation puts a new entry.
-use Rattle.std.proofs.Common.{◌≡◌, ℕ, ◌&&◌, ◌||◌, not, Bool, true, false, List, [], ◌∷◌, ◌++◌, Option, Some, None, is_some, refl, sym, ap, ◌∙◌}
+use Rattle.std.proofs.Common.{◌≡◌, ℕ, ◌&&◌, not, Bool, true, false, List, [], ◌∷◌, ◌++◌, Option, Some, None, is_some, refl, sym, ap, ◌∙◌}
 use Rattle.std.specs.List.{list_any}
 use Rattle.gm_syntax.specs.Tokens.{Placed}
 use Rattle.gm_syntax.specs.Document.{Line, Blank}
@@ -15,7 +15,8 @@ use Rattle.gm_file_edit.specs.Searching.{is_there, is_there_from}
 use Rattle.gm_file_edit.proofs.EditedSound.{by-put}
 use Rattle.gm_file_edit.proofs.Idle.{there-said}
 use Rattle.std.proofs.lemmas.Option.{same_Some}
-use Rattle.std.proofs.lemmas.Bool.{or_right}
+use Rattle.std.proofs.lemmas.Bool.{or_right, true≢false}
+use Rattle.gm_file_edit.proofs.Untouched.{by-edited}
 
 -- the line stands somewhere behind
 there-behind : (test : Directive → Bool) (block : Option Placed) (front back : List (Line Placed)) (line : Line Placed) → passes test (directive_at (block_after_lines block front) line) ≡ true → is_there_from test block (front ++ line ∷ back) ≡ true
@@ -44,13 +45,11 @@ pub added-at-end : (verb : List ℕ) (arguments : List Placed) (lines : List (Li
 unfolding added
 added-at-end verb arguments lines none = rw none refl
 
-pass-added : (entry : List ℕ × List Placed) (lines : List (Line Placed)) (edit : Edit) → new_entry edit ≡ Some entry → is_there (about edit) lines ≡ false → edited edit lines ≡ added entry.0 entry.1 lines
-unfolding edited
-pass-added entry lines edit adds none = rw none (by-put (λ other after. new_entry other ≡ Some entry → after ≡ added entry.0 entry.1 lines) lines
-    (λ path e. absurd cc) (λ text e. absurd cc) (λ other found is e. ap (λ (x : List ℕ × List Placed). added x.0 x.1 lines) (same_Some _ _ (sym is ∙ e))) (λ t e. absurd cc) edit adds)
-
 pub edited-added : (edit : Edit) (entry : List ℕ × List Placed) (lines : List (Line Placed)) → new_entry edit ≡ Some entry → list_any (about edit) (directives_of lines) ≡ false → edited edit lines ≡ added entry.0 entry.1 lines
-edited-added edit entry lines adds none = pass-added entry lines edit adds (there-said (about edit) lines ∙ none)
+edited-added edit entry lines adds none = by-edited (λ after. after ≡ added entry.0 entry.1 lines) edit lines (λ there. absurd (true≢false (sym there ∙ there-said (about edit) lines ∙ none)))
+    (λ absent.
+    by-put (λ other after. new_entry other ≡ Some entry → after ≡ added entry.0 entry.1 lines) lines
+    (λ path e. absurd cc) (λ text e. absurd cc) (λ other found is e. ap (λ (x : List ℕ × List Placed). added x.0 x.1 lines) (same_Some _ _ (sym is ∙ e))) (λ t e. absurd cc) edit adds)
 
 pub addition-follows : AdditionFollowsItsVerb
 addition-follows edit verb arguments front back line adds none is =

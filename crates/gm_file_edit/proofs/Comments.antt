@@ -17,6 +17,7 @@ use Rattle.gm_file_edit.specs.Renewing.{made_new}
 use Rattle.gm_file_edit.specs.Searching.{is_there, is_there_from}
 use Rattle.gm_file.specs.Faults.{is_module}
 use Rattle.gm_file_edit.proofs.EditedSound.{by-put}
+use Rattle.gm_file_edit.proofs.Untouched.{by-edited}
 
 abbrev comments : List (Line Placed) → List (Line Placed)
 comments lines = filter is_comment_line lines
@@ -172,8 +173,4 @@ put-comments : (edit : Edit) (lines : List (Line Placed)) → comments (put_in e
 put-comments edit lines = by-put (λ other after. comments after ≡ comments lines) lines (λ path. refl) (λ text. after-first-comments is_module (new_go text) lines refl) (λ other entry is. added-comments entry.0 entry.1 lines) (λ t. refl) edit
 
 pub pass-comments : (edit : Edit) (lines : List (Line Placed)) → filter is_comment_line (edited edit lines) ≡ filter is_comment_line lines
-unfolding edited
-pass-comments edit lines = elim (cases_Bool (is_there (about edit) lines)) [
-  | inl there ↦ rw there (changed-comments edit lines)
-  | inr none ↦ rw none (put-comments edit lines)
-]
+pass-comments edit lines = by-edited (λ after. comments after ≡ comments lines) edit lines (λ there. changed-comments edit lines) (λ none. put-comments edit lines)

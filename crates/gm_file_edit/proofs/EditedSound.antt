@@ -39,6 +39,7 @@ use Rattle.gm_file_edit.proofs.Renewals.{go-says, put_by, renewal, replace-are, 
 use Rattle.gm_file_edit.proofs.Pairs.{IsSound, document-sound, sound-document}
 use Rattle.gm_file_edit.specs.Keys.{verb_sought}
 use Rattle.gm_file_edit.proofs.Targets.{about-module}
+use Rattle.gm_file_edit.proofs.Untouched.{by-edited}
 use Rattle.std.proofs.lemmas.Option.{same_Some}
 
 -- ---- if no entry is targeted
@@ -201,15 +202,8 @@ put-sound lines sound = by-put (λ edit after. IsSoundEdit edit → is_fit edit 
     added-sound entry.0 entry.1 by.new lines by.is (put-new edit by.new lines by.put good fit none) sound)
     (λ t good fit none. sound)
 
-pass-sound : (edit : Edit) (lines : List (Line Placed)) → IsSoundEdit edit → is_fit edit ≡ true → IsSound lines → IsSound (edited edit lines)
-unfolding edited
-pass-sound edit lines good fit sound = elim (cases_Bool (is_there (about edit) lines)) [
-  | inl there ↦ rw there (changed-sound edit lines good fit there sound)
-  | inr none ↦ rw none (put-sound lines sound edit good fit none)
-]
-
 pub edited-sound : (edit : Edit) (lines : List (Line Placed)) → IsSoundEdit edit → is_fit edit ≡ true → IsSound lines → IsSound (edited edit lines)
-edited-sound edit lines good fit sound = pass-sound edit lines good fit sound
+edited-sound edit lines good fit sound = by-edited IsSound edit lines (λ there. changed-sound edit lines good fit there sound) (λ none. put-sound lines sound edit good fit none)
 
 pub edited-document : (edit : Edit) (lines : List (Line Placed)) → IsSoundEdit edit → is_fit edit ≡ true → IsDocument (plain_lines lines) → fault_of Strict (plain_lines lines) ≡ None
     → IsDocument (plain_lines (edited edit lines)) × (fault_of Strict (plain_lines (edited edit lines)) ≡ None)

@@ -1,19 +1,19 @@
 -- Where an operation puts a new go directive.
-use Rattle.std.proofs.Common.{◌≡◌, ℕ, ◌||◌, if◌then◌else◌, Bool, true, false, List, [], ◌∷◌, ◌++◌, Option, None, is_some, refl, ap, ◌∙◌}
+use Rattle.std.proofs.Common.{◌≡◌, ℕ, if◌then◌else◌, Bool, true, false, List, [], ◌∷◌, ◌++◌, Option, None, is_some, refl, sym, ap, ◌∙◌}
 use Rattle.std.specs.List.{list_all, list_any}
 use Rattle.gm_syntax.specs.Tokens.{Placed}
 use Rattle.gm_syntax.specs.Document.{Line, Blank, Comment, Open, Close, Entry}
 use Rattle.gm_file.specs.Directives.{Directive, block_after_line, block_after_lines}
 use Rattle.gm_file.specs.Faults.{is_go, is_module}
 use Rattle.gm_file_edit.specs.Edits.{Set, GoIs}
-use Rattle.gm_file_edit.specs.About.{about}
 use Rattle.gm_file_edit.specs.Edited.{after_closing, after_first_of, after_first_that, edited, new_go, put_in}
 use Rattle.gm_file_edit.specs.Holding.{directive_at, passes}
 use Rattle.gm_file_edit.specs.GoPlace.{GoFollowsModule, GoFollowsModuleBlock, IsFirstModule, is_loose}
 use Rattle.gm_file_edit.specs.Laws.{directives_of}
-use Rattle.gm_file_edit.specs.Searching.{is_there, is_there_from}
+use Rattle.gm_file_edit.specs.Searching.{is_there_from}
 use Rattle.gm_file_edit.proofs.Idle.{there-said}
-use Rattle.std.proofs.lemmas.Bool.{or_parts}
+use Rattle.std.proofs.lemmas.Bool.{or_parts, true≢false}
+use Rattle.gm_file_edit.proofs.Untouched.{by-edited}
 
 -- the lines before the first module directive stay
 first-behind : (test : Directive → Bool) (new : List (Line Placed)) (block : Option Placed) (front back : List (Line Placed)) (line : Line Placed) → is_there_from test block front ≡ false
@@ -34,14 +34,10 @@ to-closing new (Open verb suffix ∷ inner) back last e = absurd cc
 to-closing new (Close suffix ∷ inner) back last e = absurd cc
 to-closing new (Entry words suffix ∷ inner) back last e = ap (λ (ls : List (Line Placed)). Entry words suffix ∷ ls) (to-closing new inner back last e)
 
-pass-go : (text : List ℕ) (lines : List (Line Placed)) → list_any is_go (directives_of lines) ≡ false → edited (Set (GoIs text)) lines ≡ after_first_that is_module (new_go text) lines
-unfolding edited put_in
-pass-go text lines none =
-    let absent : is_there (about (Set (GoIs text))) lines ≡ false = there-said is_go lines ∙ none in
-    rw absent refl
-
 edited-go : (text : List ℕ) (lines : List (Line Placed)) → list_any is_go (directives_of lines) ≡ false → edited (Set (GoIs text)) lines ≡ after_first_that is_module (new_go text) lines
-edited-go text lines none = pass-go text lines none
+unfolding put_in
+edited-go text lines none =
+    by-edited (λ after. after ≡ after_first_that is_module (new_go text) lines) (Set (GoIs text)) lines (λ there. absurd (true≢false (sym there ∙ there-said is_go lines ∙ none))) (λ absent. refl)
 
 go-placed : (text : List ℕ) (front back : List (Line Placed)) (line : Line Placed) → IsFirstModule front line → list_any is_go (directives_of (front ++ line ∷ back)) ≡ false
     → edited (Set (GoIs text)) (front ++ line ∷ back) ≡ front ++ line ∷ (if is_some (block_after_lines None front) then after_closing (new_go text) back else new_go text ++ back)

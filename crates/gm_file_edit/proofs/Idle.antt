@@ -1,53 +1,29 @@
 -- Operations with nothing to do leave the lines as they are.
-use Rattle.std.proofs.Common.{◌≡◌, if◌then◌else◌, Bool, true, false, List, [], ◌∷◌, Some, None, refl, sym, ap, ◌∙◌, inl, inr}
+use Rattle.std.proofs.Common.{◌≡◌, if◌then◌else◌, Bool, true, false, List, [], ◌∷◌, None, refl, sym, ap, ◌∙◌, inl, inr}
 use Rattle.std.specs.Prelude.{filter}
 use Rattle.std.specs.List.{list_any}
-use Rattle.std.proofs.lemmas.Bool.{cases_Bool}
+use Rattle.std.proofs.lemmas.Bool.{cases_Bool, true≢false}
 use Rattle.gm_syntax.specs.Tokens.{Placed}
 use Rattle.gm_syntax.specs.Document.{Line}
 use Rattle.gm_file.specs.Directives.{Directive}
-use Rattle.gm_file_edit.specs.Edits.{Edit, Set, Drop, Add}
 use Rattle.gm_file_edit.specs.About.{about}
-use Rattle.gm_file_edit.specs.Edited.{changed, edited, put_in}
+use Rattle.gm_file_edit.specs.Edited.{edited}
 use Rattle.gm_file_edit.specs.EditLaws.{IdleAdditionChangesNothing, IdleDropChangesNothing, SecondAdditionChangesNothing, SecondDropChangesNothing}
 use Rattle.gm_file_edit.specs.Laws.{directives_of}
-use Rattle.gm_file_edit.specs.Kinds.{added_by, is_drop}
 use Rattle.gm_file_edit.specs.Searching.{is_there}
 use Rattle.gm_file_edit.proofs.AddingSound.{file-held}
-use Rattle.gm_file_edit.proofs.SaidAfter.{added-is-there, dropped-is-gone, there-is}
+use Rattle.gm_file_edit.proofs.SaidAfter.{added-is-there, addition-changes-nothing, dropped-is-gone, there-is}
+use Rattle.gm_file_edit.proofs.Untouched.{by-edited, edited-drop, none-dropped}
 
 pub there-said : (test : Directive → Bool) (lines : List (Line Placed)) → is_there test lines ≡ list_any test (directives_of lines)
 there-said test lines = there-is test None lines ∙ ap (list_any test) (sym (file-held lines))
 
-pub drop-puts-nothing : (edit : Edit) (lines : List (Line Placed)) → is_drop edit ≡ true → put_in edit lines ≡ lines
-unfolding put_in
-drop-puts-nothing (Set s) lines e = absurd cc
-drop-puts-nothing (Drop t) lines e = refl
-drop-puts-nothing (Add a) lines e = absurd cc
-
-idle-pass : (edit : Edit) (lines : List (Line Placed)) → is_drop edit ≡ true → list_any (about edit) (directives_of lines) ≡ false → edited edit lines ≡ lines
-unfolding edited
-idle-pass edit lines drop none =
-    let absent : is_there (about edit) lines ≡ false = there-said (about edit) lines ∙ none in
-    rw absent (drop-puts-nothing edit lines drop)
-
 pub idle-drop : IdleDropChangesNothing
-idle-drop edit lines drop none = idle-pass edit lines drop none
-
-addition-changes-nothing : (edit : Edit) (lines : List (Line Placed)) (d : Directive) → added_by edit ≡ Some d → changed edit lines ≡ lines
-unfolding changed
-addition-changes-nothing (Set s) lines d e = absurd cc
-addition-changes-nothing (Drop t) lines d e = absurd cc
-addition-changes-nothing (Add a) lines d e = refl
-
-addition-pass : (edit : Edit) (lines : List (Line Placed)) (d : Directive) → added_by edit ≡ Some d → list_any (about edit) (directives_of lines) ≡ true → edited edit lines ≡ lines
-unfolding edited
-addition-pass edit lines d adds some =
-    let present : is_there (about edit) lines ≡ true = there-said (about edit) lines ∙ some in
-    rw present (addition-changes-nothing edit lines d adds)
+idle-drop edit lines drop none = edited-drop edit lines drop ∙ none-dropped (about edit) lines (there-said (about edit) lines ∙ none)
 
 pub idle-addition : IdleAdditionChangesNothing
-idle-addition edit lines d adds some = addition-pass edit lines d adds some
+idle-addition edit lines d adds some = by-edited (λ after. after ≡ lines) edit lines (λ there. addition-changes-nothing edit lines d adds)
+    (λ absent. absurd (true≢false (sym some ∙ sym (there-said (about edit) lines) ∙ absent)))
 
 pub second-drop : SecondDropChangesNothing
 second-drop edit lines drop = idle-drop edit (edited edit lines) drop (dropped-is-gone edit lines drop)

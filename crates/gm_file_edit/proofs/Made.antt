@@ -1,5 +1,5 @@
 -- The words of new entries, and what an entry says after its arguments are replaced.
-use Rattle.std.proofs.Common.{◌≡◌, ℕ, ◌<◌, true, false, List, [], ◌∷◌, ◌++◌, length, Option, Some, None, is_some, refl, sym, ap, subst, ◌∙◌, arith, inl, inr}
+use Rattle.std.proofs.Common.{◌≡◌, ℕ, ◌<◌, false, List, [], ◌∷◌, ◌++◌, length, Option, Some, None, is_some, refl, sym, ap, subst, ◌∙◌, arith, inl, inr}
 use Rattle.std.specs.List.{AllByRecursion}
 use Rattle.std.proofs.lemmas.Bool.{cases_Bool}
 use Rattle.gm_name.specs.ModuleVersion.{ModuleVersion}
@@ -18,7 +18,7 @@ use Rattle.gm_syntax.proofs.NewWords.{new_word_no_mark, new_word_stands, value_i
 use Rattle.gm_syntax.proofs.Changes.{entry_stands, standing_entry}
 use Rattle.gm_file.specs.Values.{argument, argument_of_kind}
 use Rattle.gm_file.specs.Directives.{Strict, pair, Directive, Saying, directive_in, directive_of, is_empty_block, item_at, main_verb, one_of, pair_of}
-use Rattle.gm_file.specs.Faults.{directive_kinds, is_module, item_kinds, entry_kinds}
+use Rattle.gm_file.specs.Faults.{directive_kinds, item_kinds, entry_kinds}
 use Rattle.gm_file_edit.specs.Holding.{directive_at, item_of}
 use Rattle.gm_file_edit.specs.NewWords.{made_word}
 use Rattle.gm_file_edit.specs.Renewing.{with_arguments, with_last}

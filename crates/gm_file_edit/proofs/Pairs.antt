@@ -1,8 +1,8 @@
 -- A document without a fault, by its lines and by pairs of directives, and a line that is put into one.
-use Rattle.std.proofs.Common.{◌≡◌, ◌||◌, Bool, true, false, List, [], ◌∷◌, ◌++◌, Option, Some, None, is_some, refl, sym, ap, subst, ◌∙◌, inl, inr}
+use Rattle.std.proofs.Common.{◌≡◌, Bool, true, false, List, [], ◌∷◌, ◌++◌, Option, Some, None, is_some, refl, sym, ap, subst, ◌∙◌, inl, inr}
 use Rattle.std.specs.Option.{option_map}
 use Rattle.std.specs.List.{AllByRecursion, cons_option, filter_map, list_any}
-use Rattle.std.proofs.lemmas.Bool.{or_cases, or_from, or_left, or_parts, or_right}
+use Rattle.std.proofs.lemmas.Bool.{or_cases, or_left, or_right}
 use Rattle.std.proofs.lemmas.List.Elements.{filter_map-append}
 use Rattle.gm_syntax.specs.Words.{Word}
 use Rattle.gm_syntax.specs.Tokens.{Placed}
@@ -11,10 +11,10 @@ use Rattle.gm_syntax.specs.LineViews.{plain, plain_lines}
 use Rattle.gm_syntax.proofs.Changes.{AreValidFrom, lines_stand, standing_lines}
 use Rattle.gm_file.specs.Directives.{Strict, Directive, LineInBlock, block_after_line, block_after_lines, said, with_blocks, with_blocks_from}
 use Rattle.gm_file.specs.Faults.{fault_of, is_module, item_kinds}
-use Rattle.gm_file.specs.Pairwise.{IsRightAlone, do_clash}
-use Rattle.gm_file.proofs.Pairwise.{AreApart, AreRightApart, IsClear, apart-faultless, apart-with, clash-mutual, faultless-apart}
+use Rattle.gm_file.specs.Pairwise.{IsRightAlone}
+use Rattle.gm_file.proofs.Pairwise.{AreApart, AreRightApart, IsClear, apart-faultless, apart-with, faultless-apart}
 use Rattle.gm_file.proofs.Snoc.{with_blocks-snoc}
-use Rattle.gm_file_edit.specs.Holding.{directive_at, item_of, passes, word_of}
+use Rattle.gm_file_edit.specs.Holding.{directive_at, item_of, word_of}
 
 abbrev pub Seat : Type 0
 Seat = LineInBlock Placed

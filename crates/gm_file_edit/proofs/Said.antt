@@ -1,18 +1,17 @@
 -- What the lines of a file say after an operation.
 use Rattle.std.proofs.Common.{◌≡◌, ℕ, ◌||◌, not, Bool, true, false, List, [], ◌∷◌, ◌++◌, take, drop, Option, Some, None, is_some, refl, sym, ap, subst, ◌∙◌, append-nil, inl, inr}
 use Rattle.std.specs.Prelude.{filter}
-use Rattle.std.specs.Option.{option_map, option_to_list}
-use Rattle.std.specs.List.{cons_option, filter_map, list_any}
+use Rattle.std.specs.Option.{option_to_list}
+use Rattle.std.specs.List.{list_any}
 use Rattle.std.proofs.lemmas.Bool.{cases_Bool, or_from, or_parts}
 use Rattle.std.proofs.lemmas.List.{take-append-drop}
 use Rattle.std.proofs.lemmas.List.Elements.{filter-append}
 use Rattle.gm_syntax.specs.Tokens.{Placed}
 use Rattle.gm_syntax.specs.Document.{Line, Blank, IsValidLine}
 use Rattle.gm_syntax.specs.LineViews.{plain}
-use Rattle.gm_file.specs.Directives.{Directive, LineInBlock, block_after_lines, block_after_line, item_at}
+use Rattle.gm_file.specs.Directives.{Directive, block_after_lines, block_after_line, item_at}
 use Rattle.gm_file_edit.specs.Edited.{added, after_first_that, has_verb}
 use Rattle.gm_file_edit.specs.declared.adding.Spot.{Spot}
-use Rattle.gm_file_edit.specs.Adding.{added_at, spot_after_first, spot_after_last, past_block, insert_at_spot}
 use Rattle.gm_file_edit.specs.NewWords.{entry_at, single}
 use Rattle.gm_file_edit.specs.Fates.{Fate, dropped, dropping_from, kept, remaining, renewed, renewing_from}
 use Rattle.gm_file_edit.specs.Holding.{directive_at, passes}
@@ -21,7 +20,7 @@ use Rattle.gm_file_edit.proofs.AddingSound.{Fits, IsAddition, IsIn, IsVerbSpot, 
 use Rattle.gm_file_edit.proofs.Renews.{IsMadeNew, Makes}
 use Rattle.gm_file_edit.proofs.Seats.{fewer-held, remaining-left}
 use Rattle.gm_file_edit.proofs.Pairs.{AreRightFrom, IsSound}
-use Rattle.gm_file_edit.proofs.Spots.{added-spot, first-spot}
+use Rattle.gm_file_edit.proofs.Spots.{added-spot, added_at, first-spot, insert_at_spot, past_block, spot_after_first, spot_after_last}
 
 -- ---- lists of directives
 

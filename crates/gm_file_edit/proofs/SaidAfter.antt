@@ -1,9 +1,9 @@
 -- What a file says after an operation.
-use Rattle.std.proofs.Common.{◌≡◌, if◌then◌else◌, ◌||◌, Bool, true, false, List, [], ◌∷◌, Option, Some, None, refl, sym, ap, subst, ◌∙◌, inl, inr}
+use Rattle.std.proofs.Common.{◌≡◌, if◌then◌else◌, ◌||◌, Bool, true, false, List, [], ◌∷◌, Option, Some, None, refl, sym, ap, subst, ◌∙◌}
 use Rattle.std.specs.Prelude.{codes, filter}
 use Rattle.std.specs.Option.{option_to_list}
 use Rattle.std.specs.List.{list_any}
-use Rattle.std.proofs.lemmas.Bool.{cases_Bool, true≢false}
+use Rattle.std.proofs.lemmas.Bool.{true≢false}
 use Rattle.std.proofs.lemmas.List.Folds.{list_any-append}
 use Rattle.gm_syntax.specs.Tokens.{Placed}
 use Rattle.gm_syntax.specs.Document.{Line}
@@ -12,7 +12,7 @@ use Rattle.gm_file.specs.Faults.{is_module}
 use Rattle.gm_file_edit.specs.Edits.{Edit, Set, Drop, Add}
 use Rattle.gm_file_edit.specs.About.{about}
 use Rattle.gm_file_edit.specs.Edited.{after_first_that, changed, edited, new_go, put_in}
-use Rattle.gm_file_edit.specs.Kinds.{added_by, directive_added, directive_set, is_drop, is_fit, set_by}
+use Rattle.gm_file_edit.specs.Kinds.{added_by, directive_added, directive_set, is_fit, set_by}
 use Rattle.gm_file_edit.specs.Holding.{directive_at, passes}
 use Rattle.gm_file_edit.specs.Laws.{AddedIsThere, DroppedIsGone, IsEditOf, OthersStay, SetStandsAlone}
 use Rattle.gm_file_edit.specs.NewWords.{made_word, single}
@@ -24,6 +24,7 @@ use Rattle.gm_file_edit.proofs.EditedSound.{by-put, go-fits, none-from, passes-l
 use Rattle.gm_file_edit.proofs.Renewals.{put_by, renewal, wanted}
 use Rattle.gm_file_edit.proofs.Said.{IsPutIn, added-put, after-first-put, dropped-held, others, others-none, others-twice, put-alone, put-others, renewed-alone, renewed-others}
 use Rattle.gm_file_edit.proofs.Pairs.{IsSound, document-sound}
+use Rattle.gm_file_edit.proofs.Untouched.{by-edited, edited-drop}
 use Rattle.gm_file_edit.proofs.Written.{written-sound}
 use Rattle.std.proofs.lemmas.Option.{same_Some}
 
@@ -79,32 +80,8 @@ put-in-others (Add a) lines good fit sound none = put-others (about (Add a)) (di
 
 others-after : (edit : Edit) (lines : List (Line Placed)) → IsSoundEdit edit → is_fit edit ≡ true → IsSound lines
     → filter (others (about edit)) (held_from None (edited edit lines)) ≡ filter (others (about edit)) (held_from None lines)
-unfolding edited
-others-after edit lines good fit sound = elim (cases_Bool (is_there (about edit) lines)) [
-  | inl there ↦ rw there (changed-others edit lines good fit sound)
-  | inr none ↦ rw none (put-in-others edit lines good fit sound none)
-]
-
--- ---- what an operation drops
-
-changed-gone : (edit : Edit) (lines : List (Line Placed)) → is_drop edit ≡ true → list_any (about edit) (held_from None (changed edit lines)) ≡ false
-unfolding changed
-changed-gone (Drop t) lines e = ap (list_any (about (Drop t))) (dropped-held (about (Drop t)) lines) ∙ others-none (about (Drop t)) (held_from None lines)
-changed-gone (Set s) lines e = absurd cc
-changed-gone (Add a) lines e = absurd cc
-
-drop-puts-nothing : (edit : Edit) (lines : List (Line Placed)) → is_drop edit ≡ true → put_in edit lines ≡ lines
-unfolding put_in
-drop-puts-nothing (Drop t) lines e = refl
-drop-puts-nothing (Set s) lines e = absurd cc
-drop-puts-nothing (Add a) lines e = absurd cc
-
-gone-after : (edit : Edit) (lines : List (Line Placed)) → is_drop edit ≡ true → list_any (about edit) (held_from None (edited edit lines)) ≡ false
-unfolding edited
-gone-after edit lines e = elim (cases_Bool (is_there (about edit) lines)) [
-  | inl there ↦ rw there (changed-gone edit lines e)
-  | inr none ↦ rw none (ap (λ (ls : List (Line Placed)). list_any (about edit) (held_from None ls)) (drop-puts-nothing edit lines e) ∙ none-from (about edit) None lines none)
-]
+others-after edit lines good fit sound = by-edited (λ after. filter (others (about edit)) (held_from None after) ≡ filter (others (about edit)) (held_from None lines)) edit lines
+    (λ there. changed-others edit lines good fit sound) (λ none. put-in-others edit lines good fit sound none)
 
 -- ---- what an operation sets
 
@@ -135,15 +112,12 @@ added-put-by (Drop t) d e = absurd cc
 
 alone-after : (edit : Edit) (lines : List (Line Placed)) (d : Directive) → IsSoundEdit edit → is_fit edit ≡ true → IsSound lines → set_by edit ≡ Some d
     → filter (about edit) (held_from None (edited edit lines)) ≡ d ∷ []
-unfolding edited
-alone-after edit lines d good fit sound e = elim (cases_Bool (is_there (about edit) lines)) [
-  | inl there ↦ rw there (changed-alone edit lines d good fit sound there e)
-  | inr none ↦ rw none (put-in-once edit lines d good fit sound none (set-put edit d e))
-]
+alone-after edit lines d good fit sound e = by-edited (λ after. filter (about edit) (held_from None after) ≡ d ∷ []) edit lines
+    (λ there. changed-alone edit lines d good fit sound there e) (λ none. put-in-once edit lines d good fit sound none (set-put edit d e))
 
 -- ---- what an operation adds
 
-addition-changes-nothing : (edit : Edit) (lines : List (Line Placed)) (d : Directive) → added_by edit ≡ Some d → changed edit lines ≡ lines
+pub addition-changes-nothing : (edit : Edit) (lines : List (Line Placed)) (d : Directive) → added_by edit ≡ Some d → changed edit lines ≡ lines
 unfolding changed
 addition-changes-nothing (Add a) lines d e = refl
 addition-changes-nothing (Set s) lines d e = absurd cc
@@ -154,13 +128,11 @@ once_or_as_before edit d said = if list_any (about edit) said then filter (about
 
 added-after : (edit : Edit) (lines : List (Line Placed)) (d : Directive) → IsSoundEdit edit → is_fit edit ≡ true → IsSound lines → added_by edit ≡ Some d
     → filter (about edit) (held_from None (edited edit lines)) ≡ once_or_as_before edit d (held_from None lines)
-unfolding edited
-added-after edit lines d good fit sound e = elim (cases_Bool (is_there (about edit) lines)) [
-  | inl there ↦
-      let any : list_any (about edit) (held_from None lines) ≡ true = sym (there-is (about edit) None lines) ∙ there in
-      rw (there, any) (ap (λ (ls : List (Line Placed)). filter (about edit) (held_from None ls)) (addition-changes-nothing edit lines d e))
-  | inr none ↦ rw (none, none-from (about edit) None lines none) (put-in-once edit lines d good fit sound none (added-put-by edit d e))
-]
+added-after edit lines d good fit sound e = by-edited (λ after. filter (about edit) (held_from None after) ≡ once_or_as_before edit d (held_from None lines)) edit lines
+    (λ there.
+    let any : list_any (about edit) (held_from None lines) ≡ true = sym (there-is (about edit) None lines) ∙ there in
+    rw any (ap (λ (ls : List (Line Placed)). filter (about edit) (held_from None ls)) (addition-changes-nothing edit lines d e)))
+    (λ none. rw (none-from (about edit) None lines none) (put-in-once edit lines d good fit sound none (added-put-by edit d e)))
 
 -- ---- the laws
 
@@ -168,7 +140,8 @@ pub sound-of : (edit : Edit) (lines : List (Line Placed)) → IsEditOf edit line
 sound-of edit lines is = (written-sound is.0.0 edit is.0.1, document-sound lines is.2 is.3)
 
 pub dropped-is-gone : DroppedIsGone
-dropped-is-gone = λ edit lines e. ap (list_any (about edit)) (file-held (edited edit lines)) ∙ gone-after edit lines e
+dropped-is-gone = λ edit lines e.
+    ap (list_any (about edit)) (file-held (edited edit lines) ∙ ap (held_from None) (edited-drop edit lines e) ∙ dropped-held (about edit) lines) ∙ others-none (about edit) (held_from None lines)
 
 pub set-stands-alone : SetStandsAlone
 set-stands-alone = λ edit lines d is e.

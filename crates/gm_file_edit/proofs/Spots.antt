@@ -1,17 +1,62 @@
 -- Where new entries go, by positions.
-use Rattle.std.proofs.Common.{◌≡◌, arith, ℕ, ◌+◌, ◌||◌, Bool, true, false, List, [], ◌∷◌, ◌++◌, take, drop, Option, Some, None, is_some, refl, sym, ap, ◌∙◌, append-nil, inl, inr}
-use Rattle.std.specs.Prelude.{insert, suc}
-use Rattle.std.specs.Option.{option_map}
+use Rattle.std.proofs.Common.{◌≡◌, ◌≤◌, arith, length, subst, ℕ, ◌+◌, Bool, true, false, List, [], ◌∷◌, ◌++◌, take, drop, Option, Some, None, is_some, refl, sym, ap, ◌∙◌, append-nil, inl, inr}
+use Rattle.std.specs.Prelude.{insert, suc, if◌then◌else◌}
+use Rattle.std.specs.Option.{option_map, option_or}
 use Rattle.std.proofs.lemmas.Bool.{cases_Bool, or_parts, true≢false}
 use Rattle.gm_syntax.specs.Tokens.{Placed}
 use Rattle.gm_syntax.specs.Document.{Line, Blank, Comment, Open, Close, Entry}
 use Rattle.gm_file.specs.Directives.{Directive, block_after_line}
 use Rattle.gm_file_edit.specs.declared.adding.Spot.{Spot}
-use Rattle.gm_file_edit.specs.Adding.{added_at, close_len, further, insert_at_spot, past_block, spot_after_first, spot_after_last, spot_after_line}
 use Rattle.gm_file_edit.specs.Edited.{added, after_closing, after_first_of, after_first_that, after_last_of, has_verb}
 use Rattle.gm_file_edit.specs.Holding.{directive_at, passes}
-use Rattle.gm_file_edit.specs.NewWords.{entry_at}
+use Rattle.gm_file_edit.specs.NewWords.{entry_at, single}
 use Rattle.gm_file_edit.specs.Searching.{is_there, is_there_from}
+
+-- ---- where new entries go
+
+-- the position directly after a line, given the block that is open before it
+abbrev pub spot_after_line : Option Placed → Spot
+spot_after_line block = record { before = 1; inside = is_some block }
+
+-- the same position with one more line before it
+abbrev pub further : Spot → Spot
+further spot = record { before = suc spot.before; inside = spot.inside }
+
+-- the position directly after the last line that holds a directive that passes the test
+abbrev pub spot_after_last : (Directive → Bool) → Option Placed → List (Line Placed) → Option Spot
+spot_after_last test block [] = None
+spot_after_last test block (line ∷ lines) =
+    option_or (option_map further (spot_after_last test (block_after_line block line) lines))
+    (if passes test (directive_at block line) then Some (spot_after_line block) else None)
+
+-- the position directly after the first such line
+abbrev pub spot_after_first : (Directive → Bool) → Option Placed → List (Line Placed) → Option Spot
+spot_after_first test block [] = None
+spot_after_first test block (line ∷ lines) =
+    if passes test (directive_at block line) then Some (spot_after_line block)
+    else option_map further (spot_after_first test (block_after_line block line) lines)
+
+-- the number of lines that remain of an open block, including its closing bracket
+abbrev pub close_len : List (Line Placed) → ℕ
+close_len [] = 0
+close_len (Close suffix ∷ lines) = 1
+close_len (line ∷ lines) = suc (close_len lines)
+
+-- the number of lines before a position, moved to the end of the block if one is open there
+abbrev pub past_block : List (Line Placed) → Spot → ℕ
+past_block lines spot = if spot.inside then spot.before + close_len (drop spot.before lines) else spot.before
+
+-- ---- the lines with new entries
+
+-- the lines with an entry at a position, or with a blank line and the entry at the end
+abbrev pub added_at : List ℕ → List Placed → List (Line Placed) → Option Spot → List (Line Placed)
+added_at verb arguments lines None = lines ++ Blank ∷ single verb arguments ∷ []
+added_at verb arguments lines (Some spot) = insert lines spot.before (entry_at spot.inside verb arguments)
+
+-- the lines with new ones at a position, moved out of its block, or at the end
+abbrev pub insert_at_spot : List (Line Placed) → List (Line Placed) → Option Spot → List (Line Placed)
+insert_at_spot new lines None = lines ++ new
+insert_at_spot new lines (Some spot) = take (past_block lines spot) lines ++ (new ++ drop (past_block lines spot) lines)
 
 -- ---- after the last directive of a verb
 
@@ -27,11 +72,11 @@ put_at new lines None = lines
 put_at new lines (Some spot) = insert lines spot.before (new spot.inside)
 
 -- some position is found if a line holds such a directive
-record HasSpot (test : Directive → Bool) (block : Option Placed) (lines : List (Line Placed)) : Type 0 where
+pub record HasSpot (test : Directive → Bool) (block : Option Placed) (lines : List (Line Placed)) : Type 0 where
   pub spot : Spot
   pub is : spot_after_last test block lines ≡ Some spot
 
-has-spot : (test : Directive → Bool) (block : Option Placed) (lines : List (Line Placed)) → is_there_from test block lines ≡ true → HasSpot test block lines
+pub has-spot : (test : Directive → Bool) (block : Option Placed) (lines : List (Line Placed)) → is_there_from test block lines ≡ true → HasSpot test block lines
 has-spot test block [] e = absurd cc
 has-spot test block (line ∷ lines) e = elim (cases_Bool (is_there_from test (block_after_line block line) lines)) [
   | inl later ↦ let next = has-spot test (block_after_line block line) lines later in record { spot = further next.spot; is = rw next.is refl }
@@ -81,6 +126,22 @@ after-last-is test verb arguments block (line ∷ lines) e = elim (cases_Bool (i
 
         placed : put_at (λ within. entry_at within verb arguments) (line ∷ lines) (spot_after_last test block (line ∷ lines)) ≡ line ∷ entry_at (is_some block) verb arguments ∷ lines
         placed = rw (no-spot test (block_after_line block line) lines none, here) refl
+
+within-step : (b : Bool) (block : Option Placed) (lines : List (Line Placed)) (later : Option Spot) (spot : Spot) → ((s : Spot) → later ≡ Some s → s.before ≤ length lines)
+    → option_or (option_map further later) (if b then Some (spot_after_line block) else None) ≡ Some spot → spot.before ≤ suc (length lines)
+within-step b block lines (Some s) spot h e =
+    let le = h s refl in
+    let same : further s ≡ spot = cc in
+    subst (λ (p : Spot). p.before ≤ suc (length lines)) same (omega (arith, le))
+within-step true block lines None spot h e =
+    let same : spot_after_line block ≡ spot = cc in
+    subst (λ (p : Spot). p.before ≤ suc (length lines)) same (omega arith)
+within-step false block lines None spot h e = absurd cc
+
+pub last-within : (test : Directive → Bool) (block : Option Placed) (lines : List (Line Placed)) (spot : Spot) → spot_after_last test block lines ≡ Some spot → spot.before ≤ length lines
+last-within test block [] spot e = absurd cc
+last-within test block (line ∷ lines) spot e =
+    within-step (passes test (directive_at block line)) block lines (spot_after_last test (block_after_line block line) lines) spot (λ s f. last-within test (block_after_line block line) lines s f) e
 
 -- an added entry, by its position
 pub added-spot : (verb : List ℕ) (arguments : List Placed) (lines : List (Line Placed)) → added verb arguments lines ≡ added_at verb arguments lines (spot_after_last (has_verb verb) None lines)

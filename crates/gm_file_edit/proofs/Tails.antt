@@ -7,7 +7,6 @@ use Rattle.gm_syntax.specs.Tokens.{Placed}
 use Rattle.gm_syntax.specs.Document.{Line, Blank}
 use Rattle.gm_file.specs.declared.verb.Verb.{Verb}
 use Rattle.gm_file.specs.Directives.{Directive, block_after_line, block_after_lines, is_of_verb}
-use Rattle.gm_file_edit.specs.Adding.{spot_after_last}
 use Rattle.gm_file_edit.specs.Holding.{IsValidAt, directive_at, passes}
 use Rattle.gm_file_edit.specs.Keys.{changes_block, is_entry_in, key_of}
 use Rattle.gm_file_edit.specs.Marks.{line_at}
@@ -16,7 +15,7 @@ use Rattle.gm_file_edit.specs.declared.keys.Scope.TheVariants as scope
 use Rattle.gm_file_edit.proofs.Packs.{get_or-default}
 use Rattle.gm_file_edit.proofs.Pairs.{AreRightFrom, IsSound}
 use Rattle.gm_file_edit.proofs.PassedOver.{IsKnown, entry-said}
-use Rattle.gm_file_edit.proofs.Spots.{no-spot}
+use Rattle.gm_file_edit.proofs.Spots.{no-spot, spot_after_last}
 use Rattle.gm_file_edit.proofs.Targets.{entry-holds}
 use Rattle.gm_file_edit.proofs.Walking.{block-level, drop-next, level-line}
 

@@ -1,7 +1,7 @@
 -- An operation that follows itself leaves the lines as they are.
 use Rattle.std.proofs.Common.{◌≡◌, ℕ, ◌-◌, Bool, true, false, List, [], ◌∷◌, ◌++◌, length, take, drop, Option, Some, None, is_some, refl, sym, ap, subst, ◌∙◌, append-nil, arith, length-append, inl, inr}
 use Rattle.std.specs.Prelude.{codes, filter}
-use Rattle.std.specs.Option.{option_map, option_to_list}
+use Rattle.std.specs.Option.{option_to_list}
 use Rattle.std.specs.List.{AllByRecursion}
 use Rattle.std.proofs.lemmas.Bool.{cases_Bool, false≢true, or_parts}
 use Rattle.std.proofs.lemmas.List.{take-append-drop, take_at}
@@ -12,7 +12,6 @@ use Rattle.gm_file.specs.Faults.{is_go, is_module}
 use Rattle.gm_file_edit.specs.declared.adding.Spot.{Spot}
 use Rattle.gm_file_edit.specs.Edits.{Edit, Set, Setting, ModuleIs, GoIs, RequireAt, Drop, Add, ReplaceWith}
 use Rattle.gm_file_edit.specs.About.{about}
-use Rattle.gm_file_edit.specs.Adding.{added_at, insert_at_spot, past_block, spot_after_first, spot_after_last}
 use Rattle.gm_file_edit.specs.Edited.{added, after_first_that, changed, edited, has_verb, new_entry, new_go, put_in}
 use Rattle.gm_file_edit.specs.Fates.{Fate, dropping_from, kept, remaining, renewing_from}
 use Rattle.gm_file_edit.specs.Holding.{directive_at, passes}
@@ -30,8 +29,8 @@ use Rattle.gm_file_edit.proofs.SaidAfter.{set-stands-alone, there-is}
 use Rattle.gm_file_edit.proofs.Seats.{fewer-all, remaining-left}
 use Rattle.gm_file.proofs.Snoc.{with_blocks-snoc}
 use Rattle.gm_file_edit.proofs.Pairs.{IsSound, document-sound}
-use Rattle.gm_file_edit.proofs.Spots.{added-spot, first-spot}
-use Rattle.gm_file_edit.proofs.Untouched.{all-lines-stay, all_stay, none-dropped-from}
+use Rattle.gm_file_edit.proofs.Spots.{added-spot, added_at, first-spot, insert_at_spot, past_block, spot_after_first, spot_after_last}
+use Rattle.gm_file_edit.proofs.Untouched.{all-lines-stay, all_stay, by-edited, none-dropped-from}
 use Rattle.std.proofs.lemmas.Option.{same_Some}
 
 -- how an operation rewrites a line, given the verb of its block
@@ -237,15 +236,8 @@ put-set lines sound = by-put (λ edit after. is_there (about edit) lines ≡ fal
     (λ edit entry is none. added-set (about edit) (made_new edit) entry.0 entry.1 lines (entry-set edit entry is) sound none)
     (λ t none. none-set (about (Drop t)) (made_new (Drop t)) None lines none)
 
-pass-set : (edit : Edit) (lines : List (Line Placed)) (d : Directive) → set_by edit ≡ Some d → IsSound lines → LinesAreSet (about edit) (made_new edit) None (edited edit lines)
-unfolding edited
-pass-set edit lines d sets sound = elim (cases_Bool (is_there (about edit) lines)) [
-  | inl there ↦ rw there (changed-set edit lines d sets)
-  | inr none ↦ rw none (put-set lines sound edit none)
-]
-
 edited-set : (edit : Edit) (lines : List (Line Placed)) (d : Directive) → set_by edit ≡ Some d → IsSound lines → LinesAreSet (about edit) (made_new edit) None (edited edit lines)
-edited-set edit lines d sets sound = pass-set edit lines d sets sound
+edited-set edit lines d sets sound = by-edited (LinesAreSet (about edit) (made_new edit) None) edit lines (λ there. changed-set edit lines d sets) (λ none. put-set lines sound edit none)
 
 -- ---- such lines stay, if only one of them is targeted
 
@@ -282,19 +274,12 @@ again-changes (Add a) lines d sets are alone = absurd cc
 
 -- ---- the laws
 
-pass-changes : (edit : Edit) (lines : List (Line Placed)) → is_there (about edit) lines ≡ true → edited edit lines ≡ changed edit lines
-unfolding edited
-pass-changes edit lines there = rw there refl
-
-changes-there : (edit : Edit) (lines : List (Line Placed)) → is_there (about edit) lines ≡ true → edited edit lines ≡ changed edit lines
-changes-there edit lines there = pass-changes edit lines there
-
 pub second-setting : SecondSettingChangesNothing
 second-setting edit lines d is sets =
     let after : List (Line Placed) = edited edit lines in
     let alone : filter (about edit) (directives_of after) ≡ d ∷ [] = set-stands-alone edit lines d is sets in
     let there : is_there (about edit) after ≡ true = there-said (about edit) after ∙ some-filtered (about edit) (directives_of after) [] d alone in
-    changes-there edit after there
+    by-edited (λ ls. ls ≡ changed edit after) edit after (λ e. refl) (λ none. absurd (false≢true (sym none ∙ there)))
     ∙ again-changes edit after d sets (edited-set edit lines d sets (document-sound lines is.2 is.3)) (ap (filter (about edit)) (sym (file-held after)) ∙ alone)
 
 pub second-operation : SecondOperationChangesNothing

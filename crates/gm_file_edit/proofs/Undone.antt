@@ -13,7 +13,7 @@ use Rattle.gm_file.specs.Faults.{is_same_left}
 use Rattle.gm_file_edit.specs.Edits.{Edit, Set, ModuleIs, GoIs, RequireAt, ReplaceWith, Add, Exclude, Retract, Drop}
 use Rattle.gm_file_edit.specs.Kinds.{is_drop}
 use Rattle.gm_file_edit.specs.About.{about, excludes_pair, is_covered_by, is_replaced_by, replaces_left, requires_path, retracts_ends}
-use Rattle.gm_file_edit.specs.Edited.{added, changed, edited, has_verb, new_entry, put_in}
+use Rattle.gm_file_edit.specs.Edited.{added, edited, has_verb, new_entry}
 use Rattle.gm_file_edit.specs.Fates.{Fate, dropped, dropping_from, kept, remaining, widened_from}
 use Rattle.gm_file_edit.specs.Holding.{directive_at, passes}
 use Rattle.gm_file_edit.specs.Laws.{directives_of}
@@ -27,7 +27,7 @@ use Rattle.gm_file_edit.proofs.Idle.{there-said}
 use Rattle.gm_file_edit.proofs.Renewals.{left-itself, pair-itself, put_by, text-itself}
 use Rattle.gm_file_edit.proofs.SaidAfter.{sound-of}
 use Rattle.gm_file_edit.proofs.Pairs.{IsSound}
-use Rattle.gm_file_edit.proofs.Untouched.{all-lines-left, all_stay, none-dropped, none-dropped-from, stay-before}
+use Rattle.gm_file_edit.proofs.Untouched.{all-lines-left, all_stay, edited-drop, none-dropped-from, stay-before}
 use Rattle.std.proofs.lemmas.Option.{same_Some}
 
 -- ---- the fates of the lines
@@ -161,15 +161,6 @@ added-undone test v arguments new lines so own none sound = elim (cases_Bool (is
 
 -- ---- the operations
 
-drop-pass : (edit : Edit) (lines : List (Line Placed)) → is_drop edit ≡ true → edited edit lines ≡ dropped (about edit) lines
-unfolding edited changed put_in
-drop-pass (Drop t) lines e = elim (cases_Bool (is_there (about (Drop t)) lines)) [
-  | inl there ↦ rw there refl
-  | inr none ↦ rw none (sym (none-dropped (about (Drop t)) lines none))
-]
-drop-pass (Set s) lines e = absurd cc
-drop-pass (Add a) lines e = absurd cc
-
 -- a drop targets what the operation puts in, and no directive that the operation doesn't target
 record IsUndoing (edit undo : Edit) : Type 0 where
   drops : is_drop undo ≡ true
@@ -206,7 +197,7 @@ drop-undoes edit undo verb arguments lines is adds undoes none =
     let by = says edit (verb, arguments) adds sound.0 in
     let u = undoing edit undo undoes in
     let absent : is_there (about undo) lines ≡ false = there-said (about undo) lines ∙ fewer-any (about edit) (about undo) u.fewer (directives_of lines) none in
-    drop-pass undo (edited edit lines) u.drops ∙ ap (dropped (about undo)) (edited-added edit (verb, arguments) lines adds none)
+    edited-drop undo (edited edit lines) u.drops ∙ ap (dropped (about undo)) (edited-added edit (verb, arguments) lines adds none)
     ∙ added-undone (about undo) verb arguments by.new lines by.is (u.own by.new by.put) absent sound.1 ∙ ap (λ (b : Bool). if b then lines else lines ++ Blank ∷ []) (there-said (has_verb verb) lines)
 
 -- ---- the layout

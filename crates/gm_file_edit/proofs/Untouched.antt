@@ -1,12 +1,16 @@
 -- Lines of which nothing is removed stay as they are.
-use Rattle.std.proofs.Common.{◌≡◌, ◌&&◌, ◌||◌, not, Bool, true, false, List, [], ◌∷◌, ◌++◌, map, Option, Some, None, is_none, refl, sym, ap, ◌∙◌, append-nil}
+use Rattle.std.proofs.Common.{◌≡◌, ◌&&◌, not, Bool, true, false, List, [], ◌∷◌, ◌++◌, map, Option, Some, None, is_none, refl, sym, ap, ◌∙◌, append-nil, inl, inr}
 use Rattle.gm_syntax.specs.Tokens.{Placed}
 use Rattle.gm_syntax.specs.Document.{Line, Blank, Comment, Open, Close, Entry}
 use Rattle.gm_file.specs.Directives.{Directive, block_after_line}
+use Rattle.gm_file_edit.specs.About.{about}
+use Rattle.gm_file_edit.specs.Edited.{changed, edited, put_in}
+use Rattle.gm_file_edit.specs.Edits.{Edit, Set, Add, Drop}
+use Rattle.gm_file_edit.specs.Kinds.{is_drop}
 use Rattle.gm_file_edit.specs.Fates.{Fate, dropped, dropping_from, empties, is_emptied, kept, remaining, widened_from}
 use Rattle.gm_file_edit.specs.Holding.{directive_at, passes}
 use Rattle.gm_file_edit.specs.Searching.{is_there, is_there_from}
-use Rattle.std.proofs.lemmas.Bool.{or_parts, and_right}
+use Rattle.std.proofs.lemmas.Bool.{and_right, cases_Bool, or_parts}
 
 abbrev pub all_stay : List (Line Placed) → List Fate
 all_stay lines = map (λ line. Some line) lines
@@ -50,3 +54,20 @@ all-lines-stay lines = all-lines-left false lines
 
 pub none-dropped : (test : Directive → Bool) (lines : List (Line Placed)) → is_there test lines ≡ false → dropped test lines ≡ lines
 none-dropped test lines e = ap remaining (none-dropped-from test None lines e) ∙ all-lines-stay lines
+
+-- ---- the lines after an operation
+
+-- what holds whether an operation targets a directive or none
+pub by-edited : (P : List (Line Placed) → Type 0) (edit : Edit) (lines : List (Line Placed)) → (is_there (about edit) lines ≡ true → P (changed edit lines)) → (is_there (about edit) lines ≡ false → P (put_in edit lines)) → P (edited edit lines)
+unfolding edited
+by-edited P edit lines there none = elim (cases_Bool (is_there (about edit) lines)) [
+  | inl is ↦ rw is (there is)
+  | inr not_there ↦ rw not_there (none not_there)
+]
+
+-- a drop
+pub edited-drop : (edit : Edit) (lines : List (Line Placed)) → is_drop edit ≡ true → edited edit lines ≡ dropped (about edit) lines
+unfolding changed put_in
+edited-drop (Drop t) lines e = by-edited (λ ls. ls ≡ dropped (about (Drop t)) lines) (Drop t) lines (λ there. refl) (λ none. sym (none-dropped (about (Drop t)) lines none))
+edited-drop (Set s) lines e = absurd cc
+edited-drop (Add a) lines e = absurd cc

@@ -10,7 +10,6 @@ pub mod Renewing
 pub mod Sound
 pub mod Subjects
 pub mod Searching
-pub mod Adding
 pub mod Edited
 pub mod Laws
 pub mod EditLaws

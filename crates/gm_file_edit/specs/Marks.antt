@@ -1,10 +1,14 @@
 -- How contracts view the marks of lines. No public contract cites it.
-use Rattle.std.specs.Prelude.{ℕ, Bool, true, false, List, [], ◌∷◌, Option, is_none, slice_index_or}
+use Rattle.std.specs.Prelude.{◌≡◌, ◌≤◌, ℕ, Bool, true, false, List, [], ◌∷◌, length, insert, Option, is_none, slice_index_or}
 use Rattle.gm_syntax.specs.Tokens.{Placed}
 use Rattle.gm_syntax.specs.Document.{Line, Blank, Comment, Open, Close, Entry}
-use Rattle.gm_file.specs.Directives.{Directive, block_after_line}
+use Rattle.gm_file.specs.declared.verb.Verb.{Verb}
+use Rattle.gm_file.specs.Directives.{Directive, block_after_line, main_verb}
+use Rattle.gm_file_edit.specs.declared.adding.Spot.{Spot}
+use Rattle.gm_file_edit.specs.Edited.{added}
 use Rattle.gm_file_edit.specs.Fates.{Fate, fate_by}
 use Rattle.gm_file_edit.specs.Holding.{directive_at, passes}
+use Rattle.gm_file_edit.specs.NewWords.{entry_at}
 
 -- the line at an index
 abbrev pub line_at : List (Line Placed) → ℕ → Line Placed
@@ -42,3 +46,9 @@ abbrev pub marked : List Bool → List (Line Placed) → List Fate
 marked [] lines = []
 marked (mark ∷ marks) [] = []
 marked (mark ∷ marks) (line ∷ lines) = fate_by mark line ∷ marked marks lines
+
+-- a position is where an entry with this verb is added next to others
+pub record IsPlaceOf (own : Verb) (lines : List (Line Placed)) (spot : Spot) : Type 0 where
+  pub in_range : spot.before ≤ length lines
+  pub adds : (verb : List ℕ) (arguments : List Placed) → main_verb verb ≡ own
+      → insert lines spot.before (entry_at spot.inside verb arguments) ≡ added verb arguments lines

@@ -2,18 +2,19 @@
 //!
 //! A new entry goes next to its own kind, so that the file keeps its grouping.
 
-ghost use Rattle.std.specs.Prelude.{◌≡◌, ◌∷◌, ◌++◌, ◌≤◌, [], false, length, take, drop, List, IfOk, IfSome, OnErr, OnOk, None, Some, codes};
+ghost use Rattle.std.specs.Prelude.{◌≡◌, ◌∷◌, ◌++◌, ◌≤◌, [], false, length, take, drop, List, IfNone, IfOk, IfSome, OnErr, OnOk, None, codes};
 ghost use Rattle.gm_syntax.specs.Document.{Blank, IsDocument, Line as LineOf};
 ghost use Rattle.gm_syntax.specs.Tokens.{Placed};
-ghost use Rattle.gm_syntax.specs.LineViews.{line_of, line_views, plain_lines};
+ghost use Rattle.gm_syntax.specs.LineViews.{line_of, plain_lines};
 ghost use Rattle.gm_file.specs.Directives.{Strict, is_of_verb, main_verb, verb_eq};
 ghost use Rattle.gm_file.specs.declared.verb.Verb.TheVariants.{Unknown};
 ghost use Rattle.gm_file.specs.Faults.{fault_of, is_module};
-ghost use Rattle.gm_file_edit.specs.Edited.{added, after_first_that};
-ghost use Rattle.gm_file_edit.specs.Adding.{spot_after_first, spot_after_last, close_len, past_block};
+ghost use Rattle.gm_file_edit.specs.Edited.{added, after_closing, after_first_that};
 ghost use Rattle.gm_syntax.specs.Lines.{HasNoLineFeed};
 ghost use Rattle.gm_file_edit.specs.NewWords.{entry_at, made_word, single};
 ghost use Rattle.gm_file_edit.specs.Keys.{is_inside};
+ghost use Rattle.gm_file_edit.specs.Marks.{IsPlaceOf};
+ghost use Rattle.gm_file_edit.specs.Searching.{is_there};
 
 use crate::keyed_lines::KeyedLines;
 use crate::keys::{Scope, changes_block, is_entry_in, scope_after};
@@ -46,7 +47,8 @@ fn last_spot(own: Verb, lines: &KeyedLines) -> Option<Spot>
     requires known { verb_eq own Unknown ≡ false }
     requires document { IsDocument (plain_lines lines.now) }
     requires sound { fault_of Strict (plain_lines lines.now) ≡ None }
-    ensures { result ≡ spot_after_last (is_of_verb own) None lines.now }
+    ensures place { IfSome result (λ spot. IsPlaceOf own lines.now spot) }
+    ensures none { IfNone result (is_there (is_of_verb own) lines.now ≡ false) }
 {
     let mut spot = None;
     let mut scope = Scope::Outside;
@@ -69,7 +71,7 @@ fn tail_spot(own: Verb, lines: &KeyedLines) -> Option<Spot>
     requires known { verb_eq own Unknown ≡ false }
     requires document { IsDocument (plain_lines lines.now) }
     requires sound { fault_of Strict (plain_lines lines.now) ≡ None }
-    ensures { IfSome result (λ spot. spot_after_last (is_of_verb own) None lines.now ≡ Some spot) }
+    ensures { IfSome result (λ spot. IsPlaceOf own lines.now spot) }
 {
     let mut n = lines.len();
     while n > 0 && !changes_block(lines.key(n - 1)) {
@@ -89,57 +91,13 @@ fn added_spot(own: Verb, lines: &KeyedLines) -> Option<Spot>
     requires known { verb_eq own Unknown ≡ false }
     requires document { IsDocument (plain_lines lines.now) }
     requires sound { fault_of Strict (plain_lines lines.now) ≡ None }
-    ensures { result ≡ spot_after_last (is_of_verb own) None lines.now }
+    ensures place { IfSome result (λ spot. IsPlaceOf own lines.now spot) }
+    ensures none { IfNone result (is_there (is_of_verb own) lines.now ≡ false) }
 {
     match tail_spot(own, lines) {
         Some(spot) => Some(spot),
         None => last_spot(own, lines),
     }
-}
-
-/// The position directly after the entry that declares the module path, if any.
-fn module_spot(lines: &KeyedLines) -> Option<Spot>
-    requires document { IsDocument (plain_lines lines.now) }
-    requires sound { fault_of Strict (plain_lines lines.now) ≡ None }
-    ensures { result ≡ spot_after_first is_module None lines.now }
-{
-    let mut scope = Scope::Outside;
-    for n in 0..lines.len() {
-        let key = lines.key(n);
-        if is_entry_in(Verb::Module, scope, key) {
-            return Some(Spot {
-                before: n + 1,
-                inside: is_inside(scope),
-            });
-        }
-        scope = scope_after(Verb::Module, scope, key);
-    }
-    None
-}
-
-/// The number of lines up to and including the first closing bracket of a block, or of all lines if there is none.
-fn close_len(lines: &[Line]) -> usize
-    ensures len { result ≡ close_len (line_views lines.now) }
-    ensures in_range { result ≤ length lines.now }
-{
-    for (n, line) in lines.iter().enumerate() {
-        if let Line::Close(_) = line {
-            return n + 1;
-        }
-    }
-    lines.len()
-}
-
-/// The number of lines before a position, moved to the end of the block if one is open there. A go directive can't go
-/// into a block of `module`, since every entry there has that verb.
-fn past_block(lines: &[Line], spot: Spot) -> usize
-    requires { spot.before ≤ length lines.now }
-    ensures { result ≡ past_block (line_views lines.now) spot }
-{
-    if spot.inside {
-        return spot.before + close_len(&lines[spot.before..]);
-    }
-    spot.before
 }
 
 /// An entry outside blocks: its verb and its arguments.
@@ -213,8 +171,24 @@ pub(crate) fn add<'a>(
     }
 }
 
+/// The index after the closing of the block that is open before the line at an index, or of the end if there is none.
+fn close_index(lines: &KeyedLines, from: usize) -> usize
+    requires { from ≤ length lines.now }
+    ensures index { (new : List (LineOf Placed)) → take result lines.now ++ (new ++ drop result lines.now)
+        ≡ take from lines.now ++ after_closing new (drop from lines.now) }
+    ensures in_range { result ≤ length lines.now }
+{
+    for n in from..lines.len() {
+        if let Line::Close(_) = lines.line(n) {
+            return n + 1;
+        }
+    }
+    lines.len()
+}
+
 /// The index at which a new go directive goes: after the module directive, or after its block if it is in one, or the
-/// end of the file if there is no module directive.
+/// end of the file if there is no module directive. It can't go into a block of `module`, since every entry there has
+/// that verb.
 fn go_index(lines: &KeyedLines) -> usize
     requires document { IsDocument (plain_lines lines.now) }
     requires sound { fault_of Strict (plain_lines lines.now) ≡ None }
@@ -222,10 +196,18 @@ fn go_index(lines: &KeyedLines) -> usize
         → take result lines.now ++ (new ++ drop result lines.now) ≡ after_first_that is_module new lines.now }
     ensures in_range { result ≤ length lines.now }
 {
-    match module_spot(lines) {
-        Some(spot) => past_block(lines.lines(), spot),
-        None => lines.len(),
+    let mut scope = Scope::Outside;
+    for n in 0..lines.len() {
+        let key = lines.key(n);
+        if is_entry_in(Verb::Module, scope, key) {
+            if is_inside(scope) {
+                return close_index(lines, n + 1);
+            }
+            return n + 1;
+        }
+        scope = scope_after(Verb::Module, scope, key);
     }
+    lines.len()
 }
 
 /// Adds a blank line and a go directive with this version after the module directive, or after its block if it is in

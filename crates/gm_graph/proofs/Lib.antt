@@ -37,6 +37,7 @@ pub mod OneReading
 pub mod Misread
 pub mod Keeping
 pub mod ReadingIf
+pub mod RunReadings
 pub mod FilePlaces
 pub mod PuttingPlaces
 pub mod Replacements

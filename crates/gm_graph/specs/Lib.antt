@@ -10,6 +10,7 @@ pub mod Visiting
 pub mod FileLists
 pub mod Followed
 pub mod Outcome
+pub mod Run
 pub mod Laws
 pub mod Reading
 pub mod Asking

@@ -1,8 +1,8 @@
 -- The result of loading, as lists.
 use Rattle.std.specs.Prelude.{◌≡◌, ◌↔◌, ℕ, List, Some, Contains, AllPairs}
 use Rattle.std.specs.declared.cmp.Ordering.TheVariants.{Less}
-use Rattle.gm_name.specs.ModuleVersion.{ModuleVersion, pair_cmp}
-use Rattle.gm_store.specs.Asked.{Name, Reply, names_in}
+use Rattle.gm_name.specs.ModuleVersion.{pair_cmp}
+use Rattle.gm_store.specs.Asked.{Name}
 use Rattle.gm_graph.specs.declared.cache.depth.Turn.{Turn}
 use Rattle.gm_file.specs.Main.{Main}
 use Rattle.gm_graph.specs.Reading.{Readings, vertex_fault}
@@ -13,7 +13,8 @@ use Rattle.gm_graph_select.specs.Graph.{among, edge_cmp}
 use Rattle.gm_graph_select.specs.Order.{IsAscending}
 use Rattle.gm_graph.specs.declared.fault.Fault.{Fault}
 use Rattle.gm_graph.specs.Graph.{IsEdge, IsOpened}
-use Rattle.gm_graph.specs.Loading.{AreAsked, AreFew, AreTurns, IsAnswered}
+use Rattle.gm_graph.specs.Run.{Run}
+use Rattle.gm_graph.specs.Run as said
 
 -- the main module's path, the faults, the edges, the build list and the turns
 pub record LoadedGraph : Type 0 where
@@ -39,18 +40,15 @@ pub record AreEdges (main : Main) (readings : Readings) (edges : List Edge) : Ty
 abbrev pub AreRows : Main → Readings → List Entry → Type 0
 AreRows main readings rows = IsBuildList main.path main.replaces (IsEdge main readings) rows
 
--- The result of loading. Each part is what the definitions state for the contents of the files, the file of each
--- opened vertex is known, no other file was asked for, and at most 65,536 vertices are opened.
-pub record IsLoaded (main : Main) (pairs : List (Name × Reply)) (loaded : LoadedGraph)
-    (readings : Readings) : Type 0 where
-  pub main_is : loaded.main ≡ main.path
-  pub faults : AreFaults main readings loaded.faults
-  pub edges : AreEdges main readings loaded.edges
-  pub rows : AreRows main readings loaded.rows
-  pub turns : AreTurns main readings loaded.turns
-  pub answered : (x : ModuleVersion) → IsOpened main readings x → IsAnswered main pairs x
-  pub asked : AreAsked main readings (names_in pairs)
-  pub few : AreFew main readings
+-- The result of loading: the faults, the edges, the build list and the turns of a run. Exactly the needed files were
+-- asked for.
+pub record IsLoaded (run : Run) (asked : List Name) (loaded : LoadedGraph) : Type 0 where
+  pub main_is : loaded.main ≡ run.main.path
+  pub faults : said.AreFaults run loaded.faults
+  pub edges : said.AreEdges run loaded.edges
+  pub rows : said.AreRows run loaded.rows
+  pub turns : said.AreTurns run loaded.turns
+  pub settled : said.IsSettled run asked
 
 -- The edges are in strictly ascending order, and edges lead from the main module to each entry.
 pub record AreReached (edges : List Edge) (rows : List Entry) : Type 0 where

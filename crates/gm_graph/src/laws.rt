@@ -3,28 +3,22 @@
 //!
 //! They show that the definitions mean what the Go Modules Reference says, independently of any code.
 
-ghost use Rattle.gm_graph.specs.Laws.{EarlierReadingsStay, OneAnswer, OneLoading, OneReadingOfAnswers, PrefixHasReadings, ReadingsStay, RepliesSayOneThing, RowsAreRequired, RowsSatisfyRequirements, UnprunedIsPlain};
+ghost use Rattle.gm_graph.specs.Laws.{EarlierSayingsStay, FirstAnswersSaySomething, ModulesSayOneThing, OneAnswer, RepliesSayOneThing, RowsAreRequired, RowsSatisfyRequirements, UnprunedIsPlain};
 
 /// A reply to a name has one meaning: one fault, or one file's contents.
 pub fn replies_say_one_thing()
     ensures { RepliesSayOneThing }
 {}
 
-/// The names that were asked for have one set of readings, so the answers determine the readings of all vertices.
-pub fn one_reading_of_answers()
-    ensures { OneReadingOfAnswers }
+/// The file of a module says one thing: one fault, or one file's contents.
+pub fn modules_say_one_thing()
+    ensures { ModulesSayOneThing }
 {}
 
-/// More requests change no earlier reading, and the readings of a prefix of the requests are among those of all of
-/// them.
-pub fn earlier_readings_stay()
-    ensures stays { EarlierReadingsStay }
-    ensures first { PrefixHasReadings }
-{}
-
-/// If the readings of files stay the same, so do the readings of vertices.
-pub fn readings_stay()
-    ensures { ReadingsStay }
+/// More requests change nothing that a module's file said before, and the first of some answers say something if all do.
+pub fn earlier_sayings_stay()
+    ensures stays { EarlierSayingsStay }
+    ensures first { FirstAnswersSaySomething }
 {}
 
 /// Each row's version is required by the main module or by an opened vertex (Go Modules Reference, "Minimal version
@@ -45,9 +39,7 @@ pub fn unpruned_is_plain()
     ensures { UnprunedIsPlain }
 {}
 
-/// The contents of the files determine the list of faults, the list of edges and the build list. So do the main
-/// file, the go.sum and the store's answers.
+/// The main file, the go.sum and the store's answers determine the list of faults, the list of edges and the build list.
 pub fn one_answer()
-    ensures answer { OneAnswer }
-    ensures loading { OneLoading }
+    ensures { OneAnswer }
 {}

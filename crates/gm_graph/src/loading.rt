@@ -2,7 +2,7 @@
 
 ghost use Rattle.std.specs.Prelude.{◌≡◌, ◌≤◌, ◌++◌, [], Contains, IfOk, OnOk, Err, length, map};
 ghost use Rattle.std.specs.Option.{option_copied};
-ghost use Rattle.gm_store.specs.Asked.{name_of};
+ghost use Rattle.gm_store.specs.Asked.{name_of, names_in};
 ghost use Rattle.gm_store.specs.States.{HasServed};
 ghost use Rattle.gm_store.specs.declared.files.FileName.{FileName};
 ghost use Rattle.gm_graph.specs.Cached.{Knows, file_count, main_in, modules_in, sums_in, turns_in};
@@ -20,7 +20,8 @@ ghost use Rattle.std.specs.List.{IsDistinct};
 ghost use Rattle.gm_graph.specs.Builder.{IsBuilder, edges_in, sources_in};
 ghost use Rattle.gm_graph.specs.Building.{fault};
 ghost use Rattle.gm_graph.specs.FileLists.{HaveFiles};
-ghost use Rattle.gm_graph.specs.Loading.{AreTooMany, AsksInTurn, IsDue, Told};
+ghost use Rattle.gm_graph.specs.Loading as held;
+ghost use Rattle.gm_graph.specs.Run.{AreTooMany, AsksInTurn, IsDue, IsRead, run_of};
 ghost use Rattle.gm_graph.specs.Outcome.{IsLoaded};
 ghost use Rattle.gm_graph.specs.Visiting.{IsFirstGraph, IsOpenedIn};
 
@@ -54,10 +55,10 @@ fn visit_all<F: Asks>(
     requires files { HaveFiles cache.old builder.old.edges }
     ensures opened { OnOk result (IsOpenedIn cache.old cache.new (F.state files.new).asked builder.new) }
     ensures too_many { result ≡ Err LoadFault.TooMany
-        → Told (main_in cache.old) (sums_in cache.old) (F.state files.new).asked (AreTooMany (main_in cache.old)) }
-    ensures asks { AsksInTurn (main_in cache.old) (sums_in cache.old) (F.state files.new).asked }
+        → held.Told (main_in cache.old) (sums_in cache.old) (F.state files.new).asked (held.AreTooMany (main_in cache.old)) }
+    ensures asks { held.AsksInTurn (main_in cache.old) (sums_in cache.old) (F.state files.new).asked }
     ensures device { (name : FileName) → result ≡ Err (LoadFault.Device name)
-        → IsDue (main_in cache.old) (sums_in cache.old) (F.state files.new).asked (name_of name) }
+        → held.IsDue (main_in cache.old) (sums_in cache.old) (F.state files.new).asked (name_of name) }
     ensures refused { (F.state files.new).refused ≡ (F.state files.old).refused ++ refused_in result }
     ensures served { HasServed (F.may_answer files.old) (F.may_answer files.new)
         (F.state files.old) (F.state files.new) }
@@ -122,14 +123,15 @@ pub fn load<F: Asks>(
     sums: Option<&SumTable>,
 ) -> Result<Loaded, LoadFault>
     requires { (F.state files.old).asked ≡ [] }
-    ensures loaded { IfOk result (λ loaded.
-        Told (main_of main.now) (option_copied sums.entry) (F.state files.new).asked
-        (IsLoaded (main_of main.now) (F.state files.new).asked loaded)) }
+    ensures loaded { IfOk result
+        (IsLoaded (run_of (main_of main.now) (option_copied sums.entry) (F.state files.new).asked)
+        (names_in (F.state files.new).asked)) }
     ensures too_many { result ≡ Err LoadFault.TooMany
-        → Told (main_of main.now) (option_copied sums.entry) (F.state files.new).asked (AreTooMany (main_of main.now)) }
+        → IsRead (run_of (main_of main.now) (option_copied sums.entry) (F.state files.new).asked)
+        × AreTooMany (run_of (main_of main.now) (option_copied sums.entry) (F.state files.new).asked) }
     ensures asks { AsksInTurn (main_of main.now) (option_copied sums.entry) (F.state files.new).asked }
     ensures device { (name : FileName) → result ≡ Err (LoadFault.Device name)
-        → IsDue (main_of main.now) (option_copied sums.entry) (F.state files.new).asked (name_of name) }
+        → IsDue (run_of (main_of main.now) (option_copied sums.entry) (F.state files.new).asked) (name_of name) }
     ensures refused { (F.state files.new).refused ≡ (F.state files.old).refused ++ refused_in result }
     ensures served { HasServed (F.may_answer files.old) (F.may_answer files.new)
         (F.state files.old) (F.state files.new) }

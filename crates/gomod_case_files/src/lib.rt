@@ -19,14 +19,12 @@
 //! `case_texts` divides a file of cases by its titles. A case that is run at several sizes is a text with places for
 //! the size, and `read_cases` reads what `CaseText::at` makes of it for each.
 //!
-//! `lay_files` writes the files of a case into a real folder. A `CaseRuntime` opens files in that folder alone,
-//! and records each in a `Log`, as it does each use of `StandardInput`. A `View` is the same files as bytes in memory,
-//! one of which may be cut off.
+//! `lay_files` writes the files of a case into a real folder. A `View` is the same files as bytes in memory, one of which
+//! may be cut off.
 //!
 //! Nothing here depends on what the commands do.
 #![tactic(auto)]
 
-mod case_runtime;
 mod cases;
 mod escapes;
 mod faults;
@@ -36,17 +34,14 @@ mod pieces;
 mod places;
 mod reading;
 mod sizes;
-mod standard_input;
 mod views;
 mod words;
 
-pub use crate::case_runtime::{CaseRuntime, Log};
 pub use crate::cases::{Case, CaseFile, Content, Run, STDIN};
 pub use crate::faults::{CaseFault, CaseLineFault};
 pub use crate::folders::{lay_files, make_folder};
 pub use crate::pieces::NO_LINE_END;
-pub use crate::places::tidied;
+pub use crate::places::{is_near, tidied};
 pub use crate::reading::read_cases;
 pub use crate::sizes::{CaseText, Sizes, case_texts};
-pub use crate::standard_input::StandardInput;
 pub use crate::views::View;

@@ -38,7 +38,7 @@ pub fn tidied(alloc: Global, path: &str) -> Result<String, AllocError> {
 }
 
 /// Whether a path leads at most one folder up out of the folder of a case.
-pub(crate) fn is_near(alloc: Global, path: &str) -> Result<bool, AllocError> {
+pub fn is_near(alloc: Global, path: &str) -> Result<bool, AllocError> {
     let parts = parts_of(alloc, path)?;
     // the parts that lead up come first
     Ok(parts.get(1) != Some(&".."))

@@ -2,13 +2,14 @@
 
 use crate::counting::Count;
 use crate::differences::Differences;
+use crate::known_input::KnownInput;
 use crate::memory::InMemory;
 use crate::outcomes::{Outcome, Room};
 use crate::parsing::{ParsedRun, parsed_runs};
 use crate::sweeping::sweep;
 use crate::workspace::{Real, Workspace, are_opened, is_each_opened_once};
 use gomod_case_calls::call;
-use gomod_case_files::{Case, Run, StandardInput, View, lay_files, make_folder};
+use gomod_case_files::{Case, Run, View, lay_files, make_folder};
 use std::alloc::{AllocError, Global};
 use std::{fs, io};
 
@@ -56,7 +57,7 @@ fn check_below(
         system: *rt,
         folder,
         case,
-        input: StandardInput::of(case.input()),
+        input: KnownInput::of(case.input()),
         count,
     };
     check_in(&workspace, differences)

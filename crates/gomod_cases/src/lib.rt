@@ -2,10 +2,12 @@
 //! form of the files.
 #![tactic(auto)]
 
+mod case_runtime;
 mod checking;
 mod counting;
 mod cutting;
 mod differences;
+mod known_input;
 mod memory;
 mod outcomes;
 mod outputs;

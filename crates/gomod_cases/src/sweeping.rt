@@ -2,11 +2,12 @@
 
 use crate::cutting::{CutFile, begins_line, check_cut, is_cut, is_short};
 use crate::differences::Differences;
+use crate::known_input::KnownInput;
 use crate::outputs::sweep_outputs;
 use crate::parsing::ParsedRun;
 use crate::refusals::sweep_asks;
 use crate::workspace::Workspace;
-use gomod_case_files::{CaseFile, Content, STDIN, StandardInput};
+use gomod_case_files::{CaseFile, Content, STDIN};
 use std::alloc::AllocError;
 use std::{fs, io};
 
@@ -117,7 +118,7 @@ fn sweep_cut(
     if cut.name != STDIN {
         return Ok(check_cut(workspace, runs, cut, differences)?);
     }
-    let workspace = workspace.with_input(StandardInput::of(cut.bytes));
+    let workspace = workspace.with_input(KnownInput::of(cut.bytes));
     Ok(check_cut(&workspace, runs, cut, differences)?)
 }
 

@@ -1,9 +1,11 @@
 //! Commands over real files.
 
+use crate::case_runtime::{CaseRuntime, Log};
 use crate::counting::Count;
+use crate::known_input::KnownInput;
 use crate::memory::Memory;
 use crate::outcomes::{Outcome, Room};
-use gomod_case_files::{Case, CaseRuntime, Log, Run, StandardInput, View, tidied};
+use gomod_case_files::{Case, Run, View, tidied};
 use gomod_run::ending_of;
 use std::alloc::{AllocError, Global};
 
@@ -13,7 +15,7 @@ pub(crate) struct Workspace<'a> {
     pub(crate) system: HostRuntime,
     pub(crate) folder: &'a str,
     pub(crate) case: &'a Case<'a>,
-    pub(crate) input: StandardInput<'a>,
+    pub(crate) input: KnownInput<'a>,
     pub(crate) count: &'a Count,
 }
 
@@ -34,7 +36,7 @@ impl<'a> Workspace<'a> {
     }
 
     /// The same with another standard input.
-    pub(crate) fn with_input(&self, input: StandardInput<'a>) -> Workspace<'a> {
+    pub(crate) fn with_input(&self, input: KnownInput<'a>) -> Workspace<'a> {
         Workspace {
             system: self.system,
             folder: self.folder,
@@ -87,7 +89,7 @@ impl<'a> Workspace<'a> {
         })
     }
 
-    /// Runs the program with these words.
+    /// Runs the program with these words, of which the first is its name.
     fn outcome_of_words(
         &self,
         words: &[Vec<u8>],
@@ -96,7 +98,7 @@ impl<'a> Workspace<'a> {
     ) -> Result<Outcome, AllocError> {
         let (mut out, mut report) = room.sinks(self.alloc())?;
         let runtime = CaseRuntime {
-            words,
+            words: words.get(1..).unwrap_or(&[]),
             system: self.system,
             folder: self.folder,
             input: self.input,

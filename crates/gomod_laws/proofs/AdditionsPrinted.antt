@@ -10,7 +10,8 @@ use Rattle.gm_graph_select.specs.BuildList.{Entry}
 use Rattle.gm_graph_select.proofs.Lawful.{row_selected, selected_row}
 use Rattle.gm_graph.specs.Graph.{IsEdge, IsOpened, IsTop}
 use Rattle.gm_graph.specs.Loading.{AreFew}
-use Rattle.gomod_run.specs.Outcomes.{IsGraphOutcome, IsListOutcome, Prints, PrintsGraph, PrintsList, answers, given}
+use Rattle.gomod_run.specs.Outcomes.{answers, given}
+use Rattle.gomod_run.proofs.HeldEnds.{GraphEnds, ListEnds, Prints, PrintsGraph, PrintsList, graph_held, list_held}
 use Rattle.gm_graph.specs.Outcome.{AreRows}
 use Rattle.gomod_run.specs.Outcome.{Outcome}
 use Rattle.gomod_run.proofs.OneQueryStore.{Agrees}
@@ -21,17 +22,16 @@ use Rattle.gomod_laws.specs.AdditionLaws.{AreNotLower, GraphKeepsLines, ListLowe
 use Rattle.gomod_laws.proofs.AdditionsKept.{kept_more}
 use Rattle.gomod_laws.proofs.AdditionsOpened.{edge_too, opened_too}
 use Rattle.gomod_laws.proofs.AdditionsRuns.{agree, printed_by, prints_too}
-use Rattle.gomod_laws.proofs.PrintedRuns.{query_by_answers}
 
 -- ---- the outcome of a query, given what was asked
 
 pub list_run : (after : Option (List ℕ)) (limit : Option ℕ) (file : List ℕ) (sums : Option (List ℕ)) (asked : List (Name × Reply)) (outcome : Outcome)
-    → HasOutcome (Rows after limit) file sums asked outcome → IsListOutcome after limit (given file sums (answers asked [])) outcome
-list_run after limit file sums asked outcome has = query_by_answers (Rows after limit) file sums asked outcome refl has
+    → HasOutcome (Rows after limit) file sums asked outcome → ListEnds after limit (given file sums (answers asked [])) outcome
+list_run after limit file sums asked outcome has = list_held (given file sums (answers asked [])) outcome after limit has
 
 pub graph_run : (file : List ℕ) (sums : Option (List ℕ)) (asked : List (Name × Reply)) (outcome : Outcome)
-    → HasOutcome Graph file sums asked outcome → IsGraphOutcome (given file sums (answers asked [])) outcome
-graph_run file sums asked outcome has = query_by_answers Graph file sums asked outcome refl has
+    → HasOutcome Graph file sums asked outcome → GraphEnds (given file sums (answers asked [])) outcome
+graph_run file sums asked outcome has = graph_held (given file sums (answers asked [])) outcome has
 
 -- ---- a main file that says more
 

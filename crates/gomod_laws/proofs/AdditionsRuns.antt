@@ -15,12 +15,15 @@ use Rattle.gm_graph.specs.declared.fault.Fault.{Fault}
 use Rattle.gm_graph.specs.Graph.{IsOpened}
 use Rattle.gm_graph.specs.Outcome.{AreFaults}
 use Rattle.gm_graph.proofs.BuiltEdges.{fault_reading}
-use Rattle.gomod_run.specs.ListingLaws.{AllFilesAreValid, AnswerAlike}
-use Rattle.gomod_run.specs.Outcomes.{AreInvalidSums, AreKnown, AreSums, Given, IsOutcome, IsOutcomeOver, IsStopped, Prints, device, faulty, too_many}
+use Rattle.gomod_run.specs.ListingLaws.{AnswerAlike}
+use Rattle.gomod_run.specs.Outcomes.{AreInvalidSums, AreSums, Given}
+use Rattle.gomod_run.specs.HeldFiles.{AllFilesAreValid, AreKnown}
+use Rattle.gomod_run.proofs.HeldEnds.{Prints, QueryEnds}
 use Rattle.gomod_run.specs.Outcome.{Outcome}
 use Rattle.gomod_run.proofs.OneRead.{misread_or_main, misread_or_sums, one_finding, one_main, tells_alike}
 use Rattle.gomod_run.proofs.OneQueryStore.{Agrees, stores_agree}
 use Rattle.gomod_run.proofs.PrintedList.{printed_run}
+use Rattle.gomod_run.proofs.QueryParts.{LoadingEnd, Parts, are_read, is_broken, is_known, is_many, parts, unread}
 
 -- ---- what files say, by two main files that replace alike
 
@@ -63,32 +66,31 @@ module _ (run next : Given) (first second : Main) (held : Held) (found : AllFile
         let read = into one.vertex too (Err one.class) (fault_reading (readings_by first a one.vertex) one.class has) in
         no_member one ((found.sound.each one).1 (too, ap fault_in read))
 
-    not_stopped : (table : Option Sums) → AreSums run.sums table → IsStopped first table run.told outcome → ⊥
-    not_stopped table are (too_many (a, tells, (all, long, once, each)) none text) =
-        let into = agreed table are a tells in
-        let few : length all ≤ 65536 = found.known.few all once (λ x there. opens a into x (each x there)) in
-        omega (arith, long, few)
-    not_stopped table are (device name due one text) = let names : name ∷ [] ≡ [] = sym one ∙ sound in cc names
-    not_stopped table are (faulty a one others known faults text) = faultless table are a known one others faults
-
     -- so the first run prints
     abbrev pub PrintsBy : Prints → Type 0
     PrintsBy prints = (a : Held) × AllFilesAreValid run first a × prints first (readings_by first a) outcome
 
-    by_end : (prints : Prints) (table : Option Sums) → AreSums run.sums table
-        → IsOutcomeOver prints first table run.told outcome → PrintsBy prints
-    by_end prints table are (inl stopped) = absurd (not_stopped table are stopped)
-    by_end prints table are (inr (a, known, faults, shows)) =
+    by_end : (prints : Prints) (table : Option Sums) → AreSums run.sums table → LoadingEnd prints first table run.told outcome → PrintsBy prints
+    by_end prints table are (is_many (a, tells, (all, long, once, each)) none text) =
+        let into = agreed table are a tells in
+        let few : length all ≤ 65536 = found.known.few all once (λ x there. opens a into x (each x there)) in
+        absurd (omega (arith, long, few))
+    by_end prints table are (is_broken name due one text) = absurd (let names : name ∷ [] ≡ [] = sym one ∙ sound in cc names)
+    by_end prints table are (is_known a (one ∷ others) known faults text) = absurd (faultless table are a known one others faults)
+    by_end prints table are (is_known a [] known faults shows) =
         (a, record { table = table; read = record { main_file = says; sums = are }; known = known; sound = faults }, shows)
 
-    pub prints_if_agreed : (prints : Prints) → IsOutcome prints run outcome → PrintsBy prints
-    prints_if_agreed prints (inl (inl (place, misread, text), none)) = absurd (misread_or_main run.file place first misread says)
-    prints_if_agreed prints (inl (inr (main, report, is, misread, text), none)) =
-        absurd (misread_or_sums next.sums report found.table
-        (subst (λ (s : Option (List ℕ)). AreInvalidSums s report) sums misread) found.read.sums)
-    prints_if_agreed prints (inr (main, table, are, over)) =
-        by_end prints table are.sums
-        (subst (λ (m : Main). IsOutcomeOver prints m table run.told outcome) (one_main run.file main first are.main_file says) over)
+    pub prints_if_agreed : (prints : Prints) → QueryEnds prints run outcome → PrintsBy prints
+    prints_if_agreed prints is = by (parts prints run outcome is)
+      where
+        by : Parts prints run outcome → PrintsBy prints
+        by (unread (inl (place, misread, text)) none) = absurd (misread_or_main run.file place first misread says)
+        by (unread (inr (main, report, is, misread, text)) none) =
+            absurd (misread_or_sums next.sums report found.table
+            (subst (λ (s : Option (List ℕ)). AreInvalidSums s report) sums misread) found.read.sums)
+        by (are_read main table are over) =
+            by_end prints table are.sums
+            (subst (λ (m : Main). LoadingEnd prints m table run.told outcome) (one_main run.file main first are.main_file says) over)
 
   -- so it is where the stores answer alike and both main files replace alike
   module _ (alike : AnswerAlike run.told.asked next.told.asked) (same : ReplaceAlike first second) where
@@ -100,7 +102,7 @@ module _ (run next : Given) (first second : Main) (held : Held) (found : AllFile
         (sym (same_readings first second same a x) ∙ e)
 
     module _ (sound : run.told.failed ≡ []) (opens : OpensNoMore) (outcome : Outcome) where
-      pub prints_too : (prints : Prints) → IsOutcome prints run outcome
+      pub prints_too : (prints : Prints) → QueryEnds prints run outcome
           → (a : Held) × AllFilesAreValid run first a × prints first (readings_by first a) outcome
       prints_too prints is = prints_if_agreed agree sound opens outcome prints is
 
@@ -108,7 +110,7 @@ module _ (run next : Given) (first second : Main) (held : Held) (found : AllFile
 
 -- A run that prints, by what its main file is known to say.
 pub printed_by : (prints : Prints) (run : Given) (main : Main) (outcome : Outcome) → IsMainFile run.file main
-    → IsOutcome prints run outcome → outcome.status ≡ 0
+    → QueryEnds prints run outcome → outcome.status ≡ 0
     → (held : Held) × AllFilesAreValid run main held × prints main (readings_by main held) outcome
 printed_by prints run main outcome says is ends =
     let (other, held, found, shows) = printed_run prints run outcome is ends in

@@ -15,8 +15,9 @@ use Rattle.gm_graph_select.proofs.Same.{same_build_list, same_chain}
 use Rattle.gm_graph.specs.Graph.{IsEdge, IsTop}
 use Rattle.gm_graph.specs.Outcome.{AreEdges, AreRows}
 use Rattle.gm_graph.proofs.Rooted.{same_edges}
-use Rattle.gomod_run.specs.ListingLaws.{AllFilesAreValid, IsWalk, further, here}
+use Rattle.gomod_run.specs.ListingLaws.{IsWalk, further, here}
 use Rattle.gomod_run.specs.Outcomes.{Given}
+use Rattle.gomod_run.specs.HeldFiles.{AllFilesAreValid}
 use Rattle.gomod_run.specs.Outcome.{printed}
 use Rattle.gomod_run.specs.PrintedLines.{AreProperRows, AreProperSteps, IsProperRow, IsProperStep}
 use Rattle.gomod_run.specs.Reports.{not_listed_line}

@@ -16,8 +16,10 @@ use Rattle.gm_graph_select.specs.BuildList.{Entry, entry_of, main_entry, path_of
 use Rattle.gm_graph_select.specs.Laws.{entries_of_pages}
 use Rattle.gm_graph_select.proofs.Ascending.{member_cases, member_head, member_tail, no_member}
 use Rattle.gm_graph.specs.Graph.{IsDeep, IsOpened, IsTop, IsVertex, from_deep, from_main, from_top}
-use Rattle.gomod_run.specs.ListingLaws.{AllFilesAreValid, AreGreatest, ArePrintedPages, ShowsBuildList, no_row, one_page}
-use Rattle.gomod_run.specs.Outcomes.{Given, IsListOutcome}
+use Rattle.gomod_run.specs.ListingLaws.{AreGreatest, ArePrintedPages, ShowsBuildList, no_row, one_page}
+use Rattle.gomod_run.specs.Outcomes.{Given}
+use Rattle.gomod_run.specs.HeldFiles.{AllFilesAreValid}
+use Rattle.gomod_run.proofs.HeldEnds.{PrintsList, list_held}
 use Rattle.gm_graph.specs.Outcome.{AreRows}
 use Rattle.gomod_run.specs.Outcome.{Outcome, printed, refused}
 use Rattle.gomod_run.specs.PrintedLines.{AreProperRows, IsProperRow}
@@ -25,7 +27,8 @@ use Rattle.gomod_run.specs.Reports.{not_listed_line}
 use Rattle.gomod_run.specs.ListingTexts.{limited, list_text}
 use Rattle.gomod_run.proofs.GreatestRows.{as_build_list}
 use Rattle.gomod_run.proofs.ListLines.{Lacks, cut_at, lacks, path_has_no_blank, path_has_no_feed, text_says_rows}
-use Rattle.gomod_run.proofs.OneOutcome.{one_list_outcome}
+use Rattle.gomod_run.proofs.OneOutcome.{ends_once}
+use Rattle.gomod_run.proofs.OnePrinted.{list_once}
 use Rattle.gomod_run.proofs.OneRead.{one_main}
 use Rattle.gomod_run.proofs.PrintedList.{texts_join}
 use Rattle.gomod_run.proofs.RunNames.{run_has_names, run_has_proper_rows}
@@ -35,6 +38,7 @@ use Rattle.gomod_laws.proofs.Contradicted.{a_is_path, b_is_path, other_name}
 use Rattle.gomod_laws.proofs.KnownVersions.{one_one_is, one_one_is_above, one_zero_is}
 use Rattle.gomod_laws.proofs.PrintedRow.{limited_member, printed_rows}
 use Rattle.gomod_laws.proofs.ShownTexts.{same_text}
+use Rattle.gomod_run.specs.Outcomes as ends
 
 -- ---- lists of rows
 
@@ -302,11 +306,11 @@ data PageCase (run : Given) (main text : List ℕ) : List (List Entry) → Type 
   some_left : {pages : List (List Entry)} (front : List Entry) (last : Entry) → list_text main (front ++ last ∷ []) ≡ text
       → ArePrintedPages run main 1 (Some (path_of main last.0)) pages → PageCase run main text ((front ++ last ∷ []) ∷ pages)
 
-page_case : (run : Given) (main text : List ℕ) {after : Option (List ℕ)} {pages : List (List Entry)} → IsListOutcome after (Some 1) run (printed text)
+page_case : (run : Given) (main text : List ℕ) {after : Option (List ℕ)} {pages : List (List Entry)} → ends.ListEnds after (Some 1) run (printed text)
     → ArePrintedPages run main 1 after pages → PageCase run main text pages
-page_case run main text is (no_row {after} says) = none_left (same_text text [] (one_list_outcome after (Some 1) run (printed text) (printed []) is says))
+page_case run main text is (no_row {after} says) = none_left (same_text text [] (ends_once (PrintsList after (Some 1)) (list_once after (Some 1)) run (printed text) (printed []) (list_held run _ after (Some 1) is) (list_held run _ after (Some 1) says)))
 page_case run main text is (one_page {after} {pages} front last says more) =
-    some_left front last (same_text (list_text main (front ++ last ∷ [])) text (one_list_outcome after (Some 1) run (printed (list_text main (front ++ last ∷ []))) (printed text) says is)) more
+    some_left front last (same_text (list_text main (front ++ last ∷ [])) text (ends_once (PrintsList after (Some 1)) (list_once after (Some 1)) run (printed (list_text main (front ++ last ∷ []))) (printed text) (list_held run _ after (Some 1) says) (list_held run _ after (Some 1) is))) more
 
 last_of : (front : List Entry) (last one : Entry) → front ++ last ∷ [] ≡ one ∷ [] → last ≡ one
 last_of [] last one e = cc e
@@ -345,7 +349,7 @@ module _ (run : Given) (main : Main) (held : Held) (valid : AllFilesAreValid run
 
   -- what the second is, if this is the text of the second page
   second_case : (front : List Entry) (last : Entry) (pages : List (List Entry)) (text : List ℕ) → main.path ≡ codes "m" → front ++ last ∷ [] ≡ main_entry ∷ []
-      → IsListOutcome (Some (codes "m")) (Some 1) run (printed text) → ArePrintedPages run main.path 1 (Some (path_of main.path last.0)) pages → PageCase run main.path text pages
+      → ends.ListEnds (Some (codes "m")) (Some 1) run (printed text) → ArePrintedPages run main.path 1 (Some (path_of main.path last.0)) pages → PageCase run main.path text pages
   second_case front last pages text own page is more =
       let path : path_of main.path last.0 ≡ codes "m" = ap (λ (row : Entry). path_of main.path row.0) (last_of front last main_entry page) ∙ own in
       page_case run main.path text is (subst (λ (p : List ℕ). ArePrintedPages run main.path 1 (Some p) pages) path more)
@@ -370,14 +374,14 @@ module _ (run : Given) (main : Main) (held : Held) (valid : AllFilesAreValid run
         let there : Contains second (row_at b_one) = subst (λ (es : List Entry). Contains es (row_at b_one)) (sym is) (member_head (row_at b_one) []) in
         b_is_no_row (subst (λ (es : List Entry). Contains es (row_at b_one)) (joined_are (page ∷ second ∷ pages) are text).1 (in_second second pages (row_at b_one) there))
 
-  missing_first : {pages : List (List Entry)} → AreJoined pages → IsText pages → IsListOutcome (Some (codes "m")) (Some 1) run (printed []) → PageCase run main.path only_m pages → ⊥
+  missing_first : {pages : List (List Entry)} → AreJoined pages → IsText pages → ends.ListEnds (Some (codes "m")) (Some 1) run (printed []) → PageCase run main.path only_m pages → ⊥
   missing_first are text is (none_left none) = cc none
   missing_first are text is (some_left {pages} front last says more) =
       let page : List Entry = front ++ last ∷ [] in
       let first = first_is page pages are text says in
       missing_second page first are text (second_case front last pages [] (joined_are (page ∷ pages) are text).0 first is more)
 
-  other_first : {pages : List (List Entry)} → AreJoined pages → IsText pages → IsListOutcome (Some (codes "m")) (Some 1) run (printed (codes "b.c v1.0.0\n")) → PageCase run main.path only_m pages → ⊥
+  other_first : {pages : List (List Entry)} → AreJoined pages → IsText pages → ends.ListEnds (Some (codes "m")) (Some 1) run (printed (codes "b.c v1.0.0\n")) → PageCase run main.path only_m pages → ⊥
   other_first are text is (none_left none) = cc none
   other_first are text is (some_left {pages} front last says more) =
       let page : List Entry = front ++ last ∷ [] in

@@ -1,5 +1,5 @@
 -- The lines that `edit` makes of a file, operation by operation, and what its text says as a main file.
-use Rattle.std.proofs.Common.{◌≡◌, ◌≤◌, ◌∙◌, ◌++◌, ◌+◌, ℕ, true, List, [], ◌∷◌, length, Option, None, Some, Ok, IsUtf8, ap, refl, subst, sym, inl, inr}
+use Rattle.std.proofs.Common.{◌≡◌, ◌≤◌, ◌∙◌, ◌++◌, ◌+◌, ℕ, true, List, [], ◌∷◌, length, Option, None, Some, Ok, IsUtf8, ap, refl, subst, sym}
 use Rattle.std.specs.Global.{Global, Vec}
 use Rattle.std.specs.List.{AllByRecursion, filter_map}
 use Rattle.std.specs.Option.{option_map, option_to_list}
@@ -19,12 +19,12 @@ use Rattle.gomod_run.specs.Outcome.{Outcome, printed}
 use Rattle.gomod_run.specs.Reports.{main_line, edit_line}
 use Rattle.gomod_run.proofs.OneRead.{one_main}
 use Rattle.gomod_words.specs.Usage.{texts_in}
-use Rattle.gomod_run.specs.Editing.{IsEditOutcome, edited_in_turn, edits_outcome, refusal_of, refusals_from}
+use Rattle.gomod_run.specs.Editing.{EditEnds, applied, bad_main, edited_in_turn, edits_outcome, refusal_of, refusals_from}
 use Rattle.gomod_laws.specs.EditListLaws.{PrintsAfter}
 use Rattle.gomod_laws.specs.Runs.{IsEdited}
 use Rattle.gomod_laws.proofs.FormattingBlanks.{main_said, no_fault_again, same_said}
 use Rattle.gomod_laws.proofs.FormattingEdits.{lines_good}
-use Rattle.gomod_laws.proofs.FormattingProofs.{AreSoundLines, edit_states, edited_sound, no_refusal, not_printed, numbered, read_sound, texts_utf8}
+use Rattle.gomod_laws.proofs.FormattingProofs.{AreSoundLines, edited_sound, no_refusal, not_printed, numbered, read_sound, texts_utf8}
 use Rattle.gomod_laws.proofs.FormattingRead.{layout_read}
 
 -- ---- what `edit` prints
@@ -37,16 +37,16 @@ pub record IsEditedFrom (texts : List (List ℕ)) (file text : List ℕ) : Type 
   pub none : refusals_from 1 texts ≡ []
   pub text_is : text ≡ layout (plain_lines (edited_in_turn (filter_map edit_in texts) lines))
 
-edited_by : (texts : List (List ℕ)) (file text : List ℕ) → IsEditOutcome texts file (printed text) → IsEditedFrom texts file text
-edited_by texts file text (inl (place, malformed, says)) = absurd (not_printed text (main_line place) says)
-edited_by texts file text (inr (lines, (parsed, faultless), says)) = by_refusals (refusals_from 1 texts) refl says
+edited_by : (texts : List (List ℕ)) (file text : List ℕ) → EditEnds texts file (printed text) → IsEditedFrom texts file text
+edited_by texts file text (bad_main place malformed says) = absurd (not_printed text (main_line place) says)
+edited_by texts file text (applied lines (parsed, faultless) says) = by_refusals (refusals_from 1 texts) refl says
   where
     by_refusals : (found : List (ℕ × List ℕ)) → refusals_from 1 texts ≡ found → printed text ≡ edits_outcome found (edited_in_turn (filter_map edit_in texts) lines) → IsEditedFrom texts file text
     by_refusals [] none is = record { lines = lines; is_main = (parsed, faultless); sound = read_sound file lines (parsed, faultless); none = none; text_is = ap (λ (o : Outcome). o.text) is }
     by_refusals (first ∷ others) some is = absurd (not_printed text (edit_line first) is)
 
 pub edited_from : (operations : Vec (String Global)) (file text : List ℕ) → IsEdited operations file text → IsEditedFrom (texts_in operations) file text
-edited_from operations file text has = edited_by (texts_in operations) file text (edit_states operations file (printed text) has)
+edited_from operations file text has = edited_by (texts_in operations) file text has
 
 -- the text of sound lines reads as lines that hold the same directives
 pub text_lines : (lines : List (Line Placed)) (text : List ℕ) → AreSoundLines lines → text ≡ layout (plain_lines lines) → length text ≤ longest

@@ -1,5 +1,5 @@
 -- Two operations of `edit`: one that the other undoes, and two in either order.
-use Rattle.std.proofs.Common.{◌≡◌, ◌∙◌, ◌++◌, ◌+◌, ◌↔◌, ℕ, true, List, [], ◌∷◌, length, Option, None, Some, Contains, IsUtf8, ap, refl, subst, sym, inl, inr}
+use Rattle.std.proofs.Common.{◌≡◌, ◌∙◌, ◌++◌, ◌+◌, ◌↔◌, ℕ, true, List, [], ◌∷◌, length, Option, None, Some, Contains, IsUtf8, ap, refl, subst, sym}
 use Rattle.std.specs.List.{AllByRecursion, filter_map, list_any}
 use Rattle.std.specs.List.Sorted.{IsPermutation}
 use Rattle.std.specs.Option.{option_map, option_to_list}
@@ -26,14 +26,14 @@ use Rattle.gm_file.specs.Main.{IsMainOf}
 use Rattle.gomod_run.specs.Outcome.{Outcome, printed}
 use Rattle.gomod_run.proofs.OneRead.{misread_or_lines, same_lines}
 use Rattle.gomod_words.specs.declared.usage.Command.TheVariants.{Fmt}
-use Rattle.gomod_run.specs.Editing.{IsEditOutcome, edited_in_turn, edits_outcome, refusal_of, refusals_from}
+use Rattle.gomod_run.specs.Editing.{EditEnds, applied, bad_main, edited_in_turn, edits_outcome, refusal_of, refusals_from}
 use Rattle.gomod_run.proofs.Sameness.{in_turn_same}
 use Rattle.gomod_laws.specs.EditPairLaws.{EitherOrderChangesNoBuild, PrintTheSame, UndoneIsFormatted}
 use Rattle.gomod_laws.specs.LineOrderLaws.{HoldTheSame}
 use Rattle.gomod_laws.specs.Runs.{HasOutcome}
 use Rattle.gomod_laws.proofs.EditListSteps.{edited_from, is_edit, text_lines}
 use Rattle.gomod_laws.proofs.EditTwice.{nil_parts, refusals_append}
-use Rattle.gomod_laws.proofs.FormattingProofs.{AreSoundLines, edit_states, edited_sound, fmt_is, in_turn_sound, no_refusal, numbered, read_sound, texts_utf8}
+use Rattle.gomod_laws.proofs.FormattingProofs.{AreSoundLines, edited_sound, fmt_is, in_turn_sound, no_refusal, numbered, read_sound, texts_utf8}
 use Rattle.gomod_laws.proofs.LineOrderLines.{lines_in_any_order}
 
 -- ---- an operation undone
@@ -67,9 +67,9 @@ module _ (first second : List ℕ) (put undo : Operation) (puts : edit_in first 
   both = rw (puts, drops) refl
 
   undone : (file : List ℕ) (lines : List (Line Placed)) (edited_to formatted : Outcome) → is_fit put ≡ true → undone_by put ≡ Some undo → IsMainOf file lines → list_any (about put) (directives_of lines) ≡ false
-      → IsEditOutcome (first ∷ second ∷ []) file edited_to → HasOutcome Fmt file None [] formatted → PrintTheSame edited_to formatted
-  undone file lines edited_to formatted fit undoes main none (inl (place, malformed, says)) has = absurd (misread_or_lines file place lines malformed main)
-  undone file lines edited_to formatted fit undoes main none (inr (others, also, says)) has =
+      → EditEnds (first ∷ second ∷ []) file edited_to → HasOutcome Fmt file None [] formatted → PrintTheSame edited_to formatted
+  undone file lines edited_to formatted fit undoes main none (bad_main place malformed says) has = absurd (misread_or_lines file place lines malformed main)
+  undone file lines edited_to formatted fit undoes main none (applied others also says) has =
       let same : directives_of others ≡ directives_of lines = ap (directives Strict) (same_lines file others lines also.0 main.0) in
       let absent : list_any (about put) (directives_of others) ≡ false = ap (list_any (about put)) same ∙ none in
       let states : edited_to ≡ printed (layout (plain_lines others)) =
@@ -81,7 +81,7 @@ module _ (first second : List ℕ) (put undo : Operation) (puts : edit_in first 
 pub undone_is_formatted : UndoneIsFormatted
 undone_is_formatted operations put file edited_to formatted are fit targets one other =
     undone are.first are.second put are.undo are.puts are.drops file targets.lines edited_to formatted fit are.undoes targets.is_main targets.none
-    (subst (λ (ts : List (List ℕ)). IsEditOutcome ts file edited_to) are.given (edit_states operations file edited_to one)) other
+    (subst (λ (ts : List (List ℕ)). EditEnds ts file edited_to) are.given one) other
 
 -- ---- two operations in either order
 

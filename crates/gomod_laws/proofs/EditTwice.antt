@@ -12,13 +12,13 @@ use Rattle.gm_file_edit.proofs.Twice.{second-operation}
 use Rattle.gomod_run.specs.Outcome.{Outcome, refused}
 use Rattle.gomod_words.specs.Usage.{texts_in}
 use Rattle.gomod_words.specs.declared.usage.Command.TheVariants.{Edit}
-use Rattle.gomod_run.specs.Editing.{IsEditOutcome, edited_in_turn, edits_outcome, refusal_of, refusals_from}
+use Rattle.gomod_run.specs.Editing.{EditEnds, applied, bad_main, edited_in_turn, edits_outcome, refusal_of, refusals_from}
 use Rattle.gomod_run.specs.Reports.{edit_line}
-use Rattle.gomod_run.proofs.Sameness.{one_outcome}
+use Rattle.gomod_run.proofs.Sameness.{edit_once}
 use Rattle.gomod_laws.specs.EditTwiceLaws.{LastTwiceIsOnce, RefuseALater, RepeatsOne, TwiceIsOnceOrRefused, TwicePrintsAsOnce}
 use Rattle.gomod_laws.specs.Runs.{HasOutcome, HasPrinted}
 use Rattle.gomod_laws.proofs.EditListSteps.{is_edit}
-use Rattle.gomod_laws.proofs.FormattingProofs.{AreSoundLines, edit_states, edited_sound, no_refusal, numbered, read_sound, texts_utf8}
+use Rattle.gomod_laws.proofs.FormattingProofs.{AreSoundLines, edited_sound, no_refusal, numbered, read_sound, texts_utf8}
 
 abbrev Refusal : Type 0
 Refusal = ℕ × List ℕ
@@ -175,14 +175,14 @@ module _ (earlier : List (List ℕ)) (text : List ℕ) (later : List (List ℕ))
   -- the outcome with the operation twice, over a file with this outcome
   record IsRepeated (file : List ℕ) (first : Outcome) : Type 0 where
     pub second : Outcome
-    pub states : IsEditOutcome given_twice file second
+    pub states : EditEnds given_twice file second
     pub alike : AreAlike first second
 
-  repeated : (file : List ℕ) (first : Outcome) → AllByRecursion IsUtf8 given_once → IsEditOutcome given_once file first → IsRepeated file first
-  repeated file first utf8 (inl (place, malformed, says)) = record { second = first; states = inl (place, malformed, says); alike = inl refl }
-  repeated file first utf8 (inr (lines, main, says)) = record {
+  repeated : (file : List ℕ) (first : Outcome) → AllByRecursion IsUtf8 given_once → EditEnds given_once file first → IsRepeated file first
+  repeated file first utf8 (bad_main place malformed says) = record { second = first; states = bad_main place malformed says; alike = inl refl }
+  repeated file first utf8 (applied lines main says) = record {
     second = outcome_of given_twice lines;
-    states = inr (lines, main, refl);
+    states = applied lines main refl;
     alike = subst (λ (o : Outcome). AreAlike o (outcome_of given_twice lines)) (sym says) (lines_alike lines utf8 (read_sound file lines main));
   }
 
@@ -192,9 +192,9 @@ runs_alike : (once twice : Vec (String Global)) (file : List ℕ) (first second 
     → AreAlike repeats.earlier repeats.operation repeats.later first second
 runs_alike once twice file first second repeats one two =
     let utf8 = subst (AllByRecursion IsUtf8) repeats.given_once (texts_utf8 once.items) in
-    let found = repeated repeats.earlier repeats.operation repeats.later file first utf8 (subst (λ (ts : List (List ℕ)). IsEditOutcome ts file first) repeats.given_once (edit_states once file first one)) in
-    let states : IsEditOutcome (texts_in twice) file found.second = subst (λ (ts : List (List ℕ)). IsEditOutcome ts file found.second) (sym repeats.given_twice) found.states in
-    let same : found.second ≡ second = one_outcome (Edit twice) file None (λ name. None) found.second second states (edit_states twice file second two) in
+    let found = repeated repeats.earlier repeats.operation repeats.later file first utf8 (subst (λ (ts : List (List ℕ)). EditEnds ts file first) repeats.given_once one) in
+    let states : EditEnds (texts_in twice) file found.second = subst (λ (ts : List (List ℕ)). EditEnds ts file found.second) (sym repeats.given_twice) found.states in
+    let same : found.second ≡ second = edit_once (texts_in twice) file found.second second states two in
     subst (AreAlike repeats.earlier repeats.operation repeats.later first) same found.alike
 
 not_both : (outcome : Outcome) (report : List ℕ) → outcome ≡ refused report → HasPrinted outcome → ⊥

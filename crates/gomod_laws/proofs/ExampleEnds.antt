@@ -25,11 +25,16 @@ use Rattle.gm_graph.specs.Graph.{IsEdge, IsOpened, IsTop, from_deep, from_main, 
 use Rattle.gm_graph.specs.Loading.{AreAsked, AreFew, AreTooMany, IsDue, IsNeeded}
 use Rattle.gm_graph.specs.Outcome.{AreFaults, AreRows}
 use Rattle.gm_graph.specs.declared.fault.Fault.{Fault}
-use Rattle.gomod_run.specs.Outcomes.{AreKnown, IsListOutcome, IsOutcomeOver, IsStopped, PrintsList, answers, device, faulty, too_many}
+use Rattle.gomod_run.specs.Outcomes.{answers}
+use Rattle.gomod_run.specs.HeldFiles.{AreKnown}
+use Rattle.gomod_run.proofs.HeldEnds.{ListEnds, PrintsList, bad_main, bad_sums, device, faulty, no_fault, list_held, list_said}
 use Rattle.gomod_run.specs.Outcome.{Outcome, printed, refused}
-use Rattle.gomod_run.proofs.OneOutcome.{one_list_outcome}
+use Rattle.gomod_run.proofs.OneOutcome.{ends_once}
+use Rattle.gomod_run.proofs.OnePrinted.{list_once}
+use Rattle.gomod_run.proofs.OneRead.{misread_or_main, one_main}
+use Rattle.gomod_run.proofs.QueryParts.{LoadingEnd, Parts, are_read, is_broken, is_known, is_many, parts, unread}
 use Rattle.gomod_laws.specs.ExampleWorld.{top_one}
-use Rattle.gomod_laws.specs.ExampleRuns.{BadSumIsRefused, EmptyIsRefused, IsListedAlone, RequiredIsAsked, alone, low_name, main_requiring, run_of, run_with_bad_sum, top_name}
+use Rattle.gomod_laws.specs.ExampleRuns.{BadSumIsRefused, EmptyIsRefused, HasNoOutcome, IsListedAlone, RequiredIsAsked, alone, low_name, main_requiring, requiring, run_of, run_with_bad_sum, top_name}
 use Rattle.gomod_laws.proofs.ExampleFiles.{empty_is_malformed, files_are_read}
 use Rattle.gomod_laws.proofs.ExampleWorlds.{fault_with, pairs_of, same_class, told_by}
 use Rattle.gomod_laws.proofs.KnownVersions.{first_byte}
@@ -90,44 +95,35 @@ none_faulty = record {
   each = λ one. ((λ there. absurd (no_member one there)), λ has. absurd (none_opened one.vertex has.0));
 }
 
-alone_listed : IsListOutcome None None (run_of alone [] []) (printed (codes "m\n"))
-alone_listed = inr (
-  main_requiring [],
-  None,
-  record { main_file = files_are_read.one; sums = tt },
-  inr (nothing, none_known, none_faulty, (main_entry ∷ [], none_rows, refl)),
-)
+alone_listed : ListEnds None None (run_of alone [] []) (printed (codes "m\n"))
+alone_listed =
+    no_fault (main_requiring []) nothing (record { table = None; read = record { main_file = files_are_read.one; sums = tt }; known = none_known; sound = none_faulty })
+    (main_entry ∷ [], none_rows, refl)
 
 pub is_listed_alone : IsListedAlone
 is_listed_alone = record {
-  listed = alone_listed;
-  only = λ outcome is. one_list_outcome None None (run_of alone [] []) outcome (printed (codes "m\n")) is alone_listed;
+  listed = list_said (run_of alone [] []) _ None None alone_listed;
+  only = λ outcome is. ends_once (PrintsList None None) (list_once None None) (run_of alone [] []) outcome (printed (codes "m\n")) (list_held (run_of alone [] []) outcome None None is) alone_listed;
 }
 
 -- ---- a go.sum with a line of two fields
 
-bad_sum_reported : IsListOutcome None None run_with_bad_sum (refused (codes "go.sum:1: BadSum\n"))
-bad_sum_reported = inl (
-  inr (
-    main_requiring [],
-    codes "go.sum:1: BadSum\n",
-    files_are_read.one,
-    inr (omega arith, 1, (omega arith, refl), rw (decimal_digit 1 (lit< tt)) refl),
-    refl,
-  ),
-  (refl, refl),
-)
+bad_sum_reported : ListEnds None None run_with_bad_sum (refused (codes "go.sum:1: BadSum\n"))
+bad_sum_reported =
+    bad_sums (main_requiring []) (codes "go.sum:1: BadSum\n") files_are_read.one (inr (omega arith, 1, (omega arith, refl), rw (decimal_digit 1 (lit< tt)) refl)) (refl, refl) refl
 
 pub bad_sum_is_refused : BadSumIsRefused
 bad_sum_is_refused = record {
-  reported = bad_sum_reported;
-  only = λ outcome is. one_list_outcome None None run_with_bad_sum outcome (refused (codes "go.sum:1: BadSum\n")) is bad_sum_reported;
+  reported = list_said run_with_bad_sum _ None None bad_sum_reported;
+  only = λ outcome is. ends_once (PrintsList None None) (list_once None None) run_with_bad_sum outcome (refused (codes "go.sum:1: BadSum\n")) (list_held run_with_bad_sum outcome None None is) bad_sum_reported;
 }
 
 -- ---- the empty file
 
 pub empty_is_refused : EmptyIsRefused
-empty_is_refused = inl (inl ((0, misreading.Directive NoModule), empty_is_malformed, rw (decimal_digit 0 (lit< tt)) refl), (refl, refl))
+empty_is_refused =
+    list_said (run_of [] [] []) _ None None
+    (bad_main (0, misreading.Directive NoModule) empty_is_malformed (refl, refl) (rw (decimal_digit 0 (lit< tt)) refl))
 
 -- ---- a main module that requires one, of which no file says anything
 
@@ -184,27 +180,31 @@ top_askable : is_askable (file_of main top_one) ≡ true
 unfolding is_fetchable
 top_askable = refl
 
-not_stopped : (outcome : Outcome) → IsStopped main None (answers [] []) outcome → ⊥
-not_stopped outcome (too_many (held, tells, many) unfailed is) = not_too_many held (unheld_silent held tells) many
-not_stopped outcome (device name due failed is) = cc failed
-not_stopped outcome (faulty held first others known are is) = false≢true (known.answered top_one (inl is_top) top_askable)
+-- an end of `list` on the two lines is one of loading by what they say
+by_loading : (asked : List (Name × Reply)) (refusals : List Name) → ((outcome : Outcome) → LoadingEnd (PrintsList None None) main None (answers asked refusals) outcome → ⊥) → HasNoOutcome asked refusals
+by_loading asked refusals none outcome ends = by (parts (PrintsList None None) (run_of requiring asked refusals) outcome (list_held (run_of requiring asked refusals) outcome None None ends))
+  where
+    by : Parts (PrintsList None None) (run_of requiring asked refusals) outcome → ⊥
+    by (unread (inl (place, misread, says)) unasked) = misread_or_main requiring place main misread files_are_read.two
+    by (unread (inr (again, report, is, misread, says)) unasked) = misread
+    by (are_read again (Some table) are over) = are.sums
+    by (are_read again None are over) =
+        none outcome
+        (subst (λ (m : Main). LoadingEnd (PrintsList None None) m None (answers asked refusals) outcome) (one_main requiring again main are.main_file files_are_read.two) over)
 
-not_ended : (outcome : Outcome) → IsOutcomeOver (PrintsList None None) main None (answers [] []) outcome → ⊥
-not_ended outcome (inl stopped) = not_stopped outcome stopped
-not_ended outcome (inr (held, known, faults, prints)) = false≢true (known.answered top_one (inl is_top) top_askable)
+not_ended : (outcome : Outcome) → LoadingEnd (PrintsList None None) main None (answers [] []) outcome → ⊥
+not_ended outcome (is_many (held, tells, many) unfailed is) = not_too_many held (unheld_silent held tells) many
+not_ended outcome (is_broken name due failed is) = cc failed
+not_ended outcome (is_known held faults known are is) = false≢true (known.answered top_one (inl is_top) top_askable)
 
 -- ---- the device failed on a file that is not due
 
 module _ (asked : List (Name × Reply)) (one : Name) (not_due : IsDue main None asked one → ⊥) where
-  not_stopped_undue : (outcome : Outcome) → IsStopped main None (answers asked (one ∷ [])) outcome → ⊥
-  not_stopped_undue outcome (too_many told unfailed is) = cc unfailed
-  not_stopped_undue outcome (device name due failed is) =
+  not_ended_undue : (outcome : Outcome) → LoadingEnd (PrintsList None None) main None (answers asked (one ∷ [])) outcome → ⊥
+  not_ended_undue outcome (is_many told unfailed is) = cc unfailed
+  not_ended_undue outcome (is_broken name due failed is) =
       let same : one ≡ name = cc failed in not_due (subst (IsDue main None asked) (sym same) due)
-  not_stopped_undue outcome (faulty held first others known are is) = cc known.none_failed
-
-  not_ended_undue : (outcome : Outcome) → IsOutcomeOver (PrintsList None None) main None (answers asked (one ∷ [])) outcome → ⊥
-  not_ended_undue outcome (inl stopped) = not_stopped_undue outcome stopped
-  not_ended_undue outcome (inr (held, known, faults, prints)) = cc known.none_failed
+  not_ended_undue outcome (is_known held faults known are is) = cc known.none_failed
 
 path_in : Name → List ℕ
 path_in (mod_file path version) = path
@@ -253,14 +253,10 @@ module _ (second : Name) (not_asked : (held : Held) → Silent held → AreAsked
   not_known_two : (held : Held) → AreKnown main None (answers two []) held → ⊥
   not_known_two held known = not_asked held (two_silent held known.tells) known.asked
 
-  not_stopped_two : (outcome : Outcome) → IsStopped main None (answers two []) outcome → ⊥
-  not_stopped_two outcome (too_many (held, tells, many) unfailed is) = not_too_many held (two_silent held tells) many
-  not_stopped_two outcome (device name due failed is) = cc failed
-  not_stopped_two outcome (faulty held first others known are is) = not_known_two held known
-
-  not_ended_two : (outcome : Outcome) → IsOutcomeOver (PrintsList None None) main None (answers two []) outcome → ⊥
-  not_ended_two outcome (inl stopped) = not_stopped_two outcome stopped
-  not_ended_two outcome (inr (held, known, faults, prints)) = not_known_two held known
+  not_ended_two : (outcome : Outcome) → LoadingEnd (PrintsList None None) main None (answers two []) outcome → ⊥
+  not_ended_two outcome (is_many (held, tells, many) unfailed is) = not_too_many held (two_silent held tells) many
+  not_ended_two outcome (is_broken name due failed is) = cc failed
+  not_ended_two outcome (is_known held faults known are is) = not_known_two held known
 
 low_not_asked : (held : Held) → Silent held → AreAsked main (readings_by main held) (top_name ∷ low_name ∷ []) → ⊥
 low_not_asked held silent asked = low_unneeded held silent ((asked.each low_name).0 (1, omega arith, refl))
@@ -342,21 +338,13 @@ missing_faulty = record {
 
 pub required_is_asked : RequiredIsAsked
 required_is_asked = record {
-  missing = inr (
-    main,
-    None,
-    record { main_file = files_are_read.two; sums = tt },
-    inl (faulty missing top_fault [] missing_known missing_faulty refl),
-  );
-  device = inr (
-    main,
-    None,
-    record { main_file = files_are_read.two; sums = tt },
-    inl (device top_name ((nothing, nothing_told, (top_one, inl is_top, refl, top_askable)), refl) refl refl),
-  );
-  unasked = not_ended;
-  undue = not_ended_undue [] low_name low_not_due;
-  answered = not_ended_undue ((top_name, absent) ∷ []) top_name top_not_due;
-  no_more = not_ended_two low_name low_not_asked;
-  not_twice = not_ended_two top_name top_not_twice;
+  missing = list_said (run_of requiring ((top_name, absent) ∷ []) []) _ None None
+      (faulty main None missing top_fault [] (record { main_file = files_are_read.two; sums = tt }) missing_known missing_faulty refl);
+  device = list_said (run_of requiring [] (top_name ∷ [])) _ None None
+      (device main None top_name (record { main_file = files_are_read.two; sums = tt }) ((nothing, nothing_told, (top_one, inl is_top, refl, top_askable)), refl) refl refl);
+  unasked = by_loading [] [] not_ended;
+  undue = by_loading [] (low_name ∷ []) (not_ended_undue [] low_name low_not_due);
+  answered = by_loading ((top_name, absent) ∷ []) (top_name ∷ []) (not_ended_undue ((top_name, absent) ∷ []) top_name top_not_due);
+  no_more = by_loading ((top_name, absent) ∷ (low_name, absent) ∷ []) [] (not_ended_two low_name low_not_asked);
+  not_twice = by_loading ((top_name, absent) ∷ (top_name, absent) ∷ []) [] (not_ended_two top_name top_not_twice);
 }

@@ -42,7 +42,7 @@ use Rattle.gomod_laws.proofs.ExampleLines.{ascii, bare, doc, lines, no_arrow, no
 byte_below : (b : ℕ) → nat_lt b 128 ≡ true → b < 128
 byte_below b e = grind (arith, nat_tests)
 
-all_below : (text : List ℕ) → list_all (λ b. nat_lt b 128) text ≡ true → AllByRecursion (λ b. b < 128) text
+pub all_below : (text : List ℕ) → list_all (λ b. nat_lt b 128) text ≡ true → AllByRecursion (λ b. b < 128) text
 all_below [] all = tt
 all_below (b ∷ text) all = (byte_below b (first_so _ _ all), all_below text (second_so _ _ all))
 

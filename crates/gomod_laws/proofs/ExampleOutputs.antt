@@ -1,13 +1,26 @@
 -- What becomes of small outputs, and of files that are read.
-use Rattle.std.proofs.Common.{rules, ◌≡◌, ◌∙◌, ◌<◌, ℕ, List, None, Some, ap, arith, codes, inl, inr, length, min, refl, subst, sym, take, take_all}
+use Rattle.std.proofs.Common.{rules, ◌≡◌, ◌⊎◌, ◌∙◌, ◌∷◌, ◌<◌, ℕ, Bool, List, [], Option, None, Some, Result, Ok, Err, ap, arith, codes, false, inl, inr, length, min, refl, subst, sym, take, take_all, true}
 use Rattle.std.proofs.lemmas.List.{length-take}
+use Rattle.std.specs.Global.{Vec}
+use Rattle.std.proofs.lemmas.Str.{IsUtf8-from_ascii, is_utf8-from_IsUtf8}
+use Rattle.std.specs.Str.{chars, is_utf8}
 use Rattle.gm_store.specs.Asked.{list_file, mod_file}
+use Rattle.gm_store.specs.Memory.{held_at}
+use Rattle.gm_store.specs.Openings.{IsReadFrom, MayRead, Opening, opened}
 use Rattle.gm_store.specs.Taken.{SinkState}
+use Rattle.gm_store.specs.declared.files.memory.MemoryFiles.{MemoryFiles}
+use Rattle.gm_store.specs.declared.reading.InputFault.{InputFault}
 use Rattle.gm_store.specs.declared.reading.InputFault.TheVariants.{Device, NoMemory}
 use Rattle.gomod_run.specs.Outcome.{Outcome, failed, out_of_memory, printed}
-use Rattle.gomod_run.specs.Reads.{IsUnreadList}
+use Rattle.gomod_run.proofs.Answered.{nothing_is_printed, version_is_printed}
+use Rattle.gomod_run.specs.Program.{IsOutcomeUnless, any_input, anything, usage_error}
+use Rattle.gomod_run.specs.Reads.{HoldsInput, IsUnreadList}
+use Rattle.gomod_words.specs.Given.{first_unreadable}
+use Rattle.gomod_words.specs.Usage.{unreadable_text, version_line}
 use Rattle.gomod_run.specs.Written.{EndsAsStated, IsWritten}
-use Rattle.gomod_laws.specs.ExampleOutputs.{EndIsStated, FileIsRead, InputIsHeld, InputIsUnread, PrintsText, empty, other, path, text, with_bad_line, with_no_memory, with_other, with_text}
+use Rattle.gomod_laws.proofs.ExampleFiles.{all_below}
+use Rattle.gomod_laws.proofs.ExampleLines.{ascii}
+use Rattle.gomod_laws.specs.ExampleOutputs.{EndIsStated, EndsBy, FileIsRead, InputIsHeld, InputIsUnread, PrintsText, WordsAreGiven, empty, version_flag, other, path, taken, text, unreadable, with_bad_line, with_no_memory, with_other, with_text}
 
 -- ---- a run ends
 
@@ -73,18 +86,30 @@ file_is_read = record {
 
 -- ---- standard input
 
-no_such_line : (line : List ℕ) → ¬ (line ≡ codes "gomod: cannot read -\n") → ¬ (line ≡ codes "gomod: no memory\n") → ¬ (IsUnreadList (failed line))
-no_such_line line no_device memory (Device, is) = no_device (ap (λ (o : Outcome). o.report) is)
-no_such_line line no_device memory (NoMemory, is) = memory (ap (λ (o : Outcome). o.report) is)
+no_such_line : (line : List ℕ) → ¬ (line ≡ codes "gomod: cannot read -\n") → ¬ (line ≡ codes "gomod: no memory\n") → ¬ (IsUnreadList (taken true) (failed line))
+no_such_line line no_device memory (Device, may, is) = no_device (ap (λ (o : Outcome). o.report) is)
+no_such_line line no_device memory (NoMemory, may, is) = memory (ap (λ (o : Outcome). o.report) is)
 
-unread_status : (outcome : Outcome) → IsUnreadList outcome → outcome.status ≡ 3
-unread_status outcome (Device, is) = ap (λ (o : Outcome). o.status) is
-unread_status outcome (NoMemory, is) = ap (λ (o : Outcome). o.status) is
+unread_status : (outcome : Outcome) → IsUnreadList (taken true) outcome → outcome.status ≡ 3
+unread_status outcome (Device, may, is) = ap (λ (o : Outcome). o.status) is
+unread_status outcome (NoMemory, may, is) = ap (λ (o : Outcome). o.status) is
+
+-- what reading it came to if it was taken
+read_of : (may_fail : Bool) (read : Result (Vec ℕ) InputFault) → MayRead (taken may_fail) read → IsReadFrom (opened (Some text) may_fail) read
+read_of may_fail read (opening, is, comes) = subst (λ (o : Opening). IsReadFrom o read) is comes
+
+no_device_line : ¬ (out_of_memory ≡ failed (codes "gomod: cannot read -\n"))
+no_device_line same = search rules
+
+unfailing : ¬ (IsUnreadList (taken false) (failed (codes "gomod: cannot read -\n")))
+unfailing (Device, may, is) = let wrong : false ≡ true = read_of false (Err Device) may in cc wrong
+unfailing (NoMemory, may, is) = no_device_line (sym is)
 
 pub input_is_unread : InputIsUnread
 input_is_unread = record {
-  device = (Device, refl);
-  no_memory = (NoMemory, refl);
+  device = (Device, (opened (Some text) true, refl, refl), refl);
+  no_memory = (NoMemory, (opened (Some text) false, refl, tt), refl);
+  unfailing = unfailing;
   other_name = no_such_line (codes "gomod: cannot read m\n") (search rules) (search rules);
   other_status = λ unread. let is : 1 ≡ 3 = unread_status _ unread in omega (arith, is);
   prints = λ unread. let is : 0 ≡ 3 = unread_status _ unread in omega (arith, is);
@@ -93,11 +118,70 @@ input_is_unread = record {
 some_or_none : (file : List ℕ) → Some file ≡ None → ⊥
 some_or_none file e = cc e
 
+same_list : (one other : List ℕ) → Some one ≡ Some other → one ≡ other
+same_list one other e = cc e
+
+-- the list of a store that has standard input is the text
+list_is_text : (files : MemoryFiles) (list : List ℕ) → held_at files (list_file path) ≡ Some list → HoldsInput (taken false) path files → list ≡ take 16777217 text
+list_is_text files list there holds =
+    same_list list holds.0.items (sym there ∙ holds.2 (list_file path)) ∙ read_of false (Ok holds.0) holds.1
+
 pub input_is_held : InputIsHeld
 input_is_held = record {
-  held = λ files list holds. (list, holds);
-  nothing = λ files none holds. some_or_none holds.0.items (sym (holds.1 (list_file path)) ∙ none);
-  other_list = λ files list there holds. some_or_none list (sym there ∙ holds.1 (list_file (codes "n")));
-  other_file = λ files file there holds. some_or_none file (sym there ∙ holds.1 (mod_file path (codes "v1.0.0")));
+  held = λ files list is holds. (list, (opened (Some text) false, refl, is ∙ sym (limit_of text (omega arith))), holds);
+  another = λ files list is there holds. not_given list text (omega arith) (other_differs list is) (list_is_text files list there holds);
+  cut = λ files list is there holds. not_given list text (omega arith) (cut_differs list is) (list_is_text files list there holds);
+  nothing = λ files none holds. some_or_none holds.0.items (sym (holds.2 (list_file path)) ∙ none);
+  other_list = λ files list there holds. some_or_none list (sym there ∙ holds.2 (list_file (codes "n")));
+  other_file = λ files file there holds. some_or_none file (sym there ∙ holds.2 (mod_file path (codes "v1.0.0")));
   not_empty = λ files list there holds. some_or_none list (sym there ∙ holds (list_file path));
+}
+
+-- ---- the words
+
+-- ASCII is UTF-8, and a byte 255 is not
+version_readable : first_unreadable (version_flag ∷ []) ≡ None
+version_readable = rw (is_utf8-from_IsUtf8 version_flag (IsUtf8-from_ascii version_flag (ascii version_flag (all_below version_flag refl)))) refl
+
+byte_unreadable : (words : List (List ℕ)) → first_unreadable (unreadable ∷ words) ≡ Some unreadable
+unfolding is_utf8 chars
+byte_unreadable words = refl
+
+-- what the known words end in
+ends_by : (words : List (List ℕ)) (outcome : Outcome) → EndsBy words outcome → IsOutcomeUnless anything any_input words (first_unreadable words) outcome
+ends_by words outcome (given, same, ends) = subst (λ (ws : List (List ℕ)). IsOutcomeUnless anything any_input ws (first_unreadable ws) outcome) same ends
+
+version_ends : (outcome : Outcome) → EndsBy (version_flag ∷ []) outcome → (outcome ≡ printed version_line) ⊎ (outcome ≡ out_of_memory)
+version_ends outcome ends = version_is_printed (codes "gomod") version_flag outcome (inl refl)
+    (subst (λ (found : Option (List ℕ)). IsOutcomeUnless anything any_input (version_flag ∷ []) found outcome) version_readable (ends_by (version_flag ∷ []) outcome ends))
+
+not_dropped : (outcome : Outcome) → outcome.status ≡ 2 → ¬ (EndsBy (version_flag ∷ []) outcome)
+not_dropped outcome usage ends = elim (version_ends outcome ends) [
+  | inl is ↦ let wrong : 2 ≡ 0 = sym usage ∙ ap (λ (o : Outcome). o.status) is in omega (arith, wrong)
+  | inr is ↦ let wrong : 2 ≡ 3 = sym usage ∙ ap (λ (o : Outcome). o.status) is in omega (arith, wrong)
+]
+
+not_made_up : (line : List ℕ) → ¬ (line ≡ []) → ¬ (EndsBy [] (printed line))
+not_made_up line some ends = elim (nothing_is_printed (codes "gomod") (printed line) (ends_by [] (printed line) ends)) [
+  | inl none ↦ some none.0
+  | inr is ↦ let wrong : 0 ≡ 3 = ap (λ (o : Outcome). o.status) is in omega (arith, wrong)
+]
+
+shown_status : (words : List (List ℕ)) (word : List ℕ) (outcome : Outcome) → first_unreadable words ≡ Some word → EndsBy words outcome → outcome ≡ usage_error (unreadable_text word)
+shown_status words word outcome first ends = subst (λ (found : Option (List ℕ)). IsOutcomeUnless anything any_input words found outcome) first (ends_by words outcome ends)
+
+not_passed_over : ¬ (EndsBy (unreadable ∷ version_flag ∷ []) (printed version_line))
+not_passed_over ends =
+    let wrong : 0 ≡ 2 = ap (λ (o : Outcome). o.status) (shown_status (unreadable ∷ version_flag ∷ []) unreadable (printed version_line) (byte_unreadable (version_flag ∷ [])) ends) in omega (arith, wrong)
+
+unreadable_shown : IsOutcomeUnless anything any_input (unreadable ∷ version_flag ∷ []) (first_unreadable (unreadable ∷ version_flag ∷ [])) (usage_error (unreadable_text unreadable))
+unreadable_shown = rw (byte_unreadable (version_flag ∷ [])) refl
+
+pub words_are_given : WordsAreGiven
+words_are_given = record {
+  version = version_ends;
+  dropped = not_dropped;
+  made_up = not_made_up;
+  shown = (unreadable ∷ version_flag ∷ [], refl, unreadable_shown);
+  passed_over = not_passed_over;
 }

@@ -16,8 +16,9 @@ use Rattle.gm_graph.proofs.Keeping.{answer_stays}
 use Rattle.gm_graph_select.proofs.Ascending.{member_cases, no_member}
 use Rattle.gm_graph.specs.declared.fault.Fault.{Fault}
 use Rattle.gm_graph.specs.Loading.{IsNeeded}
-use Rattle.gomod_run.specs.ListingLaws.{AllFilesAreValid, AnswerAlike}
+use Rattle.gomod_run.specs.ListingLaws.{AnswerAlike}
 use Rattle.gomod_run.specs.Outcomes.{Given, answers, given}
+use Rattle.gomod_run.specs.HeldFiles.{AllFilesAreValid}
 use Rattle.gomod_run.specs.Needs.{AnsweredAll, AnswersByName, AskedAfter, AskedInTurn}
 use Rattle.gomod_run.specs.Outcome.{Outcome}
 use Rattle.gomod_run.proofs.OneRead.{one_finding, one_main, tells_alike}
@@ -172,14 +173,11 @@ names_into file sums asked told main again held next alike valid also name there
 pub same_outcome : (command : Command) (main : List ℕ) (sums : Option (List ℕ)) (asked told : Pairs) (a b : Outcome) → AnswerAlike asked told
     → HasOutcome command main sums asked a → HasOutcome command main sums told b → a ≡ b
 same_outcome command main sums asked told a b alike run again =
-    let all : AnswerAlike run.new.asked again.new.asked =
-    subst (λ (pairs : Pairs). AnswerAlike run.new.asked pairs) (sym again.asked_are) (subst (λ (pairs : Pairs). AnswerAlike pairs told) (sym run.asked_are) alike) in
-    one_for_stores command main sums run.old run.new again.old again.new a b all run.none_failed again.none_failed run.run again.run
+    one_for_stores command (given main sums (answers asked [])) (given main sums (answers told [])) a b (record { file = refl; sums = refl; answers = alike; failed = refl }) run again
 
 all_answered : (command : Command) (main : List ℕ) (sums : Option (List ℕ)) (asked : Pairs) (outcome : Outcome) → HasOutcome command main sums asked outcome → HasPrinted outcome
     → AnsweredAll (Needs command main sums) (answer_in asked)
-all_answered command main sums asked outcome run prints =
-    subst (λ (pairs : Pairs). AnsweredAll (Needs command main sums) (answer_in pairs)) run.asked_are (done_answers command main sums run.old run.new outcome run.run prints)
+all_answered command main sums asked outcome run prints = done_answers command (given main sums (answers asked [])) outcome run prints
 
 module _ (main : List ℕ) (sums : Option (List ℕ)) where
   -- what a query asked for is what it needed, and was read

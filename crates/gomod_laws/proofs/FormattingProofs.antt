@@ -1,6 +1,6 @@
 -- The proofs of the laws of formatting.
-use Rattle.std.proofs.Common.{◌≡◌, ◌≤◌, ℕ, List, [], ◌∷◌, length, Option, None, Some, Ok, refl, sym, ap, subst, ◌∙◌, ◌++◌, ◌+◌, Bool, true, false, IsUtf8, arith, inl, inr, map}
-use Rattle.std.specs.Global.{Global, Vec}
+use Rattle.std.proofs.Common.{◌≡◌, ◌≤◌, ℕ, List, [], ◌∷◌, length, Option, None, Some, Ok, refl, sym, ap, subst, ◌∙◌, ◌++◌, ◌+◌, Bool, true, false, IsUtf8, arith, map}
+use Rattle.std.specs.Global.{Global}
 use Rattle.std.specs.List.{AllByRecursion, cons_option, filter_map}
 use Rattle.std.specs.Option.{option_map, option_to_list}
 use Rattle.std.specs.String.{string_bytes}
@@ -25,11 +25,10 @@ use Rattle.gomod_run.specs.Outcomes.{longest}
 use Rattle.gomod_run.specs.Outcome.{Outcome, printed, refused}
 use Rattle.gomod_run.specs.Reports.{main_line}
 use Rattle.gomod_run.proofs.OneRead.{same_lines}
-use Rattle.gomod_words.specs.Usage.{texts_in}
-use Rattle.gomod_words.specs.declared.usage.Command.TheVariants.{Fmt, Edit}
-use Rattle.gomod_run.specs.Editing.{IsEditOutcome, edited_in_turn, refusal_of, refusals_from}
-use Rattle.gomod_run.specs.Runs.{IsFmtOutcome}
-use Rattle.gomod_run.proofs.Sameness.{one_outcome}
+use Rattle.gomod_words.specs.declared.usage.Command.TheVariants.{Fmt}
+use Rattle.gomod_run.specs.Editing.{edited_in_turn, refusal_of, refusals_from}
+use Rattle.gomod_run.specs.Runs.{bad_syntax, laid_out}
+use Rattle.gomod_run.proofs.Sameness.{fmt_once}
 use Rattle.gomod_laws.specs.FormattingLaws.{FormattingChangesNoBuild, IsFormatted, LayoutsAreFormatted}
 use Rattle.gomod_laws.specs.Runs.{HasOutcome}
 use Rattle.gomod_laws.proofs.FormattingBlanks.{main_said, no_fault_again, same_said}
@@ -54,12 +53,6 @@ layout_main file lines main parsed short (others, (read, sound), says) =
 
 -- ---- what `fmt` prints
 
-fmt_states : (file : List ℕ) (outcome : Outcome) → HasOutcome Fmt file None [] outcome → IsFmtOutcome file outcome
-fmt_states file outcome has = elim has.run [
-  | inl stated ↦ stated.0
-  | inr stopped ↦ absurd stopped.2
-]
-
 -- `fmt` prints the layout of the lines that were read
 pub record IsLayoutOf (file text : List ℕ) : Type 0 where
   pub lines : List (Line Placed)
@@ -70,10 +63,8 @@ pub not_printed : (text report : List ℕ) → printed text ≡ refused report �
 not_printed text report same = let e : 0 ≡ 1 = ap (λ (o : Outcome). o.status) same in omega (arith, e)
 
 pub fmt_printed : (file text : List ℕ) → IsFormatted file text → IsLayoutOf file text
-fmt_printed file text has = elim (fmt_states file (printed text) has) [
-  | inl of_lines ↦ record { lines = of_lines.0; parsed = of_lines.1; text_is = ap (λ (o : Outcome). o.text) of_lines.2 }
-  | inr of_fault ↦ absurd (not_printed text (main_line of_fault.1) of_fault.4)
-]
+fmt_printed file text (laid_out lines parsed says) = record { lines = lines; parsed = parsed; text_is = ap (λ (o : Outcome). o.text) says }
+fmt_printed file text (bad_syntax fault place parsed named says) = absurd (not_printed text (main_line place) says)
 
 pub says_itself : (main : Main) → SayTheSame main main
 says_itself main = record { path = refl; pruned = refl; required = λ x. (λ is. is, λ is. is); excluded = λ x. (λ is. is, λ is. is); replaced = λ x. refl }
@@ -87,7 +78,7 @@ formatting_changes_no_build command file text main sums asked answered before af
 
 -- the only outcome of `fmt` is the layout of the lines
 pub fmt_is : (file : List ℕ) (lines : List (Line Placed)) (outcome : Outcome) → IsParsedAs file (Ok lines) → HasOutcome Fmt file None [] outcome → printed (layout (plain_lines lines)) ≡ outcome
-fmt_is file lines outcome parsed has = one_outcome Fmt file None (λ name. None) (printed (layout (plain_lines lines))) outcome (inl (lines, parsed, refl)) (fmt_states file outcome has)
+fmt_is file lines outcome parsed has = fmt_once file (printed (layout (plain_lines lines))) outcome (laid_out lines parsed refl) has
 
 pub layouts_are_formatted : LayoutsAreFormatted
 layouts_are_formatted file text formatted first short again =
@@ -98,12 +89,6 @@ layouts_are_formatted file text formatted first short again =
     sym (fmt_is text read.doc formatted parsed again) ∙ ap printed (read.same_layout ∙ sym found.text_is)
 
 -- ---- what `edit` prints
-
-pub edit_states : (operations : Vec (String Global)) (file : List ℕ) (outcome : Outcome) → HasOutcome (Edit operations) file None [] outcome → IsEditOutcome (texts_in operations) file outcome
-edit_states operations file outcome has = elim has.run [
-  | inl stated ↦ stated.0
-  | inr stopped ↦ absurd stopped.2
-]
 
 -- what is known of lines between two operations
 pub record AreSoundLines (lines : List (Line Placed)) : Type 0 where

@@ -1,17 +1,16 @@
 -- Runs over a store in which files that were absent now exist.
 use Rattle.std.proofs.Common.{◌≡◌, ◌∙◌, ℕ, Bool, true, List, Option, Some, None, ap, inl, inr, refl, sym}
-use Rattle.std.specs.Global.{Global, Vec}
-use Rattle.std.specs.Prelude.{String}
 use Rattle.gm_store.specs.Asked.{Name, Reply, absent, answer_in, bytes, list_file, mod_file, too_long}
 use Rattle.gomod_run.specs.ListingLaws.{AnswerAlike}
 use Rattle.gomod_run.specs.Needs.{AnswersByName}
 use Rattle.gomod_run.specs.Outcome.{Outcome}
 use Rattle.gomod_run.proofs.OneQueryStore.{alike_back}
+use Rattle.gomod_words.specs.Usage.{texts_in}
 use Rattle.gomod_words.specs.declared.usage.Command.{Command}
 use Rattle.gomod_words.specs.declared.usage.Command.TheVariants.{Fmt, Edit, Versions, Graph, List as Rows, Chain}
-use Rattle.gomod_run.specs.Runs.{StatesOutcome, is_query}
+use Rattle.gomod_run.specs.Runs.{is_query}
 use Rattle.gomod_run.specs.Versions.{IsOutcomeByList, IsVersionsOutcome, VersionsNeed}
-use Rattle.gomod_run.proofs.Sameness.{one_outcome}
+use Rattle.gomod_run.proofs.Sameness.{edit_once, fmt_once, versions_once}
 use Rattle.gomod_laws.specs.LaterLaws.{LaterAsksTheSame, LaterPrintsTheSame, OnlyAddsAnswers}
 use Rattle.gomod_laws.specs.Runs.{HasOutcome, HasPrinted}
 use Rattle.gomod_laws.proofs.FolderRuns.{IsFile, each_is_file, names_in_other, needed_again, needed_is_file, query_is_file, same_outcome}
@@ -80,7 +79,7 @@ module _ (path : List ℕ) (all : Bool) (main : List ℕ) (sums : Option (List �
 
   versions_again : IsVersionsOutcome path all (answer_in later) other → other ≡ one
   versions_again also =
-      one_outcome (Versions path all) main sums both other one
+      versions_once path all both other one
       (kept_outcome path all (answer_in later) both later_kept other also)
       (kept_outcome path all (answer_in asked) both (λ name reply need e. first_kept (answer_in asked name) (answer_in later name) reply e) one states)
 
@@ -89,25 +88,13 @@ module _ (path : List ℕ) (all : Bool) (main : List ℕ) (sums : Option (List �
 pub later_prints_the_same : LaterPrintsTheSame
 later_prints_the_same command main sums asked later one other run prints adds again = by command run again
   where
-    fmt_stated : (pairs : Pairs) (outcome : Outcome) → HasOutcome Fmt main sums pairs outcome → StatesOutcome Fmt main sums (λ name. None) outcome
-    fmt_stated pairs outcome has = elim has.run [
-      | inl stated ↦ stated.0
-      | inr stopped ↦ absurd stopped.2
-    ]
-
-    edit_stated : (operations : Vec (String Global)) (pairs : Pairs) (outcome : Outcome) → HasOutcome (Edit operations) main sums pairs outcome → StatesOutcome (Edit operations) main sums (λ name. None) outcome
-    edit_stated operations pairs outcome has = elim has.run [
-      | inl stated ↦ stated.0
-      | inr stopped ↦ absurd stopped.2
-    ]
-
     query : (c : Command) → is_query c ≡ true → HasOutcome c main sums asked one → HasOutcome c main sums later other → other ≡ one
     query c is first second =
         sym (same_outcome c main sums asked later one other (files_stay asked later adds (query_is_file main sums c asked one is first prints)) first second)
 
     by : (c : Command) → HasOutcome c main sums asked one → HasOutcome c main sums later other → other ≡ one
-    by Fmt first second = one_outcome Fmt main sums (λ name. None) other one (fmt_stated later other second) (fmt_stated asked one first)
-    by (Edit operations) first second = one_outcome (Edit operations) main sums (λ name. None) other one (edit_stated operations later other second) (edit_stated operations asked one first)
+    by Fmt first second = fmt_once main other one second first
+    by (Edit operations) first second = edit_once (texts_in operations) main other one second first
     by (Versions path all) first second =
         versions_again path all main sums asked later one other prints adds (by_answers path all main sums asked one first) (by_answers path all main sums later other second)
     by Graph first second = query Graph refl first second

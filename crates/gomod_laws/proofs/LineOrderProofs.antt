@@ -14,12 +14,14 @@ use Rattle.gm_graph.specs.declared.fault.Fault.{Fault}
 use Rattle.gm_graph.specs.Graph.{IsEdge, IsOpened}
 use Rattle.gm_graph.specs.Loading.{AreAsked, AreFew, AreTooMany, IsNeeded}
 use Rattle.gm_graph.specs.Outcome.{AreFaults, AreRows}
-use Rattle.gomod_run.specs.Outcomes.{AreKnown, Answers, IsOutcome, IsOutcomeOver, IsStopped, Prints, PrintsChain, PrintsGraph, PrintsList, device, faulty, given, too_many}
+use Rattle.gomod_run.specs.Outcomes.{Answers, given}
+use Rattle.gomod_run.specs.HeldFiles.{AreKnown}
+use Rattle.gomod_run.proofs.HeldEnds.{Prints, PrintsChain, PrintsGraph, PrintsList, QueryEnds, bad_sums, PrintsOf}
 use Rattle.gomod_run.specs.Outcome.{Outcome}
 use Rattle.gomod_run.proofs.OneRead.{misread_or_main, one_main}
+use Rattle.gomod_run.proofs.QueryParts.{LoadingEnd, Parts, are_read, is_broken, is_known, is_many, joined, parts, unread}
 use Rattle.gomod_words.specs.declared.usage.Command.{Command}
 use Rattle.gomod_words.specs.declared.usage.Command.TheVariants.{Fmt, Edit, Versions, Graph, List as Rows, Chain}
-use Rattle.gomod_run.specs.Queries.{PrintsOf}
 use Rattle.gomod_laws.proofs.LineOrderRuns.{QueriesMove}
 use Rattle.gomod_laws.proofs.LineOrderSame.{SayTheSame, answered, asked, edges, faults, few, needed, opened, readings_same, same_back, same_edges, too_many as many}
 
@@ -75,24 +77,21 @@ module _ (m k : Main) (same : SayTheSame m k) (table : Option Sums) (told : Answ
   faults_move : (held : Held) (found : List Fault) → AreFaults m (readings_by m held) found → AreFaults k (readings_by k held) found
   faults_move held found are = along (λ (r : Readings). AreFaults k r found) held (faults m k same (readings_by m held) found are)
 
-  stopped_moves : (outcome : Outcome) → IsStopped m table told outcome → IsStopped k table told outcome
-  stopped_moves outcome (too_many (held, tells, over) none says) =
-      too_many (held, tells, along (λ (r : Readings). AreTooMany k r) held (many m k same (readings_by m held) over)) none says
-  stopped_moves outcome (device name ((held, tells, need), unanswered) one says) =
-      device name ((held, tells, along (λ (r : Readings). IsNeeded k r name) held (needed m k same (readings_by m held) name need)), unanswered) one says
-  stopped_moves outcome (faulty held first others are found says) = faulty held first others (known_moves held are) (faults_move held (first ∷ others) found) says
-
 over_moves : (prints : Prints) → Moves prints → (m n : Main) → SayTheSame m (with_path m.path n) → (table : Option Sums) (told : Answers) (outcome : Outcome)
-    → IsOutcomeOver prints m table told outcome → IsOutcomeOver prints (with_path m.path n) table told outcome
-over_moves prints moves m n same table told outcome (inl stopped) = inl (stopped_moves m (with_path m.path n) same table told outcome stopped)
-over_moves prints moves m n same table told outcome (inr (held, are, none, says)) =
+    → LoadingEnd prints m table told outcome → LoadingEnd prints (with_path m.path n) table told outcome
+over_moves prints moves m n same table told outcome (is_many (held, tells, over) none says) =
     let k : Main = with_path m.path n in
-    inr (
-      held,
-      known_moves m k same table told held are,
-      faults_move m k same table told held [] none,
-      along m k same table told (λ (r : Readings). prints k r outcome) held (moves m n (readings_by m held) outcome same says),
-    )
+    is_many (held, tells, along m k same table told (λ (r : Readings). AreTooMany k r) held (many m k same (readings_by m held) over)) none says
+over_moves prints moves m n same table told outcome (is_broken name ((held, tells, need), unanswered) one says) =
+    let k : Main = with_path m.path n in
+    is_broken name ((held, tells, along m k same table told (λ (r : Readings). IsNeeded k r name) held (needed m k same (readings_by m held) name need)), unanswered) one says
+over_moves prints moves m n same table told outcome (is_known held [] are none says) =
+    let k : Main = with_path m.path n in
+    is_known held [] (known_moves m k same table told held are) (faults_move m k same table told held [] none)
+    (along m k same table told (λ (r : Readings). prints k r outcome) held (moves m n (readings_by m held) outcome same says))
+over_moves prints moves m n same table told outcome (is_known held (first ∷ others) are found says) =
+    let k : Main = with_path m.path n in
+    is_known held (first ∷ others) (known_moves m k same table told held are) (faults_move m k same table told held (first ∷ others) found) says
 
 query_moves : (command : Command) → Moves (PrintsOf command)
 query_moves Graph = graph_moves
@@ -111,12 +110,16 @@ module _ (file other : List ℕ) (sums : Option (List ℕ)) (m n : Main) (is : I
   path_back : with_path m.path n ≡ n
   path_back = ap (λ (path : List ℕ). with_path path n) same.path
 
-  moved : (prints : Prints) → Moves prints → (told : Answers) (outcome : Outcome) → IsOutcome prints (given file sums told) outcome → IsOutcome prints (given other sums told) outcome
-  moved prints moves told outcome (inl (inl (place, malformed, says), unasked)) = absurd (misread_or_main file place m malformed is)
-  moved prints moves told outcome (inl (inr (again, report, read, invalid, says), unasked)) = inl (inr (n, report, also, invalid, says), unasked)
-  moved prints moves told outcome (inr (again, table, read, over)) =
-      let here : IsOutcomeOver prints m table told outcome = subst (λ (main : Main). IsOutcomeOver prints main table told outcome) (one_main file again m read.main_file is) over in
-      inr (n, table, record { main_file = also; sums = read.sums }, subst (λ (main : Main). IsOutcomeOver prints main table told outcome) path_back (over_moves prints moves m n same_path table told outcome here))
+  moved : (prints : Prints) → Moves prints → (told : Answers) (outcome : Outcome) → QueryEnds prints (given file sums told) outcome → QueryEnds prints (given other sums told) outcome
+  moved prints moves told outcome ends = by (parts prints (given file sums told) outcome ends)
+    where
+      by : Parts prints (given file sums told) outcome → QueryEnds prints (given other sums told) outcome
+      by (unread (inl (place, malformed, says)) unasked) = absurd (misread_or_main file place m malformed is)
+      by (unread (inr (again, report, read, invalid, says)) unasked) = bad_sums n report also invalid unasked says
+      by (are_read again table read over) =
+          let here : LoadingEnd prints m table told outcome = subst (λ (main : Main). LoadingEnd prints main table told outcome) (one_main file again m read.main_file is) over in
+          joined prints (given other sums told) outcome
+          (are_read n table (record { main_file = also; sums = read.sums }) (subst (λ (main : Main). LoadingEnd prints main table told outcome) path_back (over_moves prints moves m n same_path table told outcome here)))
 
   pub queries_move : QueriesMove file other sums
   queries_move command told outcome run = moved (PrintsOf command) (query_moves command) told outcome run

@@ -1,35 +1,24 @@
 -- Runs of queries, and those that print.
-use Rattle.std.proofs.Common.{◌≡◌, ℕ, List, [], Option, subst, true}
+use Rattle.std.proofs.Common.{◌≡◌, ℕ, List, [], Option, true}
 use Rattle.gm_store.specs.Asked.{Name, Reply}
 use Rattle.gm_file.specs.Main.{Main}
 use Rattle.gm_graph.specs.Reading.{Held}
-use Rattle.gomod_run.specs.ListingLaws.{AllFilesAreValid}
 use Rattle.gomod_run.specs.Outcomes.{answers, given}
+use Rattle.gomod_run.specs.HeldFiles.{AllFilesAreValid}
+use Rattle.gomod_run.proofs.HeldEnds.{PrintsOf, query_ends}
 use Rattle.gomod_run.proofs.PrintedList.{printed_run}
 use Rattle.gomod_run.specs.Outcome.{Outcome}
 use Rattle.gomod_words.specs.declared.usage.Command.{Command}
-use Rattle.gomod_run.specs.Queries.{IsQueryOutcome, PrintsOf}
 use Rattle.gomod_run.specs.Runs.{is_query}
-use Rattle.gomod_run.proofs.Endings.{query_runs}
-use Rattle.gomod_run.proofs.OneStore.{none_more}
 use Rattle.gomod_laws.specs.Runs.{HasOutcome, HasPrinted}
 
 abbrev pub Pairs : Type 0
 Pairs = List (Name × Reply)
-
--- the outcome of a query, by the answers of the run
-pub query_by_answers : (command : Command) (file : List ℕ) (sums : Option (List ℕ)) (asked : Pairs) (outcome : Outcome) → is_query command ≡ true → HasOutcome command file sums asked outcome
-    → IsQueryOutcome command (given file sums (answers asked [])) outcome
-query_by_answers command file sums asked outcome query run =
-    let (names, grown, is) = query_runs command file sums run.old run.new outcome query run.run in
-    let none = none_more run.old.refused run.new.refused names grown run.none_failed in
-    subst (λ (pairs : Pairs). IsQueryOutcome command (given file sums (answers pairs [])) outcome) run.asked_are
-    (subst (λ (ns : List Name). IsQueryOutcome command (given file sums (answers run.new.asked ns)) outcome) none is)
 
 -- what a query that prints is based on
 pub valid_files : (command : Command) (file : List ℕ) (sums : Option (List ℕ)) (asked : Pairs) (outcome : Outcome) → is_query command ≡ true → HasOutcome command file sums asked outcome → HasPrinted outcome
     → (main : Main) × (held : Held) × AllFilesAreValid (given file sums (answers asked [])) main held
 valid_files command file sums asked outcome query run done =
     let (main, held, valid, says) =
-    printed_run (PrintsOf command) (given file sums (answers asked [])) outcome (query_by_answers command file sums asked outcome query run) done in
+    printed_run (PrintsOf command) (given file sums (answers asked [])) outcome (query_ends (given file sums (answers asked [])) outcome command query run) done in
     (main, held, valid)

@@ -12,8 +12,8 @@ use Rattle.gm_graph_select.specs.Graph.{Edges, edge}
 use Rattle.gm_graph_select.specs.BuildList.{Entry, entry_of, main_entry}
 use Rattle.gm_graph_select.specs.Chains.{IsChain, begins, goes_on}
 use Rattle.gm_graph_select.proofs.Ascending.{member_head}
-use Rattle.gomod_run.specs.ListingLaws.{AllFilesAreValid}
 use Rattle.gomod_run.specs.Outcomes.{Given}
+use Rattle.gomod_run.specs.HeldFiles.{AllFilesAreValid}
 use Rattle.gomod_run.specs.Outcome.{Outcome, printed}
 use Rattle.gomod_run.specs.PrintedLines.{AreProperEdges, AreProperRows, AreProperSteps, IsProperStep}
 use Rattle.gomod_run.specs.ListingTexts.{chain_text, graph_text, list_text, step_text}

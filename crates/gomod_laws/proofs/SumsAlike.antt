@@ -2,7 +2,6 @@
 use Rattle.std.proofs.Common.{◌≡◌, ◌∙◌, ◌≤◌, ◌↔◌, ◌++◌, ◌∷◌, ℕ, List, [], Option, Some, None, Ok, ap, length, sym, refl, subst, arith, codes, inl, inr}
 use Rattle.std.proofs.lemmas.Bool.{false≢true}
 use Rattle.gm_store.specs.Asked.{Name, Reply, absent, answer_in, bytes, folder_file, list_file, mod_file, too_long}
-use Rattle.gm_store.specs.States.{StoreState}
 use Rattle.gm_store_sums.specs.Hash.{file_hash}
 use Rattle.gm_store_sums.specs.Sums.{HasValidLines, IsSum, ReadsAs, Says, Sums, check_in}
 use Rattle.gm_store_sums.specs.declared.sum_table.Sum.{Sum}
@@ -12,23 +11,25 @@ use Rattle.gm_file.specs.Main.{Main, IsMainFile}
 use Rattle.gm_graph.specs.Reading.{Held, IsReadUnless, IsTold, Tells, class_of_sum, file_of, is_askable, readings_by, sum_fault}
 use Rattle.gm_graph.specs.Loading.{AreTooMany, IsNeeded}
 use Rattle.gomod_run.specs.ListingLaws.{AnswerAlike}
-use Rattle.gomod_run.specs.Outcomes.{AreKnown, AreSums, IsOutcome, IsOutcomeOver, Prints as PrintsOver, PrintsChain, PrintsGraph, PrintsList, answers, device, faulty, given, longest, too_many}
+use Rattle.gm_graph.specs.Run.{run_of}
+use Rattle.gm_graph.proofs.RunReadings.{is_read, needed_same}
+use Rattle.gomod_run.specs.Outcomes.{AreSums, answers, given, longest}
+use Rattle.gomod_run.specs.HeldFiles.{AreKnown}
+use Rattle.gomod_run.proofs.HeldEnds.{Prints as PrintsOver, PrintsChain, PrintsGraph, PrintsList, QueryEnds, bad_main, chain_held, graph_held, list_held}
 use Rattle.gomod_run.specs.Needs.{GraphNeeds}
 use Rattle.gomod_run.specs.Outcome.{Outcome, refused}
 use Rattle.gomod_run.specs.Reports.{too_many_line}
-use Rattle.gomod_run.proofs.OneOutcome.{one_outcome}
+use Rattle.gomod_run.proofs.OneOutcome.{one_end}
 use Rattle.gomod_run.proofs.OnePrinted.{PrintsOnce, chain_once, graph_once, list_once}
 use Rattle.gomod_run.proofs.OneRead.{misread_or_main, misread_or_sums, one_main}
 use Rattle.gomod_words.specs.declared.usage.Command.{Command}
 use Rattle.gomod_words.specs.declared.usage.Command.TheVariants.{Fmt, Edit, Versions, Graph, List as Rows, Chain}
-use Rattle.gomod_run.specs.Queries.{RunsTo}
 use Rattle.gomod_run.proofs.OneStore.{one_for_stores}
+use Rattle.gomod_run.proofs.QueryParts.{LoadingEnd, Parts, are_read, is_broken, is_known, is_many, joined, parts, unread}
 use Rattle.gomod_laws.specs.Runs.{HasOutcome}
 use Rattle.gomod_laws.specs.SumLaws.{HasNeedlessLines, HasSumLine, NeedlessLinesChangeNothing, SumLinesInAnyOrder}
 use Rattle.gomod_laws.proofs.Carried.{IsCarried, Known, opened_too, reading_kept, told_kept}
 use Rattle.gomod_laws.proofs.SumsChecked.{answered_name}
-use Rattle.gomod_laws.proofs.PrintedRuns.{query_by_answers}
-use Rattle.gomod_laws.proofs.SumsGiven.{asked_alike}
 use Rattle.gomod_laws.proofs.SumsOutcomes.{sum_table}
 
 -- ---- what go.sums say
@@ -103,7 +104,13 @@ module _ (prints : PrintsOver) (once : PrintsOnce prints) (main one other : List
         same_for : (name : Name) → IsNeeded said (readings_by said held) name → HaveSameFor one other name
         same_for (mod_file path version) needed =
             λ hash. are.same path version hash
-            (record { main = said; table = Some t; held = held; read = record { main_file = is_main; sums = reads }; files_read = told; needed = needed })
+            (record {
+              main = said;
+              table = Some t;
+              read = record { main_file = is_main; sums = reads };
+              known = is_read (run_of said (Some t) asked) held told;
+              needed = (needed_same (run_of said (Some t) asked) held told (mod_file path version)).1 needed;
+            })
         same_for (folder_file folder) needed = tt
         same_for (list_file path) needed = tt
 
@@ -140,70 +147,74 @@ module _ (prints : PrintsOver) (once : PrintsOnce prints) (main one other : List
         omega (arith, long, few)
 
     many_both : (held : Held) → Tells (Some t) asked held → AreTooMany said (readings_by said held) → a ≡ refused too_many_line
-        → IsOutcomeOver prints said (Some u) (answers others []) b → a ≡ b
-    many_both held told many says (inl (too_many over none is)) = says ∙ sym is
-    many_both held told many says (inl (device name due some is)) = absurd (let none : [] ≡ name ∷ [] = some in cc none)
-    many_both held told many says (inl (faulty next first more known faults is)) = absurd (not_few held next told many known)
-    many_both held told many says (inr (next, known, sound, is)) = absurd (not_few held next told many known)
+        → LoadingEnd prints said (Some u) (answers others []) b → a ≡ b
+    many_both held told many says (is_many over none is) = says ∙ sym is
+    many_both held told many says (is_broken name due some is) = absurd (let none : [] ≡ name ∷ [] = some in cc none)
+    many_both held told many says (is_known next faults known are is) = absurd (not_few held next told many known)
 
-  finish : IsOutcome prints (given main (Some other) (answers others [])) b → IsOutcome prints (given main (Some other) (answers asked [])) a → a ≡ b
+  finish : QueryEnds prints (given main (Some other) (answers others [])) b → QueryEnds prints (given main (Some other) (answers asked [])) a → a ≡ b
   finish be is =
-      one_outcome prints once (given main (Some other) (answers asked [])) (given main (Some other) (answers others [])) a b
+      one_end prints once (given main (Some other) (answers asked [])) (given main (Some other) (answers others [])) a b
       (record { file = refl; sums = refl; answers = alike; failed = refl }) is be
 
-  module _ (said : Main) (is_main : IsMainFile main said) (t : Sums) (reads : AreSums (Some one) (Some t)) (be : IsOutcome prints (given main (Some other) (answers others [])) b) where
-    ends : (u : Sums) → AreSums (Some other) (Some u) → IsOutcomeOver prints said (Some t) (answers asked []) a → a ≡ b
-    ends u tells (inl (too_many (held, told, many) none says)) = by_other be
+  module _ (said : Main) (is_main : IsMainFile main said) (t : Sums) (reads : AreSums (Some one) (Some t)) (be : QueryEnds prints (given main (Some other) (answers others [])) b) where
+    ends : (u : Sums) → AreSums (Some other) (Some u) → LoadingEnd prints said (Some t) (answers asked []) a → a ≡ b
+    ends u tells (is_many (held, told, many) none says) = by_other (parts prints (given main (Some other) (answers others [])) b be)
       where
-        by_other : IsOutcome prints (given main (Some other) (answers others [])) b → a ≡ b
-        by_other (inl (inl (place, misread, is), none)) = absurd (misread_or_main main place said misread is_main)
-        by_other (inl (inr (again, report, read, invalid, is), none)) = absurd (misread_or_sums (Some other) report (Some u) invalid tells)
-        by_other (inr (again, None, read, over)) = absurd read.sums
-        by_other (inr (again, Some v, read, over)) =
+        by_other : Parts prints (given main (Some other) (answers others [])) b → a ≡ b
+        by_other (unread (inl (place, misread, is)) none) = absurd (misread_or_main main place said misread is_main)
+        by_other (unread (inr (again, report, read, invalid, is)) none) = absurd (misread_or_sums (Some other) report (Some u) invalid tells)
+        by_other (are_read again None read over) = absurd read.sums
+        by_other (are_read again (Some v) read over) =
             many_both said is_main t v reads read.sums held told many says
-            (subst (λ (m : Main). IsOutcomeOver prints m (Some v) (answers others []) b) (one_main main again said read.main_file is_main) over)
-    ends u tells (inl (device name due some says)) = absurd (let none : [] ≡ name ∷ [] = some in cc none)
-    ends u tells (inl (faulty held first more known faults says)) =
-        finish be (inr (said, Some u, record { main_file = is_main; sums = tells }, inl (faulty held first more (known_with said is_main t u reads tells held known) faults says)))
-    ends u tells (inr (held, known, sound, says)) =
-        finish be (inr (said, Some u, record { main_file = is_main; sums = tells }, inr (held, known_with said is_main t u reads tells held known, sound, says)))
+            (subst (λ (m : Main). LoadingEnd prints m (Some v) (answers others []) b) (one_main main again said read.main_file is_main) over)
+    ends u tells (is_broken name due some says) = absurd (let none : [] ≡ name ∷ [] = some in cc none)
+    ends u tells (is_known held faults known are says) =
+        finish be
+        (joined prints (given main (Some other) (answers asked [])) a
+        (are_read said (Some u) (record { main_file = is_main; sums = tells }) (is_known held faults (known_with said is_main t u reads tells held known) are says)))
 
-  same_runs : IsOutcome prints (given main (Some one) (answers asked [])) a → IsOutcome prints (given main (Some other) (answers others [])) b → a ≡ b
-  same_runs (inl (inl misread, none)) be = finish be (inl (inl misread, none))
-  same_runs (inl (inr (said, report, reads, inl long, says), none)) be = absurd (let limit = are.short in omega (arith, long.0, limit))
-  same_runs (inl (inr (said, report, reads, inr bad, says), none)) be = absurd (let first = bad.2.0 in let valid = are.valid in omega (arith, first, valid))
-  same_runs (inr (said, None, reads, over)) be = absurd reads.sums
-  same_runs (inr (said, Some t, reads, over)) be =
-      let (u, tells) = sum_table prints main other others b said are.other_short are.other_valid reads.main_file be in
-      ends said reads.main_file t reads.sums be u tells over
+  same_runs : QueryEnds prints (given main (Some one) (answers asked [])) a → QueryEnds prints (given main (Some other) (answers others [])) b → a ≡ b
+  same_runs is be = by (parts prints (given main (Some one) (answers asked [])) a is)
+    where
+      by : Parts prints (given main (Some one) (answers asked [])) a → a ≡ b
+      by (unread (inl (place, misread, says)) none) = finish be (bad_main place misread none says)
+      by (unread (inr (said, report, reads, inl long, says)) none) = absurd (let limit = are.short in omega (arith, long.0, limit))
+      by (unread (inr (said, report, reads, inr bad, says)) none) = absurd (let first = bad.2.0 in let valid = are.valid in omega (arith, first, valid))
+      by (are_read said None reads over) = absurd reads.sums
+      by (are_read said (Some t) reads over) =
+          let (u, tells) = sum_table prints main other others b said are.other_short are.other_valid reads.main_file be in
+          ends said reads.main_file t reads.sums be u tells over
 
 -- ---- commands that read no go.sum
 
 module _ (command : Command) (main one other : List ℕ) (asked others : List (Name × Reply)) (a b : Outcome) where
-  same_unread : AnswerAlike asked others → ((old new : StoreState) → RunsTo command main (Some one) old new a → RunsTo command main (Some other) old new a)
+  same_unread : AnswerAlike asked others → (HasOutcome command main (Some one) asked a → HasOutcome command main (Some other) asked a)
       → HasOutcome command main (Some one) asked a → HasOutcome command main (Some other) others b → a ≡ b
-  same_unread alike unread is be =
-      one_for_stores command main (Some other) is.old is.new be.old be.new a b (asked_alike is.new.asked be.new.asked asked others is.asked_are be.asked_are alike)
-      is.none_failed be.none_failed (unread is.old is.new is.run) be.run
+  same_unread alike carried is be =
+      one_for_stores command (given main (Some other) (answers asked [])) (given main (Some other) (answers others [])) a b
+      (record { file = refl; sums = refl; answers = alike; failed = refl }) (carried is) be
 
 -- ---- the laws
 
 same_sums_change_nothing : (command : Command) (main one other : List ℕ) (asked others : List (Name × Reply)) (a b : Outcome) → AnswerAlike asked others → HaveSameSums main one other asked
     → HasOutcome command main (Some one) asked a → HasOutcome command main (Some other) others b → a ≡ b
-same_sums_change_nothing Fmt main one other asked others a b alike are is be = same_unread Fmt main one other asked others a b alike (λ old new run. run) is be
+same_sums_change_nothing Fmt main one other asked others a b alike are is be = same_unread Fmt main one other asked others a b alike (λ run. run) is be
 same_sums_change_nothing (Edit operations) main one other asked others a b alike are is be =
-    same_unread (Edit operations) main one other asked others a b alike (λ old new run. run) is be
+    same_unread (Edit operations) main one other asked others a b alike (λ run. run) is be
 same_sums_change_nothing (Versions path all) main one other asked others a b alike are is be =
-    same_unread (Versions path all) main one other asked others a b alike (λ old new run. run) is be
+    same_unread (Versions path all) main one other asked others a b alike (λ run. run) is be
 same_sums_change_nothing Graph main one other asked others a b alike are is be =
     same_runs PrintsGraph graph_once main one other asked others a b alike are
-    (query_by_answers Graph main (Some one) asked a refl is) (query_by_answers Graph main (Some other) others b refl be)
+    (graph_held (given main (Some one) (answers asked [])) a is) (graph_held (given main (Some other) (answers others [])) b be)
 same_sums_change_nothing (Rows after limit) main one other asked others a b alike are is be =
     same_runs (PrintsList after limit) (list_once after limit) main one other asked others a b alike are
-    (query_by_answers (Rows after limit) main (Some one) asked a refl is) (query_by_answers (Rows after limit) main (Some other) others b refl be)
+    (list_held (given main (Some one) (answers asked [])) a after limit is)
+    (list_held (given main (Some other) (answers others [])) b after limit be)
 same_sums_change_nothing (Chain path) main one other asked others a b alike are is be =
     same_runs (PrintsChain path) (chain_once path) main one other asked others a b alike are
-    (query_by_answers (Chain path) main (Some one) asked a refl is) (query_by_answers (Chain path) main (Some other) others b refl be)
+    (chain_held (given main (Some one) (answers asked [])) a path is)
+    (chain_held (given main (Some other) (answers others [])) b path be)
 
 by_needed : (main one other : List ℕ) (asked : List (Name × Reply)) → HasNeedlessLines main one other asked → HaveSameSums main one other asked
 by_needed main one other asked are = record {

@@ -18,7 +18,8 @@ use Rattle.gm_graph.specs.Building.{fault}
 use Rattle.gm_graph.specs.Graph.{IsDeep, IsOpened, from_deep, from_main, from_top}
 use Rattle.gm_graph.specs.Loading.{IsNeeded}
 use Rattle.gm_graph.specs.Outcome.{AreFaults}
-use Rattle.gomod_run.specs.Outcomes.{AreKnown, Answers}
+use Rattle.gomod_run.specs.Outcomes.{Answers}
+use Rattle.gomod_run.specs.HeldFiles.{AreKnown}
 
 -- ---- a name with an answer was asked for
 

@@ -6,82 +6,82 @@ use Rattle.gm_file.specs.Main.{Main, IsMainFile}
 use Rattle.gm_graph.specs.Reading.{Held, Tells, readings_by, sum_fault}
 use Rattle.gm_graph.specs.Loading.{AreTooMany, IsNeeded, Told}
 use Rattle.gomod_run.specs.ListingLaws.{AnswerAlike}
-use Rattle.gomod_run.specs.Outcomes.{AreKnown, AreSums, IsOutcome, IsOutcomeOver, Prints as PrintsOver, PrintsChain, PrintsGraph, PrintsList, answers, device, faulty, given, longest, too_many}
+use Rattle.gm_graph.specs.Run.{run_of}
+use Rattle.gm_graph.proofs.RunReadings.{is_read, needed_same}
+use Rattle.gomod_run.specs.Outcomes.{AreSums, answers, given, longest}
+use Rattle.gomod_run.specs.HeldFiles.{AreKnown}
+use Rattle.gomod_run.proofs.HeldEnds.{Prints as PrintsOver, PrintsChain, PrintsGraph, PrintsList, QueryEnds, bad_main, no_fault, chain_held, graph_held, list_held}
 use Rattle.gomod_run.specs.Needs.{GraphNeeds}
 use Rattle.gomod_run.specs.Outcome.{Outcome}
-use Rattle.gomod_run.proofs.OneOutcome.{one_outcome}
+use Rattle.gomod_run.proofs.OneOutcome.{one_end}
 use Rattle.gomod_run.proofs.OnePrinted.{PrintsOnce, chain_once, graph_once, list_once}
 use Rattle.gomod_run.proofs.OneRead.{misread_or_main}
 use Rattle.gomod_run.proofs.PrintedList.{printed_run}
+use Rattle.gomod_run.proofs.QueryParts.{LoadingEnd, Parts, are_read, is_broken, is_known, is_many, joined, parts, unread}
 use Rattle.gomod_words.specs.declared.usage.Command.TheVariants.{Fmt, Edit, Versions, Graph, List as Rows, Chain}
 use Rattle.gomod_laws.specs.SumLaws.{AreRight, OnlyRefuses, RightSumsChangeNothing}
-use Rattle.gomod_laws.proofs.PrintedRuns.{query_by_answers}
 use Rattle.gomod_laws.proofs.SumsGiven.{same_unread}
 use Rattle.gomod_laws.proofs.SumsChecked.{IsRightFor, answered_name, checked_held, checked_told, known_unchecked, no_sum_fault, opened_checked, tells_checked}
 
 -- ---- what is printed with a go.sum is printed without one
 
 unchecked_outcome : (prints : PrintsOver) (main sums : List ℕ) (asked : List (Name × Reply)) (outcome : Outcome)
-    → IsOutcome prints (given main (Some sums) (answers asked [])) outcome → outcome.status ≡ 0
-    → IsOutcome prints (given main None (answers asked [])) outcome
+    → QueryEnds prints (given main (Some sums) (answers asked [])) outcome → outcome.status ≡ 0
+    → QueryEnds prints (given main None (answers asked [])) outcome
 unchecked_outcome prints main sums asked outcome is ends =
     let (said, held, found, says) = printed_run prints (given main (Some sums) (answers asked [])) outcome is ends in
-    inr (
-      said,
-      None,
-      record { main_file = found.read.main_file; sums = tt },
-      inr (
-        held,
-        known_unchecked said found.table (answers asked []) held found.known found.sound,
-        found.sound,
-        says,
-      ),
-    )
+    no_fault said held
+    (record {
+      table = None;
+      read = record { main_file = found.read.main_file; sums = tt };
+      known = known_unchecked said found.table (answers asked []) held found.known found.sound;
+      sound = found.sound;
+    })
+    says
 
 one_unchecked : (prints : PrintsOver) → PrintsOnce prints → (main sums : List ℕ) (asked others : List (Name × Reply))
     (one other : Outcome) → AnswerAlike asked others → one.status ≡ 0
-    → IsOutcome prints (given main (Some sums) (answers asked [])) one
-    → IsOutcome prints (given main None (answers others [])) other → other ≡ one
+    → QueryEnds prints (given main (Some sums) (answers asked [])) one
+    → QueryEnds prints (given main None (answers others [])) other → other ≡ one
 one_unchecked prints once main sums asked others one other alike ends is be =
-    sym (one_outcome prints once (given main None (answers asked [])) (given main None (answers others [])) one other
+    sym (one_end prints once (given main None (answers asked [])) (given main None (answers others [])) one other
     (record { file = refl; sums = refl; answers = alike; failed = refl })
     (unchecked_outcome prints main sums asked one is ends) be)
 
 pub only_refuses : OnlyRefuses
 only_refuses Fmt main sums asked others one other alike is be ends =
-    sym (same_unread Fmt main sums asked others one other alike (λ old new run. run) is be)
+    sym (same_unread Fmt main sums asked others one other alike (λ run. run) is be)
 only_refuses (Edit operations) main sums asked others one other alike is be ends =
-    sym (same_unread (Edit operations) main sums asked others one other alike (λ old new run. run) is be)
+    sym (same_unread (Edit operations) main sums asked others one other alike (λ run. run) is be)
 only_refuses (Versions path all) main sums asked others one other alike is be ends =
-    sym (same_unread (Versions path all) main sums asked others one other alike (λ old new run. run) is be)
+    sym (same_unread (Versions path all) main sums asked others one other alike (λ run. run) is be)
 only_refuses Graph main sums asked others one other alike is be ends =
     one_unchecked PrintsGraph graph_once main sums asked others one other alike ends
-    (query_by_answers Graph main (Some sums) asked one refl is) (query_by_answers Graph main None others other refl be)
+    (graph_held (given main (Some sums) (answers asked [])) one is) (graph_held (given main None (answers others [])) other be)
 only_refuses (Rows after limit) main sums asked others one other alike is be ends =
     one_unchecked (PrintsList after limit) (list_once after limit) main sums asked others one other alike ends
-    (query_by_answers (Rows after limit) main (Some sums) asked one refl is)
-    (query_by_answers (Rows after limit) main None others other refl be)
+    (list_held (given main (Some sums) (answers asked [])) one after limit is)
+    (list_held (given main None (answers others [])) other after limit be)
 only_refuses (Chain path) main sums asked others one other alike is be ends =
     one_unchecked (PrintsChain path) (chain_once path) main sums asked others one other alike ends
-    (query_by_answers (Chain path) main (Some sums) asked one refl is)
-    (query_by_answers (Chain path) main None others other refl be)
+    (chain_held (given main (Some sums) (answers asked [])) one path is)
+    (chain_held (given main None (answers others [])) other path be)
 
 -- ---- a go.sum with the right hashes changes nothing
 
 -- a run with a go.sum that reads has a table of it
 pub sum_table : (prints : PrintsOver) (main sums : List ℕ) (asked : List (Name × Reply)) (outcome : Outcome) (said : Main)
     → length sums ≤ longest → HasValidLines sums → IsMainFile main said
-    → IsOutcome prints (given main (Some sums) (answers asked [])) outcome
+    → QueryEnds prints (given main (Some sums) (answers asked [])) outcome
     → (table : Sums) × AreSums (Some sums) (Some table)
-sum_table prints main sums asked outcome said short valid is (inl (inl (place, misread, says), none)) =
-    absurd (misread_or_main main place said misread is)
-sum_table prints main sums asked outcome said short valid is (inl (inr (other, report, reads, inl long, says), none)) =
-    absurd (omega (arith, long.0, short))
-sum_table prints main sums asked outcome said short valid is (inl (inr (other, report, reads, inr bad, says), none)) =
-    absurd (let first = bad.2.0 in omega (arith, first, valid))
-sum_table prints main sums asked outcome said short valid is (inr (other, None, reads, over)) = absurd reads.sums
-sum_table prints main sums asked outcome said short valid is (inr (other, Some table, reads, over)) =
-    (table, reads.sums)
+sum_table prints main sums asked outcome said short valid is ends = by (parts prints (given main (Some sums) (answers asked [])) outcome ends)
+  where
+    by : Parts prints (given main (Some sums) (answers asked [])) outcome → (table : Sums) × AreSums (Some sums) (Some table)
+    by (unread (inl (place, misread, says)) none) = absurd (misread_or_main main place said misread is)
+    by (unread (inr (other, report, reads, inl long, says)) none) = absurd (omega (arith, long.0, short))
+    by (unread (inr (other, report, reads, inr bad, says)) none) = absurd (let first = bad.2.0 in omega (arith, first, valid))
+    by (are_read other None reads over) = absurd reads.sums
+    by (are_read other (Some table) reads over) = (table, reads.sums)
 
 module _ (main sums : List ℕ) (asked : List (Name × Reply)) (right : AreRight main sums asked) (said : Main)
     (is_main : IsMainFile main said) (table : Sums) (reads : AreSums (Some sums) (Some table)) where
@@ -100,10 +100,9 @@ module _ (main sums : List ℕ) (asked : List (Name × Reply)) (right : AreRight
       (record {
         main = said;
         table = None;
-        held = held;
         read = record { main_file = is_main; sums = tt };
-        files_read = tells;
-        needed = needed;
+        known = is_read (run_of said None asked) held tells;
+        needed = (needed_same (run_of said None asked) held tells name).1 needed;
       })
       answered)
 
@@ -126,37 +125,35 @@ module _ (main sums : List ℕ) (asked : List (Name × Reply)) (right : AreRight
     none_failed = known.none_failed;
   }
 
-  over_checked : (prints : PrintsOver) (outcome : Outcome) → IsOutcomeOver prints said None (answers asked []) outcome
-      → IsOutcomeOver prints said (Some table) (answers asked []) outcome
-  over_checked prints outcome (inl (too_many over none says)) = inl (too_many (many_checked over) none says)
-  over_checked prints outcome (inl (device name due failed says)) =
+  over_checked : (prints : PrintsOver) (outcome : Outcome) → LoadingEnd prints said None (answers asked []) outcome
+      → LoadingEnd prints said (Some table) (answers asked []) outcome
+  over_checked prints outcome (is_many over none says) = is_many (many_checked over) none says
+  over_checked prints outcome (is_broken name due failed says) =
       absurd (let some : [] ≡ name ∷ [] = failed in cc some)
-  over_checked prints outcome (inl (faulty held first others known faults says)) =
-      inl (faulty held first others (known_checked held known) faults says)
-  over_checked prints outcome (inr (held, known, faults, says)) = inr (held, known_checked held known, faults, says)
+  over_checked prints outcome (is_known held faults known are says) = is_known held faults (known_checked held known) are says
 
 module _ (prints : PrintsOver) (once : PrintsOnce prints) (main sums : List ℕ) (asked others : List (Name × Reply))
     (one other : Outcome) (alike : AnswerAlike asked others) (right : AreRight main sums asked) where
-  checked_outcome : IsOutcome prints (given main None (answers asked [])) one
-      → IsOutcome prints (given main (Some sums) (answers others [])) other
-      → IsOutcome prints (given main (Some sums) (answers asked [])) one
-  checked_outcome (inl (inl misread, none)) be = inl (inl misread, none)
-  checked_outcome (inl (inr (said, report, is, invalid, says), none)) be = absurd invalid
-  checked_outcome (inr (said, Some table, reads, over)) be = absurd reads.sums
-  checked_outcome (inr (said, None, reads, over)) be =
-      let (table, are) =
-      sum_table prints main sums others other said right.short right.valid reads.main_file be in
-      inr (
-        said,
-        Some table,
-        record { main_file = reads.main_file; sums = are },
-        over_checked main sums asked right said reads.main_file table are prints one over,
-      )
+  checked_outcome : QueryEnds prints (given main None (answers asked [])) one
+      → QueryEnds prints (given main (Some sums) (answers others [])) other
+      → QueryEnds prints (given main (Some sums) (answers asked [])) one
+  checked_outcome is be = by (parts prints (given main None (answers asked [])) one is)
+    where
+      by : Parts prints (given main None (answers asked [])) one → QueryEnds prints (given main (Some sums) (answers asked [])) one
+      by (unread (inl (place, misread, says)) none) = bad_main place misread none says
+      by (unread (inr (said, report, is, invalid, says)) none) = absurd invalid
+      by (are_read said (Some table) reads over) = absurd reads.sums
+      by (are_read said None reads over) =
+          let (table, are) =
+          sum_table prints main sums others other said right.short right.valid reads.main_file be in
+          joined prints (given main (Some sums) (answers asked [])) one
+          (are_read said (Some table) (record { main_file = reads.main_file; sums = are })
+          (over_checked main sums asked right said reads.main_file table are prints one over))
 
-  one_checked : IsOutcome prints (given main None (answers asked [])) one
-      → IsOutcome prints (given main (Some sums) (answers others [])) other → other ≡ one
+  one_checked : QueryEnds prints (given main None (answers asked [])) one
+      → QueryEnds prints (given main (Some sums) (answers others [])) other → other ≡ one
   one_checked is be =
-      sym (one_outcome prints once (given main (Some sums) (answers asked []))
+      sym (one_end prints once (given main (Some sums) (answers asked []))
       (given main (Some sums) (answers others [])) one other
       (record { file = refl; sums = refl; answers = alike; failed = refl }) (checked_outcome is be) be)
 
@@ -165,21 +162,21 @@ alike_back asked others alike name a b e f = sym (alike name b a f e)
 
 pub right_sums_change_nothing : RightSumsChangeNothing
 right_sums_change_nothing Fmt main sums asked others one other alike right is be =
-    same_unread Fmt main sums others asked other one (alike_back asked others alike) (λ old new run. run) be is
+    same_unread Fmt main sums others asked other one (alike_back asked others alike) (λ run. run) be is
 right_sums_change_nothing (Edit operations) main sums asked others one other alike right is be =
     same_unread (Edit operations) main sums others asked other one (alike_back asked others alike)
-    (λ old new run. run) be is
+    (λ run. run) be is
 right_sums_change_nothing (Versions path all) main sums asked others one other alike right is be =
     same_unread (Versions path all) main sums others asked other one (alike_back asked others alike)
-    (λ old new run. run) be is
+    (λ run. run) be is
 right_sums_change_nothing Graph main sums asked others one other alike right is be =
     one_checked PrintsGraph graph_once main sums asked others one other alike right
-    (query_by_answers Graph main None asked one refl is) (query_by_answers Graph main (Some sums) others other refl be)
+    (graph_held (given main None (answers asked [])) one is) (graph_held (given main (Some sums) (answers others [])) other be)
 right_sums_change_nothing (Rows after limit) main sums asked others one other alike right is be =
     one_checked (PrintsList after limit) (list_once after limit) main sums asked others one other alike right
-    (query_by_answers (Rows after limit) main None asked one refl is)
-    (query_by_answers (Rows after limit) main (Some sums) others other refl be)
+    (list_held (given main None (answers asked [])) one after limit is)
+    (list_held (given main (Some sums) (answers others [])) other after limit be)
 right_sums_change_nothing (Chain path) main sums asked others one other alike right is be =
     one_checked (PrintsChain path) (chain_once path) main sums asked others one other alike right
-    (query_by_answers (Chain path) main None asked one refl is)
-    (query_by_answers (Chain path) main (Some sums) others other refl be)
+    (chain_held (given main None (answers asked [])) one path is)
+    (chain_held (given main (Some sums) (answers others [])) other path be)

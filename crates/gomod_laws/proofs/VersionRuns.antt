@@ -1,7 +1,6 @@
 -- What `versions` prints, with and without the retracted versions.
-use Rattle.std.proofs.Common.{◌≡◌, ◌∙◌, ◌++◌, ◌∷◌, ℕ, Bool, List, [], Option, Some, None, Result, Ok, Err, ap, append-nil, false, inl, inr, refl, subst, sym, true}
+use Rattle.std.proofs.Common.{◌≡◌, ◌∙◌, ◌∷◌, ℕ, Bool, List, [], Option, Some, None, Result, Ok, Err, ap, false, inl, inr, refl, subst, sym, true}
 use Rattle.std.proofs.lemmas.Bool.{false≢true}
-use Rattle.std.proofs.lemmas.List.{append_cancel_left}
 use Rattle.gm_name.specs.Path.{is_fetchable}
 use Rattle.gm_file.specs.Fields.{Dependency}
 use Rattle.gm_file.specs.Shown.{shown_of}
@@ -12,8 +11,7 @@ use Rattle.gm_graph.specs.Reading.{IsFileReading}
 use Rattle.gomod_run.specs.Outcome.{Outcome, printed, refused}
 use Rattle.gomod_run.specs.Needs.{AnswersByName}
 use Rattle.gomod_words.specs.declared.usage.Command.TheVariants.{Versions}
-use Rattle.gomod_run.specs.Runs.{IsRunOutcome, Needs, StatesOutcome}
-use Rattle.gomod_run.specs.Versions.{IsListedOutcome, IsOutcomeByList, IsShownBy, IsVersionsOutcome, versions_line}
+use Rattle.gomod_run.specs.Versions.{answered as heard, device, IsListedOutcome, IsOutcomeByList, IsShownBy, IsVersionsOutcome, versions_line}
 use Rattle.gomod_run.proofs.Uniqueness.{listed_once}
 use Rattle.gomod_laws.specs.Runs.{HasOutcome, HasPrinted}
 use Rattle.gomod_laws.specs.VersionLaws.{AreUnretracted, RetractedAreLeftOut}
@@ -27,19 +25,11 @@ Pairs = List (Name × Reply)
 pub refusal_prints_nothing : (outcome : Outcome) (report : List ℕ) → outcome ≡ refused report → HasPrinted outcome → ⊥
 refusal_prints_nothing outcome report is prints = let one : 1 ≡ 0 = sym (ap {B = ℕ} (λ (o : Outcome). o.status) is) ∙ prints in cc one
 
-one_more : (old new : List Name) (name : Name) → new ≡ old ++ name ∷ [] → new ≡ old → ⊥
-one_more old new name grown same =
-    let none : name ∷ [] ≡ [] = append_cancel_left old (name ∷ []) [] (sym grown ∙ same ∙ sym (append-nil old)) in cc none
-
 -- the outcome of `versions`, by the answers of the run
 pub by_answers : (path : List ℕ) (all : Bool) (main : List ℕ) (sums : Option (List ℕ)) (asked : Pairs) (outcome : Outcome)
     → HasOutcome (Versions path all) main sums asked outcome → IsVersionsOutcome path all (answer_in asked) outcome
-by_answers path all main sums asked outcome run = by run.run
-  where
-    by : IsRunOutcome (Needs (Versions path all) main sums) (StatesOutcome (Versions path all) main sums) run.old run.new outcome
-        → IsVersionsOutcome path all (answer_in asked) outcome
-    by (inl (is, every, none)) = subst (λ (pairs : Pairs). IsVersionsOutcome path all (answer_in pairs) outcome) run.asked_are is
-    by (inr (name, says, need, unanswered, grown)) = absurd (one_more run.old.refused run.new.refused name grown run.none_failed)
+by_answers path all main sums asked outcome (heard is none) = is
+by_answers path all main sums asked outcome (device name need unanswered some says) = absurd (let none : [] ≡ name ∷ [] = some in cc none)
 
 -- ---- what is printed
 

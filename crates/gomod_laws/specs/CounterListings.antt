@@ -4,7 +4,7 @@ use Rattle.gm_name.specs.ModuleVersion.{ModuleVersion}
 use Rattle.gm_file.specs.Main.{Main, IsMainFile}
 use Rattle.gm_graph.specs.Graph.{IsTop}
 use Rattle.gomod_run.specs.ListingLaws.{JoinsPages, ShowOneGraph, ShowsBuildList, ShowsPart, ShowsShortestWalk}
-use Rattle.gomod_run.specs.Outcomes.{Given, IsListOutcome}
+use Rattle.gomod_run.specs.Outcomes.{Given, ListEnds}
 use Rattle.gomod_run.specs.Outcome.{Outcome, printed}
 use Rattle.gomod_laws.specs.Counterexamples.{a_one, chain_to_a, graph_of_a, list_of_a}
 
@@ -63,14 +63,14 @@ PartIsTheWhole = (path : List ℕ) (limit : Option ℕ) (run : Given)
 
 -- the page after m has a row of b.c
 abbrev pub PageHasAnotherRow : Type 0
-PageHasAnotherRow = (run : Given) → IsListOutcome None (Some 1) run (printed (codes "m\n"))
-    → IsListOutcome (Some (codes "m")) (Some 1) run (printed (codes "b.c v1.0.0\n"))
+PageHasAnotherRow = (run : Given) → ListEnds None (Some 1) run (printed (codes "m\n"))
+    → ListEnds (Some (codes "m")) (Some 1) run (printed (codes "b.c v1.0.0\n"))
     → ¬ (JoinsPages 1 run list_of_a)
 
 -- there is no page after m
 abbrev pub PageIsMissing : Type 0
-PageIsMissing = (run : Given) → IsListOutcome None (Some 1) run (printed (codes "m\n"))
-    → IsListOutcome (Some (codes "m")) (Some 1) run (printed [])
+PageIsMissing = (run : Given) → ListEnds None (Some 1) run (printed (codes "m\n"))
+    → ListEnds (Some (codes "m")) (Some 1) run (printed [])
     → ¬ (JoinsPages 1 run list_of_a)
 
 -- ---- `PrintedChainIsShortest`

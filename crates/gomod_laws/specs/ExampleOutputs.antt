@@ -1,20 +1,22 @@
 -- Sinks before and after small runs, and files before and after they were read, on which the definitions of what is
 -- written and read are tried. Whatever is refused here breaks at least one part of its definition.
-use Rattle.std.specs.Prelude.{◌≡◌, ◌<◌, ◌-◌, ◌^◌, ℕ, List, [], Some, None, Ok, Err, codes, false, length, true}
+use Rattle.std.specs.Prelude.{◌≡◌, ◌⊎◌, ◌∷◌, ◌<◌, ◌-◌, ◌^◌, ℕ, Bool, List, [], Some, None, Ok, Err, codes, false, length, true}
 use Rattle.std.specs.Global.{Vec}
 use Rattle.std.specs.declared.io.ErrorKind.{ErrorKind}
 use Rattle.std.specs.declared.io.ErrorKind.TheVariants.{NotFound, OutOfMemory}
 use Rattle.gm_store.specs.Asked.{list_file, mod_file}
 use Rattle.gm_store.specs.Faults.{HasCountedFailure}
 use Rattle.gm_store.specs.Memory.{held_at}
-use Rattle.gm_store.specs.Openings.{IsReadFrom, opened, refused as unopened}
+use Rattle.gm_store.specs.Openings.{IsReadFrom, Opening, opened, refused as unopened}
 use Rattle.gm_store.specs.Taken.{SinkState}
 use Rattle.gm_store.specs.declared.files.memory.MemoryFiles.{MemoryFiles}
 use Rattle.gm_store.specs.declared.reading.InputFault.TheVariants.{Device, NoMemory}
 use Rattle.gomod_run.specs.Outcome.{Outcome, failed, out_of_memory, printed, refused}
+use Rattle.gomod_run.specs.Program.{IsProgramOutcome, any_input, anything, usage_error}
 use Rattle.gomod_run.specs.Taking.{TookAll, TookPrefix}
 use Rattle.gomod_run.specs.Held.{HoldsOne}
 use Rattle.gomod_run.specs.Reads.{HoldsInput, HoldsNothing, IsUnreadList}
+use Rattle.gomod_words.specs.Usage.{unreadable_text, version_line}
 use Rattle.gomod_run.specs.Written.{EndsAsStated, IsWritten, WroteBoth, WrotePrefix}
 
 -- ---- the texts and the sinks
@@ -185,27 +187,58 @@ pub record FileIsRead : Type 0 where
 
 -- ---- standard input
 
+-- what comes of taking it if it is the text; the flag says whether a read of it may fail
+abbrev pub taken : Bool → Opening → Type 0
+taken may_fail opening = opening ≡ opened (Some text) may_fail
+
 -- the module whose list it is
 abbrev pub path : List ℕ
 path = codes "m"
 
--- It can't be read: that is reported under the name `-`, or memory ran out.
+-- It can't be read: that is reported under the name `-`, or memory ran out. It can be read if no read of it fails.
 pub record InputIsUnread : Type 0 where
-  pub device : IsUnreadList (failed (codes "gomod: cannot read -\n"))
-  pub no_memory : IsUnreadList out_of_memory
-  pub other_name : ¬ (IsUnreadList (failed (codes "gomod: cannot read m\n")))
-  pub other_status : ¬ (IsUnreadList (refused (codes "gomod: cannot read -\n")))
-  pub prints : ¬ (IsUnreadList (printed text))
+  pub device : IsUnreadList (taken true) (failed (codes "gomod: cannot read -\n"))
+  pub no_memory : IsUnreadList (taken false) out_of_memory
+  pub unfailing : ¬ (IsUnreadList (taken false) (failed (codes "gomod: cannot read -\n")))
+  pub other_name : ¬ (IsUnreadList (taken true) (failed (codes "gomod: cannot read m\n")))
+  pub other_status : ¬ (IsUnreadList (taken true) (refused (codes "gomod: cannot read -\n")))
+  pub prints : ¬ (IsUnreadList (taken true) (printed text))
 
--- A store has it if it has a list of the module, and nothing else. An empty store has no list.
+-- A store has it if it has its bytes as the list of the module, and nothing else. An empty store has no list.
 pub record InputIsHeld : Type 0 where
-  pub held : (files : MemoryFiles) (list : Vec ℕ) → HoldsOne (list_file path) list.items files
-      → HoldsInput path files
+  pub held : (files : MemoryFiles) (list : Vec ℕ) → list.items ≡ text → HoldsOne (list_file path) list.items files
+      → HoldsInput (taken false) path files
+  pub another : (files : MemoryFiles) (list : List ℕ) → list ≡ other → held_at files (list_file path) ≡ Some list
+      → ¬ (HoldsInput (taken false) path files)
+  pub cut : (files : MemoryFiles) (list : List ℕ) → list ≡ codes "m" → held_at files (list_file path) ≡ Some list
+      → ¬ (HoldsInput (taken false) path files)
   pub nothing : (files : MemoryFiles) → held_at files (list_file path) ≡ None
-      → ¬ (HoldsInput path files)
+      → ¬ (HoldsInput (taken false) path files)
   pub other_list : (files : MemoryFiles) (list : List ℕ) → held_at files (list_file (codes "n")) ≡ Some list
-      → ¬ (HoldsInput path files)
+      → ¬ (HoldsInput (taken false) path files)
   pub other_file : (files : MemoryFiles) (file : List ℕ) → held_at files (mod_file path (codes "v1.0.0")) ≡ Some file
-      → ¬ (HoldsInput path files)
+      → ¬ (HoldsInput (taken false) path files)
   pub not_empty : (files : MemoryFiles) (list : List ℕ) → held_at files (list_file path) ≡ Some list
       → ¬ (HoldsNothing files)
+
+-- ---- the words
+
+-- the one word `--version`, and a word that is not UTF-8, since no character has the byte 255
+abbrev pub version_flag : List ℕ
+version_flag = codes "--version"
+
+abbrev pub unreadable : List ℕ
+unreadable = 255 ∷ []
+
+-- what the program does with words that are known, of which none are its own name
+abbrev pub EndsBy : List (List ℕ) → Outcome → Type 0
+EndsBy words outcome = IsProgramOutcome anything any_input (Some words) outcome
+
+-- A word that was given counts, and so does the first that is not UTF-8. Without a word nothing is printed.
+pub record WordsAreGiven : Type 0 where
+  pub version : (outcome : Outcome) → EndsBy (version_flag ∷ []) outcome
+      → (outcome ≡ printed version_line) ⊎ (outcome ≡ out_of_memory)
+  pub dropped : (outcome : Outcome) → outcome.status ≡ 2 → ¬ (EndsBy (version_flag ∷ []) outcome)
+  pub made_up : (line : List ℕ) → ¬ (line ≡ []) → ¬ (EndsBy [] (printed line))
+  pub shown : EndsBy (unreadable ∷ version_flag ∷ []) (usage_error (unreadable_text unreadable))
+  pub passed_over : ¬ (EndsBy (unreadable ∷ version_flag ∷ []) (printed version_line))

@@ -4,7 +4,7 @@ use Rattle.gm_name.specs.ModuleVersion.{ModuleVersion}
 use Rattle.gm_store.specs.Asked.{Name, Reply, mod_file, absent, bytes}
 use Rattle.gm_file.specs.Main.{Main, IsMainFile}
 use Rattle.gm_graph.specs.Reading.{IsFileReading}
-use Rattle.gomod_run.specs.Outcomes.{Answers, Given, IsListOutcome, IsOutcomeOver, PrintsList, answers, given}
+use Rattle.gomod_run.specs.Outcomes.{Given, ListEnds, answers, given}
 use Rattle.gomod_run.specs.Outcome.{Outcome, failed, printed, refused}
 use Rattle.gomod_laws.specs.ExampleWorld.{saying, top_one}
 
@@ -38,13 +38,13 @@ pub record FilesAreRead : Type 0 where
 
 -- A module that requires nothing is listed alone, and nothing else is an outcome.
 pub record IsListedAlone : Type 0 where
-  pub listed : IsListOutcome None None (run_of alone [] []) (printed (codes "m\n"))
-  pub only : (outcome : Outcome) → IsListOutcome None None (run_of alone [] []) outcome
+  pub listed : ListEnds None None (run_of alone [] []) (printed (codes "m\n"))
+  pub only : (outcome : Outcome) → ListEnds None None (run_of alone [] []) outcome
       → outcome ≡ printed (codes "m\n")
 
 -- The empty file declares no module.
 abbrev pub EmptyIsRefused : Type 0
-EmptyIsRefused = IsListOutcome None None (run_of [] [] []) (refused (codes "go.mod:0: NoModule\n"))
+EmptyIsRefused = ListEnds None None (run_of [] [] []) (refused (codes "go.mod:0: NoModule\n"))
 
 -- a run over `alone` and a go.sum with a line of two fields
 abbrev pub run_with_bad_sum : Given
@@ -52,26 +52,25 @@ run_with_bad_sum = given alone (Some (codes "a b\n")) (answers [] [])
 
 -- The line is reported, and nothing else is an outcome: a bad go.sum is refused, though no file needs it.
 pub record BadSumIsRefused : Type 0 where
-  pub reported : IsListOutcome None None run_with_bad_sum (refused (codes "go.sum:1: BadSum\n"))
-  pub only : (outcome : Outcome) → IsListOutcome None None run_with_bad_sum outcome
+  pub reported : ListEnds None None run_with_bad_sum (refused (codes "go.sum:1: BadSum\n"))
+  pub only : (outcome : Outcome) → ListEnds None None run_with_bad_sum outcome
       → outcome ≡ refused (codes "go.sum:1: BadSum\n")
 
--- given these answers, the main module that requires top.org has no outcome
-abbrev pub HasNoOutcome : Answers → Type 0
-HasNoOutcome told = (outcome : Outcome)
-    → ¬ (IsOutcomeOver (PrintsList None None) (main_requiring (top_one ∷ [])) None told outcome)
+-- given these answers, `list` on the two lines has no outcome
+abbrev pub HasNoOutcome : List (Name × Reply) → List Name → Type 0
+HasNoOutcome asked refusals = (outcome : Outcome) → ¬ (ListEnds None None (run_of requiring asked refusals) outcome)
 
 -- If the required file is missing, that is reported; if the device failed on it, that is. If it was not asked for,
 -- there is no outcome.
 pub record RequiredIsAsked : Type 0 where
-  pub missing : IsListOutcome None None (run_of requiring ((top_name, absent) ∷ []) [])
+  pub missing : ListEnds None None (run_of requiring ((top_name, absent) ∷ []) [])
       (refused (codes "top.org@v1.0.0: Missing\n"))
-  pub device : IsListOutcome None None (run_of requiring [] (top_name ∷ []))
+  pub device : ListEnds None None (run_of requiring [] (top_name ∷ []))
       (failed (codes "gomod: device at top.org@v1.0.0\n"))
-  pub unasked : HasNoOutcome (answers [] [])
+  pub unasked : HasNoOutcome [] []
   -- nor if the device failed on a file that no opened module has, or on one that was answered: `IsDue` asks for both
-  pub undue : HasNoOutcome (answers [] (low_name ∷ []))
-  pub answered : HasNoOutcome (answers ((top_name, absent) ∷ []) (top_name ∷ []))
+  pub undue : HasNoOutcome [] (low_name ∷ [])
+  pub answered : HasNoOutcome ((top_name, absent) ∷ []) (top_name ∷ [])
   -- nor if another file was asked for as well, or the same one twice: `AreAsked` allows neither
-  pub no_more : HasNoOutcome (answers ((top_name, absent) ∷ (low_name, absent) ∷ []) [])
-  pub not_twice : HasNoOutcome (answers ((top_name, absent) ∷ (top_name, absent) ∷ []) [])
+  pub no_more : HasNoOutcome ((top_name, absent) ∷ (low_name, absent) ∷ []) []
+  pub not_twice : HasNoOutcome ((top_name, absent) ∷ (top_name, absent) ∷ []) []

@@ -17,8 +17,9 @@ use Rattle.gm_graph_select.specs.BuildList.{Entry, IsSelected, entry_of, main_en
 use Rattle.gm_graph_select.specs.Graph.{edge}
 use Rattle.gm_graph.specs.Graph.{IsDeep, IsEdge, IsOpened, IsTop}
 use Rattle.gm_graph.specs.Outcome.{AreEdges, AreFaults, AreRows}
+use Rattle.gm_graph.specs.Run.{IsRead, Requires, Run, Says, run_of}
 use Rattle.gm_graph.specs.declared.fault.Fault.{Fault}
-use Rattle.gomod_run.specs.Outcomes.{PrintsList}
+use Rattle.gomod_run.specs.Outcomes.{PrintsRows}
 use Rattle.gomod_run.specs.ListingTexts.{list_text, replacement_text}
 use Rattle.gomod_run.specs.Outcome.{Outcome, printed, refused}
 use Rattle.gomod_run.specs.Reports.{faults_text}
@@ -158,6 +159,20 @@ pub record AnswersTell : Type 0 where
   pub differs : class_of_sum Differs ≡ Some SumDiffers
   pub good : class_of_sum Good ≡ None
 
+-- the run with that answer alone
+abbrev pub absent_run : Run
+absent_run = run_of world None absent_folder
+
+-- The module whose file is that folder's says that it is missing, and nothing else. One that can't be fetched says so,
+-- though nothing was answered; any other module without an answer says nothing, so it requires nothing.
+pub record OneModuleSays : Type 0 where
+  pub missing : Says absent_run mid_two (Err Missing)
+  pub only : (said : Result Dependency Class) → Says absent_run mid_two said → said ≡ Err Missing
+  pub unfetchable : Says absent_run (codes "m", codes "v1.0.0") (Err NotFetchable)
+  pub unknown : (said : Result Dependency Class) → ¬ (Says absent_run low_one said)
+  pub requires_nothing : (y : ModuleVersion) → ¬ (Requires absent_run mid_two y)
+  pub read : IsRead absent_run
+
 -- A folder may declare no path, and another file its own alone; what can't be fetched is not fetchable, whatever is
 -- held. What isn't held has no fault.
 pub record FaultsAreClassed : Type 0 where
@@ -223,20 +238,25 @@ pub record RowsAreFour : Type 0 where
   -- A required version of the main module's own path is not selected, though it is the greatest: `not_main`.
   pub not_main : ¬ (IsSelected (codes "top.org") (IsEdge world all_there) top_one)
 
+-- what is printed of the build list, after a row and up to a limit
+abbrev pub WorldPrints : Option (List ℕ) → Option ℕ → Outcome → Type 0
+WorldPrints after limit outcome = (all : List Entry) × AreRows world all_there all
+    × PrintsRows world all after limit outcome
+
 -- The text of the list, of its first two rows, and of what follows mid.org; a path that has no row is reported.
 pub record ListIsPrinted : Type 0 where
-  pub whole : PrintsList None None world all_there
+  pub whole : WorldPrints None None
       (printed (codes "m\nlow.org v1.0.0\nmid.org v1.1.0 => ./mid\ntop.org v1.0.0\n"))
-  pub limited : PrintsList None (Some 2) world all_there (printed (codes "m\nlow.org v1.0.0\n"))
-  pub after : PrintsList (Some (codes "mid.org")) None world all_there (printed (codes "top.org v1.0.0\n"))
+  pub limited : WorldPrints None (Some 2) (printed (codes "m\nlow.org v1.0.0\n"))
+  pub after : WorldPrints (Some (codes "mid.org")) None (printed (codes "top.org v1.0.0\n"))
   -- The main module's row counts as one of its path.
-  pub after_main : PrintsList (Some (codes "m")) None world all_there
+  pub after_main : WorldPrints (Some (codes "m")) None
       (printed (codes "low.org v1.0.0\nmid.org v1.1.0 => ./mid\ntop.org v1.0.0\n"))
-  pub unlisted : PrintsList (Some (codes "b.org")) None world all_there (refused (codes "b.org: NotListed\n"))
+  pub unlisted : WorldPrints (Some (codes "b.org")) None (refused (codes "b.org: NotListed\n"))
 
 -- Nothing else is printed.
 abbrev pub OnlyListIsPrinted : Type 0
-OnlyListIsPrinted = (outcome : Outcome) → PrintsList None None world all_there outcome
+OnlyListIsPrinted = (outcome : Outcome) → WorldPrints None None outcome
     → outcome ≡ printed (codes "m\nlow.org v1.0.0\nmid.org v1.1.0 => ./mid\ntop.org v1.0.0\n")
 
 abbrev pub fault_of_mid : Fault

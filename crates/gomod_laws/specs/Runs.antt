@@ -5,18 +5,13 @@ use Rattle.gm_store.specs.Asked.{Name, Reply}
 use Rattle.gomod_run.specs.Outcome.{Outcome, printed}
 use Rattle.gomod_words.specs.declared.usage.Command.{Command}
 use Rattle.gomod_words.specs.declared.usage.Command.TheVariants.{Edit}
-use Rattle.gomod_run.specs.Queries.{RunsTo}
-use Rattle.gm_store.specs.States.{StoreState}
+use Rattle.gomod_run.specs.Outcomes.{answers, given}
+use Rattle.gomod_run.specs.Runs.{RunEnds}
 
 -- The command, over the bytes of a main file, those of a go.sum where one is given, and a store that gave these
 -- answers and whose device did not fail, has this outcome.
-pub record HasOutcome (command : Command) (main : List ℕ) (sums : Option (List ℕ)) (asked : List (Name × Reply))
-    (outcome : Outcome) : Type 0 where
-  pub old : StoreState
-  pub new : StoreState
-  pub run : RunsTo command main sums old new outcome
-  pub asked_are : new.asked ≡ asked
-  pub none_failed : new.refused ≡ old.refused
+abbrev pub HasOutcome : Command → List ℕ → Option (List ℕ) → List (Name × Reply) → Outcome → Type 0
+HasOutcome command main sums asked outcome = RunEnds command (given main sums (answers asked [])) outcome
 
 -- the command prints: its status is 0, and nothing is reported
 abbrev pub HasPrinted : Outcome → Type 0

@@ -1,10 +1,10 @@
-//! The definitions of what is written and of what is read, tried on small sinks, files and stores: a definition that
-//! asked for less would fail here.
+//! The definitions of what is written and of what is read, tried on small sinks, files, stores and words: a definition
+//! that asked for less would fail here.
 //!
 //! A run prints `m`, or reports `go.mod:1: BadLine`. A sink has room for 20 bytes or for one, tells only what it took,
 //! or tells nothing, as a terminal.
 
-ghost use Rattle.gomod_laws.specs.ExampleOutputs.{BothAreWritten, EndIsStated, FailureIsCounted, FileIsRead, InputIsHeld, InputIsUnread, OutcomeIsWritten, PrefixIsTaken, PrefixIsWritten, TextIsTaken};
+ghost use Rattle.gomod_laws.specs.ExampleOutputs.{BothAreWritten, EndIsStated, FailureIsCounted, FileIsRead, InputIsHeld, InputIsUnread, OutcomeIsWritten, PrefixIsTaken, PrefixIsWritten, TextIsTaken, WordsAreGiven};
 
 /// `HasCountedFailure`, `TookAll`, `TookPrefix`: a sink took a text if it has that after what it had, and as much less
 /// room. It took a prefix if it failed, which was counted, and has as much of that text as fits. It did neither if it
@@ -34,13 +34,19 @@ pub fn file_is_read()
 {}
 
 /// `IsUnreadList`: standard input can't be read if `gomod: cannot read -` is reported, with status 3, or that memory
-/// ran out. Nothing else says so.
+/// ran out. Nothing else says so. If no read of it may fail, it can be read, unless memory runs out.
 pub fn input_is_unread()
     ensures { InputIsUnread }
 {}
 
-/// `HoldsOne`, `HoldsInput`: the store of `versions m` has what was read of standard input if it has a list of m, and no
-/// other list or file. An empty store, `HoldsNothing`, has none.
+/// `HoldsOne`, `HoldsInput`: the store of `versions m` has what was read of standard input if it has its bytes as the list
+/// of m, neither other bytes nor fewer, and no other list or file. An empty store, `HoldsNothing`, has none.
 pub fn input_is_held()
     ensures { InputIsHeld }
+{}
+
+/// `IsProgramOutcome`: given the one word `--version` the program prints the version, unless memory runs out, and
+/// reports no usage error. Given none it prints nothing. Of words that are not UTF-8 it shows the first.
+pub fn words_are_given()
+    ensures { WordsAreGiven }
 {}

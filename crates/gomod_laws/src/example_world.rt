@@ -8,7 +8,7 @@
 
 ghost use Rattle.gomod_laws.specs.ExampleRuns.{BadSumIsRefused, EmptyIsRefused, FilesAreRead, IsListedAlone, RequiredIsAsked};
 ghost use Rattle.gomod_laws.specs.ExampleSums.{SumsSay};
-ghost use Rattle.gomod_laws.specs.ExampleWorld.{AnswersTell, FaultsAreClassed, FilesHaveNames, FourEdgesLead, ListIsPrinted, OneFaultIsReported, OnlyListIsPrinted, PrunedFrom17, ReplacementsApply, RequirementsAreLeft, RowsAreFour, ThreeAreOpened};
+ghost use Rattle.gomod_laws.specs.ExampleWorld.{AnswersTell, FaultsAreClassed, FilesHaveNames, FourEdgesLead, ListIsPrinted, OneFaultIsReported, OneModuleSays, OnlyListIsPrinted, PrunedFrom17, ReplacementsApply, RequirementsAreLeft, RowsAreFour, ThreeAreOpened};
 
 /// `file_of`, `is_askable`: the file of mid.org v1.1.0 is the folder's, that of mid.org v1.0.0 its own. Both may be
 /// asked for, and the file of a path that is no host name may not.
@@ -34,6 +34,12 @@ pub fn answers_tell()
 /// line of h1:B is there as well, h1:A differs too. Lines without `/go.mod`, and hashes of another kind, list nothing.
 pub fn sums_say()
     ensures { SumsSay }
+{}
+
+/// `FileSays`, `Says`, `Requires`, `IsRead`: if the only answer is that the folder has no go.mod, mid.org v1.1.0 says
+/// `Missing` and nothing else, a module that can't be fetched `NotFetchable`, and low.org nothing.
+pub fn one_module_says()
+    ensures { OneModuleSays }
 {}
 
 /// `vertex_fault`: a missing file, a file that declares another path, and a path that can't be fetched are faults. A
@@ -90,23 +96,23 @@ pub fn files_are_read()
     ensures { FilesAreRead }
 {}
 
-/// `IsListOutcome`: on `module m` alone `list` prints `m` and nothing else; on an empty file it reports
+/// `ListEnds`: on `module m` alone `list` prints `m` and nothing else; on an empty file it reports
 /// `go.mod:0: NoModule`.
 pub fn one_is_listed()
     ensures alone { IsListedAlone }
     ensures empty { EmptyIsRefused }
 {}
 
-/// `IsRefusedRead`, `AreInvalidSums`, `IsFirstInvalid`: beside a go.sum that is the line `a b`, `list` on `module m`
+/// `ListEnds`, `AreInvalidSums`, `IsFirstInvalid`: beside a go.sum that is the line `a b`, `list` on `module m`
 /// alone reports `go.sum:1: BadSum` and nothing else.
 pub fn bad_sum_is_refused()
     ensures { BadSumIsRefused }
 {}
 
-/// `IsDue`, `AreKnown`, `AreAsked`, `IsStopped`, `IsOutcomeOver`: on the two lines `list` reports
-/// `top.org@v1.0.0: Missing` if that is the answer, and `gomod: device at top.org@v1.0.0` if the device failed. Without
-/// either it has no outcome; nor has it one if the device failed on another file, or on one that was answered, or if
-/// another file was asked for as well, or the same one twice.
+/// `IsDue`, `AreFound`, `IsSettled`, `ListEnds`: on the two lines `list` reports `top.org@v1.0.0: Missing` if that is the
+/// answer, and `gomod: device at top.org@v1.0.0` if the device failed. Without either it has no outcome; nor has it one if
+/// the device failed on another file, or on one that was answered, or if another file was asked for as well, or the same
+/// one twice.
 pub fn required_is_asked()
     ensures { RequiredIsAsked }
 {}

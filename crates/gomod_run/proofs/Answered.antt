@@ -6,7 +6,7 @@ use Rattle.gomod_words.specs.Usage.{IsVersionLine, is_line_or_memory, version_li
 use Rattle.gomod_words.specs.declared.usage.UsageFault.{UsageFault}
 use Rattle.gomod_words.specs.declared.usage.UsageFault.TheVariants.{NoMemory, Help, Version, Line, BadPath, BadProxy}
 use Rattle.gomod_words.proofs.Asked.{error_without_words, version_by_long, version_by_short}
-use Rattle.gomod_run.specs.Program.{IsWordsOutcome, anything, usage_outcome}
+use Rattle.gomod_run.specs.Program.{IsWordsOutcome, any_input, anything, usage_outcome}
 
 version_outcome : (fault : UsageFault) (outcome : Outcome) → IsVersionLine fault → outcome ≡ usage_outcome fault
     → (outcome ≡ printed version_line) ⊎ (outcome ≡ out_of_memory)
@@ -26,25 +26,25 @@ error_outcome (Help text) outcome known is = cc known
 error_outcome (BadPath text) outcome known is = cc known
 error_outcome (BadProxy text) outcome known is = cc known
 
-asked_version : (words : List (List ℕ)) (outcome : Outcome) → AskForVersion words → IsWordsOutcome anything words outcome
+asked_version : (words : List (List ℕ)) (outcome : Outcome) → AskForVersion words → IsWordsOutcome anything any_input words outcome
     → (outcome ≡ printed version_line) ⊎ (outcome ≡ out_of_memory)
 asked_version words outcome asked (inl told) = version_outcome told.0 outcome (asked.1 told.0 told.1) told.2
 asked_version words outcome asked (inr served) = absurd (asked.0 served.0 served.1 served.2)
 
-asked_nothing : (words : List (List ℕ)) (outcome : Outcome) → AreUsageError words → IsWordsOutcome anything words outcome
+asked_nothing : (words : List (List ℕ)) (outcome : Outcome) → AreUsageError words → IsWordsOutcome anything any_input words outcome
     → ((outcome.text ≡ []) × (outcome.status ≡ 2)) ⊎ (outcome ≡ out_of_memory)
 asked_nothing words outcome asked (inl told) = error_outcome told.0 outcome (asked.1 told.0 told.1) told.2
 asked_nothing words outcome asked (inr served) = absurd (asked.0 served.0 served.1 served.2)
 
 pub version_is_printed : (program flag : List ℕ) (outcome : Outcome) → (flag ≡ codes "--version") ⊎ (flag ≡ codes "-V")
-    → IsWordsOutcome anything (program ∷ flag ∷ []) outcome → (outcome ≡ printed version_line) ⊎ (outcome ≡ out_of_memory)
+    → IsWordsOutcome anything any_input (program ∷ flag ∷ []) outcome → (outcome ≡ printed version_line) ⊎ (outcome ≡ out_of_memory)
 version_is_printed program flag outcome (inl long) words =
     asked_version (program ∷ codes "--version" ∷ []) outcome (version_by_long program)
-    (subst (λ (f : List ℕ). IsWordsOutcome anything (program ∷ f ∷ []) outcome) long words)
+    (subst (λ (f : List ℕ). IsWordsOutcome anything any_input (program ∷ f ∷ []) outcome) long words)
 version_is_printed program flag outcome (inr short) words =
     asked_version (program ∷ codes "-V" ∷ []) outcome (version_by_short program)
-    (subst (λ (f : List ℕ). IsWordsOutcome anything (program ∷ f ∷ []) outcome) short words)
+    (subst (λ (f : List ℕ). IsWordsOutcome anything any_input (program ∷ f ∷ []) outcome) short words)
 
-pub nothing_is_printed : (program : List ℕ) (outcome : Outcome) → IsWordsOutcome anything (program ∷ []) outcome
+pub nothing_is_printed : (program : List ℕ) (outcome : Outcome) → IsWordsOutcome anything any_input (program ∷ []) outcome
     → ((outcome.text ≡ []) × (outcome.status ≡ 2)) ⊎ (outcome ≡ out_of_memory)
 nothing_is_printed program outcome words = asked_nothing (program ∷ []) outcome (error_without_words program) words

@@ -1,5 +1,5 @@
 -- Rows that meet the plain description of a build list are the build list.
-use Rattle.std.proofs.Common.{◌≡◌, ◌∙◌, ◌⊎◌, ℕ, false, List, [], ◌∷◌, map, Contains, ap, ap₂, sym, refl, subst, inl, inr}
+use Rattle.std.proofs.Common.{◌≡◌, ◌∙◌, ◌⊎◌, ℕ, false, List, [], ◌∷◌, map, Contains, ap, ap₂, sym, refl, subst, inl, inr, None}
 use Rattle.std.specs.Cmp.Lexicographic.{nat_list_cmp_total, slice_cmp}
 use Rattle.std.specs.Ordering.{is_gt, nat_cmp, ordering_reverse}
 use Rattle.std.specs.declared.cmp.Ordering.{Ordering}
@@ -15,6 +15,7 @@ use Rattle.gm_graph_select.specs.Order.{IsAscending}
 use Rattle.gm_graph_select.proofs.Ascending.{less_itself, member_cases, no_member, pairs_head, pairs_tail}
 use Rattle.gm_graph.specs.Graph.{IsEdge}
 use Rattle.gomod_run.specs.ListingLaws.{AreGreatest, BuildListIsListed}
+use Rattle.gomod_run.proofs.HeldEnds.{list_said, no_fault}
 
 -- two versions are the same if neither is greater
 same_version : (v w : List ℕ) → is_gt (version_cmp v w) ≡ false → is_gt (version_cmp w v) ≡ false → v ≡ w
@@ -65,14 +66,5 @@ module _ (main : Main) (readings : Readings) (selected : List ModuleVersion)
 
 pub build_list_is_listed : BuildListIsListed
 build_list_is_listed run main held selected found greatest =
-    inr (
-      main,
-      found.table,
-      found.read,
-      inr (
-        held,
-        found.known,
-        found.sound,
-        (main_entry ∷ map (entry_of main.replaces) selected, as_build_list main (readings_by main held) selected greatest, refl),
-      ),
-    )
+    list_said run _ None None
+    (no_fault main held found (main_entry ∷ map (entry_of main.replaces) selected, as_build_list main (readings_by main held) selected greatest, refl))

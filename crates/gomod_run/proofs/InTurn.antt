@@ -8,7 +8,7 @@ use Rattle.gm_file.specs.Main.{Main}
 use Rattle.gm_graph.specs.Refusals.{refused_in}
 use Rattle.gm_graph.specs.declared.cache.load_fault.LoadFault.{LoadFault}
 use Rattle.gm_graph.specs.declared.cache.load_fault.LoadFault.TheVariants as load
-use Rattle.gm_graph.specs.Loading.{AsksInTurn, IsDue, nothing, more}
+use Rattle.gm_graph.specs.Run.{AsksInTurn, IsDue, nothing, more, run_of}
 use Rattle.gomod_run.specs.Outcomes.{FilesReadAs}
 use Rattle.gomod_run.specs.Needs.{AnswersByName, AskedAfter, AskedInTurn, FailsInTurn, GraphNeeds}
 
@@ -35,10 +35,10 @@ asked_after_more needs before (one ∷ later) pair behind wanted =
 
 module _ (file : List ℕ) (sums : Option (List ℕ)) (main : Main) (table : Option Sums) (read : FilesReadAs file sums main table) where
   -- a file that is due is needed
-  due_needed : (asked : Pairs) (name : Name) → IsDue main table asked name → IsWanted (GraphNeeds file sums) name asked
+  due_needed : (asked : Pairs) (name : Name) → IsDue (run_of main table asked) name → IsWanted (GraphNeeds file sums) name asked
   due_needed asked name due = (
-    record { main = main; table = table; held = due.0.0; read = read; files_read = due.0.1; needed = due.0.2 },
-    due.1,
+    record { main = main; table = table; read = read; known = due.read; needed = due.needed },
+    due.unasked,
   )
 
   -- the files that loading asks for are needed in turn
@@ -49,7 +49,7 @@ module _ (file : List ℕ) (sums : Option (List ℕ)) (main : Main) (table : Opt
 
   -- the file at which the device failed is the one that loading names, which is needed
   pub load_fails : {T : Type 0} (old new : StoreState) (result : Result T LoadFault) → new.refused ≡ old.refused ++ refused_in result
-      → ((name : FileName) → result ≡ Err (load.Device name) → IsDue main table new.asked (name_of name))
+      → ((name : FileName) → result ≡ Err (load.Device name) → IsDue (run_of main table new.asked) (name_of name))
       → FailsInTurn (GraphNeeds file sums) old new
   load_fails old new (Ok loaded) grown due = inl (grown ∙ append-nil old.refused)
   load_fails old new (Err load.NoMemory) grown due = inl (grown ∙ append-nil old.refused)

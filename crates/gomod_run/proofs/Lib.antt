@@ -8,7 +8,6 @@ pub mod Sameness
 pub mod Uniqueness
 pub mod Steps
 pub mod Served
-pub mod OneEnd
 pub mod OneStore
 pub mod Answered
 pub mod WrittenTexts
@@ -25,6 +24,8 @@ pub mod OneQueryStore
 pub mod OnePrinted
 pub mod OneOutcome
 pub mod PrintedList
+pub mod QueryParts
+pub mod HeldEnds
 pub mod OneGraph
 pub mod GreatestRows
 pub mod ShortestChain

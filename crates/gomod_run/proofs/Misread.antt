@@ -7,11 +7,11 @@ use Rattle.gm_file.specs.BytesFaults.{fault_by_syntax}
 use Rattle.gm_file.specs.declared.misreading.Misreading.TheVariants as misreading
 use Rattle.gomod_run.specs.FromFaults.{report_by_bytes}
 use Rattle.gomod_run.specs.Outcome.{OrNoMemory, report_outcome}
-use Rattle.gomod_run.specs.Runs.{IsFmtOutcome}
+use Rattle.gomod_run.specs.Runs.{FmtEnds, bad_syntax}
 
 -- the outcome of `fmt` over bytes that are not a document
-pub fmt_misread : (bytes : List ℕ) (fault : SyntaxFault) → IsParsedAs bytes (Err fault) → OrNoMemory (IsFmtOutcome bytes) (report_outcome (report_by_bytes (fault_by_syntax fault)))
+pub fmt_misread : (bytes : List ℕ) (fault : SyntaxFault) → IsParsedAs bytes (Err fault) → OrNoMemory (FmtEnds bytes) (report_outcome (report_by_bytes (fault_by_syntax fault)))
 fmt_misread bytes syntax.NoMemory parsed = inr refl
-fmt_misread bytes syntax.TooMany parsed = inl (inr (syntax.TooMany, (0, misreading.TooMany), parsed, refl, refl))
-fmt_misread bytes syntax.NotUtf8 parsed = inl (inr (syntax.NotUtf8, (0, misreading.NotUtf8), parsed, refl, refl))
-fmt_misread bytes (syntax.Syntax number kind) parsed = inl (inr (syntax.Syntax number kind, (number, misreading.Syntax kind), parsed, refl, refl))
+fmt_misread bytes syntax.TooMany parsed = inl (bad_syntax syntax.TooMany (0, misreading.TooMany) parsed refl refl)
+fmt_misread bytes syntax.NotUtf8 parsed = inl (bad_syntax syntax.NotUtf8 (0, misreading.NotUtf8) parsed refl refl)
+fmt_misread bytes (syntax.Syntax number kind) parsed = inl (bad_syntax (syntax.Syntax number kind) (number, misreading.Syntax kind) parsed refl refl)

@@ -1,4 +1,4 @@
--- A run has exactly one outcome.
+-- A query has one outcome over stores that answer alike.
 use Rattle.std.proofs.Common.{◌≡◌, ◌∙◌, ◌≤◌, ℕ, List, [], ◌∷◌, length, Option, Some, sym, ap, refl, subst, arith, inl, inr}
 use Rattle.gm_store.specs.Asked.{Name, Reply}
 use Rattle.gm_store_sums.specs.Sums.{Sums}
@@ -8,37 +8,27 @@ use Rattle.gm_graph_select.proofs.Same.{AreSame}
 use Rattle.gm_graph.specs.declared.fault.Fault.{Fault}
 use Rattle.gm_graph.specs.Graph.{IsEdge}
 use Rattle.gm_graph.specs.Loading.{AreTooMany, Told}
-use Rattle.gm_graph.specs.Outcome.{AreFaults}
 use Rattle.gomod_run.specs.Found.{ReportsFaultsOr}
-use Rattle.gomod_run.specs.ListingLaws.{AlikeChains, AlikeGraphs, AlikeLists, AnswerAlike, AreAlike, AllFilesAreValid, OneChainOutcome, OneGraphOutcome, OneListOutcome}
-use Rattle.gomod_run.specs.Outcomes.{Answers, AreKnown, AreSums, FilesReadAs, Given, IsOutcome, IsOutcomeOver, IsRefusedRead, Prints, PrintsChain, PrintsGraph, PrintsList, device, faulty, too_many}
+use Rattle.gomod_run.specs.ListingLaws.{AnswerAlike, AreAlike}
+use Rattle.gomod_run.specs.Outcomes.{Answers, AreSums, FilesReadAs, Given}
+use Rattle.gomod_run.specs.HeldFiles.{AllFilesAreValid, AreKnown}
+use Rattle.gomod_run.proofs.HeldEnds.{Prints, QueryEnds}
+use Rattle.gomod_run.specs.Refusals.{IsRefusedRead}
+use Rattle.gomod_run.proofs.QueryParts.{LoadingEnd, Parts, are_read, is_broken, is_known, is_many, parts, unread}
 use Rattle.gomod_run.specs.Outcome.{Outcome, failed, refused}
-use Rattle.gomod_run.specs.Reports.{FaultPlace, device_line, main_line, too_many_line}
-use Rattle.gomod_run.proofs.OnePrinted.{PrintsOnce, chain_once, graph_once, list_once, one_faults}
+use Rattle.gomod_run.specs.Reports.{FaultPlace, device_line, main_line}
+use Rattle.gomod_run.proofs.OnePrinted.{PrintsOnce, one_faults}
 use Rattle.gomod_run.proofs.OneRead.{FindSame, misread_or_main, misread_or_sums, one_finding, one_main, one_misreport, one_place, tells_alike}
 use Rattle.gomod_run.proofs.OneQueryStore.{Agrees, alike_back, same_edges, stores_agree, too_many as many_stay}
 
 -- ---- when both files are valid
 
--- loading finds too many modules, or its store's device fails, or the files of the opened modules are known
-data LoadingEnd (prints : Prints) (main : Main) (table : Option Sums) (told : Answers) (outcome : Outcome) : Type 0 where
-  many : Told main table told.asked (AreTooMany main) → told.failed ≡ [] → outcome ≡ refused too_many_line → LoadingEnd prints main table told outcome
-  broken : (name : Name) → told.failed ≡ name ∷ [] → outcome ≡ failed (device_line name) → LoadingEnd prints main table told outcome
-  known : (held : Held) (faults : List Fault) → AreKnown main table told held → AreFaults main (readings_by main held) faults
-      → ReportsFaultsOr faults (prints main (readings_by main held) outcome) outcome → LoadingEnd prints main table told outcome
-
-loading_end : (prints : Prints) (main : Main) (table : Option Sums) (told : Answers) (outcome : Outcome) → IsOutcomeOver prints main table told outcome → LoadingEnd prints main table told outcome
-loading_end prints main table told outcome (inl (too_many overflows none says)) = many overflows none says
-loading_end prints main table told outcome (inl (device name due one says)) = broken name one says
-loading_end prints main table told outcome (inl (faulty held first others are faults says)) = known held (first ∷ others) are faults says
-loading_end prints main table told outcome (inr (held, are, faults, says)) = known held [] are faults says
-
 -- two tables that find the same can be exchanged
 loading_end_alike : (prints : Prints) (main : Main) (a b : Option Sums) (told : Answers) (outcome : Outcome) → FindSame a b → LoadingEnd prints main a told outcome → LoadingEnd prints main b told outcome
-loading_end_alike prints main a b told outcome same (many (held, tells, overflows) none says) = many (held, tells_alike a b same told.asked held tells, overflows) none says
-loading_end_alike prints main a b told outcome same (broken name one says) = broken name one says
-loading_end_alike prints main a b told outcome same (known held faults are be says) =
-    known held faults
+loading_end_alike prints main a b told outcome same (is_many (held, tells, overflows) none says) = is_many (held, tells_alike a b same told.asked held tells, overflows) none says
+loading_end_alike prints main a b told outcome same (is_broken name ((held, tells, needed), unanswered) one says) = is_broken name ((held, tells_alike a b same told.asked held tells, needed), unanswered) one says
+loading_end_alike prints main a b told outcome same (is_known held faults are be says) =
+    is_known held faults
     (record { tells = tells_alike a b same told.asked held are.tells; answered = are.answered; asked = are.asked; few = are.few; none_failed = are.none_failed })
     be says
 
@@ -65,16 +55,16 @@ one_failure names n m is other = let same : n ∷ [] ≡ m ∷ [] = sym is ∙ o
 
 module _ (prints : Prints) (once : PrintsOnce prints) (main : Main) (table : Option Sums) where
   one_loading_end : (one other : Answers) (a b : Outcome) → AnswerAlike one.asked other.asked → one.failed ≡ other.failed → LoadingEnd prints main table one a → LoadingEnd prints main table other b → a ≡ b
-  one_loading_end one other a b alike failing (many over none says) (many others nothing tells) = says ∙ sym tells
-  one_loading_end one other a b alike failing (many over none says) (broken name some tells) = absurd (not_broken other.failed name some (sym failing ∙ none))
-  one_loading_end one other a b alike failing (many over none says) (known held faults are be tells) = absurd (not_many main table one other held alike over are)
-  one_loading_end one other a b alike failing (broken name some says) (many over none tells) = absurd (not_broken one.failed name some (failing ∙ none))
-  one_loading_end one other a b alike failing (broken name some says) (broken next more tells) =
+  one_loading_end one other a b alike failing (is_many over none says) (is_many others nothing tells) = says ∙ sym tells
+  one_loading_end one other a b alike failing (is_many over none says) (is_broken name due some tells) = absurd (not_broken other.failed name some (sym failing ∙ none))
+  one_loading_end one other a b alike failing (is_many over none says) (is_known held faults are be tells) = absurd (not_many main table one other held alike over are)
+  one_loading_end one other a b alike failing (is_broken name due some says) (is_many over none tells) = absurd (not_broken one.failed name some (failing ∙ none))
+  one_loading_end one other a b alike failing (is_broken name due some says) (is_broken next dues more tells) =
       says ∙ ap (λ (n : Name). failed (device_line n)) (one_failure one.failed name next some (failing ∙ more)) ∙ sym tells
-  one_loading_end one other a b alike failing (broken name some says) (known held faults are be tells) = absurd (not_broken one.failed name some (failing ∙ are.none_failed))
-  one_loading_end one other a b alike failing (known held faults are be says) (many over none tells) = absurd (not_many main table other one held (alike_back one.asked other.asked alike) over are)
-  one_loading_end one other a b alike failing (known held faults are be says) (broken name some tells) = absurd (not_broken other.failed name some (sym failing ∙ are.none_failed))
-  one_loading_end one other a b alike failing (known held faults are be says) (known next others were been tells) =
+  one_loading_end one other a b alike failing (is_broken name due some says) (is_known held faults are be tells) = absurd (not_broken one.failed name some (failing ∙ are.none_failed))
+  one_loading_end one other a b alike failing (is_known held faults are be says) (is_many over none tells) = absurd (not_many main table other one held (alike_back one.asked other.asked alike) over are)
+  one_loading_end one other a b alike failing (is_known held faults are be says) (is_broken name due some tells) = absurd (not_broken other.failed name some (sym failing ∙ are.none_failed))
+  one_loading_end one other a b alike failing (is_known held faults are be says) (is_known next others were been tells) =
       let r = readings_by main held in
       let s = readings_by main next in
       let into : Agrees main r s = agree main table one other held next alike are.tells were in
@@ -107,44 +97,31 @@ refused_alike one other outcome alike is =
 
 -- ---- a run
 
-pub one_outcome : (prints : Prints) → PrintsOnce prints → (one other : Given) (a b : Outcome) → AreAlike one other → IsOutcome prints one a → IsOutcome prints other b → a ≡ b
-one_outcome prints once one other a b alike (inl (is, none)) (inl (be, nothing)) = one_refusal other.file other.sums a b (refused_alike one other a alike is) be
-one_outcome prints once one other a b alike (inl (is, none)) (inr (main, table, are, over)) = absurd (not_refused other a main table (refused_alike one other a alike is) are)
-one_outcome prints once one other a b alike (inr (main, table, are, over)) (inl (be, nothing)) = absurd (not_refused other b main table be (read_alike one other main table alike are))
-one_outcome prints once one other a b alike (inr (main, table, are, over)) (inr (again, next, were, beyond)) =
-    let here : FilesReadAs other.file other.sums main table = read_alike one other main table alike are in
-    let same : main ≡ again = one_main other.file main again here.main_file were.main_file in
-    let found : FindSame table next = one_finding other.sums table next here.sums were.sums in
-    let first : LoadingEnd prints main next one.told a = loading_end_alike prints main table next one.told a found (loading_end prints main table one.told a over) in
-    one_loading_end prints once again next one.told other.told a b alike.answers alike.failed
-    (subst (λ (m : Main). LoadingEnd prints m next one.told a) same first)
-    (loading_end prints again next other.told b beyond)
+pub one_end : (prints : Prints) → PrintsOnce prints → (one other : Given) (a b : Outcome) → AreAlike one other → QueryEnds prints one a → QueryEnds prints other b → a ≡ b
+one_end prints once one other a b alike is be = by (parts prints one a is) (parts prints other b be)
+  where
+    by : Parts prints one a → Parts prints other b → a ≡ b
+    by (unread is none) (unread be nothing) = one_refusal other.file other.sums a b (refused_alike one other a alike is) be
+    by (unread is none) (are_read main table are over) = absurd (not_refused other a main table (refused_alike one other a alike is) are)
+    by (are_read main table are over) (unread be nothing) = absurd (not_refused other b main table be (read_alike one other main table alike are))
+    by (are_read main table are over) (are_read again next were beyond) =
+        let here : FilesReadAs other.file other.sums main table = read_alike one other main table alike are in
+        let same : main ≡ again = one_main other.file main again here.main_file were.main_file in
+        let found : FindSame table next = one_finding other.sums table next here.sums were.sums in
+        let first : LoadingEnd prints main next one.told a = loading_end_alike prints main table next one.told a found over in
+        one_loading_end prints once again next one.told other.told a b alike.answers alike.failed
+        (subst (λ (m : Main). LoadingEnd prints m next one.told a) same first) beyond
 
 -- a name has exactly one answer
 answers_itself : (asked : List (Name × Reply)) → AnswerAlike asked asked
 answers_itself asked name x y e f = let same : Some x ≡ Some y = sym e ∙ f in cc same
 
-pub alike_graphs : AlikeGraphs
-alike_graphs one other a b alike is be = one_outcome PrintsGraph graph_once one other a b alike is be
-
-pub alike_lists : AlikeLists
-alike_lists after limit one other a b alike is be = one_outcome (PrintsList after limit) (list_once after limit) one other a b alike is be
-
-pub alike_chains : AlikeChains
-alike_chains path one other a b alike is be = one_outcome (PrintsChain path) (chain_once path) one other a b alike is be
-
 -- a run is alike to itself
-itself : (run : Given) → AreAlike run run
+pub itself : (run : Given) → AreAlike run run
 itself run = record { file = refl; sums = refl; answers = answers_itself run.told.asked; failed = refl }
 
-pub one_graph_outcome : OneGraphOutcome
-one_graph_outcome run a b is be = alike_graphs run run a b (itself run) is be
-
-pub one_list_outcome : OneListOutcome
-one_list_outcome after limit run a b is be = alike_lists after limit run run a b (itself run) is be
-
-pub one_chain_outcome : OneChainOutcome
-one_chain_outcome path run a b is be = alike_chains path run run a b (itself run) is be
+pub ends_once : (prints : Prints) → PrintsOnce prints → (run : Given) (a b : Outcome) → QueryEnds prints run a → QueryEnds prints run b → a ≡ b
+ends_once prints once run a b is be = one_end prints once run run a b (itself run) is be
 
 -- ---- what one command finds, the others find
 
@@ -154,9 +131,9 @@ module _ (prints : Prints) (run : Given) (main : Main) (held : Held) (found : Al
   Also = (next : Held) × AreSame (IsEdge main (readings_by main next)) (IsEdge main (readings_by main held)) × prints main (readings_by main next) outcome
 
   also_loading_end : LoadingEnd prints main found.table run.told outcome → Also
-  also_loading_end (many over none says) = absurd (not_many main found.table run.told run.told held (answers_itself run.told.asked) over found.known)
-  also_loading_end (broken name some says) = absurd (not_broken run.told.failed name some found.known.none_failed)
-  also_loading_end (known next faults were be says) =
+  also_loading_end (is_many over none says) = absurd (not_many main found.table run.told run.told held (answers_itself run.told.asked) over found.known)
+  also_loading_end (is_broken name due some says) = absurd (not_broken run.told.failed name some found.known.none_failed)
+  also_loading_end (is_known next faults were be says) =
       let r = readings_by main next in
       let s = readings_by main held in
       let into : Agrees main r s = agree main found.table run.told run.told next held (answers_itself run.told.asked) were.tells found.known in
@@ -166,9 +143,12 @@ module _ (prints : Prints) (run : Given) (main : Main) (held : Held) (found : Al
         subst (λ (fs : List Fault). ReportsFaultsOr fs (prints main r outcome) outcome) (one_faults main r s faults [] into back be found.sound) says,
       )
 
-  pub also_printed : IsOutcome prints run outcome → Also
-  also_printed (inl (is, none)) = absurd (not_refused run outcome main found.table is found.read)
-  also_printed (inr (again, other, were, over)) =
-      let same : again ≡ main = one_main run.file again main were.main_file found.read.main_file in
-      let same_tables : FindSame other found.table = one_finding run.sums other found.table were.sums found.read.sums in
-      also_loading_end (loading_end_alike prints main other found.table run.told outcome same_tables (subst (λ (m : Main). LoadingEnd prints m other run.told outcome) same (loading_end prints again other run.told outcome over)))
+  pub also_printed : QueryEnds prints run outcome → Also
+  also_printed is = by (parts prints run outcome is)
+    where
+      by : Parts prints run outcome → Also
+      by (unread is none) = absurd (not_refused run outcome main found.table is found.read)
+      by (are_read again other were over) =
+          let same : again ≡ main = one_main run.file again main were.main_file found.read.main_file in
+          let same_tables : FindSame other found.table = one_finding run.sums other found.table were.sums found.read.sums in
+          also_loading_end (loading_end_alike prints main other found.table run.told outcome same_tables (subst (λ (m : Main). LoadingEnd prints m other run.told outcome) same over))

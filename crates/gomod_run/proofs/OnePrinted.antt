@@ -20,7 +20,8 @@ use Rattle.gm_graph.specs.Graph.{IsEdge}
 use Rattle.gm_graph.specs.Loading.{AreFew}
 use Rattle.gm_graph.specs.Outcome.{AreEdges, AreFaults, AreRows}
 use Rattle.gomod_run.specs.ListingTexts.{chain_text, graph_text, limited, list_text}
-use Rattle.gomod_run.specs.Outcomes.{Prints, PrintsChain, PrintsGraph, PrintsList, PrintsRows, ShowsChain}
+use Rattle.gomod_run.specs.Outcomes.{PrintsRows, ShowsChain}
+use Rattle.gomod_run.proofs.HeldEnds.{Prints, PrintsChain, PrintsGraph, PrintsList}
 use Rattle.gomod_run.specs.Outcome.{Outcome, printed}
 use Rattle.gomod_run.proofs.FewOpened.{edges_listed}
 use Rattle.gomod_run.proofs.OneQueryStore.{Agrees, fault}

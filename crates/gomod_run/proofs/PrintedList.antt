@@ -21,12 +21,15 @@ use Rattle.gm_graph_select.proofs.Same.{AreSame, same_back, same_build_list}
 use Rattle.gm_graph.specs.Graph.{IsEdge, IsVertex}
 use Rattle.gm_graph.specs.Loading.{AreFew}
 use Rattle.gm_graph.proofs.Mapped.{from_mapped, in_mapped}
-use Rattle.gomod_run.specs.ListingLaws.{AllFilesAreValid, AreGreatest, ArePrintedPages, ListIsBuildList, PrintedPagesJoin, no_row, one_page}
-use Rattle.gomod_run.specs.Outcomes.{Given, IsListOutcome, IsOutcome, Prints, PrintsList, device, faulty, too_many}
+use Rattle.gomod_run.specs.ListingLaws.{AreGreatest, ArePrintedPages, ListIsBuildList, PrintedPagesJoin, no_row, one_page}
+use Rattle.gomod_run.specs.Outcomes.{Given}
+use Rattle.gomod_run.specs.HeldFiles.{AllFilesAreValid}
+use Rattle.gomod_run.proofs.HeldEnds.{QueryEnds, Prints, PrintsList, bad_main, bad_sums, device, faulty, no_fault, too_many, list_held, list_said}
 use Rattle.gm_graph.specs.Outcome.{AreRows}
 use Rattle.gomod_run.specs.Outcome.{Outcome, failed, printed, refused}
 use Rattle.gomod_run.specs.ListingTexts.{list_text}
 use Rattle.gomod_run.proofs.FewOpened.{edges_listed}
+use Rattle.gomod_run.specs.Outcomes as ends
 
 -- ---- a run that prints
 
@@ -39,13 +42,13 @@ not_refused report outcome same is = let code = ap (λ (o : Outcome). o.status) 
 not_failed : (report : List ℕ) (outcome : Outcome) → outcome ≡ failed report → outcome.status ≡ 0 → ⊥
 not_failed report outcome same is = let code = ap (λ (o : Outcome). o.status) same in omega (arith, code, is)
 
-pub printed_run : (prints : Prints) (run : Given) (outcome : Outcome) → IsOutcome prints run outcome → outcome.status ≡ 0 → Printed prints run outcome
-printed_run prints run outcome (inl (inl (place, misread, says), none)) is = absurd (not_refused _ outcome says is)
-printed_run prints run outcome (inl (inr (main, report, reads, misread, says), none)) is = absurd (not_refused _ outcome says is)
-printed_run prints run outcome (inr (main, table, are, inl (too_many over none says))) is = absurd (not_refused _ outcome says is)
-printed_run prints run outcome (inr (main, table, are, inl (device name due one says))) is = absurd (not_failed _ outcome says is)
-printed_run prints run outcome (inr (main, table, are, inl (faulty held first others known faults says))) is = absurd (not_refused _ outcome says is)
-printed_run prints run outcome (inr (main, table, are, inr (held, known, faults, says))) is = (main, held, record { table = table; read = are; known = known; sound = faults }, says)
+pub printed_run : (prints : Prints) (run : Given) (outcome : Outcome) → QueryEnds prints run outcome → outcome.status ≡ 0 → Printed prints run outcome
+printed_run prints run outcome (bad_main place misread none says) is = absurd (not_refused _ outcome says is)
+printed_run prints run outcome (bad_sums main report reads misread none says) is = absurd (not_refused _ outcome says is)
+printed_run prints run outcome (device main table name are due one says) is = absurd (not_failed _ outcome says is)
+printed_run prints run outcome (too_many main table are over none says) is = absurd (not_refused _ outcome says is)
+printed_run prints run outcome (faulty main table held first others are known faults says) is = absurd (not_refused _ outcome says is)
+printed_run prints run outcome (no_fault main held valid says) is = (main, held, valid, says)
 
 -- ---- the build list of edges that are given as a relation
 
@@ -90,7 +93,7 @@ module _ (main : Main) (readings : Readings) (few : AreFew main readings) (rows 
 
 pub list_is_build_list : ListIsBuildList
 list_is_build_list run outcome is ends =
-    let (main, held, found, (rows, list, says)) = printed_run (PrintsList None None) run outcome is ends in (
+    let (main, held, found, (rows, list, says)) = printed_run (PrintsList None None) run outcome (list_held run outcome None None is) ends in (
       main,
       held,
       list.selected,
@@ -146,21 +149,21 @@ module _ (run : Given) (main : Main) (held : Held) (found : AllFilesAreValid run
   AreLeft None left = left ≡ rows
   AreLeft (Some path) left = IsRestAfter main.path rows path left
 
-  page_printed : (after : Option (List ℕ)) (left : List Entry) → AreLeft after left → IsListOutcome after (Some n) run (printed (list_text main.path (take n left)))
-  page_printed None left is = inr (main, found.table, found.read, inr (held, found.known, found.sound, (rows, list, ap (λ (es : List Entry). printed (list_text main.path (take n es))) is)))
-  page_printed (Some path) left is = inr (main, found.table, found.read, inr (held, found.known, found.sound, (rows, list, inl (left, is, refl))))
+  page_printed : (after : Option (List ℕ)) (left : List Entry) → AreLeft after left → ends.ListEnds after (Some n) run (printed (list_text main.path (take n left)))
+  page_printed None left is = list_said run _ None (Some n) (no_fault main held found (rows, list, ap (λ (es : List Entry). printed (list_text main.path (take n es))) is))
+  page_printed (Some path) left is = list_said run _ (Some path) (Some n) (no_fault main held found (rows, list, inl (left, is, refl)))
 
   paged : {left : List Entry} {pages : List (List Entry)} (after : Option (List ℕ)) → AreLeft after left → AreRowPages main.path rows n left pages → ArePrintedPages run main.path n after pages
-  paged after is no_more = no_row (subst (λ (es : List Entry). IsListOutcome after (Some n) run (printed (list_text main.path es))) (take_none n) (page_printed after [] is))
+  paged after is no_more = no_row (subst (λ (es : List Entry). ends.ListEnds after (Some n) run (printed (list_text main.path es))) (take_none n) (page_printed after [] is))
   paged after is (one_more {left} {rest} {pages} front last page behind more) =
       subst (λ (es : List Entry). ArePrintedPages run main.path n after (es ∷ pages)) (sym page)
       (one_page front last
-      (subst (λ (es : List Entry). IsListOutcome after (Some n) run (printed (list_text main.path es))) page (page_printed after left is))
+      (subst (λ (es : List Entry). ends.ListEnds after (Some n) run (printed (list_text main.path es))) page (page_printed after left is))
       (paged (Some (path_of main.path last.0)) behind more))
 
 pub pages_join : PrintedPagesJoin
 pages_join run n whole some is ends =
-    let (main, held, found, (rows, list, says)) = printed_run (PrintsList None None) run whole is ends in
+    let (main, held, found, (rows, list, says)) = printed_run (PrintsList None None) run whole (list_held run whole None None is) ends in
     let readings : Readings = readings_by main held in
     let (pages, paging, joins) = row_pages main.path main.replaces (IsEdge main readings) rows list n some in (
       main,

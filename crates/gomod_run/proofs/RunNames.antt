@@ -24,8 +24,8 @@ use Rattle.gm_graph_select.specs.Chains.{IsChain, begins, goes_on}
 use Rattle.gm_graph_select.proofs.Ascending.{member_cases, member_head, member_tail, no_member}
 use Rattle.gm_graph.specs.Graph.{IsDeep, IsEdge, IsOpened, from_deep, from_main, from_top}
 use Rattle.gm_graph.proofs.Mapped.{from_mapped}
-use Rattle.gomod_run.specs.ListingLaws.{AllFilesAreValid}
-use Rattle.gomod_run.specs.Outcomes.{AreKnown, FilesReadAs, Given}
+use Rattle.gomod_run.specs.Outcomes.{FilesReadAs, Given}
+use Rattle.gomod_run.specs.HeldFiles.{AreKnown, AllFilesAreValid}
 use Rattle.gomod_run.specs.PrintedLines.{AreProperSteps, IsProperRight, IsProperRow, IsProperStep, RunHasNames, RunHasProperEdges, RunHasProperRows, RunHasProperSteps}
 use Rattle.gomod_run.proofs.FileNames.{declared_path, replaced_module, replacement_said, replaces_said, required_names}
 use Rattle.gomod_run.proofs.FolderNames.{is_folder}

@@ -1,4 +1,4 @@
--- A command has one outcome.
+-- `fmt`, `edit` and `versions` have one outcome.
 use Rattle.std.proofs.Common.{◌≡◌, ◌⊎◌, ◌∙◌, ℕ, Bool, true, false, List, [], ◌∷◌, Option, Some, None, Result, Ok, Err, ap, arith, inl, inr, refl, subst, sym}
 use Rattle.std.specs.List.{filter_map}
 use Rattle.gm_syntax.specs.declared.fault.SyntaxFault.{SyntaxFault}
@@ -18,16 +18,13 @@ use Rattle.gm_file_edit.specs.Edits.{Edit as Change, edit_in}
 use Rattle.gm_file_edit.proofs.Places.{edited-same}
 use Rattle.gm_store.specs.Asked.{Reply, absent, bytes, list_file, mod_file, too_long}
 use Rattle.gm_store.specs.Latest.{IsLatest}
-use Rattle.gomod_words.specs.Usage.{texts_in}
-use Rattle.gomod_words.specs.declared.usage.Command.{Command}
-use Rattle.gomod_words.specs.declared.usage.Command.TheVariants.{Fmt, Edit, Versions, Graph, List as Rows, Chain}
 use Rattle.gm_graph.proofs.OneReading.{one_reading, one_retracted}
 use Rattle.gomod_run.specs.Outcome.{Outcome, printed, refused}
 use Rattle.gomod_run.specs.Reports.{FaultPlace, main_line, syntax_place}
 use Rattle.gomod_run.specs.Needs.{AnswersByName}
 use Rattle.gomod_run.proofs.OneRead.{misread_or_lines, one_place, same_lines}
-use Rattle.gomod_run.specs.Editing.{IsEditOutcome, edited_in_turn, edits_outcome, refusals_from}
-use Rattle.gomod_run.specs.Runs.{IsFmtOutcome, StatesOutcome}
+use Rattle.gomod_run.specs.Editing.{EditEnds, bad_main, applied, edited_in_turn, edits_outcome, refusals_from}
+use Rattle.gomod_run.specs.Runs.{FmtEnds, bad_syntax, laid_out}
 use Rattle.gomod_run.specs.Versions.{IsOutcomeByList, IsListedOutcome, IsShownOutcome, IsVersionsOutcome, IsShownBy, versions_line}
 use Rattle.gomod_run.proofs.Uniqueness.{latest_once, listed_once, none_latest}
 
@@ -57,13 +54,13 @@ same_place file (faults.Syntax line kind) faults.NotUtf8 here there a b p q = ab
 same_place file (faults.Syntax line kind) (faults.Syntax row sort) here there a b p q =
     let ends = (a.2.only b.1 (Faulty row sort) b.2.reads).1 in cc
 
-fmt_once : (file : List ℕ) (one other : Outcome) → IsFmtOutcome file one → IsFmtOutcome file other → one ≡ other
-fmt_once file one other (inl a) (inl b) =
-    let same = (b.1.1.only (plain_lines a.0) Whole a.1.1.reads).0 in a.2 ∙ ap (λ t. printed (layout t)) same ∙ sym b.2
-fmt_once file one other (inl a) (inr b) = absurd (no_fault file a.0 b.0 b.1 a.1 b.2 b.3)
-fmt_once file one other (inr a) (inl b) = absurd (no_fault file b.0 a.0 a.1 b.1 a.2 a.3)
-fmt_once file one other (inr a) (inr b) =
-    a.4 ∙ ap (λ (place : FaultPlace). refused (main_line place)) (same_place file a.0 b.0 a.1 b.1 a.2 b.2 a.3 b.3) ∙ sym b.4
+pub fmt_once : (file : List ℕ) (one other : Outcome) → FmtEnds file one → FmtEnds file other → one ≡ other
+fmt_once file one other (laid_out lines parsed says) (laid_out others read tells) =
+    let same = (read.1.only (plain_lines lines) Whole parsed.1.reads).0 in says ∙ ap (λ t. printed (layout t)) same ∙ sym tells
+fmt_once file one other (laid_out lines parsed says) (bad_syntax fault place read named tells) = absurd (no_fault file lines fault place parsed read named)
+fmt_once file one other (bad_syntax fault place parsed named says) (laid_out lines read tells) = absurd (no_fault file lines fault place read parsed named)
+fmt_once file one other (bad_syntax fault place parsed named says) (bad_syntax next there read called tells) =
+    says ∙ ap (λ (place : FaultPlace). refused (main_line place)) (same_place file fault next place there parsed read named called) ∙ sym tells
 
 -- ---- edit
 
@@ -76,14 +73,15 @@ printed_same : (refusals : List (ℕ × List ℕ)) (one other : List (Line Place
 printed_same [] one other same = ap (λ (ls : List (Line Word)). printed (layout ls)) same
 printed_same (refusal ∷ later) one other same = refl
 
-edit_once : (texts : List (List ℕ)) (file : List ℕ) (one other : Outcome) → IsEditOutcome texts file one → IsEditOutcome texts file other → one ≡ other
-edit_once texts file one other (inl a) (inl b) = a.2 ∙ ap (λ (place : FaultPlace). refused (main_line place)) (one_place file a.0 b.0 a.1 b.1) ∙ sym b.2
-edit_once texts file one other (inl a) (inr b) = absurd (misread_or_lines file a.0 b.0 a.1 b.1)
-edit_once texts file one other (inr a) (inl b) = absurd (misread_or_lines file b.0 a.0 b.1 a.1)
-edit_once texts file one other (inr a) (inr b) =
+pub edit_once : (texts : List (List ℕ)) (file : List ℕ) (one other : Outcome) → EditEnds texts file one → EditEnds texts file other → one ≡ other
+edit_once texts file one other (bad_main here misread says) (bad_main there read tells) =
+    says ∙ ap (λ (place : FaultPlace). refused (main_line place)) (one_place file here there misread read) ∙ sym tells
+edit_once texts file one other (bad_main here misread says) (applied lines main tells) = absurd (misread_or_lines file here lines misread main)
+edit_once texts file one other (applied lines main says) (bad_main there read tells) = absurd (misread_or_lines file there lines read main)
+edit_once texts file one other (applied lines main says) (applied others again tells) =
     let edits = filter_map edit_in texts in
-    a.2 ∙ printed_same (refusals_from 1 texts) (edited_in_turn edits a.0) (edited_in_turn edits b.0)
-    (in_turn_same edits a.0 b.0 (same_lines file a.0 b.0 a.1.0 b.1.0)) ∙ sym b.2
+    says ∙ printed_same (refusals_from 1 texts) (edited_in_turn edits lines) (edited_in_turn edits others)
+    (in_turn_same edits lines others (same_lines file lines others main.0 again.0)) ∙ sym tells
 
 -- ---- versions
 
@@ -127,7 +125,7 @@ list_once path all answers (bytes list) one other a b =
     let P : List (List ℕ) → Type 0 = λ vs. IsListedOutcome path all answers vs one in
     listed_outcome_once path all answers b.0 one other (subst P (listed_once path list a.0 b.0 a.1 b.1) a.2) b.2
 
-versions_once : (path : List ℕ) (all : Bool) (answers : AnswersByName) (one other : Outcome)
+pub versions_once : (path : List ℕ) (all : Bool) (answers : AnswersByName) (one other : Outcome)
     → IsVersionsOutcome path all answers one → IsVersionsOutcome path all answers other → one ≡ other
 versions_once path all answers one other (inl a) (inl b) = a.1 ∙ sym b.1
 versions_once path all answers one other (inl a) (inr b) = let e = sym a.0 ∙ b.1 in absurd (cc)
@@ -135,14 +133,3 @@ versions_once path all answers one other (inr a) (inl b) = let e = sym b.0 ∙ a
 versions_once path all answers one other (inr a) (inr b) =
     let P : Reply → Type 0 = λ r. IsOutcomeByList path all answers r one in
     list_once path all answers b.0 one other (subst P (same_answer (answers (list_file path)) a.0 b.0 a.2 b.2) a.3) b.3
-
--- a command over what was read and answered has one outcome
-pub one_outcome : (command : Command) (main : List ℕ) (sums : Option (List ℕ)) (answers : AnswersByName)
-    (one other : Outcome)
-    → StatesOutcome command main sums answers one → StatesOutcome command main sums answers other → one ≡ other
-one_outcome (Versions path all) main sums answers one other a b = versions_once path all answers one other a b
-one_outcome Fmt main sums answers one other a b = fmt_once main one other a b
-one_outcome (Edit operations) main sums answers one other a b = edit_once (texts_in operations) main one other a b
-one_outcome Graph main sums answers one other a b = absurd a
-one_outcome (Rows after limit) main sums answers one other a b = absurd a
-one_outcome (Chain path) main sums answers one other a b = absurd a

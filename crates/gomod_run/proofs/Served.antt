@@ -1,5 +1,5 @@
 -- How a command ends that was served with what was read for it.
-use Rattle.std.proofs.Common.{◌≡◌, ◌≢◌, ◌∙◌, ◌∷◌, ℕ, zero, suc, arith, Contains, IfErr, IfOk, List, [], MatchResult, Option, Some, None, Result, Ok, Err, ap, codes, inl, inr, option_map, refl, subst, sym, true}
+use Rattle.std.proofs.Common.{◌≡◌, ◌≢◌, ◌∙◌, ◌∷◌, ℕ, zero, suc, arith, Contains, IfErr, IfOk, List, [], MatchResult, Option, Some, None, Result, Ok, Err, ap, codes, inl, inr, option_map, refl, subst, sym}
 use Rattle.std.proofs.lemmas.Bool.Decides.{eqb_tells}
 use Rattle.std.specs.Global.{Vec}
 use Rattle.std.specs.Result.{IsErr, IsErrAnd}
@@ -15,17 +15,16 @@ use Rattle.gm_store.specs.declared.fallback.proxy_list.ProxyList.{ProxyList}
 use Rattle.gomod_words.specs.declared.usage.Command.{Command}
 use Rattle.gomod_words.specs.declared.usage.Command.TheVariants.{Fmt, Edit, Versions, Graph, List as Rows, Chain}
 use Rattle.gomod_words.specs.declared.usage.Places.{Places}
-use Rattle.gomod_run.specs.Outcomes.{answers, longest}
+use Rattle.gomod_run.specs.Outcomes.{longest}
 use Rattle.gomod_run.specs.Outcome.{OrNoMemory, Outcome, code_of, report_outcome}
 use Rattle.gomod_run.specs.declared.reports.report.Report.{Report}
 use Rattle.gomod_run.specs.declared.reports.status.Status.{Status}
 use Rattle.gomod_run.specs.declared.inputs.Inputs.{Inputs}
-use Rattle.gomod_run.specs.Program.{IsInputServed, IsMainServed, IsQueryRun, IsServed, IsSumsServed, MayBeTold}
-use Rattle.gomod_run.specs.Queries.{RunsTo}
+use Rattle.gomod_run.specs.Program.{IsInputServed, IsMainServed, IsServed, IsStoreRun, IsSumsServed, MayBeTold, untaken}
 use Rattle.gomod_run.specs.Reads.{AreBothRead, AreInputs, AreSumsInput, AreSumsUnread, HoldsInput, HoldsNothing, IsOneUnread, IsStoreFolder, IsUnreadInput, IsUnreadList, versions_path, with_proxy}
-use Rattle.gomod_run.specs.Runs.{is_query}
+use Rattle.gomod_run.specs.Runs.{RunEnds, run_between}
 use Rattle.gomod_run.specs.Written.{EndsAsStated, IsWritten}
-use Rattle.gomod_run.proofs.Endings.{by_bytes, ends_weaken, folder_weaken, input_weaken, query_runs}
+use Rattle.gomod_run.proofs.Endings.{ends_weaken, input_weaken, store_weaken}
 
 -- ---- the inputs
 
@@ -38,16 +37,9 @@ sums_passed_on may_open places main told (Err passed) none same may is =
     inr (main, may, subst (λ (told : Report). AreSumsUnread may_open (option_map string_bytes places.sums) (report_outcome told)) (sym same) is)
 sums_passed_on may_open places main told (Ok inputs) none same may is = absurd (cc none)
 
--- the outcome of a query follows from what its store answered
-query_weaken : (may_answer : Name → Reply → Type 0) (command : Command) (main : List ℕ) (sums : Option (List ℕ)) (old new : StoreState) → is_query command ≡ true
-    → ((name : Name) (reply : Reply) → Contains new.asked (name, reply) → may_answer name reply) → (outcome : Outcome)
-    → RunsTo command main sums old new outcome → IsQueryRun may_answer command main sums outcome
-query_weaken may_answer command main sums old new query told outcome runs =
-    let (failed, grown, is) = query_runs command main sums old new outcome query runs in (answers new.asked failed, told, is)
-
 -- a query that runs with what was read of the named go.sum
 sums_served : (may_open : List ℕ → Opening → Type 0) (may_answer : Name → Reply → Type 0) (command : Command) (name : Option (List ℕ)) (main : List ℕ) (sums : Option (Vec ℕ)) (outcome : Outcome)
-    → AreSumsInput may_open name sums → IsQueryRun may_answer command main (option_map (λ sums. sums.items) sums) outcome → IsSumsServed may_open may_answer command name main outcome
+    → AreSumsInput may_open name sums → IsStoreRun may_answer command main (option_map (λ sums. sums.items) sums) outcome → IsSumsServed may_open may_answer command name main outcome
 sums_served may_open may_answer command None main None outcome read runs = runs
 sums_served may_open may_answer command (Some name) main (Some sums) outcome read runs = (Ok sums, read, runs)
 sums_served may_open may_answer command None main (Some sums) outcome read runs = absurd read
@@ -91,20 +83,20 @@ a_folder (byte ∷ file) = let rest = a_folder file in one_longer byte file rest
 
 -- a run over slices of what was read is one over what was read
 pub same_run : (command : Command) (inputs : Inputs) (main : List ℕ) (sums : Option (List ℕ)) (old new : StoreState) → main ≡ inputs.main.items → sums ≡ option_map (λ sums. sums.items) inputs.sums
-    → (outcome : Outcome) → RunsTo command main sums old new outcome → RunsTo command inputs.main.items (option_map (λ sums. sums.items) inputs.sums) old new outcome
+    → (outcome : Outcome) → RunEnds command (run_between main sums old new) outcome → RunEnds command (run_between inputs.main.items (option_map (λ sums. sums.items) inputs.sums) old new) outcome
 same_run command inputs main sums old new same_main same_sums outcome runs =
-    subst (λ (sums : Option (List ℕ)). RunsTo command inputs.main.items sums old new outcome) same_sums
-    (subst (λ (main : List ℕ). RunsTo command main sums old new outcome) same_main runs)
+    subst (λ (sums : Option (List ℕ)). RunEnds command (run_between inputs.main.items sums old new) outcome) same_sums
+    (subst (λ (main : List ℕ). RunEnds command (run_between main sums old new) outcome) same_main runs)
 
 -- a command over proxy folders
 pub folders_served : (may_open : List ℕ → Opening → Type 0) (command : Command) (places : Places) (folders : ProxyList) (folder : List ℕ) (inputs : Inputs) (old new : StoreState)
     → AreInputs may_open command places inputs → IsStoreFolder command (string_bytes places.main) folder
     → ((name : Name) (reply : Reply) → Contains new.asked (name, reply) → MayBeTold may_open folder (Some folders) name reply)
-    → (outcome : Outcome) → RunsTo command inputs.main.items (option_map (λ sums. sums.items) inputs.sums) old new outcome → IsServed may_open command (with_proxy places (Some folders)) outcome
-folders_served may_open Fmt places folders folder inputs old new read is told outcome runs = (Ok inputs.main, read.0, by_bytes Fmt inputs.main.items (option_map (λ sums. sums.items) inputs.sums) old new outcome refl runs)
-folders_served may_open (Edit operations) places folders folder inputs old new read is told outcome runs = (Ok inputs.main, read.0, by_bytes (Edit operations) inputs.main.items (option_map (λ sums. sums.items) inputs.sums) old new outcome refl runs)
+    → (outcome : Outcome) → RunEnds command (run_between inputs.main.items (option_map (λ sums. sums.items) inputs.sums) old new) outcome → IsServed may_open untaken command (with_proxy places (Some folders)) outcome
+folders_served may_open Fmt places folders folder inputs old new read is told outcome runs = (Ok inputs.main, read.0, runs)
+folders_served may_open (Edit operations) places folders folder inputs old new read is told outcome runs = (Ok inputs.main, read.0, runs)
 folders_served may_open (Versions path all) places folders folder inputs old new read is told outcome runs =
-    folder_weaken may_open folders (Versions path all) old new refl
+    store_weaken (MayBeTold may_open (codes ".") (Some folders)) (Versions path all) [] None old new
     (λ name reply k. subst (λ (folder : List ℕ). MayBeTold may_open folder (Some folders) name reply) is (told name reply k)) outcome runs
 folders_served may_open Graph places folders folder inputs old new read is told outcome runs = (
   folder,
@@ -113,7 +105,7 @@ folders_served may_open Graph places folders folder inputs old new read is told 
     Ok inputs.main,
     read.0,
     sums_served may_open (MayBeTold may_open folder (Some folders)) Graph (option_map string_bytes places.sums) inputs.main.items inputs.sums outcome read.1
-        (query_weaken (MayBeTold may_open folder (Some folders)) Graph inputs.main.items (option_map (λ sums. sums.items) inputs.sums) old new refl told outcome runs),
+        (store_weaken (MayBeTold may_open folder (Some folders)) Graph inputs.main.items (option_map (λ sums. sums.items) inputs.sums) old new told outcome runs),
   ),
 )
 folders_served may_open (Rows after limit) places folders folder inputs old new read is told outcome runs = (
@@ -123,7 +115,7 @@ folders_served may_open (Rows after limit) places folders folder inputs old new 
     Ok inputs.main,
     read.0,
     sums_served may_open (MayBeTold may_open folder (Some folders)) (Rows after limit) (option_map string_bytes places.sums) inputs.main.items inputs.sums outcome read.1
-        (query_weaken (MayBeTold may_open folder (Some folders)) (Rows after limit) inputs.main.items (option_map (λ sums. sums.items) inputs.sums) old new refl told outcome runs),
+        (store_weaken (MayBeTold may_open folder (Some folders)) (Rows after limit) inputs.main.items (option_map (λ sums. sums.items) inputs.sums) old new told outcome runs),
   ),
 )
 folders_served may_open (Chain path) places folders folder inputs old new read is told outcome runs = (
@@ -133,7 +125,7 @@ folders_served may_open (Chain path) places folders folder inputs old new read i
     Ok inputs.main,
     read.0,
     sums_served may_open (MayBeTold may_open folder (Some folders)) (Chain path) (option_map string_bytes places.sums) inputs.main.items inputs.sums outcome read.1
-        (query_weaken (MayBeTold may_open folder (Some folders)) (Chain path) inputs.main.items (option_map (λ sums. sums.items) inputs.sums) old new refl told outcome runs),
+        (store_weaken (MayBeTold may_open folder (Some folders)) (Chain path) inputs.main.items (option_map (λ sums. sums.items) inputs.sums) old new told outcome runs),
   ),
 )
 
@@ -143,16 +135,16 @@ empty_told : (store : MemoryFiles) (asked : List (Name × Reply)) → ((name : N
 empty_told store asked empty allowed name reply k = allowed name reply k ∙ ap (reply_for longest) (empty name)
 
 -- a query over an empty store
-query_in_memory : (may_open : List ℕ → Opening → Type 0) (command : Command) (places : Places) (inputs : Inputs) (before after : MemoryFiles) → is_query command ≡ true
+query_in_memory : (may_open : List ℕ → Opening → Type 0) (command : Command) (places : Places) (inputs : Inputs) (before after : MemoryFiles)
     → AreBothRead may_open places inputs → ((name : Name) → held_at before name ≡ None)
     → ((name : Name) (reply : Reply) → Contains (pairs_of after) (name, reply) → may_give before name reply) → (folder : List ℕ)
-    → (outcome : Outcome) → RunsTo command inputs.main.items (option_map (λ sums. sums.items) inputs.sums) (memory_files_state before) (memory_files_state after) outcome
+    → (outcome : Outcome) → RunEnds command (run_between inputs.main.items (option_map (λ sums. sums.items) inputs.sums) (memory_files_state before) (memory_files_state after)) outcome
     → IsMainServed may_open (MayBeTold may_open folder None) command (string_bytes places.main) (option_map string_bytes places.sums) outcome
-query_in_memory may_open command places inputs before after query read empty allowed folder outcome runs = (
+query_in_memory may_open command places inputs before after read empty allowed folder outcome runs = (
   Ok inputs.main,
   read.0,
   sums_served may_open (MayBeTold may_open folder None) command (option_map string_bytes places.sums) inputs.main.items inputs.sums outcome read.1
-      (query_weaken (MayBeTold may_open folder None) command inputs.main.items (option_map (λ sums. sums.items) inputs.sums) (memory_files_state before) (memory_files_state after) query
+      (store_weaken (MayBeTold may_open folder None) command inputs.main.items (option_map (λ sums. sums.items) inputs.sums) (memory_files_state before) (memory_files_state after)
       (empty_told before (pairs_of after) empty allowed) outcome runs),
 )
 
@@ -160,40 +152,40 @@ query_in_memory may_open command places inputs before after query read empty all
 pub memory_served : (may_open : List ℕ → Opening → Type 0) (command : Command) (places : Places) (inputs : Inputs) (before after : MemoryFiles)
     → versions_path command ≡ None → AreInputs may_open command places inputs → HoldsNothing before
     → ((name : Name) (reply : Reply) → Contains (pairs_of after) (name, reply) → may_give before name reply)
-    → (outcome : Outcome) → RunsTo command inputs.main.items (option_map (λ sums. sums.items) inputs.sums) (memory_files_state before) (memory_files_state after) outcome
-    → IsServed may_open command (with_proxy places None) outcome
-memory_served may_open Fmt places inputs before after other read holds allowed outcome runs = (Ok inputs.main, read.0, by_bytes Fmt inputs.main.items (option_map (λ sums. sums.items) inputs.sums) (memory_files_state before) (memory_files_state after) outcome refl runs)
-memory_served may_open (Edit operations) places inputs before after other read holds allowed outcome runs = (Ok inputs.main, read.0, by_bytes (Edit operations) inputs.main.items (option_map (λ sums. sums.items) inputs.sums) (memory_files_state before) (memory_files_state after) outcome refl runs)
+    → (outcome : Outcome) → RunEnds command (run_between inputs.main.items (option_map (λ sums. sums.items) inputs.sums) (memory_files_state before) (memory_files_state after)) outcome
+    → IsServed may_open untaken command (with_proxy places None) outcome
+memory_served may_open Fmt places inputs before after other read holds allowed outcome runs = (Ok inputs.main, read.0, runs)
+memory_served may_open (Edit operations) places inputs before after other read holds allowed outcome runs = (Ok inputs.main, read.0, runs)
 memory_served may_open (Versions path all) places inputs before after other read holds allowed outcome runs = cc other
 memory_served may_open Graph places inputs before after other read holds allowed outcome runs =
-    let folder = a_folder (string_bytes places.main) in (folder.0, folder.1, query_in_memory may_open Graph places inputs before after refl read holds allowed folder.0 outcome runs)
+    let folder = a_folder (string_bytes places.main) in (folder.0, folder.1, query_in_memory may_open Graph places inputs before after read holds allowed folder.0 outcome runs)
 memory_served may_open (Rows after' limit) places inputs before after other read holds allowed outcome runs =
-    let folder = a_folder (string_bytes places.main) in (folder.0, folder.1, query_in_memory may_open (Rows after' limit) places inputs before after refl read holds allowed folder.0 outcome runs)
+    let folder = a_folder (string_bytes places.main) in (folder.0, folder.1, query_in_memory may_open (Rows after' limit) places inputs before after read holds allowed folder.0 outcome runs)
 memory_served may_open (Chain path) places inputs before after other read holds allowed outcome runs =
-    let folder = a_folder (string_bytes places.main) in (folder.0, folder.1, query_in_memory may_open (Chain path) places inputs before after refl read holds allowed folder.0 outcome runs)
+    let folder = a_folder (string_bytes places.main) in (folder.0, folder.1, query_in_memory may_open (Chain path) places inputs before after read holds allowed folder.0 outcome runs)
 
 -- `versions` over standard input
-pub input_served : (command : Command) (path : List ℕ) (before after : MemoryFiles) → versions_path command ≡ Some path → HoldsInput path before
+pub input_served : (may_take : Opening → Type 0) (command : Command) (path : List ℕ) (before after : MemoryFiles) → versions_path command ≡ Some path → HoldsInput may_take path before
     → ((name : Name) (reply : Reply) → Contains (pairs_of after) (name, reply) → may_give before name reply)
-    → (outcome : Outcome) → RunsTo command [] None (memory_files_state before) (memory_files_state after) outcome → IsInputServed command path outcome
-input_served (Versions path all) own before after is holds allowed outcome runs =
-    (Ok holds.0, input_weaken (Versions path all) own holds.0.items before (pairs_of after) (memory_files_state before) (memory_files_state after) refl refl refl holds.1 allowed outcome runs)
-input_served Fmt own before after is holds allowed outcome runs = cc is
-input_served (Edit operations) own before after is holds allowed outcome runs = cc is
-input_served Graph own before after is holds allowed outcome runs = cc is
-input_served (Rows after' limit) own before after is holds allowed outcome runs = cc is
-input_served (Chain path) own before after is holds allowed outcome runs = cc is
+    → (outcome : Outcome) → RunEnds command (run_between [] None (memory_files_state before) (memory_files_state after)) outcome → IsInputServed may_take command path outcome
+input_served may_take (Versions path all) own before after is holds allowed outcome runs =
+    (Ok holds.0, holds.1, input_weaken (Versions path all) own holds.0.items before (pairs_of after) (memory_files_state before) (memory_files_state after) refl refl refl holds.2 allowed outcome runs)
+input_served may_take Fmt own before after is holds allowed outcome runs = cc is
+input_served may_take (Edit operations) own before after is holds allowed outcome runs = cc is
+input_served may_take Graph own before after is holds allowed outcome runs = cc is
+input_served may_take (Rows after' limit) own before after is holds allowed outcome runs = cc is
+input_served may_take (Chain path) own before after is holds allowed outcome runs = cc is
 
 -- which is what it comes to without proxy folders
-input_is_served : (may_open : List ℕ → Opening → Type 0) (command : Command) (path : List ℕ) (places : Places) → versions_path command ≡ Some path
-    → (outcome : Outcome) → IsInputServed command path outcome → IsServed may_open command (with_proxy places None) outcome
-input_is_served may_open (Versions path all) own places is outcome served =
-    let same : own ≡ path = cc is in subst (λ (path' : List ℕ). IsInputServed (Versions path all) path' outcome) same served
-input_is_served may_open Fmt own places is outcome served = cc is
-input_is_served may_open (Edit operations) own places is outcome served = cc is
-input_is_served may_open Graph own places is outcome served = cc is
-input_is_served may_open (Rows after limit) own places is outcome served = cc is
-input_is_served may_open (Chain path) own places is outcome served = cc is
+input_is_served : (may_open : List ℕ → Opening → Type 0) (may_take : Opening → Type 0) (command : Command) (path : List ℕ) (places : Places) → versions_path command ≡ Some path
+    → (outcome : Outcome) → IsInputServed may_take command path outcome → IsServed may_open may_take command (with_proxy places None) outcome
+input_is_served may_open may_take (Versions path all) own places is outcome served =
+    let same : own ≡ path = cc is in subst (λ (path' : List ℕ). IsInputServed may_take (Versions path all) path' outcome) same served
+input_is_served may_open may_take Fmt own places is outcome served = cc is
+input_is_served may_open may_take (Edit operations) own places is outcome served = cc is
+input_is_served may_open may_take Graph own places is outcome served = cc is
+input_is_served may_open may_take (Rows after limit) own places is outcome served = cc is
+input_is_served may_open may_take (Chain path) own places is outcome served = cc is
 
 -- ---- what can't be read
 
@@ -204,7 +196,7 @@ passed_on stated error (Ok value) same is = tt
 
 -- the report of a file that can't be read is an outcome of the command
 pub input_unserved : (may_open : List ℕ → Opening → Type 0) (command : Command) (places : Places) (proxy : Option ProxyList) (outcome : Outcome) → IsUnreadInput may_open command places outcome
-    → IsServed may_open command (with_proxy places proxy) outcome
+    → IsServed may_open untaken command (with_proxy places proxy) outcome
 input_unserved may_open Fmt places proxy outcome (fault, may, is) = (Err fault, may, is)
 input_unserved may_open (Edit operations) places proxy outcome (fault, may, is) = (Err fault, may, is)
 input_unserved may_open (Versions path all) places proxy outcome is = absurd is
@@ -216,64 +208,95 @@ input_unserved may_open (Chain path) places proxy outcome is =
     let folder = a_folder (string_bytes places.main) in (folder.0, folder.1, one_unserved may_open (MayBeTold may_open folder.0 proxy) (Chain path) places outcome is)
 
 -- and so is the report of standard input
-pub input_unread : (command : Command) (path : List ℕ) (outcome : Outcome) → IsUnreadList outcome → IsInputServed command path outcome
-input_unread command path outcome (fault, is) = (Err fault, is)
+pub input_unread : (may_take : Opening → Type 0) (command : Command) (path : List ℕ) (outcome : Outcome) → IsUnreadList may_take outcome → IsInputServed may_take command path outcome
+input_unread may_take command path outcome (fault, may, is) = (Err fault, may, is)
 
 -- ---- the end
 
 -- what a run over a store gives its caller: an end, or what can't be read, where nothing was written
-pub record IsRun (may_open : List ℕ → Opening → Type 0) (command : Command) (places : Places) (out out' report report' : SinkState) (served : Result Status Report) : Type 0 where
-  pub ends : IfOk served (λ status. EndsAsStated (IsServed may_open command places) out out' report report' (code_of status))
-  pub unread : IfErr served (λ told. OrNoMemory (IsServed may_open command places) (report_outcome told))
+pub record IsRun (may_open : List ℕ → Opening → Type 0) (may_take : Opening → Type 0) (command : Command) (places : Places) (out out' report report' : SinkState) (served : Result Status Report) : Type 0 where
+  pub ends : IfOk served (λ status. EndsAsStated (IsServed may_open may_take command places) out out' report report' (code_of status))
+  pub unread : IfErr served (λ told. OrNoMemory (IsServed may_open may_take command places) (report_outcome told))
   pub no_text : IfErr served (λ _. out' ≡ out)
   pub no_report : IfErr served (λ _. report' ≡ report)
 
 -- a run of `versions` over standard input is one without proxy folders
-pub input_run : (may_open : List ℕ → Opening → Type 0) (command : Command) (path : List ℕ) (places : Places) (out out' report report' : SinkState) (made : Result Status Report)
-    → versions_path command ≡ Some path → IfOk made (λ status. EndsAsStated (IsInputServed command path) out out' report report' (code_of status))
-    → IfErr made (λ told. OrNoMemory (IsInputServed command path) (report_outcome told)) → IfErr made (λ _. out' ≡ out) → IfErr made (λ _. report' ≡ report)
-    → IsRun may_open command (with_proxy places None) out out' report report' made
-input_run may_open command path places out out' report report' (Ok status) is ends unread no_text no_report = record {
-  ends = ends_weaken _ _ _ _ _ _ _ (input_is_served may_open command path places is) ends;
+pub input_run : (may_open : List ℕ → Opening → Type 0) (may_take : Opening → Type 0) (command : Command) (path : List ℕ) (places : Places) (out out' report report' : SinkState) (made : Result Status Report)
+    → versions_path command ≡ Some path → IfOk made (λ status. EndsAsStated (IsInputServed may_take command path) out out' report report' (code_of status))
+    → IfErr made (λ told. OrNoMemory (IsInputServed may_take command path) (report_outcome told)) → IfErr made (λ _. out' ≡ out) → IfErr made (λ _. report' ≡ report)
+    → IsRun may_open may_take command (with_proxy places None) out out' report report' made
+input_run may_open may_take command path places out out' report report' (Ok status) is ends unread no_text no_report = record {
+  ends = ends_weaken _ _ _ _ _ _ _ (input_is_served may_open may_take command path places is) ends;
   unread = tt;
   no_text = tt;
   no_report = tt;
 }
-input_run may_open command path places out out' report report' (Err told) is ends unread no_text no_report = record {
+input_run may_open may_take command path places out out' report report' (Err told) is ends unread no_text no_report = record {
   ends = tt;
-  unread = elim unread [ inl stated ↦ inl (input_is_served may_open command path places is (report_outcome told) stated) | inr memory ↦ inr memory ];
+  unread = elim unread [ inl stated ↦ inl (input_is_served may_open may_take command path places is (report_outcome told) stated) | inr memory ↦ inr memory ];
   no_text = no_text;
   no_report = no_report;
 }
 
+-- a run of `versions` that took no standard input was one over proxy folders
+untaken_versions : (may_open : List ℕ → Opening → Type 0) (may_take : Opening → Type 0) (command : Command) (path : List ℕ) (proxy : Option ProxyList) (outcome : Outcome)
+    → IsVersionsServed may_open untaken command path proxy outcome → IsVersionsServed may_open may_take command path proxy outcome
+untaken_versions may_open may_take command path None outcome (read, may, is) = absurd may.1
+untaken_versions may_open may_take command path (Some folders) outcome served = served
+
+-- a run that took no standard input is one whatever comes of taking it
+untaken_served : (may_open : List ℕ → Opening → Type 0) (may_take : Opening → Type 0) (command : Command) (places : Places) (outcome : Outcome)
+    → IsServed may_open untaken command places outcome → IsServed may_open may_take command places outcome
+untaken_served may_open may_take Fmt places outcome served = served
+untaken_served may_open may_take (Edit operations) places outcome served = served
+untaken_served may_open may_take (Versions path all) places outcome served = untaken_versions may_open may_take (Versions path all) path places.proxy outcome served
+untaken_served may_open may_take Graph places outcome served = served
+untaken_served may_open may_take (Rows after limit) places outcome served = served
+untaken_served may_open may_take (Chain path) places outcome served = served
+
+pub untaken_run : (may_open : List ℕ → Opening → Type 0) (may_take : Opening → Type 0) (command : Command) (places : Places) (out out' report report' : SinkState) (made : Result Status Report)
+    → IsRun may_open untaken command places out out' report report' made → IsRun may_open may_take command places out out' report report' made
+untaken_run may_open may_take command places out out' report report' (Ok status) run = record {
+  ends = ends_weaken _ _ _ _ _ _ _ (untaken_served may_open may_take command places) run.ends;
+  unread = tt;
+  no_text = tt;
+  no_report = tt;
+}
+untaken_run may_open may_take command places out out' report report' (Err told) run = record {
+  ends = tt;
+  unread = elim run.unread [ inl stated ↦ inl (untaken_served may_open may_take command places (report_outcome told) stated) | inr memory ↦ inr memory ];
+  no_text = run.no_text;
+  no_report = run.no_report;
+}
+
 -- it gives the same where its results have other names
-pub same_served : (may_open : List ℕ → Opening → Type 0) (command : Command) (places : Places) (proxy : Option ProxyList) (out mid out' report between report' : SinkState) (made served : Result Status Report)
+pub same_served : (may_open : List ℕ → Opening → Type 0) (may_take : Opening → Type 0) (command : Command) (places : Places) (proxy : Option ProxyList) (out mid out' report between report' : SinkState) (made served : Result Status Report)
     → proxy ≡ places.proxy → out' ≡ mid → report' ≡ between → served ≡ made
-    → IsRun may_open command (with_proxy places proxy) out mid report between made → IsRun may_open command places out out' report report' served
-same_served may_open command places proxy out mid out' report between report' made served same_proxy same_out same_report same run =
-    let P : Option ProxyList → Type 0 = λ proxy. IsRun may_open command (with_proxy places proxy) out mid report between made in
-    let Q : SinkState → Type 0 = λ out'. IsRun may_open command places out out' report between made in
-    let R : SinkState → Type 0 = λ report'. IsRun may_open command places out out' report report' made in
-    let S : Result Status Report → Type 0 = λ served. IsRun may_open command places out out' report report' served in
+    → IsRun may_open may_take command (with_proxy places proxy) out mid report between made → IsRun may_open may_take command places out out' report report' served
+same_served may_open may_take command places proxy out mid out' report between report' made served same_proxy same_out same_report same run =
+    let P : Option ProxyList → Type 0 = λ proxy. IsRun may_open may_take command (with_proxy places proxy) out mid report between made in
+    let Q : SinkState → Type 0 = λ out'. IsRun may_open may_take command places out out' report between made in
+    let R : SinkState → Type 0 = λ report'. IsRun may_open may_take command places out out' report report' made in
+    let S : Result Status Report → Type 0 = λ served. IsRun may_open may_take command places out out' report report' served in
     subst S (sym same) (subst R (sym same_report) (subst Q (sym same_out) (subst P same_proxy run)))
 
 -- the end of a command whose run has none: what can't be read is reported
-pub stopped_ends : (may_open : List ℕ → Opening → Type 0) (command : Command) (places : Places) (told : Report) (out mid out' report between report' : SinkState) (served : Result Status Report) (status : ℕ) → served ≡ Err told
-    → IsRun may_open command places out mid report between served
-    → IsWritten (report_outcome told) mid out' between report' status → EndsAsStated (IsServed may_open command places) out out' report report' status
-stopped_ends may_open command places told out mid out' report between report' served status is run written =
-    let run' = subst (IsRun may_open command places out mid report between) is run in
+pub stopped_ends : (may_open : List ℕ → Opening → Type 0) (may_take : Opening → Type 0) (command : Command) (places : Places) (told : Report) (out mid out' report between report' : SinkState) (served : Result Status Report) (status : ℕ) → served ≡ Err told
+    → IsRun may_open may_take command places out mid report between served
+    → IsWritten (report_outcome told) mid out' between report' status → EndsAsStated (IsServed may_open may_take command places) out out' report report' status
+stopped_ends may_open may_take command places told out mid out' report between report' served status is run written =
+    let run' = subst (IsRun may_open may_take command places out mid report between) is run in
     let P : SinkState → Type 0 = λ report. IsWritten (report_outcome told) mid out' report report' status in
     let Q : SinkState → Type 0 = λ out. IsWritten (report_outcome told) out out' report report' status in
     record { outcome = report_outcome told; as_stated = run'.unread; written = subst Q run'.no_text (subst P run'.no_report written) }
 
 -- the end of a command that was served
-pub served_ends : (may_open : List ℕ → Opening → Type 0) (command : Command) (places : Places) (out mid report between report' : SinkState) (served : Result Status Report) (status : Status)
-    → IsRun may_open command places out mid report between served → IfOk served (λ ran. status ≡ ran) → IfOk served (λ _. report' ≡ between)
+pub served_ends : (may_open : List ℕ → Opening → Type 0) (may_take : Opening → Type 0) (command : Command) (places : Places) (out mid report between report' : SinkState) (served : Result Status Report) (status : Status)
+    → IsRun may_open may_take command places out mid report between served → IfOk served (λ ran. status ≡ ran) → IfOk served (λ _. report' ≡ between)
     → IfErr served (λ told. (any : SinkState) → IsWritten (report_outcome told) any any between report' (code_of status))
-    → EndsAsStated (IsServed may_open command places) out mid report report' (code_of status)
-served_ends may_open command places out mid report between report' (Ok ran) status run is same written =
-    subst (λ (last : SinkState). EndsAsStated (IsServed may_open command places) out mid report last (code_of status)) (sym same)
-    (subst (λ (code : Status). EndsAsStated (IsServed may_open command places) out mid report between (code_of code)) (sym is) run.ends)
-served_ends may_open command places out mid report between report' (Err told) status run is same written =
-    stopped_ends may_open command places told out mid mid report between report' (Err told) (code_of status) refl run (written mid)
+    → EndsAsStated (IsServed may_open may_take command places) out mid report report' (code_of status)
+served_ends may_open may_take command places out mid report between report' (Ok ran) status run is same written =
+    subst (λ (last : SinkState). EndsAsStated (IsServed may_open may_take command places) out mid report last (code_of status)) (sym same)
+    (subst (λ (code : Status). EndsAsStated (IsServed may_open may_take command places) out mid report between (code_of code)) (sym is) run.ends)
+served_ends may_open may_take command places out mid report between report' (Err told) status run is same written =
+    stopped_ends may_open may_take command places told out mid mid report between report' (Err told) (code_of status) refl run (written mid)

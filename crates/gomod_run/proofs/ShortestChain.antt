@@ -7,7 +7,7 @@ use Rattle.gm_graph_select.specs.Chains.{IsChain, IsLevel, Leads, along, at_main
 use Rattle.gm_graph_select.specs.Graph.{Edges}
 use Rattle.gm_graph.specs.Graph.{IsEdge}
 use Rattle.gomod_run.specs.ListingLaws.{PrintedChainIsShortest, IsWalk, further, here}
-use Rattle.gomod_run.specs.Outcomes.{PrintsChain}
+use Rattle.gomod_run.proofs.HeldEnds.{PrintsChain, chain_held}
 use Rattle.gomod_run.proofs.PrintedList.{not_refused, printed_run}
 
 pub chain_walk : (E : Edges) {s : Step} {steps : List Step} → IsChain E s steps → IsWalk E s steps
@@ -39,7 +39,7 @@ no_shorter E s steps others chain walk =
 
 pub chain_is_shortest : PrintedChainIsShortest
 chain_is_shortest path run outcome is ends =
-    let (main, held, found, (rows, list, shows)) = printed_run (PrintsChain path) run outcome is ends in
+    let (main, held, found, (rows, list, shows)) = printed_run (PrintsChain path) run outcome (chain_held run outcome path is) ends in
     let edges : Edges = IsEdge main (readings_by main held) in
     elim shows [
       | inl (s, steps, entry, chain, says) ↦

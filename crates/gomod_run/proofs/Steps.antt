@@ -2,7 +2,7 @@
 use Rattle.std.proofs.lemmas.List.{append_cancel_left}
 use Rattle.std.proofs.lemmas.Option.{same_Some}
 use Rattle.std.proofs.lemmas.Result.{err_from_is_err_and}
-use Rattle.std.proofs.Common.{◌≡◌, ◌⊎◌, ◌∙◌, ◌++◌, ◌∷◌, ℕ, ◌≤◌, length, Bool, true, false, List, [], Some, None, Result, Ok, Err, IfOk, append-nil, ap, codes, inl, inr, refl, subst, sym}
+use Rattle.std.proofs.Common.{◌≡◌, ◌⊎◌, ◌∙◌, ◌++◌, ◌∷◌, ℕ, ◌≤◌, length, Bool, true, false, List, [], Option, Some, None, Result, Ok, Err, IfOk, append-nil, ap, codes, inl, inr, refl, subst, sym}
 use Rattle.std.specs.Prelude.{String, ⊤}
 use Rattle.std.specs.declared.alloc.Global.{Global}
 use Rattle.std.specs.Result.{IsErrAnd}
@@ -21,13 +21,15 @@ use Rattle.gomod_run.specs.declared.reports.report.Report.TheVariants as report
 use Rattle.gomod_run.specs.Reports.{device_line, list_line}
 use Rattle.gomod_run.specs.Asking.{IsAnsweredAsk, IsAsked, IsLatestAsked, IsRefusedAt, IsUnanswered}
 use Rattle.gomod_run.specs.Listing.{IsAllOutcome, IsListAsked, IsShownAsked}
-use Rattle.gm_store.specs.States.{StoreState}
-use Rattle.gomod_run.specs.Needs.{AnsweredAll, AnswersByName, AskedInTurn, FailsInTurn}
+use Rattle.gm_store.specs.States.{HasServed, StoreState}
+use Rattle.gomod_run.specs.Needs.{AnswersByName, AskedInTurn, FailsInTurn}
 use Rattle.gomod_run.proofs.InTurn.{IsWanted, none_in_turn}
-use Rattle.gomod_run.specs.Runs.{IsRunOutcome}
-use Rattle.gomod_run.specs.Versions.{IsEndByList, IsRefusedList, IsShownBy, IsShownOutcome, IsUnfetchable, IsVersionsOutcome, NeedsFile, VersionsNeed, versions_line}
+use Rattle.gomod_run.specs.Runs.{ComesTo, run_between, told_between}
+use Rattle.gomod_run.specs.Versions.{IsEndByList, IsRefusedList, IsShownBy, IsShownOutcome, IsUnfetchable, IsVersionsOutcome, NeedsFile, VersionsEnds, VersionsNeed, answered, device, versions_line}
+use Rattle.gomod_words.specs.declared.usage.Command.TheVariants.{Versions}
 use Rattle.gomod_run.proofs.Answering.{file_answer, list_answer}
-use Rattle.gomod_run.proofs.Uniqueness.{latest_once, listed_once, none_latest}
+use Rattle.gomod_run.proofs.AllAsked.{done_if_memory}
+use Rattle.gomod_run.proofs.CommandOutcomes.{failed_in, none_failed}
 
 -- what is asked, with the answers
 abbrev pub Pairs : Type 0
@@ -55,61 +57,38 @@ module _ (path : List ℕ) (all : Bool) where
   -- ---- endings
 
   module _ (old new : StoreState) (output : Outcome) where
-    Ending : Type 0
-    Ending = IsRunOutcome (VersionsNeed path all) (IsVersionsOutcome path all) old new output
+    abbrev pub Ends : Type 0
+    Ends = VersionsEnds path all (told_between old new) output
 
-    pub ends_unfetchable : is_fetchable path ≡ false → new.refused ≡ old.refused → output ≡ refused (list_line path (codes "NotFetchable"))
-        → IsRunOutcome (VersionsNeed path all) (IsVersionsOutcome path all) old new output
-    ends_unfetchable not same is = inl (inl (not, is), λ name need. let e = sym not ∙ need.0 in absurd (cc), same)
+    -- the device did not fail
+    sound_end : new.refused ≡ old.refused → IsVersionsOutcome path all (answer_in new.asked) output → Ends
+    sound_end same is = answered is (none_failed old.refused new.refused same)
+
+    pub ends_unfetchable : is_fetchable path ≡ false → new.refused ≡ old.refused → output ≡ refused (list_line path (codes "NotFetchable")) → Ends
+    ends_unfetchable not same is = sound_end same (inl (not, is))
 
     pub ends_device_list : is_fetchable path ≡ true → new.asked ≡ [] → output ≡ failed (device_line (list_file path))
-        → new.refused ≡ old.refused ++ list_file path ∷ [] → IsRunOutcome (VersionsNeed path all) (IsVersionsOutcome path all) old new output
+        → new.refused ≡ old.refused ++ list_file path ∷ [] → Ends
     ends_device_list fetchable none is grown =
-        inr (list_file path, is, (fetchable, inl refl), ap (λ (a : Pairs). answer_in a (list_file path)) none, grown)
+        device (list_file path) (fetchable, inl refl) (ap (λ (a : Pairs). answer_in a (list_file path)) none)
+        (failed_in old.refused new.refused (list_file path ∷ []) grown) is
 
     -- the answers, if only the list was asked for
     list_is : (reply : Reply) → new.asked ≡ (list_file path, reply) ∷ [] → answer_in new.asked (list_file path) ≡ Some reply
     list_is reply asked = ap (λ (a : Pairs). answer_in a (list_file path)) asked ∙ list_answer path reply []
 
-    unread : (reply : Reply) → ((list : List ℕ) → ¬ (reply ≡ bytes list)) → new.asked ≡ (list_file path, reply) ∷ []
-        → AnsweredAll (VersionsNeed path all) (answer_in new.asked)
-    unread reply none asked = λ name need. elim need.1 [
-      | inl is ↦ (reply, ap (answer_in new.asked) is ∙ list_is reply asked)
-      | inr file ↦ let e : Some reply ≡ Some (bytes file.0) = sym (list_is reply asked) ∙ file.4 in absurd (none file.0 (cc))
-    ]
-
     pub ends_missing : is_fetchable path ≡ true → new.asked ≡ (list_file path, absent) ∷ [] → new.refused ≡ old.refused
-        → output ≡ refused (list_line path (codes "Missing")) → IsRunOutcome (VersionsNeed path all) (IsVersionsOutcome path all) old new output
-    ends_missing fetchable asked same is =
-        inl (inr (absent, fetchable, list_is absent asked, is), unread absent (λ list e. cc e) asked, same)
+        → output ≡ refused (list_line path (codes "Missing")) → Ends
+    ends_missing fetchable asked same is = sound_end same (inr (absent, fetchable, list_is absent asked, is))
 
     pub ends_too_long : is_fetchable path ≡ true → new.asked ≡ (list_file path, too_long) ∷ [] → new.refused ≡ old.refused
-        → output ≡ refused (list_line path (codes "TooLong")) → IsRunOutcome (VersionsNeed path all) (IsVersionsOutcome path all) old new output
-    ends_too_long fetchable asked same is =
-        inl (inr (too_long, fetchable, list_is too_long asked, is), unread too_long (λ list e. cc e) asked, same)
-
-    same_list : (one other : List ℕ) → Some (bytes one) ≡ Some (bytes other) → one ≡ other
-    same_list one other e = cc
-
-    no_file : (list : List ℕ) (versions : List (List ℕ)) → AreListed path list versions → (all ≡ true) ⊎ (versions ≡ [])
-        → new.asked ≡ (list_file path, bytes list) ∷ [] → AnsweredAll (VersionsNeed path all) (answer_in new.asked)
-    no_file list versions listed none asked = λ name need. elim need.1 [
-      | inl is ↦ (bytes list, ap (answer_in new.asked) is ∙ list_is (bytes list) asked)
-      | inr file ↦ absurd (elim none [
-        | inl every ↦ let e = sym every ∙ file.3 in cc
-        | inr empty ↦
-            let same : list ≡ file.0 = same_list list file.0 (sym (list_is (bytes list) asked) ∙ file.4) in
-            let theirs : AreListed path list file.1 = subst (λ (l : List ℕ). AreListed path l file.1) (sym same) file.5 in
-            let nothing : file.1 ≡ [] = listed_once path list file.1 versions theirs listed ∙ empty in
-            none_latest file.2 (subst (λ (vs : List (List ℕ)). IsLatest vs file.2) nothing file.6)
-      ])
-    ]
+        → output ≡ refused (list_line path (codes "TooLong")) → Ends
+    ends_too_long fetchable asked same is = sound_end same (inr (too_long, fetchable, list_is too_long asked, is))
 
     pub ends_all : (list : List ℕ) (versions : List (List ℕ)) → is_fetchable path ≡ true → AreListed path list versions → (all ≡ true) ⊎ (versions ≡ [])
-        → new.asked ≡ (list_file path, bytes list) ∷ [] → new.refused ≡ old.refused → output ≡ printed (versions_line path versions)
-        → IsRunOutcome (VersionsNeed path all) (IsVersionsOutcome path all) old new output
+        → new.asked ≡ (list_file path, bytes list) ∷ [] → new.refused ≡ old.refused → output ≡ printed (versions_line path versions) → Ends
     ends_all list versions fetchable listed every asked same is =
-        inl (inr (bytes list, fetchable, list_is (bytes list) asked, (versions, listed, inl (every, is))), no_file list versions listed every asked, same)
+        sound_end same (inr (bytes list, fetchable, list_is (bytes list) asked, (versions, listed, inl (every, is))))
 
     -- the go.mod of the latest version is needed and not answered
     file_wanted : (list : List ℕ) (versions : List (List ℕ)) (latest : List ℕ) → is_fetchable path ≡ true → all ≡ false
@@ -122,11 +101,10 @@ module _ (path : List ℕ) (all : Bool) where
 
     pub ends_device_file : (list : List ℕ) (versions : List (List ℕ)) (latest : List ℕ) → is_fetchable path ≡ true → all ≡ false
         → AreListed path list versions → IsLatest versions latest → new.asked ≡ (list_file path, bytes list) ∷ []
-        → output ≡ failed (device_line (mod_file path latest)) → new.refused ≡ old.refused ++ mod_file path latest ∷ []
-        → IsRunOutcome (VersionsNeed path all) (IsVersionsOutcome path all) old new output
+        → output ≡ failed (device_line (mod_file path latest)) → new.refused ≡ old.refused ++ mod_file path latest ∷ [] → Ends
     ends_device_file list versions latest fetchable some listed latest_is asked is grown =
         let wanted : IsWanted (VersionsNeed path all) (mod_file path latest) new.asked = file_wanted list versions latest fetchable some listed latest_is asked in
-        inr (mod_file path latest, is, wanted.0, wanted.1, grown)
+        device (mod_file path latest) wanted.0 wanted.1 (failed_in old.refused new.refused (mod_file path latest ∷ []) grown) is
 
     both_list : (list latest : List ℕ) (reply : Reply) → new.asked ≡ (list_file path, bytes list) ∷ (mod_file path latest, reply) ∷ []
         → answer_in new.asked (list_file path) ≡ Some (bytes list)
@@ -136,34 +114,17 @@ module _ (path : List ℕ) (all : Bool) where
         → answer_in new.asked (mod_file path latest) ≡ Some reply
     both_file list latest reply asked = ap (λ (a : Pairs). answer_in a (mod_file path latest)) asked ∙ file_answer path latest (bytes list) reply []
 
-    both_answered : (list : List ℕ) (versions : List (List ℕ)) (latest : List ℕ) (reply : Reply) → AreListed path list versions → IsLatest versions latest
-        → new.asked ≡ (list_file path, bytes list) ∷ (mod_file path latest, reply) ∷ [] → AnsweredAll (VersionsNeed path all) (answer_in new.asked)
-    both_answered list versions latest reply listed latest_is asked = λ name need. elim need.1 [
-      | inl is ↦ (bytes list, ap (answer_in new.asked) is ∙ both_list list latest reply asked)
-      | inr file ↦
-          let same : list ≡ file.0 = same_list list file.0 (sym (both_list list latest reply asked) ∙ file.4) in
-          let theirs : AreListed path list file.1 = subst (λ (l : List ℕ). AreListed path l file.1) (sym same) file.5 in
-          let versions_same : file.1 ≡ versions = listed_once path list file.1 versions theirs listed in
-          let their_latest : IsLatest versions file.2 = subst (λ (vs : List (List ℕ)). IsLatest vs file.2) versions_same file.6 in
-          let latest_same : file.2 ≡ latest = latest_once versions file.2 latest their_latest latest_is in
-          (reply, ap (answer_in new.asked) (file.7 ∙ ap (mod_file path) latest_same) ∙ both_file list latest reply asked)
-    ]
-
     pub ends_shown : (list : List ℕ) (versions : List (List ℕ)) (latest : List ℕ) (reply : Reply) → is_fetchable path ≡ true → all ≡ false
         → AreListed path list versions → IsLatest versions latest → new.asked ≡ (list_file path, bytes list) ∷ (mod_file path latest, reply) ∷ []
-        → new.refused ≡ old.refused → IsShownOutcome path versions latest reply output
-        → IsRunOutcome (VersionsNeed path all) (IsVersionsOutcome path all) old new output
+        → new.refused ≡ old.refused → IsShownOutcome path versions latest reply output → Ends
     ends_shown list versions latest reply fetchable some listed latest_is asked same is =
-        inl (
-          inr (
-            bytes list,
-            fetchable,
-            both_list list latest reply asked,
-            (versions, listed, inr (latest, reply, some, latest_is, both_file list latest reply asked, is)),
-          ),
-          both_answered list versions latest reply listed latest_is asked,
-          same,
-        )
+        sound_end same
+        (inr (
+          bytes list,
+          fetchable,
+          both_list list latest reply asked,
+          (versions, listed, inr (latest, reply, some, latest_is, both_file list latest reply asked, is)),
+        ))
 
 -- ---- what the store's device failed on
 
@@ -185,9 +146,9 @@ refused_on old new outcome one is grown name more =
 
 -- ---- the clauses of a run
 
--- what the contract of `versions_outcome` says of a run, but for `served`
+-- what the contract of `versions_outcome` says of a run, but for its answers
 pub record IsVersionsRun (path : List ℕ) (all : Bool) (old new : StoreState) (outcome : Outcome) : Type 0 where
-  pub comes : OrNoMemory (IsRunOutcome (VersionsNeed path all) (IsVersionsOutcome path all) old new) outcome
+  pub ends : OrNoMemory (VersionsEnds path all (told_between old new)) outcome
   pub device : (name : Name) → new.refused ≡ old.refused ++ name ∷ [] → outcome ≡ failed (device_line name)
   pub no_list : (other : Outcome) → IsRefusedList path (answer_in new.asked) other → outcome ≡ other
   pub in_turn : AskedInTurn (VersionsNeed path all) new.asked
@@ -205,15 +166,15 @@ refused_as : (Leads : List ℕ → Outcome → Type 0) (path : List ℕ) (answer
     → is_fetchable path ≡ true → answers (list_file path) ≡ Some reply → IsEndByList Leads path reply outcome
     → (other : Outcome) → IsRefusedList path answers other → outcome ≡ other
 refused_as Leads path answers reply outcome fetchable told is other (inl no_path) = let e : true ≡ false = sym fetchable ∙ no_path.0 in cc e
-refused_as Leads path answers reply outcome fetchable told is other (inr (seen, answered, ends)) =
-    let same : seen ≡ reply = same_Some seen reply (sym answered ∙ told) in
+refused_as Leads path answers reply outcome fetchable told is other (inr (seen, heard, ends)) =
+    let same : seen ≡ reply = same_Some seen reply (sym heard ∙ told) in
     one_refusal Leads path reply outcome other is (subst (λ (r : Reply). IsEndByList (λ list outcome. ⊥) path r other) same ends)
 
 -- if nothing was answered, only a path that is not fetchable has such an outcome
 refused_first : (path : List ℕ) (asked : Pairs) (other : Outcome) → asked ≡ [] → IsRefusedList path (answer_in asked) other → IsUnfetchable path other
 refused_first path asked other none (inl no_path) = no_path
-refused_first path asked other none (inr (reply, answered, ends)) =
-    let e : None ≡ Some reply = sym (ap (λ (a : Pairs). answer_in a (list_file path)) none) ∙ answered in cc e
+refused_first path asked other none (inr (reply, heard, ends)) =
+    let e : None ≡ Some reply = sym (ap (λ (a : Pairs). answer_in a (list_file path)) none) ∙ heard in cc e
 
 -- if the path is fetchable and nothing was answered, there is no such outcome
 none_refused : (path : List ℕ) (asked : Pairs) (outcome : Outcome) → is_fetchable path ≡ true → asked ≡ []
@@ -230,7 +191,7 @@ IsPrinted path all list outcome = (versions : List (List ℕ)) × AreListed path
 by_list : (path : List ℕ) (all : Bool) (old new : StoreState) (reply : Reply) (outcome : Outcome) → is_fetchable path ≡ true
     → new.asked ≡ (list_file path, reply) ∷ [] → new.refused ≡ old.refused
     → IsEndByList (λ list. OrNoMemory (IsPrinted path all list)) path reply outcome
-    → OrNoMemory (IsRunOutcome (VersionsNeed path all) (IsVersionsOutcome path all) old new) outcome
+    → OrNoMemory (VersionsEnds path all (told_between old new)) outcome
 by_list path all old new absent outcome fetchable asked still is = inl (ends_missing path all old new outcome fetchable asked still is)
 by_list path all old new too_long outcome fetchable asked still is = inl (ends_too_long path all old new outcome fetchable asked still is)
 by_list path all old new (bytes list) outcome fetchable asked still (inl (versions, listed, every, is)) =
@@ -253,7 +214,7 @@ module _ (path : List ℕ) (all : Bool) (old : StoreState) (first : old.asked �
       let none : new.asked ≡ [] = ap (λ (s : StoreState). s.asked) same ∙ first in
       let still : new.refused ≡ old.refused = ap (λ (s : StoreState). s.refused) same in
       record {
-        comes = inl (ends_unfetchable path all old new (report_outcome told) no_path still is);
+        ends = inl (ends_unfetchable path all old new (report_outcome told) no_path still is);
         device = unrefused old new (report_outcome told) still;
         no_list = λ other refusal. is ∙ sym (refused_first path new.asked other none refusal).1;
         in_turn = none_in_turn (VersionsNeed path all) new.asked none;
@@ -262,7 +223,7 @@ module _ (path : List ℕ) (all : Bool) (old : StoreState) (first : old.asked �
   unlisted_run new told (inr (fetchable, inl (is, same, grown))) =
       let none : new.asked ≡ [] = same ∙ first in
       record {
-        comes = inl (ends_device_list path all old new (report_outcome told) fetchable none is grown);
+        ends = inl (ends_device_list path all old new (report_outcome told) fetchable none is grown);
         device = refused_on old new (report_outcome told) (list_file path) is grown;
         no_list = none_refused path new.asked (report_outcome told) fetchable none;
         in_turn = none_in_turn (VersionsNeed path all) new.asked none;
@@ -271,7 +232,7 @@ module _ (path : List ℕ) (all : Bool) (old : StoreState) (first : old.asked �
   unlisted_run new told (inr (fetchable, inr (is, same, still))) =
       let none : new.asked ≡ [] = same ∙ first in
       record {
-        comes = inr is;
+        ends = inr is;
         device = unrefused old new (report_outcome told) still;
         no_list = none_refused path new.asked (report_outcome told) fetchable none;
         in_turn = none_in_turn (VersionsNeed path all) new.asked none;
@@ -280,42 +241,42 @@ module _ (path : List ℕ) (all : Bool) (old : StoreState) (first : old.asked �
 
   -- ---- the list was answered
 
-  module _ (mid : StoreState) (reply : Reply) (fetchable : is_fetchable path ≡ true) (answered : IsAnsweredAsk (list_file path) old mid reply) where
+  module _ (mid : StoreState) (reply : Reply) (fetchable : is_fetchable path ≡ true) (heard : IsAnsweredAsk (list_file path) old mid reply) where
     -- only the list was asked for
     only_list : mid.asked ≡ (list_file path, reply) ∷ []
-    only_list = answered.0 ∙ ap (λ (a : Pairs). a ++ (list_file path, reply) ∷ []) first
+    only_list = heard.0 ∙ ap (λ (a : Pairs). a ++ (list_file path, reply) ∷ []) first
 
     -- nothing else was asked
     listed_run : (outcome : Outcome) → IsEndByList (λ list. OrNoMemory (IsPrinted path all list)) path reply outcome → IsVersionsRun path all old mid outcome
     listed_run outcome is = record {
-      comes = by_list path all old mid reply outcome fetchable only_list answered.1 is;
-      device = unrefused old mid outcome answered.1;
+      ends = by_list path all old mid reply outcome fetchable only_list heard.1 is;
+      device = unrefused old mid outcome heard.1;
       no_list = refused_as (λ list. OrNoMemory (IsPrinted path all list)) path (answer_in mid.asked) reply outcome fetchable (list_is path all old mid outcome reply only_list) is;
       in_turn = list_in_turn path all mid.asked reply fetchable only_list;
-      fails = inl answered.1;
+      fails = inl heard.1;
     }
 
 -- ---- the list was answered, and the go.mod of the latest version may have been asked for
 
 module _ (path : List ℕ) (all : Bool) (old mid new : StoreState) (first : old.asked ≡ []) (list : List ℕ)
-    (some : all ≡ false) (fetchable : is_fetchable path ≡ true) (answered : IsAnsweredAsk (list_file path) old mid (bytes list)) where
+    (some : all ≡ false) (fetchable : is_fetchable path ≡ true) (heard : IsAnsweredAsk (list_file path) old mid (bytes list)) where
   -- only the list had been asked for
   list_alone : mid.asked ≡ (list_file path, bytes list) ∷ []
-  list_alone = only_list path all old first mid (bytes list) fetchable answered
+  list_alone = only_list path all old first mid (bytes list) fetchable heard
 
   -- memory ran out before anything more was asked
   unasked_run : (outcome : Outcome) → IsUnanswered mid new outcome → IsVersionsRun path all old new outcome
   unasked_run outcome (is, asked, still) =
-      listed_run path all old first new (bytes list) fetchable (asked ∙ answered.0, still ∙ answered.1) outcome (inr is)
+      listed_run path all old first new (bytes list) fetchable (asked ∙ heard.0, still ∙ heard.1) outcome (inr is)
 
   -- the go.mod of the latest version was asked for
   latest_run : (versions : List (List ℕ)) (latest : List ℕ) (outcome : Outcome) → AreListed path list versions → IsLatest versions latest
       → IsLatestAsked path versions latest mid new outcome → IsVersionsRun path all old new outcome
   latest_run versions latest outcome listed greatest (inl a) =
       let both : new.asked ≡ (list_file path, bytes list) ∷ (mod_file path latest, a.0) ∷ [] = a.1.0 ∙ ap (λ (p : Pairs). p ++ (mod_file path latest, a.0) ∷ []) list_alone in
-      let still : new.refused ≡ old.refused = a.1.1 ∙ answered.1 in
+      let still : new.refused ≡ old.refused = a.1.1 ∙ heard.1 in
       record {
-        comes = elim a.2 [
+        ends = elim a.2 [
           | inl shows ↦ inl (ends_shown path all old new outcome list versions latest a.0 fetchable some listed greatest both still shows)
           | inr memory ↦ inr memory
         ];
@@ -326,11 +287,11 @@ module _ (path : List ℕ) (all : Bool) (old mid new : StoreState) (first : old.
       }
   latest_run versions latest outcome listed greatest (inr (inl (is, asked, grown))) =
       let alone : new.asked ≡ (list_file path, bytes list) ∷ [] = asked ∙ list_alone in
-      let more : new.refused ≡ old.refused ++ mod_file path latest ∷ [] = grown ∙ ap (λ (names : List Name). names ++ mod_file path latest ∷ []) answered.1 in
+      let more : new.refused ≡ old.refused ++ mod_file path latest ∷ [] = grown ∙ ap (λ (names : List Name). names ++ mod_file path latest ∷ []) heard.1 in
       let wanted : IsWanted (VersionsNeed path all) (mod_file path latest) new.asked =
       file_wanted path all old new outcome list versions latest fetchable some listed greatest alone in
       record {
-        comes = inl (ends_device_file path all old new outcome list versions latest fetchable some listed greatest alone is more);
+        ends = inl (ends_device_file path all old new outcome list versions latest fetchable some listed greatest alone is more);
         device = refused_on old new outcome (mod_file path latest) is more;
         no_list = refused_as (λ list outcome. ⊤) path (answer_in new.asked) (bytes list) outcome fetchable (list_is path all old new outcome (bytes list) alone) tt;
         in_turn = list_in_turn path all new.asked (bytes list) fetchable alone;
@@ -342,7 +303,7 @@ module _ (path : List ℕ) (all : Bool) (old mid new : StoreState) (first : old.
   shown_run : (outcome : Outcome) → IsShownAsked path list mid new outcome → IsVersionsRun path all old new outcome
   shown_run outcome (inl (listed, is, same)) =
       subst (λ (state : StoreState). IsVersionsRun path all old state outcome) (sym same)
-      (listed_run path all old first mid (bytes list) fetchable answered outcome (inl ([], listed, inr refl, is)))
+      (listed_run path all old first mid (bytes list) fetchable heard outcome (inl ([], listed, inr refl, is)))
   shown_run outcome (inr (inl full)) = latest_run full.0 full.1 outcome full.2 full.3 full.4
   shown_run outcome (inr (inr unasked)) = unasked_run outcome unasked
 
@@ -353,17 +314,17 @@ IsLastReply state answer = (before : Pairs) (last : Name × Reply) → state.ask
 module _ (path : List ℕ) (all : Bool) (old mid : StoreState) (first : old.asked ≡ []) (answer : Reply) (last : IsLastReply mid answer) where
   -- no go.mod has been answered yet
   pub file_unasked : (u : Unit {0}) → IsListAsked path old mid (Ok u) → (latest : List ℕ) → answer_in mid.asked (mod_file path latest) ≡ None
-  file_unasked u (fetchable, (reply, answered)) latest =
-      ap (λ (a : Pairs). answer_in a (mod_file path latest)) (only_list path all old first mid reply fetchable answered)
+  file_unasked u (fetchable, (reply, heard)) latest =
+      ap (λ (a : Pairs). answer_in a (mod_file path latest)) (only_list path all old first mid reply fetchable heard)
 
   -- an outcome by the answer, if only the list was asked for
   by_answer : (One : List ℕ → Outcome → Type 0) (outcome : Outcome) (u : Unit {0}) → IsListAsked path old mid (Ok u)
       → ((list : List ℕ) → One list outcome → OrNoMemory (IsPrinted path all list) outcome)
       → IsEndByList One path answer outcome → IsVersionsRun path all old mid outcome
-  by_answer One outcome u (fetchable, (reply, answered)) wider is =
+  by_answer One outcome u (fetchable, (reply, heard)) wider is =
       let is' : IsEndByList One path reply outcome =
-      subst (λ (r : Reply). IsEndByList One path r outcome) (last old.asked (list_file path, reply) answered.0) is in
-      listed_run path all old first mid reply fetchable answered outcome
+      subst (λ (r : Reply). IsEndByList One path r outcome) (last old.asked (list_file path, reply) heard.0) is in
+      listed_run path all old first mid reply fetchable heard outcome
       (ends_wider One (λ list. OrNoMemory (IsPrinted path all list)) path reply outcome wider is')
 
   -- all versions are printed
@@ -382,10 +343,27 @@ module _ (path : List ℕ) (all : Bool) (old mid : StoreState) (first : old.aske
   pub copied_run : (new : StoreState) (list : List ℕ) (outcome : Outcome) (u : Unit {0}) → IsListAsked path old mid (Ok u) → all ≡ false
       → answer ≡ bytes list → IsShownAsked path list mid new outcome
       → IsVersionsRun path all old new outcome
-  copied_run new list outcome u (fetchable, (reply, answered)) some is shown =
-      let same : reply ≡ bytes list = sym (last old.asked (list_file path, reply) answered.0) ∙ is in
+  copied_run new list outcome u (fetchable, (reply, heard)) some is shown =
+      let same : reply ≡ bytes list = sym (last old.asked (list_file path, reply) heard.0) ∙ is in
       shown_run path all old mid new first list some fetchable
-      (subst (λ (r : Reply). IsAnsweredAsk (list_file path) old mid r) same answered) outcome shown
+      (subst (λ (r : Reply). IsAnsweredAsk (list_file path) old mid r) same heard) outcome shown
+
+-- a run with such answers
+pub versions_come : (path : List ℕ) (all : Bool) (before after : Name → Reply → Type 0) (old new : StoreState) (outcome : Outcome) → IsVersionsRun path all old new outcome
+    → HasServed before after old new → (main : List ℕ) (sums : Option (List ℕ)) → ComesTo (Versions path all) main sums before after old new outcome
+versions_come path all before after old new outcome is served main sums = record {
+  ends = is.ends;
+  holds = record {
+    in_turn = is.in_turn;
+    all_answered = λ done. done_if_memory (Versions path all) (run_between main sums old new) outcome is.ends done;
+    fails = is.fails;
+    served = served;
+    device = is.device;
+    no_list = λ named every other same refusal.
+        let path_same : named ≡ path = cc same in
+        is.no_list other (subst (λ (p : List ℕ). IsRefusedList p (answer_in new.asked) other) path_same refusal);
+  };
+}
 
 -- ---- single functions
 
@@ -440,8 +418,8 @@ latest_unanswered path versions latest old new name told same asked =
 pub latest_answered : (path : List ℕ) (versions : List (List ℕ)) (latest : List ℕ) (old new : StoreState) (name : Name) (answer reply : Reply) (outcome : Outcome)
     → name ≡ mod_file path latest → IsAnsweredAsk name old new reply → answer ≡ reply → IsWithinLimit answer
     → (IsWithinLimit answer → OrNoMemory (IsShownOutcome path versions latest answer) outcome) → IsLatestAsked path versions latest old new outcome
-latest_answered path versions latest old new name answer reply outcome same answered is within known = inl (
+latest_answered path versions latest old new name answer reply outcome same heard is within known = inl (
   reply,
-  subst (λ (n : Name). IsAnsweredAsk n old new reply) same answered,
+  subst (λ (n : Name). IsAnsweredAsk n old new reply) same heard,
   subst (λ (r : Reply). OrNoMemory (IsShownOutcome path versions latest r) outcome) is (known within),
 )

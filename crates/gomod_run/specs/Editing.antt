@@ -1,6 +1,6 @@
 -- The outcome of `edit`: go help mod edit. That nothing is printed if an operation is refused is this program's own
 -- rule.
-use Rattle.std.specs.Prelude.{◌≡◌, ◌⊎◌, ◌++◌, ◌∷◌, ◌+◌, ℕ, List, [], Option, Some, None, codes, if◌then◌else◌}
+use Rattle.std.specs.Prelude.{◌≡◌, ◌++◌, ◌∷◌, ◌+◌, ℕ, List, [], Option, Some, None, codes, if◌then◌else◌}
 use Rattle.std.specs.List.{filter_map, fold}
 use Rattle.std.specs.Option.{option_map, option_to_list}
 use Rattle.gm_syntax.specs.Document.{Line}
@@ -42,9 +42,11 @@ abbrev pub edits_outcome : List (ℕ × List ℕ) → List (Line Placed) → Out
 edits_outcome [] lines = printed (layout (plain_lines lines))
 edits_outcome (refusal ∷ later) lines = refused (edit_line refusal)
 
--- `edit FILE OP..` over the bytes of the file: the file is read strictly, then each operation is parsed and applied
-abbrev pub IsEditOutcome : List (List ℕ) → List ℕ → Outcome → Type 0
-IsEditOutcome texts file outcome =
-    ((place : FaultPlace) × IsMisread Strict file place.0 place.1 × (outcome ≡ refused (main_line place)))
-    ⊎ ((lines : List (Line Placed)) × IsMainOf file lines
-    × (outcome ≡ edits_outcome (refusals_from 1 texts) (edited_in_turn (filter_map edit_in texts) lines)))
+-- How `edit FILE OP..` ends over the bytes of the file, if memory doesn't run out: the file is read strictly, then each
+-- operation is parsed and applied.
+pub data EditEnds (texts : List (List ℕ)) (file : List ℕ) (outcome : Outcome) : Type 0 where
+  bad_main : (place : FaultPlace) → IsMisread Strict file place.0 place.1 → outcome ≡ refused (main_line place)
+      → EditEnds texts file outcome
+  applied : (lines : List (Line Placed)) → IsMainOf file lines
+      → outcome ≡ edits_outcome (refusals_from 1 texts) (edited_in_turn (filter_map edit_in texts) lines)
+      → EditEnds texts file outcome

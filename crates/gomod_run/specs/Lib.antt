@@ -4,7 +4,6 @@ pub mod Held
 pub mod Laws
 pub mod Listing
 pub mod Program
-pub mod Queries
 pub mod Reads
 pub mod Refusals
 pub mod Runs
@@ -18,6 +17,7 @@ pub mod Taking
 pub mod Giving
 pub mod ListingTexts
 pub mod Outcomes
+pub mod HeldFiles
 pub mod Needs
 pub mod Found
 pub mod ListingLaws

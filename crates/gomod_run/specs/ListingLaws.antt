@@ -1,13 +1,12 @@
 -- Laws about the outcomes of `graph`, `list` and `chain`, which follow from the definitions alone. A law that
--- names no section of the Go Modules Reference is about a choice of this program: that a run has exactly one
--- outcome, that the list can be printed in parts and pages, and which chain is printed.
+-- names no section of the Go Modules Reference is about a choice of this program: that the list can be printed in
+-- parts and pages, and which chain is printed.
 use Rattle.std.specs.Prelude.{◌≡◌, ◌≢◌, ◌<◌, ◌≤◌, ℕ, false, List, [], ◌∷◌, ◌++◌, length, map, Option, Some, None, Contains}
 use Rattle.std.specs.List.{flat_map}
 use Rattle.std.specs.Ordering.{is_gt}
 use Rattle.gm_name.specs.Version.{version_cmp}
 use Rattle.gm_name.specs.ModuleVersion.{ModuleVersion}
 use Rattle.gm_store.specs.Asked.{Name, Reply, answer_in}
-use Rattle.gm_store_sums.specs.Sums.{Sums}
 use Rattle.gm_file.specs.Main.{Main}
 use Rattle.gm_graph.specs.Reading.{Held, Readings, readings_by}
 use Rattle.gm_graph_select.specs.declared.step.Edge.{Edge}
@@ -18,29 +17,14 @@ use Rattle.gm_graph_select.specs.Graph.{Edges, among}
 use Rattle.gm_graph_select.specs.Laws.{entries_of_pages}
 use Rattle.gm_graph_select.specs.Order.{IsAscending}
 use Rattle.gm_graph.specs.Graph.{IsEdge, IsVertex}
-use Rattle.gm_graph.specs.Outcome.{AreEdges, AreFaults, AreRows}
+use Rattle.gm_graph.specs.Outcome.{AreEdges, AreRows}
 use Rattle.gomod_run.specs.declared.reports.status.Status.TheVariants.{Done}
 use Rattle.gomod_run.specs.ListingTexts.{chain_text, graph_text, list_text}
-use Rattle.gomod_run.specs.Outcomes.{AreKnown, FilesReadAs, Given, IsChainOutcome, IsGraphOutcome, IsListOutcome, PrintsRows, ShowsChain}
+use Rattle.gomod_run.specs.HeldFiles.{AllFilesAreValid}
+use Rattle.gomod_run.specs.Outcomes.{FilesReadAs, Given, ChainEnds, GraphEnds, ListEnds, PrintsRows, ShowsChain}
 use Rattle.gomod_run.specs.Outcome.{Outcome, code_of, printed}
 
--- ---- one outcome
-
--- The main file's bytes, those of the go.sum and the answers of the store determine the outcome.
-abbrev pub OneGraphOutcome : Type 0
-OneGraphOutcome = (run : Given) (a b : Outcome) → IsGraphOutcome run a → IsGraphOutcome run b → a ≡ b
-
--- the same for `list`
-abbrev pub OneListOutcome : Type 0
-OneListOutcome = (after : Option (List ℕ)) (limit : Option ℕ) (run : Given) (a b : Outcome)
-    → IsListOutcome after limit run a → IsListOutcome after limit run b → a ≡ b
-
--- the same for `chain`
-abbrev pub OneChainOutcome : Type 0
-OneChainOutcome = (path : List ℕ) (run : Given) (a b : Outcome)
-    → IsChainOutcome path run a → IsChainOutcome path run b → a ≡ b
-
--- ---- the outcome depends neither on what else was asked nor on the order
+-- ---- runs that are alike
 
 -- no name got different answers
 abbrev pub AnswerAlike : List (Name × Reply) → List (Name × Reply) → Type 0
@@ -54,31 +38,6 @@ pub record AreAlike (one other : Given) : Type 0 where
   pub sums : one.sums ≡ other.sums
   pub answers : AnswerAlike one.told.asked other.told.asked
   pub failed : one.told.failed ≡ other.told.failed
-
--- two such runs of `graph` have the same outcome
-abbrev pub AlikeGraphs : Type 0
-AlikeGraphs = (one other : Given) (a b : Outcome) → AreAlike one other
-    → IsGraphOutcome one a → IsGraphOutcome other b → a ≡ b
-
--- two such runs of `list` have the same outcome
-abbrev pub AlikeLists : Type 0
-AlikeLists = (after : Option (List ℕ)) (limit : Option ℕ) (one other : Given) (a b : Outcome) → AreAlike one other
-    → IsListOutcome after limit one a → IsListOutcome after limit other b → a ≡ b
-
--- two such runs of `chain` have the same outcome
-abbrev pub AlikeChains : Type 0
-AlikeChains = (path : List ℕ) (one other : Given) (a b : Outcome) → AreAlike one other
-    → IsChainOutcome path one a → IsChainOutcome path other b → a ≡ b
-
--- ---- what a run that prints is based on
-
--- Both files are valid, and the files of the opened modules were asked for, each once, are known, and have no
--- faults.
-pub record AllFilesAreValid (run : Given) (main : Main) (held : Held) : Type 0 where
-  pub table : Option Sums
-  pub read : FilesReadAs run.file run.sums main table
-  pub known : AreKnown main table run.told held
-  pub sound : AreFaults main (readings_by main held) []
 
 -- ---- `list` is the build list by minimal version selection (Go Modules Reference, "Minimal version selection")
 
@@ -104,14 +63,14 @@ ShowsBuildList run outcome =
 
 -- this holds when `list` prints
 abbrev pub ListIsBuildList : Type 0
-ListIsBuildList = (run : Given) (outcome : Outcome) → IsListOutcome None None run outcome
+ListIsBuildList = (run : Given) (outcome : Outcome) → ListEnds None None run outcome
     → outcome.status ≡ code_of Done → ShowsBuildList run outcome
 
 -- Conversely, `list` prints any modules that meet this description.
 abbrev pub BuildListIsListed : Type 0
 BuildListIsListed = (run : Given) (main : Main) (held : Held) (selected : List ModuleVersion)
     → AllFilesAreValid run main held → AreGreatest main (readings_by main held) selected
-    → IsListOutcome None None run
+    → ListEnds None None run
     (printed (list_text main.path (main_entry ∷ map (entry_of main.replaces) selected)))
 
 -- ---- parts of the list
@@ -127,7 +86,7 @@ ShowsPart after limit run whole part =
 -- this holds for any path and limit when `list` prints
 abbrev pub PartsOfOneList : Type 0
 PartsOfOneList = (after : Option (List ℕ)) (limit : Option ℕ) (run : Given) (whole part : Outcome)
-    → IsListOutcome None None run whole → IsListOutcome after limit run part → whole.status ≡ code_of Done
+    → ListEnds None None run whole → ListEnds after limit run part → whole.status ≡ code_of Done
     → ShowsPart after limit run whole part
 
 -- ---- pages
@@ -135,10 +94,10 @@ PartsOfOneList = (after : Option (List ℕ)) (limit : Option ℕ) (run : Given) 
 -- The pages of n rows: `list` prints the first from the beginning, and each further one after the last row of
 -- the page before it. After the last page it prints nothing.
 pub data ArePrintedPages (run : Given) (main : List ℕ) (n : ℕ) : Option (List ℕ) → List (List Entry) → Type 0 where
-  no_row : {after : Option (List ℕ)} → IsListOutcome after (Some n) run (printed [])
+  no_row : {after : Option (List ℕ)} → ListEnds after (Some n) run (printed [])
       → ArePrintedPages run main n after []
   one_page : {after : Option (List ℕ)} {pages : List (List Entry)} (front : List Entry) (last : Entry)
-      → IsListOutcome after (Some n) run (printed (list_text main (front ++ last ∷ [])))
+      → ListEnds after (Some n) run (printed (list_text main (front ++ last ∷ [])))
       → ArePrintedPages run main n (Some (path_of main last.0)) pages
       → ArePrintedPages run main n after ((front ++ last ∷ []) ∷ pages)
 
@@ -151,7 +110,7 @@ JoinsPages n run whole =
 
 -- this holds of what `list` prints without a limit
 abbrev pub PrintedPagesJoin : Type 0
-PrintedPagesJoin = (run : Given) (n : ℕ) (whole : Outcome) → 0 < n → IsListOutcome None None run whole
+PrintedPagesJoin = (run : Given) (n : ℕ) (whole : Outcome) → 0 < n → ListEnds None None run whole
     → whole.status ≡ code_of Done → JoinsPages n run whole
 
 -- ---- `chain` prints a shortest walk in the module graph (Go Modules Reference, "Minimal version selection")
@@ -174,7 +133,7 @@ ShowsShortestWalk path run outcome =
 
 -- this holds when `chain` prints
 abbrev pub PrintedChainIsShortest : Type 0
-PrintedChainIsShortest = (path : List ℕ) (run : Given) (outcome : Outcome) → IsChainOutcome path run outcome
+PrintedChainIsShortest = (path : List ℕ) (run : Given) (outcome : Outcome) → ChainEnds path run outcome
     → outcome.status ≡ code_of Done → ShowsShortestWalk path run outcome
 
 -- ---- the three commands show one graph
@@ -198,13 +157,13 @@ ShowOneGraph after limit path run graph list chain =
 -- this holds when `graph` prints
 abbrev pub OneGraph : Type 0
 OneGraph = (after : Option (List ℕ)) (limit : Option ℕ) (path : List ℕ) (run : Given) (graph list chain : Outcome)
-    → IsGraphOutcome run graph → IsListOutcome after limit run list → IsChainOutcome path run chain
+    → GraphEnds run graph → ListEnds after limit run list → ChainEnds path run chain
     → graph.status ≡ code_of Done → ShowOneGraph after limit path run graph list chain
 
 -- when `graph` does not print, the others print nothing either and report the same
 abbrev pub OneRefusal : Type 0
 OneRefusal = (after : Option (List ℕ)) (limit : Option ℕ) (path : List ℕ) (run : Given)
     (graph list chain : Outcome)
-    → IsGraphOutcome run graph → IsListOutcome after limit run list → IsChainOutcome path run chain
+    → GraphEnds run graph → ListEnds after limit run list → ChainEnds path run chain
     → graph.status ≢ code_of Done
     → (list ≡ graph) × (chain ≡ graph)

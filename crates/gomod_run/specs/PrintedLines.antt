@@ -20,8 +20,8 @@ use Rattle.gm_graph.specs.Reading.{Held, readings_by}
 use Rattle.gm_graph.specs.declared.fault.Fault.{Fault}
 use Rattle.gm_graph.specs.Graph.{IsEdge, IsOpened, IsVertex}
 use Rattle.gm_graph.specs.Outcome.{AreEdges, AreFaults, AreRows}
-use Rattle.gomod_run.specs.ListingLaws.{AllFilesAreValid}
-use Rattle.gomod_run.specs.Outcomes.{AreKnown, FilesReadAs, Given, longest}
+use Rattle.gomod_run.specs.Outcomes.{FilesReadAs, Given, longest}
+use Rattle.gomod_run.specs.HeldFiles.{AreKnown, AllFilesAreValid}
 use Rattle.gomod_run.specs.Reports.{faults_text, vertex_fault_text}
 use Rattle.gomod_run.specs.ListingTexts.{chain_text, edge_text, graph_text, list_text, row_text, step_text}
 

@@ -1,7 +1,6 @@
 -- The outcomes of the whole program, from its words to its exit status.
 use Rattle.std.specs.Prelude.{◌≡◌, ◌⊎◌, ◌++◌, ◌∷◌, ℕ, Contains, List, [], Option, Some, None, Result, Ok, Err, codes, option_map, if◌then◌else◌}
 use Rattle.std.specs.Global.{Vec}
-use Rattle.std.specs.Str.{IsUtf8}
 use Rattle.std.specs.String.{string_bytes}
 use Rattle.gm_store.specs.Asked.{Name, Reply, absent, list_file, reply_for, same_name}
 use Rattle.gm_store.specs.DiskAnswers.{MayAnswer}
@@ -11,20 +10,19 @@ use Rattle.gm_store.specs.Relative.{IsFolderOf}
 use Rattle.gm_store.specs.declared.fallback.proxy_list.ProxyList.{ProxyList}
 use Rattle.gm_store.specs.declared.reading.InputFault.{InputFault}
 use Rattle.gm_store.specs.declared.reading.InputFault.TheVariants as reading
+use Rattle.gomod_words.specs.Given.{AreGiven, first_unreadable}
 use Rattle.gomod_words.specs.Usage.{AskFor, IsFaultOf, unreadable_text}
 use Rattle.gomod_words.specs.declared.usage.Command.{Command}
 use Rattle.gomod_words.specs.declared.usage.Command.TheVariants.{Fmt, Edit, Versions}
 use Rattle.gomod_words.specs.declared.usage.Places.{Places}
 use Rattle.gomod_words.specs.declared.usage.UsageFault.{UsageFault}
 use Rattle.gomod_words.specs.declared.usage.UsageFault.TheVariants as usage
-use Rattle.gomod_run.specs.Outcomes.{Answers as Told, given, longest}
-use Rattle.gomod_run.specs.Needs.{AnswersByName}
+use Rattle.gomod_run.specs.Outcomes.{Answers as Told, answers, given, longest}
 use Rattle.gomod_run.specs.Outcome.{Outcome, code_of, failed, out_of_memory, printed}
-use Rattle.gomod_run.specs.Reports.{cannot_read_line, device_line}
+use Rattle.gomod_run.specs.Reports.{cannot_read_line}
 use Rattle.gomod_run.specs.declared.ending.Ending.{Ending}
 use Rattle.gomod_run.specs.declared.ending.Ending.TheVariants.{Run, Usage}
-use Rattle.gomod_run.specs.Runs.{Needs, StatesOutcome}
-use Rattle.gomod_run.specs.Queries.{IsQueryOutcome}
+use Rattle.gomod_run.specs.Runs.{RunEnds}
 
 -- the report of a usage error, which no run ends with
 abbrev pub usage_error : List ℕ → Outcome
@@ -49,22 +47,28 @@ abbrev pub IsReadOutcome : List ℕ → (List ℕ → Outcome → Type 0) → Re
 IsReadOutcome name states (Ok content) outcome = states content.items outcome
 IsReadOutcome name states (Err fault) outcome = outcome ≡ unread_outcome name fault
 
--- the answers are those of a store that has one file and no other
-abbrev pub AreOfOneFile : Name → List ℕ → AnswersByName → Type 0
-AreOfOneFile file content answers = (name : Name) (reply : Reply) → answers name ≡ Some reply
+-- each answer is that of a store that has one file and no other
+abbrev pub AreOfOneFile : Name → List ℕ → List (Name × Reply) → Type 0
+AreOfOneFile file content asked = (name : Name) (reply : Reply) → Contains asked (name, reply)
     → reply ≡ reply_for longest (if same_name name file then Some content else None)
 
 -- `versions PATH` without proxy folders: over the list that was read from standard input
 abbrev pub IsInputOutcome : Command → List ℕ → List ℕ → Outcome → Type 0
-IsInputOutcome command path list outcome =
-    (answers : AnswersByName)
-    × AreOfOneFile (list_file path) list answers
-    × StatesOutcome command [] None answers outcome
+IsInputOutcome command path list outcome = (asked : List (Name × Reply)) × AreOfOneFile (list_file path) list asked
+    × RunEnds command (given [] None (answers asked [])) outcome
 
 -- In what follows `may_open` says what may come of opening the file at a path. This one is of a file system of which
 -- nothing is known.
 abbrev pub anything : List ℕ → Opening → Type 0
 anything path opening = Unit {0}
+
+-- In what follows `may_take` says what may come of taking standard input. This one is of one of which nothing is known,
+-- and the next of one that is not taken.
+abbrev pub any_input : Opening → Type 0
+any_input opening = Unit {0}
+
+abbrev pub untaken : Opening → Type 0
+untaken opening = ⊥
 
 -- the answers that proxy folders may give to a name, with this folder of the main file; if there are none, each file
 -- is absent
@@ -73,43 +77,34 @@ MayBeTold may_open main None name reply = reply ≡ absent
 MayBeTold may_open main (Some folders) name reply =
     MayAnswer may_open main (folders_in folders) (marks_in folders) name reply
 
--- each answer is one that these proxy folders may give
-abbrev pub AreOfFolders : (List ℕ → Opening → Type 0) → ProxyList → AnswersByName → Type 0
-AreOfFolders may_open folders answers = (name : Name) (reply : Reply) → answers name ≡ Some reply
-    → MayBeTold may_open (codes ".") (Some folders) name reply
-
--- a command over the answers of proxy folders, or the report of a needed file at which their device failed
-abbrev pub IsFolderOutcome : (List ℕ → Opening → Type 0) → ProxyList → Command → Outcome → Type 0
-IsFolderOutcome may_open folders command outcome =
-    ((answers : AnswersByName) × AreOfFolders may_open folders answers × StatesOutcome command [] None answers outcome)
-    ⊎ ((answers : AnswersByName) × AreOfFolders may_open folders answers × (name : Name)
-    × Needs command [] None answers name × (outcome ≡ failed (device_line name)))
+-- a command over the bytes of the main file, those of a go.sum if one is given, and answers that a store may give to
+-- the names that it was asked for; its device may have failed
+abbrev pub IsStoreRun : (Name → Reply → Type 0) → Command → List ℕ → Option (List ℕ) → Outcome → Type 0
+IsStoreRun may_answer command main sums outcome = (told : Told)
+    × ((name : Name) (reply : Reply) → Contains told.asked (name, reply) → may_answer name reply)
+    × RunEnds command (given main sums told) outcome
 
 -- `versions PATH` without proxy folders: standard input is read as the module's list, or can't be
-abbrev pub IsInputServed : Command → List ℕ → Outcome → Type 0
-IsInputServed command path outcome =
+abbrev pub IsInputServed : (Opening → Type 0) → Command → List ℕ → Outcome → Type 0
+IsInputServed may_take command path outcome =
     (read : Result (Vec ℕ) InputFault)
+    × MayRead may_take read
     × IsReadOutcome (codes "-") (IsInputOutcome command path) read outcome
 
 -- `versions PATH`: over standard input, or over proxy folders if there are any
-abbrev pub IsVersionsServed : (List ℕ → Opening → Type 0) → Command → List ℕ → Option ProxyList → Outcome → Type 0
-IsVersionsServed may_open command path None outcome = IsInputServed command path outcome
-IsVersionsServed may_open command path (Some folders) outcome = IsFolderOutcome may_open folders command outcome
-
--- a query on a module graph, over the bytes of the main file, those of a go.sum if one is given, and answers to
--- the names that a store was asked for
-abbrev pub IsQueryRun : (Name → Reply → Type 0) → Command → List ℕ → Option (List ℕ) → Outcome → Type 0
-IsQueryRun may_answer command main sums outcome = (told : Told)
-    × ((name : Name) (reply : Reply) → Contains told.asked (name, reply) → may_answer name reply)
-    × IsQueryOutcome command (given main sums told) outcome
+abbrev pub IsVersionsServed : (List ℕ → Opening → Type 0) → (Opening → Type 0) → Command → List ℕ → Option ProxyList
+    → Outcome → Type 0
+IsVersionsServed may_open may_take command path None outcome = IsInputServed may_take command path outcome
+IsVersionsServed may_open may_take command path (Some folders) outcome =
+    IsStoreRun (MayBeTold may_open (codes ".") (Some folders)) command [] None outcome
 
 -- the go.sum is read if one is named
 abbrev pub IsSumsServed : (List ℕ → Opening → Type 0) → (Name → Reply → Type 0) → Command → Option (List ℕ) → List ℕ
     → Outcome → Type 0
-IsSumsServed may_open may_answer command None main outcome = IsQueryRun may_answer command main None outcome
+IsSumsServed may_open may_answer command None main outcome = IsStoreRun may_answer command main None outcome
 IsSumsServed may_open may_answer command (Some name) main outcome = (read : Result (Vec ℕ) InputFault)
     × MayRead (may_open name) read
-    × IsReadOutcome name (λ sums outcome. IsQueryRun may_answer command main (Some sums) outcome) read outcome
+    × IsReadOutcome name (λ sums outcome. IsStoreRun may_answer command main (Some sums) outcome) read outcome
 
 -- the main file is read, then the go.sum
 abbrev pub IsMainServed : (List ℕ → Opening → Type 0) → (Name → Reply → Type 0) → Command → List ℕ
@@ -128,36 +123,40 @@ IsQueryServed may_open command places outcome = (folder : List ℕ) × IsFolderO
 abbrev pub IsFileServed : (List ℕ → Opening → Type 0) → Command → List ℕ → Outcome → Type 0
 IsFileServed may_open command name outcome = (read : Result (Vec ℕ) InputFault)
     × MayRead (may_open name) read
-    × IsReadOutcome name (λ main outcome. StatesOutcome command main None (λ name. None) outcome) read outcome
+    × IsReadOutcome name (λ main outcome. RunEnds command (given main None (answers [] [])) outcome) read outcome
 
--- a command over the files that the words name
-abbrev pub IsServed : (List ℕ → Opening → Type 0) → Command → Places → Outcome → Type 0
-IsServed may_open Fmt places outcome = IsFileServed may_open Fmt (string_bytes places.main) outcome
-IsServed may_open (Edit operations) places outcome =
+-- a command over the files that the words name, or over standard input
+abbrev pub IsServed : (List ℕ → Opening → Type 0) → (Opening → Type 0) → Command → Places → Outcome → Type 0
+IsServed may_open may_take Fmt places outcome = IsFileServed may_open Fmt (string_bytes places.main) outcome
+IsServed may_open may_take (Edit operations) places outcome =
     IsFileServed may_open (Edit operations) (string_bytes places.main) outcome
-IsServed may_open (Versions path all) places outcome =
-    IsVersionsServed may_open (Versions path all) path places.proxy outcome
-IsServed may_open query places outcome = IsQueryServed may_open query places outcome
+IsServed may_open may_take (Versions path all) places outcome =
+    IsVersionsServed may_open may_take (Versions path all) path places.proxy outcome
+IsServed may_open may_take query places outcome = IsQueryServed may_open query places outcome
 
--- the outcome for these words: their usage error, or the outcome of their command over the files that they name
-abbrev pub IsWordsOutcome : (List ℕ → Opening → Type 0) → List (List ℕ) → Outcome → Type 0
-IsWordsOutcome may_open words outcome =
+-- the outcome for these words: their usage error, or the outcome of their command over the files that they name, or
+-- over standard input
+abbrev pub IsWordsOutcome : (List ℕ → Opening → Type 0) → (Opening → Type 0) → List (List ℕ) → Outcome → Type 0
+IsWordsOutcome may_open may_take words outcome =
     ((fault : UsageFault) × IsFaultOf words fault × (outcome ≡ usage_outcome fault))
-    ⊎ ((command : Command) × (places : Places) × AskFor words command places × IsServed may_open command places outcome)
+    ⊎ ((command : Command) × (places : Places) × AskFor words command places
+    × IsServed may_open may_take command places outcome)
 
--- the error of a command line with a word that is not UTF-8, which shows the word, or for which memory ran out
-abbrev pub IsUnreadableWords : UsageFault → Type 0
-IsUnreadableWords usage.NoMemory = Unit {0}
-IsUnreadableWords (usage.Line text) =
-    (word : List ℕ) × ¬ (IsUtf8 word) × (string_bytes text ≡ unreadable_text word)
-IsUnreadableWords fault = ⊥
+-- the outcome for these words after the program's own name, given the first that is not UTF-8, if there is one: its
+-- usage error; otherwise the outcome for the words
+abbrev pub IsOutcomeUnless : (List ℕ → Opening → Type 0) → (Opening → Type 0) → List (List ℕ) → Option (List ℕ)
+    → Outcome → Type 0
+IsOutcomeUnless may_open may_take words None outcome =
+    IsWordsOutcome may_open may_take (codes "gomod" ∷ words) outcome
+IsOutcomeUnless may_open may_take words (Some unreadable) outcome =
+    outcome ≡ usage_error (unreadable_text unreadable)
 
--- the outcome of the program: that of the words after its own name, whatever that is, or the error if one of these
--- words is not UTF-8
-abbrev pub IsProgramOutcome : (List ℕ → Opening → Type 0) → Outcome → Type 0
-IsProgramOutcome may_open outcome =
-    ((words : List (List ℕ)) × IsWordsOutcome may_open (codes "gomod" ∷ words) outcome)
-    ⊎ ((fault : UsageFault) × IsUnreadableWords fault × (outcome ≡ usage_outcome fault))
+-- the outcome of the program: that of the words after its own name, whatever that is. They are the given ones, if these
+-- are known.
+abbrev pub IsProgramOutcome : (List ℕ → Opening → Type 0) → (Opening → Type 0) → Option (List (List ℕ)) → Outcome
+    → Type 0
+IsProgramOutcome may_open may_take given outcome = (words : List (List ℕ)) × AreGiven given words
+    × IsOutcomeUnless may_open may_take words (first_unreadable words) outcome
 
 -- the exit status of an ending
 abbrev pub ending_code : Ending → ℕ
@@ -165,6 +164,7 @@ ending_code (Run status) = code_of status
 ending_code Usage = 2
 
 -- the exit status: that of the program's outcome, or 3 if memory runs out or an output fails
-abbrev pub IsProgramStatus : (List ℕ → Opening → Type 0) → ℕ → Type 0
-IsProgramStatus may_open status =
-    ((outcome : Outcome) × IsProgramOutcome may_open outcome × (status ≡ outcome.status)) ⊎ (status ≡ 3)
+abbrev pub IsProgramStatus : (List ℕ → Opening → Type 0) → (Opening → Type 0) → Option (List (List ℕ)) → ℕ → Type 0
+IsProgramStatus may_open may_take given status =
+    ((outcome : Outcome) × IsProgramOutcome may_open may_take given outcome × (status ≡ outcome.status))
+    ⊎ (status ≡ 3)

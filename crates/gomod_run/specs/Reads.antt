@@ -17,7 +17,8 @@ use Rattle.gomod_run.specs.declared.inputs.Inputs.{Inputs}
 use Rattle.gomod_run.specs.Held.{HoldsOne}
 use Rattle.gomod_run.specs.Program.{unread_outcome}
 
--- In what follows `may_open` says what may come of opening the file at a path.
+-- In what follows `may_open` says what may come of opening the file at a path, and `may_take` what may come of taking
+-- standard input.
 
 -- the go.sum was read, if one is named
 abbrev pub AreSumsInput : (List ℕ → Opening → Type 0) → Option (List ℕ) → Option (Vec ℕ) → Type 0
@@ -26,10 +27,14 @@ AreSumsInput may_open (Some name) (Some sums) = MayRead (may_open name) (Ok sums
 AreSumsInput may_open None (Some sums) = ⊥
 AreSumsInput may_open (Some name) None = ⊥
 
+-- the file or device with this name, given what may come of opening it, can't be read, which is reported
+abbrev pub IsUnread : (Opening → Type 0) → List ℕ → Outcome → Type 0
+IsUnread may_open name outcome = (fault : InputFault) × MayRead may_open (Err fault)
+    × (outcome ≡ unread_outcome name fault)
+
 -- the file with this name can't be read, which is reported
 abbrev pub IsFileUnread : (List ℕ → Opening → Type 0) → List ℕ → Outcome → Type 0
-IsFileUnread may_open name outcome = (fault : InputFault) × MayRead (may_open name) (Err fault)
-    × (outcome ≡ unread_outcome name fault)
+IsFileUnread may_open name outcome = IsUnread (may_open name) name outcome
 
 -- a go.sum is named, and can't be read
 abbrev pub AreSumsUnread : (List ℕ → Opening → Type 0) → Option (List ℕ) → Outcome → Type 0
@@ -77,17 +82,19 @@ abbrev pub versions_path : Command → Option (List ℕ)
 versions_path (Versions path all) = Some path
 versions_path _ = None
 
--- the store has a list of the versions of the module with this path, and nothing else
-abbrev pub HoldsInput : List ℕ → MemoryFiles → Type 0
-HoldsInput path files = (list : Vec ℕ) × HoldsOne (list_file path) list.items files
+-- the store has what was read of standard input, as the list of the versions of the module with this path, and nothing
+-- else
+abbrev pub HoldsInput : (Opening → Type 0) → List ℕ → MemoryFiles → Type 0
+HoldsInput may_take path files =
+    (list : Vec ℕ) × MayRead may_take (Ok list) × HoldsOne (list_file path) list.items files
 
 -- the store has nothing
 abbrev pub HoldsNothing : MemoryFiles → Type 0
 HoldsNothing files = (name : Name) → held_at files name ≡ None
 
 -- standard input can't be read, which is reported
-abbrev pub IsUnreadList : Outcome → Type 0
-IsUnreadList outcome = (fault : InputFault) × (outcome ≡ unread_outcome (codes "-") fault)
+abbrev pub IsUnreadList : (Opening → Type 0) → Outcome → Type 0
+IsUnreadList may_take outcome = IsUnread may_take (codes "-") outcome
 
 -- these places with these proxy folders
 abbrev pub with_proxy : Places → Option ProxyList → Places

@@ -1,5 +1,6 @@
--- The reports of operations of `edit` that are refused, as the code has them. No public contract cites them.
-use Rattle.std.specs.Prelude.{ℕ}
+-- What the code reports of a file or an operation that it refuses. No public contract cites this.
+use Rattle.std.specs.Prelude.{◌≡◌, ◌⊎◌, ℕ, List, Option}
+use Rattle.gm_file.specs.Main.{Main, IsMainFile}
 use Rattle.gm_file_edit.specs.declared.fault.EditFault.{EditFault}
 use Rattle.gm_file_edit.specs.declared.fault.EditFault.TheVariants as edit
 use Rattle.gm_file_edit.specs.declared.fault.OpFault.{OpFault}
@@ -7,6 +8,11 @@ use Rattle.gm_file_edit.specs.declared.fault.OpFault.TheVariants as op
 use Rattle.gomod_run.specs.declared.reports.report.Refusal.TheVariants as refusal
 use Rattle.gomod_run.specs.declared.reports.report.Report.{Report}
 use Rattle.gomod_run.specs.declared.reports.report.Report.TheVariants as report
+use Rattle.gomod_run.specs.Outcome.{Outcome, refused}
+use Rattle.gomod_run.specs.Outcomes.{AreInvalidSums}
+use Rattle.gm_file.specs.Misreading.{IsMisread}
+use Rattle.gm_file.specs.Directives.{Strict}
+use Rattle.gomod_run.specs.Reports.{FaultPlace, main_line}
 
 -- the report of an operation that can't be parsed
 abbrev pub report_by_op : ℕ → OpFault → Report
@@ -17,3 +23,10 @@ report_by_op number op.Spelling = report.Operation number refusal.Spelling
 abbrev pub report_by_edit : ℕ → EditFault → Report
 report_by_edit number edit.NoMemory = report.NoMemory
 report_by_edit number edit.Misfit = report.Operation number refusal.Misfit
+
+-- the main module's file is invalid, or it is valid and the go.sum is not
+abbrev pub IsRefusedRead : List ℕ → Option (List ℕ) → Outcome → Type 0
+IsRefusedRead file sums outcome =
+    ((place : FaultPlace) × IsMisread Strict file place.0 place.1 × (outcome ≡ refused (main_line place)))
+    ⊎ ((main : Main) × (report : List ℕ) × IsMainFile file main × AreInvalidSums sums report
+    × (outcome ≡ refused report))

@@ -1,28 +1,27 @@
--- The outcome of a command, given what was read and answered, and the files that it asks a store for.
-use Rattle.std.specs.Prelude.{◌≡◌, ◌⊎◌, ◌++◌, ◌∷◌, ℕ, Bool, List, [], Option, Some, None, Ok, Err, false, true}
-use Rattle.gm_store.specs.States.{StoreState}
-use Rattle.gm_store.specs.Asked.{Name, answer_in}
+-- How a run of a command ends, given what was read and answered, and the files that it asks a store for.
+use Rattle.std.specs.Prelude.{◌≡◌, ◌++◌, ◌∷◌, ℕ, Bool, List, [], Option, Ok, Err, Some, false, true, drop, length}
+use Rattle.std.specs.Option.{option_copied}
+use Rattle.gm_store.specs.States.{HasServed, StoreState}
+use Rattle.gm_store.specs.Asked.{Name, Reply, answer_in}
 use Rattle.gm_syntax.specs.declared.fault.SyntaxFault.{SyntaxFault}
 use Rattle.gm_syntax.specs.Document.{Line}
 use Rattle.gm_syntax.specs.Layout.{layout}
 use Rattle.gm_syntax.specs.LineViews.{plain_lines}
 use Rattle.gm_syntax.specs.Parsed.{IsParsedAs}
 use Rattle.gm_syntax.specs.Tokens.{Placed}
-use Rattle.gomod_run.specs.Outcome.{Outcome, failed, printed, refused}
+use Rattle.gomod_run.specs.declared.listing.query.Query.{Query}
+use Rattle.gomod_run.specs.declared.listing.query.Query.TheVariants as query
+use Rattle.gomod_run.specs.Outcome.{OrNoMemory, Outcome, failed, printed, refused}
+use Rattle.gomod_run.specs.Outcomes.{Answers, ChainEnds, Given, GraphEnds, ListEnds, Prints, PrintsChain, PrintsGraph, PrintsList, answers, given}
 use Rattle.gomod_run.specs.Reports.{FaultPlace, device_line, main_line, syntax_place}
-use Rattle.gomod_run.specs.Needs.{AnsweredAll, AnswersByName, GraphNeeds}
+use Rattle.gomod_run.specs.Needs.{AnsweredAll, AnswersByName, AskedInTurn, FailsInTurn, GraphNeeds}
 use Rattle.gomod_words.specs.Usage.{texts_in}
 use Rattle.gomod_words.specs.declared.usage.Command.{Command}
 use Rattle.gomod_words.specs.declared.usage.Command.TheVariants.{Fmt, Edit, Versions, Graph, List as Rows, Chain}
-use Rattle.gomod_run.specs.Editing.{IsEditOutcome}
-use Rattle.gomod_run.specs.Versions.{IsVersionsOutcome, VersionsNeed}
+use Rattle.gomod_run.specs.Editing.{EditEnds}
+use Rattle.gomod_run.specs.Versions.{IsRefusedList, VersionsEnds, VersionsNeed}
 
--- `fmt FILE` over the bytes of the file: the layout of the document, or the report of its syntax fault
-abbrev pub IsFmtOutcome : List ℕ → Outcome → Type 0
-IsFmtOutcome file outcome =
-    ((lines : List (Line Placed)) × IsParsedAs file (Ok lines) × (outcome ≡ printed (layout (plain_lines lines))))
-    ⊎ ((fault : SyntaxFault) × (place : FaultPlace) × IsParsedAs file (Err fault) × (syntax_place fault ≡ Some place)
-    × (outcome ≡ refused (main_line place)))
+-- ---- commands
 
 -- whether a command is a query on a module graph; no other command reads a go.sum
 abbrev pub is_query : Command → Bool
@@ -31,19 +30,47 @@ is_query (Rows after limit) = true
 is_query (Chain path) = true
 is_query _ = false
 
--- whether a command reads the bytes of one file and nothing else
-abbrev pub is_over_file : Command → Bool
-is_over_file Fmt = true
-is_over_file (Edit operations) = true
-is_over_file _ = false
+-- what a query on a module graph prints; the other commands are no queries
+abbrev pub PrintsOf : Command → Prints
+PrintsOf Graph = PrintsGraph
+PrintsOf (Rows after limit) = PrintsList after limit
+PrintsOf (Chain path) = PrintsChain path
+PrintsOf _ = λ run outcome. ⊥
 
--- `fmt`, `edit` or `versions` over the main file's bytes, those of a go.sum if one is given, and the answers of
--- a store. Queries on a module graph have their own definition.
-abbrev pub StatesOutcome : Command → List ℕ → Option (List ℕ) → AnswersByName → Outcome → Type 0
-StatesOutcome Fmt main sums answers outcome = IsFmtOutcome main outcome
-StatesOutcome (Edit operations) main sums answers outcome = IsEditOutcome (texts_in operations) main outcome
-StatesOutcome (Versions path all) main sums answers outcome = IsVersionsOutcome path all answers outcome
-StatesOutcome _ main sums answers outcome = ⊥
+-- the command that asks this
+abbrev pub command_of : Query → Command
+command_of query.Graph = Graph
+command_of (query.List after limit) = Rows (option_copied after) limit
+command_of (query.Chain path) = Chain path.now
+
+-- ---- ends
+
+-- How `fmt FILE` ends over the bytes of the file, if memory doesn't run out: the syntax fault is reported, or the
+-- layout of the document is printed.
+pub data FmtEnds (file : List ℕ) (outcome : Outcome) : Type 0 where
+  bad_syntax : (fault : SyntaxFault) (place : FaultPlace) → IsParsedAs file (Err fault)
+      → syntax_place fault ≡ Some place → outcome ≡ refused (main_line place) → FmtEnds file outcome
+  laid_out : (lines : List (Line Placed)) → IsParsedAs file (Ok lines)
+      → outcome ≡ printed (layout (plain_lines lines)) → FmtEnds file outcome
+
+-- how a run of a command ends, if memory doesn't run out
+abbrev pub RunEnds : Command → Given → Outcome → Type 0
+RunEnds Fmt run outcome = FmtEnds run.file outcome
+RunEnds (Edit operations) run outcome = EditEnds (texts_in operations) run.file outcome
+RunEnds (Versions path all) run outcome = VersionsEnds path all run.told outcome
+RunEnds Graph run outcome = GraphEnds run outcome
+RunEnds (Rows after limit) run outcome = ListEnds after limit run outcome
+RunEnds (Chain path) run outcome = ChainEnds path run outcome
+
+-- what a store that had not been asked before was asked in a run, with its answers, and where its device failed
+abbrev pub told_between : StoreState → StoreState → Answers
+told_between old new = answers new.asked (drop (length old.refused) new.refused)
+
+-- the run over these bytes and such a store
+abbrev pub run_between : List ℕ → Option (List ℕ) → StoreState → StoreState → Given
+run_between main sums old new = given main sums (told_between old new)
+
+-- ---- however a run ends
 
 -- the files that a command needs, given the answers so far
 abbrev pub Needs : Command → List ℕ → Option (List ℕ) → AnswersByName → Name → Type 0
@@ -52,14 +79,28 @@ Needs (Edit operations) main sums answers name = ⊥
 Needs (Versions path all) main sums answers name = VersionsNeed path all answers name
 Needs _ main sums answers name = GraphNeeds main sums answers name
 
--- a run over a store that had not been asked before: the outcome that its answers give, if all that is needed was
--- answered; or the report that the device failed at a file that was needed and not answered
-abbrev pub IsRunOutcome : (AnswersByName → Name → Type 0) → (AnswersByName → Outcome → Type 0)
-    → StoreState → StoreState → Outcome → Type 0
-IsRunOutcome needs states old new outcome =
-    (states (answer_in new.asked) outcome × AnsweredAll needs (answer_in new.asked) × (new.refused ≡ old.refused))
-    ⊎ ((name : Name)
-    × (outcome ≡ failed (device_line name))
-    × needs (answer_in new.asked) name
-    × (answer_in new.asked name ≡ None)
-    × (new.refused ≡ old.refused ++ name ∷ []))
+-- What holds however a run of a command ends, with this status and these reports. `before` says which answers its store
+-- might give before the run, `after` which ones it may give after it.
+pub record HoldsAtAnyEnd (command : Command) (main : List ℕ) (sums : Option (List ℕ))
+    (before after : Name → Reply → Type 0) (old new : StoreState) (status : ℕ) (reports : Outcome → Type 0)
+    : Type 0 where
+  -- Each file is asked for once, and is needed by the answers before it.
+  pub in_turn : AskedInTurn (Needs command main sums) new.asked
+  -- A run that is done has an answer for every file that it needs.
+  pub all_answered : status ≡ 0 → AnsweredAll (Needs command main sums) (answer_in new.asked)
+  -- The device fails at one file at most, which is needed by the answers and is not among them.
+  pub fails : FailsInTurn (Needs command main sums) old new
+  -- Each answer is one that the store may give, and no other becomes possible. The device fails only if the count of
+  -- its failures rises in this run, or stood at its maximum before it; the count never falls.
+  pub served : HasServed before after old new
+  -- If the device failed at a file, that is reported, whatever the memory.
+  pub device : (name : Name) → new.refused ≡ old.refused ++ name ∷ [] → reports (failed (device_line name))
+  -- If `versions` can't have a list, has none, or one that is too long, that is reported, whatever the memory.
+  pub no_list : (path : List ℕ) (all : Bool) (outcome : Outcome) → command ≡ Versions path all
+      → IsRefusedList path (answer_in new.asked) outcome → reports outcome
+
+-- a run of a command over a store that had not been asked before comes to this outcome
+pub record ComesTo (command : Command) (main : List ℕ) (sums : Option (List ℕ))
+    (before after : Name → Reply → Type 0) (old new : StoreState) (outcome : Outcome) : Type 0 where
+  pub ends : OrNoMemory (RunEnds command (run_between main sums old new)) outcome
+  pub holds : HoldsAtAnyEnd command main sums before after old new outcome.status (λ reported. outcome ≡ reported)

@@ -3,7 +3,7 @@
 use Rattle.std.specs.Prelude.{◌≡◌, ◌⊎◌, ◌++◌, ◌∷◌, ℕ, Bool, List, [], Some, None, Result, Ok, Err, codes, true, false}
 use Rattle.std.specs.List.{join_with_byte}
 use Rattle.gm_name.specs.Path.{is_fetchable}
-use Rattle.gm_store.specs.Asked.{Name, Reply, absent, bytes, list_file, mod_file, too_long}
+use Rattle.gm_store.specs.Asked.{Name, Reply, absent, answer_in, bytes, list_file, mod_file, too_long}
 use Rattle.gm_store.specs.Latest.{IsLatest}
 use Rattle.gm_store.specs.Listed.{AreListed}
 use Rattle.gm_file.specs.Directives.{VersionInterval}
@@ -11,8 +11,9 @@ use Rattle.gm_file.specs.Fields.{Dependency}
 use Rattle.gm_file.specs.Shown.{shown_of}
 use Rattle.gm_graph.specs.declared.cache.class.Class.{Class}
 use Rattle.gm_graph.specs.Reading.{AreRetractedBy, IsFileReading}
-use Rattle.gomod_run.specs.Outcome.{Outcome, printed, refused}
-use Rattle.gomod_run.specs.Reports.{fault_line, list_line}
+use Rattle.gomod_run.specs.Outcome.{Outcome, failed, printed, refused}
+use Rattle.gomod_run.specs.Outcomes.{Answers}
+use Rattle.gomod_run.specs.Reports.{device_line, fault_line, list_line}
 use Rattle.gomod_run.specs.Needs.{AnswersByName}
 
 -- the path and the versions, separated by single spaces
@@ -89,3 +90,12 @@ abbrev pub VersionsNeed : List ℕ → Bool → AnswersByName → Name → Type 
 VersionsNeed path all answers name =
     (is_fetchable path ≡ true)
     × ((name ≡ list_file path) ⊎ NeedsFile path all answers name)
+
+-- how `versions PATH` ends, if memory doesn't run out
+pub data VersionsEnds (path : List ℕ) (all : Bool) (told : Answers) (outcome : Outcome) : Type 0 where
+  -- the store's device failed at a file that is needed
+  device : (name : Name) → VersionsNeed path all (answer_in told.asked) name → answer_in told.asked name ≡ None
+      → told.failed ≡ name ∷ [] → outcome ≡ failed (device_line name) → VersionsEnds path all told outcome
+  -- all that is needed was answered
+  answered : IsVersionsOutcome path all (answer_in told.asked) outcome → told.failed ≡ []
+      → VersionsEnds path all told outcome

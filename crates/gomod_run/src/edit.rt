@@ -10,7 +10,7 @@ ghost use Rattle.gm_file.specs.Misreading.{IsMisread};
 ghost use Rattle.gm_file.specs.Directives.{Strict};
 ghost use Rattle.gomod_run.specs.Outcome.{OrNoMemory, outcome_view, refused, report_outcome};
 ghost use Rattle.gomod_run.specs.Reports.{FaultPlace, main_line};
-ghost use Rattle.gomod_run.specs.Editing.{IsEditOutcome, IsRefusedOperation, edited_in_turn, refusal_of};
+ghost use Rattle.gomod_run.specs.Editing.{EditEnds, IsRefusedOperation, edited_in_turn, refusal_of};
 ghost use Rattle.gomod_run.specs.Refusals.{report_by_edit, report_by_op};
 
 use crate::reports::report::{Refusal, Report};
@@ -84,7 +84,7 @@ pub(crate) fn edit_outcome<'r>(
     operations: &[String],
     file: &[u8],
 ) -> Result<String, Report<'r>>
-    ensures { OrNoMemory (IsEditOutcome (map string_bytes operations.now) file.now) (outcome_view result) }
+    ensures { OrNoMemory (EditEnds (map string_bytes operations.now) file.now) (outcome_view result) }
 {
     let mut editor = editor_of(alloc, file)?;
     for (n, text) in operations.iter().enumerate() {

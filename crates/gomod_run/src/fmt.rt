@@ -1,7 +1,7 @@
 //! `fmt`: `gm_syntax` parses and lays out, and this file makes the text or the report of the result.
 
 ghost use Rattle.gomod_run.specs.Outcome.{OrNoMemory, outcome_view};
-ghost use Rattle.gomod_run.specs.Runs.{IsFmtOutcome};
+ghost use Rattle.gomod_run.specs.Runs.{FmtEnds};
 
 use crate::reports::report::Report;
 use gm_syntax::Doc;
@@ -9,7 +9,7 @@ use std::alloc::Global;
 
 /// What `fmt` ends with over the bytes of a file: their layout, or the report of their fault.
 pub(crate) fn fmt_outcome<'r>(alloc: Global, file: &[u8]) -> Result<String, Report<'r>>
-    ensures { OrNoMemory (IsFmtOutcome file.now) (outcome_view result) }
+    ensures { OrNoMemory (FmtEnds file.now) (outcome_view result) }
 {
     let doc = Doc::parse(alloc, file)?;
     Ok(doc.format()?)

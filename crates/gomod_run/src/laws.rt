@@ -1,19 +1,16 @@
 //! Laws of the definitions of a run, each the contract of a function that does nothing.
 
-ghost use Rattle.gomod_run.specs.Laws.{NothingIsPrinted, OneForStores, OneRun, OneStated, VersionIsPrinted};
+ghost use Rattle.gomod_run.specs.Laws.{NothingIsPrinted, OneForStores, OneOutcome, VersionIsPrinted};
 
-/// A command has one outcome: output, report and status are a function of what it reads and of what a store
-/// answers.
+/// A command has one outcome: output, report and status are a function of what it reads, of the files that its store was
+/// asked for in the run, its answers, and the files at which its device failed.
 pub fn one_outcome()
-    // `fmt`, `edit` and `versions`, over the answers of any store
-    ensures stated { OneStated }
-    // each command: by the files that the store was asked for in the run, its answers, and the files at which its
-    // device failed
-    ensures run { OneRun }
+    ensures { OneOutcome }
 {}
 
 /// Two runs of a command over the same main file and go.sum have one outcome, if the two stores answered no file
-/// differently and their devices did not fail. It doesn't matter what else was asked, nor in which order.
+/// differently and their devices failed at the same files, or at none. It doesn't matter what else was asked, nor in
+/// which order.
 pub fn one_store()
     ensures { OneForStores }
 {}

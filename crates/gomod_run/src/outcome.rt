@@ -1,17 +1,10 @@
 //! The outcome of a command. It is complete before anything is written, since a fault that is found late must leave
 //! standard output empty.
 
-ghost use Rattle.std.specs.Prelude.{◌≡◌, ◌++◌, ◌∷◌, [], Bool, List, ℕ};
+ghost use Rattle.std.specs.Prelude.{◌≡◌, []};
 ghost use Rattle.std.specs.Option.{option_map};
-ghost use Rattle.gm_store.specs.Asked.{Name, answer_in};
-ghost use Rattle.gm_store.specs.States.{HasServed};
-ghost use Rattle.gomod_run.specs.Outcome.{OrNoMemory, Outcome, failed, outcome_view};
-ghost use Rattle.gomod_run.specs.Reports.{device_line};
-ghost use Rattle.gomod_run.specs.Needs.{AskedInTurn, FailsInTurn};
-ghost use Rattle.gomod_run.specs.Runs.{Needs};
-ghost use Rattle.gomod_run.specs.Queries.{RunsTo};
-ghost use Rattle.gomod_run.specs.Versions.{IsRefusedList};
-ghost use Rattle.gomod_words.specs.declared.usage.Command.TheVariants.{Versions};
+ghost use Rattle.gomod_run.specs.Outcome.{outcome_view};
+ghost use Rattle.gomod_run.specs.Runs.{ComesTo};
 
 use crate::edit::edit_outcome;
 use crate::fmt::fmt_outcome;
@@ -33,19 +26,9 @@ pub(crate) fn outcome<'c, F: Asks>(
     files: &mut F,
 ) -> Result<String, Report<'c>>
     requires { (F.state files.old).asked ≡ [] }
-    ensures comes { OrNoMemory (RunsTo command.now main.now (option_map (λ sums. sums.now) sums.entry)
-        (F.state files.old) (F.state files.new))
+    ensures { ComesTo command.now main.now (option_map (λ sums. sums.now) sums.entry)
+        (F.may_answer files.old) (F.may_answer files.new) (F.state files.old) (F.state files.new)
         (outcome_view result) }
-    ensures device { (name : Name) → (F.state files.new).refused ≡ (F.state files.old).refused ++ name ∷ []
-        → outcome_view result ≡ failed (device_line name) }
-    ensures no_list { (path : List ℕ) (all : Bool) (outcome : Outcome) → command.now ≡ Versions path all
-        → IsRefusedList path (answer_in (F.state files.new).asked) outcome → outcome_view result ≡ outcome }
-    ensures in_turn { AskedInTurn (Needs command.now main.now (option_map (λ sums. sums.now) sums.entry))
-        (F.state files.new).asked }
-    ensures fails { FailsInTurn (Needs command.now main.now (option_map (λ sums. sums.now) sums.entry))
-        (F.state files.old) (F.state files.new) }
-    ensures served { HasServed (F.may_answer files.old) (F.may_answer files.new)
-        (F.state files.old) (F.state files.new) }
 {
     match command {
         Command::Versions { path, all } => versions_outcome(alloc, path, *all, files),

@@ -1,10 +1,10 @@
 //! The program itself: from the words of the command line to the exit status. It is generic over the runtime and
 //! the two sinks, so that whole runs can be checked without a process.
 
-ghost use Rattle.std.specs.Prelude.{◌≡◌, ◌∷◌, IfErr, IfOk, MatchResult, codes, map};
+ghost use Rattle.std.specs.Prelude.{◌≡◌, ◌∷◌, IfOk, MatchResult, None, codes, map};
 ghost use Rattle.std.specs.Process.{exit_status};
 ghost use Rattle.std.specs.String.{string_bytes};
-ghost use Rattle.gomod_run.specs.Program.{IsProgramOutcome, IsProgramStatus, IsUnreadableWords, IsWordsOutcome, anything, ending_code, usage_outcome};
+ghost use Rattle.gomod_run.specs.Program.{IsProgramOutcome, IsProgramStatus, IsWordsOutcome, any_input, anything, ending_code, usage_outcome};
 ghost use Rattle.gomod_run.specs.Written.{EndsAsStated, IsWritten};
 
 use crate::ending::Ending;
@@ -13,16 +13,10 @@ use crate::reports::status::Status;
 use crate::reports::writing::write_line;
 use crate::serving::serve;
 use crate::writing::{print_text, write_report};
-use gm_store::{FileSystem, Sink, StdSink, WriteFault, write_all};
-use gomod_words::{UsageFault, read_words, unreadable};
+use gm_store::{FileSystem, Sink, StandardInput, StdSink, WriteFault, write_all};
+use gomod_words::{UsageFault, Words, given_words, read_words};
 use std::alloc::{AllocError, Global};
-use std::env::FillError;
 use std::process::ExitCode;
-use std::rt::Env;
-use std::str;
-
-/// The room for a word of the command line that is tried first.
-const FIRST_ROOM: usize = 256;
 
 /// The program's name in the words that are read, whatever the program was called by. No command uses that name, so it
 /// may have any bytes.
@@ -34,7 +28,7 @@ const PROGRAM: &str = "gomod";
 /// The exit status is that of `ending_of_words`, 2 for a usage error, or 3 if memory runs out, or a device or an
 /// output fails.
 pub fn exit_code(rt: &HostRuntime) -> ExitCode
-    ensures { IsProgramStatus anything (exit_status result) }
+    ensures { IsProgramStatus anything any_input None (exit_status result) }
 {
     let mut out = StdSink::new(rt.stdout());
     let mut report = StdSink::new(rt.stderr());
@@ -44,16 +38,16 @@ pub fn exit_code(rt: &HostRuntime) -> ExitCode
 /// Reads the words of the command line after the program's own name, and does what `ending_of_words` does with them
 /// after the name `gomod`. If a word is not UTF-8, the report is a usage error that shows the first such word with its
 /// bytes escaped, and the status is 2. The program's own name is not looked at.
-pub fn ending_of<S: Env + Input + FileSystem + Copy + Drop + Alloc<A = Global>, O: Sink, R: Sink>(
-    rt: &S,
-    out: &mut O,
-    report: &mut R,
-) -> Ending
-    ensures { EndsAsStated (IsProgramOutcome (S.may_open rt.now))
+pub fn ending_of<
+    S: Words + StandardInput + FileSystem + Copy + Drop + Alloc<A = Global>,
+    O: Sink,
+    R: Sink,
+>(rt: &S, out: &mut O, report: &mut R) -> Ending
+    ensures { EndsAsStated (IsProgramOutcome (S.may_open rt.now) (S.may_take rt.now) (S.given rt.now))
         (O.state out.old) (O.state out.new) (R.state report.old) (R.state report.new)
         (ending_code result) }
 {
-    let words = match words_of(rt) {
+    let words = match given_words(rt) {
         Ok(words) => words,
         Err(fault) => return tell(&fault, out, report),
     };
@@ -85,13 +79,13 @@ pub fn ending_of<S: Env + Input + FileSystem + Copy + Drop + Alloc<A = Global>, 
 /// or of standard input are read: one more than a command accepts, so that the command sees that there are too
 /// many. If memory runs out, the report is `gomod: no memory`; if an output fails, it has a prefix of its text.
 /// The status is 3 then.
-pub fn ending_of_words<S: Input + FileSystem + Copy + Drop + Alloc<A = Global>, O: Sink, R: Sink>(
-    rt: &S,
-    words: &[&str],
-    out: &mut O,
-    report: &mut R,
-) -> Ending
-    ensures { EndsAsStated (IsWordsOutcome (S.may_open rt.now) (map (λ word. word.now) words.now))
+pub fn ending_of_words<
+    S: StandardInput + FileSystem + Copy + Drop + Alloc<A = Global>,
+    O: Sink,
+    R: Sink,
+>(rt: &S, words: &[&str], out: &mut O, report: &mut R) -> Ending
+    ensures { EndsAsStated
+        (IsWordsOutcome (S.may_open rt.now) (S.may_take rt.now) (map (λ word. word.now) words.now))
         (O.state out.old) (O.state out.new) (R.state report.old) (R.state report.new)
         (ending_code result) }
 {
@@ -111,67 +105,6 @@ fn texts_of(alloc: Global, words: &[String]) -> Result<Vec<&str>, AllocError>
         texts.push(word.as_str())?;
     }
     Ok(texts)
-}
-
-/// The words of the command line after the program's own name. A word that is not UTF-8 is a usage error.
-///
-/// `env::args` does not say which word that is, so the words are read as bytes.
-fn words_of<S: Env + Alloc<A = Global>>(rt: &S) -> Result<Vec<String>, UsageFault>
-    ensures { IfErr result IsUnreadableWords }
-{
-    let mut words = Vec::new(rt.alloc());
-    for number in 1..usize::MAX {
-        let Some(word) = word_of(rt, number)? else {
-            break;
-        };
-        if words.push(word).is_err() {
-            return Err(UsageFault::NoMemory);
-        }
-    }
-    Ok(words)
-}
-
-/// A word of the command line, or `None` after the last word. One that is not UTF-8 is a usage error.
-fn word_of<S: Env + Alloc<A = Global>>(rt: &S, number: usize) -> Result<Option<String>, UsageFault>
-    ensures { IfErr result IsUnreadableWords }
-{
-    match word_at(rt, number)? {
-        Some(bytes) => Ok(Some(text_of(rt.alloc(), bytes.as_slice())?)),
-        None => Ok(None),
-    }
-}
-
-/// The bytes of a word of the command line, or `None` after the last word. The runtime fills a buffer, which is doubled
-/// until it has room for the word.
-fn word_at<S: Env + Alloc<A = Global>>(
-    rt: &S,
-    number: usize,
-) -> Result<Option<Vec<u8>>, AllocError> {
-    let mut room = FIRST_ROOM;
-    for _ in 0..usize::BITS {
-        let mut word = Vec::new(rt.alloc());
-        word.resize(room, 0u8)?;
-        match rt.arg(number, word.as_mut_slice()) {
-            Ok(length) => {
-                word.truncate(length);
-                return Ok(Some(word));
-            }
-            Err(FillError::NotPresent) => return Ok(None),
-            Err(FillError::TooLong) => room = room.saturating_mul(2),
-        }
-    }
-    Err(AllocError)
-}
-
-/// A word as a text. One that is not UTF-8 is a usage error.
-fn text_of(alloc: Global, word: &[u8]) -> Result<String, UsageFault>
-    ensures text { IfOk result (λ text. string_bytes text ≡ word.now) }
-    ensures fault { IfErr result IsUnreadableWords }
-{
-    match str::from_utf8(word) {
-        Ok(text) => Ok(String::from_str(alloc, text)?),
-        Err(_) => Err(unreadable(alloc, word)),
-    }
 }
 
 /// Shows help or the version, or reports a usage error.

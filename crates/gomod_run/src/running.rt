@@ -1,17 +1,10 @@
 //! Running one command, from bytes that have been read to bytes that are written.
 
-ghost use Rattle.std.specs.Prelude.{◌≡◌, ◌++◌, ◌∷◌, [], Bool, List, None, false, ℕ};
+ghost use Rattle.std.specs.Prelude.{◌≡◌, [], None, false};
 ghost use Rattle.std.specs.Option.{option_map};
-ghost use Rattle.gm_store.specs.Asked.{Name, answer_in};
-ghost use Rattle.gm_store.specs.States.{HasServed};
-ghost use Rattle.gomod_run.specs.Outcome.{Outcome, code_of, failed};
-ghost use Rattle.gomod_run.specs.Reports.{device_line};
-ghost use Rattle.gomod_run.specs.Needs.{AnsweredAll, AskedInTurn, FailsInTurn};
-ghost use Rattle.gomod_run.specs.Runs.{Needs, is_query};
-ghost use Rattle.gomod_run.specs.Queries.{RunsTo};
-ghost use Rattle.gomod_run.specs.Versions.{IsRefusedList};
+ghost use Rattle.gomod_run.specs.Outcome.{code_of};
+ghost use Rattle.gomod_run.specs.Runs.{HoldsAtAnyEnd, RunEnds, is_query, run_between};
 ghost use Rattle.gomod_run.specs.Written.{EndsAsStated, IsWritten};
-ghost use Rattle.gomod_words.specs.declared.usage.Command.TheVariants.{Versions};
 
 use crate::outcome::outcome;
 use crate::reports::status::Status;
@@ -75,39 +68,19 @@ pub fn run<F: Asks, O: Sink, R: Sink>(
     requires unasked { (F.state files.old).asked ≡ [] }
     // A go.sum that such a command ignored would pass for one that was checked.
     requires no_sums { is_query command.now ≡ false → option_map (λ sums. sums.now) sums ≡ None }
-    // All asks and all allocations come before the first byte is written, so a report never follows part of a text.
-    ensures ends { EndsAsStated (RunsTo command.now main.now (option_map (λ sums. sums.now) sums.entry)
-        (F.state files.old) (F.state files.new))
-        (O.state out.old) (O.state out.new) (R.state report.old) (R.state report.new)
-        (code_of result) }
-    // If the store's device failed at a file, that is reported, whatever the memory.
-    ensures device { (name : Name) → (F.state files.new).refused ≡ (F.state files.old).refused ++ name ∷ []
-        → IsWritten (failed (device_line name))
-        (O.state out.old) (O.state out.new) (R.state report.old) (R.state report.new)
-        (code_of result) }
-    // If `versions` can't have a list, has none, or one that is too long, that is reported, whatever the memory.
-    ensures no_list { (path : List ℕ) (all : Bool) (outcome : Outcome) → command.now ≡ Versions path all
-        → IsRefusedList path (answer_in (F.state files.new).asked) outcome
-        → IsWritten outcome
-        (O.state out.old) (O.state out.new) (R.state report.old) (R.state report.new)
-        (code_of result) }
-    // Each file is asked for once, and is needed by the answers before it. `fmt` and `edit` need none. `graph`,
-    // `list` and `chain` need the go.mod files of the opened modules, and none if the main file or the go.sum can't
-    // be parsed (Go Modules Reference, "Minimal version selection" and "Module graph pruning"). This clause and
-    // the clauses `fails` and `served` hold however the run ends.
-    ensures in_turn { AskedInTurn (Needs command.now main.now (option_map (λ sums. sums.now) sums.entry))
-        (F.state files.new).asked }
-    // A run that is done has an answer for every file that it needs.
-    ensures all_answered { result ≡ Status.Done
-        → AnsweredAll (Needs command.now main.now (option_map (λ sums. sums.now) sums.entry))
-        (answer_in (F.state files.new).asked) }
-    // The device fails at one file at most, which is needed by the answers and is not among them.
-    ensures fails { FailsInTurn (Needs command.now main.now (option_map (λ sums. sums.now) sums.entry))
-        (F.state files.old) (F.state files.new) }
-    // Each answer is one that the store may give, and no other becomes possible. The device fails only if the count
-    // of its failures rises in this run, or stood at its maximum before it; the count never falls.
-    ensures served { HasServed (F.may_answer files.old) (F.may_answer files.new)
-        (F.state files.old) (F.state files.new) }
+    // How a run of each command ends, or memory runs out. All asks and all allocations come before the first byte is
+    // written, so a report never follows part of a text.
+    ensures ends { EndsAsStated (RunEnds command.now
+        (run_between main.now (option_map (λ sums. sums.now) sums.entry) (F.state files.old) (F.state files.new)))
+        (O.state out.old) (O.state out.new) (R.state report.old) (R.state report.new) (code_of result) }
+    // However it ends: which files are asked for, that the answers are the store's own, and what is reported whatever the
+    // memory. `fmt` and `edit` need no file. `graph`, `list` and `chain` need the go.mod files of the opened modules, and
+    // none if the main file or the go.sum can't be parsed (Go Modules Reference, "Minimal version selection" and "Module
+    // graph pruning").
+    ensures holds { HoldsAtAnyEnd command.now main.now (option_map (λ sums. sums.now) sums.entry)
+        (F.may_answer files.old) (F.may_answer files.new) (F.state files.old) (F.state files.new) (code_of result)
+        (λ outcome. IsWritten outcome
+        (O.state out.old) (O.state out.new) (R.state report.old) (R.state report.new) (code_of result)) }
 {
     match outcome(alloc, command, main, sums, files) {
         Ok(text) => print_text(out, text.as_str()),

@@ -4,7 +4,7 @@
 ghost use Rattle.std.specs.Prelude.{◌≡◌, IfErr, IfOk, None, Some};
 ghost use Rattle.std.specs.Option.{option_map};
 ghost use Rattle.gomod_run.specs.Outcome.{OrNoMemory, code_of, report_outcome};
-ghost use Rattle.gomod_run.specs.Program.{IsInputServed, IsServed};
+ghost use Rattle.gomod_run.specs.Program.{IsInputServed, IsServed, untaken};
 ghost use Rattle.gomod_run.specs.Reads.{versions_path, with_proxy};
 ghost use Rattle.gm_store.specs.Taken.{SinkState};
 ghost use Rattle.gomod_run.specs.Written.{EndsAsStated, IsWritten};
@@ -16,7 +16,7 @@ use crate::running::run;
 use crate::stores::{folders_of, list_store, store_folder};
 use crate::writing::write_report;
 use gm_name::ModPath;
-use gm_store::{FileSystem, MemoryFiles, ProxyList, Sink};
+use gm_store::{FileSystem, MemoryFiles, ProxyList, Sink, StandardInput};
 use gomod_words::{Command, Places};
 use std::alloc::Global;
 
@@ -30,11 +30,11 @@ fn over_folders<'a, S: FileSystem + Copy + Drop + Alloc<A = Global>, O: Sink, R:
     report: &mut R,
 ) -> Result<Status, Report<'a>>
     ensures ends { IfOk result (λ status.
-        EndsAsStated (IsServed (S.may_open rt.now) command.now (with_proxy places.now (Some folders)))
+        EndsAsStated (IsServed (S.may_open rt.now) untaken command.now (with_proxy places.now (Some folders)))
         (O.state out.old) (O.state out.new) (R.state report.old) (R.state report.new)
         (code_of status)) }
     ensures unread { IfErr result (λ told.
-        OrNoMemory (IsServed (S.may_open rt.now) command.now (with_proxy places.now (Some folders)))
+        OrNoMemory (IsServed (S.may_open rt.now) untaken command.now (with_proxy places.now (Some folders)))
         (report_outcome told)) }
     ensures no_text { IfErr result (λ _. O.state out.new ≡ O.state out.old) }
     ensures no_report { IfErr result (λ _. R.state report.new ≡ R.state report.old) }
@@ -64,11 +64,11 @@ fn over_memory<'a, S: FileSystem + Alloc<A = Global>, O: Sink, R: Sink>(
 ) -> Result<Status, Report<'a>>
     requires { versions_path command.now ≡ None }
     ensures ends { IfOk result (λ status.
-        EndsAsStated (IsServed (S.may_open rt.now) command.now (with_proxy places.now None))
+        EndsAsStated (IsServed (S.may_open rt.now) untaken command.now (with_proxy places.now None))
         (O.state out.old) (O.state out.new) (R.state report.old) (R.state report.new)
         (code_of status)) }
     ensures unread { IfErr result (λ told.
-        OrNoMemory (IsServed (S.may_open rt.now) command.now (with_proxy places.now None))
+        OrNoMemory (IsServed (S.may_open rt.now) untaken command.now (with_proxy places.now None))
         (report_outcome told)) }
     ensures no_text { IfErr result (λ _. O.state out.new ≡ O.state out.old) }
     ensures no_report { IfErr result (λ _. R.state report.new ≡ R.state report.old) }
@@ -89,7 +89,7 @@ fn over_memory<'a, S: FileSystem + Alloc<A = Global>, O: Sink, R: Sink>(
 
 /// Runs `versions` of the module with this path over standard input, which has the module's list. If that can't be
 /// read, nothing is written.
-fn over_input<'a, S: Input + Alloc<A = Global>, O: Sink, R: Sink>(
+fn over_input<'a, S: StandardInput + Alloc<A = Global>, O: Sink, R: Sink>(
     rt: &S,
     command: &Command,
     path: &ModPath,
@@ -98,10 +98,11 @@ fn over_input<'a, S: Input + Alloc<A = Global>, O: Sink, R: Sink>(
 ) -> Result<Status, Report<'a>>
     requires { versions_path command.now ≡ Some path.now }
     ensures ends { IfOk result (λ status.
-        EndsAsStated (IsInputServed command.now path.now)
+        EndsAsStated (IsInputServed (S.may_take rt.now) command.now path.now)
         (O.state out.old) (O.state out.new) (R.state report.old) (R.state report.new)
         (code_of status)) }
-    ensures unread { IfErr result (λ told. OrNoMemory (IsInputServed command.now path.now) (report_outcome told)) }
+    ensures unread { IfErr result (λ told.
+        OrNoMemory (IsInputServed (S.may_take rt.now) command.now path.now) (report_outcome told)) }
     ensures no_text { IfErr result (λ _. O.state out.new ≡ O.state out.old) }
     ensures no_report { IfErr result (λ _. R.state report.new ≡ R.state report.old) }
 {
@@ -138,14 +139,12 @@ fn ended<R: Sink>(served: Result<Status, Report<'_>>, report: &mut R) -> Status
 }
 
 /// Reads what a command works on and runs it, or reports what can't be read.
-pub(crate) fn serve<S: Input + FileSystem + Copy + Drop + Alloc<A = Global>, O: Sink, R: Sink>(
-    rt: &S,
-    command: &Command,
-    mut places: Places,
-    out: &mut O,
-    report: &mut R,
-) -> Status
-    ensures { EndsAsStated (IsServed (S.may_open rt.now) command.now places)
+pub(crate) fn serve<
+    S: StandardInput + FileSystem + Copy + Drop + Alloc<A = Global>,
+    O: Sink,
+    R: Sink,
+>(rt: &S, command: &Command, mut places: Places, out: &mut O, report: &mut R) -> Status
+    ensures { EndsAsStated (IsServed (S.may_open rt.now) (S.may_take rt.now) command.now places)
         (O.state out.old) (O.state out.new) (R.state report.old) (R.state report.new)
         (code_of result) }
 {

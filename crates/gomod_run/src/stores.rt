@@ -1,11 +1,12 @@
 //! The store of a command: proxy folders on disk, or standard input as the list of a module.
 
-ghost use Rattle.std.specs.Prelude.{◌≡◌, IfErr, IfOk, Some, [], codes};
+ghost use Rattle.std.specs.Prelude.{◌≡◌, IfErr, IfOk, Ok, Some, [], codes};
 ghost use Rattle.std.specs.String.{string_bytes};
 ghost use Rattle.gm_store.specs.Asked.{Name, Reply, list_file};
 ghost use Rattle.gm_store.specs.Memory.{pairs_of};
 ghost use Rattle.gm_store.specs.Views.{asked_by};
-ghost use Rattle.gomod_run.specs.Outcome.{report_outcome};
+ghost use Rattle.gm_store.specs.Openings.{MayRead};
+ghost use Rattle.gomod_run.specs.Outcome.{OrNoMemory, report_outcome};
 ghost use Rattle.gomod_run.specs.Held.{HoldsOne};
 ghost use Rattle.gomod_run.specs.Program.{MayBeTold};
 ghost use Rattle.gomod_run.specs.Reads.{HoldsInput, IsStoreFolder, IsUnreadList};
@@ -14,7 +15,8 @@ use crate::inputs::unread_report;
 use crate::reports::report::Report;
 use gm_name::{ModPath, NoMemory};
 use gm_store::{
-    Asks, FileName, FileSystem, FolderReader, MemoryFiles, ProxyList, folder_of, read_limited,
+    Asks, FileName, FileSystem, FolderReader, MemoryFiles, ProxyList, StandardInput, folder_of,
+    read_input,
 };
 use gomod_words::Command;
 use std::alloc::Global;
@@ -68,25 +70,26 @@ fn store_of(alloc: Global, path: &ModPath, list: Vec<u8>) -> Result<MemoryFiles,
 }
 
 /// The bytes of standard input.
-fn read_input<S: Input + Alloc<A = Global>>(rt: &S) -> Result<Vec<u8>, Report<'static>>
-    ensures { IfErr result (λ told. IsUnreadList (report_outcome told)) }
+fn read_list<S: StandardInput + Alloc<A = Global>>(rt: &S) -> Result<Vec<u8>, Report<'static>>
+    ensures read { IfOk result (λ bytes. MayRead (S.may_take rt.now) (Ok bytes)) }
+    ensures unread { IfErr result (λ told. IsUnreadList (S.may_take rt.now) (report_outcome told)) }
 {
-    match read_limited(rt.alloc(), &mut rt.reader()) {
+    match read_input(rt, rt.alloc()) {
         Ok(bytes) => Ok(bytes),
         Err(fault) => Err(unread_report("-", fault)),
     }
 }
 
 /// A store that has standard input as the list of a module, and nothing else.
-pub(crate) fn list_store<S: Input + Alloc<A = Global>>(
+pub(crate) fn list_store<S: StandardInput + Alloc<A = Global>>(
     rt: &S,
     path: &ModPath,
 ) -> Result<MemoryFiles, Report<'static>>
     ensures asked { IfOk result (λ files. pairs_of files ≡ []) }
-    ensures held { IfOk result (HoldsInput path.now) }
-    ensures unread { IfErr result (λ told. IsUnreadList (report_outcome told)) }
+    ensures held { IfOk result (HoldsInput (S.may_take rt.now) path.now) }
+    ensures unread { IfErr result (λ told. OrNoMemory (IsUnreadList (S.may_take rt.now)) (report_outcome told)) }
 {
-    let list = read_input(rt)?;
+    let list = read_list(rt)?;
     let files = store_of(rt.alloc(), path, list)?;
     Ok(files)
 }

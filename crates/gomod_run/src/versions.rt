@@ -1,7 +1,7 @@
 //! The outcome of `versions`: it needs a module's list and then perhaps one go.mod, so the asks of the store are
 //! ordered here.
 
-ghost use Rattle.std.specs.Prelude.{◌≡◌, ◌++◌, ◌∷◌, ℕ, [], IfOk, List, MatchOption, MatchResult, None, OnOk, codes, map};
+ghost use Rattle.std.specs.Prelude.{◌≡◌, ◌++◌, ℕ, [], IfOk, List, MatchOption, MatchResult, None, OnOk, Option, codes, map};
 ghost use Rattle.std.specs.String.{string_bytes};
 ghost use Rattle.std.specs.List.Sorted.{IsStrictlySortedBy};
 ghost use Rattle.gm_name.specs.Version.{version_cmp};
@@ -11,14 +11,13 @@ ghost use Rattle.gm_store.specs.Asked.{IsWithinLimit, Name, answer_in, bytes, mo
 ghost use Rattle.gm_store.specs.States.{HasServed};
 ghost use Rattle.gm_graph.specs.Reading.{IsFileReading};
 ghost use Rattle.gm_graph.specs.Summaries.{RetractsBy, reading_of};
-ghost use Rattle.gomod_run.specs.Outcome.{OrNoMemory, Outcome, failed, out_of_memory, outcome_view, report_outcome};
-ghost use Rattle.gomod_run.specs.Reports.{device_line};
+ghost use Rattle.gomod_run.specs.Outcome.{OrNoMemory, out_of_memory, outcome_view, report_outcome};
 ghost use Rattle.gm_store.specs.Latest.{IsLatest};
-ghost use Rattle.gomod_run.specs.Needs.{AskedInTurn, FailsInTurn};
 ghost use Rattle.gomod_run.specs.Asking.{IsLatestAsked};
 ghost use Rattle.gomod_run.specs.Listing.{IsAllOutcome, IsListAsked, IsShownAsked};
-ghost use Rattle.gomod_run.specs.Runs.{IsRunOutcome};
-ghost use Rattle.gomod_run.specs.Versions.{IsEndByList, IsRefusedList, IsShownOutcome, IsVersionsOutcome, VersionsNeed, versions_line};
+ghost use Rattle.gomod_run.specs.Runs.{ComesTo};
+ghost use Rattle.gomod_run.specs.Versions.{IsEndByList, IsShownOutcome, versions_line};
+ghost use Rattle.gomod_words.specs.declared.usage.Command.TheVariants.{Versions};
 
 use crate::asking::ask_for;
 use crate::reports::report::Report;
@@ -242,18 +241,9 @@ pub(crate) fn versions_outcome<'p, F: Asks>(
     files: &mut F,
 ) -> Result<String, Report<'p>>
     requires { (F.state files.old).asked ≡ [] }
-    ensures comes { OrNoMemory (IsRunOutcome (VersionsNeed path.now all) (IsVersionsOutcome path.now all)
-        (F.state files.old) (F.state files.new))
+    ensures { (main : List ℕ) (sums : Option (List ℕ)) → ComesTo (Versions path.now all) main sums
+        (F.may_answer files.old) (F.may_answer files.new) (F.state files.old) (F.state files.new)
         (outcome_view result) }
-    ensures device { (name : Name) → (F.state files.new).refused ≡ (F.state files.old).refused ++ name ∷ []
-        → outcome_view result ≡ failed (device_line name) }
-    ensures no_list { (outcome : Outcome) → IsRefusedList path.now (answer_in (F.state files.new).asked) outcome
-        → outcome_view result ≡ outcome }
-    ensures in_turn { AskedInTurn (VersionsNeed path.now all) (F.state files.new).asked }
-    ensures fails { FailsInTurn (VersionsNeed path.now all)
-        (F.state files.old) (F.state files.new) }
-    ensures served { HasServed (F.may_answer files.old) (F.may_answer files.new)
-        (F.state files.old) (F.state files.new) }
 {
     ask_for_list(alloc, path, files)?;
     if all {

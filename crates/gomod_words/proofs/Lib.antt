@@ -2,6 +2,7 @@ pub mod Asked
 mod Commands
 mod Exclusion
 mod Faults
+pub mod GivenWords
 mod Limits
 mod Queries
 mod UsageLines

@@ -14,10 +14,12 @@
 mod advice;
 mod command;
 mod dashed;
+mod given;
 mod help;
 pub mod laws;
 mod query;
 mod typed;
 mod usage;
 
-pub use crate::usage::{Command, Places, UsageFault, read_words, unreadable};
+pub use crate::given::{Words, given_words};
+pub use crate::usage::{Command, Places, UsageFault, read_words};

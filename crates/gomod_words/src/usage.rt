@@ -403,7 +403,7 @@ fn read_versions<'a>(
 }
 
 /// The usage error of a word that is not UTF-8, which it shows with its bytes escaped.
-pub fn unreadable(alloc: Global, word: &[u8]) -> UsageFault
+pub(crate) fn unreadable(alloc: Global, word: &[u8]) -> UsageFault
     ensures { IsLineOf (unreadable_text word.now) result }
 {
     match unreadable_message(alloc, word) {

@@ -1,15 +1,13 @@
 //! Runs a command over a module graph: reads the two files, loads what the main module's file leads to, and
 //! answers.
 
-ghost use Rattle.std.specs.Prelude.{◌≡◌, ◌++◌, ◌∷◌, [], MatchResult};
+ghost use Rattle.std.specs.Prelude.{◌≡◌, [], MatchResult};
 ghost use Rattle.std.specs.Option.{option_copied};
-ghost use Rattle.gm_store.specs.Asked.{Name};
-ghost use Rattle.gm_store.specs.States.{HasServed};
 ghost use Rattle.gm_file.specs.Main.{main_of};
-ghost use Rattle.gomod_run.specs.Outcomes.{FilesReadAs, IsAnswerOver, IsRefusedRead, PrintsFor};
-ghost use Rattle.gomod_run.specs.Needs.{AskedInTurn, FailsInTurn, GraphNeeds};
-ghost use Rattle.gomod_run.specs.Outcome.{OrNoMemory, failed, outcome_view, report_outcome};
-ghost use Rattle.gomod_run.specs.Reports.{device_line};
+ghost use Rattle.gomod_run.specs.Outcomes.{FilesReadAs};
+ghost use Rattle.gomod_run.specs.Outcome.{OrNoMemory, outcome_view, report_outcome};
+ghost use Rattle.gomod_run.specs.Refusals.{IsRefusedRead};
+ghost use Rattle.gomod_run.specs.Runs.{ComesTo, command_of};
 
 use crate::listing::printing::tell;
 use crate::listing::query::Query;
@@ -74,15 +72,9 @@ pub fn answer<'q, F: Asks>(
     files: &mut F,
 ) -> Result<String, Report<'q>>
     requires { (F.state files.old).asked ≡ [] }
-    ensures comes { OrNoMemory (IsAnswerOver (PrintsFor query.entry) file.now (option_copied sums.entry)
-        (F.state files.old) (F.state files.new)) (outcome_view result) }
-    ensures device { (name : Name) → (F.state files.new).refused ≡ (F.state files.old).refused ++ name ∷ []
-        → outcome_view result ≡ failed (device_line name) }
-    ensures asks { AskedInTurn (GraphNeeds file.now (option_copied sums.entry)) (F.state files.new).asked }
-    ensures fails { FailsInTurn (GraphNeeds file.now (option_copied sums.entry))
-        (F.state files.old) (F.state files.new) }
-    ensures served { HasServed (F.may_answer files.old) (F.may_answer files.new)
-        (F.state files.old) (F.state files.new) }
+    ensures { ComesTo (command_of query.entry) file.now (option_copied sums.entry)
+        (F.may_answer files.old) (F.may_answer files.new) (F.state files.old) (F.state files.new)
+        (outcome_view result) }
 {
     let read = read_files(alloc, file, sums)?;
     let loaded = load(alloc, &read.main, files, read.table.as_ref())?;

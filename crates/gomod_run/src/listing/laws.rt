@@ -2,25 +2,8 @@
 //! contract is a law. A law that names no section of the Go Modules Reference is about a choice of this
 //! program.
 
-ghost use Rattle.gomod_run.specs.ListingLaws.{AlikeChains, AlikeGraphs, AlikeLists, BuildListIsListed, PrintedChainIsShortest, ListIsBuildList, OneChainOutcome, OneGraph, OneGraphOutcome, OneListOutcome, OneRefusal, PrintedPagesJoin, PartsOfOneList};
+ghost use Rattle.gomod_run.specs.ListingLaws.{BuildListIsListed, ListIsBuildList, OneGraph, OneRefusal, PartsOfOneList, PrintedChainIsShortest, PrintedPagesJoin};
 ghost use Rattle.gomod_run.specs.PrintedLines.{ChainHasLines, GraphHasLines, LineIsOfAFault, LineIsOfARow, LineIsOfAStep, LineIsOfAnEdge, LineSaysEdge, LineSaysFault, LineSaysRow, LineSaysStep, ListHasLines, ReportHasLines, RunHasNames, RunHasProperEdges, RunHasProperFaults, RunHasProperRows, RunHasProperSteps, TextSaysEdges, TextSaysFaults, TextSaysRows, TextSaysSteps};
-
-/// The bytes of the main module's file, those of the go.sum, and the answers of the store determine the
-/// outcome of `graph`, of `list` and of `chain`: text, report and status are a function of these.
-pub fn one_outcome()
-    ensures graph { OneGraphOutcome }
-    ensures list { OneListOutcome }
-    ensures chain { OneChainOutcome }
-{}
-
-/// Two runs have the same outcome if they have the same main file and go.sum, their stores gave no file
-/// different answers, and their devices failed on the same files, or on none. It makes no difference what
-/// other files the stores were asked for, or in which order.
-pub fn one_store()
-    ensures graph { AlikeGraphs }
-    ensures list { AlikeLists }
-    ensures chain { AlikeChains }
-{}
 
 /// When `list` prints, the files of the opened modules are known and have no faults. The text has a row for
 /// the main module and then, in path order, one row for each other path that the main module or an opened

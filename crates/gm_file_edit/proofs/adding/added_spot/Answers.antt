@@ -1,9 +1,7 @@
-use Rattle.std.proofs.Common.{◌≡◌, IfSome, Option, Some, None, subst, sym}
-use Rattle.gm_file.specs.Directives.{is_of_verb}
-use Rattle.gm_file_edit.specs.Adding.{spot_after_last}
+use Rattle.std.proofs.Common.{IfSome, Option, subst}
+use Rattle.gm_file_edit.specs.Marks.{IsPlaceOf}
 use Rattle.gm_file_edit.specs.declared.adding.Spot.{Spot}
 use Rattle.gm_file_edit.proofs.adding.added_spot.Goals as goal
 
-pub returns-in-Some : goal.returns-in-Some
-returns-in-Some c =
-    sym (subst (λ (o : Option Spot). IfSome o (λ spot. spot_after_last (is_of_verb c.args.own) None c.args.lines.now ≡ Some spot)) c.in-Some.is c.tail_spot.ensures)
+pub returns-in-Some-clause-place : goal.returns-in-Some-clause-place
+returns-in-Some-clause-place c = subst (λ (o : Option Spot). IfSome o (λ spot. IsPlaceOf c.args.own c.args.lines.now spot)) c.in-Some.is c.tail_spot.ensures

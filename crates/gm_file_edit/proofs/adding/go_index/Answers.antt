@@ -1,27 +1,33 @@
-use Rattle.std.proofs.Common.{List, ◌≤◌, ◌∙◌, ap, arith, length, subst, sym}
-use Rattle.gm_syntax.specs.Document.{Line}
-use Rattle.gm_syntax.specs.Tokens.{Placed}
-use Rattle.gm_file.specs.Faults.{is_module}
-use Rattle.gm_file_edit.specs.Adding.{past_block}
-use Rattle.gm_file_edit.proofs.AddingCode.{in-lines, index-last, index-there, past-in-range}
-use Rattle.gm_file_edit.proofs.AddingSound.{first-in-range}
+use Rattle.std.proofs.Common.{◌∙◌, arith, false, sym, true}
+use Rattle.gm_file_edit.proofs.AddingCode.{unmet-begin, unmet-end, unmet-found, unmet-more}
+use Rattle.gm_file_edit.proofs.Pairs.{document-sound}
 use Rattle.gm_file_edit.proofs.adding.go_index.Goals as goal
 
-pub past_block-requires : goal.past_block-requires
-past_block-requires c =
-    in-lines c.lines.result.now c.in-Some.spot.before
-    (subst (λ (ls : List (Line Placed)). c.in-Some.spot.before ≤ length ls) (sym c.lines.ensures.lines) (first-in-range is_module c.args.lines.now c.in-Some.spot (sym c.module_spot.ensures ∙ c.in-Some.is)))
+pub loop-n-init : goal.loop-n-init
+loop-n-init c = unmet-begin c.args.lines.now (document-sound c.args.lines.now c.requires.document c.requires.sound)
 
-pub returns-in-Some-clause-index : goal.returns-in-Some-clause-index
-returns-in-Some-clause-index c = λ new.
-    index-there is_module new c.args.lines.now c.module_spot.result c.in-Some.spot c.past_block.result c.module_spot.ensures c.in-Some.is
-    (c.past_block.ensures ∙ ap (λ (ls : List (Line Placed)). past_block ls c.in-Some.spot) c.lines.ensures.lines)
+pub loop-n-preserved : goal.loop-n-preserved
+loop-n-preserved c =
+    let inside = c.loop-n-test.true in
+    let len = c.len-n-end.ensures in
+    unmet-more c.args.lines.now c.loop-n.scope c.scope_after-scope.result c.loop-n.n c.key-key.result (omega (arith, inside, len)) c.key-key.ensures
+    (sym c.is_entry_in.ensures ∙ c.if-is_entry_in.false) c.scope_after-scope.ensures c.loop-n.invariant
 
-pub returns-in-Some-clause-in_range : goal.returns-in-Some-clause-in_range
-returns-in-Some-clause-in_range c =
-    let le = past-in-range c.args.lines.now c.in-Some.spot (first-in-range is_module c.args.lines.now c.in-Some.spot (sym c.module_spot.ensures ∙ c.in-Some.is)) in
-    let is = c.past_block.ensures ∙ ap (λ (ls : List (Line Placed)). past_block ls c.in-Some.spot) c.lines.ensures.lines in
-    omega (arith, le, is)
+pub returns-then-is_inside-clause-index : goal.returns-then-is_inside-clause-index
+returns-then-is_inside-clause-index c = λ new.
+    let inside = c.loop-n-test.true in
+    let len = c.len-n-end.ensures in
+    c.close_index.ensures.index new
+    ∙ unmet-found c.args.lines.now c.loop-n.scope c.loop-n.n c.key-key.result true (omega (arith, inside, len)) c.key-key.ensures (sym c.is_entry_in.ensures ∙ c.if-is_entry_in.true) (sym c.if-is_inside.true ∙ c.is_inside.ensures) c.loop-n.invariant new
 
-pub returns-in-None-clause-index : goal.returns-in-None-clause-index
-returns-in-None-clause-index c = λ new. index-last is_module new c.args.lines.now c.module_spot.result _ c.module_spot.ensures c.in-None.is c.len.ensures
+pub returns-then-is_entry_in-clause-index : goal.returns-then-is_entry_in-clause-index
+returns-then-is_entry_in-clause-index c = λ new.
+    let inside = c.loop-n-test.true in
+    let len = c.len-n-end.ensures in
+    unmet-found c.args.lines.now c.loop-n.scope c.loop-n.n c.key-key.result false (omega (arith, inside, len)) c.key-key.ensures (sym c.is_entry_in.ensures ∙ c.if-is_entry_in.true) (sym c.if-is_inside.false ∙ c.is_inside.ensures) c.loop-n.invariant new
+
+pub returns-clause-index : goal.returns-clause-index
+returns-clause-index c = λ new.
+    let over = c.loop-n-test.false in
+    let len = c.len-n-end.ensures in
+    unmet-end c.args.lines.now c.loop-n.scope c.loop-n.n c.len.result (omega (arith, over, len)) c.len.ensures c.loop-n.invariant new

@@ -1,5 +1,5 @@
 use Rattle.std.proofs.Common.{◌≡◌, ◌+◌, ◌∙◌, Bool, Some, ap, arith}
-use Rattle.gm_file_edit.proofs.AddingCode.{better_at, last-begin, last-end, last-more}
+use Rattle.gm_file_edit.proofs.AddingCode.{better_at, last-begin, last-end, last-more, none-there, place-of}
 use Rattle.gm_file_edit.proofs.Pairs.{document-sound}
 use Rattle.gm_file_edit.proofs.adding.last_spot.Goals as goal
 use Rattle.gm_file_edit.proofs.adding.last_spot.Goals.{then-is_entry_in, else-is_entry_in}
@@ -20,8 +20,14 @@ loop-n-preserved c =
     last-more c.args.own c.args.lines.now c.loop-n.scope c.scope_after-scope.result c.loop-n.n c.key-key.result c.loop-n.spot c.if-is_entry_in.spot (omega (arith, inside, len)) c.key-key.ensures
     (found ∙ ap (λ (b : Bool). better_at c.loop-n.n c.loop-n.scope b c.loop-n.spot) c.is_entry_in.ensures) c.scope_after-scope.ensures c.loop-n.invariant
 
-pub returns : goal.returns
-returns c =
+pub returns-clause-place : goal.returns-clause-place
+returns-clause-place c =
     let over = c.loop-n-test.false in
     let len = c.len-n-end.ensures in
-    last-end c.args.own c.args.lines.now c.loop-n.scope c.loop-n.n c.loop-n.spot (omega (arith, over, len)) c.loop-n.invariant
+    place-of c.args.own c.args.lines.now c.loop-n.spot (last-end c.args.own c.args.lines.now c.loop-n.scope c.loop-n.n c.loop-n.spot (omega (arith, over, len)) c.loop-n.invariant)
+
+pub returns-clause-none : goal.returns-clause-none
+returns-clause-none c =
+    let over = c.loop-n-test.false in
+    let len = c.len-n-end.ensures in
+    none-there c.args.own c.args.lines.now c.loop-n.spot (last-end c.args.own c.args.lines.now c.loop-n.scope c.loop-n.n c.loop-n.spot (omega (arith, over, len)) c.loop-n.invariant)

@@ -15,11 +15,12 @@ use Rattle.gm_graph.specs.Builder.{IsBuilder, edges_in, sources_in}
 use Rattle.gm_graph.specs.Loading.{AreTooMany, IsDue, Told}
 use Rattle.gm_store.proofs.Serving.{nothing_served}
 use Rattle.gm_graph.proofs.Dues.{asks_nothing, refused_same}
-use Rattle.gm_graph.proofs.Loads.{gathered_ends, gathered_rooted, loads_of, too_many_first}
+use Rattle.gm_graph.proofs.Loads.{asks_of, gathered_ends, gathered_rooted, loads_of, too_many_first}
+use Rattle.gm_graph.proofs.RunReadings.{asks_told, due_told, many_told}
 use Rattle.gm_graph.proofs.loading.load.Goals as goal
 
 pub returns-in_err-builder-clause-asks : goal.returns-in_err-builder-clause-asks
-returns-in_err-builder-clause-asks g c = asks_nothing _ _ _ c.requires
+returns-in_err-builder-clause-asks g c = asks_told _ _ (asks_nothing _ _ _ c.requires)
 
 pub returns-in_err-builder-clause-refused : goal.returns-in_err-builder-clause-refused
 returns-in_err-builder-clause-refused g c =
@@ -28,7 +29,19 @@ returns-in_err-builder-clause-refused g c =
     sym (append-nil refused) ∙ ap (λ (ns : List Name). refused ++ ns) (sym (same ∙ c.in_err-builder.ensures.not_refused))
 
 pub returns-in_err-cache-clause-asks : goal.returns-in_err-cache-clause-asks
-returns-in_err-cache-clause-asks g c = asks_nothing _ _ _ c.requires
+returns-in_err-cache-clause-asks g c = asks_told _ _ (asks_nothing _ _ _ c.requires)
+
+pub returns-in_err-visit_all-clause-asks : goal.returns-in_err-visit_all-clause-asks
+returns-in_err-visit_all-clause-asks g c =
+    asks_of c.in_ok-cache.cache _ _ _ c.in_ok-cache.ensures.main c.in_ok-cache.ensures.sums c.visit_all.ensures.asks
+
+pub returns-in_err-assemble-clause-asks : goal.returns-in_err-assemble-clause-asks
+returns-in_err-assemble-clause-asks g c =
+    asks_of c.in_ok-cache.cache _ _ _ c.in_ok-cache.ensures.main c.in_ok-cache.ensures.sums c.visit_all.ensures.asks
+
+pub returns-clause-asks : goal.returns-clause-asks
+returns-clause-asks g c =
+    asks_of c.in_ok-cache.cache _ _ _ c.in_ok-cache.ensures.main c.in_ok-cache.ensures.sums c.visit_all.ensures.asks
 
 pub returns-in_err-builder-clause-too_many : goal.returns-in_err-builder-clause-too_many
 returns-in_err-builder-clause-too_many g c = λ e.
@@ -38,16 +51,18 @@ returns-in_err-builder-clause-too_many g c = λ e.
 pub returns-in_err-visit_all-clause-device : goal.returns-in_err-visit_all-clause-device
 returns-in_err-visit_all-clause-device g c = λ name e.
     let pairs = (g.F.Asks.state c.visit_all.new.files).asked in
-    subst (λ (m : Main). IsDue m (option_copied c.args.sums) pairs (name_of name)) c.in_ok-cache.ensures.main
+    due_told (main_of c.args.main.now) (option_copied c.args.sums) pairs (name_of name)
+    (subst (λ (m : Main). IsDue m (option_copied c.args.sums) pairs (name_of name)) c.in_ok-cache.ensures.main
     (subst (λ (s : Option Sums). IsDue (main_in c.in_ok-cache.cache) s pairs (name_of name)) c.in_ok-cache.ensures.sums
-    (c.in_err-visit_all.ensures.device name (ap Err (sym (rw e at c.from_residual-in_err-visit_all.ensures.1)))))
+    (c.in_err-visit_all.ensures.device name (ap Err (sym (rw e at c.from_residual-in_err-visit_all.ensures.1))))))
 
 pub returns-in_err-visit_all-clause-too_many : goal.returns-in_err-visit_all-clause-too_many
 returns-in_err-visit_all-clause-too_many g c = λ e.
     let pairs = (g.F.Asks.state c.visit_all.new.files).asked in
-    subst (λ (m : Main). Told m (option_copied c.args.sums) pairs (AreTooMany m)) c.in_ok-cache.ensures.main
+    many_told (main_of c.args.main.now) (option_copied c.args.sums) pairs
+    (subst (λ (m : Main). Told m (option_copied c.args.sums) pairs (AreTooMany m)) c.in_ok-cache.ensures.main
     (subst (λ (s : Option Sums). Told (main_in c.in_ok-cache.cache) s pairs (AreTooMany (main_in c.in_ok-cache.cache))) c.in_ok-cache.ensures.sums
-    (c.in_err-visit_all.ensures.too_many (ap Err (sym (rw e at c.from_residual-in_err-visit_all.ensures.1)))))
+    (c.in_err-visit_all.ensures.too_many (ap Err (sym (rw e at c.from_residual-in_err-visit_all.ensures.1))))))
 
 pub assemble-requires : goal.assemble-requires
 assemble-requires g c =

@@ -1,5 +1,6 @@
-use Rattle.std.proofs.Common.{inr}
+use Rattle.std.proofs.Common.{inl, inr, rules}
 use Rattle.std.proofs.lemmas.Result.{err_from_is_err_and}
+use Rattle.gomod_run.specs.Runs.{laid_out}
 use Rattle.gomod_run.proofs.Misread.{fmt_misread}
 use Rattle.gomod_run.proofs.Steps.{no_memory}
 use Rattle.gomod_run.proofs.fmt.fmt_outcome.Goals as goal
@@ -11,3 +12,6 @@ returns-in_err-doc c =
 
 pub returns-in_err-format : goal.returns-in_err-format
 returns-in_err-format c = inr (no_memory c.from_residual-in_err-format.result c.from_residual-in_err-format.ensures.1)
+
+pub returns : goal.returns
+returns c = inl (laid_out c.in_ok-doc.doc c.in_ok-doc.ensures.read (search rules))

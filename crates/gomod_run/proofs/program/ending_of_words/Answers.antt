@@ -7,11 +7,11 @@ use Rattle.gomod_run.proofs.program.ending_of_words.Goals as goal
 
 pub returns-in-Ok : goal.returns-in-Ok
 returns-in-Ok g c =
-    words_end (g.S.FileSystem.may_open c.args.rt.now) (map (λ word. word.now) c.args.words.now) c.in-Ok.command
+    words_end (g.S.FileSystem.may_open c.args.rt.now) (g.S.StandardInput.may_take c.args.rt.now) (map (λ word. word.now) c.args.words.now) c.in-Ok.command
     c.in-Ok.places _ _ _ _ _ (code_of c.serve.result) refl c.in-Ok.ensures.read c.serve.ensures
 
 pub returns-in-Err : goal.returns-in-Err
 returns-in-Err g c =
-    fault_ends (g.S.FileSystem.may_open c.args.rt.now) (map (λ word. word.now) c.args.words.now) c.in-Err.fault _ _ _ _ _
+    fault_ends (g.S.FileSystem.may_open c.args.rt.now) (g.S.StandardInput.may_take c.args.rt.now) (map (λ word. word.now) c.args.words.now) c.in-Err.fault _ _ _ _ _
     c.in-Err.ensures.fault
     (ends_with (usage_outcome c.in-Err.fault) (usage_outcome c.in-Err.fault) _ _ _ _ _ refl c.tell.ensures)

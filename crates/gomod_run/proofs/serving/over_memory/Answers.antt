@@ -3,7 +3,7 @@ use Rattle.gm_store.specs.Memory.{memory_files_state}
 use Rattle.gm_store.proofs.Serving.{may_all}
 use Rattle.gomod_run.specs.Outcome.{OrNoMemory, report_outcome}
 use Rattle.gomod_run.specs.declared.reports.report.Report.{Report}
-use Rattle.gomod_run.specs.Program.{IsServed}
+use Rattle.gomod_run.specs.Program.{IsServed, untaken}
 use Rattle.gomod_run.specs.Reads.{with_proxy}
 use Rattle.gomod_run.proofs.Endings.{ends_weaken}
 use Rattle.gomod_run.proofs.Served.{input_unserved, memory_served, passed_on, same_run}
@@ -13,7 +13,7 @@ pub returns-in_err-read-clause-unread : goal.returns-in_err-read-clause-unread
 returns-in_err-read-clause-unread g c =
     let may_open = g.S.FileSystem.may_open c.args.rt.now in
     let told = c.in_err-read.field-0.0 in
-    passed_on (λ (told : Report). OrNoMemory (IsServed may_open c.args.command.now (with_proxy c.args.places.now None)) (report_outcome told)) told c.from_residual.result
+    passed_on (λ (told : Report). OrNoMemory (IsServed may_open untaken c.args.command.now (with_proxy c.args.places.now None)) (report_outcome told)) told c.from_residual.result
     c.from_residual.ensures.1 (inl (input_unserved may_open c.args.command.now c.args.places.now None (report_outcome told) c.in_err-read.ensures))
 
 pub returns-clause-ends : goal.returns-clause-ends
@@ -21,6 +21,6 @@ returns-clause-ends g c =
     let old = memory_files_state c.new-files.result in
     let new = memory_files_state c.run.new.files in
     ends_weaken _ _ _ _ _ _ _ (λ outcome runs. memory_served (g.S.FileSystem.may_open c.args.rt.now) c.args.command.now c.args.places.now c.in_ok-read.read c.new-files.result c.run.new.files
-    c.requires c.in_ok-read.ensures c.new-files.ensures.empty (may_all _ _ old new c.new-files.ensures.asked c.run.ensures.served) outcome
+    c.requires c.in_ok-read.ensures c.new-files.ensures.empty (may_all _ _ old new c.new-files.ensures.asked c.run.ensures.holds.served) outcome
     (same_run c.args.command.now c.in_ok-read.read c.as_slice-main.result.now (option_map (λ sums. sums.now) c.sums.result) old new c.as_slice-main.ensures.value c.sums.ensures outcome runs))
     c.run.ensures.ends

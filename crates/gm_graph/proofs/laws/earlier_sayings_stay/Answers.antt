@@ -1,0 +1,8 @@
+use Rattle.gm_graph.proofs.LawProofs.{earlier_sayings_stay, first_answers_say_something}
+use Rattle.gm_graph.proofs.laws.earlier_sayings_stay.Goals as goal
+
+pub returns-clause-stays : goal.returns-clause-stays
+returns-clause-stays c = earlier_sayings_stay
+
+pub returns-clause-first : goal.returns-clause-first
+returns-clause-first c = first_answers_say_something
