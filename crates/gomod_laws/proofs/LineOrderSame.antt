@@ -22,6 +22,7 @@ use Rattle.gm_graph.specs.declared.fault.Fault.{Fault}
 use Rattle.gm_graph.specs.Graph.{IsDeep, IsEdge, IsOpened, IsTop, from_deep, from_main, from_top}
 use Rattle.gm_graph.specs.Loading.{AreAsked, AreFew, AreTooMany, IsAnswered, IsNeeded}
 use Rattle.gm_graph.specs.Outcome.{AreEdges, AreFaults}
+use Rattle.std.proofs.lemmas.Bool.{or_cases}
 
 -- Two main files say the same, wherever and however often.
 pub record SayTheSame (one other : Main) : Type 0 where
@@ -55,13 +56,9 @@ or_true true b e = refl
 or_true false b (inl e) = absurd cc
 or_true false b (inr e) = e
 
-true_or : (a b : Bool) → a || b ≡ true → (a ≡ true) ⊎ (b ≡ true)
-true_or true b e = inl refl
-true_or false b e = inr e
-
 any_member : (test : ModuleVersion → Bool) (xs : List ModuleVersion) → list_any test xs ≡ true → (x : ModuleVersion) × Contains xs x × (test x ≡ true)
 any_member test [] e = absurd cc
-any_member test (x ∷ xs) e = elim (true_or (test x) (list_any test xs) e) [
+any_member test (x ∷ xs) e = elim (or_cases (test x) (list_any test xs) e) [
   | inl here ↦ (x, member_head x xs, here)
   | inr later ↦ (let (y, there, holds) = any_member test xs later in (y, member_tail x y xs there, holds))
 ]
