@@ -1,70 +1,35 @@
 -- An operation of `edit` that is given twice, directly one after the other.
-use Rattle.std.proofs.Common.{◌≡◌, ◌≤◌, ◌∙◌, ◌++◌, ◌+◌, ◌⊎◌, ℕ, List, [], ◌∷◌, length, map, Option, None, Some, IsUtf8, ap, append_assoc, arith, length-append, refl, subst, sym, inl, inr}
+use Rattle.std.proofs.Common.{◌≡◌, ◌≤◌, ◌∙◌, ◌++◌, ◌+◌, ◌⊎◌, ℕ, Bool, List, [], ◌∷◌, length, map, Option, None, Some, ap, append_assoc, arith, length-append, refl, subst, sym, inl, inr}
 use Rattle.std.specs.Global.{Global, Vec}
-use Rattle.std.specs.List.{AllByRecursion, filter_map}
 use Rattle.std.specs.Option.{option_map, option_to_list}
-use Rattle.std.specs.Prelude.{String}
+use Rattle.std.specs.Prelude.{String, codes, if◌then◌else◌}
 use Rattle.gm_syntax.specs.Document.{Line}
 use Rattle.gm_syntax.specs.Tokens.{Placed}
 use Rattle.gm_file_edit.specs.Edited.{edited}
-use Rattle.gm_file_edit.specs.Edits.{Edit as Operation, edit_in}
+use Rattle.gm_file_edit.specs.Edits.{edit_in}
 use Rattle.gm_file_edit.proofs.Twice.{second-operation}
 use Rattle.gomod_run.specs.Outcome.{Outcome, refused}
 use Rattle.gomod_words.specs.Usage.{texts_in}
 use Rattle.gomod_words.specs.declared.usage.Command.TheVariants.{Edit}
-use Rattle.gomod_run.specs.Editing.{EditEnds, applied, bad_main, edited_in_turn, edits_outcome, refusal_of, refusals_from}
+use Rattle.gomod_run.specs.Editing.{EditEnds, applied, bad_main, edits_outcome, refusal_of, refusals_from}
 use Rattle.gomod_run.specs.Reports.{edit_line}
 use Rattle.gomod_run.proofs.Sameness.{edit_once}
 use Rattle.gomod_laws.specs.EditTwiceLaws.{LastTwiceIsOnce, RefuseALater, RepeatsOne, TwiceIsOnceOrRefused, TwicePrintsAsOnce}
 use Rattle.gomod_laws.specs.Runs.{HasOutcome, HasPrinted}
-use Rattle.gomod_laws.proofs.EditListSteps.{is_edit}
-use Rattle.gomod_laws.proofs.FormattingProofs.{AreSoundLines, edited_sound, no_refusal, numbered, read_sound, texts_utf8}
+use Rattle.gomod_laws.proofs.EditTurns.{AreSoundLines, IsTaken, Refusal, first_taken, none_parts, numbered, read_sound, refusals_append, taken_edit, turned, turned_append, turned_first, turned_sound}
 
-abbrev Refusal : Type 0
-Refusal = ℕ × List ℕ
-
--- ---- the lines
-
--- one more operation before both
-first_same : (number : ℕ) (text : List ℕ) (once twice : List (List ℕ)) (rest : List Refusal) (lines : List (Line Placed)) (o : Option Operation) → IsUtf8 text → edit_in text ≡ o
-    → option_to_list (option_map (numbered number) (refusal_of o)) ++ rest ≡ [] → AreSoundLines lines
-    → ((ls : List (Line Placed)) → rest ≡ [] → AreSoundLines ls → edited_in_turn (filter_map edit_in twice) ls ≡ edited_in_turn (filter_map edit_in once) ls)
-    → edited_in_turn (filter_map edit_in (text ∷ twice)) lines ≡ edited_in_turn (filter_map edit_in (text ∷ once)) lines
-first_same number text once twice rest lines None utf8 written refused sound others = absurd cc
-first_same number text once twice rest lines (Some operation) utf8 written refused sound others =
-    let fit = no_refusal number operation rest refused in
-    let in_twice : filter_map edit_in (text ∷ twice) ≡ operation ∷ filter_map edit_in twice = rw written refl in
-    let in_once : filter_map edit_in (text ∷ once) ≡ operation ∷ filter_map edit_in once = rw written refl in
-    ap (λ (os : List Operation). edited_in_turn os lines) in_twice ∙ others (edited operation lines) fit.1 (edited_sound text operation lines utf8 written fit.0 sound)
-    ∙ sym (ap (λ (os : List Operation). edited_in_turn os lines) in_once)
-
--- the repeated operation
-here_same : (number : ℕ) (text : List ℕ) (later : List (List ℕ)) (lines : List (Line Placed)) (o : Option Operation) → edit_in text ≡ o → option_to_list (option_map (numbered number) (refusal_of o)) ++ [] ≡ [] → AreSoundLines lines
-    → edited_in_turn (filter_map edit_in (text ∷ text ∷ later)) lines ≡ edited_in_turn (filter_map edit_in (text ∷ later)) lines
-here_same number text later lines None written refused sound = absurd cc
-here_same number text later lines (Some operation) written refused sound =
-    let fit = no_refusal number operation [] refused in
-    let in_twice : filter_map edit_in (text ∷ text ∷ later) ≡ operation ∷ operation ∷ filter_map edit_in later = rw written refl in
-    let in_once : filter_map edit_in (text ∷ later) ≡ operation ∷ filter_map edit_in later = rw written refl in
-    ap (λ (os : List Operation). edited_in_turn os lines) in_twice ∙ ap (edited_in_turn (filter_map edit_in later)) (second-operation operation lines (is_edit text operation lines written fit.0 sound))
-    ∙ sym (ap (λ (os : List Operation). edited_in_turn os lines) in_once)
-
-turns_same : (number : ℕ) (earlier : List (List ℕ)) (text : List ℕ) (later : List (List ℕ)) (lines : List (Line Placed)) → AllByRecursion IsUtf8 (earlier ++ text ∷ later) → refusals_from number (earlier ++ text ∷ []) ≡ [] → AreSoundLines lines
-    → edited_in_turn (filter_map edit_in (earlier ++ text ∷ text ∷ later)) lines ≡ edited_in_turn (filter_map edit_in (earlier ++ text ∷ later)) lines
-turns_same number [] text later lines utf8 none sound = here_same number text later lines (edit_in text) refl none sound
-turns_same number (first ∷ earlier) text later lines utf8 none sound =
-    first_same number first (earlier ++ text ∷ later) (earlier ++ text ∷ text ∷ later) (refusals_from (number + 1) (earlier ++ text ∷ [])) lines (edit_in first) utf8.0 refl none sound
-    (λ ls rest now. turns_same (number + 1) earlier text later ls utf8.1 rest now)
+-- an operation that is given twice leaves what it leaves if it is given once
+turns_same : (earlier : List (List ℕ)) (text : List ℕ) (later : List (List ℕ)) (lines : List (Line Placed)) → refusals_from 1 (earlier ++ text ∷ []) ≡ [] → AreSoundLines lines
+    → turned (earlier ++ text ∷ text ∷ later) lines ≡ turned (earlier ++ text ∷ later) lines
+turns_same earlier text later lines none sound =
+    let parts = none_parts 1 earlier (text ∷ []) none in
+    let before : List (Line Placed) = turned earlier lines in
+    let taken : IsTaken text = (first_taken (1 + length earlier) text [] parts.1).0 in
+    turned_append earlier (text ∷ text ∷ later) lines ∙ turned_first text (text ∷ later) before taken ∙ turned_first text later (edited taken.operation before) taken
+    ∙ ap (turned later) (second-operation taken.operation before (taken_edit text before taken (turned_sound 1 earlier lines parts.0 sound)))
+    ∙ sym (turned_first text later before taken) ∙ sym (turned_append earlier (text ∷ later) lines)
 
 -- ---- the refusals
-
-pub refusals_append : (number : ℕ) (xs ys : List (List ℕ)) → refusals_from number (xs ++ ys) ≡ refusals_from number xs ++ refusals_from (number + length xs) ys
-refusals_append number [] ys = let same : number ≡ number + 0 = omega arith in ap (λ (n : ℕ). refusals_from n ys) same
-refusals_append number (x ∷ xs) ys =
-    let first : List Refusal = option_to_list (option_map (numbered number) (refusal_of (edit_in x))) in
-    let same : (number + 1) + length xs ≡ number + length (x ∷ xs) = omega arith in
-    ap (λ (rs : List Refusal). first ++ rs) (refusals_append (number + 1) xs ys ∙ ap (λ (n : ℕ). refusals_from (number + 1) xs ++ refusals_from n ys) same)
-    ∙ sym (append_assoc first (refusals_from (number + 1) xs) (refusals_from (number + length (x ∷ xs)) ys))
 
 -- the refusal of an operation with one more before it
 abbrev one_later : Refusal → Refusal
@@ -92,19 +57,7 @@ numbers_rise number [] refusal others is = absurd cc
 numbers_rise number (text ∷ texts) refusal others is =
     first_number number (refusal_of (edit_in text)) (refusals_from (number + 1) texts) refusal others is (λ rest. numbers_rise (number + 1) texts refusal others rest)
 
-pub nil_parts : (xs ys : List Refusal) → xs ++ ys ≡ [] → (xs ≡ []) × (ys ≡ [])
-nil_parts [] ys e = (refl, e)
-nil_parts (x ∷ xs) ys e = absurd cc
-
-not_refused : (number : ℕ) (kind : Option (List ℕ)) → option_to_list (option_map (numbered number) kind) ++ [] ≡ [] → kind ≡ None
-not_refused number None none = refl
-not_refused number (Some kind) none = absurd cc
-
 -- ---- the outcomes
-
--- the lines that operations leave
-abbrev turned : List (List ℕ) → List (Line Placed) → List (Line Placed)
-turned texts lines = edited_in_turn (filter_map edit_in texts) lines
 
 -- what `edit` does with operations that leave these lines
 abbrev outcome_of : List (List ℕ) → List (Line Placed) → Outcome
@@ -138,18 +91,18 @@ module _ (earlier : List (List ℕ)) (text : List ℕ) (later : List (List ℕ))
   -- none up to the repeated one is refused
   refused_later : refusals_from 1 up_to ≡ [] → refusals_from 1 given_twice ≡ map one_later (refusals_from next later)
   refused_later none =
-      let parts = nil_parts (refusals_from 1 earlier) (refusals_from (1 + length earlier) (text ∷ [])) (sym (refusals_append 1 earlier (text ∷ [])) ∙ none) in
-      let kind : refusal_of (edit_in text) ≡ None = not_refused (1 + length earlier) (refusal_of (edit_in text)) parts.1 in
+      let taken : IsTaken text = (first_taken (1 + length earlier) text [] (none_parts 1 earlier (text ∷ []) none).1).0 in
+      let kind : refusal_of (edit_in text) ≡ None = ap refusal_of taken.written ∙ ap (λ (fit : Bool). if fit then None else Some (codes "Misfit")) taken.fit in
       refused_twice ∙ ap (λ (rs : List Refusal). rs ++ refusals_from next (text ∷ later)) none
       ∙ ap (λ (k : Option (List ℕ)). option_to_list (option_map (numbered next) k) ++ refusals_from (next + 1) later) kind ∙ refusals_later next later
 
-  later_alike : (lines : List (Line Placed)) → AllByRecursion IsUtf8 given_once → AreSoundLines lines → refusals_from 1 up_to ≡ [] → AreAlike (outcome_of given_once lines) (outcome_of given_twice lines)
-  later_alike lines utf8 sound none =
+  later_alike : (lines : List (Line Placed)) → AreSoundLines lines → refusals_from 1 up_to ≡ [] → AreAlike (outcome_of given_once lines) (outcome_of given_twice lines)
+  later_alike lines sound none =
       by_refusals (refusals_from next later) refl (refused_once ∙ ap (λ (rs : List Refusal). rs ++ refusals_from next later) none) (refused_later none)
     where
       by_refusals : (found : List Refusal) → refusals_from next later ≡ found → refusals_from 1 given_once ≡ found → refusals_from 1 given_twice ≡ map one_later found → AreAlike (outcome_of given_once lines) (outcome_of given_twice lines)
       by_refusals [] is one two =
-          inl (ap (λ (rs : List Refusal). edits_outcome rs (turned given_once lines)) one ∙ ap (edits_outcome []) (sym (turns_same 1 earlier text later lines utf8 none sound))
+          inl (ap (λ (rs : List Refusal). edits_outcome rs (turned given_once lines)) one ∙ ap (edits_outcome []) (sym (turns_same earlier text later lines none sound))
           ∙ sym (ap (λ (rs : List Refusal). edits_outcome rs (turned given_twice lines)) two))
       by_refusals (refusal ∷ others) is one two =
           let up = numbers_rise next later refusal others is in
@@ -163,11 +116,11 @@ module _ (earlier : List (List ℕ)) (text : List ℕ) (later : List (List ℕ))
             },
           )
 
-  lines_alike : (lines : List (Line Placed)) → AllByRecursion IsUtf8 given_once → AreSoundLines lines → AreAlike (outcome_of given_once lines) (outcome_of given_twice lines)
-  lines_alike lines utf8 sound = by_refusals (refusals_from 1 up_to) refl
+  lines_alike : (lines : List (Line Placed)) → AreSoundLines lines → AreAlike (outcome_of given_once lines) (outcome_of given_twice lines)
+  lines_alike lines sound = by_refusals (refusals_from 1 up_to) refl
     where
       by_refusals : (found : List Refusal) → refusals_from 1 up_to ≡ found → AreAlike (outcome_of given_once lines) (outcome_of given_twice lines)
-      by_refusals [] none = later_alike lines utf8 sound none
+      by_refusals [] none = later_alike lines sound none
       by_refusals (refusal ∷ others) some =
           inl (ap (λ (rs : List Refusal). edits_outcome rs (turned given_once lines)) (refused_once ∙ ap (λ (rs : List Refusal). rs ++ refusals_from next later) some)
           ∙ sym (ap (λ (rs : List Refusal). edits_outcome rs (turned given_twice lines)) (refused_twice ∙ ap (λ (rs : List Refusal). rs ++ refusals_from next (text ∷ later)) some)))
@@ -178,12 +131,12 @@ module _ (earlier : List (List ℕ)) (text : List ℕ) (later : List (List ℕ))
     pub states : EditEnds given_twice file second
     pub alike : AreAlike first second
 
-  repeated : (file : List ℕ) (first : Outcome) → AllByRecursion IsUtf8 given_once → EditEnds given_once file first → IsRepeated file first
-  repeated file first utf8 (bad_main place malformed says) = record { second = first; states = bad_main place malformed says; alike = inl refl }
-  repeated file first utf8 (applied lines main says) = record {
+  repeated : (file : List ℕ) (first : Outcome) → EditEnds given_once file first → IsRepeated file first
+  repeated file first (bad_main place malformed says) = record { second = first; states = bad_main place malformed says; alike = inl refl }
+  repeated file first (applied lines main says) = record {
     second = outcome_of given_twice lines;
     states = applied lines main refl;
-    alike = subst (λ (o : Outcome). AreAlike o (outcome_of given_twice lines)) (sym says) (lines_alike lines utf8 (read_sound file lines main));
+    alike = subst (λ (o : Outcome). AreAlike o (outcome_of given_twice lines)) (sym says) (lines_alike lines (read_sound file lines main));
   }
 
 -- ---- the laws
@@ -191,8 +144,7 @@ module _ (earlier : List (List ℕ)) (text : List ℕ) (later : List (List ℕ))
 runs_alike : (once twice : Vec (String Global)) (file : List ℕ) (first second : Outcome) (repeats : RepeatsOne once twice) → HasOutcome (Edit once) file None [] first → HasOutcome (Edit twice) file None [] second
     → AreAlike repeats.earlier repeats.operation repeats.later first second
 runs_alike once twice file first second repeats one two =
-    let utf8 = subst (AllByRecursion IsUtf8) repeats.given_once (texts_utf8 once.items) in
-    let found = repeated repeats.earlier repeats.operation repeats.later file first utf8 (subst (λ (ts : List (List ℕ)). EditEnds ts file first) repeats.given_once one) in
+    let found = repeated repeats.earlier repeats.operation repeats.later file first (subst (λ (ts : List (List ℕ)). EditEnds ts file first) repeats.given_once one) in
     let states : EditEnds (texts_in twice) file found.second = subst (λ (ts : List (List ℕ)). EditEnds ts file found.second) (sym repeats.given_twice) found.states in
     let same : found.second ≡ second = edit_once (texts_in twice) file found.second second states two in
     subst (AreAlike repeats.earlier repeats.operation repeats.later first) same found.alike

@@ -13,11 +13,10 @@ use Rattle.gm_syntax.proofs.Readings.{reading_of}
 use Rattle.gm_syntax.proofs.Stable.{is_stable}
 use Rattle.gm_syntax.proofs.TextPieces.{lines_pieces}
 use Rattle.gm_file_edit.specs.NewWords.{unplaced}
-use Rattle.gomod_laws.proofs.FormattingUtf8.{IsUtf8Line, PlaceOf, layout_utf8, read_utf8}
 
 -- ---- the lines that a text reads as are a document
 
-read_lines : (at : PlaceOf) (texts : List (List ℕ)) (lines : List (Line Word)) → AllByRecursion HasNoLineFeed texts → ReadsLines at texts lines Whole → AreLines at lines
+read_lines : (at : _) (texts : List (List ℕ)) (lines : List (Line Word)) → AllByRecursion HasNoLineFeed texts → ReadsLines at texts lines Whole → AreLines at lines
 read_lines at [] [] are ends = ends
 read_lines at (text ∷ texts) [] are ends = absurd ends
 read_lines at [] (line ∷ lines) are reads = absurd reads
@@ -56,21 +55,19 @@ pub record IsLayoutRead (lines : List (Line Word)) : Type 0 where
   pub same_filled : filled_lines (plain_lines doc) ≡ filled_lines lines
   pub same_layout : layout (plain_lines doc) ≡ layout lines
 
-pub layout_read : (lines : List (Line Word)) → AreLines start lines → AllByRecursion IsUtf8Line lines → length (layout lines) ≤ 16777216 → IsLayoutRead lines
+pub layout_read : (lines : List (Line Word)) → AreLines start lines → IsUtf8 (layout lines) → length (layout lines) ≤ 16777216 → IsLayoutRead lines
 layout_read lines document utf8 short =
     let laid : List (Line Word) = layout_lines initial_state lines in
     let stable = is_stable lines document in
     let doc : List (Line Placed) = placeless laid in
     let back : plain_lines doc ≡ laid = plain_placeless laid in
-    let text : IsUtf8 (layout lines) = layout_utf8 lines utf8 in
     let reads : ReadsLines start (lines_of (layout lines)) (plain_lines doc) Whole = subst (λ (ls : List (Line Word)). ReadsLines start (lines_of (layout lines)) ls Whole) (sym back) stable.reads in
     record {
       doc = doc;
-      parsed = reading_parsed (layout lines) (Ok doc) ((short, text), reading_of (layout lines) (plain_lines doc) Whole reads);
+      parsed = reading_parsed (layout lines) (Ok doc) ((short, utf8), reading_of (layout lines) (plain_lines doc) Whole reads);
       same_filled = ap filled_lines back ∙ stable.same_lines;
       same_layout = ap layout back ∙ stable.same_bytes;
     }
 
-pub parsed_layout : (file : List ℕ) (doc : List (Line Placed)) → IsParsedAs file (Ok doc) → length (layout (plain_lines doc)) ≤ 16777216 → IsLayoutRead (plain_lines doc)
-parsed_layout file doc is short =
-    layout_read (plain_lines doc) (read_document file (plain_lines doc) is.1.reads) (read_utf8 start file (plain_lines doc) is.0.1 is.1.reads) short
+pub parsed_layout : (file : List ℕ) (doc : List (Line Placed)) → IsParsedAs file (Ok doc) → IsUtf8 (layout (plain_lines doc)) → length (layout (plain_lines doc)) ≤ 16777216 → IsLayoutRead (plain_lines doc)
+parsed_layout file doc is utf8 short = layout_read (plain_lines doc) (read_document file (plain_lines doc) is.1.reads) utf8 short

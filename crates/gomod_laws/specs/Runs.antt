@@ -1,6 +1,7 @@
 -- Runs of commands, as the laws speak of them.
 use Rattle.std.specs.Prelude.{◌≡◌, ℕ, List, [], Option, None, String}
 use Rattle.std.specs.Global.{Global, Vec}
+use Rattle.std.specs.Str.{IsUtf8}
 use Rattle.gm_store.specs.Asked.{Name, Reply}
 use Rattle.gomod_run.specs.Outcome.{Outcome, printed}
 use Rattle.gomod_words.specs.declared.usage.Command.{Command}
@@ -17,6 +18,6 @@ HasOutcome command main sums asked outcome = RunEnds command (given main sums (a
 abbrev pub HasPrinted : Outcome → Type 0
 HasPrinted outcome = outcome.status ≡ 0
 
--- `edit` with these operations prints this text of a file with these bytes
+-- `edit` with these operations prints this text, which is UTF-8, of a file with these bytes
 abbrev pub IsEdited : Vec (String Global) → List ℕ → List ℕ → Type 0
-IsEdited operations file text = HasOutcome (Edit operations) file None [] (printed text)
+IsEdited operations file text = HasOutcome (Edit operations) file None [] (printed text) × IsUtf8 text

@@ -1,5 +1,6 @@
 -- What sinks hold after texts were written to them.
 use Rattle.std.specs.Prelude.{◌≡◌, ◌⊎◌, ℕ, List}
+use Rattle.std.specs.Str.{IsUtf8}
 use Rattle.gm_store.specs.Taken.{SinkState}
 use Rattle.gomod_run.specs.Outcome.{OrNoMemory, Outcome}
 use Rattle.gomod_run.specs.Taking.{TookAll, TookPrefix}
@@ -19,6 +20,10 @@ abbrev pub IsWritten : Outcome → SinkState → SinkState → SinkState → Sin
 IsWritten outcome out out' report report' status =
     (WroteBoth outcome.text outcome.report out out' report report' × (status ≡ outcome.status))
     ⊎ (WrotePrefix outcome.text outcome.report out out' report report' × (status ≡ 3))
+
+-- such an outcome, whose text is UTF-8
+abbrev pub InUtf8 : (Outcome → Type 0) → Outcome → Type 0
+InUtf8 stated outcome = stated outcome × IsUtf8 outcome.text
 
 -- one of the stated outcomes was written in this way, or the report that memory ran out
 pub record EndsAsStated (stated : Outcome → Type 0) (out out' report report' : SinkState) (status : ℕ) : Type 0 where

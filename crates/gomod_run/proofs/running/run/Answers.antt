@@ -1,8 +1,9 @@
-use Rattle.std.proofs.Common.{ap}
+use Rattle.std.proofs.Common.{ap, inl, inr}
 use Rattle.std.specs.Option.{option_map}
 use Rattle.std.specs.String.{string_bytes}
 use Rattle.gomod_run.specs.Outcome.{printed, report_outcome}
 use Rattle.gomod_run.proofs.AllAsked.{held_written}
+use Rattle.std.proofs.lemmas.Str.{IsUtf8-nil, IsUtf8-string_bytes}
 use Rattle.gomod_run.proofs.WrittenTexts.{written_as}
 use Rattle.gomod_run.proofs.running.run.Goals as goal
 
@@ -13,7 +14,7 @@ returns-in-Ok-clause-ends g c =
     let report = g.R.Sink.state c.args.report.now in
     record {
       outcome = printed (string_bytes c.in-Ok.text);
-      as_stated = c.in-Ok.ensures.ends;
+      as_stated = elim c.in-Ok.ensures.ends [ inl stated ↦ inl (stated, IsUtf8-string_bytes c.in-Ok.text) | inr memory ↦ inr memory ];
       written = written_as (printed c.as_str.result.now) (printed (string_bytes c.in-Ok.text)) _ _ report report _
           (ap printed c.as_str.ensures.value) (c.print_text.ensures report);
     }
@@ -30,7 +31,7 @@ returns-in-Ok-clause-holds g c =
 pub returns-in-Err-clause-ends : goal.returns-in-Err-clause-ends
 returns-in-Err-clause-ends g c = record {
   outcome = report_outcome c.in-Err.told;
-  as_stated = c.in-Err.ensures.ends;
+  as_stated = elim c.in-Err.ensures.ends [ inl stated ↦ inl (stated, IsUtf8-nil) | inr memory ↦ inr memory ];
   written = c.write_report.ensures (g.O.Sink.state c.args.out.now);
 }
 
