@@ -2,7 +2,7 @@
 use Rattle.std.proofs.Common.{arith, ◌≡◌, ◌∙◌, ◌↔◌, ◌∷◌, zero, suc, Bool, true, false, not, List, [], Option, Some, None, IfOk, IsSome, Result, Ok, Err, Contains, ap, refl, subst, sym, inl, inr}
 use Rattle.std.specs.Prelude.{if◌then◌else◌}
 use Rattle.std.specs.Option.{option_map}
-use Rattle.std.proofs.lemmas.Bool.{false≢true}
+use Rattle.std.proofs.lemmas.Bool.{false≢true, not-true}
 use Rattle.std.proofs.lemmas.Option.{same_Some}
 use Rattle.gm_name.specs.ModuleVersion.{ModuleVersion}
 use Rattle.gm_file.specs.Fields.{Dependency}
@@ -77,10 +77,6 @@ has_file : (main : Main) (r : Option (Result Dependency Class)) (y : ModuleVersi
 has_file main None y c = absurd (omega (arith, c.1))
 has_file main (Some (Err class)) y c = absurd (omega (arith, c.1))
 has_file main (Some (Ok file)) y c = (file, refl, c)
-
-pruned_not : (b : Bool) → not b ≡ true → b ≡ false
-pruned_not true e = absurd (cc e)
-pruned_not false e = refl
 
 fault_is : (r : Option (Result Dependency Class)) (class : Class) → fault_in r ≡ Some class → r ≡ Some (Err class)
 fault_is None class e = absurd (cc e)
@@ -171,7 +167,7 @@ module _ (run : Run) (held : Held) (tells : HeldByAnswers run.sums run.answers h
   deep_from (graph.from_top {x} {y} t u c) =
       let f = has_file run.main (readings x) y c in
       from_top {x = x} f.0 t ((says_same x (Ok f.0)).1 f.1)
-      (pruned_not (is_pruned_by f.0.go) (sym (ap (λ (r : Option (Result Dependency Class)). is_unpruned_in (said_in r)) f.1) ∙ u)) f.2
+      (not-true (is_pruned_by f.0.go) (sym (ap (λ (r : Option (Result Dependency Class)). is_unpruned_in (said_in r)) f.1) ∙ u)) f.2
   deep_from (graph.from_deep {x} {y} d c) = from_deep {x = x} (deep_from d) ((requires_same x y).1 c)
 
   opened_to : (x : ModuleVersion) → IsOpened run x → graph.IsOpened run.main readings x
