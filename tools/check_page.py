@@ -346,8 +346,7 @@ def run(program, world, room):
     return words, (done.stdout, done.stderr, done.returncode)
 
 
-def main():
-    program, count, seed = sys.argv[1], int(sys.argv[2]), int(sys.argv[3])
+def compare(program, count, seed):
     unrefuted, differing, printed = dict.fromkeys(WRONG), 0, 0
     for number in range(seed, seed + count):
         world = World(number)
@@ -365,8 +364,16 @@ def main():
         print(f"check-page: no world refutes this misreading: {page.__name__}")
     print(f"{count} worlds, {printed} of them with a list, {differing} differ; "
           f"{len(WRONG) - len(unrefuted)} of {len(WRONG)} misreadings are refuted")
-    sys.exit(bool(differing or unrefuted or printed * 4 < count))
+    return int(differing > 0 or len(unrefuted) > 0 or printed * 4 < count)
+
+
+def main(*words):
+    if words in (("-h",), ("--help",)):
+        print(__doc__, end="")
+        return 0
+    program, count, seed = words
+    return compare(program, int(count), int(seed))
 
 
 if __name__ == "__main__":
-    main()
+    sys.exit(main(*sys.argv[1:]))
