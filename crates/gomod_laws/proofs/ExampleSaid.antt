@@ -1,13 +1,12 @@
 -- What modules say by one answer of the small world.
-use Rattle.std.proofs.Common.{◌≡◌, ◌∙◌, Option, Some, None, Result, Ok, Err, refl, sym}
+use Rattle.std.proofs.Common.{◌≡◌, ◌∙◌, Some, None, Result, Ok, Err, refl, sym}
 use Rattle.gm_name.specs.Path.{is_fetchable}
-use Rattle.gm_name.specs.ModuleVersion.{ModuleVersion}
 use Rattle.gm_file.specs.Fields.{Dependency}
 use Rattle.gm_store.specs.Asked.{absent}
 use Rattle.gm_graph.specs.declared.cache.class.Class.{Class}
 use Rattle.gm_graph.specs.declared.cache.class.Class.TheVariants.{Missing}
 use Rattle.gm_graph.specs.Reading.{readings_by}
-use Rattle.gm_graph.specs.Run.{Requires, Says, answered, faulty, unaskable}
+use Rattle.gm_graph.specs.Run.{Says, answered, faulty, unaskable}
 use Rattle.gm_graph.proofs.LawProofs.{modules_say_one_thing}
 use Rattle.gm_graph.proofs.RunReadings.{is_read, says_reads}
 use Rattle.gomod_laws.specs.ExampleWorld.{OneModuleSays, absent_run, held_of_absent, low_one, mid_two, world}

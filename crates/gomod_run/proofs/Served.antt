@@ -20,7 +20,7 @@ use Rattle.gomod_run.specs.Outcome.{OrNoMemory, Outcome, code_of, report_outcome
 use Rattle.gomod_run.specs.declared.reports.report.Report.{Report}
 use Rattle.gomod_run.specs.declared.reports.status.Status.{Status}
 use Rattle.gomod_run.specs.declared.inputs.Inputs.{Inputs}
-use Rattle.gomod_run.specs.Program.{IsInputServed, IsMainServed, IsServed, IsStoreRun, IsSumsServed, MayBeTold, untaken}
+use Rattle.gomod_run.specs.Program.{IsInputServed, IsMainServed, IsServed, IsStoreRun, IsSumsServed, IsVersionsServed, MayBeTold, untaken}
 use Rattle.gomod_run.specs.Reads.{AreBothRead, AreInputs, AreSumsInput, AreSumsUnread, HoldsInput, HoldsNothing, IsOneUnread, IsStoreFolder, IsUnreadInput, IsUnreadList, versions_path, with_proxy}
 use Rattle.gomod_run.specs.Runs.{RunEnds, run_between}
 use Rattle.gomod_run.specs.Written.{EndsAsStated, IsWritten}

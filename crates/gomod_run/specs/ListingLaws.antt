@@ -21,7 +21,7 @@ use Rattle.gm_graph.specs.Outcome.{AreEdges, AreRows}
 use Rattle.gomod_run.specs.declared.reports.status.Status.TheVariants.{Done}
 use Rattle.gomod_run.specs.ListingTexts.{chain_text, graph_text, list_text}
 use Rattle.gomod_run.specs.HeldFiles.{AllFilesAreValid}
-use Rattle.gomod_run.specs.Outcomes.{FilesReadAs, Given, ChainEnds, GraphEnds, ListEnds, PrintsRows, ShowsChain}
+use Rattle.gomod_run.specs.Outcomes.{Given, ChainEnds, GraphEnds, ListEnds, PrintsRows, ShowsChain}
 use Rattle.gomod_run.specs.Outcome.{Outcome, code_of, printed}
 
 -- ---- runs that are alike
