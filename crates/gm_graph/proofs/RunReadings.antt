@@ -202,26 +202,38 @@ module _ (run : Run) (held : Held) (tells : HeldByAnswers run.sums run.answers h
 
   pub faults_same : (faults : List Fault) → AreFaults run faults ↔ outcome.AreFaults run.main readings faults
   faults_same faults = (
-    (λ are. record { ascending = are.ascending; each = λ one. (
-      (λ c. (fault_same one.vertex one.class).0 ((are.each one).0 c)),
-      (λ f. (are.each one).1 ((fault_same one.vertex one.class).1 f)),
-    ) }),
-    (λ are. record { ascending = are.ascending; each = λ one. (
-      (λ c. (fault_same one.vertex one.class).1 ((are.each one).0 c)),
-      (λ f. (are.each one).1 ((fault_same one.vertex one.class).0 f)),
-    ) }),
+    (λ are. record {
+      ascending = are.ascending;
+      each = λ one. (
+        (λ c. (fault_same one.vertex one.class).0 ((are.each one).0 c)),
+        (λ f. (are.each one).1 ((fault_same one.vertex one.class).1 f)),
+      );
+    }),
+    (λ are. record {
+      ascending = are.ascending;
+      each = λ one. (
+        (λ c. (fault_same one.vertex one.class).1 ((are.each one).0 c)),
+        (λ f. (are.each one).1 ((fault_same one.vertex one.class).0 f)),
+      );
+    }),
   )
 
   pub edge_lists_same : (edges : List Edge) → AreEdges run edges ↔ outcome.AreEdges run.main readings edges
   edge_lists_same edges = (
-    (λ are. record { ascending = are.ascending; each = λ one. (
-      (λ c. (edges_same one.from one.to).0 ((are.each one).0 c)),
-      (λ e. (are.each one).1 ((edges_same one.from one.to).1 e)),
-    ) }),
-    (λ are. record { ascending = are.ascending; each = λ one. (
-      (λ c. (edges_same one.from one.to).1 ((are.each one).0 c)),
-      (λ e. (are.each one).1 ((edges_same one.from one.to).0 e)),
-    ) }),
+    (λ are. record {
+      ascending = are.ascending;
+      each = λ one. (
+        (λ c. (edges_same one.from one.to).0 ((are.each one).0 c)),
+        (λ e. (are.each one).1 ((edges_same one.from one.to).1 e)),
+      );
+    }),
+    (λ are. record {
+      ascending = are.ascending;
+      each = λ one. (
+        (λ c. (edges_same one.from one.to).1 ((are.each one).0 c)),
+        (λ e. (are.each one).1 ((edges_same one.from one.to).0 e)),
+      );
+    }),
   )
 
   pub rows_same : (rows : List Entry) → AreRows run rows ↔ outcome.AreRows run.main readings rows
@@ -232,10 +244,13 @@ module _ (run : Run) (held : Held) (tells : HeldByAnswers run.sums run.answers h
   )
 
   pub turns_from : (turns : List Turn) → loading.AreTurns run.main readings turns → AreTurns run turns
-  turns_from turns are = record { once = are.once; each = λ x d. (
-    (λ c. (turn_same x d).1 ((are.each x d).0 c)),
-    (λ t. (are.each x d).1 ((turn_same x d).0 t)),
-  ) }
+  turns_from turns are = record {
+    once = are.once;
+    each = λ x d. (
+      (λ c. (turn_same x d).1 ((are.each x d).0 c)),
+      (λ t. (are.each x d).1 ((turn_same x d).0 t)),
+    );
+  }
 
   -- ---- what is asked
 
@@ -334,16 +349,19 @@ pub loaded_held : (main : Main) (sums : Option Sums) (pairs : List (Name × Repl
 loaded_held main sums pairs loaded is =
     let (h, tells) = held_by (run_of main sums pairs) is.settled.read in
     let run = run_of main sums pairs in
-    let asked = asked_of run h tells (names_in pairs) is.settled in
-    (h, tells, record {
-      main_is = is.main_is;
-      faults = (faults_same run h tells loaded.faults).0 is.faults;
-      edges = (edge_lists_same run h tells loaded.edges).0 is.edges;
-      rows = (rows_same run h tells loaded.rows).0 is.rows;
-      answered = λ x opened askable. asked_answered pairs (file_of main x) ((asked.each (file_of main x)).1 (x, opened, refl, askable));
-      asked = asked;
-      few = few_of run h tells (names_in pairs) is.settled;
-    })
+    let asked = asked_of run h tells (names_in pairs) is.settled in (
+      h,
+      tells,
+      record {
+        main_is = is.main_is;
+        faults = (faults_same run h tells loaded.faults).0 is.faults;
+        edges = (edge_lists_same run h tells loaded.edges).0 is.edges;
+        rows = (rows_same run h tells loaded.rows).0 is.rows;
+        answered = λ x opened askable. asked_answered pairs (file_of main x) ((asked.each (file_of main x)).1 (x, opened, refl, askable));
+        asked = asked;
+        few = few_of run h tells (names_in pairs) is.settled;
+      },
+    )
 
 pub loaded_if : {E : Type 0} (main : Main) (sums : Option Sums) (pairs : List (Name × Reply)) (result : Result LoadedGraph E)
     → IfOk result (IsLoaded (run_of main sums pairs) (names_in pairs)) → IfOk result (λ loaded. loading.Told main sums pairs (IsLoadedBy main pairs loaded))

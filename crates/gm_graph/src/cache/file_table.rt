@@ -160,12 +160,7 @@ impl FileTable {
 
     /// Notes the place of the file of a name, as `place_of` finds it. The only refusal is `NoMemory`, after which no
     /// place was noted.
-    fn put(
-        &mut self,
-        name: &FileName,
-        number: u32,
-        place: OptionalPlace,
-    ) -> Result<(), NoMemory>
+    fn put(&mut self, name: &FileName, number: u32, place: OptionalPlace) -> Result<(), NoMemory>
         requires { IsPlace (length self.old.files.items) place }
         ensures puts { (modules : List ModuleVersion) → IsFileOf modules self.old number (name_of name.now)
             → OnOk result (NotesPlace modules self.old self.new (name_of name.now) place) }
