@@ -68,20 +68,20 @@ impl Log {
 /// A runtime whose files are in one real folder, whose standard input is that of a case, and whose command line has
 /// some words. All else that it can do is to allocate.
 #[derive(Clone, Copy)]
-pub(crate) struct CaseRuntime<'a> {
+pub(crate) struct CaseRuntime<'case, 'run> {
     /// The words of the command line after the program's name.
-    pub(crate) words: &'a [Vec<u8>],
+    pub(crate) words: &'run [Vec<u8>],
     /// The runtime that opens the real files.
     pub(crate) system: HostRuntime,
     /// The real folder.
-    pub(crate) folder: &'a str,
+    pub(crate) folder: &'case str,
     /// Standard input.
-    pub(crate) input: KnownInput<'a>,
+    pub(crate) input: KnownInput<'case>,
     /// Where each file that is opened is recorded, and each use of standard input.
-    pub(crate) log: &'a Log,
+    pub(crate) log: &'run Log,
 }
 
-impl Alloc for CaseRuntime<'_> {
+impl Alloc for CaseRuntime<'_, '_> {
     type A = Global;
 
     fn alloc(&self) -> Global {
@@ -89,7 +89,7 @@ impl Alloc for CaseRuntime<'_> {
     }
 }
 
-impl Words for CaseRuntime<'_> {
+impl Words for CaseRuntime<'_, '_> {
     ghost use Rattle.std.specs.Prelude.{Some, map};
 
     ghost given = { λ runtime. Some (map (λ word. word.items) runtime.words.now) };
@@ -114,21 +114,21 @@ fn copy_word(word: &[u8], room: &mut [u8]) -> Result<usize, FillError>
     Ok(word.len())
 }
 
-impl<'a> StandardInput for CaseRuntime<'a> {
+impl<'case> StandardInput for CaseRuntime<'case, '_> {
     ghost use Rattle.std.specs.Prelude.{◌≡◌, Some, false};
     ghost use Rattle.gm_store.specs.Openings.{opened};
 
-    type Reader = KnownInput<'a>;
+    type Reader = KnownInput<'case>;
 
     ghost may_take = { λ runtime opening. opening ≡ opened (Some runtime.input.left.now) false };
 
-    fn take_input(&self) -> KnownInput<'a> {
+    fn take_input(&self) -> KnownInput<'case> {
         self.log.takes_input.set(true);
         self.input
     }
 }
 
-impl FileSystem for CaseRuntime<'_> {
+impl FileSystem for CaseRuntime<'_, '_> {
     type File = File;
 
     ghost may_open = { λ _ _ _. Unit {0} };

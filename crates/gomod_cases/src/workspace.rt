@@ -90,11 +90,11 @@ impl<'a> Workspace<'a> {
     }
 
     /// Runs the program with these words, of which the first is its name.
-    fn outcome_of_words(
+    fn outcome_of_words<'run>(
         &self,
-        words: &[Vec<u8>],
+        words: &'run [Vec<u8>],
         room: Room,
-        log: &Log,
+        log: &'run Log,
     ) -> Result<Outcome, AllocError> {
         let (mut out, mut report) = room.sinks(self.alloc())?;
         let runtime = CaseRuntime {
