@@ -36,7 +36,7 @@ use Rattle.gomod_run.proofs.QueryParts.{LoadingEnd, Parts, are_read, is_broken, 
 use Rattle.gomod_laws.specs.ExampleWorld.{top_one}
 use Rattle.gomod_laws.specs.ExampleRuns.{BadSumIsRefused, EmptyIsRefused, HasNoOutcome, IsListedAlone, RequiredIsAsked, alone, low_name, main_requiring, requiring, run_of, run_with_bad_sum, top_name}
 use Rattle.gomod_laws.proofs.ExampleFiles.{empty_is_malformed, files_are_read}
-use Rattle.gomod_laws.proofs.ExampleWorlds.{fault_with, pairs_of, same_class, told_by}
+use Rattle.gomod_laws.proofs.ExampleWorlds.{fault_with, pairs_of, same_class}
 use Rattle.gomod_laws.proofs.KnownVersions.{first_byte}
 
 -- nothing is held
@@ -297,6 +297,10 @@ asked_named name there = elim (member_cases top_name name [] there) [
   | inl same ↦ subst IsNamed same (top_one, inl is_top, refl, top_askable)
   | inr none ↦ absurd (no_member name none)
 ]
+
+told_by : (name : Name) (is : Bool) → IsTold None name (if is then Some absent else None) (if is then Some (Err Missing) else None)
+told_by name true = refl
+told_by name false = tt
 
 missing_known : AreKnown main None (answers told []) missing
 missing_known = record {

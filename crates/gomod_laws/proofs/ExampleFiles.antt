@@ -21,7 +21,6 @@ use Rattle.gm_syntax.specs.Words.{HoldsNoComment, IsBare, Word}
 use Rattle.gm_syntax.proofs.Changes.{entry_stands}
 use Rattle.gm_syntax.proofs.OneText.{reading_parsed}
 use Rattle.gm_syntax.proofs.Readings.{reading_of}
-use Rattle.gm_syntax.proofs.Stable.{is_stable}
 use Rattle.gm_file.specs.declared.fault.DirectiveKind.TheVariants.{NoModule}
 use Rattle.gm_file.specs.Directives.{Lax, Strict, directive_of, item_at}
 use Rattle.gm_file.specs.Faults.{directive_kinds, fault_of, faults}
@@ -35,7 +34,7 @@ use Rattle.gomod_laws.specs.ExampleWorld.{saying, top_one}
 use Rattle.gomod_laws.proofs.Contradicted.{m_is_path}
 use Rattle.gomod_laws.proofs.FormattingRead.{placeless}
 use Rattle.gomod_laws.proofs.KnownVersions.{Parts, one_zero_is, one_zero_parts}
-use Rattle.gomod_laws.proofs.ExampleLines.{ascii, bare, doc, lines, no_arrow, no_comment_before, parsed, word_bytes, words}
+use Rattle.gomod_laws.proofs.ExampleLines.{ascii, bare, doc, laid_parsed, lines, no_arrow, no_comment_before, parsed, word_bytes, words}
 
 -- ---- words
 
@@ -47,7 +46,7 @@ all_below [] all = tt
 all_below (b ∷ text) all = (byte_below b (first_so _ _ all), all_below text (second_so _ _ all))
 
 -- a text of these bytes is a bare word
-word_is : (text : List ℕ) → text ≢ [] → list_all is_byte_of_path text ≡ true → list_all is_path_byte text ≡ true → IsWord (bare text)
+pub word_is : (text : List ℕ) → text ≢ [] → list_all is_byte_of_path text ≡ true → list_all is_path_byte text ≡ true → IsWord (bare text)
 word_is text some all path = ((text, (is_bare, refl)), lacks 10 is_path_byte refl text path)
   where
     is_bare : IsBare text
@@ -98,34 +97,28 @@ requiring_utf8 : IsUtf8 requiring
 requiring_utf8 = IsUtf8-from_ascii requiring (ascii requiring (all_below requiring refl))
 
 requiring_parsed : IsParsedAs requiring (Ok (placeless requiring_lines))
-requiring_parsed =
-    let laid = (is_stable requiring_lines document).reads in
-    let same : ReadsLines start (lines_of (layout requiring_lines)) requiring_lines Whole =
-    subst (λ (ls : List (Line Word)). ReadsLines start (lines_of (layout requiring_lines)) ls Whole) laid_is laid in
-    let reads : ReadsLines start (lines_of requiring) requiring_lines Whole =
-    subst (λ (t : List ℕ). ReadsLines start (lines_of t) requiring_lines Whole) layout_is same in
-    reading_parsed requiring (Ok (placeless requiring_lines)) ((omega arith, requiring_utf8), reading_of requiring requiring_lines Whole reads)
+requiring_parsed = laid_parsed requiring requiring_lines document layout_is laid_is (omega arith) requiring_utf8
 
 -- ---- names
 
 m_path : is_path (codes "m") ≡ true
 m_path = (path-tested (codes "m")).1 m_is_path
 
-top_path : is_path (codes "top.org") ≡ true
+pub top_path : is_path (codes "top.org") ≡ true
 unfolding is_path is_element is_dotted_name has_outer_dot is_reserved stem is_shortened
 top_path = refl
 
-one_zero_version : is_version (codes "v1.0.0") ≡ true
+pub one_zero_version : is_version (codes "v1.0.0") ≡ true
 one_zero_version = (version-tested (codes "v1.0.0")).1 one_zero_is
 
 -- a version of these parts fits a path without a suffix
-fits_plain : (parts : Parts) → parts ≡ (1, 0, 0, [], [])
+pub fits_plain : (parts : Parts) (minor : ℕ) → parts ≡ (1, minor, 0, [], [])
     → (if nat_lt parts.0 2 then length parts.4 == 0 else bytes_eq parts.4 (codes "incompatible")) ≡ true
-fits_plain parts is = rw is refl
+fits_plain parts minor is = rw is refl
 
 one_zero_fits_top : does_fit (codes "top.org") (codes "v1.0.0") ≡ true
 unfolding does_fit
-one_zero_fits_top = fits_plain (parts_in (codes "v1.0.0")) one_zero_parts
+one_zero_fits_top = fits_plain (parts_in (codes "v1.0.0")) 0 one_zero_parts
 
 -- ---- what the files say
 

@@ -13,6 +13,7 @@ use Rattle.gm_syntax.specs.declared.word.Kind.TheVariants.{Bare}
 use Rattle.gm_syntax.specs.Bytes.{is_bad, is_blank, is_bracket_or_comma, is_quote, is_word_byte}
 use Rattle.gm_syntax.specs.Document.{Line, Entry, AreLines, ReadsLines, Whole, start}
 use Rattle.gm_syntax.specs.Layout.{initial_state, layout, layout_from, layout_lines}
+use Rattle.gm_syntax.specs.LineViews.{plain_lines}
 use Rattle.gm_syntax.specs.Lines.{lines_of}
 use Rattle.gm_syntax.specs.Parsed.{IsParsedAs}
 use Rattle.gm_syntax.specs.Spelling.{IsWord}
@@ -24,7 +25,7 @@ use Rattle.gm_syntax.proofs.Readings.{reading_of}
 use Rattle.gm_syntax.proofs.Stable.{is_stable}
 use Rattle.gomod_run.specs.Outcomes.{longest}
 use Rattle.gomod_run.proofs.ListLines.{Lacks, lacks, path_has_no_feed}
-use Rattle.gomod_laws.proofs.FormattingRead.{placeless}
+use Rattle.gomod_laws.proofs.FormattingRead.{placeless, plain_placeless}
 
 -- ---- a path is a bare word
 
@@ -171,9 +172,15 @@ line_utf8 path is =
 abbrev pub doc : List ℕ → List (Line Placed)
 doc path = placeless (lines path)
 
+-- lines are what their text is read as, if they are laid out as it
+pub laid_parsed : (text : List ℕ) (ls : List (Line Word)) → AreLines start ls → layout ls ≡ text → layout_lines initial_state ls ≡ ls
+    → length text ≤ longest → IsUtf8 text → IsParsedAs text (Ok (placeless ls))
+laid_parsed text ls are laid same short utf8 =
+    let stable = (is_stable ls are).reads in
+    let laid_out : ReadsLines start (lines_of (layout ls)) ls Whole = subst (λ (others : List (Line Word)). ReadsLines start (lines_of (layout ls)) others Whole) same stable in
+    let plain : ReadsLines start (lines_of text) ls Whole = subst (λ (t : List ℕ). ReadsLines start (lines_of t) ls Whole) laid laid_out in
+    let reads : ReadsLines start (lines_of text) (plain_lines (placeless ls)) Whole = subst (λ (others : List (Line Word)). ReadsLines start (lines_of text) others Whole) (sym (plain_placeless ls)) plain in
+    reading_parsed text (Ok (placeless ls)) ((short, utf8), reading_of text (plain_lines (placeless ls)) Whole reads)
+
 pub parsed : (path : List ℕ) → IsPath path → length (module_line path) ≤ longest → IsParsedAs (module_line path) (Ok (doc path))
-parsed path is short =
-    let laid = (is_stable (lines path) (document path is)).reads in
-    let same : ReadsLines start (lines_of (layout (lines path))) (lines path) Whole = subst (λ (ls : List (Line Word)). ReadsLines start (lines_of (layout (lines path))) ls Whole) (laid_is path) laid in
-    let reads : ReadsLines start (lines_of (module_line path)) (lines path) Whole = subst (λ (t : List ℕ). ReadsLines start (lines_of t) (lines path) Whole) (layout_is path) same in
-    reading_parsed (module_line path) (Ok (doc path)) ((short, line_utf8 path is), reading_of (module_line path) (lines path) Whole reads)
+parsed path is short = laid_parsed (module_line path) (lines path) (document path is) (layout_is path) (laid_is path) short (line_utf8 path is)

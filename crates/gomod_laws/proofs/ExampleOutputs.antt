@@ -1,5 +1,5 @@
 -- What becomes of small outputs, and of files that are read.
-use Rattle.std.proofs.Common.{rules, ◌≡◌, ◌⊎◌, ◌∙◌, ◌∷◌, ◌<◌, ℕ, Bool, List, [], Option, None, Some, Result, Ok, Err, ap, arith, codes, false, inl, inr, length, min, refl, subst, sym, take, take_all, true}
+use Rattle.std.proofs.Common.{rules, ◌≡◌, ◌⊎◌, ◌∙◌, ◌∷◌, ◌<◌, ℕ, Bool, List, [], Option, None, Some, Result, Ok, Err, ap, arith, codes, drop, false, inl, inr, length, min, refl, subst, sym, take, take_all, true}
 use Rattle.std.proofs.lemmas.List.{length-take}
 use Rattle.std.specs.Global.{Vec}
 use Rattle.std.proofs.lemmas.Str.{IsUtf8-from_ascii, is_utf8-from_IsUtf8}
@@ -20,7 +20,8 @@ use Rattle.gomod_words.specs.Usage.{unreadable_text, version_line}
 use Rattle.gomod_run.specs.Written.{EndsAsStated, IsWritten}
 use Rattle.gomod_laws.proofs.ExampleFiles.{all_below}
 use Rattle.gomod_laws.proofs.ExampleLines.{ascii}
-use Rattle.gomod_laws.specs.ExampleOutputs.{EndIsStated, EndsBy, FileIsRead, InputIsHeld, InputIsUnread, PrintsText, WordsAreGiven, empty, version_flag, other, path, taken, text, unreadable, with_bad_line, with_no_memory, with_other, with_text}
+use Rattle.gomod_laws.proofs.KnownVersions.{first_byte}
+use Rattle.gomod_laws.specs.ExampleOutputs.{EndIsStated, EndsBy, FileIsRead, InputIsHeld, InputIsUnread, PrintsText, WordsAreGiven, also_unreadable, empty, version_flag, other, path, taken, text, unreadable, with_bad_line, with_no_memory, with_other, with_text}
 
 -- ---- a run ends
 
@@ -177,6 +178,13 @@ not_passed_over ends =
 unreadable_shown : IsOutcomeUnless anything any_input (unreadable ∷ version_flag ∷ []) (first_unreadable (unreadable ∷ version_flag ∷ [])) (usage_error (unreadable_text unreadable))
 unreadable_shown = rw (byte_unreadable (version_flag ∷ [])) refl
 
+-- their reports differ in a digit of the byte
+not_last : ¬ (EndsBy (unreadable ∷ also_unreadable ∷ []) (usage_error (unreadable_text also_unreadable)))
+unfolding lib.Utf8.encode
+not_last ends =
+    let same = shown_status (unreadable ∷ also_unreadable ∷ []) unreadable (usage_error (unreadable_text also_unreadable)) (byte_unreadable (also_unreadable ∷ [])) ends in
+    let digit : 101 ≡ 102 = first_byte 101 102 _ _ (ap (λ (o : Outcome). drop 20 o.report) same) in omega (arith, digit)
+
 pub words_are_given : WordsAreGiven
 words_are_given = record {
   version = version_ends;
@@ -184,4 +192,5 @@ words_are_given = record {
   made_up = not_made_up;
   shown = (unreadable ∷ version_flag ∷ [], refl, unreadable_shown);
   passed_over = not_passed_over;
+  not_last = not_last;
 }

@@ -1,6 +1,6 @@
 -- What the definitions of a run's outcome say of the example world.
-use Rattle.std.proofs.Common.{◌≡◌, ◌∙◌, ◌∷◌, ◌⊎◌, ℕ, zero, suc, Bool, true, false, List, [], Option, Some, None, Result, Ok, Err, Contains, ap, ap₂, arith, codes, inl, inr, length, refl, subst, sym}
-use Rattle.std.specs.Prelude.{AllPairs, if◌then◌else◌}
+use Rattle.std.proofs.Common.{◌≡◌, ◌∙◌, ◌∷◌, ◌⊎◌, ℕ, zero, suc, true, false, List, [], Some, None, Ok, Err, Contains, ap, ap₂, arith, codes, inl, inr, length, refl, subst, sym}
+use Rattle.std.specs.Prelude.{AllPairs}
 use Rattle.std.specs.List.{All, AllByRecursion}
 use Rattle.std.specs.Ordering.{is_gt}
 use Rattle.std.specs.declared.cmp.Ordering.TheVariants.{Less}
@@ -12,8 +12,8 @@ use Rattle.gm_name.specs.VersionOrder.{version_total}
 use Rattle.gm_name.specs.ModuleVersion.{ModuleVersion, pair_cmp}
 use Rattle.gm_file.specs.Directives.{Folder}
 use Rattle.gm_file.specs.Fields.{Dependency}
-use Rattle.gm_store.specs.Asked.{Name, absent, folder_file, same_name}
-use Rattle.gm_graph.specs.Reading.{IsTold, Readings, is_unpruned, readings_by, vertex_fault, vertex_requirements}
+use Rattle.gm_file.specs.Main.{is_pruned_by}
+use Rattle.gm_store.specs.Asked.{Reply, absent, bytes}
 use Rattle.gm_graph.specs.declared.cache.class.Class.{Class}
 use Rattle.gm_graph.specs.declared.cache.class.Class.TheVariants.{Missing}
 use Rattle.gm_graph_select.specs.declared.step.Edge.{Edge}
@@ -23,12 +23,12 @@ use Rattle.gm_graph_select.specs.BuildList.{Entry, HasEntryFor, IsSelected, main
 use Rattle.gm_graph_select.specs.Graph.{IsEdgeEnd, edge, edge_cmp}
 use Rattle.gm_graph_select.proofs.Ascending.{member_cases, member_head, member_tail, no_member}
 use Rattle.gm_graph_select.proofs.Lawful.{same_build_lists}
-use Rattle.gm_graph.specs.Graph.{IsDeep, IsEdge, IsOpened, IsTop, from_deep, from_main, from_top}
-use Rattle.gm_graph.specs.Outcome.{AreEdges, AreRows}
+use Rattle.gm_graph.specs.Run.{AreEdges, AreRows, IsDeep, IsEdge, IsFault, IsOpened, IsTop, Requires, Run, Says, from_deep, from_main, from_top, run_of}
 use Rattle.gm_graph.specs.declared.fault.Fault.{Fault}
 use Rattle.gomod_run.specs.Outcome.{printed}
 use Rattle.gomod_run.specs.ListingTexts.{limited, list_text}
-use Rattle.gomod_laws.specs.ExampleWorld.{AnswersTell, FaultsAreClassed, FilesHaveNames, FourEdgesLead, ListIsPrinted, OneFaultIsReported, OnlyListIsPrinted, PrunedFrom17, ReplacementsApply, RequirementsAreLeft, RowsAreFour, ThreeAreOpened, all_as_mid, all_there, edges, fault_of_mid, folder_requiring, folder_says, held_with, low_one, low_two, mid_one, mid_two, one_missing, opened_three, rows, top_one, unpruned_world, world}
+use Rattle.gomod_laws.specs.ExampleWorld.{FilesHaveNames, FourEdgesLead, ListIsPrinted, OneFaultIsReported, OnlyListIsPrinted, PrunedFrom17, ReplacementsApply, RowsAreFour, ThreeAreOpened, all_idle, all_there, all_unpruned, answers_with, edges, fault_of_mid, folder_requiring, folder_says, folder_text, low_one, low_two, mid_file, mid_one, mid_text, mid_two, one_missing, opened_three, rows, top_file, top_one, world}
+use Rattle.gomod_laws.proofs.ExampleSaid.{fault_is, file_is, folder_is_missing, folder_says_mid, folder_says_so, has_no_fault, mid_requires, mid_says, mid_says_idle, mid_says_unpruned, requirements_are_left, top_requires, top_says}
 use Rattle.gomod_laws.proofs.KnownVersions.{first_byte, not_above_itself, one_one_is_above, one_zero_is_below, versions_differ}
 
 -- ---- what computes
@@ -37,17 +37,8 @@ pub files_have_names : FilesHaveNames
 unfolding is_fetchable
 files_have_names = record { own = refl; replaced = refl; askable = refl; folder_askable = refl; not_askable = refl }
 
-pub faults_are_classed : FaultsAreClassed
-unfolding is_fetchable
-faults_are_classed = record { folder = refl; missing = refl; own = refl; wrong = refl; unfetchable = refl; unknown = refl }
-
-pub requirements_are_left : RequirementsAreLeft
-unfolding is_fetchable
-requirements_are_left = record { top = refl; mid = refl; folder = refl; faulty = refl; unknown = refl }
-
 pub pruned_from_17 : PrunedFrom17
-unfolding is_fetchable
-pruned_from_17 = record { before = refl; from = refl; later = refl; top = refl; mid = refl; faulty = refl }
+pruned_from_17 = record { before = refl; from = refl; later = refl; top = refl; mid = refl }
 
 pub replacements_apply : ReplacementsApply
 unfolding is_fetchable
@@ -66,29 +57,6 @@ replacements_apply = record {
   row = refl;
 }
 
--- ---- what answers tell
-
-pub told_by : (name : Name) (is : Bool) → IsTold None name (if is then Some absent else None) (if is then Some (Err Missing) else None)
-told_by name true = refl
-told_by name false = tt
-
-told_only : (name : Name) (is : Bool) (said : Option (Result Dependency Class)) → IsTold None name (if is then Some absent else None) said
-    → said ≡ (if is then Some (Err Missing) else None)
-told_only name true None told = absurd told
-told_only name true (Some reading) told = ap (λ (one : Result Dependency Class). Some one) told
-told_only name false None told = refl
-told_only name false (Some reading) told = absurd told
-
-pub answers_tell : AnswersTell
-answers_tell = record {
-  tells = λ name. told_by name (same_name name (folder_file (codes "./mid")));
-  only = λ held told name. told_only name (same_name name (folder_file (codes "./mid"))) (held name) (told name);
-  long = λ sums reading. (λ told. told, λ told. told);
-  unlisted = refl;
-  differs = refl;
-  good = refl;
-}
-
 -- ---- pairs of a list that is written out
 
 all_of : {X : Type 0} (P : X → Type 0) (xs : List X) → AllByRecursion P xs → All P xs
@@ -104,9 +72,9 @@ pub pairs_of : {X : Type 0} (R : X → X → Type 0) (xs : List X) → Pairs R x
 pairs_of R [] h = λ i j d lt below. absurd (omega (arith, below))
 pairs_of R (x ∷ xs) h = AllPairs-cons R x xs (all_of (R x) xs h.0) (pairs_of R xs h.1)
 
--- ---- what is opened, whatever is held of the folder's file, if the module has no requirements by it
+-- ---- what is opened, whatever is answered of the folder's file, if the module requires nothing by it
 
-top_cases : (x : ModuleVersion) → IsTop world x → (x ≡ top_one) ⊎ (x ≡ mid_one)
+top_cases : (x : ModuleVersion) → IsTop all_there x → (x ≡ top_one) ⊎ (x ≡ mid_one)
 top_cases x there = elim (member_cases top_one x (mid_one ∷ []) there) [
   | inl same ↦ inl (sym same)
   | inr later ↦ elim (member_cases mid_one x [] later) [
@@ -115,55 +83,37 @@ top_cases x there = elim (member_cases top_one x (mid_one ∷ []) there) [
   ]
 ]
 
-top_is_top : IsTop world top_one
+top_is_top : IsTop all_there top_one
 top_is_top = member_head top_one (mid_one ∷ [])
 
-mid_is_top : IsTop world mid_one
+mid_is_top : IsTop all_there mid_one
 mid_is_top = member_tail top_one mid_one (mid_one ∷ []) (member_head mid_one [])
 
-module _ (folder : Result Dependency Class) (none : vertex_requirements world (readings_by world (held_with folder)) mid_two ≡ []) where
-  abbrev says : Readings
-  says = readings_by world (held_with folder)
+module _ (folder : Reply) (none : (y : ModuleVersion) → Requires (run_of world None (answers_with folder)) mid_two y → ⊥) where
+  abbrev run : Run
+  run = run_of world None (answers_with folder)
 
-  top_requires : vertex_requirements world says top_one ≡ mid_two ∷ []
-  unfolding is_fetchable
-  top_requires = refl
+  -- what a module requires that is this one
+  required_by : (x y z : ModuleVersion) → x ≡ z → Requires run x y → Requires run z y
+  required_by x y z is requires = subst (λ (m : ModuleVersion). Requires run m y) is requires
 
-  mid_requires : vertex_requirements world says mid_one ≡ low_one ∷ []
-  unfolding is_fetchable
-  mid_requires = refl
+  mid_is_pruned : (x : ModuleVersion) (file : Dependency) → x ≡ mid_one → Says run x (Ok file) → is_pruned_by file.go ≡ true
+  mid_is_pruned x file is says =
+      let own : Says run mid_one (Ok file) = subst (λ (m : ModuleVersion). Says run m (Ok file)) is says in
+      ap (λ (f : Dependency). is_pruned_by f.go) (file_is run mid_one mid_file file (mid_says folder) own)
 
-  top_is_unpruned : is_unpruned says top_one ≡ true
-  unfolding is_fetchable
-  top_is_unpruned = refl
-
-  mid_is_pruned : is_unpruned says mid_one ≡ false
-  unfolding is_fetchable
-  mid_is_pruned = refl
-
-  -- the requirement of a module that has one
-  only_in : (x y z : ModuleVersion) → vertex_requirements world says x ≡ z ∷ [] → Contains (vertex_requirements world says x) y → y ≡ z
-  only_in x y z are there = elim (member_cases z y [] (subst (λ (ys : List ModuleVersion). Contains ys y) are there)) [
-    | inl same ↦ sym same
-    | inr last ↦ absurd (no_member y last)
-  ]
-
-  none_in : (x y : ModuleVersion) → x ≡ mid_two → Contains (vertex_requirements world says x) y → ⊥
-  none_in x y is there = no_member y (subst (λ (ys : List ModuleVersion). Contains ys y) (ap (vertex_requirements world says) is ∙ none) there)
-
-  deep_is : (x : ModuleVersion) → IsDeep world says x → x ≡ mid_two
+  deep_is : (x : ModuleVersion) → IsDeep run x → x ≡ mid_two
   deep_is x (from_main unpruned top) = absurd (false≢true (sym unpruned))
-  deep_is y (from_top {x = x} top unpruned there) = elim (top_cases x top) [
-    | inl is ↦ only_in x y mid_two (ap (vertex_requirements world says) is ∙ top_requires) there
-    | inr is ↦ absurd (false≢true (sym mid_is_pruned ∙ ap (is_unpruned says) (sym is) ∙ unpruned))
+  deep_is y (from_top {x = x} file top says unpruned there) = elim (top_cases x top) [
+    | inl is ↦ (top_requires folder y).0 (required_by x y top_one is (file, says, there))
+    | inr is ↦ absurd (false≢true (sym unpruned ∙ mid_is_pruned x file is says))
   ]
-  deep_is y (from_deep {x = x} deep there) = absurd (none_in x y (deep_is x deep) there)
+  deep_is y (from_deep {x = x} deep requires) = absurd (none y (required_by x y mid_two (deep_is x deep) requires))
 
-  mid_is_deep : IsDeep world says mid_two
-  mid_is_deep = from_top {x = top_one} top_is_top top_is_unpruned
-      (subst (λ (ys : List ModuleVersion). Contains ys mid_two) (sym top_requires) (member_head mid_two []))
+  mid_is_deep : IsDeep run mid_two
+  mid_is_deep = from_top {x = top_one} top_file top_is_top (top_says folder) refl (member_head mid_two [])
 
-  opened_cases : (x : ModuleVersion) → IsOpened world says x → (x ≡ top_one) ⊎ ((x ≡ mid_one) ⊎ (x ≡ mid_two))
+  opened_cases : (x : ModuleVersion) → IsOpened run x → (x ≡ top_one) ⊎ ((x ≡ mid_one) ⊎ (x ≡ mid_two))
   opened_cases x (inl top) = elim (top_cases x top) [
     | inl is ↦ inl is
     | inr is ↦ inr (inl is)
@@ -172,22 +122,22 @@ module _ (folder : Result Dependency Class) (none : vertex_requirements world (r
 
   -- ---- edges
 
-  edge_cases : (x y : ModuleVersion) → IsOpened world says x → Contains (vertex_requirements world says x) y
+  edge_cases : (x y : ModuleVersion) → IsOpened run x → Requires run x y
       → ((x ≡ top_one) × (y ≡ mid_two)) ⊎ ((x ≡ mid_one) × (y ≡ low_one))
-  edge_cases x y opens there = elim (opened_cases x opens) [
-    | inl is ↦ inl (is, only_in x y mid_two (ap (vertex_requirements world says) is ∙ top_requires) there)
-    | inr (inl is) ↦ inr (is, only_in x y low_one (ap (vertex_requirements world says) is ∙ mid_requires) there)
-    | inr (inr is) ↦ absurd (none_in x y is there)
+  edge_cases x y opens requires = elim (opened_cases x opens) [
+    | inl is ↦ inl (is, (top_requires folder y).0 (required_by x y top_one is requires))
+    | inr (inl is) ↦ inr (is, (mid_requires folder y).0 (required_by x y mid_one is requires))
+    | inr (inr is) ↦ absurd (none y (required_by x y mid_two is requires))
   ]
 
-  top_to_mid : IsEdge world says (Of top_one) mid_two
-  top_to_mid = (inl top_is_top, subst (λ (ys : List ModuleVersion). Contains ys mid_two) (sym top_requires) (member_head mid_two []))
+  top_to_mid : IsEdge run (Of top_one) mid_two
+  top_to_mid = (inl top_is_top, (top_requires folder mid_two).1 refl)
 
-  mid_to_low : IsEdge world says (Of mid_one) low_one
-  mid_to_low = (inl mid_is_top, subst (λ (ys : List ModuleVersion). Contains ys low_one) (sym mid_requires) (member_head low_one []))
+  mid_to_low : IsEdge run (Of mid_one) low_one
+  mid_to_low = (inl mid_is_top, (mid_requires folder low_one).1 refl)
 
-abbrev there_file : Result Dependency Class
-there_file = Ok folder_says
+abbrev there_file : Reply
+there_file = bytes folder_text
 
 -- ---- opened
 
@@ -210,7 +160,7 @@ low_is_mid version other e =
 mids_differ : mid_one ≡ mid_two → ⊥
 mids_differ e = versions_differ (ap (λ (x : ModuleVersion). x.1) e)
 
-opened_member : (x : ModuleVersion) → IsOpened world all_there x → Contains opened_three x
+opened_member : (x : ModuleVersion) → IsOpened all_there x → Contains opened_three x
 opened_member x opens = elim (opened_cases there_file requirements_are_left.folder x opens) [
   | inl is ↦ subst (Contains opened_three) (sym is) (member_head top_one (mid_one ∷ mid_two ∷ []))
   | inr (inl is) ↦ subst (Contains opened_three) (sym is) (member_tail top_one mid_one (mid_one ∷ mid_two ∷ []) (member_head mid_one (mid_two ∷ [])))
@@ -218,13 +168,13 @@ opened_member x opens = elim (opened_cases there_file requirements_are_left.fold
       (member_tail top_one mid_two (mid_one ∷ mid_two ∷ []) (member_tail mid_one mid_two (mid_two ∷ []) (member_head mid_two [])))
 ]
 
-member_opened : (x : ModuleVersion) → Contains opened_three x → IsOpened world all_there x
+member_opened : (x : ModuleVersion) → Contains opened_three x → IsOpened all_there x
 member_opened x there = elim (member_cases top_one x (mid_one ∷ mid_two ∷ []) there) [
-  | inl same ↦ subst (IsOpened world all_there) same (inl top_is_top)
+  | inl same ↦ subst (IsOpened all_there) same (inl top_is_top)
   | inr later ↦ elim (member_cases mid_one x (mid_two ∷ []) later) [
-    | inl same ↦ subst (IsOpened world all_there) same (inl mid_is_top)
+    | inl same ↦ subst (IsOpened all_there) same (inl mid_is_top)
     | inr last ↦ elim (member_cases mid_two x [] last) [
-      | inl same ↦ subst (IsOpened world all_there) same (inr (mid_is_deep there_file requirements_are_left.folder))
+      | inl same ↦ subst (IsOpened all_there) same (inr (mid_is_deep there_file requirements_are_left.folder))
       | inr none ↦ absurd (no_member x none)
     ]
   ]
@@ -232,16 +182,16 @@ member_opened x there = elim (member_cases top_one x (mid_one ∷ mid_two ∷ []
 
 -- ---- what is below a deep module, and below an unpruned main file
 
-below_deep : IsDeep world folder_requiring low_one
-unfolding is_fetchable
-below_deep = from_deep {x = mid_two} (from_top {x = top_one} top_is_top refl (0, omega arith, refl)) (0, omega arith, refl)
+below_deep : IsDeep folder_requiring low_one
+below_deep =
+    let deep : IsDeep folder_requiring mid_two = from_top {x = top_one} top_file top_is_top (top_says (bytes mid_text)) refl (member_head mid_two []) in
+    from_deep {x = mid_two} deep (mid_file, folder_says_mid, member_head low_one [])
 
-all_deep : IsDeep unpruned_world all_there mid_one
+all_deep : IsDeep all_unpruned mid_one
 all_deep = from_main refl mid_is_top
 
-all_below : IsDeep unpruned_world all_there low_one
-all_below = from_deep {x = mid_one} all_deep
-    (subst (λ (ys : List ModuleVersion). Contains ys low_one) (sym (mid_requires there_file requirements_are_left.folder)) (member_head low_one []))
+all_below : IsDeep all_unpruned low_one
+all_below = from_deep {x = mid_one} all_deep (mid_file, mid_says_unpruned, member_head low_one [])
 
 pub three_are_opened : ThreeAreOpened
 three_are_opened = record {
@@ -263,7 +213,7 @@ three_are_opened = record {
 
 -- ---- edges
 
-edge_member : (s : Step) (y : ModuleVersion) → IsEdge world all_there s y → Contains edges (edge s y)
+edge_member : (s : Step) (y : ModuleVersion) → IsEdge all_there s y → Contains edges (edge s y)
 edge_member FromMain y top = elim (top_cases y top) [
   | inl is ↦ subst (λ (z : ModuleVersion). Contains edges (edge FromMain z)) (sym is) (1, omega arith, refl)
   | inr is ↦ subst (λ (z : ModuleVersion). Contains edges (edge FromMain z)) (sym is) (0, omega arith, refl)
@@ -276,7 +226,7 @@ edge_member (Of x) y (opens, there) = elim (edge_cases there_file requirements_a
 ]
 
 abbrev Leads : Edge → Type 0
-Leads one = IsEdge world all_there one.from one.to
+Leads one = IsEdge all_there one.from one.to
 
 member_leads : (one : Edge) → Contains edges one → Leads one
 member_leads one there = elim (member_cases (edge FromMain mid_one) one (edge FromMain top_one ∷ edge (Of mid_one) low_one ∷ edge (Of top_one) mid_two ∷ []) there) [
@@ -293,24 +243,21 @@ member_leads one there = elim (member_cases (edge FromMain mid_one) one (edge Fr
   ]
 ]
 
-edges_are : AreEdges world all_there edges
+edges_are : AreEdges all_there edges
 edges_are = record {
   ascending = pairs_of (λ (a b : Edge). edge_cmp a b ≡ Less) edges ((refl, (refl, (refl, tt))), ((refl, (refl, tt)), ((refl, tt), (tt, tt))));
   each = λ one. (member_leads one, edge_member one.from one.to);
 }
 
--- none is deep if every file is pruned, as the main file is
-none_deep : (x : ModuleVersion) → IsDeep world all_as_mid x → ⊥
-none_deep x (from_main unpruned top) = false≢true (sym unpruned)
-none_deep y (from_top {x = x} top unpruned there) = false≢true unpruned
-none_deep y (from_deep {x = x} deep there) = none_deep x deep
+-- nothing is opened if the main module requires nothing
+none_deep : (x : ModuleVersion) → IsDeep all_idle x → ⊥
+none_deep x (from_main unpruned top) = no_member x top
+none_deep y (from_top {x = x} file top says unpruned there) = no_member x top
+none_deep y (from_deep {x = x} deep requires) = none_deep x deep
 
-low_unopened : IsOpened world all_as_mid low_one → ⊥
-low_unopened (inr deep) = none_deep low_one deep
-low_unopened (inl top) = elim (top_cases low_one top) [
-  | inl is ↦ low_is_top is
-  | inr is ↦ low_is_mid _ _ is
-]
+none_opened : (x : ModuleVersion) → IsOpened all_idle x → ⊥
+none_opened x (inl top) = no_member x top
+none_opened x (inr deep) = none_deep x deep
 
 pub four_edges_lead : FourEdgesLead
 four_edges_lead = record {
@@ -323,13 +270,14 @@ four_edges_lead = record {
     | inl (is, to) ↦ low_is_mid _ _ to
     | inr (is, to) ↦ mid_is_top_one _ (sym is)
   ];
-  not_unopened = λ leads. low_unopened leads.0;
+  idle_requires = (mid_file, mid_says_idle, member_head low_one []);
+  not_unopened = λ leads. none_opened mid_one leads.0;
 }
 
 -- ---- the build list
 
 abbrev Leading : Step → ModuleVersion → Type 0
-Leading s y = IsEdge world all_there s y
+Leading s y = IsEdge all_there s y
 
 end_cases : (y : ModuleVersion) → IsEdgeEnd Leading y → (y ≡ top_one) ⊎ ((y ≡ mid_one) ⊎ ((y ≡ mid_two) ⊎ (y ≡ low_one)))
 end_cases y (FromMain, top) = elim (top_cases y top) [
@@ -417,7 +365,7 @@ selected_member x is = elim (end_cases x is.is_end) [
   | inr (inr (inr own)) ↦ subst (Contains selected) (sym own) (0, omega arith, refl)
 ]
 
-rows_are : AreRows world all_there rows
+rows_are : AreRows all_there rows
 rows_are = record {
   selected = selected;
   entries_are = refl;
@@ -425,7 +373,7 @@ rows_are = record {
   each = λ x. (member_selected x, selected_member x);
 }
 
-only_rows : (others : List Entry) → AreRows world all_there others → others ≡ rows
+only_rows : (others : List Entry) → AreRows all_there others → others ≡ rows
 only_rows others are = same_build_lists (codes "m") world.replaces Leading others rows are rows_are
 
 pub rows_are_four : RowsAreFour
@@ -495,46 +443,33 @@ only_list_is_printed outcome (others, are, is) =
 abbrev pub fault_with : ModuleVersion → Class → Fault
 fault_with x class = record { vertex = x; class = class }
 
-pub no_class : (class : Class) → None ≡ Some class → ⊥
-no_class class e = cc e
-
 pub same_class : (a b : Class) → Some a ≡ Some b → a ≡ b
 same_class a b e = cc e
 
-mid_has_none : vertex_fault all_there mid_one ≡ None
-unfolding is_fetchable
-mid_has_none = refl
+-- a module whose file is sound has no fault
+no_fault_at : (run : Run) (x z : ModuleVersion) (file : Dependency) (class : Class) → Says run z (Ok file) → x ≡ z → Says run x (Err class) → ⊥
+no_fault_at run x z file class own is says =
+    has_no_fault run z file class own (subst (λ (m : ModuleVersion). Says run m (Err class)) is says)
 
-top_stays : vertex_fault one_missing top_one ≡ None
-unfolding is_fetchable
-top_stays = refl
-
-mid_stays : vertex_fault one_missing mid_one ≡ None
-unfolding is_fetchable
-mid_stays = refl
-
-no_fault : (x : ModuleVersion) (class : Class) → IsOpened world all_there x → vertex_fault all_there x ≡ Some class → ⊥
-no_fault x class opens has = elim (opened_cases there_file requirements_are_left.folder x opens) [
-  | inl is ↦ no_class class (sym faults_are_classed.own ∙ ap (vertex_fault all_there) (sym is) ∙ has)
-  | inr (inl is) ↦ no_class class (sym mid_has_none ∙ ap (vertex_fault all_there) (sym is) ∙ has)
-  | inr (inr is) ↦ no_class class (sym faults_are_classed.folder ∙ ap (vertex_fault all_there) (sym is) ∙ has)
+no_fault : (x : ModuleVersion) (class : Class) → IsOpened all_there x → Says all_there x (Err class) → ⊥
+no_fault x class opens says = elim (opened_cases there_file requirements_are_left.folder x opens) [
+  | inl is ↦ no_fault_at all_there x top_one top_file class (top_says there_file) is says
+  | inr (inl is) ↦ no_fault_at all_there x mid_one mid_file class (mid_says there_file) is says
+  | inr (inr is) ↦ no_fault_at all_there x mid_two folder_says class folder_says_so is says
 ]
 
-abbrev HasFault : Fault → Type 0
-HasFault one = IsOpened world one_missing one.vertex × (vertex_fault one_missing one.vertex ≡ Some one.class)
-
-member_faulty : (one : Fault) → Contains (fault_of_mid ∷ []) one → HasFault one
+member_faulty : (one : Fault) → Contains (fault_of_mid ∷ []) one → IsFault one_missing one
 member_faulty one there = elim (member_cases fault_of_mid one [] there) [
-  | inl same ↦ subst HasFault same (inr (mid_is_deep (Err Missing) requirements_are_left.faulty), faults_are_classed.missing)
+  | inl same ↦ subst (IsFault one_missing) same (inr (mid_is_deep absent requirements_are_left.faulty), folder_is_missing)
   | inr none ↦ absurd (no_member one none)
 ]
 
-faulty_member : (one : Fault) → HasFault one → Contains (fault_of_mid ∷ []) one
-faulty_member one (opens, has) = elim (opened_cases (Err Missing) requirements_are_left.faulty one.vertex opens) [
-  | inl is ↦ absurd (no_class one.class (sym top_stays ∙ ap (vertex_fault one_missing) (sym is) ∙ has))
-  | inr (inl is) ↦ absurd (no_class one.class (sym mid_stays ∙ ap (vertex_fault one_missing) (sym is) ∙ has))
+faulty_member : (one : Fault) → IsFault one_missing one → Contains (fault_of_mid ∷ []) one
+faulty_member one (opens, says) = elim (opened_cases absent requirements_are_left.faulty one.vertex opens) [
+  | inl is ↦ absurd (no_fault_at one_missing one.vertex top_one top_file one.class (top_says absent) is says)
+  | inr (inl is) ↦ absurd (no_fault_at one_missing one.vertex mid_one mid_file one.class (mid_says absent) is says)
   | inr (inr is) ↦ (let class : Missing ≡ one.class =
-      same_class Missing one.class (sym faults_are_classed.missing ∙ ap (vertex_fault one_missing) (sym is) ∙ has) in
+      fault_is one_missing mid_two Missing one.class folder_is_missing (subst (λ (m : ModuleVersion). Says one_missing m (Err one.class)) is says) in
       let same : fault_of_mid ≡ one = ap₂ fault_with (sym is) class in
       subst (Contains (fault_of_mid ∷ [])) same (member_head fault_of_mid []))
 ]

@@ -223,12 +223,15 @@ pub record InputIsHeld : Type 0 where
 
 -- ---- the words
 
--- the one word `--version`, and a word that is not UTF-8, since no character has the byte 255
+-- the one word `--version`, and two words that are not UTF-8, since no character has the byte 255 or 254
 abbrev pub version_flag : List ℕ
 version_flag = codes "--version"
 
 abbrev pub unreadable : List ℕ
 unreadable = 255 ∷ []
+
+abbrev pub also_unreadable : List ℕ
+also_unreadable = 254 ∷ []
 
 -- what the program does with words that are known, of which none are its own name
 abbrev pub EndsBy : List (List ℕ) → Outcome → Type 0
@@ -242,3 +245,4 @@ pub record WordsAreGiven : Type 0 where
   pub made_up : (line : List ℕ) → ¬ (line ≡ []) → ¬ (EndsBy [] (printed line))
   pub shown : EndsBy (unreadable ∷ version_flag ∷ []) (usage_error (unreadable_text unreadable))
   pub passed_over : ¬ (EndsBy (unreadable ∷ version_flag ∷ []) (printed version_line))
+  pub not_last : ¬ (EndsBy (unreadable ∷ also_unreadable ∷ []) (usage_error (unreadable_text also_unreadable)))

@@ -71,6 +71,6 @@ pub record RequiredIsAsked : Type 0 where
   -- nor if the device failed on a file that no opened module has, or on one that was answered: `IsDue` asks for both
   pub undue : HasNoOutcome [] (low_name ∷ [])
   pub answered : HasNoOutcome ((top_name, absent) ∷ []) (top_name ∷ [])
-  -- nor if another file was asked for as well, or the same one twice: `AreAsked` allows neither
+  -- nor if another file was asked for as well, or the same one twice: `IsSettled` allows neither
   pub no_more : HasNoOutcome ((top_name, absent) ∷ (low_name, absent) ∷ []) []
   pub not_twice : HasNoOutcome ((top_name, absent) ∷ (top_name, absent) ∷ []) []

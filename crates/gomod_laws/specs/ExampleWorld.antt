@@ -1,25 +1,23 @@
 -- A small world of modules, on which the definitions of a run's outcome are tried. The main module m is pruned and
 -- requires top.org and mid.org at v1.0.0. It excludes low.org at v1.1.0, and replaces mid.org at v1.1.0 by a folder.
-use Rattle.std.specs.Prelude.{◌≡◌, ◌↔◌, ℕ, true, false, if◌then◌else◌, List, [], ◌∷◌, ◌++◌, Option, Some, None, Result, Ok, Err, Contains, codes}
+use Rattle.std.specs.Prelude.{◌≡◌, ◌↔◌, ℕ, true, false, List, [], ◌∷◌, ◌++◌, Option, Some, None, Result, Ok, Err, Contains, codes}
 use Rattle.gm_name.specs.ModuleVersion.{ModuleVersion}
 use Rattle.gm_file.specs.Directives.{Folder, Module, Replacing, Right, left_with, left_without, replacing}
 use Rattle.gm_file.specs.Fields.{Dependency}
-use Rattle.gm_store.specs.Asked.{Name, Reply, mod_file, folder_file, absent, too_long, same_name}
+use Rattle.gm_store.specs.Asked.{Name, Reply, mod_file, folder_file, absent, bytes, too_long}
 use Rattle.gm_store_sums.specs.declared.sum_table.Sum.TheVariants.{Good, Unlisted, Differs}
 use Rattle.gm_store_sums.specs.Sums.{Sums}
 use Rattle.gm_file.specs.Main.{Main, is_pruned_by, replacement_in}
-use Rattle.gm_graph.specs.Reading.{Held, IsFileReading, Readings, Tells, class_of_sum, file_of, is_askable, is_right_path, is_unpruned, readings_by, vertex_fault, vertex_requirements}
+use Rattle.gm_graph.specs.Reading.{IsFileReading, class_of_sum, file_of, is_askable, is_right_path}
 use Rattle.gm_graph.specs.declared.cache.class.Class.{Class}
 use Rattle.gm_graph.specs.declared.cache.class.Class.TheVariants.{Missing, NoSum, NotFetchable, SumDiffers, TooLong, WrongPath}
 use Rattle.gm_graph_select.specs.declared.step.Step.TheVariants.{Main as FromMain, Of}
 use Rattle.gm_graph_select.specs.declared.step.Edge.{Edge}
 use Rattle.gm_graph_select.specs.BuildList.{Entry, IsSelected, entry_of, main_entry}
 use Rattle.gm_graph_select.specs.Graph.{edge}
-use Rattle.gm_graph.specs.Graph.{IsDeep, IsEdge, IsOpened, IsTop}
-use Rattle.gm_graph.specs.Outcome.{AreEdges, AreFaults, AreRows}
-use Rattle.gm_graph.specs.Run.{IsRead, Requires, Run, Says, run_of}
+use Rattle.gm_graph.specs.Run.{AreEdges, AreFaults, AreRows, FileSays, IsDeep, IsEdge, IsOpened, IsRead, IsTop, Requires, Run, Says, run_of}
 use Rattle.gm_graph.specs.declared.fault.Fault.{Fault}
-use Rattle.gomod_run.specs.Outcomes.{PrintsRows}
+use Rattle.gomod_run.specs.Outcomes.{PrintsList}
 use Rattle.gomod_run.specs.ListingTexts.{list_text, replacement_text}
 use Rattle.gomod_run.specs.Outcome.{Outcome, printed, refused}
 use Rattle.gomod_run.specs.Reports.{faults_text}
@@ -55,44 +53,63 @@ world = record {
 abbrev pub unpruned_world : Main
 unpruned_world = record world { go = (1, 16) }
 
+-- the same main module without its requirements
+abbrev pub idle_world : Main
+idle_world = record world { requirements = [] }
+
 -- a file with these contents
 abbrev pub saying : Option (List ℕ) → ℕ × ℕ → List ModuleVersion → Dependency
 saying declared go requirements = record { declared = declared; go = go; requirements = requirements }
 
--- top.org is unpruned, and requires a later mid.org and an excluded low.org
+-- The file of top.org is unpruned, and requires a later mid.org and an excluded low.org.
+abbrev pub top_text : List ℕ
+top_text = codes "module top.org\ngo 1.16\nrequire mid.org v1.1.0\nrequire low.org v1.1.0\n"
+
 abbrev pub top_file : Dependency
 top_file = saying (Some (codes "top.org")) (1, 16) (mid_two ∷ low_two ∷ [])
 
--- mid.org is pruned, and requires low.org
+-- That of mid.org is pruned, and requires low.org.
+abbrev pub mid_text : List ℕ
+mid_text = codes "module mid.org\ngo 1.17\nrequire low.org v1.0.0\n"
+
 abbrev pub mid_file : Dependency
 mid_file = saying (Some (codes "mid.org")) (1, 17) (low_one ∷ [])
 
--- the folder declares no path, and requires nothing
+-- The folder's declares no path, and requires nothing.
+abbrev pub folder_text : List ℕ
+folder_text = codes "go 1.17\n"
+
 abbrev pub folder_says : Dependency
 folder_says = saying None (1, 17) []
 
--- what is held of the files, where this is held of the folder's
-abbrev pub held_with : Result Dependency Class → Held
-held_with folder name =
-    if same_name name (mod_file (codes "top.org") (codes "v1.0.0")) then Some (Ok top_file)
-    else (if same_name name (mod_file (codes "mid.org") (codes "v1.0.0")) then Some (Ok mid_file)
-    else (if same_name name (folder_file (codes "./mid")) then Some folder else None))
+-- the answers of a store, of which this one is to the folder's file
+abbrev pub answers_with : Reply → List (Name × Reply)
+answers_with folder = (mod_file (codes "top.org") (codes "v1.0.0"), bytes top_text)
+    ∷ (mod_file (codes "mid.org") (codes "v1.0.0"), bytes mid_text) ∷ (folder_file (codes "./mid"), folder) ∷ []
 
--- what each module's file says, where the folder's go.mod is there
-abbrev pub all_there : Readings
-all_there = readings_by world (held_with (Ok folder_says))
+-- the run in which each file is there
+abbrev pub all_there : Run
+all_there = run_of world None (answers_with (bytes folder_text))
 
--- and where it is missing
-abbrev pub one_missing : Readings
-one_missing = readings_by world (held_with (Err Missing))
+-- that in which the folder's is missing
+abbrev pub one_missing : Run
+one_missing = run_of world None (answers_with absent)
 
--- and where it is pruned and requires low.org
-abbrev pub folder_requiring : Readings
-folder_requiring = readings_by world (held_with (Ok mid_file))
+-- and that in which it is the file of mid.org, which is pruned and requires low.org
+abbrev pub folder_requiring : Run
+folder_requiring = run_of world None (answers_with (bytes mid_text))
 
--- where each module's file says what that of mid.org says: it is pruned and requires low.org
-abbrev pub all_as_mid : Readings
-all_as_mid x = Some (Ok mid_file)
+-- each file is there, and the main module is unpruned
+abbrev pub all_unpruned : Run
+all_unpruned = run_of unpruned_world None (answers_with (bytes folder_text))
+
+-- each file is there, and the main module requires nothing
+abbrev pub all_idle : Run
+all_idle = run_of idle_world None (answers_with (bytes folder_text))
+
+-- the run in which mid.org has the file of top.org
+abbrev pub one_wrong : Run
+one_wrong = run_of world None ((mod_file (codes "mid.org") (codes "v1.0.0"), bytes top_text) ∷ [])
 
 -- a module that replaces every other version of mid.org
 abbrev pub fork : Right
@@ -139,18 +156,15 @@ pub record ReplacementsApply : Type 0 where
   pub row : list_text (codes "m") (entry_of forked.replaces mid_one ∷ [])
       ≡ codes "mid.org v1.0.0 => fork.org v1.2.0\n"
 
--- what is held if the only answer is that the folder has no go.mod
-abbrev pub held_of_absent : Held
-held_of_absent name = if same_name name (folder_file (codes "./mid")) then Some (Err Missing) else None
+-- the run in which the only answer is that the folder has no go.mod
+abbrev pub absent_run : Run
+absent_run = run_of world None ((folder_file (codes "./mid"), absent) ∷ [])
 
-abbrev pub absent_folder : List (Name × Reply)
-absent_folder = (folder_file (codes "./mid"), absent) ∷ []
-
--- The store's answers, one of them that there is no such file, tell what is held, and nothing else.
+-- The answer that there is no file says so of that file, nothing else, and nothing of any other file.
 pub record AnswersTell : Type 0 where
-  pub tells : Tells None absent_folder held_of_absent
-  -- so not everything tells something, and no answer tells anything of another name
-  pub only : (held : Held) → Tells None absent_folder held → (name : Name) → held name ≡ held_of_absent name
+  pub tells : FileSays absent_run (folder_file (codes "./mid")) (Err Missing)
+  pub only : (name : Name) (said : Result Dependency Class) → FileSays absent_run name said → is_askable name ≡ true
+      → (name ≡ folder_file (codes "./mid")) × (said ≡ Err Missing)
   -- A file that is too long is a fault of its own, with and without a go.sum.
   pub long : (sums : Option Sums) (reading : Result Dependency Class)
       → IsFileReading sums (mod_file (codes "top.org") (codes "v1.0.0")) too_long reading ↔ (reading ≡ Err TooLong)
@@ -158,10 +172,6 @@ pub record AnswersTell : Type 0 where
   pub unlisted : class_of_sum Unlisted ≡ Some NoSum
   pub differs : class_of_sum Differs ≡ Some SumDiffers
   pub good : class_of_sum Good ≡ None
-
--- the run with that answer alone
-abbrev pub absent_run : Run
-absent_run = run_of world None absent_folder
 
 -- The module whose file is that folder's says that it is missing, and nothing else. One that can't be fetched says so,
 -- though nothing was answered; any other module without an answer says nothing, so it requires nothing.
@@ -173,32 +183,40 @@ pub record OneModuleSays : Type 0 where
   pub requires_nothing : (y : ModuleVersion) → ¬ (Requires absent_run mid_two y)
   pub read : IsRead absent_run
 
+-- The module says this, and nothing else.
+abbrev pub SaysAlone : Run → ModuleVersion → Result Dependency Class → Type 0
+SaysAlone run x said = (other : Result Dependency Class) → Says run x other ↔ (other ≡ said)
+
 -- A folder may declare no path, and another file its own alone; what can't be fetched is not fetchable, whatever is
--- held. What isn't held has no fault.
+-- answered. What isn't answered says nothing.
 pub record FaultsAreClassed : Type 0 where
-  pub folder : vertex_fault all_there mid_two ≡ None
-  pub missing : vertex_fault one_missing mid_two ≡ Some Missing
-  pub own : vertex_fault all_there top_one ≡ None
-  pub wrong : vertex_fault (readings_by world (λ name. Some (Ok top_file))) mid_one ≡ Some WrongPath
-  pub unfetchable : vertex_fault all_there (codes "m", codes "v1.0.0") ≡ Some NotFetchable
-  pub unknown : vertex_fault all_there low_one ≡ None
+  pub read : IsRead all_there
+  pub folder : SaysAlone all_there mid_two (Ok folder_says)
+  pub missing : SaysAlone one_missing mid_two (Err Missing)
+  pub own : SaysAlone all_there top_one (Ok top_file)
+  pub wrong : SaysAlone one_wrong mid_one (Err WrongPath)
+  pub unfetchable : SaysAlone all_there (codes "m", codes "v1.0.0") (Err NotFetchable)
+  pub unknown : (said : Result Dependency Class) → ¬ (Says all_there low_one said)
 
--- The excluded version is no requirement; a module with a fault, or of which nothing is held, has none.
+-- The module requires this one alone.
+abbrev pub RequiresAlone : Run → ModuleVersion → ModuleVersion → Type 0
+RequiresAlone run x y = (other : ModuleVersion) → Requires run x other ↔ (other ≡ y)
+
+-- The excluded version is no requirement; a module with a fault, or of which nothing is answered, has none.
 pub record RequirementsAreLeft : Type 0 where
-  pub top : vertex_requirements world all_there top_one ≡ mid_two ∷ []
-  pub mid : vertex_requirements world all_there mid_one ≡ low_one ∷ []
-  pub folder : vertex_requirements world all_there mid_two ≡ []
-  pub faulty : vertex_requirements world one_missing mid_two ≡ []
-  pub unknown : vertex_requirements world all_there low_one ≡ []
+  pub top : RequiresAlone all_there top_one mid_two
+  pub mid : RequiresAlone all_there mid_one low_one
+  pub folder : (y : ModuleVersion) → ¬ (Requires all_there mid_two y)
+  pub faulty : (y : ModuleVersion) → ¬ (Requires one_missing mid_two y)
+  pub unknown : (y : ModuleVersion) → ¬ (Requires all_there low_one y)
 
--- Go 1.17 and later is pruned, 1.16 is not. A module is unpruned if its file says so.
+-- Go 1.17 and later is pruned, 1.16 is not.
 pub record PrunedFrom17 : Type 0 where
   pub before : is_pruned_by (1, 16) ≡ false
   pub from : is_pruned_by (1, 17) ≡ true
   pub later : is_pruned_by (2, 0) ≡ true
-  pub top : is_unpruned all_there top_one ≡ true
-  pub mid : is_unpruned all_there mid_one ≡ false
-  pub faulty : is_unpruned one_missing mid_two ≡ false
+  pub top : is_pruned_by top_file.go ≡ false
+  pub mid : is_pruned_by mid_file.go ≡ true
 
 abbrev pub opened_three : List ModuleVersion
 opened_three = top_one ∷ mid_one ∷ mid_two ∷ []
@@ -206,57 +224,53 @@ opened_three = top_one ∷ mid_one ∷ mid_two ∷ []
 -- Opened are the two that the main file requires and the one below the unpruned file; low.org, below the pruned file,
 -- is not.
 pub record ThreeAreOpened : Type 0 where
-  pub each : (x : ModuleVersion) → IsOpened world all_there x ↔ Contains opened_three x
-  pub not_low : ¬ (IsOpened world all_there low_one)
-  pub not_top : ¬ (IsTop world mid_two)
-  pub not_deep : ¬ (IsDeep world all_there mid_one)
+  pub each : (x : ModuleVersion) → IsOpened all_there x ↔ Contains opened_three x
+  pub not_low : ¬ (IsOpened all_there low_one)
+  pub not_top : ¬ (IsTop all_there mid_two)
+  pub not_deep : ¬ (IsDeep all_there mid_one)
   -- below a deep module also what a pruned file requires: `from_deep` asks for no go version
-  pub below_deep : IsDeep world folder_requiring low_one
+  pub below_deep : IsDeep folder_requiring low_one
   -- below an unpruned main file its own requirements are deep: `from_main`
-  pub all_deep : IsDeep unpruned_world all_there mid_one
+  pub all_deep : IsDeep all_unpruned mid_one
   -- and so is what their files require, pruned or not: `from_main`, then `from_deep`
-  pub all_below : IsDeep unpruned_world all_there low_one
+  pub all_below : IsDeep all_unpruned low_one
 
 abbrev pub edges : List Edge
 edges = edge FromMain mid_one ∷ edge FromMain top_one ∷ edge (Of mid_one) low_one ∷ edge (Of top_one) mid_two ∷ []
 
 -- An edge leads to low.org, though it isn't opened, and none to the excluded version.
 pub record FourEdgesLead : Type 0 where
-  pub are : AreEdges world all_there edges
-  pub not_main : ¬ (IsEdge world all_there FromMain low_one)
-  pub not_excluded : ¬ (IsEdge world all_there (Of top_one) low_two)
-  -- none leaves a module that isn't opened, whatever its file requires: `IsEdge` asks for `IsOpened`
-  pub not_unopened : ¬ (IsEdge world all_as_mid (Of low_one) low_one)
+  pub are : AreEdges all_there edges
+  pub not_main : ¬ (IsEdge all_there FromMain low_one)
+  pub not_excluded : ¬ (IsEdge all_there (Of top_one) low_two)
+  -- none leaves a module that isn't opened, though its file requires one: `IsEdge` asks for `IsOpened`
+  pub idle_requires : Requires all_idle mid_one low_one
+  pub not_unopened : ¬ (IsEdge all_idle (Of mid_one) low_one)
 
 abbrev pub rows : List Entry
 rows = main_entry ∷ (Of low_one, None) ∷ (Of mid_two, Some (Folder (codes "./mid"))) ∷ (Of top_one, None) ∷ []
 
 -- The main module, then the others in path order, the later mid.org with its folder. No other list is the build list.
 pub record RowsAreFour : Type 0 where
-  pub are : AreRows world all_there rows
-  pub only : (others : List Entry) → AreRows world all_there others → others ≡ rows
+  pub are : AreRows all_there rows
+  pub only : (others : List Entry) → AreRows all_there others → others ≡ rows
   -- A required version of the main module's own path is not selected, though it is the greatest: `not_main`.
-  pub not_main : ¬ (IsSelected (codes "top.org") (IsEdge world all_there) top_one)
-
--- what is printed of the build list, after a row and up to a limit
-abbrev pub WorldPrints : Option (List ℕ) → Option ℕ → Outcome → Type 0
-WorldPrints after limit outcome = (all : List Entry) × AreRows world all_there all
-    × PrintsRows world all after limit outcome
+  pub not_main : ¬ (IsSelected (codes "top.org") (IsEdge all_there) top_one)
 
 -- The text of the list, of its first two rows, and of what follows mid.org; a path that has no row is reported.
 pub record ListIsPrinted : Type 0 where
-  pub whole : WorldPrints None None
+  pub whole : PrintsList None None all_there
       (printed (codes "m\nlow.org v1.0.0\nmid.org v1.1.0 => ./mid\ntop.org v1.0.0\n"))
-  pub limited : WorldPrints None (Some 2) (printed (codes "m\nlow.org v1.0.0\n"))
-  pub after : WorldPrints (Some (codes "mid.org")) None (printed (codes "top.org v1.0.0\n"))
+  pub limited : PrintsList None (Some 2) all_there (printed (codes "m\nlow.org v1.0.0\n"))
+  pub after : PrintsList (Some (codes "mid.org")) None all_there (printed (codes "top.org v1.0.0\n"))
   -- The main module's row counts as one of its path.
-  pub after_main : WorldPrints (Some (codes "m")) None
+  pub after_main : PrintsList (Some (codes "m")) None all_there
       (printed (codes "low.org v1.0.0\nmid.org v1.1.0 => ./mid\ntop.org v1.0.0\n"))
-  pub unlisted : WorldPrints (Some (codes "b.org")) None (refused (codes "b.org: NotListed\n"))
+  pub unlisted : PrintsList (Some (codes "b.org")) None all_there (refused (codes "b.org: NotListed\n"))
 
 -- Nothing else is printed.
 abbrev pub OnlyListIsPrinted : Type 0
-OnlyListIsPrinted = (outcome : Outcome) → WorldPrints None None outcome
+OnlyListIsPrinted = (outcome : Outcome) → PrintsList None None all_there outcome
     → outcome ≡ printed (codes "m\nlow.org v1.0.0\nmid.org v1.1.0 => ./mid\ntop.org v1.0.0\n")
 
 abbrev pub fault_of_mid : Fault
@@ -264,6 +278,6 @@ fault_of_mid = record { vertex = mid_two; class = Missing }
 
 -- No module has a fault, unless the folder's go.mod is missing: then mid.org at v1.1.0 has, and that is the report.
 pub record OneFaultIsReported : Type 0 where
-  pub none : AreFaults world all_there []
-  pub one : AreFaults world one_missing (fault_of_mid ∷ [])
+  pub none : AreFaults all_there []
+  pub one : AreFaults one_missing (fault_of_mid ∷ [])
   pub text : faults_text (fault_of_mid ∷ []) ≡ codes "mid.org@v1.1.0: Missing\n"

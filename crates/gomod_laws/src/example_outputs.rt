@@ -27,8 +27,8 @@ pub fn output_is_written()
 {}
 
 /// `IsReadFrom`: a file of `m` gives neither other bytes nor fewer, and a file that is longer than 16,777,217 bytes not
-/// all of its. A file of which no read may fail gives its bytes, unless memory runs out. A file that could not be opened
-/// gives none, and memory ran out there only if the system says so.
+/// all of its. A file of which no read may fail gives its bytes, unless memory runs out. A file that could not be
+/// opened gives none, and memory ran out there only if the system says so.
 pub fn file_is_read()
     ensures { FileIsRead }
 {}
@@ -39,8 +39,8 @@ pub fn input_is_unread()
     ensures { InputIsUnread }
 {}
 
-/// `HoldsOne`, `HoldsInput`: the store of `versions m` has what was read of standard input if it has its bytes as the list
-/// of m, neither other bytes nor fewer, and no other list or file. An empty store, `HoldsNothing`, has none.
+/// `HoldsOne`, `HoldsInput`: the store of `versions m` has what was read of standard input if it has its bytes as the
+/// list of m, neither other bytes nor fewer, and no other list or file. An empty store, `HoldsNothing`, has none.
 pub fn input_is_held()
     ensures { InputIsHeld }
 {}

@@ -23,8 +23,8 @@ pub fn replacements_apply()
     ensures { ReplacementsApply }
 {}
 
-/// `Tells`, `IsFileReading`, `class_of_sum`: the answer that there is no file tells `Missing` of that file, nothing of
-/// any other, and nothing else. A file that is too long is `TooLong`. One that a go.sum doesn't list is `NoSum`, and
+/// `FileSays`, `IsFileReading`, `class_of_sum`: the answer that there is no file says `Missing` of that file, nothing
+/// else, and nothing of any other. A file that is too long is `TooLong`. One that a go.sum doesn't list is `NoSum`, and
 /// one of which it lists another hash is `SumDiffers`.
 pub fn answers_tell()
     ensures { AnswersTell }
@@ -42,18 +42,19 @@ pub fn one_module_says()
     ensures { OneModuleSays }
 {}
 
-/// `vertex_fault`: a missing file, a file that declares another path, and a path that can't be fetched are faults. A
-/// folder that declares no path is none.
+/// `Says`, `IsFileReading`, `is_right_path`: a missing file, a file that declares another path, and a path that can't
+/// be fetched are faults. A folder that declares no path has none, nor has top.org. Each says this alone. low.org says
+/// nothing, since its file was not asked for.
 pub fn faults_are_classed()
     ensures { FaultsAreClassed }
 {}
 
-/// `vertex_requirements`: top.org requires mid.org v1.1.0, and not the excluded low.org v1.1.0.
+/// `Requires`: top.org requires mid.org v1.1.0 alone, and not the excluded low.org v1.1.0.
 pub fn requirements_are_left()
     ensures { RequirementsAreLeft }
 {}
 
-/// `is_pruned_by`, `is_unpruned`: go 1.17 and 2.0 are pruned, 1.16 is not; so top.org is unpruned, and mid.org is not.
+/// `is_pruned_by`: go 1.17 and 2.0 are pruned, 1.16 is not; so top.org is unpruned, and mid.org is not.
 pub fn pruned_from_17()
     ensures { PrunedFrom17 }
 {}
@@ -66,7 +67,7 @@ pub fn three_are_opened()
 {}
 
 /// `IsEdge`, `AreEdges`: four edges, one of them from mid.org v1.0.0 to low.org v1.0.0, and none to low.org v1.1.0.
-/// None leaves a module that isn't opened, even if its file requires one.
+/// None leaves a module that isn't opened, though its file requires one.
 pub fn four_edges_lead()
     ensures { FourEdgesLead }
 {}
@@ -109,10 +110,10 @@ pub fn bad_sum_is_refused()
     ensures { BadSumIsRefused }
 {}
 
-/// `IsDue`, `AreFound`, `IsSettled`, `ListEnds`: on the two lines `list` reports `top.org@v1.0.0: Missing` if that is the
-/// answer, and `gomod: device at top.org@v1.0.0` if the device failed. Without either it has no outcome; nor has it one if
-/// the device failed on another file, or on one that was answered, or if another file was asked for as well, or the same
-/// one twice.
+/// `IsDue`, `AreFound`, `IsSettled`, `ListEnds`: on the two lines `list` reports `top.org@v1.0.0: Missing` if that is
+/// the answer, and `gomod: device at top.org@v1.0.0` if the device failed. Without either it has no outcome; nor has it
+/// one if the device failed on another file, or on one that was answered, or if another file was asked for as well, or
+/// the same one twice.
 pub fn required_is_asked()
     ensures { RequiredIsAsked }
 {}

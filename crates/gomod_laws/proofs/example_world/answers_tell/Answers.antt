@@ -1,4 +1,4 @@
-use Rattle.gomod_laws.proofs.ExampleWorlds.{answers_tell}
+use Rattle.gomod_laws.proofs.ExampleSaid.{answers_tell}
 use Rattle.gomod_laws.proofs.example_world.answers_tell.Goals as goal
 
 pub returns : goal.returns

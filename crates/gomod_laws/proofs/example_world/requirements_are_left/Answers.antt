@@ -1,4 +1,4 @@
-use Rattle.gomod_laws.proofs.ExampleWorlds.{requirements_are_left}
+use Rattle.gomod_laws.proofs.ExampleSaid.{requirements_are_left}
 use Rattle.gomod_laws.proofs.example_world.requirements_are_left.Goals as goal
 
 pub returns : goal.returns
