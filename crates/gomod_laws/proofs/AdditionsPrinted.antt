@@ -17,7 +17,7 @@ use Rattle.gomod_run.specs.Outcome.{Outcome}
 use Rattle.gomod_run.proofs.OneQueryStore.{Agrees}
 use Rattle.gomod_run.proofs.PrintedList.{greatest}
 use Rattle.gomod_words.specs.declared.usage.Command.TheVariants.{Graph, List as Rows}
-use Rattle.gomod_laws.specs.Runs.{HasOutcome}
+use Rattle.gomod_laws.proofs.Ended.{Ends}
 use Rattle.gomod_laws.specs.AdditionLaws.{AreNotLower, GraphKeepsLines, ListLowersNothing, SaysMore}
 use Rattle.gomod_laws.proofs.AdditionsKept.{kept_more}
 use Rattle.gomod_laws.proofs.AdditionsOpened.{edge_too, opened_too}
@@ -26,11 +26,11 @@ use Rattle.gomod_laws.proofs.AdditionsRuns.{agree, printed_by, prints_too}
 -- ---- the outcome of a query, given what was asked
 
 pub list_run : (after : Option (List ℕ)) (limit : Option ℕ) (file : List ℕ) (sums : Option (List ℕ)) (asked : List (Name × Reply)) (outcome : Outcome)
-    → HasOutcome (Rows after limit) file sums asked outcome → ListEnds after limit (given file sums (answers asked [])) outcome
+    → Ends (Rows after limit) file sums asked outcome → ListEnds after limit (given file sums (answers asked [])) outcome
 list_run after limit file sums asked outcome has = list_held (given file sums (answers asked [])) outcome after limit has
 
 pub graph_run : (file : List ℕ) (sums : Option (List ℕ)) (asked : List (Name × Reply)) (outcome : Outcome)
-    → HasOutcome Graph file sums asked outcome → GraphEnds (given file sums (answers asked [])) outcome
+    → Ends Graph file sums asked outcome → GraphEnds (given file sums (answers asked [])) outcome
 graph_run file sums asked outcome has = graph_held (given file sums (answers asked [])) outcome has
 
 -- ---- a main file that says more
@@ -63,10 +63,10 @@ list_lowers_nothing file other sums first second one next runs more ends =
     let after = given other sums (answers runs.later []) in
     let prints : Prints = PrintsList None None in
     let (held, found, (others, others_are, others_text)) =
-    printed_by prints after second next runs.second_says (list_run None None other sums runs.later next runs.second_runs) ends in
+    printed_by prints after second next runs.second_says (list_run None None other sums runs.later next runs.second_runs.0) ends in
     let (base, valid, (rows, rows_are, rows_text)) =
     prints_too run after first second held found runs.first_says refl runs.alike more.replaces refl (λ a agrees x is. opened_more first second more (readings_by first a) (readings_by second held) agrees x is) one prints
-    (list_run None None file sums runs.asked one runs.first_runs) in
+    (list_run None None file sums runs.asked one runs.first_runs.0) in
     let agrees = agree run after first second held found runs.first_says refl runs.alike more.replaces valid.table valid.read.sums base valid.known.tells in (
       rows,
       others,
@@ -80,10 +80,10 @@ graph_keeps_lines file other sums first second one next runs more ends =
     let run = given file sums (answers runs.asked []) in
     let after = given other sums (answers runs.later []) in
     let (held, found, (others, others_are, others_text)) =
-    printed_by PrintsGraph after second next runs.second_says (graph_run other sums runs.later next runs.second_runs) ends in
+    printed_by PrintsGraph after second next runs.second_says (graph_run other sums runs.later next runs.second_runs.0) ends in
     let (base, valid, (edges, edges_are, edges_text)) =
     prints_too run after first second held found runs.first_says refl runs.alike more.replaces refl (λ a agrees x is. opened_more first second more (readings_by first a) (readings_by second held) agrees x is) one PrintsGraph
-    (graph_run file sums runs.asked one runs.first_runs) in
+    (graph_run file sums runs.asked one runs.first_runs.0) in
     let agrees = agree run after first second held found runs.first_says refl runs.alike more.replaces valid.table valid.read.sums base valid.known.tells in (
       edges,
       others,

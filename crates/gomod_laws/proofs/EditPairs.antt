@@ -28,7 +28,8 @@ use Rattle.gomod_run.specs.Editing.{EditEnds, applied, bad_main, edits_outcome, 
 use Rattle.gomod_run.proofs.Sameness.{in_turn_same}
 use Rattle.gomod_laws.specs.EditPairLaws.{EitherOrderChangesNoBuild, PrintTheSame, UndoneIsFormatted}
 use Rattle.gomod_laws.specs.LineOrderLaws.{HoldTheSame}
-use Rattle.gomod_laws.specs.Runs.{HasOutcome, IsEdited}
+use Rattle.gomod_laws.specs.Runs.{IsEdited}
+use Rattle.gomod_laws.proofs.Ended.{Ends}
 use Rattle.gomod_words.specs.Usage.{texts_in}
 use Rattle.gomod_laws.proofs.EditTurns.{AreSoundLines, IsTaken, Refusal, edited_from, first_taken, none_parts, read_sound, fit_of, taken_edit, taken_sound, text_lines, turned, turned_append, turned_first, turned_sound}
 use Rattle.gomod_laws.proofs.FormattingProofs.{fmt_is}
@@ -55,7 +56,7 @@ kind_of number text texts taken = rw (taken.written, taken.fit) refl
 
 module _ (first second : List ℕ) (put undo : Operation) (puts : edit_in first ≡ Some put) (drops : edit_in second ≡ Some undo) where
   undone : (file : List ℕ) (lines : List (Line Placed)) (edited_to formatted : Outcome) → is_fit put ≡ true → undone_by put ≡ Some undo → IsMainOf file lines → list_any (about put) (directives_of lines) ≡ false
-      → EditEnds (first ∷ second ∷ []) file edited_to → HasOutcome Fmt file None [] formatted → PrintTheSame edited_to formatted
+      → EditEnds (first ∷ second ∷ []) file edited_to → Ends Fmt file None [] formatted → PrintTheSame edited_to formatted
   undone file lines edited_to formatted fit undoes main none (bad_main place malformed says) has = absurd (misread_or_lines file place lines malformed main)
   undone file lines edited_to formatted fit undoes main none (applied others also says) has =
       let same : directives_of others ≡ directives_of lines = ap (directives Strict) (same_lines file others lines also.0 main.0) in
@@ -71,7 +72,7 @@ module _ (first second : List ℕ) (put undo : Operation) (puts : edit_in first 
 pub undone_is_formatted : UndoneIsFormatted
 undone_is_formatted operations put file edited_to formatted are fit targets one other =
     undone are.first are.second put are.undo are.puts are.drops file targets.lines edited_to formatted fit are.undoes targets.is_main targets.none
-    (subst (λ (ts : List (List ℕ)). EditEnds ts file edited_to) are.given one) other
+    (subst (λ (ts : List (List ℕ)). EditEnds ts file edited_to) are.given one.0) other.0
 
 -- ---- two operations in either order
 

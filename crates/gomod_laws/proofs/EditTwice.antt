@@ -15,7 +15,8 @@ use Rattle.gomod_run.specs.Editing.{EditEnds, applied, bad_main, edits_outcome, 
 use Rattle.gomod_run.specs.Reports.{edit_line}
 use Rattle.gomod_run.proofs.Sameness.{edit_once}
 use Rattle.gomod_laws.specs.EditTwiceLaws.{LastTwiceIsOnce, RefuseALater, RepeatsOne, TwiceIsOnceOrRefused, TwicePrintsAsOnce}
-use Rattle.gomod_laws.specs.Runs.{HasOutcome, HasPrinted}
+use Rattle.gomod_laws.specs.Runs.{HasPrinted}
+use Rattle.gomod_laws.proofs.Ended.{Ends}
 use Rattle.gomod_laws.proofs.EditTurns.{AreSoundLines, IsTaken, Refusal, first_taken, none_parts, numbered, read_sound, refusals_append, taken_edit, turned, turned_append, turned_first, turned_sound}
 
 -- an operation that is given twice leaves what it leaves if it is given once
@@ -141,7 +142,7 @@ module _ (earlier : List (List ℕ)) (text : List ℕ) (later : List (List ℕ))
 
 -- ---- the laws
 
-runs_alike : (once twice : Vec (String Global)) (file : List ℕ) (first second : Outcome) (repeats : RepeatsOne once twice) → HasOutcome (Edit once) file None [] first → HasOutcome (Edit twice) file None [] second
+runs_alike : (once twice : Vec (String Global)) (file : List ℕ) (first second : Outcome) (repeats : RepeatsOne once twice) → Ends (Edit once) file None [] first → Ends (Edit twice) file None [] second
     → AreAlike repeats.earlier repeats.operation repeats.later first second
 runs_alike once twice file first second repeats one two =
     let found = repeated repeats.earlier repeats.operation repeats.later file first (subst (λ (ts : List (List ℕ)). EditEnds ts file first) repeats.given_once one) in
@@ -157,19 +158,19 @@ none_refused number first second later (inl prints) = not_both first (edit_line 
 none_refused number first second later (inr prints) = not_both second (edit_line (one_later later.refusal)) later.refused_twice prints
 
 pub twice_prints_as_once : TwicePrintsAsOnce
-twice_prints_as_once once twice file first second repeats one two prints = elim (runs_alike once twice file first second repeats one two) [
+twice_prints_as_once once twice file first second repeats one two prints = elim (runs_alike once twice file first second repeats one.0 two.0) [
   | inl same ↦ same
   | inr other ↦ absurd (none_refused (length repeats.earlier + 1) first second other.1 prints)
 ]
 
 pub last_twice_is_once : LastTwiceIsOnce
-last_twice_is_once once twice file first second repeats last one two = elim (runs_alike once twice file first second repeats one two) [
+last_twice_is_once once twice file first second repeats last one two = elim (runs_alike once twice file first second repeats one.0 two.0) [
   | inl same ↦ same
   | inr other ↦ absurd (other.0 last)
 ]
 
 pub twice_is_once_or_refused : TwiceIsOnceOrRefused
-twice_is_once_or_refused once twice file first second repeats one two = elim (runs_alike once twice file first second repeats one two) [
+twice_is_once_or_refused once twice file first second repeats one two = elim (runs_alike once twice file first second repeats one.0 two.0) [
   | inl same ↦ inl same
   | inr other ↦ inr other.1
 ]

@@ -32,7 +32,8 @@ use Rattle.gomod_run.proofs.Answering.{answered_in}
 use Rattle.gomod_run.proofs.OneStore.{one_for_stores}
 use Rattle.gomod_run.proofs.Uniqueness.{latest_once, listed_once, none_latest}
 use Rattle.gomod_laws.specs.FolderLaws.{FolderMayAnswer, MoreFoldersChangeNothing}
-use Rattle.gomod_laws.specs.Runs.{HasOutcome, HasPrinted}
+use Rattle.gomod_laws.specs.Runs.{HasPrinted}
+use Rattle.gomod_laws.proofs.Ended.{Ends}
 use Rattle.gomod_laws.proofs.FolderWalks.{found_again}
 use Rattle.gomod_laws.proofs.PrintedRuns.{Pairs, valid_files}
 use Rattle.gomod_laws.proofs.VersionRuns.{by_answers, list_answered, refusal_prints_nothing}
@@ -171,24 +172,24 @@ names_into file sums asked told main again held next alike valid also name there
 
 -- a run over answers that are alike has the same outcome
 pub same_outcome : (command : Command) (main : List ℕ) (sums : Option (List ℕ)) (asked told : Pairs) (a b : Outcome) → AnswerAlike asked told
-    → HasOutcome command main sums asked a → HasOutcome command main sums told b → a ≡ b
+    → Ends command main sums asked a → Ends command main sums told b → a ≡ b
 same_outcome command main sums asked told a b alike run again =
     one_for_stores command (given main sums (answers asked [])) (given main sums (answers told [])) a b (record { file = refl; sums = refl; answers = alike; failed = refl }) run again
 
-all_answered : (command : Command) (main : List ℕ) (sums : Option (List ℕ)) (asked : Pairs) (outcome : Outcome) → HasOutcome command main sums asked outcome → HasPrinted outcome
+all_answered : (command : Command) (main : List ℕ) (sums : Option (List ℕ)) (asked : Pairs) (outcome : Outcome) → Ends command main sums asked outcome → HasPrinted outcome
     → AnsweredAll (Needs command main sums) (answer_in asked)
 all_answered command main sums asked outcome run prints = done_answers command (given main sums (answers asked [])) outcome run prints
 
 module _ (main : List ℕ) (sums : Option (List ℕ)) where
   -- what a query asked for is what it needed, and was read
-  pub query_is_file : (command : Command) (asked : Pairs) (outcome : Outcome) → is_query command ≡ true → HasOutcome command main sums asked outcome → HasPrinted outcome
+  pub query_is_file : (command : Command) (asked : Pairs) (outcome : Outcome) → is_query command ≡ true → Ends command main sums asked outcome → HasPrinted outcome
       → (name : Name) (reply : Reply) → answer_in asked name ≡ Some reply → IsFile reply
   query_is_file command asked outcome query run prints name reply e =
       let (says, held, valid) = valid_files command main sums asked outcome query run prints in
       opened_is_file (given main sums (answers asked [])) says held valid name reply e
 
   -- a run that prints was answered with a file wherever it asked
-  pub each_is_file : (command : Command) (asked : Pairs) (outcome : Outcome) → HasOutcome command main sums asked outcome → AskedInTurn (Needs command main sums) asked → HasPrinted outcome
+  pub each_is_file : (command : Command) (asked : Pairs) (outcome : Outcome) → Ends command main sums asked outcome → AskedInTurn (Needs command main sums) asked → HasPrinted outcome
       → (name : Name) (reply : Reply) → answer_in asked name ≡ Some reply → IsFile reply
   each_is_file Fmt asked outcome run turn prints name reply e = absurd (needed_after (Needs Fmt main sums) (λ one other keeps n need. need) [] asked turn name (answered_name asked name reply e))
   each_is_file (Edit operations) asked outcome run turn prints name reply e =
@@ -200,16 +201,16 @@ module _ (main : List ℕ) (sums : Option (List ℕ)) where
   each_is_file (Rows after limit) asked outcome run turn prints name reply e = query_is_file (Rows after limit) asked outcome refl run prints name reply e
   each_is_file (Chain path) asked outcome run turn prints name reply e = query_is_file (Chain path) asked outcome refl run prints name reply e
 
-  query_names : (command : Command) (asked told : Pairs) (a b : Outcome) → is_query command ≡ true → AnswerAlike asked told → HasOutcome command main sums asked a → HasPrinted a
-      → HasOutcome command main sums told b → HasPrinted b → (name : Name) → Contains (names_in asked) name → Contains (names_in told) name
+  query_names : (command : Command) (asked told : Pairs) (a b : Outcome) → is_query command ≡ true → AnswerAlike asked told → Ends command main sums asked a → HasPrinted a
+      → Ends command main sums told b → HasPrinted b → (name : Name) → Contains (names_in asked) name → Contains (names_in told) name
   query_names command asked told a b query alike run prints again also name there =
       let (says, held, valid) = valid_files command main sums asked a query run prints in
       let (tells, next, too) = valid_files command main sums told b query again also in
       names_into main sums asked told says tells held next alike valid too name there
 
   -- a file that one run asked for is one that the other asked for
-  pub names_in_other : (command : Command) (asked told : Pairs) (a b : Outcome) → AnswerAlike asked told → AskedInTurn (Needs command main sums) asked → HasOutcome command main sums asked a → HasPrinted a
-      → HasOutcome command main sums told b → HasPrinted b → (name : Name) → Contains (names_in asked) name → Contains (names_in told) name
+  pub names_in_other : (command : Command) (asked told : Pairs) (a b : Outcome) → AnswerAlike asked told → AskedInTurn (Needs command main sums) asked → Ends command main sums asked a → HasPrinted a
+      → Ends command main sums told b → HasPrinted b → (name : Name) → Contains (names_in asked) name → Contains (names_in told) name
   names_in_other Fmt asked told a b alike turn run prints again also name there = absurd (needed_after (Needs Fmt main sums) (λ one other keeps n need. need) [] asked turn name there)
   names_in_other (Edit operations) asked told a b alike turn run prints again also name there =
       absurd (needed_after (Needs (Edit operations) main sums) (λ one other keeps n need. need) [] asked turn name there)
@@ -230,15 +231,15 @@ pub more_folders_change_nothing : MoreFoldersChangeNothing
 more_folders_change_nothing command main sums folders others marks more asked told one other grows run prints again =
     let alike : AnswerAlike asked told =
     λ name a b e f.
-    let (content, is) = each_is_file main sums command asked one run.ends run.in_turn prints name a e in
+    let (content, is) = each_is_file main sums command asked one run.ends.0 run.in_turn prints name a e in
     let may : FolderMayAnswer folders marks name (bytes content) = subst (FolderMayAnswer folders marks name) is (run.answers name a (answered_in asked name a e)) in
     is ∙ sym (found_again folders others marks more grows name content b may (again.answers name b (answered_in told name b f))) in
     let back : AnswerAlike told asked = alike_back asked told alike in
-    let same : other ≡ one = same_outcome command main sums told asked other one back again.ends run.ends in
+    let same : other ≡ one = same_outcome command main sums told asked other one back again.ends.0 run.ends.0 in
     let also : HasPrinted other = ap (λ (o : Outcome). o.status) same ∙ prints in (
       same,
       λ name. (
-        names_in_other main sums command told asked other one back again.in_turn again.ends also run.ends prints name,
-        names_in_other main sums command asked told one other alike run.in_turn run.ends prints again.ends also name,
+        names_in_other main sums command told asked other one back again.in_turn again.ends.0 also run.ends.0 prints name,
+        names_in_other main sums command asked told one other alike run.in_turn run.ends.0 prints again.ends.0 also name,
       ),
     )

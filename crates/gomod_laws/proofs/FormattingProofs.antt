@@ -18,7 +18,7 @@ use Rattle.gomod_words.specs.declared.usage.Command.TheVariants.{Fmt}
 use Rattle.gomod_run.specs.Runs.{FmtEnds, bad_syntax, laid_out}
 use Rattle.gomod_run.proofs.Sameness.{fmt_once}
 use Rattle.gomod_laws.specs.FormattingLaws.{FormattingChangesNoBuild, IsFormatted, LayoutsAreFormatted}
-use Rattle.gomod_laws.specs.Runs.{HasOutcome}
+use Rattle.gomod_laws.proofs.Ended.{Ends}
 use Rattle.gomod_laws.proofs.FormattingBlanks.{main_said, no_fault_again, same_said}
 use Rattle.gomod_laws.proofs.FormattingRead.{parsed_layout}
 use Rattle.gomod_laws.proofs.LineOrderProofs.{queries_move}
@@ -63,10 +63,10 @@ formatting_changes_no_build command file text main sums asked answered before af
     let found = fmt_printed file text formatted in
     let low : length (layout (plain_lines found.lines)) ≤ longest = subst (λ (t : List ℕ). length t ≤ longest) found.text_is short in
     let also : IsMainFile text main = subst (λ (t : List ℕ). IsMainFile t main) (sym found.text_is) (layout_main file found.lines main found.parsed (subst IsUtf8 found.text_is formatted.1) low is) in
-    same_outcome command file text sums asked answered before after query (queries_move file text sums main main is also (says_itself main)) alike one two
+    same_outcome command file text sums asked answered before after query (queries_move file text sums main main is also (says_itself main)) alike one.0 two.0
 
 -- the only outcome of `fmt` is the layout of the lines
-pub fmt_is : (file : List ℕ) (lines : List (Line Placed)) (outcome : Outcome) → IsParsedAs file (Ok lines) → HasOutcome Fmt file None [] outcome → printed (layout (plain_lines lines)) ≡ outcome
+pub fmt_is : (file : List ℕ) (lines : List (Line Placed)) (outcome : Outcome) → IsParsedAs file (Ok lines) → Ends Fmt file None [] outcome → printed (layout (plain_lines lines)) ≡ outcome
 fmt_is file lines outcome parsed has = fmt_once file (printed (layout (plain_lines lines))) outcome (laid_out lines parsed refl) has
 
 pub layouts_are_formatted : LayoutsAreFormatted
@@ -75,4 +75,4 @@ layouts_are_formatted file text formatted first short again =
     let low : length (layout (plain_lines found.lines)) ≤ longest = subst (λ (t : List ℕ). length t ≤ longest) found.text_is short in
     let read = parsed_layout file found.lines found.parsed (subst IsUtf8 found.text_is first.1) low in
     let parsed : IsParsedAs text (Ok read.doc) = subst (λ (t : List ℕ). IsParsedAs t (Ok read.doc)) (sym found.text_is) read.parsed in
-    sym (fmt_is text read.doc formatted parsed again) ∙ ap printed (read.same_layout ∙ sym found.text_is)
+    sym (fmt_is text read.doc formatted parsed again.0) ∙ ap printed (read.same_layout ∙ sym found.text_is)

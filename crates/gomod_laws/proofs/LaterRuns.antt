@@ -12,7 +12,8 @@ use Rattle.gomod_run.specs.Runs.{is_query}
 use Rattle.gomod_run.specs.Versions.{IsOutcomeByList, IsVersionsOutcome, VersionsNeed}
 use Rattle.gomod_run.proofs.Sameness.{edit_once, fmt_once, versions_once}
 use Rattle.gomod_laws.specs.LaterLaws.{LaterAsksTheSame, LaterPrintsTheSame, OnlyAddsAnswers}
-use Rattle.gomod_laws.specs.Runs.{HasOutcome, HasPrinted}
+use Rattle.gomod_laws.specs.Runs.{HasPrinted}
+use Rattle.gomod_laws.proofs.Ended.{Ends}
 use Rattle.gomod_laws.proofs.FolderRuns.{IsFile, each_is_file, names_in_other, needed_again, needed_is_file, query_is_file, same_outcome}
 use Rattle.gomod_laws.proofs.PrintedRuns.{Pairs}
 use Rattle.gomod_laws.proofs.VersionRuns.{by_answers}
@@ -86,13 +87,13 @@ module _ (path : List ℕ) (all : Bool) (main : List ℕ) (sums : Option (List �
 -- ---- any command
 
 pub later_prints_the_same : LaterPrintsTheSame
-later_prints_the_same command main sums asked later one other run prints adds again = by command run again
+later_prints_the_same command main sums asked later one other run prints adds again = by command run.0 again.0
   where
-    query : (c : Command) → is_query c ≡ true → HasOutcome c main sums asked one → HasOutcome c main sums later other → other ≡ one
+    query : (c : Command) → is_query c ≡ true → Ends c main sums asked one → Ends c main sums later other → other ≡ one
     query c is first second =
         sym (same_outcome c main sums asked later one other (files_stay asked later adds (query_is_file main sums c asked one is first prints)) first second)
 
-    by : (c : Command) → HasOutcome c main sums asked one → HasOutcome c main sums later other → other ≡ one
+    by : (c : Command) → Ends c main sums asked one → Ends c main sums later other → other ≡ one
     by Fmt first second = fmt_once main other one second first
     by (Edit operations) first second = edit_once (texts_in operations) main other one second first
     by (Versions path all) first second =
@@ -105,7 +106,7 @@ pub later_asks_the_same : LaterAsksTheSame
 later_asks_the_same command main sums asked later one other run prints adds again name =
     let same : other ≡ one = later_prints_the_same command main sums asked later one other run.ends prints adds again.ends in
     let also : HasPrinted other = ap (λ (o : Outcome). o.status) same ∙ prints in
-    let alike : AnswerAlike asked later = files_stay asked later adds (each_is_file main sums command asked one run.ends run.in_turn prints) in (
-      names_in_other main sums command later asked other one (alike_back asked later alike) again.in_turn again.ends also run.ends prints name,
-      names_in_other main sums command asked later one other alike run.in_turn run.ends prints again.ends also name,
+    let alike : AnswerAlike asked later = files_stay asked later adds (each_is_file main sums command asked one run.ends.0 run.in_turn prints) in (
+      names_in_other main sums command later asked other one (alike_back asked later alike) again.in_turn again.ends.0 also run.ends.0 prints name,
+      names_in_other main sums command asked later one other alike run.in_turn run.ends.0 prints again.ends.0 also name,
     )

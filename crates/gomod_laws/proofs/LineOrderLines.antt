@@ -277,4 +277,4 @@ say_the_same lines also none nothing hold =
 pub lines_in_any_order : LinesInAnyOrder
 lines_in_any_order command file other lines also sums asked answered a b query is too hold alike one two =
     same_outcome command file other sums asked answered a b query
-    (queries_move file other sums (main_of lines) (main_of also) (lines, is, refl) (also, too, refl) (say_the_same lines also is.1 too.1 hold)) alike one two
+    (queries_move file other sums (main_of lines) (main_of also) (lines, is, refl) (also, too, refl) (say_the_same lines also is.1 too.1 hold)) alike one.0 two.0

@@ -8,14 +8,14 @@ use Rattle.gomod_run.specs.Outcome.{Outcome}
 use Rattle.gomod_words.specs.declared.usage.Command.{Command}
 use Rattle.gomod_run.specs.Runs.{is_query}
 use Rattle.gomod_run.proofs.OneStore.{one_for_stores}
-use Rattle.gomod_laws.specs.Runs.{HasOutcome}
+use Rattle.gomod_laws.proofs.Ended.{Ends}
 
 -- each outcome of a query over the one file is also one over the other
 abbrev pub QueriesMove : List ℕ → List ℕ → Option (List ℕ) → Type 0
 QueriesMove file other sums = (command : Command) (told : Answers) (outcome : Outcome) → QueryEnds (PrintsOf command) (given file sums told) outcome → QueryEnds (PrintsOf command) (given other sums told) outcome
 
 pub same_outcome : (command : Command) (file other : List ℕ) (sums : Option (List ℕ)) (asked answered : List (Name × Reply)) (a b : Outcome) → is_query command ≡ true → QueriesMove file other sums → AnswerAlike asked answered
-    → HasOutcome command file sums asked a → HasOutcome command other sums answered b → a ≡ b
+    → Ends command file sums asked a → Ends command other sums answered b → a ≡ b
 same_outcome command file other sums asked answered a b query moves alike one two =
     let moved = moves command (answers asked []) a (query_ends (given file sums (answers asked [])) a command query one) in
     one_for_stores command (given other sums (answers asked [])) (given other sums (answers answered [])) a b (record { file = refl; sums = refl; answers = alike; failed = refl })

@@ -10,13 +10,14 @@ use Rattle.gomod_run.proofs.PrintedList.{printed_run}
 use Rattle.gomod_run.specs.Outcome.{Outcome}
 use Rattle.gomod_words.specs.declared.usage.Command.{Command}
 use Rattle.gomod_run.specs.Runs.{is_query}
-use Rattle.gomod_laws.specs.Runs.{HasOutcome, HasPrinted}
+use Rattle.gomod_laws.specs.Runs.{HasPrinted}
+use Rattle.gomod_laws.proofs.Ended.{Ends}
 
 abbrev pub Pairs : Type 0
 Pairs = List (Name × Reply)
 
 -- what a query that prints is based on
-pub valid_files : (command : Command) (file : List ℕ) (sums : Option (List ℕ)) (asked : Pairs) (outcome : Outcome) → is_query command ≡ true → HasOutcome command file sums asked outcome → HasPrinted outcome
+pub valid_files : (command : Command) (file : List ℕ) (sums : Option (List ℕ)) (asked : Pairs) (outcome : Outcome) → is_query command ≡ true → Ends command file sums asked outcome → HasPrinted outcome
     → (main : Main) × (held : Held) × AllFilesAreValid (given file sums (answers asked [])) main held
 valid_files command file sums asked outcome query run done =
     let (main, held, valid, says) =

@@ -26,7 +26,7 @@ use Rattle.gomod_words.specs.declared.usage.Command.{Command}
 use Rattle.gomod_words.specs.declared.usage.Command.TheVariants.{Fmt, Edit, Versions, Graph, List as Rows, Chain}
 use Rattle.gomod_run.proofs.OneStore.{one_for_stores}
 use Rattle.gomod_run.proofs.QueryParts.{LoadingEnd, Parts, are_read, is_broken, is_known, is_many, joined, parts, unread}
-use Rattle.gomod_laws.specs.Runs.{HasOutcome}
+use Rattle.gomod_laws.proofs.Ended.{Ends}
 use Rattle.gomod_laws.specs.SumLaws.{HasNeedlessLines, HasSumLine, NeedlessLinesChangeNothing, SumLinesInAnyOrder}
 use Rattle.gomod_laws.proofs.Carried.{IsCarried, Known, opened_too, reading_kept, told_kept}
 use Rattle.gomod_laws.proofs.SumsChecked.{answered_name}
@@ -189,8 +189,8 @@ module _ (prints : PrintsOver) (once : PrintsOnce prints) (main one other : List
 -- ---- commands that read no go.sum
 
 module _ (command : Command) (main one other : List ℕ) (asked others : List (Name × Reply)) (a b : Outcome) where
-  same_unread : AnswerAlike asked others → (HasOutcome command main (Some one) asked a → HasOutcome command main (Some other) asked a)
-      → HasOutcome command main (Some one) asked a → HasOutcome command main (Some other) others b → a ≡ b
+  same_unread : AnswerAlike asked others → (Ends command main (Some one) asked a → Ends command main (Some other) asked a)
+      → Ends command main (Some one) asked a → Ends command main (Some other) others b → a ≡ b
   same_unread alike carried is be =
       one_for_stores command (given main (Some other) (answers asked [])) (given main (Some other) (answers others [])) a b
       (record { file = refl; sums = refl; answers = alike; failed = refl }) (carried is) be
@@ -198,7 +198,7 @@ module _ (command : Command) (main one other : List ℕ) (asked others : List (N
 -- ---- the laws
 
 same_sums_change_nothing : (command : Command) (main one other : List ℕ) (asked others : List (Name × Reply)) (a b : Outcome) → AnswerAlike asked others → HaveSameSums main one other asked
-    → HasOutcome command main (Some one) asked a → HasOutcome command main (Some other) others b → a ≡ b
+    → Ends command main (Some one) asked a → Ends command main (Some other) others b → a ≡ b
 same_sums_change_nothing Fmt main one other asked others a b alike are is be = same_unread Fmt main one other asked others a b alike (λ run. run) is be
 same_sums_change_nothing (Edit operations) main one other asked others a b alike are is be =
     same_unread (Edit operations) main one other asked others a b alike (λ run. run) is be
@@ -238,7 +238,7 @@ by_needed main one other asked are = record {
 
 pub needless_lines_change_nothing : NeedlessLinesChangeNothing
 needless_lines_change_nothing command main one other asked others a b alike are is be =
-    same_sums_change_nothing command main one other asked others a b alike (by_needed main one other asked are) is be
+    same_sums_change_nothing command main one other asked others a b alike (by_needed main one other asked are) is.0 be.0
 
 -- lines in another order are needless lines, of which there are none
 pub sum_lines_in_any_order : SumLinesInAnyOrder

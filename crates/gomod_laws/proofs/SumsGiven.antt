@@ -6,12 +6,12 @@ use Rattle.gomod_run.specs.Outcome.{Outcome}
 use Rattle.gomod_words.specs.declared.usage.Command.{Command}
 use Rattle.gomod_run.specs.Outcomes.{answers, given}
 use Rattle.gomod_run.proofs.OneStore.{one_for_stores}
-use Rattle.gomod_laws.specs.Runs.{HasOutcome}
+use Rattle.gomod_laws.proofs.Ended.{Ends}
 
 module _ (command : Command) (main sums : List ℕ) (asked others : List (Name × Reply)) (one other : Outcome) where
   pub same_unread : AnswerAlike asked others
-      → (HasOutcome command main (Some sums) asked one → HasOutcome command main None asked one)
-      → HasOutcome command main (Some sums) asked one → HasOutcome command main None others other → one ≡ other
+      → (Ends command main (Some sums) asked one → Ends command main None asked one)
+      → Ends command main (Some sums) asked one → Ends command main None others other → one ≡ other
   same_unread alike unread is be =
       one_for_stores command (given main None (answers asked [])) (given main None (answers others [])) one other
       (record { file = refl; sums = refl; answers = alike; failed = refl }) (unread is) be

@@ -50,22 +50,22 @@ one_unchecked prints once main sums asked others one other alike ends is be =
 
 pub only_refuses : OnlyRefuses
 only_refuses Fmt main sums asked others one other alike is be ends =
-    sym (same_unread Fmt main sums asked others one other alike (λ run. run) is be)
+    sym (same_unread Fmt main sums asked others one other alike (λ run. run) is.0 be.0)
 only_refuses (Edit operations) main sums asked others one other alike is be ends =
-    sym (same_unread (Edit operations) main sums asked others one other alike (λ run. run) is be)
+    sym (same_unread (Edit operations) main sums asked others one other alike (λ run. run) is.0 be.0)
 only_refuses (Versions path all) main sums asked others one other alike is be ends =
-    sym (same_unread (Versions path all) main sums asked others one other alike (λ run. run) is be)
+    sym (same_unread (Versions path all) main sums asked others one other alike (λ run. run) is.0 be.0)
 only_refuses Graph main sums asked others one other alike is be ends =
     one_unchecked PrintsGraph graph_once main sums asked others one other alike ends
-    (graph_held (given main (Some sums) (answers asked [])) one is) (graph_held (given main None (answers others [])) other be)
+    (graph_held (given main (Some sums) (answers asked [])) one is.0) (graph_held (given main None (answers others [])) other be.0)
 only_refuses (Rows after limit) main sums asked others one other alike is be ends =
     one_unchecked (PrintsList after limit) (list_once after limit) main sums asked others one other alike ends
-    (list_held (given main (Some sums) (answers asked [])) one after limit is)
-    (list_held (given main None (answers others [])) other after limit be)
+    (list_held (given main (Some sums) (answers asked [])) one after limit is.0)
+    (list_held (given main None (answers others [])) other after limit be.0)
 only_refuses (Chain path) main sums asked others one other alike is be ends =
     one_unchecked (PrintsChain path) (chain_once path) main sums asked others one other alike ends
-    (chain_held (given main (Some sums) (answers asked [])) one path is)
-    (chain_held (given main None (answers others [])) other path be)
+    (chain_held (given main (Some sums) (answers asked [])) one path is.0)
+    (chain_held (given main None (answers others [])) other path be.0)
 
 -- ---- a go.sum with the right hashes changes nothing
 
@@ -162,21 +162,21 @@ alike_back asked others alike name a b e f = sym (alike name b a f e)
 
 pub right_sums_change_nothing : RightSumsChangeNothing
 right_sums_change_nothing Fmt main sums asked others one other alike right is be =
-    same_unread Fmt main sums others asked other one (alike_back asked others alike) (λ run. run) be is
+    same_unread Fmt main sums others asked other one (alike_back asked others alike) (λ run. run) be.0 is.0
 right_sums_change_nothing (Edit operations) main sums asked others one other alike right is be =
     same_unread (Edit operations) main sums others asked other one (alike_back asked others alike)
-    (λ run. run) be is
+    (λ run. run) be.0 is.0
 right_sums_change_nothing (Versions path all) main sums asked others one other alike right is be =
     same_unread (Versions path all) main sums others asked other one (alike_back asked others alike)
-    (λ run. run) be is
+    (λ run. run) be.0 is.0
 right_sums_change_nothing Graph main sums asked others one other alike right is be =
     one_checked PrintsGraph graph_once main sums asked others one other alike right
-    (graph_held (given main None (answers asked [])) one is) (graph_held (given main (Some sums) (answers others [])) other be)
+    (graph_held (given main None (answers asked [])) one is.0) (graph_held (given main (Some sums) (answers others [])) other be.0)
 right_sums_change_nothing (Rows after limit) main sums asked others one other alike right is be =
     one_checked (PrintsList after limit) (list_once after limit) main sums asked others one other alike right
-    (list_held (given main None (answers asked [])) one after limit is)
-    (list_held (given main (Some sums) (answers others [])) other after limit be)
+    (list_held (given main None (answers asked [])) one after limit is.0)
+    (list_held (given main (Some sums) (answers others [])) other after limit be.0)
 right_sums_change_nothing (Chain path) main sums asked others one other alike right is be =
     one_checked (PrintsChain path) (chain_once path) main sums asked others one other alike right
-    (chain_held (given main None (answers asked [])) one path is)
-    (chain_held (given main (Some sums) (answers others [])) other path be)
+    (chain_held (given main None (answers asked [])) one path is.0)
+    (chain_held (given main (Some sums) (answers others [])) other path be.0)

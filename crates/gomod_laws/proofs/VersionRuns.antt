@@ -13,7 +13,8 @@ use Rattle.gomod_run.specs.Needs.{AnswersByName}
 use Rattle.gomod_words.specs.declared.usage.Command.TheVariants.{Versions}
 use Rattle.gomod_run.specs.Versions.{answered as heard, device, IsListedOutcome, IsOutcomeByList, IsShownBy, IsVersionsOutcome, versions_line}
 use Rattle.gomod_run.proofs.Uniqueness.{listed_once}
-use Rattle.gomod_laws.specs.Runs.{HasOutcome, HasPrinted}
+use Rattle.gomod_laws.specs.Runs.{HasPrinted}
+use Rattle.gomod_laws.proofs.Ended.{Ends}
 use Rattle.gomod_laws.specs.VersionLaws.{AreUnretracted, RetractedAreLeftOut}
 
 abbrev Pairs : Type 0
@@ -27,7 +28,7 @@ refusal_prints_nothing outcome report is prints = let one : 1 ≡ 0 = sym (ap {B
 
 -- the outcome of `versions`, by the answers of the run
 pub by_answers : (path : List ℕ) (all : Bool) (main : List ℕ) (sums : Option (List ℕ)) (asked : Pairs) (outcome : Outcome)
-    → HasOutcome (Versions path all) main sums asked outcome → IsVersionsOutcome path all (answer_in asked) outcome
+    → Ends (Versions path all) main sums asked outcome → IsVersionsOutcome path all (answer_in asked) outcome
 by_answers path all main sums asked outcome (heard is none) = is
 by_answers path all main sums asked outcome (device name need unanswered some says) = absurd (let none : [] ≡ name ∷ [] = some in cc none)
 
@@ -85,7 +86,7 @@ all_printed path answers list versions outcome fetchable listed same (inr (reply
 
 pub retracted_are_left_out : RetractedAreLeftOut
 retracted_are_left_out path main sums asked told one other run prints also alike =
-    let (versions, is, follows) = list_answered path false (answer_in asked) one prints (by_answers path false main sums asked one run) in
+    let (versions, is, follows) = list_answered path false (answer_in asked) one prints (by_answers path false main sums asked one run.0) in
     let (shown, are, says) = shown_printed path asked versions one prints follows in
     let same : (reply : Reply) → answer_in told (list_file path) ≡ Some reply → reply ≡ bytes is.list = λ reply answered. sym (alike (list_file path) (bytes is.list) reply is.answered answered) in
     record {
@@ -94,5 +95,5 @@ retracted_are_left_out path main sums asked told one other run prints also alike
       listed = record { list = is.list; answered = is.answered; are = is.listed };
       unretracted = are;
       one_prints = says;
-      other_prints = all_printed path (answer_in told) is.list versions other is.fetchable is.listed same (by_answers path true main sums told other also);
+      other_prints = all_printed path (answer_in told) is.list versions other is.fetchable is.listed same (by_answers path true main sums told other also.0);
     }

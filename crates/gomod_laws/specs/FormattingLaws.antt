@@ -1,6 +1,5 @@
 -- What formatting a file leaves as it is.
 use Rattle.std.specs.Prelude.{◌≡◌, ◌≤◌, ℕ, List, [], Option, None, length, true}
-use Rattle.std.specs.Str.{IsUtf8}
 use Rattle.gm_store.specs.Asked.{Name, Reply}
 use Rattle.gm_file.specs.Main.{Main, IsMainFile}
 use Rattle.gomod_run.specs.ListingLaws.{AnswerAlike}
@@ -11,9 +10,9 @@ use Rattle.gomod_words.specs.declared.usage.Command.TheVariants.{Fmt}
 use Rattle.gomod_run.specs.Runs.{is_query}
 use Rattle.gomod_laws.specs.Runs.{HasOutcome}
 
--- `fmt` prints this text, which is UTF-8, of a file with these bytes
+-- `fmt` prints this text of a file with these bytes
 abbrev pub IsFormatted : List ℕ → List ℕ → Type 0
-IsFormatted file text = HasOutcome Fmt file None [] (printed text) × IsUtf8 text
+IsFormatted file text = HasOutcome Fmt file None [] (printed text)
 
 -- `list`, `graph` and `chain` come to the same over a valid main file and over what `fmt` prints of it, if that has at
 -- most 16,777,216 bytes. More can't be read, and a layout can have more bytes than its file.

@@ -1,23 +1,23 @@
 -- Runs of commands, as the laws speak of them.
 use Rattle.std.specs.Prelude.{◌≡◌, ℕ, List, [], Option, None, String}
 use Rattle.std.specs.Global.{Global, Vec}
-use Rattle.std.specs.Str.{IsUtf8}
 use Rattle.gm_store.specs.Asked.{Name, Reply}
 use Rattle.gomod_run.specs.Outcome.{Outcome, printed}
 use Rattle.gomod_words.specs.declared.usage.Command.{Command}
 use Rattle.gomod_words.specs.declared.usage.Command.TheVariants.{Edit}
 use Rattle.gomod_run.specs.Outcomes.{answers, given}
 use Rattle.gomod_run.specs.Runs.{RunEnds}
+use Rattle.gomod_run.specs.Written.{InUtf8}
 
 -- The command, over the bytes of a main file, those of a go.sum where one is given, and a store that gave these
--- answers and whose device did not fail, has this outcome.
+-- answers and whose device did not fail, has this outcome, as the clause `ends` of `run` states it: its text is UTF-8.
 abbrev pub HasOutcome : Command → List ℕ → Option (List ℕ) → List (Name × Reply) → Outcome → Type 0
-HasOutcome command main sums asked outcome = RunEnds command (given main sums (answers asked [])) outcome
+HasOutcome command main sums asked outcome = InUtf8 (RunEnds command (given main sums (answers asked []))) outcome
 
 -- the command prints: its status is 0, and nothing is reported
 abbrev pub HasPrinted : Outcome → Type 0
 HasPrinted outcome = outcome.status ≡ 0
 
--- `edit` with these operations prints this text, which is UTF-8, of a file with these bytes
+-- `edit` with these operations prints this text of a file with these bytes
 abbrev pub IsEdited : Vec (String Global) → List ℕ → List ℕ → Type 0
-IsEdited operations file text = HasOutcome (Edit operations) file None [] (printed text) × IsUtf8 text
+IsEdited operations file text = HasOutcome (Edit operations) file None [] (printed text)
