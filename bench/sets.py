@@ -212,7 +212,8 @@ def make_sums(work, small):
 def make_strange(work, small):
     """Inputs that are made to be slow, or to take memory: the name of a folder, what it is, and its size."""
     found = []
-    for count in (200, 400, 800) if small else (8_000, 16_000, 32_000):
+    shared = [(200, 200), (400, 400)] if small else [(8_000,) * 2, (16_000,) * 2, (32_000,) * 2, (60_000, 300_000)]
+    for count, required in shared:
         # What has the last row is required by the module that a search comes to last.
         name, one, two = f"shared{count}", "example.com/one", "example.com/two"
         versions = "".join(f"\t{one} v1.0.{it}\n" for it in range(count))
@@ -220,11 +221,11 @@ def make_strange(work, small):
               "module example.com/main\n\ngo 1.17\n\n"
               f"replace {one} => ./one\n\nreplace {two} => ./two\n\nrequire (\n{versions}\t{two} v1.0.0\n)\n")
         write(f"{work}/{name}/two/go.mod", f"module {two}\n\ngo 1.17\n\nrequire example.com/two/last v1.0.0\n")
-        needs = "".join(f"\texample.com/needed{it} v1.0.0\n" for it in range(count))
+        needs = "".join(f"\texample.com/needed{it} v1.0.0\n" for it in range(required))
         write(f"{work}/{name}/one/go.mod", f"module {one}\n\ngo 1.17\n\nrequire (\n{needs})\n")
         os.makedirs(f"{work}/{name}/proxy")
-        found.append((name, f"{count:,} versions that share a file of {count:,} requirements"))
-    count, limit = (5, LIMIT // 16) if small else (20, LIMIT)
+        found.append((name, f"{count:,} versions that share a file of {required:,} requirements"))
+    count, limit = (5, LIMIT // 16) if small else (60, LIMIT)
     graph = Graph(f"{work}/long")
     modules = [(f"example.com/long{place}", "v1.0.0") for place in range(count)]
     for path, version in modules:
