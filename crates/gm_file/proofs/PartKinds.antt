@@ -1,8 +1,17 @@
 -- The kinds of faults of paths, versions and pairs, from the facts of gm_name.
-use Rattle.std.proofs.Common.{◌≡◌, ◌↔◌, ℕ, Bool, true, false, List, [], ◌∷◌, Some, refl, ap}
-use Rattle.gm_file.specs.declared.fault.DirectiveKind.TheVariants.{BadPath, BadVersion, Misfit}
+use Rattle.std.proofs.Common.{◌≡◌, ◌↔◌, ℕ, Bool, true, false, List, [], ◌∷◌, Err, IsErr, Ok, Result, Some, refl, ap}
+use Rattle.gm_file.specs.declared.fault.DirectiveKind.TheVariants.{BadPath, BadVersion, Misfit, WrongArguments}
+use Rattle.gm_file.specs.declared.fault.LineFault.{LineFault}
 use Rattle.gm_file.specs.Faults.{pair_kinds, path_kinds, unless, version_kinds}
-use Rattle.gm_file.specs.Directives.{pair}
+use Rattle.gm_file.specs.Directives.{pair as pair_from}
+use Rattle.gm_file.specs.Reading.{IsRead}
+use Rattle.gm_file.specs.Views.{of_pair_fault, of_path_fault, of_version_fault}
+use Rattle.gm_name.specs.declared.known_names.PairFault.{PairFault}
+use Rattle.gm_name.specs.declared.known_names.PairFault.TheVariants as pair
+use Rattle.gm_name.specs.declared.path.PathFault.{PathFault}
+use Rattle.gm_name.specs.declared.path.PathFault.TheVariants as path
+use Rattle.gm_name.specs.declared.version.VersionFault.{VersionFault}
+use Rattle.gm_name.specs.declared.version.VersionFault.TheVariants as version
 use Rattle.gm_name.specs.ModuleVersion.{ModuleVersion}
 use Rattle.gm_file.specs.Fields.{first}
 use Rattle.gm_name.proofs.NameTests.{fit-tested, path-tested, version-tested}
@@ -41,11 +50,11 @@ pair-misfit path version p v none = rw (p, v, fit-bad path version none) refl
 
 -- a valid path and a valid version, which fit or don't
 pub pair-read : (path version p v : List ℕ) (q : ModuleVersion) → Some path ≡ Some p → path_kinds p ≡ [] → Some version ≡ Some v → version_kinds v ≡ [] → q ≡ (p, v) → Fits p v
-    → (Some (pair path version) ≡ Some q) × (pair_kinds q ≡ [])
+    → (Some (pair_from path version) ≡ Some q) × (pair_kinds q ≡ [])
 pair-read path version p v q is-p sound-p is-v sound-v is-q fit =
     let e : path ≡ p = cc in
     let f : version ≡ v = cc in
-    (cc (ap (λ (x : List ℕ). Some (pair x version)) e, ap (λ (x : List ℕ). Some (pair p x)) f), rw is-q (pair-sound p v sound-p sound-v fit))
+    (cc (ap (λ (x : List ℕ). Some (pair_from x version)) e, ap (λ (x : List ℕ). Some (pair_from p x)) f), rw is-q (pair-sound p v sound-p sound-v fit))
 
 -- two texts of which one is invalid
 pub pair-bad-path : (path version : List ℕ) → ¬ (IsPath path) → first (pair_kinds (path, version)) ≡ Some BadPath
@@ -53,3 +62,31 @@ pair-bad-path path version fails = rw (path-bad path fails) refl
 
 pub pair-bad-version : (path version : List ℕ) → IsPath path → ¬ (IsVersion version) → first (pair_kinds (path, version)) ≡ Some BadVersion
 pair-bad-version path version holds fails = rw (path-sound path holds, version-bad version fails) refl
+
+-- ---- names that are refused: the fault of the line is the first of its kinds
+
+pub refused-as : {Y : Type 0} (r : Result Y LineFault) (f : LineFault) → IsErr r → ((h : LineFault) → r ≡ Err h → h ≡ f) → r ≡ Err f
+refused-as (Ok y) f is same = absurd (cc is)
+refused-as (Err h) f is same = ap Err (same h refl)
+
+pub path-kind : (text : List ℕ) (e : PathFault) → (◌≡◌ {A = Result (List ℕ) PathFault} (Err e) (Err path.BadPath) → ¬ (IsPath text))
+    → IsRead {X = List ℕ} {Y = List ℕ} (λ p. p) WrongArguments path_kinds (Some text) (Err (of_path_fault e))
+path-kind text path.NoMemory bad = tt
+path-kind text path.BadPath bad = rw (path-bad text (bad refl)) refl
+
+pub version-kind : (text : List ℕ) (e : VersionFault) → (◌≡◌ {A = Result (List ℕ) VersionFault} (Err e) (Err version.BadVersion) → ¬ (IsVersion text))
+    → (◌≡◌ {A = Result (List ℕ) VersionFault} (Err e) (Err version.NotCanonical) → ¬ (IsVersion text))
+    → IsRead {X = List ℕ} {Y = List ℕ} (λ v. v) WrongArguments version_kinds (Some text) (Err (of_version_fault e))
+version-kind text version.NoMemory bad other = tt
+version-kind text version.BadVersion bad other = rw (version-bad text (bad refl)) refl
+version-kind text version.NotCanonical bad other = rw (version-bad text (other refl)) refl
+
+pub pair-kind : (path version : List ℕ) (e : PairFault) → (◌≡◌ {A = Result ModuleVersion PairFault} (Err e) (Err pair.BadPath) → ¬ (IsPath path))
+    → (◌≡◌ {A = Result ModuleVersion PairFault} (Err e) (Err pair.BadVersion) → IsPath path × ¬ (IsVersion version))
+    → (◌≡◌ {A = Result ModuleVersion PairFault} (Err e) (Err pair.Misfit) → IsPath path × IsVersion version × ¬ (Fits path version))
+    → IsRead {X = ModuleVersion} {Y = ModuleVersion} (λ p. p) WrongArguments pair_kinds (Some (path, version)) (Err (of_pair_fault e))
+pair-kind path version pair.NoMemory a b c = tt
+pair-kind path version pair.BadPath a b c = pair-bad-path path version (a refl)
+pair-kind path version pair.BadVersion a b c = let bad = b refl in pair-bad-version path version bad.0 bad.1
+pair-kind path version pair.Misfit a b c =
+    let bad = c refl in pair-misfit path version (path-sound path bad.0) (version-sound version bad.1) bad.2

@@ -96,6 +96,16 @@ module _ (lines : List (Line Word)) (path version : List ℕ) (words : List Word
   entry-next fields (Ok u) found added = requires-more fields found added
   entry-next fields (Err fault) found told = requires-fault fields fault told
 
+  -- a requirement is added, or refused
+  pub required-next : (now : Requirements) (result : Result (Unit {0}) LineFault) → AreFound old.fields
+      → OnOk result (now.items ≡ old.fields.requirements.items ++ (path, version) ∷ [])
+      → IsRead {Y = Unit {0}} (λ _. (path, version)) WrongArguments pair_kinds (Some (path, version)) result
+      → IsNextLineOf lines (Entry words suffix) (record old { fields = record old.fields { requirements = now } }) result
+  required-next now (Ok u) found items told =
+      requires-more (record old.fields { requirements = now }) (record { excludes = found.excludes; replaces = found.replaces }) (require-added old.fields now path version (Ok u) items told)
+  required-next now (Err fault) found items told =
+      requires-fault (record old.fields { requirements = now }) fault (require-added old.fields now path version (Err fault) items told)
+
 -- ---- outside blocks
 
 pub single-module : (verb value : List ℕ) → bytes_eq verb (codes "module") ≡ true → directive_in Lax (single_item verb value) ≡ Some (DeclaresModule value)

@@ -14,6 +14,13 @@ use Rattle.gm_file.specs.declared.fault.LineFault.{LineFault}
 use Rattle.gm_file.specs.declared.fault.LineFault.TheVariants as line
 use Rattle.gm_file.specs.declared.fault.FileFault.{FileFault}
 use Rattle.gm_file.specs.declared.fault.FileFault.TheVariants as fault
+use Rattle.gm_file.specs.declared.fault.DirectiveKind.TheVariants.{BadPath, BadVersion, Misfit}
+use Rattle.gm_name.specs.declared.known_names.PairFault.{PairFault}
+use Rattle.gm_name.specs.declared.known_names.PairFault.TheVariants as pair
+use Rattle.gm_name.specs.declared.path.PathFault.{PathFault}
+use Rattle.gm_name.specs.declared.path.PathFault.TheVariants as path
+use Rattle.gm_name.specs.declared.version.VersionFault.{VersionFault}
+use Rattle.gm_name.specs.declared.version.VersionFault.TheVariants as version
 use Rattle.gm_file.specs.Directives.{Mode, VersionInterval, Left, Replacing, Right, Folder, Module}
 use Rattle.gm_file.specs.Faults.{fault_of}
 
@@ -45,6 +52,22 @@ interval_views is = map interval_view is
 abbrev pub ReportsFault : Mode → List (Line Word) → FileFault → Type 0
 ReportsFault mode lines fault.NoMemory = ⊤
 ReportsFault mode lines (fault.Directive line kind) = fault_of mode lines ≡ Some (line, kind)
+
+-- the fault of a line whose path, version or pair is refused
+abbrev pub of_path_fault : PathFault → LineFault
+of_path_fault path.NoMemory = line.NoMemory
+of_path_fault path.BadPath = line.Kind BadPath
+
+abbrev pub of_version_fault : VersionFault → LineFault
+of_version_fault version.NoMemory = line.NoMemory
+of_version_fault version.BadVersion = line.Kind BadVersion
+of_version_fault version.NotCanonical = line.Kind BadVersion
+
+abbrev pub of_pair_fault : PairFault → LineFault
+of_pair_fault pair.NoMemory = line.NoMemory
+of_pair_fault pair.BadPath = line.Kind BadPath
+of_pair_fault pair.BadVersion = line.Kind BadVersion
+of_pair_fault pair.Misfit = line.Kind Misfit
 
 -- the fault of a line as one of the file
 abbrev pub file_fault_at : ℕ → LineFault → FileFault

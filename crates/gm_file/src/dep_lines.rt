@@ -5,7 +5,7 @@ ghost use Rattle.std.specs.Option.{option_map};
 ghost use Rattle.gm_syntax.specs.Document.{Line as LineOf};
 ghost use Rattle.gm_syntax.specs.LineReading.{HasRead, Unread};
 ghost use Rattle.gm_syntax.specs.LineViews.{line_of, line_views, plain, plain_lines};
-ghost use Rattle.gm_syntax.specs.SimpleLines.{pair_line, triple_line, IsSimpleRead};
+ghost use Rattle.gm_syntax.specs.SimpleLines.{IsSimpleRead};
 ghost use Rattle.gm_syntax.specs.Tokens.{Placed};
 ghost use Rattle.gm_syntax.specs.Words.{Word};
 ghost use Rattle.gm_file.specs.DepLines.{AreAllRead, AreDepLines, HasNextFault, IsNextLineOf};
@@ -100,49 +100,6 @@ impl<'a> DepLines<'a> {
         }
     }
 
-    /// Reads the next line, which is these two bare words.
-    fn read_pair(
-        &mut self,
-        names: &mut KnownNames,
-        first: &str,
-        second: &str,
-    ) -> Result<(), LineFault>
-        requires block { TakesSimple self.old }
-        requires found { AreFound self.old.fields }
-        ensures block { self.new.block ≡ self.old.block }
-        ensures before { self.new.fields.requirements.before ≡ self.old.fields.requirements.before }
-        ensures found { OnOk result (AreFound self.new.fields) }
-        ensures read { (lines : List (LineOf Word)) (suffix : Option (List ℕ)) → AreDepLines lines self.old
-            → IsNextLineOf lines (pair_line first.now second.now suffix) self.new result }
-    {
-        if self.block.is_some() {
-            return self.fields.read_requirement(names, first, second);
-        }
-        self.fields.read_single(names, first, second)
-    }
-
-    /// Reads the next line, which is `require` and these two bare words.
-    fn read_pair_after(
-        &mut self,
-        names: &mut KnownNames,
-        path: &str,
-        version: &str,
-    ) -> Result<(), LineFault>
-        requires block { TakesSimple self.old }
-        requires found { AreFound self.old.fields }
-        ensures block { self.new.block ≡ self.old.block }
-        ensures before { self.new.fields.requirements.before ≡ self.old.fields.requirements.before }
-        ensures found { OnOk result (AreFound self.new.fields) }
-        ensures read { (lines : List (LineOf Word)) (suffix : Option (List ℕ)) → AreDepLines lines self.old
-            → IsNextLineOf lines (triple_line (codes "require") path.now version.now suffix) self.new result }
-    {
-        // In a block of `require` these are three arguments.
-        if self.block.is_some() {
-            return Err(LineFault::Kind(DirectiveKind::WrongArguments));
-        }
-        self.fields.read_requirement(names, path, version)
-    }
-
     /// Reads the next line, which is simple. The verb that was asked for is `require`.
     // Inlined, so that the line isn't moved.
     #[inline(always)]
@@ -158,8 +115,19 @@ impl<'a> DepLines<'a> {
     {
         match line {
             SimpleLine::Blank => Ok(()),
-            SimpleLine::Pair(first, second) => self.read_pair(names, first, second),
-            SimpleLine::PairAfter(path, version) => self.read_pair_after(names, path, version),
+            SimpleLine::Pair(first, second) => {
+                if self.block.is_some() {
+                    return self.fields.requirements.read(names, first, second);
+                }
+                self.fields.read_single(names, first, second)
+            }
+            SimpleLine::PairAfter(path, version) => {
+                // In a block of `require` these are three arguments.
+                if self.block.is_some() {
+                    return Err(LineFault::Kind(DirectiveKind::WrongArguments));
+                }
+                self.fields.requirements.read(names, path, version)
+            }
             SimpleLine::Opening(verb) => {
                 set_block(&mut self.block, Some(verb));
                 Ok(())

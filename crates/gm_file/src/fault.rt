@@ -1,10 +1,11 @@
 //! The faults of directives, lines and files.
 
 ghost use Rattle.std.specs.Prelude.{◌≡◌};
-ghost use Rattle.gm_file.specs.Views.{file_fault_at};
+ghost use Rattle.gm_file.specs.Views.{file_fault_at, of_pair_fault, of_path_fault, of_version_fault};
 ghost use Rattle.gm_file.specs.declared.fault.FileFault.TheVariants as file;
 ghost use Rattle.gm_file.specs.declared.fault.LineFault.TheVariants as line;
 
+use gm_name::{PairFault, PathFault, VersionFault};
 use std::alloc::{AllocError, AllocFailed};
 use thiserror::Error;
 
@@ -91,6 +92,46 @@ impl<T: Drop> From<AllocFailed<T>> for LineFault {
 
     fn from(_error: AllocFailed<T>) -> LineFault {
         LineFault::NoMemory
+    }
+}
+
+/// A text that is no module path is a `BadPath`.
+impl From<PathFault> for LineFault {
+    ghost from_gives = { λ path fault. fault ≡ of_path_fault path };
+
+    fn from(fault: PathFault) -> LineFault {
+        match fault {
+            PathFault::NoMemory => LineFault::NoMemory,
+            PathFault::BadPath => LineFault::Kind(DirectiveKind::BadPath),
+        }
+    }
+}
+
+/// A text that is no version, or isn't canonical, is a `BadVersion`.
+impl From<VersionFault> for LineFault {
+    ghost from_gives = { λ version fault. fault ≡ of_version_fault version };
+
+    fn from(fault: VersionFault) -> LineFault {
+        match fault {
+            VersionFault::NoMemory => LineFault::NoMemory,
+            VersionFault::BadVersion | VersionFault::NotCanonical => {
+                LineFault::Kind(DirectiveKind::BadVersion)
+            }
+        }
+    }
+}
+
+/// Two texts are refused for the path, for the version, or because they don't fit.
+impl From<PairFault> for LineFault {
+    ghost from_gives = { λ pair fault. fault ≡ of_pair_fault pair };
+
+    fn from(fault: PairFault) -> LineFault {
+        match fault {
+            PairFault::NoMemory => LineFault::NoMemory,
+            PairFault::BadPath => LineFault::Kind(DirectiveKind::BadPath),
+            PairFault::BadVersion => LineFault::Kind(DirectiveKind::BadVersion),
+            PairFault::Misfit => LineFault::Kind(DirectiveKind::Misfit),
+        }
     }
 }
 

@@ -9,7 +9,7 @@ ghost use Rattle.gm_file.specs.DirectiveViews.{directive_view};
 ghost use Rattle.gm_file.specs.Faults.{go_in, path_kinds};
 ghost use Rattle.gm_file.specs.Holding.{AreFound, AreRead, Holds, IsAdded, IsLineAdded};
 ghost use Rattle.gm_file.specs.Reading.{own_kinds};
-ghost use Rattle.gm_file.specs.SimpleLines.{require_item, single_item};
+ghost use Rattle.gm_file.specs.SimpleLines.{single_item};
 ghost use Rattle.gm_file.specs.VerbViews.{mode_view};
 ghost use Rattle.gm_file.specs.Views.{ReportsFault};
 
@@ -143,21 +143,6 @@ impl Fields {
             }
             Directive::Kept => Ok(()),
         }
-    }
-
-    /// Adds the requirement that these two bare words of a `require` in a dependency's file spell.
-    pub(crate) fn read_requirement(
-        &mut self,
-        names: &mut KnownNames,
-        path: &str,
-        version: &str,
-    ) -> Result<(), LineFault>
-        requires { AreFound self.old }
-        ensures before { self.new.requirements.before ≡ self.old.requirements.before }
-        ensures found { OnOk result (AreFound self.new) }
-        ensures added { IsLineAdded Lax self.old self.new (require_item path.now version.now) result }
-    {
-        self.requirements.read(names, path, version)
     }
 
     /// Adds the directive of this verb and this value, which are the bare words of a line outside blocks in a

@@ -15,7 +15,7 @@ ghost use Rattle.gm_file.specs.Views.{interval_view};
 
 use crate::fault::{DirectiveKind, LineFault};
 use crate::replace::Interval;
-use gm_name::{KnownNames, ModPath, ModVer, ModVersion, PairFault, PathFault, VersionFault};
+use gm_name::{KnownNames, ModPath, ModVer, ModVersion};
 use gm_syntax::{Kind, Token};
 use std::alloc::Global;
 use std::borrow::CowStr;
@@ -69,27 +69,14 @@ pub(crate) fn one_value(alloc: Global, words: &[Token]) -> Result<String, LineFa
 pub(crate) fn read_path(names: &mut KnownNames, text: &str) -> Result<ModPath, LineFault>
     ensures { IsRead (λ path. path) DirectiveKind.WrongArguments path_kinds (Some text.now) result }
 {
-    match names.path(text) {
-        Ok(path) => Ok(path),
-        Err(fault) => match fault {
-            PathFault::NoMemory => Err(LineFault::NoMemory),
-            PathFault::BadPath => Err(LineFault::Kind(DirectiveKind::BadPath)),
-        },
-    }
+    Ok(names.path(text)?)
 }
 
 /// The canonical version that a text spells. Any other text is refused with `BadVersion`.
 pub(crate) fn read_version(names: &mut KnownNames, text: &str) -> Result<ModVersion, LineFault>
     ensures { IsRead (λ version. version) DirectiveKind.WrongArguments version_kinds (Some text.now) result }
 {
-    match names.version(text) {
-        Ok(version) => Ok(version),
-        Err(fault) => match fault {
-            VersionFault::NoMemory => Err(LineFault::NoMemory),
-            VersionFault::BadVersion => Err(LineFault::Kind(DirectiveKind::BadVersion)),
-            VersionFault::NotCanonical => Err(LineFault::Kind(DirectiveKind::BadVersion)),
-        },
-    }
+    Ok(names.version(text)?)
 }
 
 /// The path and the version that two texts spell. The texts are refused with `BadPath`, then with `BadVersion`,
@@ -101,15 +88,7 @@ pub(crate) fn pair_of_texts(
 ) -> Result<ModVer, LineFault>
     ensures { IsRead (λ pair. pair) DirectiveKind.WrongArguments pair_kinds (Some (path.now, version.now)) result }
 {
-    match names.pair(path, version) {
-        Ok(pair) => Ok(pair),
-        Err(fault) => match fault {
-            PairFault::NoMemory => Err(LineFault::NoMemory),
-            PairFault::BadPath => Err(LineFault::Kind(DirectiveKind::BadPath)),
-            PairFault::BadVersion => Err(LineFault::Kind(DirectiveKind::BadVersion)),
-            PairFault::Misfit => Err(LineFault::Kind(DirectiveKind::Misfit)),
-        },
-    }
+    Ok(names.pair(path, version)?)
 }
 
 /// The path and the version that two words spell.

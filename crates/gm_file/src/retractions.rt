@@ -58,10 +58,8 @@ fn interval_in(
 {
     match read_interval(alloc, names, words) {
         Ok(interval) => Ok(Some(interval)),
-        Err(fault) => match fault {
-            LineFault::NoMemory => Err(AllocError),
-            LineFault::Kind(_) => Ok(None),
-        },
+        Err(LineFault::NoMemory) => Err(AllocError),
+        Err(LineFault::Kind(_)) => Ok(None),
     }
 }
 

@@ -1,21 +1,15 @@
-use Rattle.std.proofs.Common.{Err, ap, refl}
-use Rattle.gm_file.proofs.PartKinds.{pair-bad-path, pair-bad-version, pair-misfit, pair-read, path-sound, version-sound}
+use Rattle.std.proofs.Common.{refl}
+use Rattle.gm_file.specs.Views.{of_pair_fault}
+use Rattle.gm_file.proofs.PartKinds.{pair-kind, pair-sound, path-sound, refused-as, version-sound}
 use Rattle.gm_file.proofs.part.pair_of_texts.Goals as goal
 
-pub returns-in-Ok : goal.returns-in-Ok
-returns-in-Ok c =
-    let fit = c.in-Ok.ensures.fit in
-    pair-read _ _ _ _ _ refl (path-sound _ fit.0) refl (version-sound _ fit.1) c.in-Ok.ensures.pair fit.2
+pub returns-in_err-pair : goal.returns-in_err-pair
+returns-in_err-pair c =
+    let is = c.in_err-pair.ensures in
+    rw (refused-as c.from_residual.result (of_pair_fault c.in_err-pair.field-0.0) c.from_residual.ensures.0 (λ h e. rw e at c.from_residual.ensures.1))
+    (pair-kind c.args.path.now c.args.version.now c.in_err-pair.field-0.0 is.bad_path.0 is.bad_version is.misfit)
 
-pub returns-in-BadPath : goal.returns-in-BadPath
-returns-in-BadPath c = pair-bad-path _ _ (c.in-Err.ensures.bad_path.0 (ap Err c.in-BadPath.is))
-
-pub returns-in-BadVersion : goal.returns-in-BadVersion
-returns-in-BadVersion c =
-    let bad = c.in-Err.ensures.bad_version (ap Err c.in-BadVersion.is) in
-    pair-bad-version _ _ bad.0 bad.1
-
-pub returns-in-Misfit : goal.returns-in-Misfit
-returns-in-Misfit c =
-    let bad = c.in-Err.ensures.misfit (ap Err c.in-Misfit.is) in
-    pair-misfit _ _ (path-sound _ bad.0) (version-sound _ bad.1) bad.2
+pub returns : goal.returns
+returns c =
+    let fit = c.in_ok-pair.ensures.fit in
+    rw c.in_ok-pair.ensures.pair (refl, pair-sound c.args.path.now c.args.version.now (path-sound _ fit.0) (version-sound _ fit.1) fit.2)

@@ -1,9 +1,12 @@
-use Rattle.std.proofs.Common.{Err, ap, refl}
-use Rattle.gm_file.proofs.PartKinds.{path-bad, path-sound}
+use Rattle.std.proofs.Common.{refl}
+use Rattle.gm_file.specs.Views.{of_path_fault}
+use Rattle.gm_file.proofs.PartKinds.{path-kind, path-sound, refused-as}
 use Rattle.gm_file.proofs.part.read_path.Goals as goal
 
-pub returns-in-Ok : goal.returns-in-Ok
-returns-in-Ok c = rw c.in-Ok.ensures.ok.0 (refl, path-sound c.args.text.now c.in-Ok.ensures.ok.1)
+pub returns-in_err-path : goal.returns-in_err-path
+returns-in_err-path c =
+    rw (refused-as c.from_residual.result (of_path_fault c.in_err-path.field-0.0) c.from_residual.ensures.0 (λ h e. rw e at c.from_residual.ensures.1))
+    (path-kind c.args.text.now c.in_err-path.field-0.0 c.in_err-path.ensures.bad.0)
 
-pub returns-in-BadPath : goal.returns-in-BadPath
-returns-in-BadPath c = rw (path-bad c.args.text.now (c.in-Err.ensures.bad.0 (ap Err c.in-BadPath.is))) refl
+pub returns : goal.returns
+returns c = rw c.in_ok-path.ensures.ok.0 (refl, path-sound c.args.text.now c.in_ok-path.ensures.ok.1)

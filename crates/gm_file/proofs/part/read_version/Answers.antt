@@ -1,12 +1,13 @@
-use Rattle.std.proofs.Common.{Err, ap, refl}
-use Rattle.gm_file.proofs.PartKinds.{version-bad, version-sound}
+use Rattle.std.proofs.Common.{refl}
+use Rattle.gm_file.specs.Views.{of_version_fault}
+use Rattle.gm_file.proofs.PartKinds.{refused-as, version-kind, version-sound}
 use Rattle.gm_file.proofs.part.read_version.Goals as goal
 
-pub returns-in-Ok : goal.returns-in-Ok
-returns-in-Ok c = rw c.in-Ok.ensures.ok.0 (refl, version-sound c.args.text.now c.in-Ok.ensures.ok.1)
+pub returns-in_err-version : goal.returns-in_err-version
+returns-in_err-version c =
+    let is = c.in_err-version.ensures in
+    rw (refused-as c.from_residual.result (of_version_fault c.in_err-version.field-0.0) c.from_residual.ensures.0 (λ h e. rw e at c.from_residual.ensures.1))
+    (version-kind c.args.text.now c.in_err-version.field-0.0 (λ e. (is.bad e).0) (λ e. (is.not_canonical e).1))
 
-pub returns-in-BadVersion : goal.returns-in-BadVersion
-returns-in-BadVersion c = rw (version-bad c.args.text.now (c.in-Err.ensures.bad (ap Err c.in-BadVersion.is)).0) refl
-
-pub returns-in-NotCanonical : goal.returns-in-NotCanonical
-returns-in-NotCanonical c = rw (version-bad c.args.text.now (c.in-Err.ensures.not_canonical (ap Err c.in-NotCanonical.is)).1) refl
+pub returns : goal.returns
+returns c = rw c.in_ok-version.ensures.ok.0 (refl, version-sound c.args.text.now c.in_ok-version.ensures.ok.1)

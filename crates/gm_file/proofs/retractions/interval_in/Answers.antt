@@ -5,6 +5,3 @@ use Rattle.gm_file.proofs.retractions.interval_in.Goals as goal
 
 pub returns-in-Ok : goal.returns-in-Ok
 returns-in-Ok c = ends-read (ends_of (words_of c.args.words.now)) c.in-Ok.interval c.in-Ok.ensures
-
-pub returns-in-Kind : goal.returns-in-Kind
-returns-in-Kind c = ends-refused (ends_of (words_of c.args.words.now)) c.in-Kind.field-0 (rw c.in-Kind.is at c.in-Err.ensures)
