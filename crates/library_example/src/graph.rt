@@ -12,9 +12,9 @@ use gm_name::{ModPath, ModVer, ModVersion};
 use std::alloc::Global;
 use std::io;
 
-/// The main module's file. It requires a and b, and b requires another version of a.
+/// The main module's file. It requires b and a, and b requires another version of a.
 const MAIN: &str =
-    "module example.com/hello\nrequire example.com/a v1.9.0\nrequire example.com/b v1.0.0\n";
+    "module example.com/hello\nrequire example.com/b v1.0.0\nrequire example.com/a v1.9.0\n";
 
 /// A module at a version.
 fn vertex(alloc: Global, path: &str, version: &str) -> anyhow::Result<ModVer> {
