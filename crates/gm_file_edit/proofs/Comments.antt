@@ -1,22 +1,20 @@
 -- No operation removes, adds or moves a comment line.
-use Rattle.std.proofs.Common.{◌≡◌, ℕ, ◌&&◌, not, is_some, Bool, true, false, List, [], ◌∷◌, ◌++◌, Option, Some, None, refl, ap, ◌∙◌, append-nil, inl, inr}
-use Rattle.std.specs.Prelude.{if◌then◌else◌, filter}
+use Rattle.std.proofs.Common.{◌≡◌, ℕ, ◌&&◌, Bool, true, false, List, [], ◌∷◌, ◌++◌, Option, Some, None, refl, sym, ap, ◌∙◌, inl, inr}
+use Rattle.std.specs.Prelude.{filter}
 use Rattle.std.proofs.lemmas.Bool.{cases_Bool}
 use Rattle.std.proofs.lemmas.List.Elements.{filter-append}
 use Rattle.gm_syntax.specs.Tokens.{Placed}
 use Rattle.gm_syntax.specs.Document.{Line, Blank, Comment, Open, Close, Entry}
-use Rattle.gm_file.specs.Directives.{Directive, block_after_line, item_at}
+use Rattle.gm_file.specs.Directives.{Directive, item_at}
 use Rattle.gm_file_edit.specs.Edits.{Edit, Set, Setting, ModuleIs, GoIs, RequireAt, ReplaceWith, Add, Drop}
 use Rattle.gm_file_edit.specs.About.{about}
-use Rattle.gm_file_edit.specs.Edited.{added, after_closing, after_first_of, after_first_that, after_last_of, changed, edited, has_verb, new_go, put_in}
+use Rattle.gm_file_edit.specs.Edited.{changed, edited, put_in}
 use Rattle.gm_file_edit.specs.EditLaws.{is_comment_line}
 use Rattle.gm_file_edit.specs.Fates.{Fate, dropped, dropping_from, is_emptied, kept, remaining, renewed, renewing_from, widened_from}
 use Rattle.gm_file_edit.specs.Holding.{directive_at, passes}
-use Rattle.gm_file_edit.specs.NewWords.{entry_at, single}
+use Rattle.gm_file_edit.specs.NewWords.{entry_at}
 use Rattle.gm_file_edit.specs.Renewing.{made_new}
-use Rattle.gm_file_edit.specs.Searching.{is_there, is_there_from}
-use Rattle.gm_file.specs.Faults.{is_module}
-use Rattle.gm_file_edit.proofs.EditedSound.{by-put}
+use Rattle.gm_file_edit.proofs.Insertions.{IsPutInto, by-put, gap_lines}
 use Rattle.gm_file_edit.proofs.Untouched.{by-edited}
 
 abbrev comments : List (Line Placed) → List (Line Placed)
@@ -100,60 +98,18 @@ renewed-comments test new rewrites lines = remaining-comments (renewing_from tes
 
 -- ---- the lines with new entries
 
-behind-same : (line : Line Placed) (xs ys : List (Line Placed)) → comments xs ≡ comments ys → comments (line ∷ xs) ≡ comments (line ∷ ys)
-behind-same line xs ys e = elim (cases_Bool (is_comment_line line)) [
-  | inl comment ↦ rw comment (ap (λ (ls : List (Line Placed)). line ∷ ls) e)
-  | inr other ↦ rw other e
-]
+-- a blank line and an entry are no comment lines
+gap-comments : (gap inside : Bool) (verb : List ℕ) (arguments : List Placed) (lines : List (Line Placed)) → comments (gap_lines gap ++ entry_at inside verb arguments ∷ lines) ≡ comments lines
+gap-comments true true verb arguments lines = refl
+gap-comments true false verb arguments lines = refl
+gap-comments false true verb arguments lines = refl
+gap-comments false false verb arguments lines = refl
 
-entry-same : (inside : Bool) (verb : List ℕ) (arguments : List Placed) (lines : List (Line Placed)) → comments (entry_at inside verb arguments ∷ lines) ≡ comments lines
-entry-same true verb arguments lines = refl
-entry-same false verb arguments lines = refl
-
-after-last-comments : (test : Directive → Bool) (verb : List ℕ) (arguments : List Placed) (block : Option Placed) (lines : List (Line Placed)) → comments (after_last_of test verb arguments block lines) ≡ comments lines
-after-last-comments test verb arguments block [] = refl
-after-last-comments test verb arguments block (line ∷ lines) =
-    let behind : Option Placed = block_after_line block line in
-    elim (cases_Bool (passes test (directive_at block line) && not (is_there_from test behind lines))) [
-      | inl here ↦ rw here (behind-same line (entry_at (is_some block) verb arguments ∷ lines) lines (entry-same (is_some block) verb arguments lines))
-      | inr later ↦ rw later (behind-same line (after_last_of test verb arguments behind lines) lines (after-last-comments test verb arguments behind lines))
-    ]
-
-at-end : (new : List (Line Placed)) → comments new ≡ [] → (lines : List (Line Placed)) → comments (lines ++ new) ≡ comments lines
-at-end new none lines = filter-append is_comment_line lines new ∙ ap (λ (ls : List (Line Placed)). comments lines ++ ls) none ∙ append-nil (comments lines)
-
-added-comments : (verb : List ℕ) (arguments : List Placed) (lines : List (Line Placed)) → comments (added verb arguments lines) ≡ comments lines
-unfolding added
-added-comments verb arguments lines = elim (cases_Bool (is_there (has_verb verb) lines)) [
-  | inl there ↦ rw there (after-last-comments (has_verb verb) verb arguments None lines)
-  | inr none ↦ rw none (at-end (Blank ∷ single verb arguments ∷ []) refl lines)
-]
-
-first-comments : (new lines : List (Line Placed)) → comments new ≡ [] → comments (new ++ lines) ≡ comments lines
-first-comments new lines none = filter-append is_comment_line new lines ∙ ap (λ (ls : List (Line Placed)). ls ++ comments lines) none
-
-closing-comments : (new lines : List (Line Placed)) → comments new ≡ [] → comments (after_closing new lines) ≡ comments lines
-closing-comments new [] none = none
-closing-comments new (Blank ∷ lines) none = closing-comments new lines none
-closing-comments new (Comment text ∷ lines) none = ap (λ (ls : List (Line Placed)). Comment text ∷ ls) (closing-comments new lines none)
-closing-comments new (Open verb suffix ∷ lines) none = closing-comments new lines none
-closing-comments new (Close suffix ∷ lines) none = first-comments new lines none
-closing-comments new (Entry words suffix ∷ lines) none = closing-comments new lines none
-
-first-of-comments : (test : Directive → Bool) (new : List (Line Placed)) (block : Option Placed) (lines : List (Line Placed)) → comments new ≡ [] → comments (after_first_of test new block lines) ≡ comments lines
-first-of-comments test new block [] none = none
-first-of-comments test new block (line ∷ lines) none =
-    behind-same line (if passes test (directive_at block line) then (if is_some block then after_closing new lines else new ++ lines) else after_first_of test new (block_after_line block line) lines) lines (elim (cases_Bool (passes test (directive_at block line))) [
-      | inl here ↦ rw here (elim (cases_Bool (is_some block)) [
-        | inl inside ↦ rw inside (closing-comments new lines none)
-        | inr outside ↦ rw outside (first-comments new lines none)
-      ])
-      | inr later ↦ rw later (first-of-comments test new (block_after_line block line) lines none)
-    ])
-
-after-first-comments : (test : Directive → Bool) (new lines : List (Line Placed)) → comments new ≡ [] → comments (after_first_that test new lines) ≡ comments lines
-unfolding after_first_that
-after-first-comments test new lines none = first-of-comments test new None lines none
+into-comments : (verb : List ℕ) (arguments : List Placed) (lines after : List (Line Placed)) → IsPutInto verb arguments lines after → comments after ≡ comments lines
+into-comments verb arguments lines after put =
+    ap comments put.is ∙ filter-append is_comment_line put.front (gap_lines put.gap ++ entry_at put.inside verb arguments ∷ put.back)
+    ∙ ap (λ (ls : List (Line Placed)). comments put.front ++ ls) (gap-comments put.gap put.inside verb arguments put.back)
+    ∙ sym (ap comments put.was ∙ filter-append is_comment_line put.front put.back)
 
 -- ---- the lines after an operation
 
@@ -170,7 +126,7 @@ changed-comments (Add a) lines = refl
 changed-comments (Drop t) lines = dropped-comments (about (Drop t)) lines
 
 put-comments : (edit : Edit) (lines : List (Line Placed)) → comments (put_in edit lines) ≡ comments lines
-put-comments edit lines = by-put (λ other after. comments after ≡ comments lines) lines (λ path. refl) (λ text. after-first-comments is_module (new_go text) lines refl) (λ other entry is. added-comments entry.0 entry.1 lines) (λ t. refl) edit
+put-comments edit lines = by-put (λ other after. comments after ≡ comments lines) lines (λ path. refl) (λ other entry after is put. into-comments entry.0 entry.1 lines after put) (λ t. refl) edit
 
 pub pass-comments : (edit : Edit) (lines : List (Line Placed)) → filter is_comment_line (edited edit lines) ≡ filter is_comment_line lines
 pass-comments edit lines = by-edited (λ after. comments after ≡ comments lines) edit lines (λ there. changed-comments edit lines) (λ none. put-comments edit lines)

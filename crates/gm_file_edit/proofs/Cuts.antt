@@ -1,10 +1,9 @@
 -- Splitting and trimming the texts of operations keeps them valid UTF-8.
 use Rattle.std.specs.Borrow.{Bor}
-use Rattle.std.specs.Prelude.{MatchOption}
-use Rattle.gm_file_edit.specs.Views.{split_seen}
+use Rattle.std.specs.Prelude.{MatchOption, slice_index}
+use Rattle.gm_file_edit.specs.Sound.{split_seen}
 use Rattle.gm_name.proofs.NameTests.{and_both}
 use Rattle.std.proofs.Common.{◌≡◌, ℕ, ◌+◌, ◌-◌, ◌==◌, ◌&&◌, ◌<◌, ◌≤◌, nat_lt, true, false, List, [], ◌∷◌, length, get_or, take_while, Option, Some, None, inl, inr, refl, subst, ◌∙◌, arith}
-use Rattle.std.specs.Prelude.{slice_index}
 use Rattle.std.proofs.lemmas.Bool.{cases_Bool, cases_lt}
 use Rattle.std.proofs.lemmas.Bool.Decides.{nat_tests}
 use Rattle.std.proofs.lemmas.List.Folds.{length-prefix_len}

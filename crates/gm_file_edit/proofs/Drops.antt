@@ -11,12 +11,12 @@ use Rattle.gm_file.specs.Faults.{is_module}
 use Rattle.gm_file.specs.Pairwise.{do_clash}
 use Rattle.gm_file.proofs.Pairwise.{AreApart, clash-mutual}
 use Rattle.gm_file_edit.specs.Fates.{Fate, dropped, dropping_from, kept, remaining, renewed, renewing_from}
-use Rattle.gm_file_edit.specs.Holding.{directive_at, passes}
-use Rattle.gm_file_edit.specs.Searching.{is_there}
-use Rattle.gm_file_edit.proofs.AddingSound.{held-is, held_from, passing-level}
-use Rattle.gm_file_edit.proofs.Pairs.{AreRightFrom, IsRightLine, IsSound}
+use Rattle.gm_file_edit.specs.Holding.{directive_at, passes, is_there}
+use Rattle.gm_file_edit.proofs.Filters.{fewer-any, filter-any, filter-none, filter-one, none-any, none-filtered, others}
+use Rattle.gm_file_edit.proofs.Insertions.{passing-level}
+use Rattle.gm_file_edit.proofs.Pairs.{AreRightFrom, IsRightLine, IsSound, held_from}
 use Rattle.gm_file_edit.proofs.Renews.{IsRenewal, Makes}
-use Rattle.gm_file_edit.proofs.Said.{dropped-held, filter-none, filter-one, held-some, none-any, others, renewed-alone, renewed-others}
+use Rattle.gm_file_edit.proofs.Said.{dropped-held, held-some, renewed-alone, renewed-others}
 use Rattle.gm_file_edit.proofs.Seats.{fewer-all, remaining-left}
 
 -- ---- the lines
@@ -55,15 +55,6 @@ left-right fates right = let left = remaining-left fates in (fewer-all IsRightLi
 
 -- ---- the directives
 
-filter-any : (p q : Directive → Bool) (ds : List Directive) → list_any p ds ≡ false → list_any p (filter q ds) ≡ false
-filter-any p q [] none = refl
-filter-any p q (d ∷ ds) none =
-    let parts = or_parts (p d) (list_any p ds) none in
-    elim (cases_Bool (q d)) [
-      | inl hit ↦ ap (list_any p) (filter-one q d ds hit) ∙ or_from (p d) (list_any p (filter q ds)) parts.0 (filter-any p q ds parts.1)
-      | inr miss ↦ ap (list_any p) (filter-none q d ds miss) ∙ filter-any p q ds parts.1
-    ]
-
 apart-filter : (q : Directive → Bool) (ds : List Directive) → AreApart ds → AreApart (filter q ds)
 apart-filter q [] apart = tt
 apart-filter q (d ∷ ds) apart = elim (cases_Bool (q d)) [
@@ -97,7 +88,7 @@ new-apart test new mild (d ∷ ds) alone apart = elim (cases_Bool (test d)) [
       let same : d ≡ new = cc in
       let none : filter test ds ≡ [] = cc in
       let rest = only-others ds (none-any test ds none) in
-      (subst (λ (x : Directive). list_any (do_clash x) ds ≡ false) (sym same) (mild-all ds (none-any test ds none)), subst AreApart rest (subst AreApart (filter-none (others test) d ds (ap not hit)) apart))
+      (subst (λ (x : Directive). list_any (do_clash x) ds ≡ false) (sym same) (fewer-any test (do_clash new) mild ds (none-any test ds none)), subst AreApart rest (subst AreApart (filter-none (others test) d ds (ap not hit)) apart))
   | inr miss ↦
       let one : filter test ds ≡ new ∷ [] = sym (filter-none test d ds miss) ∙ alone in
       let both : AreApart (d ∷ filter (others test) ds) = subst AreApart (filter-one (others test) d ds (ap not miss)) apart in
@@ -109,27 +100,16 @@ new-apart test new mild (d ∷ ds) alone apart = elim (cases_Bool (test d)) [
     only-others [] none = refl
     only-others (e ∷ es) none = let parts = or_parts (test e) (list_any test es) none in filter-one (others test) e es (ap not parts.0) ∙ ap (λ (xs : List Directive). e ∷ xs) (only-others es parts.1)
 
-    mild-all : (es : List Directive) → list_any test es ≡ false → list_any (do_clash new) es ≡ false
-    mild-all [] none = refl
-    mild-all (e ∷ es) none = let parts = or_parts (test e) (list_any test es) none in or_from (do_clash new e) (list_any (do_clash new) es) (mild e parts.0) (mild-all es parts.1)
-
 -- if no targeted directive declares a module, one of the others does
 others-declared : (test : Directive → Bool) → ((d : Directive) → test d ≡ true → is_module d ≡ false) → (ds : List Directive) → list_any is_module ds ≡ true → list_any is_module (filter (others test) ds) ≡ true
 others-declared test other ds some =
-    ap (λ (b : Bool). b || list_any is_module (filter (others test) ds)) (sym (none ds)) ∙ sym (any-parts test is_module ds) ∙ some
-  where
-    none : (es : List Directive) → list_any is_module (filter test es) ≡ false
-    none [] = refl
-    none (e ∷ es) = elim (cases_Bool (test e)) [
-      | inl hit ↦ ap (list_any is_module) (filter-one test e es hit) ∙ or_from (is_module e) (list_any is_module (filter test es)) (other e hit) (none es)
-      | inr miss ↦ ap (list_any is_module) (filter-none test e es miss) ∙ none es
-    ]
+    ap (λ (b : Bool). b || list_any is_module (filter (others test) ds)) (sym (none-filtered is_module test other ds)) ∙ sym (any-parts test is_module ds) ∙ some
 
 -- ---- both
 
 sound-by : (lines : List (Line Placed)) → AreRightTo None lines None → AreApart (held_from None lines) → list_any is_module (held_from None lines) ≡ true → IsSound lines
 sound-by lines right apart declared = record {
-  lines_are = record { right = right.0; apart = subst AreApart (sym (held-is None lines)) apart; declared = ap (list_any is_module) (held-is None lines) ∙ declared };
+  lines_are = record { right = right.0; apart = apart; declared = declared };
   closed = right.1;
 }
 
@@ -138,19 +118,16 @@ module _ (test : Directive → Bool) (lines : List (Line Placed)) (sound : IsSou
   ds = held_from None lines
 
   rest-apart : AreApart (filter (others test) ds)
-  rest-apart = apart-filter (others test) ds (subst AreApart (held-is None lines) sound.lines_are.apart)
-
-  declared : list_any is_module ds ≡ true
-  declared = sym (ap (list_any is_module) (held-is None lines)) ∙ sound.lines_are.declared
+  rest-apart = apart-filter (others test) ds sound.lines_are.apart
 
   pub dropped-sound : ((d : Directive) → test d ≡ true → is_module d ≡ false) → IsSound (dropped test lines)
   dropped-sound other =
       let held : held_from None (dropped test lines) ≡ filter (others test) ds = dropped-held test lines in
       let right = dropping-right test None lines sound.lines_are.right in
       sound-by (dropped test lines) (left-right (dropping_from test None lines) (right.0, right.1 ∙ sound.closed)) (subst AreApart (sym held) rest-apart)
-      (ap (list_any is_module) held ∙ others-declared test other ds declared)
+      (ap (list_any is_module) held ∙ others-declared test other ds sound.lines_are.declared)
 
-  pub renewed-sound : (said : Directive) (make : Option Placed → Line Placed → Line Placed) → IsRenewal test said make → is_there test lines ≡ true → IsSound (renewed test make lines)
+  pub renewed-sound : (said : Directive) (make : Option Placed → Line Placed → Line Placed) → IsRenewal test said make → is_there test None lines ≡ true → IsSound (renewed test make lines)
   renewed-sound said make by there =
       let after : List Directive = held_from None (renewed test make lines) in
       let rest : filter (others test) after ≡ filter (others test) ds = renewed-others test said make by.wanted.own by.made lines sound in
@@ -158,7 +135,7 @@ module _ (test : Directive → Bool) (lines : List (Line Placed)) (sound : IsSou
       let right = renewing-right test said make by.made None lines sound.lines_are.right in
       let some : ((is_module said || false) || list_any is_module (filter (others test) after)) ≡ true = elim (cases_Bool (is_module said)) [
         | inl declares ↦ rw declares refl
-        | inr other ↦ rw other (ap (list_any is_module) rest ∙ others-declared test (λ d e. by.other d e ∙ other) ds declared)
+        | inr other ↦ rw other (ap (list_any is_module) rest ∙ others-declared test (λ d e. by.other d e ∙ other) ds sound.lines_are.declared)
       ] in
       sound-by (renewed test make lines) (left-right (renewing_from test make None lines) (right.0, right.1 ∙ sound.closed))
       (new-apart test said by.wanted.mild after alone (subst AreApart (sym rest) rest-apart))

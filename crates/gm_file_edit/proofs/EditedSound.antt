@@ -1,11 +1,8 @@
 -- The lines after an operation are a document without a fault.
-use Rattle.std.proofs.Common.{◌≡◌, ℕ, ◌||◌, Bool, true, false, List, [], ◌∷◌, Option, Some, None, is_some, subst, refl, sym, ap, ◌∙◌, arith, inl, inr}
-use Rattle.std.specs.Prelude.{codes}
-use Rattle.std.specs.Option.{option_to_list}
-use Rattle.std.specs.List.{list_any}
+use Rattle.std.proofs.Common.{◌≡◌, ℕ, true, false, List, ◌∷◌, Option, Some, None, subst, refl, sym, ap, ◌∙◌, arith, inl, inr}
+use Rattle.std.specs.Prelude.{IfSome, codes}
 use Rattle.std.specs.Str.{bytes_eq}
-use Rattle.std.proofs.lemmas.Bool.{cases_Bool, or_from, or_parts}
-use Rattle.std.proofs.lemmas.List.Folds.{list_any-append}
+use Rattle.std.proofs.lemmas.Bool.{cases_Bool}
 use Rattle.std.proofs.lemmas.Slice.Eq.{bytes_eq-Decides}
 use Rattle.gm_syntax.specs.declared.word.Punct.TheVariants.{Comma, LeftBracket, RightBracket}
 use Rattle.gm_syntax.specs.Bytes.{is_bad, is_blank, is_bracket_or_comma, is_quote, is_word_byte}
@@ -17,48 +14,29 @@ use Rattle.gm_syntax.specs.LineViews.{plain, plain_lines}
 use Rattle.gm_syntax.proofs.NewWords.{mark_stands}
 use Rattle.gm_syntax.proofs.Changes.{entry_stands}
 use Rattle.gm_name.specs.ModuleVersion.{ModuleVersion}
-use Rattle.gm_file.specs.declared.verb.Verb.TheVariants.{Module as ForModule, Go as ForGo, Require as ForRequire, Exclude as ForExclude, Retract as ForRetract}
-use Rattle.gm_file.specs.Directives.{Strict, VersionInterval, Directive, DeclaresGo, Requires, Excludes, Replaces, Retracts, block_after_line, directive_of, main_verb, verb_eq}
-use Rattle.gm_file.specs.Faults.{fault_of, is_module}
+use Rattle.gm_file.specs.declared.verb.Verb.TheVariants.{Module as ForModule, Require as ForRequire, Exclude as ForExclude, Retract as ForRetract}
+use Rattle.gm_file.specs.Directives.{Strict, VersionInterval, Directive, DeclaresGo, Requires, Excludes, Replaces, Retracts, directive_of, main_verb, verb_eq}
+use Rattle.gm_file.specs.Faults.{fault_of}
 use Rattle.gm_file.specs.Pairwise.{do_clash}
-use Rattle.gm_file.specs.GoVersions.{strict_go}
 use Rattle.gm_file_edit.specs.Edits.{has_byte, Edit, Target, Set, ModuleIs, GoIs, RequireAt, Drop, AnyRequire, Add, Exclude, ReplaceWith, Retract}
 use Rattle.gm_file_edit.specs.About.{about}
-use Rattle.gm_file_edit.specs.Edited.{added, after_first_that, changed, edited, new_entry, new_go, put_in}
+use Rattle.gm_file_edit.specs.Edited.{changed, edited, put_in}
 use Rattle.gm_file_edit.specs.Kinds.{directive_set, is_fit}
-use Rattle.gm_file_edit.specs.Holding.{directive_at, passes}
-use Rattle.gm_file_edit.specs.NewWords.{interval_words, made_word, pair_words, replace_words, single}
+use Rattle.gm_file_edit.specs.Holding.{is_there}
+use Rattle.gm_file_edit.specs.NewWords.{interval_words, pair_words, replace_words, single}
 use Rattle.gm_file_edit.specs.Renewing.{made_new}
-use Rattle.gm_file_edit.specs.Searching.{is_there, is_there_from}
 use Rattle.gm_file_edit.specs.Sound.{AreVersions, IsPairOfNames, IsSoundEdit}
-use Rattle.gm_file_edit.proofs.AddingSound.{Fits, IsAddition, IsNewTo, added-sound, after-first-sound, held_from, single-fits}
+use Rattle.gm_file_edit.proofs.AddingSound.{IsAddition, IsNewTo, into-sound}
+use Rattle.gm_file_edit.proofs.Insertions.{by-put, entry_put, there-is}
+use Rattle.gm_file_edit.proofs.Filters.{fewer-any}
 use Rattle.gm_file_edit.proofs.Drops.{dropped-sound, renewed-sound}
 use Rattle.gm_file_edit.proofs.Feeds.{byte-feed, go-feed, path-feed, version-feed}
-use Rattle.gm_file_edit.proofs.Made.{AreArguments, made-no-mark, made-stands, made-value, one-are, open-behind}
+use Rattle.gm_file_edit.proofs.Made.{AreArguments, begins-path, made-no-mark, made-stands, made-value, one-are, open-behind}
 use Rattle.gm_file_edit.proofs.Renewals.{go-says, put_by, renewal, replace-are, replace-says, wanted}
-use Rattle.gm_file_edit.proofs.Pairs.{IsSound, document-sound, sound-document}
+use Rattle.gm_file_edit.proofs.Pairs.{IsSound, document-sound, held_from, sound-document}
 use Rattle.gm_file_edit.specs.Keys.{verb_sought}
 use Rattle.gm_file_edit.proofs.Targets.{about-module}
 use Rattle.gm_file_edit.proofs.Untouched.{by-edited}
-use Rattle.std.proofs.lemmas.Option.{same_Some}
-
--- ---- if no entry is targeted
-
-or-nothing : (b : Bool) → b ≡ (b || false)
-or-nothing true = refl
-or-nothing false = refl
-
-pub passes-list : (test : Directive → Bool) (held : Option Directive) → passes test held ≡ list_any test (option_to_list held)
-passes-list test None = refl
-passes-list test (Some d) = or-nothing (test d)
-
-pub none-from : (test : Directive → Bool) (block : Option Placed) (lines : List (Line Placed)) → is_there_from test block lines ≡ false → list_any test (held_from block lines) ≡ false
-none-from test block [] e = refl
-none-from test block (line ∷ lines) e =
-    let parts = or_parts (passes test (directive_at block line))
-    (is_there_from test (block_after_line block line) lines) e in
-    list_any-append test (option_to_list (directive_at block line)) (held_from (block_after_line block line) lines)
-    ∙ or_from (list_any test (option_to_list (directive_at block line))) (list_any test (held_from (block_after_line block line) lines)) (sym (passes-list test (directive_at block line)) ∙ parts.0) (none-from test (block_after_line block line) lines parts.1)
 
 -- ---- new entries
 
@@ -86,13 +64,7 @@ addition verb arguments new feed written are says =
     record { inside = entry-inside arguments are; alone = entry-alone verb arguments (byte-feed verb feed) are; written = written; filled = are.no_block; says = says }
 
 pair-are : (p : ModuleVersion) → IsPairOfNames p → AreArguments (pair_words p)
-pair-are p names = record {
-  words = (made-stands p.0 (path-feed p.0 names.0), (made-stands p.1 (version-feed p.1 names.1), tt));
-  filled = omega arith;
-  opens_nothing = made-no-mark 40 p.1;
-  closes_nothing = made-no-mark 41 p.0;
-  no_block = rw (made-no-mark 40 p.0) refl;
-}
+pair-are p names = begins-path p.0 _ (path-feed p.0 names.0) (made-stands p.1 (version-feed p.1 names.1), tt) (made-no-mark 40 p.1) (rw (made-no-mark 40 p.0) refl)
 
 require-says : (p : ModuleVersion) → IsPairOfNames p → directive_of ForRequire (words_of (pair_words p)) ≡ Some (Requires p)
 unfolding directive_of
@@ -127,50 +99,29 @@ ends-says ends are =
       | inr apart ↦ rw (apart, low, high) refl
     ]
 
--- the new go directive
-pub go-fits : (text : List ℕ) → is_some (strict_go text) ≡ true → Fits None (DeclaresGo text) (single (codes "go") (made_word text ∷ []))
-unfolding can_be_bare bare_len is_word_byte is_blank is_bracket_or_comma is_quote is_bad
-go-fits text good =
-    let are : AreArguments (made_word text ∷ []) = one-are text (go-feed text good) in
-    single-fits (codes "go") ForGo (made_word text ∷ []) (DeclaresGo text) refl refl (go-says text (go-feed text good)) (entry-alone (codes "go") (made_word text ∷ []) (byte-feed (codes "go") refl) are)
-
 -- the new entry of an operation says what it sets or adds
 pub record Says (edit : Edit) (entry : List ℕ × List Placed) : Type 0 where
   pub new : Directive
   pub put : put_by edit ≡ Some new
   pub is : IsAddition entry.0 entry.1 new
 
-pub says : (edit : Edit) (entry : List ℕ × List Placed) → new_entry edit ≡ Some entry → IsSoundEdit edit → Says edit entry
+entry-says : (edit : Edit) → IsSoundEdit edit → IfSome (entry_put edit) (Says edit)
 unfolding can_be_bare bare_len is_word_byte is_blank is_bracket_or_comma is_quote is_bad
-says (Set (ModuleIs path)) entry e good = absurd cc
-says (Set (GoIs text)) entry e good = absurd cc
-says (Set (RequireAt p)) entry e good =
-    subst (Says (Set (RequireAt p))) (same_Some _ _ e) (record { new = Requires p; put = refl; is = addition (codes "require") (pair_words p) (Requires p) refl refl (pair-are p good) (require-says p good) })
-says (Set (ReplaceWith r)) entry e good =
-    subst (Says (Set (ReplaceWith r))) (same_Some _ _ e)
-    (record { new = Replaces r; put = refl; is = addition (codes "replace") (replace_words r) (Replaces r) refl refl (replace-are r good.0 good.1) (replace-says r good.0 good.1) })
-says (Add (Exclude p)) entry e good =
-    subst (Says (Add (Exclude p))) (same_Some _ _ e) (record { new = Excludes p; put = refl; is = addition (codes "exclude") (pair_words p) (Excludes p) refl refl (pair-are p good) (exclude-says p good) })
-says (Add (Retract ends)) entry e good =
-    subst (Says (Add (Retract ends))) (same_Some _ _ e)
-    (record { new = Retracts ends; put = refl; is = addition (codes "retract") (interval_words ends) (Retracts ends) refl refl (ends-are ends good) (ends-says ends good) })
-says (Drop t) entry e good = absurd cc
+entry-says (Set (ModuleIs path)) good = tt
+entry-says (Set (GoIs text)) good = let plain = go-feed text good in record { new = DeclaresGo text; put = refl; is = addition (codes "go") _ (DeclaresGo text) refl refl (one-are text plain) (go-says text plain) }
+entry-says (Set (RequireAt p)) good = record { new = Requires p; put = refl; is = addition (codes "require") (pair_words p) (Requires p) refl refl (pair-are p good) (require-says p good) }
+entry-says (Set (ReplaceWith r)) good =
+    record { new = Replaces r; put = refl; is = addition (codes "replace") (replace_words r) (Replaces r) refl refl (replace-are r good.0 good.1) (replace-says r good.0 good.1) }
+entry-says (Add (Exclude p)) good = record { new = Excludes p; put = refl; is = addition (codes "exclude") (pair_words p) (Excludes p) refl refl (pair-are p good) (exclude-says p good) }
+entry-says (Add (Retract ends)) good = record { new = Retracts ends; put = refl; is = addition (codes "retract") (interval_words ends) (Retracts ends) refl refl (ends-are ends good) (ends-says ends good) }
+entry-says (Drop t) good = tt
 
--- what holds of each form of what an operation puts in
-pub by-put : (P : Edit → List (Line Placed) → Type 0) (lines : List (Line Placed)) → ((path : List ℕ) → P (Set (ModuleIs path)) lines) → ((text : List ℕ) → P (Set (GoIs text)) (after_first_that is_module (new_go text) lines))
-    → ((edit : Edit) (entry : List ℕ × List Placed) → new_entry edit ≡ Some entry → P edit (added entry.0 entry.1 lines)) → ((t : Target) → P (Drop t) lines) → (edit : Edit) → P edit (put_in edit lines)
-unfolding put_in
-by-put P lines module_is go_is entry drop (Set (ModuleIs path)) = module_is path
-by-put P lines module_is go_is entry drop (Set (GoIs text)) = go_is text
-by-put P lines module_is go_is entry drop (Set (RequireAt p)) = entry (Set (RequireAt p)) _ refl
-by-put P lines module_is go_is entry drop (Set (ReplaceWith r)) = entry (Set (ReplaceWith r)) _ refl
-by-put P lines module_is go_is entry drop (Add (Exclude p)) = entry (Add (Exclude p)) _ refl
-by-put P lines module_is go_is entry drop (Add (Retract ends)) = entry (Add (Retract ends)) _ refl
-by-put P lines module_is go_is entry drop (Drop t) = drop t
+pub says : (edit : Edit) (entry : List ℕ × List Placed) → entry_put edit ≡ Some entry → IsSoundEdit edit → Says edit entry
+says edit entry e good = subst (λ (o : Option (List ℕ × List Placed)). IfSome o (Says edit)) e (entry-says edit good)
 
 -- ---- the lines after an operation
 
-changed-sound : (edit : Edit) (lines : List (Line Placed)) → IsSoundEdit edit → is_fit edit ≡ true → is_there (about edit) lines ≡ true → IsSound lines → IsSound (changed edit lines)
+changed-sound : (edit : Edit) (lines : List (Line Placed)) → IsSoundEdit edit → is_fit edit ≡ true → is_there (about edit) None lines ≡ true → IsSound lines → IsSound (changed edit lines)
 unfolding changed
 changed-sound (Set s) lines good fit there sound = renewed-sound (about (Set s)) lines sound (directive_set s) (made_new (Set s)) (renewal s good fit) there
 changed-sound (Add a) lines good fit there sound = sound
@@ -180,26 +131,17 @@ changed-sound (Drop t) lines good fit there sound = dropped-sound (about (Drop t
     no-module (AnyRequire path) = refl
     no-module t = refl
 
--- a test that passes no more directives than another passes none where that passes none
-pub fewer-any : (test fewer : Directive → Bool) → ((d : Directive) → test d ≡ false → fewer d ≡ false) → (ds : List Directive) → list_any test ds ≡ false → list_any fewer ds ≡ false
-fewer-any test fewer less [] e = refl
-fewer-any test fewer less (d ∷ ds) e =
-    let parts = or_parts (test d) (list_any test ds) e in
-    or_from (fewer d) (list_any fewer ds) (less d parts.0) (fewer-any test fewer less ds parts.1)
-
 -- what an operation puts in is new to lines of which it targets none
-put-new : (edit : Edit) (new : Directive) (lines : List (Line Placed)) → put_by edit ≡ Some new → IsSoundEdit edit → is_fit edit ≡ true → is_there (about edit) lines ≡ false → IsNewTo (held_from None lines) new
+put-new : (edit : Edit) (new : Directive) (lines : List (Line Placed)) → put_by edit ≡ Some new → IsSoundEdit edit → is_fit edit ≡ true → is_there (about edit) None lines ≡ false → IsNewTo (held_from None lines) new
 put-new edit new lines put good fit none =
     let by = wanted edit new put good fit in
-    (by.kinds, fewer-any (about edit) (do_clash new) by.mild (held_from None lines) (none-from (about edit) None lines none))
+    (by.kinds, fewer-any (about edit) (do_clash new) by.mild (held_from None lines) (sym (there-is (about edit) None lines) ∙ none))
 
-put-sound : (lines : List (Line Placed)) → IsSound lines → (edit : Edit) → IsSoundEdit edit → is_fit edit ≡ true → is_there (about edit) lines ≡ false → IsSound (put_in edit lines)
-put-sound lines sound = by-put (λ edit after. IsSoundEdit edit → is_fit edit ≡ true → is_there (about edit) lines ≡ false → IsSound after) lines
-    (λ path good fit none. sound)
-    (λ text good fit none. after-first-sound is_module (DeclaresGo text) (single (codes "go") (made_word text ∷ [])) lines (go-fits text good) (put-new (Set (GoIs text)) (DeclaresGo text) lines refl good fit none) sound)
-    (λ edit entry is good fit none.
+put-sound : (lines : List (Line Placed)) → IsSound lines → (edit : Edit) → IsSoundEdit edit → is_fit edit ≡ true → is_there (about edit) None lines ≡ false → IsSound (put_in edit lines)
+put-sound lines sound = by-put (λ edit after. IsSoundEdit edit → is_fit edit ≡ true → is_there (about edit) None lines ≡ false → IsSound after) lines (λ path good fit none. sound)
+    (λ edit entry after is put good fit none.
     let by = says edit entry is good in
-    added-sound entry.0 entry.1 by.new lines by.is (put-new edit by.new lines by.put good fit none) sound)
+    into-sound entry.0 entry.1 by.new lines after by.is (put-new edit by.new lines by.put good fit none) sound put)
     (λ t good fit none. sound)
 
 pub edited-sound : (edit : Edit) (lines : List (Line Placed)) → IsSoundEdit edit → is_fit edit ≡ true → IsSound lines → IsSound (edited edit lines)

@@ -1,9 +1,8 @@
 -- Two operations with no common target leave the same directives in either order.
-use Rattle.std.proofs.Common.{◌≡◌, ◌&&◌, if◌then◌else◌, not, Bool, true, false, List, [], ◌∷◌, ◌++◌, ◌⊎◌, refl, sym, ap, subst, ◌∙◌, inl, inr}
+use Rattle.std.proofs.Common.{◌≡◌, if◌then◌else◌, Bool, List, [], ◌∷◌, ◌++◌, refl, sym, ap, subst, ◌∙◌}
 use Rattle.std.specs.Prelude.{filter}
 use Rattle.std.specs.List.{list_any}
 use Rattle.std.specs.List.Sorted.{IsPermutation}
-use Rattle.std.proofs.lemmas.Bool.{cases_Bool, true≢false}
 use Rattle.std.proofs.lemmas.List.Sorted.{IsPermutation-append_right, IsPermutation-filter_both, IsPermutation-sym, IsPermutation-trans}
 use Rattle.gm_syntax.specs.Tokens.{Placed}
 use Rattle.gm_syntax.specs.Document.{Line}
@@ -11,62 +10,12 @@ use Rattle.gm_file.specs.Directives.{Directive}
 use Rattle.gm_file_edit.specs.About.{about}
 use Rattle.gm_file_edit.specs.Edited.{edited}
 use Rattle.gm_file_edit.specs.Edits.{Edit, Set, Add, Drop}
-use Rattle.gm_file_edit.specs.EitherOrder.{AreApart, EitherOrderLeavesTheSame}
+use Rattle.gm_file_edit.specs.Laws.{AreApart, EitherOrderLeavesTheSame, IsEditOf, directives_of}
 use Rattle.gm_file_edit.specs.Kinds.{directive_added, directive_set}
-use Rattle.gm_file_edit.specs.Laws.{IsEditOf, directives_of}
 use Rattle.gm_file_edit.proofs.EditedSound.{edited-document}
-use Rattle.gm_file_edit.proofs.Said.{no-filter, others}
+use Rattle.gm_file_edit.proofs.Filters.{among-others, and-swap, any-filled, filters-swap, is_filled, no-filter, others}
 use Rattle.gm_file_edit.proofs.SaidAfter.{added-is-there, dropped-is-gone, others-stay, set-stands-alone}
 use Rattle.gm_file_edit.proofs.Written.{written-sound}
-
--- ---- filters of directives
-
-filter-hit : (test : Directive → Bool) (d : Directive) (ds : List Directive) → test d ≡ true → filter test (d ∷ ds) ≡ d ∷ filter test ds
-filter-hit test d ds e = rw e refl
-
-filter-miss : (test : Directive → Bool) (d : Directive) (ds : List Directive) → test d ≡ false → filter test (d ∷ ds) ≡ filter test ds
-filter-miss test d ds e = rw e refl
-
-first-false : (a b : Bool) → (a && b) ≡ false → b ≡ true → a ≡ false
-first-false true b e f = absurd (true≢false (sym f ∙ e))
-first-false false b e f = refl
-
--- what passes a test is not lost among the others of a test that excludes it
-among-others : (test other : Directive → Bool) → ((d : Directive) → (test d && other d) ≡ false) → (ds : List Directive) → filter test (filter (others other) ds) ≡ filter test ds
-among-others test other apart [] = refl
-among-others test other apart (d ∷ ds) = elim (cases_Bool (other d)) [
-  | inl hit ↦
-      let miss : test d ≡ false = first-false (test d) (other d) (apart d) hit in
-      ap (filter test) (filter-miss (others other) d ds (ap not hit)) ∙ among-others test other apart ds ∙ sym (filter-miss test d ds miss)
-  | inr miss ↦ ap (filter test) (filter-hit (others other) d ds (ap not miss)) ∙ head (among-others test other apart ds) (cases_Bool (test d))
-]
-  where
-    head : filter test (filter (others other) ds) ≡ filter test ds → (test d ≡ true) ⊎ (test d ≡ false) → filter test (d ∷ filter (others other) ds) ≡ filter test (d ∷ ds)
-    head same (inl holds) = filter-hit test d (filter (others other) ds) holds ∙ ap (λ (es : List Directive). d ∷ es) same ∙ sym (filter-hit test d ds holds)
-    head same (inr fails) = filter-miss test d (filter (others other) ds) fails ∙ same ∙ sym (filter-miss test d ds fails)
-
--- two filters in either order
-filters-swap : (p q : Directive → Bool) (ds : List Directive) → filter p (filter q ds) ≡ filter q (filter p ds)
-filters-swap p q [] = refl
-filters-swap p q (d ∷ ds) = by-cases (p d) (q d) refl refl (filters-swap p q ds)
-  where
-    by-cases : (a b : Bool) → p d ≡ a → q d ≡ b → filter p (filter q ds) ≡ filter q (filter p ds) → filter p (filter q (d ∷ ds)) ≡ filter q (filter p (d ∷ ds))
-    by-cases true true e f same =
-        ap (filter p) (filter-hit q d ds f) ∙ filter-hit p d (filter q ds) e ∙ ap (λ (es : List Directive). d ∷ es) same ∙ sym (ap (filter q) (filter-hit p d ds e) ∙ filter-hit q d (filter p ds) f)
-    by-cases true false e f same = ap (filter p) (filter-miss q d ds f) ∙ same ∙ sym (ap (filter q) (filter-hit p d ds e) ∙ filter-miss q d (filter p ds) f)
-    by-cases false true e f same = ap (filter p) (filter-hit q d ds f) ∙ filter-miss p d (filter q ds) e ∙ same ∙ sym (ap (filter q) (filter-miss p d ds e))
-    by-cases false false e f same = ap (filter p) (filter-miss q d ds f) ∙ same ∙ sym (ap (filter q) (filter-miss p d ds e))
-
-abbrev is_filled : List Directive → Bool
-is_filled [] = false
-is_filled (d ∷ ds) = true
-
-any-filled : (test : Directive → Bool) (ds : List Directive) → list_any test ds ≡ is_filled (filter test ds)
-any-filled test [] = refl
-any-filled test (d ∷ ds) = elim (cases_Bool (test d)) [
-  | inl hit ↦ rw hit refl
-  | inr miss ↦ rw miss (any-filled test ds)
-]
 
 -- ---- one operation on two files
 
@@ -124,13 +73,7 @@ abbrev parts_of : Edit → Edit → List Directive → List Directive
 parts_of one other ds = filter (about one) ds ++ (filter (about other) ds ++ neither one other ds)
 
 apart-swap : (one other : Edit) → AreApart one other → AreApart other one
-apart-swap one other apart d = swap (about one d) (about other d) (apart d)
-  where
-    swap : (a b : Bool) → (a && b) ≡ false → (b && a) ≡ false
-    swap true true e = e
-    swap true false e = refl
-    swap false true e = refl
-    swap false false e = refl
+apart-swap one other apart d = and-swap (about other d) (about one d) ∙ apart d
 
 in-parts : (one other : Edit) (ds : List Directive) → AreApart one other → IsPermutation ds (parts_of one other ds)
 in-parts one other ds apart =

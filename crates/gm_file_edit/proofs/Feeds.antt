@@ -1,8 +1,8 @@
 -- Texts without a line feed: paths, versions and go versions.
-use Rattle.std.proofs.Common.{◌≡◌, ℕ, suc, ◌+◌, ◌==◌, ◌&&◌, not, nat_lt, Bool, true, false, List, [], ◌∷◌, length, take, drop, take_while, Option, Some, None, is_some, refl, sym, ap, subst, ◌∙◌, arith, inl, inr}
+use Rattle.std.proofs.Common.{◌≡◌, ◌≢◌, ℕ, suc, ◌+◌, ◌==◌, ◌&&◌, not, nat_lt, Bool, true, false, List, [], ◌∷◌, length, take, drop, take_while, Option, Some, None, is_some, refl, sym, ap, subst, ◌∙◌, arith, inl, inr}
 use Rattle.std.specs.Prelude.{if◌then◌else◌}
 use Rattle.std.specs.Char.{is_ascii_digit, is_ascii_lowercase}
-use Rattle.std.specs.List.{list_all, prefix_len}
+use Rattle.std.specs.List.{AllByRecursion, list_all, prefix_len}
 use Rattle.std.specs.Str.Parse.{digits_value}
 use Rattle.std.proofs.lemmas.Bool.{cases_Bool, or_cases, or_parts, true≢false}
 use Rattle.std.proofs.lemmas.Bool.Decides.{nat_tests}
@@ -20,20 +20,21 @@ use Rattle.gm_file.specs.Values.{both}
 use Rattle.gm_file_edit.specs.Edits.{has_byte}
 use Rattle.gm_file.specs.GoVersions.{after_dot, before_dot, first_number, has_dot, is_go_suffix, last_number, numbers, second_number, small_number, strict_go}
 
-pub no-feed : (test : ℕ → Bool) → test 10 ≡ false → (text : List ℕ) → list_all test text ≡ true → HasNoLineFeed text
-no-feed test fails [] all = tt
-no-feed test fails (b ∷ text) all =
+-- a text whose bytes pass a test that a byte fails is without the byte
+pub has-no : (byte : ℕ) (test : ℕ → Bool) → test byte ≡ false → (text : List ℕ) → list_all test text ≡ true → AllByRecursion (λ b. b ≢ byte) text
+has-no byte test fails [] all = tt
+has-no byte test fails (b ∷ text) all =
     let parts = and_both (test b) (list_all test text) all in
-    ((λ e. true≢false (sym parts.0 ∙ ap test e ∙ fails)), no-feed test fails text parts.1)
+    ((λ e. true≢false (sym parts.0 ∙ ap test e ∙ fails)), has-no byte test fails text parts.1)
 
 pub path-plain : (text : List ℕ) → IsPath text → HasNoLineFeed text
-path-plain text path = no-feed is_byte_of_path refl text (path-bytes text path)
+path-plain text path = has-no 10 is_byte_of_path refl text (path-bytes text path)
 
 pub path-feed : (text : List ℕ) → is_path text ≡ true → HasNoLineFeed text
 path-feed text h = path-plain text ((path-tested text).0 h)
 
 pub version-plain : (text : List ℕ) → IsVersion text → HasNoLineFeed text
-version-plain text version = no-feed is_byte_of_version refl text (version-bytes text version)
+version-plain text version = has-no 10 is_byte_of_version refl text (version-bytes text version)
 
 pub version-feed : (text : List ℕ) → is_version text ≡ true → HasNoLineFeed text
 version-feed text h = version-plain text ((version-tested text).0 h)
@@ -61,7 +62,7 @@ both-some f (Some x) None c e = absurd cc
 both-some f (Some x) (Some y) c e = ((x, refl), (y, refl))
 
 decimal-feed : (text : List ℕ) → is_decimal text ≡ true → HasNoLineFeed text
-decimal-feed text h = no-feed is_ascii_digit refl text (and_both (not (starts_as_no_number text)) (list_all is_ascii_digit text) h).1
+decimal-feed text h = has-no 10 is_ascii_digit refl text (and_both (not (starts_as_no_number text)) (list_all is_ascii_digit text) h).1
 
 small-feed : (text : List ℕ) (n : ℕ) → small_number text ≡ Some n → HasNoLineFeed text
 unfolding small_number
@@ -100,7 +101,7 @@ suffix-feed text e =
     let digits : Bool = list_all is_ascii_digit (drop (length letters) text) in
     elim (or_cases (length text == 0) (some && digits) e) [
       | inl none ↦ let zero : length text ≡ 0 = grind (arith, nat_tests) in empty-feed text zero
-      | inr rest ↦ behind-feed is_ascii_lowercase refl text (no-feed is_ascii_digit refl (drop (length letters) text) (and_both some digits rest).1)
+      | inr rest ↦ behind-feed is_ascii_lowercase refl text (has-no 10 is_ascii_digit refl (drop (length letters) text) (and_both some digits rest).1)
     ]
 
 last-feed : (text : List ℕ) (n : ℕ) → last_number text ≡ Some n → HasNoLineFeed text

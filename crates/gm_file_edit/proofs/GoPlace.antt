@@ -6,24 +6,23 @@ use Rattle.gm_syntax.specs.Document.{Line, Blank, Comment, Open, Close, Entry}
 use Rattle.gm_file.specs.Directives.{Directive, block_after_line, block_after_lines}
 use Rattle.gm_file.specs.Faults.{is_go, is_module}
 use Rattle.gm_file_edit.specs.Edits.{Set, GoIs}
-use Rattle.gm_file_edit.specs.Edited.{after_closing, after_first_of, after_first_that, edited, new_go, put_in}
-use Rattle.gm_file_edit.specs.Holding.{directive_at, passes}
+use Rattle.gm_file_edit.specs.Edited.{after_closing, after_first_of, edited, new_go, put_in}
+use Rattle.gm_file_edit.specs.Holding.{directive_at, passes, is_there}
 use Rattle.gm_file_edit.specs.GoPlace.{GoFollowsModule, GoFollowsModuleBlock, IsFirstModule, is_loose}
 use Rattle.gm_file_edit.specs.Laws.{directives_of}
-use Rattle.gm_file_edit.specs.Searching.{is_there_from}
-use Rattle.gm_file_edit.proofs.Idle.{there-said}
+use Rattle.gm_file_edit.proofs.Insertions.{there-said}
 use Rattle.std.proofs.lemmas.Bool.{or_parts, true≢false}
 use Rattle.gm_file_edit.proofs.Untouched.{by-edited}
 
 -- the lines before the first module directive stay
-first-behind : (test : Directive → Bool) (new : List (Line Placed)) (block : Option Placed) (front back : List (Line Placed)) (line : Line Placed) → is_there_from test block front ≡ false
+first-behind : (test : Directive → Bool) (new : List (Line Placed)) (block : Option Placed) (front back : List (Line Placed)) (line : Line Placed) → is_there test block front ≡ false
     → passes test (directive_at (block_after_lines block front) line) ≡ true
     → after_first_of test new block (front ++ line ∷ back) ≡ front ++ line ∷ (if is_some (block_after_lines block front) then after_closing new back else new ++ back)
 first-behind test new block [] back line none hit =
     let held : passes test (directive_at block line) ≡ true = hit in
     rw held refl
 first-behind test new block (x ∷ front) back line none hit =
-    let parts = or_parts (passes test (directive_at block x)) (is_there_from test (block_after_line block x) front) none in
+    let parts = or_parts (passes test (directive_at block x)) (is_there test (block_after_line block x) front) none in
     rw parts.0 (ap (λ (ls : List (Line Placed)). x ∷ ls) (first-behind test new (block_after_line block x) front back line parts.1 hit))
 
 to-closing : (new inner back : List (Line Placed)) (last : Option (List ℕ)) → list_all is_loose inner ≡ true → after_closing new (inner ++ Close last ∷ back) ≡ inner ++ Close last ∷ (new ++ back)
@@ -34,14 +33,13 @@ to-closing new (Open verb suffix ∷ inner) back last e = absurd cc
 to-closing new (Close suffix ∷ inner) back last e = absurd cc
 to-closing new (Entry words suffix ∷ inner) back last e = ap (λ (ls : List (Line Placed)). Entry words suffix ∷ ls) (to-closing new inner back last e)
 
-edited-go : (text : List ℕ) (lines : List (Line Placed)) → list_any is_go (directives_of lines) ≡ false → edited (Set (GoIs text)) lines ≡ after_first_that is_module (new_go text) lines
+edited-go : (text : List ℕ) (lines : List (Line Placed)) → list_any is_go (directives_of lines) ≡ false → edited (Set (GoIs text)) lines ≡ after_first_of is_module (new_go text) None lines
 unfolding put_in
 edited-go text lines none =
-    by-edited (λ after. after ≡ after_first_that is_module (new_go text) lines) (Set (GoIs text)) lines (λ there. absurd (true≢false (sym there ∙ there-said is_go lines ∙ none))) (λ absent. refl)
+    by-edited (λ after. after ≡ after_first_of is_module (new_go text) None lines) (Set (GoIs text)) lines (λ there. absurd (true≢false (sym there ∙ there-said is_go lines ∙ none))) (λ absent. refl)
 
 go-placed : (text : List ℕ) (front back : List (Line Placed)) (line : Line Placed) → IsFirstModule front line → list_any is_go (directives_of (front ++ line ∷ back)) ≡ false
     → edited (Set (GoIs text)) (front ++ line ∷ back) ≡ front ++ line ∷ (if is_some (block_after_lines None front) then after_closing (new_go text) back else new_go text ++ back)
-unfolding after_first_that
 go-placed text front back line first none = edited-go text (front ++ line ∷ back) none ∙ first-behind is_module (new_go text) None front back line first.none_earlier first.is_module_line
 
 pub go-follows : GoFollowsModule

@@ -1,6 +1,8 @@
 pub mod Cuts
 pub mod Names
 pub mod Pairs
+pub mod Filters
+pub mod Insertions
 pub mod Walking
 pub mod Drops
 pub mod Packs
@@ -23,7 +25,6 @@ pub mod SaidAfter
 pub mod Idle
 pub mod Comments
 pub mod Untouched
-pub mod Spots
 pub mod Additions
 pub mod GoPlace
 pub mod Twice
@@ -33,4 +34,3 @@ pub mod Quotes
 pub mod Told
 pub mod PassedOver
 pub mod KeyedChanges
-pub mod Tails

@@ -195,3 +195,9 @@ two-are a path value word is plain = record {
   closes_nothing = no-mark 41 a.word path is;
   no_block = rw (no-mark 40 a.word path is) refl;
 }
+
+-- a new path before other words
+pub begins-path : (path : List ℕ) (more : List Placed) → HasNoLineFeed path → AllByRecursion IsWord (words_of more) → ends_open (words_of (made_word path ∷ more)) ≡ false
+    → is_empty_block (words_of (made_word path ∷ more)) ≡ false → AreArguments (made_word path ∷ more)
+begins-path path more plain words opens filled =
+    record { words = (made-stands path plain, words); filled = omega arith; opens_nothing = opens; closes_nothing = made-no-mark 41 path; no_block = filled }

@@ -1,16 +1,15 @@
 -- Lines of which those with a mark are removed in place, step by step.
-use Rattle.std.proofs.Common.{◌≡◌, ℕ, suc, ◌+◌, ◌-◌, ◌<◌, ◌≤◌, zero, Bool, true, false, List, [], ◌∷◌, ◌++◌, length, take, drop, get_or, set, Some, refl, sym, ap, subst, drop-cons, ◌∙◌, append_assoc, arith}
+use Rattle.std.proofs.Common.{◌≡◌, ℕ, suc, ◌+◌, ◌-◌, ◌<◌, ◌≤◌, Bool, true, false, List, [], ◌∷◌, ◌++◌, length, take, drop, get_or, set, Some, refl, sym, ap, subst, drop-cons, ◌∙◌, append_assoc, arith}
 use Rattle.std.specs.Prelude.{not, take_while}
 use Rattle.std.specs.List.{list_any, prefix_len, swap}
-use Rattle.std.proofs.Math.Seq.{drop-append_seam}
 use Rattle.std.proofs.lemmas.List.Edits.{swap_is}
-use Rattle.std.proofs.lemmas.List.{drop-drop, drop-set-lt, length-append, length-drop, length-take-le, take_all, take_more, take_more_set, take-set-le}
+use Rattle.std.proofs.lemmas.List.{drop-drop, drop-set-lt, get_or_default, length-drop, length-set, length-take-le, take_all, take_more, take_more_set, take-set-le}
 use Rattle.gm_syntax.specs.Tokens.{Placed}
 use Rattle.gm_syntax.specs.Document.{Line, Blank, Comment, Open, Close, Entry}
 use Rattle.gm_file_edit.specs.Fates.{Fate, empties, fate_by, kept, remaining, widened_from}
 use Rattle.gm_file_edit.specs.Marks.{is_blank_source_line, line_at, marked}
 use Rattle.gm_file_edit.proofs.Untouched.{all-lines-stay, all_stay}
-use Rattle.gm_file_edit.proofs.Walking.{drop-next}
+use Rattle.gm_file_edit.proofs.Walking.{drop-next, line-here}
 
 -- ---- a line that moves
 
@@ -29,19 +28,11 @@ swap-rest lines k n lt in_range =
 
 -- ---- lines at an index
 
-pub get_or-default : {X : Type 0} (xs : List X) (n : ℕ) (d : X) → n < length xs → get_or xs n d ≡ get_or xs n (get_or xs n d)
-get_or-default [] n d lt = absurd (omega (arith, lt))
-get_or-default (x ∷ xs) zero d lt = refl
-get_or-default (x ∷ xs) (suc n) d lt = get_or-default xs n d (omega (arith, lt))
-
-first-same : (xs ys : List (Line Placed)) (n : ℕ) → n < length xs → n < length ys → drop n xs ≡ drop n ys → line_at xs n ≡ get_or ys n (line_at xs n)
+first-same : (xs ys : List (Line Placed)) (n : ℕ) → n < length xs → n < length ys → drop n xs ≡ drop n ys → line_at xs n ≡ line_at ys n
 first-same xs ys n in_xs in_ys same =
-    let a = drop-cons xs n (line_at xs n) in_xs in
-    let b = drop-cons ys n (line_at xs n) in_ys in
-    let e : get_or xs n (line_at xs n) ∷ drop (suc n) xs ≡ get_or ys n (line_at xs n) ∷ drop (suc n) ys = sym a ∙ same ∙ b in
-    get_or-default xs n Blank in_xs ∙ cc
+    let e : line_at xs n ∷ drop (suc n) xs ≡ line_at ys n ∷ drop (suc n) ys = sym (drop-cons xs n Blank in_xs) ∙ same ∙ drop-cons ys n Blank in_ys in cc
 
-next-rest : (xs ys : List (Line Placed)) (n : ℕ) → drop n xs ≡ drop n ys → drop (n + 1) xs ≡ drop (n + 1) ys
+next-rest : {X : Type 0} (xs ys : List X) (n : ℕ) → drop n xs ≡ drop n ys → drop (n + 1) xs ≡ drop (n + 1) ys
 next-rest xs ys n same = sym (drop-drop 1 n xs) ∙ ap (drop 1) same ∙ drop-drop 1 n ys
 
 -- ---- the loop that keeps lines
@@ -64,9 +55,8 @@ pub keep-more : (marks : List Bool) (whole : List (Line Placed)) (n count next :
     → (mark ≡ true → take next new ≡ take count lines) → (mark ≡ false → take next new ≡ take count lines ++ line_at lines n ∷ []) → IsKeptTo marks whole n count lines → IsKeptTo marks whole (n + 1) next new
 keep-more marks whole n count next lines new mark lt even is len bound same gone stays so =
     let c = so.len in
-    let here : drop n lines ≡ line_at lines n ∷ drop (n + 1) lines = drop-next lines n (line_at lines n) (omega (arith, lt, even, c)) (get_or-default lines n Blank (omega (arith, lt, even, c))) in
     let there : drop n whole ≡ line_at lines n ∷ drop (n + 1) whole =
-    drop-next whole n (line_at lines n) (omega (arith, lt, even)) (first-same lines whole n (omega (arith, lt, even, c)) (omega (arith, lt, even)) so.rest) in
+    line-here whole n (omega (arith, lt, even)) ∙ ap (λ (l : Line Placed). l ∷ drop (n + 1) whole) (sym (first-same lines whole n (omega (arith, lt, even, c)) (omega (arith, lt, even)) so.rest)) in
     let marks_here : drop n marks ≡ mark ∷ drop (n + 1) marks = drop-next marks n mark lt is in
     record {
       len = len ∙ so.len;
@@ -82,10 +72,9 @@ keep-more marks whole n count next lines new mark lt even is len bound same gone
 
 -- Loop invariant: the first marks are widened, and the others are as they were.
 pub record IsWidenedTo (whole : List (Line Placed)) (old : List Bool) (n : ℕ) (inside goes : Bool) (marks : List Bool) : Type 0 where
-  pub front : List Bool
-  pub count : length front ≡ n
-  pub all : marks ≡ front ++ drop n old
-  pub left : marked front (take n whole) ++ widened_from inside goes (marked (drop n old) (drop n whole)) ≡ widened_from false false (marked old whole)
+  pub size : length marks ≡ length old
+  pub rest : drop n marks ≡ drop n old
+  pub left : marked (take n marks) (take n whole) ++ widened_from inside goes (marked (drop n old) (drop n whole)) ≡ widened_from false false (marked old whole)
 
 marked-more : (front : List Bool) (lines : List (Line Placed)) (mark : Bool) (line : Line Placed) → length front ≡ length lines → marked (front ++ mark ∷ []) (lines ++ line ∷ []) ≡ marked front lines ++ fate_by mark line ∷ []
 marked-more [] [] mark line even = refl
@@ -93,88 +82,52 @@ marked-more [] (l ∷ lines) mark line even = absurd (omega (arith, even))
 marked-more (m ∷ front) [] mark line even = absurd (omega (arith, even))
 marked-more (m ∷ front) (l ∷ lines) mark line even = ap (λ (fs : List Fate). fate_by m l ∷ fs) (marked-more front lines mark line (omega (arith, even)))
 
-set-at : (front back : List Bool) (old mark : Bool) (n : ℕ) → length front ≡ n → set (front ++ old ∷ back) n mark ≡ (front ++ mark ∷ []) ++ back
-set-at front back old mark n count = ap (λ (k : ℕ). set (front ++ old ∷ back) k mark) (sym count) ∙ written front
-  where
-    written : (front : List Bool) → set (front ++ old ∷ back) (length front) mark ≡ (front ++ mark ∷ []) ++ back
-    written [] = refl
-    written (m ∷ front) = ap (λ (ms : List Bool). m ∷ ms) (written front)
-
-pub widen-size : (whole : List (Line Placed)) (old : List Bool) (n : ℕ) (inside goes : Bool) (marks : List Bool) → n ≤ length old → IsWidenedTo whole old n inside goes marks → length marks ≡ length old
-widen-size whole old n inside goes marks le so =
-    let a = ap length so.all in
-    let b = length-append so.front (drop n old) in
-    let c = length-drop n old in
-    let d = so.count in
-    omega (arith, a, b, c, d, le)
-
--- the mark of a line, before it is widened
-mark-here : (old marks front : List Bool) (n : ℕ) (mark : Bool) → n < length marks → length front ≡ n → marks ≡ front ++ drop n old → mark ≡ get_or marks n mark → drop n old ≡ mark ∷ drop (n + 1) old
-mark-here old marks front n mark lt count all is =
-    let same : drop n marks ≡ drop n old = ap (drop n) all ∙ ap (λ (k : ℕ). drop k (front ++ drop n old)) (sym count) ∙ drop-append_seam front (drop n old) in
-    let here : drop n marks ≡ mark ∷ drop (n + 1) marks = drop-next marks n mark lt is in
-    sym same ∙ here ∙ ap (λ (ms : List Bool). mark ∷ ms) (sym (drop-drop 1 n marks) ∙ ap (drop 1) same ∙ drop-drop 1 n old)
-
 -- one more line
-pub widen-more : (whole : List (Line Placed)) (old : List Bool) (n : ℕ) (inside goes next_inside next_goes mark next_mark : Bool) (marks next : List Bool) (line : Line Placed)
-    → length old ≡ length whole → n < length whole → line ≡ get_or whole n line → mark ≡ get_or marks n mark → n < length marks
-    → ((fates : List Fate) → fates ≡ marked (drop (n + 1) old) (drop (n + 1) whole) → widened_from inside goes (fate_by mark line ∷ fates) ≡ fate_by next_mark line ∷ widened_from next_inside next_goes fates)
-    → next ≡ set marks n next_mark → IsWidenedTo whole old n inside goes marks → IsWidenedTo whole old (n + 1) next_inside next_goes next
-widen-more whole old n inside goes next_inside next_goes mark next_mark marks next line even lt line_is mark_is in_marks step put so =
-    let here : drop n whole ≡ line ∷ drop (n + 1) whole = drop-next whole n line lt line_is in
-    let mark_here : drop n old ≡ mark ∷ drop (n + 1) old = mark-here old marks so.front n mark in_marks so.count so.all mark_is in
-    let rest : List Fate = marked (drop (n + 1) old) (drop (n + 1) whole) in
-    let long = length-append so.front (next_mark ∷ []) in
-    let count = so.count in
-    let taken : length so.front ≡ length (take n whole) = so.count ∙ sym (length-take-le n whole (omega (arith, lt))) in
-    let more : take (n + 1) whole ≡ take n whole ++ line ∷ [] = take_more whole n line lt ∙ ap (λ (l : Line Placed). take n whole ++ l ∷ []) (sym line_is) in
+widen-more : (whole : List (Line Placed)) (old : List Bool) (n : ℕ) (inside goes next_inside next_goes mark next_mark : Bool) (marks next : List Bool)
+    → length old ≡ length whole → n < length whole → mark ≡ get_or marks n mark → length next ≡ length marks → drop (n + 1) next ≡ drop (n + 1) marks → take (n + 1) next ≡ take n marks ++ next_mark ∷ []
+    → widened_from inside goes (fate_by mark (line_at whole n) ∷ marked (drop (n + 1) old) (drop (n + 1) whole)) ≡ fate_by next_mark (line_at whole n) ∷ widened_from next_inside next_goes (marked (drop (n + 1) old) (drop (n + 1) whole))
+    → IsWidenedTo whole old n inside goes marks → IsWidenedTo whole old (n + 1) next_inside next_goes next
+widen-more whole old n inside goes next_inside next_goes mark next_mark marks next even lt is same_size same_rest put step so =
+    let line : Line Placed = line_at whole n in
+    let front : List Fate = marked (take n marks) (take n whole) in
+    let after : List Fate = widened_from next_inside next_goes (marked (drop (n + 1) old) (drop (n + 1) whole)) in
+    let size = so.size in
+    let rest : drop (n + 1) marks ≡ drop (n + 1) old = next-rest marks old n so.rest in
+    let mark_here : drop n old ≡ mark ∷ drop (n + 1) old = sym so.rest ∙ drop-next marks n mark (omega (arith, size, even, lt)) is ∙ ap (λ (ms : List Bool). mark ∷ ms) rest in
+    let taken : length (take n marks) ≡ length (take n whole) = length-take-le n marks (omega (arith, size, even, lt)) ∙ sym (length-take-le n whole (omega (arith, lt))) in
     record {
-      front = so.front ++ next_mark ∷ [];
-      count = omega (arith, long, count);
-      all = put ∙ ap (λ (ms : List Bool). set ms n next_mark) (so.all ∙ ap (λ (ms : List Bool). so.front ++ ms) mark_here) ∙ set-at so.front (drop (n + 1) old) mark next_mark n so.count;
+      size = same_size ∙ size;
+      rest = same_rest ∙ rest;
       left =
-          ap (λ (ls : List (Line Placed)). marked (so.front ++ next_mark ∷ []) ls ++ widened_from next_inside next_goes rest) more
-          ∙ ap (λ (fs : List Fate). fs ++ widened_from next_inside next_goes rest) (marked-more so.front (take n whole) next_mark line taken)
-          ∙ append_assoc (marked so.front (take n whole)) (fate_by next_mark line ∷ []) (widened_from next_inside next_goes rest)
-          ∙ ap (λ (fs : List Fate). marked so.front (take n whole) ++ fs) (sym (step rest refl))
-          ∙ ap (λ (ms : List Bool). marked so.front (take n whole) ++ widened_from inside goes (marked ms (line ∷ drop (n + 1) whole))) (sym mark_here)
-          ∙ ap (λ (ls : List (Line Placed)). marked so.front (take n whole) ++ widened_from inside goes (marked (drop n old) ls)) (sym here)
+          ap (λ (ms : List Bool). marked ms (take (n + 1) whole) ++ after) put ∙ ap (λ (ls : List (Line Placed)). marked (take n marks ++ next_mark ∷ []) ls ++ after) (take_more whole n Blank lt)
+          ∙ ap (λ (fs : List Fate). fs ++ after) (marked-more (take n marks) (take n whole) next_mark line taken)
+          ∙ append_assoc front (fate_by next_mark line ∷ []) after ∙ ap (λ (fs : List Fate). front ++ fs) (sym step)
+          ∙ ap (λ (fs : List Fate). front ++ widened_from inside goes fs) (sym (ap (λ (ms : List Bool). marked ms (drop n whole)) mark_here ∙ ap (marked (mark ∷ drop (n + 1) old)) (line-here whole n lt)))
           ∙ so.left;
     }
-
-set-held : (xs : List Bool) (n : ℕ) (x : Bool) → n < length xs → x ≡ get_or xs n x → xs ≡ set xs n x
-set-held [] n x lt is = absurd (omega (arith, lt))
-set-held (y ∷ xs) zero x lt is = ap (λ (z : Bool). z ∷ xs) (sym is)
-set-held (y ∷ xs) (suc n) x lt is = ap (λ (zs : List Bool). y ∷ zs) (set-held xs n x (omega (arith, lt)) is)
 
 pub rest-of : {X : Type 0} (xs : List X) (n : ℕ) → take (length xs - n) (drop n xs) ≡ drop n xs
 rest-of xs n = let rest = length-drop n xs in take_all (length xs - n) (drop n xs) (omega (arith, rest))
 
-rest-marks : (old marks front : List Bool) (n : ℕ) → length front ≡ n → marks ≡ front ++ drop n old → drop (n + 1) marks ≡ drop (n + 1) old
-rest-marks old marks front n count all =
-    let same : drop n marks ≡ drop n old = ap (drop n) all ∙ ap (λ (k : ℕ). drop k (front ++ drop n old)) (sym count) ∙ drop-append_seam front (drop n old) in
-    sym (drop-drop 1 n marks) ∙ ap (drop 1) same ∙ drop-drop 1 n old
-
 -- a line without a mark
-pub widen-line : (whole : List (Line Placed)) (old : List Bool) (n : ℕ) (inside goes next_inside next_goes seen next_mark : Bool) (marks slice next : List Bool)
+pub widen-line : (whole : List (Line Placed)) (old : List Bool) (n : ℕ) (inside goes next_inside next_goes seen next_mark : Bool) (marks slice : List Bool)
     → length old ≡ length whole → n < length whole → seen ≡ get_or marks n seen → seen ≡ false → slice ≡ marks
     → widened_from inside goes (Some (line_at whole n) ∷ marked (drop (n + 1) slice) (drop (n + 1) whole)) ≡ fate_by next_mark (line_at whole n) ∷ widened_from next_inside next_goes (marked (drop (n + 1) slice) (drop (n + 1) whole))
-    → next ≡ set marks n next_mark → IsWidenedTo whole old n inside goes marks → IsWidenedTo whole old (n + 1) next_inside next_goes next
-widen-line whole old n inside goes next_inside next_goes seen next_mark marks slice next even lt seen_is unmarked same step put so =
-    let size = widen-size whole old n inside goes marks (omega (arith, lt, even)) so in
-    let rest : marked (drop (n + 1) slice) (drop (n + 1) whole) ≡ marked (drop (n + 1) old) (drop (n + 1) whole) =
-    ap (λ (ms : List Bool). marked ms (drop (n + 1) whole)) (ap (drop (n + 1)) same ∙ rest-marks old marks so.front n so.count so.all) in
-    widen-more whole old n inside goes next_inside next_goes false next_mark marks next (line_at whole n) even lt (get_or-default whole n Blank lt) (sym unmarked ∙ seen_is ∙ ap (get_or marks n) unmarked) (omega (arith, size, even, lt))
-    (λ fates is. subst (λ (fs : List Fate). widened_from inside goes (Some (line_at whole n) ∷ fs) ≡ fate_by next_mark (line_at whole n) ∷ widened_from next_inside next_goes fs) (rest ∙ sym is) step)
-    put so
+    → IsWidenedTo whole old n inside goes marks → IsWidenedTo whole old (n + 1) next_inside next_goes (set marks n next_mark)
+widen-line whole old n inside goes next_inside next_goes seen next_mark marks slice even lt seen_is unmarked same step so =
+    let size = so.size in
+    let rest : drop (n + 1) slice ≡ drop (n + 1) old = ap (drop (n + 1)) same ∙ next-rest marks old n so.rest in
+    widen-more whole old n inside goes next_inside next_goes false next_mark marks (set marks n next_mark) even lt (sym unmarked ∙ seen_is ∙ ap (get_or marks n) unmarked) (length-set marks n next_mark)
+    (drop-set-lt (n + 1) marks n next_mark (omega arith)) (take_more_set marks n next_mark (omega (arith, size, even, lt)))
+    (subst (λ (ms : List Bool). widened_from inside goes (Some (line_at whole n) ∷ marked ms (drop (n + 1) whole)) ≡ fate_by next_mark (line_at whole n) ∷ widened_from next_inside next_goes (marked ms (drop (n + 1) whole))) rest step) so
 
 -- a line with a mark
 pub widen-marked : (whole : List (Line Placed)) (old : List Bool) (n : ℕ) (inside goes seen : Bool) (marks : List Bool)
     → length old ≡ length whole → n < length whole → seen ≡ get_or marks n seen → seen ≡ true → IsWidenedTo whole old n inside goes marks → IsWidenedTo whole old (n + 1) inside goes marks
 widen-marked whole old n inside goes seen marks even lt seen_is has_mark so =
-    let size = widen-size whole old n inside goes marks (omega (arith, lt, even)) so in
+    let size = so.size in
     let mark_is : true ≡ get_or marks n true = sym has_mark ∙ seen_is ∙ ap (get_or marks n) has_mark in
-    widen-more whole old n inside goes inside goes true true marks marks (line_at whole n) even lt (get_or-default whole n Blank lt) mark_is (omega (arith, size, even, lt)) (λ fates is. refl) (set-held marks n true (omega (arith, size, even, lt)) mark_is) so
+    widen-more whole old n inside goes inside goes true true marks marks even lt mark_is refl refl (take_more marks n true (omega (arith, size, even, lt)) ∙ ap (λ (m : Bool). take n marks ++ m ∷ []) (sym mark_is)) refl so
 
 -- ---- the loop that looks for the end of a block
 
@@ -190,8 +143,8 @@ fates-here : (marks : List Bool) (lines : List (Line Placed)) (n : ℕ) (mark : 
     → marked (drop n marks) (drop n lines) ≡ fate_by mark (line_at lines n) ∷ marked (drop (n + 1) marks) (drop (n + 1) lines)
 fates-here marks lines n mark even lt is =
     let in_marks : n < length marks = omega (arith, even, lt) in
-    ap (λ (ms : List Bool). marked ms (drop n lines)) (drop-next marks n mark in_marks (sym is ∙ get_or-default marks n false in_marks ∙ ap (get_or marks n) is))
-    ∙ ap (marked (mark ∷ drop (n + 1) marks)) (drop-next lines n (line_at lines n) lt (get_or-default lines n Blank lt))
+    ap (λ (ms : List Bool). marked ms (drop n lines)) (drop-next marks n mark in_marks (sym is ∙ get_or_default marks n false mark in_marks))
+    ∙ ap (marked (mark ∷ drop (n + 1) marks)) (line-here lines n lt)
 
 pub look-marked : (marks : List Bool) (lines : List (Line Placed)) (n : ℕ) (lost : Bool) → length marks ≡ length lines → n < length lines → get_or marks n false ≡ true
     → empties lost (marked (drop n marks) (drop n lines)) ≡ empties true (marked (drop (n + 1) marks) (drop (n + 1) lines))

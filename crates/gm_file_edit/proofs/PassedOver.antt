@@ -1,5 +1,5 @@
 -- What the key of a line and its texts say of the line.
-use Rattle.std.proofs.Common.{◌≡◌, ◌==◌, ◌&&◌, ℕ, Bool, true, false, List, [], ◌∷◌, Option, Some, None, is_some, refl, sym, ap, subst, ◌∙◌, inl, inr}
+use Rattle.std.proofs.Common.{◌≡◌, ◌==◌, ◌&&◌, ℕ, ◌+◌, ◌<◌, length, take, Bool, true, false, List, [], ◌∷◌, Option, Some, None, is_some, refl, sym, ap, subst, ◌∙◌, inl, inr}
 use Rattle.std.specs.Str.{bytes_eq}
 use Rattle.std.proofs.lemmas.Bool.{and_from, cases_Bool}
 use Rattle.std.proofs.lemmas.Bool.Decides.{Decides-eqb}
@@ -11,19 +11,21 @@ use Rattle.gm_syntax.specs.LineViews.{plain}
 use Rattle.gm_syntax.proofs.Changes.{standing_entry}
 use Rattle.gm_file.specs.declared.verb.Verb.{Verb}
 use Rattle.gm_file.specs.declared.verb.Verb.TheVariants.{Unknown}
-use Rattle.gm_file.specs.Directives.{Directive, Strict, block_after_line, directive_of, is_empty_block, item_at, main_verb, verb_eq}
+use Rattle.gm_file.specs.Directives.{Directive, Strict, block_after_line, block_after_lines, directive_of, is_empty_block, is_of_verb, item_at, main_verb, verb_eq}
 use Rattle.gm_file.proofs.DirectiveVerbs.{same-verb}
 use Rattle.gm_file.specs.Faults.{entry_kinds, is_same_version}
 use Rattle.gm_file_edit.specs.About.{about}
 use Rattle.gm_file_edit.specs.Edits.{Edit, Set, ModuleIs, Drop, AnyRequire, Add, Exclude}
-use Rattle.gm_file_edit.specs.Holding.{IsValidAt}
-use Rattle.gm_file_edit.specs.Holding.{directive_at, item_of, passes}
-use Rattle.gm_file_edit.specs.Keys.{does_tell, does_tell_by, hash_at, hashes_of, is_entry_by, is_entry_in, is_inside, key_of, may_concern, may_concern_by, may_tell, scope_after, scope_if, scope_of, sought_key, verb_outside, verb_sought, words_key}
-use Rattle.gm_file_edit.specs.Subjects.{Any, Both, First, Sought, Subject, is_told, sought_of, subject_inside, subject_outside}
+use Rattle.gm_file_edit.specs.Holding.{IsValidAt, directive_at, item_of, passes}
+use Rattle.gm_file_edit.specs.Keys.{does_tell, does_tell_by, hash_at, hashes_of, is_entry_by, is_entry_in, is_inside, key_of, may_concern, may_concern_by, may_tell, scope_after, scope_if, scope_of, sought_key, verb_outside, verb_sought, words_key, Any, Both, First, Sought, Subject, is_told, sought_of, subject_inside, subject_outside}
+use Rattle.gm_file_edit.specs.Marks.{line_at}
+use Rattle.gm_file_edit.specs.declared.keys.Key.{Key}
 use Rattle.gm_file_edit.specs.declared.keys.Scope.{Scope}
 use Rattle.gm_file_edit.specs.declared.keys.Scope.TheVariants as scope
-use Rattle.gm_file_edit.proofs.Targets.{is_entry_of, other-about}
+use Rattle.gm_file_edit.proofs.Pairs.{IsSound}
+use Rattle.gm_file_edit.proofs.Targets.{entry-holds, is_entry_of, other-about}
 use Rattle.gm_file_edit.proofs.Told.{AreWords, told}
+use Rattle.gm_file_edit.proofs.Walking.{block-next, right-at}
 
 same-text : (a b : List ℕ) → bytes_eq a b ≡ true → a ≡ b
 same-text a b same = (bytes_eq-Decides a b).0 same
@@ -171,3 +173,21 @@ pub target-by : (edit : Edit) (block : Option Placed) (line : Line Placed) → I
     → (may_concern (verb_sought edit) (sought_key (sought_of edit)) (scope_of (verb_sought edit) block) (key_of line) && does_tell (sought_of edit) (scope_of (verb_sought edit) block) line)
     ≡ passes (about edit) (directive_at block line)
 target-by edit block line stands valid = near-is (verb_sought edit) (sought_of edit) (scope_of (verb_sought edit) block) line ∙ target-is edit block line stands valid
+
+-- ---- lines that a loop walks over by their keys
+
+-- the scope before the line at an index
+abbrev pub IsScopeTo : Verb → List (Line Placed) → ℕ → Scope → Type 0
+IsScopeTo own whole n at = at ≡ scope_of own (block_after_lines None (take n whole))
+
+pub scope-more : (own : Verb) (whole : List (Line Placed)) (n : ℕ) (at next : Scope) (key : Key) → n < length whole → key ≡ key_of (line_at whole n) → next ≡ scope_after own at key → IsScopeTo own whole n at → IsScopeTo own whole (n + 1) next
+scope-more own whole n at next key lt is behind so =
+    behind ∙ ap (scope_after own at) is ∙ scope-next own at (block_after_lines None (take n whole)) (line_at whole n) so ∙ ap (scope_of own) (sym (block-next whole n lt))
+
+-- the key of a line of a valid file says whether the line holds a directive of the verb
+pub key-tells : (own : Verb) (whole : List (Line Placed)) (n : ℕ) (at : Scope) (key : Key) → IsKnown own → IsSound whole → n < length whole → key ≡ key_of (line_at whole n) → IsScopeTo own whole n at
+    → is_entry_in own at key ≡ passes (is_of_verb own) (directive_at (block_after_lines None (take n whole)) (line_at whole n))
+key-tells own whole n at key known sound lt is so =
+    let block : Option Placed = block_after_lines None (take n whole) in
+    let line : Line Placed = line_at whole n in
+    ap (is_entry_in own at) is ∙ ap (λ (c : Scope). is_entry_in own c (key_of line)) so ∙ entry-said own known block line ∙ entry-holds own block line (right-at None whole n lt sound.lines_are.right).1

@@ -1,5 +1,5 @@
 -- The result of an operation doesn't depend on source positions: it commutes with removing the positions of words.
-use Rattle.std.proofs.Common.{◌≡◌, ℕ, ◌-◌, ◌||◌, ◌&&◌, not, Bool, true, false, List, [], ◌∷◌, ◌++◌, length, map, take, Option, Some, None, is_none, is_some, refl, sym, ap, ◌∙◌, inl, inr}
+use Rattle.std.proofs.Common.{◌≡◌, ℕ, ◌-◌, ◌&&◌, not, Bool, true, false, List, [], ◌∷◌, ◌++◌, length, map, take, Option, Some, None, is_none, is_some, refl, sym, ap, ◌∙◌, inl, inr}
 use Rattle.std.specs.Prelude.{if◌then◌else◌, codes}
 use Rattle.std.specs.Option.{option_map}
 use Rattle.std.specs.Str.{bytes_eq}
@@ -13,13 +13,13 @@ use Rattle.gm_syntax.specs.LineViews.{plain, plain_lines}
 use Rattle.gm_file.specs.Directives.{Strict, Directive, VersionInterval, Right, Folder, Module, Replacing, block_after_line, directive_in, item_at}
 use Rattle.gm_file.specs.Faults.{is_go, is_module}
 use Rattle.gm_file_edit.specs.Edits.{Edit, Set, ModuleIs, GoIs, RequireAt, Drop, Add, Exclude, ReplaceWith, Retract}
-use Rattle.gm_file_edit.specs.NewWords.{entry_at, interval_words, left_words, left_words_of, made_mark, made_word, pair_words, replace_words, right_words, single, unplaced}
+use Rattle.gm_file_edit.specs.NewWords.{entry_at, interval_words, left_words, made_mark, made_word, pair_words, replace_words, right_words, single, unplaced}
 use Rattle.gm_file_edit.specs.Fates.{Fate, dropped, dropping_from, empties, fate_by, is_emptied, kept, remaining, renewed, renewing_from, widened_from}
-use Rattle.gm_file_edit.specs.Holding.{directive_at, passes, word_of}
-use Rattle.gm_file_edit.specs.Renewing.{before_arguments, with_arguments, with_last}
+use Rattle.gm_file_edit.specs.Holding.{directive_at, passes, is_there}
+use Rattle.gm_file_edit.proofs.Pairs.{word_of}
+use Rattle.gm_file_edit.specs.Renewing.{with_arguments, with_last}
 use Rattle.gm_file_edit.specs.About.{about, is_replaced_by, requires_path}
-use Rattle.gm_file_edit.specs.Searching.{is_there, is_there_from}
-use Rattle.gm_file_edit.specs.Edited.{added, after_closing, after_first_of, after_first_that, after_last_of, changed, edited, has_verb, new_go, put_in}
+use Rattle.gm_file_edit.specs.Edited.{added, after_closing, after_first_of, after_last_of, changed, edited, has_verb, new_go, put_in}
 
 -- ---- lines without source positions
 
@@ -83,6 +83,14 @@ chosen : {X Y : Type 0} (g : Y → X) (c d : Bool) (x y : X) (u v : Y) → c ≡
 chosen g c true x y u v e f h = rw e f
 chosen g c false x y u v e f h = rw e h
 
+pushed : {X Y : Type 0} (g : Y → X) (c : Bool) (u v : Y) → (if c then g u else g v) ≡ g (if c then u else v)
+pushed g true u v = refl
+pushed g false u v = refl
+
+inside-loose : (block : Option Placed) → is_some (loose_block block) ≡ is_some block
+inside-loose None = refl
+inside-loose (Some verb) = refl
+
 block-word : (block : Option Placed) → option_map word_of (loose_block block) ≡ option_map word_of block
 block-word None = refl
 block-word (Some verb) = refl
@@ -102,13 +110,9 @@ behind-loose block (Open verb suffix) = refl
 behind-loose block (Close suffix) = refl
 behind-loose block (Entry words suffix) = refl
 
-there-loose : (test : Directive → Bool) (block : Option Placed) (lines : List (Line Placed)) → is_there_from test (loose_block block) (loose_lines lines) ≡ is_there_from test block lines
+there-loose : (test : Directive → Bool) (block : Option Placed) (lines : List (Line Placed)) → is_there test (loose_block block) (loose_lines lines) ≡ is_there test block lines
 there-loose test block [] = refl
-there-loose test block (line ∷ lines) =
-    ap (λ (c : Bool). c || is_there_from test (block_after_line (loose_block block) (loose_line line)) (loose_lines lines)) (passes-loose test block line)
-    ∙ ap (λ (b : Option Placed). passes test (directive_at block line) || is_there_from test b (loose_lines lines)) (behind-loose block line)
-    ∙ ap (λ (c : Bool). passes test (directive_at block line) || c)
-    (there-loose test (block_after_line block line) lines)
+there-loose test block (line ∷ lines) = rw (passes-loose test block line, behind-loose block line, there-loose test (block_after_line block line) lines) refl
 
 -- ---- the fates of lines
 
@@ -119,12 +123,8 @@ fate-loose false line = refl
 dropping-loose : (test : Directive → Bool) (block : Option Placed) (lines : List (Line Placed)) → dropping_from test (loose_block block) (loose_lines lines) ≡ loose_fates (dropping_from test block lines)
 dropping-loose test block [] = refl
 dropping-loose test block (line ∷ lines) =
-    let mark : Bool = passes test (directive_at block line) in
-    let behind : Option Placed = block_after_line (loose_block block) (loose_line line) in
-    ap (λ (b : Bool). fate_by b (loose_line line) ∷ dropping_from test behind (loose_lines lines)) (passes-loose test block line)
-    ∙ ap (λ (f : Fate). f ∷ dropping_from test behind (loose_lines lines)) (fate-loose mark line)
-    ∙ ap (λ (b : Option Placed). loose_fate (fate_by mark line) ∷ dropping_from test b (loose_lines lines)) (behind-loose block line)
-    ∙ ap (λ (fs : List Fate). loose_fate (fate_by mark line) ∷ fs) (dropping-loose test (block_after_line block line) lines)
+    rw (passes-loose test block line, behind-loose block line, dropping-loose test (block_after_line block line) lines)
+    (ap (λ (f : Fate). f ∷ loose_fates (dropping_from test (block_after_line block line) lines)) (fate-loose (passes test (directive_at block line)) line))
 
 -- a rewrite doesn't depend on source positions
 abbrev IsBlind : (Option Placed → Line Placed → Line Placed) → Type 0
@@ -134,18 +134,9 @@ renewing-loose : (test : Directive → Bool) (new : Option Placed → Line Place
     → renewing_from test new (loose_block block) (loose_lines lines) ≡ loose_fates (renewing_from test new block lines)
 renewing-loose test new blind block [] = refl
 renewing-loose test new blind block (line ∷ lines) =
-    chosen loose_fates (passes test (directive_at (loose_block block) (loose_line line)))
-    (passes test (directive_at block line))
-    (Some (new (loose_block block) (loose_line line)) ∷ dropping_from test (block_after_line (loose_block block) (loose_line line)) (loose_lines lines))
-    (Some (loose_line line) ∷ renewing_from test new (block_after_line (loose_block block) (loose_line line)) (loose_lines lines))
-    (Some (new block line) ∷ dropping_from test (block_after_line block line) lines)
-    (Some line ∷ renewing_from test new (block_after_line block line) lines)
-    (passes-loose test block line)
-    (ap (λ (l : Line Placed). Some l ∷ dropping_from test (block_after_line (loose_block block) (loose_line line)) (loose_lines lines)) (blind block line)
-    ∙ ap (λ (b : Option Placed). Some (loose_line (new block line)) ∷ dropping_from test b (loose_lines lines)) (behind-loose block line)
-    ∙ ap (λ (fs : List Fate). Some (loose_line (new block line)) ∷ fs) (dropping-loose test (block_after_line block line) lines))
-    (ap (λ (b : Option Placed). Some (loose_line line) ∷ renewing_from test new b (loose_lines lines)) (behind-loose block line)
-    ∙ ap (λ (fs : List Fate). Some (loose_line line) ∷ fs) (renewing-loose test new blind (block_after_line block line) lines))
+    let behind : Option Placed = block_after_line block line in
+    rw (passes-loose test block line, behind-loose block line, blind block line, dropping-loose test behind lines, renewing-loose test new blind behind lines)
+    (pushed loose_fates (passes test (directive_at block line)) (Some (new block line) ∷ dropping_from test behind lines) (Some line ∷ renewing_from test new behind lines))
 
 empties-loose : (lost : Bool) (fates : List Fate) → empties lost (loose_fates fates) ≡ empties lost fates
 empties-loose lost [] = refl
@@ -211,20 +202,16 @@ last-blind value block (Entry words suffix) =
     ap (λ (n : ℕ). Entry (take (n - 1) (map loose words) ++ made_word value ∷ []) suffix) (length-map words loose)
     ∙ ap (λ (ws : List Placed). Entry ws suffix) (front-loose (length words - 1) words (made_word value ∷ []) refl)
 
-before-loose : (block : Option Placed) → before_arguments (loose_block block) ≡ before_arguments block
-before-loose None = refl
-before-loose (Some verb) = refl
-
 arguments-blind : (arguments : List Placed) → AreLoose arguments → IsBlind (with_arguments arguments)
 arguments-blind arguments are block Blank = refl
 arguments-blind arguments are block (Comment text) = refl
 arguments-blind arguments are block (Open verb suffix) = refl
 arguments-blind arguments are block (Close suffix) = refl
 arguments-blind arguments are block (Entry words suffix) =
-    ap (λ (n : ℕ). Entry (take n (map loose words) ++ arguments) suffix) (before-loose block)
-    ∙ ap (λ (ws : List Placed). Entry ws suffix) (front-loose (before_arguments block) words arguments are)
+    ap (λ (b : Bool). Entry (take (if b then 0 else 1) (map loose words) ++ arguments) suffix) (inside-loose block)
+    ∙ ap (λ (ws : List Placed). Entry ws suffix) (front-loose (if is_some block then 0 else 1) words arguments are)
 
-left-are : (path : List ℕ) (version : Option (List ℕ)) → AreLoose (left_words_of path version)
+left-are : (path : List ℕ) (version : Option (List ℕ)) → AreLoose (left_words path version)
 left-are path None = refl
 left-are path (Some version) = refl
 
@@ -234,9 +221,9 @@ right-are (Module path version) = refl
 
 replace-are : (r : Replacing) → AreLoose (replace_words r)
 replace-are r =
-    map-append loose (left_words r.0) (made_mark Arrow ∷ right_words r.1)
+    map-append loose (left_words r.0.path r.0.version) (made_mark Arrow ∷ right_words r.1)
     ∙ ap (λ (ws : List Placed). ws ++ made_mark Arrow ∷ map loose (right_words r.1)) (left-are r.0.path r.0.version)
-    ∙ ap (λ (ws : List Placed). left_words r.0 ++ made_mark Arrow ∷ ws) (right-are r.1)
+    ∙ ap (λ (ws : List Placed). left_words r.0.path r.0.version ++ made_mark Arrow ∷ ws) (right-are r.1)
 
 either-are : (c : Bool) (x y : List Placed) → AreLoose x → AreLoose y → AreLoose (if c then x else y)
 either-are true x y e f = e
@@ -254,33 +241,21 @@ entry-loose : (inside : Bool) (verb : List ℕ) (arguments : List Placed) → Ar
 entry-loose false verb arguments are = single-loose verb arguments are
 entry-loose true verb arguments are = ap (λ (ws : List Placed). Entry ws None) are
 
-inside-loose : (block : Option Placed) → is_some (loose_block block) ≡ is_some block
-inside-loose None = refl
-inside-loose (Some verb) = refl
-
-behind-there : (test : Directive → Bool) (block : Option Placed) (line : Line Placed) (lines : List (Line Placed)) → is_there_from test (block_after_line (loose_block block) (loose_line line)) (loose_lines lines) ≡ is_there_from test (block_after_line block line) lines
-behind-there test block line lines = ap (λ (b : Option Placed). is_there_from test b (loose_lines lines)) (behind-loose block line) ∙ there-loose test (block_after_line block line) lines
-
-both-same : (a b c d : Bool) → a ≡ c → b ≡ d → (a && not b) ≡ (c && not d)
-both-same a b c d e f = rw (e, f) refl
-
 after-last-loose : (test : Directive → Bool) (verb : List ℕ) (arguments : List Placed) → AreLoose arguments → (block : Option Placed) (lines : List (Line Placed))
     → after_last_of test verb arguments (loose_block block) (loose_lines lines) ≡ loose_lines (after_last_of test verb arguments block lines)
 after-last-loose test verb arguments are block [] = refl
 after-last-loose test verb arguments are block (line ∷ lines) =
     let behind : Option Placed = block_after_line block line in
-    let loose_behind : Option Placed = block_after_line (loose_block block) (loose_line line) in
-    chosen loose_lines (passes test (directive_at (loose_block block) (loose_line line)) && not (is_there_from test loose_behind (loose_lines lines))) (passes test (directive_at block line) && not (is_there_from test behind lines))
-    (loose_line line ∷ entry_at (is_some (loose_block block)) verb arguments ∷ loose_lines lines) (loose_line line ∷ after_last_of test verb arguments loose_behind (loose_lines lines))
-    (line ∷ entry_at (is_some block) verb arguments ∷ lines) (line ∷ after_last_of test verb arguments behind lines)
-    (both-same (passes test (directive_at (loose_block block) (loose_line line))) (is_there_from test loose_behind (loose_lines lines)) (passes test (directive_at block line)) (is_there_from test behind lines) (passes-loose test block line) (behind-there test block line lines))
-    (ap (λ (b : Bool). loose_line line ∷ entry_at b verb arguments ∷ loose_lines lines) (inside-loose block) ∙ ap (λ (l : Line Placed). loose_line line ∷ l ∷ loose_lines lines) (sym (entry-loose (is_some block) verb arguments are)))
-    (ap (λ (b : Option Placed). loose_line line ∷ after_last_of test verb arguments b (loose_lines lines)) (behind-loose block line) ∙ ap (λ (ls : List (Line Placed)). loose_line line ∷ ls) (after-last-loose test verb arguments are behind lines))
+    let last : Bool = passes test (directive_at block line) && not (is_there test behind lines) in
+    let later : List (Line Placed) = after_last_of test verb arguments behind lines in
+    rw (passes-loose test block line, behind-loose block line, there-loose test behind lines, inside-loose block, after-last-loose test verb arguments are behind lines)
+    (ap (λ (l : Line Placed). if last then loose_line line ∷ l ∷ loose_lines lines else loose_line line ∷ loose_lines later) (sym (entry-loose (is_some block) verb arguments are))
+    ∙ pushed loose_lines last (line ∷ entry_at (is_some block) verb arguments ∷ lines) (line ∷ later))
 
 added-loose : (verb : List ℕ) (arguments : List Placed) → AreLoose arguments → (lines : List (Line Placed)) → added verb arguments (loose_lines lines) ≡ loose_lines (added verb arguments lines)
 unfolding added
 added-loose verb arguments are lines =
-    chosen loose_lines (is_there (has_verb verb) (loose_lines lines)) (is_there (has_verb verb) lines) (after_last_of (has_verb verb) verb arguments None (loose_lines lines)) (loose_lines lines ++ Blank ∷ single verb arguments ∷ [])
+    chosen loose_lines (is_there (has_verb verb) None (loose_lines lines)) (is_there (has_verb verb) None lines) (after_last_of (has_verb verb) verb arguments None (loose_lines lines)) (loose_lines lines ++ Blank ∷ single verb arguments ∷ [])
     (after_last_of (has_verb verb) verb arguments None lines) (lines ++ Blank ∷ single verb arguments ∷ []) (there-loose (has_verb verb) None lines) (after-last-loose (has_verb verb) verb arguments are None lines)
     (ap (λ (l : Line Placed). loose_lines lines ++ Blank ∷ l ∷ []) (sym (single-loose verb arguments are)) ∙ sym (map-append loose_line lines (Blank ∷ single verb arguments ∷ [])))
 
@@ -299,17 +274,14 @@ first-of-loose : (test : Directive → Bool) (new : List (Line Placed)) → loos
 first-of-loose test new are block [] = sym are
 first-of-loose test new are block (line ∷ lines) =
     let behind : Option Placed = block_after_line block line in
-    let loose_behind : Option Placed = block_after_line (loose_block block) (loose_line line) in
-    ap (λ (ls : List (Line Placed)). loose_line line ∷ ls)
-    (chosen loose_lines (passes test (directive_at (loose_block block) (loose_line line))) (passes test (directive_at block line))
-    (if is_some (loose_block block) then after_closing new (loose_lines lines) else new ++ loose_lines lines) (after_first_of test new loose_behind (loose_lines lines))
-    (if is_some block then after_closing new lines else new ++ lines) (after_first_of test new behind lines)
-    (passes-loose test block line)
-    (chosen loose_lines (is_some (loose_block block)) (is_some block) (after_closing new (loose_lines lines)) (new ++ loose_lines lines) (after_closing new lines) (new ++ lines) (inside-loose block) (closing-loose new lines are) (first-new new lines are))
-    (ap (λ (b : Option Placed). after_first_of test new b (loose_lines lines)) (behind-loose block line) ∙ first-of-loose test new are behind lines))
+    let later : List (Line Placed) = after_first_of test new behind lines in
+    let here : List (Line Placed) = if is_some block then after_closing new lines else new ++ lines in
+    rw (passes-loose test block line, behind-loose block line, inside-loose block, closing-loose new lines are, first-new new lines are, first-of-loose test new are behind lines)
+    (ap (λ (ls : List (Line Placed)). loose_line line ∷ ls)
+    (ap (λ (ls : List (Line Placed)). if passes test (directive_at block line) then ls else loose_lines later) (pushed loose_lines (is_some block) (after_closing new lines) (new ++ lines))
+    ∙ pushed loose_lines (passes test (directive_at block line)) here later))
 
-behind-first-loose : (test : Directive → Bool) (new lines : List (Line Placed)) → loose_lines new ≡ new → after_first_that test new (loose_lines lines) ≡ loose_lines (after_first_that test new lines)
-unfolding after_first_that
+behind-first-loose : (test : Directive → Bool) (new lines : List (Line Placed)) → loose_lines new ≡ new → after_first_of test new None (loose_lines lines) ≡ loose_lines (after_first_of test new None lines)
 behind-first-loose test new lines are = first-of-loose test new are None lines
 
 -- ---- the lines after an operation
@@ -336,7 +308,7 @@ put-in-loose (Drop t) lines = refl
 pass-loose : (edit : Edit) (lines : List (Line Placed)) → edited edit (loose_lines lines) ≡ loose_lines (edited edit lines)
 unfolding edited
 pass-loose edit lines =
-    chosen loose_lines (is_there (about edit) (loose_lines lines)) (is_there (about edit) lines) (changed edit (loose_lines lines)) (put_in edit (loose_lines lines)) (changed edit lines) (put_in edit lines)
+    chosen loose_lines (is_there (about edit) None (loose_lines lines)) (is_there (about edit) None lines) (changed edit (loose_lines lines)) (put_in edit (loose_lines lines)) (changed edit lines) (put_in edit lines)
     (there-loose (about edit) None lines) (changed-loose edit lines) (put-in-loose edit lines)
 
 -- an operation gives the same result for lines that differ only in source positions

@@ -1,9 +1,9 @@
 -- Strings: the text between their quotes, and their values.
-use Rattle.std.proofs.Common.{length-drop, get_or-drop, ◌≡◌, ◌≢◌, ℕ, suc, ◌+◌, ◌-◌, ◌==◌, ◌&&◌, ◌<◌, nat_lt, Bool, true, false, List, [], ◌∷◌, ◌++◌, length, get_or, take, drop, Some, inl, inr, refl, sym, ap, subst, ◌∙◌, arith, length-append}
+use Rattle.std.proofs.Common.{length-drop, get_or-drop, ◌≡◌, ◌≢◌, ℕ, suc, ◌+◌, ◌-◌, ◌==◌, ◌&&◌, ◌<◌, nat_lt, true, false, List, [], ◌∷◌, ◌++◌, length, get_or, take, drop, Some, inl, inr, refl, sym, ap, subst, ◌∙◌, arith, length-append}
 use Rattle.std.specs.Prelude.{slice_index}
-use Rattle.std.specs.List.{AllByRecursion, list_all}
+use Rattle.std.specs.List.{AllByRecursion}
 use Rattle.std.specs.Str.{IsCharBoundary, IsUtf8}
-use Rattle.std.proofs.lemmas.Bool.{and_from, cases_Bool, true≢false}
+use Rattle.std.proofs.lemmas.Bool.{and_from, cases_Bool}
 use Rattle.std.proofs.lemmas.Bool.Decides.{Decides-eqb, nat_tests}
 use Rattle.std.proofs.lemmas.List.{take_at}
 use Rattle.std.proofs.lemmas.Str.{IsCharBoundary-after_ascii, IsCharBoundary-before_ascii}
@@ -20,7 +20,8 @@ use Rattle.gm_syntax.specs.Values.{string_value}
 use Rattle.gm_syntax.specs.Spelling.{IsWord}
 use Rattle.gm_syntax.proofs.NewWords.{value_is}
 use Rattle.gm_file.specs.Values.{argument, argument_of_kind}
-use Rattle.gm_file_edit.specs.Subjects.{argument_text, between_quotes, is_quoted, text_by_kind}
+use Rattle.gm_file_edit.proofs.Feeds.{has-no}
+use Rattle.gm_file_edit.specs.Keys.{argument_text, between_quotes, is_quoted, text_by_kind}
 
 -- ---- character boundaries
 
@@ -60,12 +61,6 @@ HasNo byte text = AllByRecursion (λ b. b ≢ byte) text
 pub record IsPlain (text : List ℕ) : Type 0 where
   quotes : HasNo 34 text
   slashes : HasNo 92 text
-
-has-no : (byte : ℕ) (test : ℕ → Bool) → test byte ≡ false → (text : List ℕ) → list_all test text ≡ true → HasNo byte text
-has-no byte test fails [] all = tt
-has-no byte test fails (b ∷ text) all =
-    let parts = and_both (test b) (list_all test text) all in
-    ((λ e. true≢false (sym parts.0 ∙ ap test e ∙ fails)), has-no byte test fails text parts.1)
 
 pub path-plain : (text : List ℕ) → is_path text ≡ true → IsPlain text
 path-plain text holds =

@@ -1,5 +1,6 @@
 -- The operations that rewrite an entry.
-use Rattle.std.proofs.Common.{◌≡◌, ℕ, ◌&&◌, not, true, false, List, [], ◌∷◌, ◌++◌, Option, Some, None, is_some, refl, sym, ap, subst, ◌∙◌, arith, inl, inr}
+use Rattle.std.proofs.Common.{◌≡◌, ℕ, ◌&&◌, not, true, false, List, [], ◌∷◌, ◌++◌, Option, Some, None, is_some, refl, sym, ap, subst, ◌∙◌, inl, inr}
+use Rattle.std.specs.Prelude.{IfSome}
 use Rattle.std.specs.Option.{option_map}
 use Rattle.std.specs.List.{after_first, before_first}
 use Rattle.std.specs.Str.{bytes_eq}
@@ -21,54 +22,30 @@ use Rattle.gm_file.specs.Values.{argument, both}
 use Rattle.gm_file.specs.GoVersions.{strict_go}
 use Rattle.gm_file.specs.declared.verb.Verb.{Verb}
 use Rattle.gm_file.specs.declared.verb.Verb.TheVariants.{Module as ForModule, Go as ForGo, Require as ForRequire, Replace as ForReplace}
-use Rattle.gm_file.specs.Directives.{Strict, VersionInterval, Left, Right, Folder, Module, Replacing, Directive, DeclaresModule, DeclaresGo, Requires, Excludes, Replaces, Retracts, directive_of, is_arrow, left_of, main_verb, one_of, pair_of, replacing, right_of}
+use Rattle.gm_file.specs.Directives.{Strict, VersionInterval, Left, Right, Folder, Module, Replacing, Directive, DeclaresModule, DeclaresGo, Requires, Excludes, Replaces, Retracts, directive_of, is_arrow, left_of, main_verb, one_of, pair_of, replacing, right_of, verb_of_directive}
 use Rattle.gm_file.specs.Faults.{directive_kinds, does_left_fit, is_go, is_module, is_same_left, is_same_right, is_same_version, left_version_kinds, path_kinds, pair_kinds, right_path_kinds, right_version_kinds, sides_kinds}
 use Rattle.gm_file_edit.specs.About.{about, is_covered_by, is_replaced_by, requires_path}
 use Rattle.gm_file_edit.specs.Holding.{directive_at}
-use Rattle.gm_file_edit.specs.NewWords.{left_words_of, made_mark, made_word, replace_words, right_words}
+use Rattle.gm_file_edit.specs.NewWords.{left_words, made_mark, made_word, replace_words, right_words}
 use Rattle.gm_file_edit.specs.Renewing.{made_new, with_arguments, with_last}
 use Rattle.gm_file_edit.specs.Sound.{AreVersions, IsPairOfNames, IsSoundEdit, IsSoundLeft, IsSoundRight, IsSoundVersion}
 use Rattle.gm_file_edit.proofs.Feeds.{byte-feed, go-feed, path-feed, version-feed}
 use Rattle.gm_file_edit.proofs.Folders.{path-no-folder}
-use Rattle.gm_file_edit.proofs.Made.{AreArguments, IsFront, all-arguments, entry-made, held-by, made-no-mark, made-stands, made-value, one-are, one-argument, one-last, two-are, two-arguments, two-last}
+use Rattle.gm_file_edit.proofs.Made.{AreArguments, IsFront, all-arguments, begins-path, entry-made, held-by, made-no-mark, made-stands, made-value, one-are, one-argument, one-last, two-are, two-arguments, two-last}
 use Rattle.gm_file_edit.proofs.Parts.{map-some}
-use Rattle.std.proofs.lemmas.Option.{same_Some}
-use Rattle.gm_file_edit.proofs.Renews.{IsMadeNew, IsRenewal, IsWanted}
-use Rattle.gm_file_edit.proofs.Targets.{about-module}
+use Rattle.gm_file_edit.proofs.Renews.{IsMadeNew, IsRenewal, IsWanted, Makes}
+use Rattle.gm_file_edit.proofs.Targets.{about-module, about-verb}
 use Rattle.gm_file_edit.specs.Edits.{Edit, Set, Setting, ModuleIs, GoIs, RequireAt, ReplaceWith, Add, Exclude, Retract, Drop}
 use Rattle.gm_file_edit.specs.Kinds.{directive_added, directive_set, is_fit}
 use Rattle.gm_file.specs.Pairwise.{do_clash}
 use Rattle.gm_file.proofs.DirectiveVerbs.{directive-verb}
 use Rattle.gm_file.proofs.Pairwise.{both-nil, same-left}
 
--- ---- the module
+-- ---- the module and the go version
 
 module-kinds : (path : List ℕ) → is_path path ≡ true → directive_kinds Strict [] (DeclaresModule path) ≡ []
 unfolding directive_kinds
 module-kinds path h = rw h refl
-
-module-says : (path : List ℕ) → HasNoLineFeed path → directive_of ForModule (words_of (made_word path ∷ [])) ≡ Some (DeclaresModule path)
-unfolding directive_of
-module-says path plain = rw (made-value path plain) refl
-
-held-one : (words : List Word) (path : List ℕ) → directive_of ForModule words ≡ Some (DeclaresModule path) → (v : List ℕ) × (one_of words ≡ Some v)
-unfolding directive_of
-held-one words path e = let m = map-some DeclaresModule (one_of words) (DeclaresModule path) e in (m.0, m.1)
-
-module-made : (path : List ℕ) → is_path path ≡ true → (block : Option Placed) (line : Line Placed) (d : Directive) → directive_at block line ≡ Some d → is_module d ≡ true → IsValidLine (is_some block) (plain line)
-    → IsMadeNew (DeclaresModule path) block (with_last path block line)
-module-made path h block line (DeclaresModule old) held e stands =
-    let plain = path-feed path h in
-    let by = held-by block line (DeclaresModule old) held in
-    let verb : main_verb by.verb ≡ ForModule = sym (directive-verb (main_verb by.verb) (words_of by.arguments) (DeclaresModule old) by.says) in
-    let one = held-one (words_of by.arguments) old (rw verb at by.says) in
-    let a = one-argument by.arguments one.0 one.1 in
-    let is : line ≡ Entry (by.front ++ a.0 ∷ []) by.suffix = by.is ∙ ap (λ (ws : List Placed). Entry (by.front ++ ws) by.suffix) a.1 in
-    entry-made (DeclaresModule path) (DeclaresModule old) block line (with_last path block line) by (made_word path ∷ [])
-    (one-last block by.verb by.front line by.suffix path a.0 by.at is) stands (one-are path plain) (rw verb (module-says path plain)) (module-kinds path h)
-module-made path h block line d held e stands = absurd cc
-
--- ---- the go version
 
 go-kinds : (text : List ℕ) → is_some (strict_go text) ≡ true → directive_kinds Strict [] (DeclaresGo text) ≡ []
 unfolding directive_kinds
@@ -78,22 +55,26 @@ pub go-says : (text : List ℕ) → HasNoLineFeed text → directive_of ForGo (w
 unfolding directive_of
 go-says text plain = rw (made-value text plain) refl
 
-held-go : (words : List Word) (text : List ℕ) → directive_of ForGo words ≡ Some (DeclaresGo text) → (v : List ℕ) × (one_of words ≡ Some v)
-unfolding directive_of
-held-go words text e = let m = map-some DeclaresGo (one_of words) (DeclaresGo text) e in (m.0, m.1)
-
-go-made : (text : List ℕ) → is_some (strict_go text) ≡ true → (block : Option Placed) (line : Line Placed) (d : Directive) → directive_at block line ≡ Some d → is_go d ≡ true → IsValidLine (is_some block) (plain line)
-    → IsMadeNew (DeclaresGo text) block (with_last text block line)
-go-made text h block line (DeclaresGo old) held e stands =
-    let plain = go-feed text h in
-    let by = held-by block line (DeclaresGo old) held in
-    let verb : main_verb by.verb ≡ ForGo = sym (directive-verb (main_verb by.verb) (words_of by.arguments) (DeclaresGo old) by.says) in
-    let one = held-go (words_of by.arguments) old (rw verb at by.says) in
+-- a directive of one argument
+one-made : (v : Verb) (make : List ℕ → Directive) → ((words : List Word) → directive_of v words ≡ option_map make (one_of words)) → (text : List ℕ) → HasNoLineFeed text → directive_kinds Strict [] (make text) ≡ []
+    → (block : Option Placed) (line : Line Placed) (d : Directive) → directive_at block line ≡ Some d → verb_of_directive d ≡ v → IsValidLine (is_some block) (plain line) → IsMadeNew (make text) block (with_last text block line)
+one-made v make reads text plain kinds block line d held named stands =
+    let by = held-by block line d held in
+    let verb : main_verb by.verb ≡ v = sym (directive-verb (main_verb by.verb) (words_of by.arguments) d by.says) ∙ named in
+    let said : directive_of v (words_of by.arguments) ≡ Some d = rw verb at by.says in
+    let one = map-some make (one_of (words_of by.arguments)) d (sym (reads (words_of by.arguments)) ∙ said) in
     let a = one-argument by.arguments one.0 one.1 in
     let is : line ≡ Entry (by.front ++ a.0 ∷ []) by.suffix = by.is ∙ ap (λ (ws : List Placed). Entry (by.front ++ ws) by.suffix) a.1 in
-    entry-made (DeclaresGo text) (DeclaresGo old) block line (with_last text block line) by (made_word text ∷ [])
-    (one-last block by.verb by.front line by.suffix text a.0 by.at is) stands (one-are text plain) (rw verb (go-says text plain)) (go-kinds text h)
-go-made text h block line d held e stands = absurd cc
+    entry-made (make text) d block line (with_last text block line) by (made_word text ∷ []) (one-last block by.verb by.front line by.suffix text a.0 by.at is) stands (one-are text plain)
+    (ap (λ (x : Verb). directive_of x (words_of (made_word text ∷ []))) verb ∙ reads (words_of (made_word text ∷ [])) ∙ ap (option_map make) (made-value text plain)) kinds
+
+module-made : (path : List ℕ) → is_path path ≡ true → Makes is_module (DeclaresModule path) (with_last path)
+unfolding directive_of
+module-made path h = λ block line d held e stands. one-made ForModule DeclaresModule (λ words. refl) path (path-feed path h) (module-kinds path h) block line d held (about-verb (Set (ModuleIs path)) d e) stands
+
+go-made : (text : List ℕ) → is_some (strict_go text) ≡ true → Makes is_go (DeclaresGo text) (with_last text)
+unfolding directive_of
+go-made text h = λ block line d held e stands. one-made ForGo DeclaresGo (λ words. refl) text (go-feed text h) (go-kinds text h) block line d held (about-verb (Set (GoIs text)) d e) stands
 
 -- ---- a requirement
 
@@ -177,12 +158,12 @@ no-arrow : (value : List ℕ) → is_arrow (new_word value) ≡ false
 no-arrow value = elim (cases_Bool (can_be_bare value)) [ inl e ↦ rw e refl | inr e ↦ rw e refl ]
 
 -- the words before and after the arrow
-arrow-splits : (path : List ℕ) (version : Option (List ℕ)) (rest : List Placed) → (before_first is_arrow (words_of (left_words_of path version ++ made_mark Arrow ∷ rest)) ≡ words_of (left_words_of path version))
-    × (after_first is_arrow (words_of (left_words_of path version ++ made_mark Arrow ∷ rest)) ≡ words_of rest)
+arrow-splits : (path : List ℕ) (version : Option (List ℕ)) (rest : List Placed) → (before_first is_arrow (words_of (left_words path version ++ made_mark Arrow ∷ rest)) ≡ words_of (left_words path version))
+    × (after_first is_arrow (words_of (left_words path version ++ made_mark Arrow ∷ rest)) ≡ words_of rest)
 arrow-splits path None rest = rw (no-arrow path) (refl, refl)
 arrow-splits path (Some version) rest = rw (no-arrow path, no-arrow version) (refl, refl)
 
-left-says : (path : List ℕ) (version : Option (List ℕ)) → is_path path ≡ true → IsSoundVersion version → left_of (words_of (left_words_of path version)) ≡ Some (record { path = path; version = version })
+left-says : (path : List ℕ) (version : Option (List ℕ)) → is_path path ≡ true → IsSoundVersion version → left_of (words_of (left_words path version)) ≡ Some (record { path = path; version = version })
 left-says path None p v = rw (made-value path (path-feed path p)) refl
 left-says path (Some version) p v = rw (made-value path (path-feed path p), made-value version (version-feed version v)) refl
 
@@ -191,13 +172,13 @@ right-says (Folder text) r = rw (made-value text (byte-feed text r.1), r.0) refl
 right-says (Module q w) r = rw (made-value q (path-feed q r.0), made-value w (version-feed w r.1), path-no-folder q r.0) refl
 
 replace-says-of : (path : List ℕ) (version : Option (List ℕ)) (right : Right) → is_path path ≡ true → IsSoundVersion version → IsSoundRight right
-    → directive_of ForReplace (words_of (left_words_of path version ++ made_mark Arrow ∷ right_words right)) ≡ Some (Replaces (record { path = path; version = version }, right))
+    → directive_of ForReplace (words_of (left_words path version ++ made_mark Arrow ∷ right_words right)) ≡ Some (Replaces (record { path = path; version = version }, right))
 unfolding directive_of
 replace-says-of path version right p v r =
     let parts = arrow-splits path version (right_words right) in
-    let after : List Word = after_first is_arrow (words_of (left_words_of path version ++ made_mark Arrow ∷ right_words right)) in
+    let after : List Word = after_first is_arrow (words_of (left_words path version ++ made_mark Arrow ∷ right_words right)) in
     ap (λ (ws : List Word). option_map Replaces (both replacing (left_of ws) (right_of after))) parts.0
-    ∙ ap (λ (ws : List Word). option_map Replaces (both replacing (left_of (words_of (left_words_of path version))) (right_of ws))) parts.1
+    ∙ ap (λ (ws : List Word). option_map Replaces (both replacing (left_of (words_of (left_words path version))) (right_of ws))) parts.1
     ∙ ap (λ (o : Option Left). option_map Replaces (both replacing o (right_of (words_of (right_words right))))) (left-says path version p v)
     ∙ ap (λ (o : Option Right). option_map Replaces (both replacing (Some (record { path = path; version = version })) o)) (right-says right r)
 
@@ -205,35 +186,14 @@ pub replace-says : (r : Replacing) → IsSoundLeft r.0 → IsSoundRight r.1 → 
 replace-says r left right = replace-says-of r.0.path r.0.version r.1 left.0 left.1 right
 
 replace-are-of : (path : List ℕ) (version : Option (List ℕ)) (right : Right) → is_path path ≡ true → IsSoundVersion version → IsSoundRight right
-    → AreArguments (left_words_of path version ++ made_mark Arrow ∷ right_words right)
-replace-are-of path None (Folder text) p v r = record {
-  words = (made-stands path (path-feed path p), (mark_stands Arrow, (made-stands text (byte-feed text r.1), tt)));
-  filled = omega arith;
-  opens_nothing = made-no-mark 40 text;
-  closes_nothing = made-no-mark 41 path;
-  no_block = refl;
-}
-replace-are-of path None (Module q w) p v r = record {
-  words = (made-stands path (path-feed path p), (mark_stands Arrow, (made-stands q (path-feed q r.0), (made-stands w (version-feed w r.1), tt))));
-  filled = omega arith;
-  opens_nothing = made-no-mark 40 w;
-  closes_nothing = made-no-mark 41 path;
-  no_block = refl;
-}
-replace-are-of path (Some version) (Folder text) p v r = record {
-  words = (made-stands path (path-feed path p), (made-stands version (version-feed version v), (mark_stands Arrow, (made-stands text (byte-feed text r.1), tt))));
-  filled = omega arith;
-  opens_nothing = made-no-mark 40 text;
-  closes_nothing = made-no-mark 41 path;
-  no_block = refl;
-}
-replace-are-of path (Some version) (Module q w) p v r = record {
-  words = (made-stands path (path-feed path p), (made-stands version (version-feed version v), (mark_stands Arrow, (made-stands q (path-feed q r.0), (made-stands w (version-feed w r.1), tt)))));
-  filled = omega arith;
-  opens_nothing = made-no-mark 40 w;
-  closes_nothing = made-no-mark 41 path;
-  no_block = refl;
-}
+    → AreArguments (left_words path version ++ made_mark Arrow ∷ right_words right)
+replace-are-of path None (Folder text) p v r = begins-path path _ (path-feed path p) (mark_stands Arrow, (made-stands text (byte-feed text r.1), tt)) (made-no-mark 40 text) refl
+replace-are-of path None (Module q w) p v r =
+    begins-path path _ (path-feed path p) (mark_stands Arrow, (made-stands q (path-feed q r.0), (made-stands w (version-feed w r.1), tt))) (made-no-mark 40 w) refl
+replace-are-of path (Some version) (Folder text) p v r =
+    begins-path path _ (path-feed path p) (made-stands version (version-feed version v), (mark_stands Arrow, (made-stands text (byte-feed text r.1), tt))) (made-no-mark 40 text) refl
+replace-are-of path (Some version) (Module q w) p v r =
+    begins-path path _ (path-feed path p) (made-stands version (version-feed version v), (mark_stands Arrow, (made-stands q (path-feed q r.0), (made-stands w (version-feed w r.1), tt)))) (made-no-mark 40 w) refl
 
 pub replace-are : (r : Replacing) → IsSoundLeft r.0 → IsSoundRight r.1 → AreArguments (replace_words r)
 replace-are r left right = replace-are-of r.0.path r.0.version r.1 left.0 left.1 right
@@ -277,14 +237,17 @@ left-covered : (left : Left) (version : Option (List ℕ)) → is_covered_by lef
 left-covered left None = text-itself left.path
 left-covered left (Some version) = left-itself left
 
+puts-wanted : (edit : Edit) → IsSoundEdit edit → is_fit edit ≡ true → IfSome (put_by edit) (IsWanted (about edit))
+puts-wanted (Set (ModuleIs path)) good fit = record { kinds = module-kinds path good; mild = λ d f. f; own = refl }
+puts-wanted (Set (GoIs text)) good fit = record { kinds = go-kinds text good; mild = λ d f. f; own = refl }
+puts-wanted (Set (RequireAt p)) good fit = record { kinds = require-kinds p good fit; mild = λ d f. refl; own = text-itself p.0 }
+puts-wanted (Set (ReplaceWith r)) good fit = record { kinds = replace-kinds r good.0 good.1 fit; mild = replace-mild r; own = left-covered r.0 r.0.version }
+puts-wanted (Add (Exclude p)) good fit = record { kinds = exclude-kinds p good fit; mild = λ d f. refl; own = pair-itself p }
+puts-wanted (Add (Retract ends)) good fit = record { kinds = ends-kinds ends good; mild = λ d f. refl; own = pair-itself ends }
+puts-wanted (Drop t) good fit = tt
+
 pub wanted : (edit : Edit) (new : Directive) → put_by edit ≡ Some new → IsSoundEdit edit → is_fit edit ≡ true → IsWanted (about edit) new
-wanted (Set (ModuleIs path)) new e good fit = subst (IsWanted (about (Set (ModuleIs path)))) (same_Some _ _ e) (record { kinds = module-kinds path good; mild = λ d f. f; own = refl })
-wanted (Set (GoIs text)) new e good fit = subst (IsWanted (about (Set (GoIs text)))) (same_Some _ _ e) (record { kinds = go-kinds text good; mild = λ d f. f; own = refl })
-wanted (Set (RequireAt p)) new e good fit = subst (IsWanted (about (Set (RequireAt p)))) (same_Some _ _ e) (record { kinds = require-kinds p good fit; mild = λ d f. refl; own = text-itself p.0 })
-wanted (Set (ReplaceWith r)) new e good fit = subst (IsWanted (about (Set (ReplaceWith r)))) (same_Some _ _ e) (record { kinds = replace-kinds r good.0 good.1 fit; mild = replace-mild r; own = left-covered r.0 r.0.version })
-wanted (Add (Exclude p)) new e good fit = subst (IsWanted (about (Add (Exclude p)))) (same_Some _ _ e) (record { kinds = exclude-kinds p good fit; mild = λ d f. refl; own = pair-itself p })
-wanted (Add (Retract ends)) new e good fit = subst (IsWanted (about (Add (Retract ends)))) (same_Some _ _ e) (record { kinds = ends-kinds ends good; mild = λ d f. refl; own = pair-itself ends })
-wanted (Drop t) new e good fit = absurd cc
+wanted edit new e good fit = subst (λ (o : Option Directive). IfSome o (IsWanted (about edit))) e (puts-wanted edit good fit)
 
 -- how a setting rewrites an entry
 pub renewal : (s : Setting) → IsSoundEdit (Set s) → is_fit (Set s) ≡ true → IsRenewal (about (Set s)) (directive_set s) (made_new (Set s))

@@ -1,62 +1,46 @@
 -- What a file says after an operation.
-use Rattle.std.proofs.Common.{◌≡◌, if◌then◌else◌, ◌||◌, Bool, true, false, List, [], ◌∷◌, Option, Some, None, refl, sym, ap, subst, ◌∙◌}
-use Rattle.std.specs.Prelude.{codes, filter}
-use Rattle.std.specs.Option.{option_to_list}
+use Rattle.std.proofs.Common.{◌≡◌, if◌then◌else◌, Bool, true, false, List, [], ◌∷◌, Some, None, refl, sym, ap, subst, ◌∙◌}
+use Rattle.std.specs.Prelude.{filter}
 use Rattle.std.specs.List.{list_any}
 use Rattle.std.proofs.lemmas.Bool.{true≢false}
-use Rattle.std.proofs.lemmas.List.Folds.{list_any-append}
 use Rattle.gm_syntax.specs.Tokens.{Placed}
 use Rattle.gm_syntax.specs.Document.{Line}
-use Rattle.gm_file.specs.Directives.{Directive, DeclaresGo, block_after_line}
+use Rattle.gm_file.specs.Directives.{Directive}
 use Rattle.gm_file.specs.Faults.{is_module}
 use Rattle.gm_file_edit.specs.Edits.{Edit, Set, Drop, Add}
 use Rattle.gm_file_edit.specs.About.{about}
-use Rattle.gm_file_edit.specs.Edited.{after_first_that, changed, edited, new_go, put_in}
+use Rattle.gm_file_edit.specs.Edited.{changed, edited, put_in}
 use Rattle.gm_file_edit.specs.Kinds.{added_by, directive_added, directive_set, is_fit, set_by}
-use Rattle.gm_file_edit.specs.Holding.{directive_at, passes}
+use Rattle.gm_file_edit.specs.Holding.{is_there}
 use Rattle.gm_file_edit.specs.Laws.{AddedIsThere, DroppedIsGone, IsEditOf, OthersStay, SetStandsAlone}
-use Rattle.gm_file_edit.specs.NewWords.{made_word, single}
 use Rattle.gm_file_edit.specs.Renewing.{made_new}
-use Rattle.gm_file_edit.specs.Searching.{is_there, is_there_from}
 use Rattle.gm_file_edit.specs.Sound.{IsSoundEdit}
-use Rattle.gm_file_edit.proofs.AddingSound.{IsAddition, file-held, held-is, held_from}
-use Rattle.gm_file_edit.proofs.EditedSound.{by-put, go-fits, none-from, passes-list, says}
+use Rattle.gm_file_edit.proofs.AddingSound.{IsAddition}
+use Rattle.gm_file_edit.proofs.EditedSound.{says}
+use Rattle.gm_file_edit.proofs.Filters.{others, others-none, others-twice}
+use Rattle.gm_file_edit.proofs.Insertions.{by-put, there-is}
 use Rattle.gm_file_edit.proofs.Renewals.{put_by, renewal, wanted}
-use Rattle.gm_file_edit.proofs.Said.{IsPutIn, added-put, after-first-put, dropped-held, others, others-none, others-twice, put-alone, put-others, renewed-alone, renewed-others}
-use Rattle.gm_file_edit.proofs.Pairs.{IsSound, document-sound}
+use Rattle.gm_file_edit.proofs.Said.{IsPutIn, dropped-held, into-said, put-alone, put-others, renewed-alone, renewed-others}
+use Rattle.gm_file_edit.proofs.Pairs.{IsSound, document-sound, file-held, held_from}
 use Rattle.gm_file_edit.proofs.Untouched.{by-edited, edited-drop}
 use Rattle.gm_file_edit.proofs.Written.{written-sound}
 use Rattle.std.proofs.lemmas.Option.{same_Some}
 
 -- ---- if some entry is targeted
 
-or-same : (a b c d : Bool) → a ≡ c → b ≡ d → (a || b) ≡ (c || d)
-or-same a b c d e f = rw (e, f) refl
-
--- an entry is found if and only if one of the directives that the lines hold passes the test
-pub there-is : (test : Directive → Bool) (block : Option Placed) (lines : List (Line Placed)) → is_there_from test block lines ≡ list_any test (held_from block lines)
-there-is test block [] = refl
-there-is test block (line ∷ lines) =
-    let held : List Directive = option_to_list (directive_at block line) in
-    let rest : List Directive = held_from (block_after_line block line) lines in
-    or-same (passes test (directive_at block line)) (is_there_from test (block_after_line block line) lines) (list_any test held) (list_any test rest) (passes-list test (directive_at block line)) (there-is test (block_after_line block line) lines)
-    ∙ sym (list_any-append test held rest)
-
 -- a valid file declares a module
-module-there : (P : Type 0) (lines : List (Line Placed)) → IsSound lines → is_there is_module lines ≡ false → P
-module-there P lines sound none = absurd (true≢false (sym sound.lines_are.declared ∙ ap (list_any is_module) (held-is None lines) ∙ sym (there-is is_module None lines) ∙ none))
+module-there : (P : Type 0) (lines : List (Line Placed)) → IsSound lines → is_there is_module None lines ≡ false → P
+module-there P lines sound none = absurd (true≢false (sym sound.lines_are.declared ∙ sym (there-is is_module None lines) ∙ none))
 
 -- ---- if no entry is targeted
 
 -- what an operation puts in if it targets no line
-puts : (lines : List (Line Placed)) → IsSound lines → (edit : Edit) (new : Directive) → put_by edit ≡ Some new → IsSoundEdit edit → is_there (about edit) lines ≡ false → IsPutIn new (held_from None lines) (held_from None (put_in edit lines))
-puts lines sound edit = by-put (λ edit after. (new : Directive) → put_by edit ≡ Some new → IsSoundEdit edit → is_there (about edit) lines ≡ false → IsPutIn new (held_from None lines) (held_from None after)) lines
+puts : (lines : List (Line Placed)) → IsSound lines → (edit : Edit) (new : Directive) → put_by edit ≡ Some new → IsSoundEdit edit → is_there (about edit) None lines ≡ false → IsPutIn new (held_from None lines) (held_from None (put_in edit lines))
+puts lines sound edit = by-put (λ edit after. (new : Directive) → put_by edit ≡ Some new → IsSoundEdit edit → is_there (about edit) None lines ≡ false → IsPutIn new (held_from None lines) (held_from None after)) lines
     (λ path new put good none. module-there _ lines sound none)
-    (λ text new put good none. subst (λ (d : Directive). IsPutIn d (held_from None lines) (held_from None (after_first_that is_module (new_go text) lines))) (same_Some _ _ put)
-    (after-first-put is_module (DeclaresGo text) (single (codes "go") (made_word text ∷ [])) lines (go-fits text good) sound))
-    (λ edit entry is new put good none.
+    (λ edit entry after is into new put good none.
     let by = says edit entry is good in
-    added-put entry.0 entry.1 new lines (subst (IsAddition entry.0 entry.1) (same_Some _ _ (sym by.put ∙ put)) by.is) sound)
+    into-said entry.0 entry.1 new lines after (subst (IsAddition entry.0 entry.1) (same_Some _ _ (sym by.put ∙ put)) by.is) sound into)
     (λ t new put good none. absurd cc) edit
 
 -- ---- what an operation doesn't target
@@ -71,7 +55,7 @@ changed-others (Set s) lines good fit sound = let by = renewal s good fit in ren
 changed-others (Add a) lines good fit sound = refl
 changed-others (Drop t) lines good fit sound = drop-others (about (Drop t)) lines _ (dropped-held (about (Drop t)) lines)
 
-put-in-others : (edit : Edit) (lines : List (Line Placed)) → IsSoundEdit edit → is_fit edit ≡ true → IsSound lines → is_there (about edit) lines ≡ false
+put-in-others : (edit : Edit) (lines : List (Line Placed)) → IsSoundEdit edit → is_fit edit ≡ true → IsSound lines → is_there (about edit) None lines ≡ false
     → filter (others (about edit)) (held_from None (put_in edit lines)) ≡ filter (others (about edit)) (held_from None lines)
 unfolding put_in
 put-in-others (Drop t) lines good fit sound none = refl
@@ -85,7 +69,7 @@ others-after edit lines good fit sound = by-edited (λ after. filter (others (ab
 
 -- ---- what an operation sets
 
-changed-alone : (edit : Edit) (lines : List (Line Placed)) (d : Directive) → IsSoundEdit edit → is_fit edit ≡ true → IsSound lines → is_there (about edit) lines ≡ true → set_by edit ≡ Some d
+changed-alone : (edit : Edit) (lines : List (Line Placed)) (d : Directive) → IsSoundEdit edit → is_fit edit ≡ true → IsSound lines → is_there (about edit) None lines ≡ true → set_by edit ≡ Some d
     → filter (about edit) (held_from None (changed edit lines)) ≡ d ∷ []
 unfolding changed
 changed-alone (Set s) lines d good fit sound there e =
@@ -95,10 +79,10 @@ changed-alone (Add a) lines d good fit sound there e = absurd cc
 changed-alone (Drop t) lines d good fit sound there e = absurd cc
 
 -- what is put in is the only directive that is then targeted
-put-in-once : (edit : Edit) (lines : List (Line Placed)) (d : Directive) → IsSoundEdit edit → is_fit edit ≡ true → IsSound lines → is_there (about edit) lines ≡ false → put_by edit ≡ Some d
+put-in-once : (edit : Edit) (lines : List (Line Placed)) (d : Directive) → IsSoundEdit edit → is_fit edit ≡ true → IsSound lines → is_there (about edit) None lines ≡ false → put_by edit ≡ Some d
     → filter (about edit) (held_from None (put_in edit lines)) ≡ d ∷ []
 put-in-once edit lines d good fit sound none e =
-    put-alone (about edit) d (held_from None lines) _ (wanted edit d e good fit).own (none-from (about edit) None lines none) (puts lines sound edit d e good none)
+    put-alone (about edit) d (held_from None lines) _ (wanted edit d e good fit).own (sym (there-is (about edit) None lines) ∙ none) (puts lines sound edit d e good none)
 
 pub set-put : (edit : Edit) (d : Directive) → set_by edit ≡ Some d → put_by edit ≡ Some d
 set-put (Set s) d e = e
@@ -132,7 +116,9 @@ added-after edit lines d good fit sound e = by-edited (λ after. filter (about e
     (λ there.
     let any : list_any (about edit) (held_from None lines) ≡ true = sym (there-is (about edit) None lines) ∙ there in
     rw any (ap (λ (ls : List (Line Placed)). filter (about edit) (held_from None ls)) (addition-changes-nothing edit lines d e)))
-    (λ none. rw (none-from (about edit) None lines none) (put-in-once edit lines d good fit sound none (added-put-by edit d e)))
+    (λ none.
+    let absent : list_any (about edit) (held_from None lines) ≡ false = sym (there-is (about edit) None lines) ∙ none in
+    rw absent (put-in-once edit lines d good fit sound none (added-put-by edit d e)))
 
 -- ---- the laws
 

@@ -1,54 +1,33 @@
 -- Lines that hold no directive that an operation targets, by their verb, and the entries of a verb.
-use Rattle.std.proofs.Common.{◌≡◌, Bool, true, false, List, [], ℕ, Option, Some, None, refl, sym, ap, ◌∙◌, inl, inr}
+use Rattle.std.proofs.Common.{◌≡◌, Bool, true, false, List, [], Option, Some, None, refl, sym, ap, ◌∙◌, inl, inr}
 use Rattle.std.proofs.lemmas.Bool.{cases_Bool}
 use Rattle.gm_syntax.specs.Words.{Word}
-use Rattle.gm_name.specs.ModuleVersion.{ModuleVersion}
 use Rattle.gm_syntax.specs.Tokens.{Placed}
 use Rattle.gm_syntax.specs.Document.{Line}
 use Rattle.gm_file.specs.declared.verb.Verb.{Verb}
-use Rattle.gm_file.specs.declared.verb.Verb.TheVariants.{Module as ForModule, Go as ForGo, Require as ForRequire, Exclude as ForExclude, Replace as ForReplace, Retract as ForRetract}
-use Rattle.gm_file.specs.Directives.{Strict, VersionInterval, Left, Directive, Requires, Excludes, Replaces, Retracts, Item, Silent, Opening, Saying, directive_in, directive_of, is_of_verb, main_verb, verb_eq, verb_of_directive}
+use Rattle.gm_file.specs.declared.verb.Verb.TheVariants.{Module as ForModule, Go as ForGo}
+use Rattle.gm_file.specs.Directives.{Strict, Directive, Requires, Excludes, Replaces, Retracts, Item, Silent, Opening, Saying, directive_in, directive_of, is_of_verb, main_verb, verb_eq, verb_of_directive}
 use Rattle.gm_file.specs.Faults.{entry_kinds, is_module, item_kinds}
 use Rattle.gm_file.proofs.DirectiveVerbs.{directive-verb, same-verb, verb-itself}
-use Rattle.gm_file_edit.specs.About.{about, excludes_pair, is_replaced_by, replaces_left, requires_path, retracts_ends}
+use Rattle.gm_file_edit.specs.About.{about}
 use Rattle.gm_file_edit.specs.Edits.{Edit, Set, ModuleIs, GoIs, RequireAt, Drop, AnyRequire, Add, Exclude, AnyExclude, ReplaceWith, AnyReplace, Retract, AnyRetract}
-use Rattle.gm_file_edit.specs.Holding.{IsValidAt}
-use Rattle.gm_file_edit.specs.Holding.{directive_at, item_of, passes}
+use Rattle.gm_file_edit.specs.Holding.{IsValidAt, directive_at, item_of, passes}
 use Rattle.gm_file_edit.specs.Keys.{verb_sought}
 
 -- ---- the verb of an operation
 
-requires-verb : (path : List ℕ) (d : Directive) → requires_path path d ≡ true → verb_of_directive d ≡ ForRequire
-requires-verb path (Requires p) holds = refl
-requires-verb path d holds = absurd cc
-
-excludes-verb : (pair : ModuleVersion) (d : Directive) → excludes_pair pair d ≡ true → verb_of_directive d ≡ ForExclude
-excludes-verb pair (Excludes p) holds = refl
-excludes-verb pair d holds = absurd cc
-
-covered-verb : (left : Left) (d : Directive) → is_replaced_by left d ≡ true → verb_of_directive d ≡ ForReplace
-covered-verb left (Replaces r) holds = refl
-covered-verb left d holds = absurd cc
-
-replaces-verb : (left : Left) (d : Directive) → replaces_left left d ≡ true → verb_of_directive d ≡ ForReplace
-replaces-verb left (Replaces r) holds = refl
-replaces-verb left d holds = absurd cc
-
-retracts-verb : (ends : VersionInterval) (d : Directive) → retracts_ends ends d ≡ true → verb_of_directive d ≡ ForRetract
-retracts-verb ends (Retracts e) holds = refl
-retracts-verb ends d holds = absurd cc
-
 pub about-verb : (edit : Edit) (d : Directive) → about edit d ≡ true → verb_of_directive d ≡ verb_sought edit
 about-verb (Set (ModuleIs path)) d holds = sym (same-verb ForModule (verb_of_directive d) holds)
 about-verb (Set (GoIs text)) d holds = sym (same-verb ForGo (verb_of_directive d) holds)
-about-verb (Set (RequireAt p)) d holds = requires-verb p.0 d holds
-about-verb (Drop (AnyRequire path)) d holds = requires-verb path d holds
-about-verb (Add (Exclude p)) d holds = excludes-verb p d holds
-about-verb (Drop (AnyExclude p)) d holds = excludes-verb p d holds
-about-verb (Set (ReplaceWith r)) d holds = covered-verb r.0 d holds
-about-verb (Drop (AnyReplace left)) d holds = replaces-verb left d holds
-about-verb (Add (Retract ends)) d holds = retracts-verb ends d holds
-about-verb (Drop (AnyRetract ends)) d holds = retracts-verb ends d holds
+about-verb (Set (RequireAt p)) (Requires q) holds = refl
+about-verb (Drop (AnyRequire path)) (Requires q) holds = refl
+about-verb (Add (Exclude p)) (Excludes q) holds = refl
+about-verb (Drop (AnyExclude p)) (Excludes q) holds = refl
+about-verb (Set (ReplaceWith r)) (Replaces q) holds = refl
+about-verb (Drop (AnyReplace left)) (Replaces q) holds = refl
+about-verb (Add (Retract ends)) (Retracts e) holds = refl
+about-verb (Drop (AnyRetract ends)) (Retracts e) holds = refl
+about-verb edit d holds = absurd cc
 
 -- only an operation on the module targets a directive that declares one
 pub about-module : (edit : Edit) (d : Directive) → about edit d ≡ true → is_module d ≡ verb_eq ForModule (verb_sought edit)

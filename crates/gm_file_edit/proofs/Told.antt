@@ -1,7 +1,7 @@
 -- In a valid file the texts of arguments tell whether an operation targets their directive.
 use Rattle.std.proofs.Common.{◌≡◌, ℕ, ◌&&◌, ◌++◌, Bool, true, false, List, [], ◌∷◌, not, suc, ◌+◌, take, Option, Some, None, refl, sym, ap, subst, ◌∙◌, arith, inl, inr}
 use Rattle.std.specs.Prelude.{⊤, slice_get}
-use Rattle.std.specs.Option.{option_map}
+use Rattle.std.specs.Option.{option_map, option_or}
 use Rattle.std.specs.List.{AllByRecursion, after_first, before_first, list_any, prefix_len}
 use Rattle.std.proofs.lemmas.Bool.{cases_Bool}
 use Rattle.gm_name.specs.ModuleVersion.{ModuleVersion}
@@ -17,14 +17,13 @@ use Rattle.gm_file.specs.declared.fault.DirectiveKind.{DirectiveKind}
 use Rattle.gm_file.specs.declared.fault.DirectiveKind.TheVariants.{BadPath, BadVersion, Misfit, ConflictingReplace}
 use Rattle.gm_file.specs.Directives.{Directive, DeclaresModule, DeclaresGo, Requires, Excludes, Replaces, Retracts, Strict, Left, Right, VersionInterval, directive_of, ends_of, is_arrow, is_of_arrow, left_of, left_with, left_without, one_of, pair, pair_of, replacing, replacing_of, right_of}
 use Rattle.gm_file.specs.Faults.{conflicts, directive_kinds, does_left_fit, ends_kinds, is_go, is_module, is_same_left, left_version_kinds, pair_kinds, path_kinds, right_path_kinds, right_version_kinds, sides_kinds, unless, version_kinds}
-use Rattle.gm_file.specs.Values.{argument, argument_of_kind, both}
+use Rattle.gm_file.specs.Values.{argument, both}
 use Rattle.gm_file_edit.specs.About.{about, excludes_pair, is_covered_by, is_replaced_by, replaces_left, requires_path, retracts_ends}
 use Rattle.gm_file_edit.specs.Edits.{Edit, Set, ModuleIs, GoIs, RequireAt, Drop, AnyRequire, Add, Exclude, AnyExclude, ReplaceWith, AnyReplace, Retract, AnyRetract}
-use Rattle.gm_file_edit.specs.Subjects.{Sought, First, Both, Subject, argument_text, is_mark_kind, is_told, second_text, sought_of, sought_of_left, subject_inside, subject_of, text_by_kind}
+use Rattle.gm_file_edit.specs.Keys.{Sought, First, Both, Subject, argument_text, is_told, text_at, sought_of, sought_of_left, subject_inside, subject_of, text_by_kind, verb_sought}
 use Rattle.gm_file_edit.proofs.Parts.{both-are, map-some}
 use Rattle.gm_file_edit.proofs.Quotes.{IsPlain, argument-plain, path-plain, version-plain}
 use Rattle.gm_file.proofs.Pairwise.{nil-parts}
-use Rattle.gm_file_edit.specs.Keys.{verb_sought}
 
 -- ---- the names of a directive without a fault
 
@@ -65,118 +64,82 @@ left-named left right none =
     let d = nil-parts (path_kinds left.path) (right_path_kinds right) c.0 in
     (path-named left.path d.0, left-version-named left.version c.1)
 
-requirement-named : (earlier : List Directive) (p : ModuleVersion) → directive_kinds Strict earlier (Requires p) ≡ [] → IsPlain p.0 × IsPlain p.1
-unfolding directive_kinds
-requirement-named earlier p none = pair-named p none
-
-exclusion-named : (earlier : List Directive) (p : ModuleVersion) → directive_kinds Strict earlier (Excludes p) ≡ [] → IsPlain p.0 × IsPlain p.1
-unfolding directive_kinds
-exclusion-named earlier p none = pair-named p none
-
-retraction-named : (earlier : List Directive) (ends : VersionInterval) → directive_kinds Strict earlier (Retracts ends) ≡ [] → IsPlain ends.0 × IsPlain ends.1
-unfolding directive_kinds
-retraction-named earlier ends none = ends-named ends none
-
-replacement-named : (earlier : List Directive) (left : Left) (right : Right) → directive_kinds Strict earlier (Replaces (replacing left right)) ≡ [] → IsPlain left.path × IsPlainVersion left.version
-unfolding directive_kinds
-replacement-named earlier left right none =
-    let parts = nil-parts (sides_kinds left right) (unless (not (list_any (conflicts (replacing left right)) earlier)) ConflictingReplace) none in
-    left-named left right parts.0
-
 -- ---- what arguments are about
 
 -- the words are valid on a line
 abbrev pub AreWords : List Placed → Type 0
 AreWords words = AllByRecursion IsWord (words_of words)
 
-no-mark : (k : Kind) (text argued : List ℕ) → argument_of_kind k text ≡ Some argued → is_mark_kind k ≡ false
-no-mark kind.Bare text argued is = refl
-no-mark kind.Text text argued is = refl
-no-mark kind.Mark text argued is = absurd cc
-
 -- the first argument is no mark
-two-are : (a : Placed) (second fourth : Option Placed) (path : List ℕ) → argument a.word ≡ Some path → argument_text a.word ≡ Some path
-    → subject_of (Some a) second fourth ≡ record { first = Some path; second = second_text (Some a) second }
-two-are a second fourth path is text = rw (no-mark a.word.kind a.word.spelling path is, text) refl
+two-are : (a : Placed) (second fourth : Option Placed) (path : List ℕ) → argument_text a.word ≡ Some path → subject_of (Some a) second fourth ≡ record { first = Some path; second = text_at (option_or second (Some a)) }
+two-are a second fourth path text = rw text refl
 
-is-mark-first : (byte : ℕ) (k : Kind) (text : List ℕ) → is_mark_byte byte k text ≡ true → is_mark_kind k ≡ true
-is-mark-first byte kind.Bare text is = absurd cc
-is-mark-first byte kind.Text text is = absurd cc
-is-mark-first byte kind.Mark text is = refl
+mark-none : (byte : ℕ) (k : Kind) (text : List ℕ) → is_mark_byte byte k text ≡ true → text_by_kind k text ≡ None
+mark-none byte kind.Bare text is = absurd cc
+mark-none byte kind.Text text is = absurd cc
+mark-none byte kind.Mark text is = refl
 
 -- ---- requirements, exclusions and retractions
 
+-- arguments are about these two texts
+abbrev IsAbout : List Placed → List ℕ × List ℕ → Type 0
+IsAbout words p = subject_inside words ≡ record { first = Some p.0; second = Some p.1 }
+
+pair-read : (words : List Placed) (p : ModuleVersion) → AreWords words → pair_of (words_of words) ≡ Some p → IsPlain p.0 × IsPlain p.1 → IsAbout words p
+pair-read [] p good is names = absurd cc
+pair-read (a ∷ []) p good is names = absurd cc
+pair-read (a ∷ b ∷ []) p good is names =
+    let parts = both-are pair (argument a.word) (argument b.word) p is in
+    let path : argument a.word ≡ Some p.0 = parts.2 ∙ ap (λ (q : ModuleVersion). Some q.0) parts.4 in
+    let version : argument b.word ≡ Some p.1 = parts.3 ∙ ap (λ (q : ModuleVersion). Some q.1) parts.4 in
+    two-are a (Some b) None p.0 (argument-plain a.word p.0 good.0 path names.0) ∙ ap (λ (o : Option (List ℕ)). record { first = Some p.0; second = o }) (argument-plain b.word p.1 good.1.0 version names.1)
+pair-read (a ∷ b ∷ c ∷ words) p good is names = absurd cc
+
+ends-read : (words : List Placed) (ends : VersionInterval) → AreWords words → ends_of (words_of words) ≡ Some ends → IsPlain ends.0 × IsPlain ends.1 → IsAbout words ends
+ends-read [] ends good is names = absurd cc
+ends-read (v ∷ []) ends good is names =
+    let one = map-some (λ (w : List ℕ). pair w w) (argument v.word) ends is in
+    let low : argument v.word ≡ Some ends.0 = one.1 ∙ ap (λ (e : VersionInterval). Some e.0) one.2 in
+    let high : argument v.word ≡ Some ends.1 = one.1 ∙ ap (λ (e : VersionInterval). Some e.1) one.2 in
+    two-are v None None ends.0 (argument-plain v.word ends.0 good.0 low names.0) ∙ ap (λ (o : Option (List ℕ)). record { first = Some ends.0; second = o }) (argument-plain v.word ends.1 good.0 high names.1)
+ends-read (a ∷ v ∷ []) ends good is names = absurd cc
+ends-read (a ∷ v ∷ b ∷ []) ends good is names = absurd cc
+ends-read (a ∷ v ∷ b ∷ w ∷ []) ends good is names = absurd cc
+ends-read (a ∷ v ∷ b ∷ w ∷ c ∷ []) ends good is names = elim (cases_Bool (is_mark 91 a.word && is_mark 44 b.word && is_mark 93 c.word)) [
+  | inl brackets ↦
+      let outer = and_both (is_mark 91 a.word && is_mark 44 b.word) (is_mark 93 c.word) brackets in
+      let mark = mark-none 91 a.word.kind a.word.spelling (and_both (is_mark 91 a.word) (is_mark 44 b.word) outer.0).0 in
+      let parts = both-are pair (argument v.word) (argument w.word) ends (rw brackets at is) in
+      let low = argument-plain v.word ends.0 good.1.0 (parts.2 ∙ ap (λ (e : VersionInterval). Some e.0) parts.4) names.0 in
+      let high = argument-plain w.word ends.1 good.1.1.1.0 (parts.3 ∙ ap (λ (e : VersionInterval). Some e.1) parts.4) names.1 in
+      rw (mark, low, high) refl
+  | inr none ↦ let never : None ≡ Some ends = rw none at is in absurd cc
+]
+ends-read (a ∷ v ∷ b ∷ w ∷ c ∷ e ∷ words) ends good is names = absurd cc
+
 requirement-told : (path : List ℕ) (earlier : List Directive) (words : List Placed) (d : Directive) → AreWords words → option_map Requires (pair_of (words_of words)) ≡ Some d → directive_kinds Strict earlier d ≡ []
     → requires_path path d ≡ is_told (First path) (subject_inside words)
-requirement-told path earlier [] d good is right = absurd cc
-requirement-told path earlier (a ∷ []) d good is right = absurd cc
-requirement-told path earlier (a ∷ b ∷ []) d good is right =
-    let made = map-some Requires (both pair (argument a.word) (argument b.word)) d is in
-    let parts = both-are pair (argument a.word) (argument b.word) made.0 made.1 in
-    let whole : Requires (parts.0, parts.1) ≡ d = ap Requires parts.4 ∙ made.2 in
-    let names = requirement-named earlier (parts.0, parts.1) (subst (λ (x : Directive). directive_kinds Strict earlier x ≡ []) (sym whole) right) in
-    let first = argument-plain a.word parts.0 good.0 parts.2 names.0 in
-    sym (ap (requires_path path) whole) ∙ sym (ap (is_told (First path)) (two-are a (Some b) None parts.0 parts.2 first))
-requirement-told path earlier (a ∷ b ∷ c ∷ words) d good is right = absurd cc
+unfolding directive_kinds
+requirement-told path earlier words d good is right =
+    let made = map-some Requires (pair_of (words_of words)) d is in
+    let names = pair-named made.0 (subst (λ (x : Directive). directive_kinds Strict earlier x ≡ []) (sym made.2) right) in
+    sym (ap (requires_path path) made.2) ∙ sym (ap (is_told (First path)) (pair-read words made.0 good made.1 names))
 
 exclusion-told : (p : ModuleVersion) (earlier : List Directive) (words : List Placed) (d : Directive) → AreWords words → option_map Excludes (pair_of (words_of words)) ≡ Some d → directive_kinds Strict earlier d ≡ []
     → excludes_pair p d ≡ is_told (Both p.0 (Some p.1)) (subject_inside words)
-exclusion-told p earlier [] d good is right = absurd cc
-exclusion-told p earlier (a ∷ []) d good is right = absurd cc
-exclusion-told p earlier (a ∷ b ∷ []) d good is right =
-    let made = map-some Excludes (both pair (argument a.word) (argument b.word)) d is in
-    let parts = both-are pair (argument a.word) (argument b.word) made.0 made.1 in
-    let whole : Excludes (parts.0, parts.1) ≡ d = ap Excludes parts.4 ∙ made.2 in
-    let names = exclusion-named earlier (parts.0, parts.1) (subst (λ (x : Directive). directive_kinds Strict earlier x ≡ []) (sym whole) right) in
-    let first = argument-plain a.word parts.0 good.0 parts.2 names.0 in
-    let second = argument-plain b.word parts.1 good.1.0 parts.3 names.1 in
-    let about_both : subject_inside (a ∷ b ∷ []) ≡ record { first = Some parts.0; second = Some parts.1 } =
-    two-are a (Some b) None parts.0 parts.2 first ∙ ap (λ (o : Option (List ℕ)). record { first = Some parts.0; second = o }) second in
-    sym (ap (excludes_pair p) whole) ∙ sym (ap (is_told (Both p.0 (Some p.1))) about_both)
-exclusion-told p earlier (a ∷ b ∷ c ∷ words) d good is right = absurd cc
-
-retraction-of : (ends : VersionInterval) (low high : List ℕ) (d : Directive) (s : Subject) → Retracts (low, high) ≡ d → s ≡ record { first = Some low; second = Some high }
-    → retracts_ends ends d ≡ is_told (Both ends.0 (Some ends.1)) s
-retraction-of ends low high d s whole about_both = sym (ap (retracts_ends ends) whole) ∙ sym (ap (is_told (Both ends.0 (Some ends.1))) about_both)
-
-single-told : (ends : VersionInterval) (earlier : List Directive) (v : Placed) (d : Directive) → IsWord v.word → option_map Retracts (option_map (λ w. pair w w) (argument v.word)) ≡ Some d → directive_kinds Strict earlier d ≡ []
-    → retracts_ends ends d ≡ is_told (Both ends.0 (Some ends.1)) (subject_inside (v ∷ []))
-single-told ends earlier v d good is right =
-    let made = map-some Retracts (option_map (λ w. pair w w) (argument v.word)) d is in
-    let one = map-some (λ (w : List ℕ). pair w w) (argument v.word) made.0 made.1 in
-    let whole : Retracts (one.0, one.0) ≡ d = ap Retracts one.2 ∙ made.2 in
-    let names = retraction-named earlier (one.0, one.0) (subst (λ (x : Directive). directive_kinds Strict earlier x ≡ []) (sym whole) right) in
-    let text = argument-plain v.word one.0 good one.1 names.0 in
-    retraction-of ends one.0 one.0 d (subject_inside (v ∷ [])) whole
-    (two-are v None None one.0 one.1 text ∙ ap (λ (o : Option (List ℕ)). record { first = Some one.0; second = o }) text)
-
-brackets-told : (ends : VersionInterval) (earlier : List Directive) (a v b w c : Placed) (d : Directive) → IsWord v.word → IsWord w.word → is_mark_kind a.word.kind ≡ true
-    → option_map Retracts (both pair (argument v.word) (argument w.word)) ≡ Some d → directive_kinds Strict earlier d ≡ []
-    → retracts_ends ends d ≡ is_told (Both ends.0 (Some ends.1)) (subject_inside (a ∷ v ∷ b ∷ w ∷ c ∷ []))
-brackets-told ends earlier a v b w c d good_low good_high mark is right =
-    let made = map-some Retracts (both pair (argument v.word) (argument w.word)) d is in
-    let parts = both-are pair (argument v.word) (argument w.word) made.0 made.1 in
-    let whole : Retracts (parts.0, parts.1) ≡ d = ap Retracts parts.4 ∙ made.2 in
-    let names = retraction-named earlier (parts.0, parts.1) (subst (λ (x : Directive). directive_kinds Strict earlier x ≡ []) (sym whole) right) in
-    let low = argument-plain v.word parts.0 good_low parts.2 names.0 in
-    let high = argument-plain w.word parts.1 good_high parts.3 names.1 in
-    retraction-of ends parts.0 parts.1 d (subject_inside (a ∷ v ∷ b ∷ w ∷ c ∷ [])) whole (rw (mark, low, high) refl)
+unfolding directive_kinds
+exclusion-told p earlier words d good is right =
+    let made = map-some Excludes (pair_of (words_of words)) d is in
+    let names = pair-named made.0 (subst (λ (x : Directive). directive_kinds Strict earlier x ≡ []) (sym made.2) right) in
+    sym (ap (excludes_pair p) made.2) ∙ sym (ap (is_told (Both p.0 (Some p.1))) (pair-read words made.0 good made.1 names))
 
 retraction-told : (ends : VersionInterval) (earlier : List Directive) (words : List Placed) (d : Directive) → AreWords words → option_map Retracts (ends_of (words_of words)) ≡ Some d → directive_kinds Strict earlier d ≡ []
     → retracts_ends ends d ≡ is_told (Both ends.0 (Some ends.1)) (subject_inside words)
-retraction-told ends earlier [] d good is right = absurd cc
-retraction-told ends earlier (v ∷ []) d good is right = single-told ends earlier v d good.0 is right
-retraction-told ends earlier (a ∷ v ∷ []) d good is right = absurd cc
-retraction-told ends earlier (a ∷ v ∷ b ∷ []) d good is right = absurd cc
-retraction-told ends earlier (a ∷ v ∷ b ∷ w ∷ []) d good is right = absurd cc
-retraction-told ends earlier (a ∷ v ∷ b ∷ w ∷ c ∷ []) d good is right = elim (cases_Bool (is_mark 91 a.word && is_mark 44 b.word && is_mark 93 c.word)) [
-  | inl brackets ↦
-      let outer = and_both (is_mark 91 a.word && is_mark 44 b.word) (is_mark 93 c.word) brackets in
-      let inner = and_both (is_mark 91 a.word) (is_mark 44 b.word) outer.0 in
-      brackets-told ends earlier a v b w c d good.1.0 good.1.1.1.0 (is-mark-first 91 a.word.kind a.word.spelling inner.0) (rw brackets at is) right
-  | inr none ↦ let never : None ≡ Some d = rw none at is in absurd cc
-]
-retraction-told ends earlier (a ∷ v ∷ b ∷ w ∷ c ∷ e ∷ words) d good is right = absurd cc
+unfolding directive_kinds
+retraction-told ends earlier words d good is right =
+    let made = map-some Retracts (ends_of (words_of words)) d is in
+    let names = ends-named made.0 (subst (λ (x : Directive). directive_kinds Strict earlier x ≡ []) (sym made.2) right) in
+    sym (ap (retracts_ends ends) made.2) ∙ sym (ap (is_told (Both ends.0 (Some ends.1))) (ends-read words made.0 good made.1 names))
 
 -- ---- replacements
 
@@ -209,7 +172,7 @@ bare-side a b fourth left good arrow is plain =
     let made = map-some left_without (argument a.word) left is in
     let path : argument a.word ≡ Some left.path = made.1 ∙ ap Some (ap (λ (l : Left). l.path) made.2) in
     let text = argument-plain a.word left.path good path plain in
-    let s = two-are a (Some b) fourth left.path path text in
+    let s = two-are a (Some b) fourth left.path text in
     let version : None ≡ left.version = ap (λ (l : Left). l.version) made.2 in
     (ap (λ (x : Subject). x.first) s, ap (λ (x : Subject). x.second) s ∙ arrow-none b.word.kind b.word.spelling arrow ∙ version)
 
@@ -221,7 +184,7 @@ versioned-side a b fourth left good good_version is plain plain_version =
     let version : Some made.1 ≡ left.version = ap (λ (l : Left). l.version) made.4 in
     let text = argument-plain a.word left.path good path plain in
     let second = argument-plain b.word made.1 good_version made.3 (subst IsPlainVersion (sym version) plain_version) in
-    let s = two-are a (Some b) fourth left.path path text in
+    let s = two-are a (Some b) fourth left.path text in
     (ap (λ (x : Subject). x.first) s, ap (λ (x : Subject). x.second) s ∙ second ∙ version)
 
 third-side : (a b : Placed) (words : List Placed) (fourth : Option Placed) (left : Left) → IsWord a.word → IsWord b.word → left_of (a.word ∷ b.word ∷ before_first is_arrow (words_of words)) ≡ Some left
@@ -263,11 +226,13 @@ TestsLeft test s = (left : Left) (right : Right) → test (Replaces (replacing l
 
 replacement-told : (test : Directive → Bool) (s : Sought) → TestsLeft test s → (earlier : List Directive) (words : List Placed) (d : Directive) → AreWords words → option_map Replaces (replacing_of (words_of words)) ≡ Some d
     → directive_kinds Strict earlier d ≡ [] → test d ≡ is_told s (subject_inside words)
+unfolding directive_kinds
 replacement-told test s same earlier words d good is right =
     let made = map-some Replaces (replacing_of (words_of words)) d is in
     let parts = both-are replacing (left_of (before_first is_arrow (words_of words))) (right_of (after_first is_arrow (words_of words))) made.0 made.1 in
     let whole : Replaces (replacing parts.0 parts.1) ≡ d = ap Replaces parts.4 ∙ made.2 in
-    let names = replacement-named earlier parts.0 parts.1 (subst (λ (x : Directive). directive_kinds Strict earlier x ≡ []) (sym whole) right) in
+    let none = subst (λ (x : Directive). directive_kinds Strict earlier x ≡ []) (sym whole) right in
+    let names = left-named parts.0 parts.1 (nil-parts (sides_kinds parts.0 parts.1) (unless (not (list_any (conflicts (replacing parts.0 parts.1)) earlier)) ConflictingReplace) none).0 in
     let side = left-side words parts.0 parts.1 good parts.2 parts.3 names.0 names.1 in
     sym (ap test whole) ∙ same parts.0 parts.1
     ∙ ap (λ (o : Option (List ℕ)). is_told s (record { first = o; second = parts.0.version })) (sym side.0)

@@ -1,37 +1,32 @@
 -- An operation that follows itself leaves the lines as they are.
-use Rattle.std.proofs.Common.{◌≡◌, ℕ, ◌-◌, Bool, true, false, List, [], ◌∷◌, ◌++◌, length, take, drop, Option, Some, None, is_some, refl, sym, ap, subst, ◌∙◌, append-nil, arith, length-append, inl, inr}
-use Rattle.std.specs.Prelude.{codes, filter}
-use Rattle.std.specs.Option.{option_to_list}
-use Rattle.std.specs.List.{AllByRecursion}
+use Rattle.std.proofs.Common.{◌≡◌, ℕ, ◌-◌, Bool, true, false, List, [], ◌∷◌, ◌++◌, length, take, Option, Some, None, is_some, refl, sym, ap, subst, ◌∙◌, arith, length-append, inl, inr}
+use Rattle.std.specs.Prelude.{IfSome, codes, filter}
+use Rattle.std.specs.List.{AllByRecursion, cons_option}
 use Rattle.std.proofs.lemmas.Bool.{cases_Bool, false≢true, or_parts}
-use Rattle.std.proofs.lemmas.List.{take-append-drop, take_at}
+use Rattle.std.proofs.lemmas.List.{take_at}
 use Rattle.gm_syntax.specs.Tokens.{Placed}
 use Rattle.gm_syntax.specs.Document.{Line, Blank, Comment, Open, Close, Entry}
 use Rattle.gm_file.specs.Directives.{Directive, LineInBlock, block_after_line, block_after_lines, item_at, with_blocks_from}
-use Rattle.gm_file.specs.Faults.{is_go, is_module}
-use Rattle.gm_file_edit.specs.declared.adding.Spot.{Spot}
-use Rattle.gm_file_edit.specs.Edits.{Edit, Set, Setting, ModuleIs, GoIs, RequireAt, Drop, Add, ReplaceWith}
+use Rattle.gm_file.specs.Faults.{is_module}
+use Rattle.gm_file_edit.specs.Edits.{Edit, Set, Setting, ModuleIs, GoIs, RequireAt, Drop, Add, ReplaceWith, Exclude, Retract}
 use Rattle.gm_file_edit.specs.About.{about}
-use Rattle.gm_file_edit.specs.Edited.{added, after_first_that, changed, edited, has_verb, new_entry, new_go, put_in}
+use Rattle.gm_file_edit.specs.Edited.{changed, edited, put_in}
 use Rattle.gm_file_edit.specs.Fates.{Fate, dropping_from, kept, remaining, renewing_from}
-use Rattle.gm_file_edit.specs.Holding.{directive_at, passes}
+use Rattle.gm_file_edit.specs.Holding.{directive_at, passes, is_there}
 use Rattle.gm_file_edit.specs.Laws.{directives_of}
 use Rattle.gm_file_edit.specs.Kinds.{directive_added, directive_set, set_by}
-use Rattle.gm_file_edit.specs.NewWords.{entry_at, made_word, pair_words, replace_words, single}
+use Rattle.gm_file_edit.specs.NewWords.{entry_at, made_word, pair_words, replace_words}
 use Rattle.gm_file_edit.specs.Renewing.{made_new, with_arguments, with_last}
-use Rattle.gm_file_edit.specs.Searching.{is_there, is_there_from}
-use Rattle.gm_file_edit.specs.Twice.{SecondOperationChangesNothing, SecondSettingChangesNothing}
-use Rattle.gm_file_edit.proofs.AddingSound.{IsIn, IsVerbSpot, file-held, first-is-in, held_from, last-is, passing-level, past-outside}
-use Rattle.gm_file_edit.proofs.EditedSound.{by-put}
-use Rattle.gm_file_edit.proofs.Idle.{second-addition, second-drop, some-filtered, there-said}
-use Rattle.gm_file_edit.proofs.Said.{none-any}
-use Rattle.gm_file_edit.proofs.SaidAfter.{set-stands-alone, there-is}
+use Rattle.gm_file_edit.specs.EditLaws.{SecondOperationChangesNothing, SecondSettingChangesNothing}
+use Rattle.gm_file_edit.proofs.Filters.{any-filled, is_filled, none-any}
+use Rattle.gm_file_edit.proofs.Idle.{second-addition, second-drop}
+use Rattle.gm_file_edit.proofs.Insertions.{IsPutInto, by-put, entry_put, gap_lines, passing-level, there-is, there-said}
+use Rattle.gm_file_edit.proofs.Said.{past-held}
+use Rattle.gm_file_edit.proofs.SaidAfter.{set-stands-alone}
 use Rattle.gm_file_edit.proofs.Seats.{fewer-all, remaining-left}
 use Rattle.gm_file.proofs.Snoc.{with_blocks-snoc}
-use Rattle.gm_file_edit.proofs.Pairs.{IsSound, document-sound}
-use Rattle.gm_file_edit.proofs.Spots.{added-spot, added_at, first-spot, insert_at_spot, past_block, spot_after_first, spot_after_last}
+use Rattle.gm_file_edit.proofs.Pairs.{IsSound, document-sound, file-held, held_from}
 use Rattle.gm_file_edit.proofs.Untouched.{all-lines-stay, all_stay, by-edited, none-dropped-from}
-use Rattle.std.proofs.lemmas.Option.{same_Some}
 
 -- how an operation rewrites a line, given the verb of its block
 abbrev Rewriting : Type 0
@@ -58,10 +53,10 @@ missed : (test : Directive → Bool) (new : Rewriting) (block : Option Placed) (
 missed test new block line miss = λ e. absurd (false≢true (sym miss ∙ e))
 
 -- lines of which none is targeted
-none-set : (test : Directive → Bool) (new : Rewriting) (block : Option Placed) (lines : List (Line Placed)) → is_there_from test block lines ≡ false → LinesAreSet test new block lines
+none-set : (test : Directive → Bool) (new : Rewriting) (block : Option Placed) (lines : List (Line Placed)) → is_there test block lines ≡ false → LinesAreSet test new block lines
 none-set test new block [] none = tt
 none-set test new block (line ∷ lines) none =
-    let parts = or_parts (passes test (directive_at block line)) (is_there_from test (block_after_line block line) lines) none in
+    let parts = or_parts (passes test (directive_at block line)) (is_there test (block_after_line block line) lines) none in
     (missed test new block line parts.0, none-set test new (block_after_line block line) lines parts.1)
 
 -- ---- the lines that a setting leaves, if it targets some
@@ -144,96 +139,61 @@ changed-set (Add a) lines d sets = absurd cc
 -- ---- the lines that a setting leaves, if it targets none
 
 -- new lines among lines of which none is targeted
-inserted-set : (test : Directive → Bool) (new : Rewriting) (block : Option Placed) (front more back : List (Line Placed)) → is_there_from test block (front ++ back) ≡ false
+inserted-set : (test : Directive → Bool) (new : Rewriting) (block : Option Placed) (front more back : List (Line Placed)) → is_there test block (front ++ back) ≡ false
     → LinesAreSet test new (block_after_lines block front) more → block_after_lines (block_after_lines block front) more ≡ block_after_lines block front → LinesAreSet test new block (front ++ (more ++ back))
 inserted-set test new block [] more back none are level =
     subst (AreSet test new) (sym (with_blocks-snoc block more back))
     (set-append test new (with_blocks_from block more) (with_blocks_from (block_after_lines block more) back) are (subst (λ (b : Option Placed). LinesAreSet test new b back) (sym level) (none-set test new block back none)))
 inserted-set test new block (line ∷ front) more back none are level =
-    let parts = or_parts (passes test (directive_at block line)) (is_there_from test (block_after_line block line) (front ++ back)) none in
+    let parts = or_parts (passes test (directive_at block line)) (is_there test (block_after_line block line) (front ++ back)) none in
     (missed test new block line parts.0, inserted-set test new (block_after_line block line) front more back parts.1 are level)
 
 -- an entry that is new in its block is rewritten to itself
 abbrev EntryIsSet : Rewriting → List ℕ → List Placed → Type 0
 EntryIsSet new text arguments = (block : Option Placed) → new block (entry_at (is_some block) text arguments) ≡ entry_at (is_some block) text arguments
 
+in-either : (new : Rewriting) (text : List ℕ) (arguments : List Placed) → new None (entry_at false text arguments) ≡ entry_at false text arguments
+    → ((verb : Placed) → new (Some verb) (entry_at true text arguments) ≡ entry_at true text arguments) → EntryIsSet new text arguments
+in-either new text arguments alone inside None = alone
+in-either new text arguments alone inside (Some verb) = inside verb
+
 entry-level : (block : Option Placed) (inside : Bool) (text : List ℕ) (arguments : List Placed) → block_after_line block (entry_at inside text arguments) ≡ block
 entry-level block true text arguments = refl
 entry-level block false text arguments = refl
 
-only-set : (test : Directive → Bool) (new : Rewriting) (block : Option Placed) (line : Line Placed) → new block line ≡ line → LinesAreSet test new block (line ∷ [])
-only-set test new block line same = ((λ e. same), tt)
-
--- a blank line and an entry outside blocks
-blank-and-entry : (test : Directive → Bool) (new : Rewriting) (block : Option Placed) (line : Line Placed) → new block line ≡ line → LinesAreSet test new block (Blank ∷ line ∷ [])
+-- an entry that is put in
+gap-set : (test : Directive → Bool) (new : Rewriting) (gap : Bool) (front back : List (Line Placed)) (entry : Line Placed) → is_there test None (front ++ back) ≡ false → new (block_after_lines None front) entry ≡ entry
+    → block_after_line (block_after_lines None front) entry ≡ block_after_lines None front → LinesAreSet test new None (front ++ (gap_lines gap ++ entry ∷ back))
 unfolding item_at
-blank-and-entry test new block line same = ((λ e. absurd cc), only-set test new block line same)
+gap-set test new true front back entry none same level = inserted-set test new None front (Blank ∷ entry ∷ []) back none ((λ e. absurd cc), ((λ e. same), tt)) level
+gap-set test new false front back entry none same level = inserted-set test new None front (entry ∷ []) back none ((λ e. same), tt) level
 
-at-end-set : (test : Directive → Bool) (new : Rewriting) (text : List ℕ) (arguments : List Placed) (lines : List (Line Placed)) → EntryIsSet new text arguments → IsSound lines → is_there test lines ≡ false
-    → LinesAreSet test new None (lines ++ Blank ∷ single text arguments ∷ [])
-at-end-set test new text arguments lines is sound none =
-    let outside = sound.closed in
-    inserted-set test new None lines (Blank ∷ single text arguments ∷ []) [] (subst (λ (ls : List (Line Placed)). is_there test ls ≡ false) (sym (append-nil lines)) none)
-    (subst (λ (b : Option Placed). LinesAreSet test new b (Blank ∷ single text arguments ∷ [])) (sym outside) (blank-and-entry test new None (single text arguments) (is None))) refl
-
-added-at-set : (test : Directive → Bool) (new : Rewriting) (v : List ℕ) (arguments : List Placed) (lines : List (Line Placed)) → EntryIsSet new v arguments → IsSound lines → is_there test lines ≡ false
-    → (o : Option Spot) → ((spot : Spot) → o ≡ Some spot → IsVerbSpot v None lines spot) → LinesAreSet test new None (added_at v arguments lines o)
-added-at-set test new v arguments lines is sound none None spot_is = at-end-set test new v arguments lines is sound none
-added-at-set test new v arguments lines is sound none (Some spot) spot_is =
-    let front : List (Line Placed) = take spot.before lines in
-    let back : List (Line Placed) = drop spot.before lines in
-    let block : Option Placed = block_after_lines None front in
-    let here = spot_is spot refl in
-    let entry : Line Placed = entry_at spot.inside v arguments in
-    let same : new block entry ≡ entry = subst (λ (b : Bool). new block (entry_at b v arguments) ≡ entry_at b v arguments) here.0.inside (is block) in
-    inserted-set test new None front (entry ∷ []) back (subst (λ (ls : List (Line Placed)). is_there test ls ≡ false) (sym (take-append-drop spot.before lines)) none)
-    (only-set test new block entry same) (entry-level block spot.inside v arguments)
-
-added-set : (test : Directive → Bool) (new : Rewriting) (v : List ℕ) (arguments : List Placed) (lines : List (Line Placed)) → EntryIsSet new v arguments → IsSound lines → is_there test lines ≡ false
-    → LinesAreSet test new None (added v arguments lines)
-added-set test new v arguments lines is sound none =
-    subst (LinesAreSet test new None) (sym (added-spot v arguments lines)) (added-at-set test new v arguments lines is sound none (spot_after_last (has_verb v) None lines) (last-is v None lines))
-
-behind-set : (test : Directive → Bool) (new : Rewriting) (text : List ℕ) (arguments : List Placed) (lines : List (Line Placed)) → EntryIsSet new text arguments → IsSound lines → is_there test lines ≡ false
-    → (o : Option Spot) → ((spot : Spot) → o ≡ Some spot → IsIn None lines spot) → LinesAreSet test new None (insert_at_spot (Blank ∷ single text arguments ∷ []) lines o)
-behind-set test new text arguments lines is sound none None spot_is = at-end-set test new text arguments lines is sound none
-behind-set test new text arguments lines is sound none (Some spot) spot_is =
-    let n : ℕ = past_block lines spot in
-    let outside = past-outside lines spot sound (spot_is spot refl) in
-    inserted-set test new None (take n lines) (Blank ∷ single text arguments ∷ []) (drop n lines) (subst (λ (ls : List (Line Placed)). is_there test ls ≡ false) (sym (take-append-drop n lines)) none)
-    (subst (λ (b : Option Placed). LinesAreSet test new b (Blank ∷ single text arguments ∷ [])) (sym outside) (blank-and-entry test new None (single text arguments) (is None))) refl
-
-go-set : (text : List ℕ) (lines : List (Line Placed)) → IsSound lines → is_there is_go lines ≡ false → LinesAreSet is_go (with_last text) None (after_first_that is_module (new_go text) lines)
-go-set text lines sound none =
-    subst (LinesAreSet is_go (with_last text) None) (sym (first-spot is_module (new_go text) lines))
-    (behind-set is_go (with_last text) (codes "go") (made_word text ∷ []) lines go-entry sound none (spot_after_first is_module None lines) (first-is-in is_module None lines))
-  where
-    go-entry : EntryIsSet (with_last text) (codes "go") (made_word text ∷ [])
-    go-entry None = refl
-    go-entry (Some verb) = refl
+into-set : (test : Directive → Bool) (new : Rewriting) (v : List ℕ) (arguments : List Placed) (lines after : List (Line Placed)) → EntryIsSet new v arguments → IsSound lines → is_there test None lines ≡ false
+    → IsPutInto v arguments lines after → LinesAreSet test new None after
+into-set test new v arguments lines after is sound none put =
+    let block : Option Placed = block_after_lines None put.front in
+    let same : new block (entry_at put.inside v arguments) ≡ entry_at put.inside v arguments =
+    subst (λ (b : Bool). new block (entry_at b v arguments) ≡ entry_at b v arguments) (put.fits sound.closed).0 (is block) in
+    subst (LinesAreSet test new None) (sym put.is)
+    (gap-set test new put.gap put.front put.back (entry_at put.inside v arguments) (ap (is_there test None) (sym put.was) ∙ none) same (entry-level block put.inside v arguments))
 
 -- the new entry of an operation
-entry-set : (edit : Edit) (entry : List ℕ × List Placed) → new_entry edit ≡ Some entry → EntryIsSet (made_new edit) entry.0 entry.1
-entry-set (Set (RequireAt p)) entry e = subst (λ (x : List ℕ × List Placed). EntryIsSet (with_last p.1) x.0 x.1) (same_Some _ _ e) require-entry
-  where
-    require-entry : EntryIsSet (with_last p.1) (codes "require") (pair_words p)
-    require-entry None = refl
-    require-entry (Some block) = refl
-entry-set (Set (ReplaceWith r)) entry e = subst (λ (x : List ℕ × List Placed). EntryIsSet (with_arguments (replace_words r)) x.0 x.1) (same_Some _ _ e) replace-entry
-  where
-    replace-entry : EntryIsSet (with_arguments (replace_words r)) (codes "replace") (replace_words r)
-    replace-entry None = refl
-    replace-entry (Some block) = refl
-entry-set (Set (ModuleIs path)) entry e = absurd cc
-entry-set (Set (GoIs text)) entry e = absurd cc
-entry-set (Add a) entry e = λ block. refl
-entry-set (Drop t) entry e = absurd cc
+put-entry-set : (edit : Edit) → IfSome (entry_put edit) (λ entry. EntryIsSet (made_new edit) entry.0 entry.1)
+put-entry-set (Set (ModuleIs path)) = tt
+put-entry-set (Set (GoIs text)) = in-either (with_last text) (codes "go") (made_word text ∷ []) refl (λ verb. refl)
+put-entry-set (Set (RequireAt p)) = in-either (with_last p.1) (codes "require") (pair_words p) refl (λ verb. refl)
+put-entry-set (Set (ReplaceWith r)) = in-either (with_arguments (replace_words r)) (codes "replace") (replace_words r) refl (λ verb. refl)
+put-entry-set (Add (Exclude p)) = λ block. refl
+put-entry-set (Add (Retract ends)) = λ block. refl
+put-entry-set (Drop t) = tt
 
-put-set : (lines : List (Line Placed)) → IsSound lines → (edit : Edit) → is_there (about edit) lines ≡ false → LinesAreSet (about edit) (made_new edit) None (put_in edit lines)
-put-set lines sound = by-put (λ edit after. is_there (about edit) lines ≡ false → LinesAreSet (about edit) (made_new edit) None after) lines
+entry-set : (edit : Edit) (entry : List ℕ × List Placed) → entry_put edit ≡ Some entry → EntryIsSet (made_new edit) entry.0 entry.1
+entry-set edit entry e = subst (λ (o : Option (List ℕ × List Placed)). IfSome o (λ x. EntryIsSet (made_new edit) x.0 x.1)) e (put-entry-set edit)
+
+put-set : (lines : List (Line Placed)) → IsSound lines → (edit : Edit) → is_there (about edit) None lines ≡ false → LinesAreSet (about edit) (made_new edit) None (put_in edit lines)
+put-set lines sound = by-put (λ edit after. is_there (about edit) None lines ≡ false → LinesAreSet (about edit) (made_new edit) None after) lines
     (λ path none. none-set is_module (with_last path) None lines none)
-    (λ text none. go-set text lines sound none)
-    (λ edit entry is none. added-set (about edit) (made_new edit) entry.0 entry.1 lines (entry-set edit entry is) sound none)
+    (λ edit entry after is put none. into-set (about edit) (made_new edit) entry.0 entry.1 lines after (entry-set edit entry is) sound none put)
     (λ t none. none-set (about (Drop t)) (made_new (Drop t)) None lines none)
 
 edited-set : (edit : Edit) (lines : List (Line Placed)) (d : Directive) → set_by edit ≡ Some d → IsSound lines → LinesAreSet (about edit) (made_new edit) None (edited edit lines)
@@ -241,13 +201,9 @@ edited-set edit lines d sets sound = by-edited (LinesAreSet (about edit) (made_n
 
 -- ---- such lines stay, if only one of them is targeted
 
-rest-none : (test : Directive → Bool) (held : Option Directive) (rest : List Directive) (d : Directive) → passes test held ≡ true → filter test (option_to_list held ++ rest) ≡ d ∷ [] → filter test rest ≡ []
+rest-none : (test : Directive → Bool) (held : Option Directive) (rest : List Directive) (d : Directive) → passes test held ≡ true → filter test (cons_option held rest) ≡ d ∷ [] → filter test rest ≡ []
 rest-none test None rest d hit e = absurd cc
 rest-none test (Some x) rest d hit e = let more : x ∷ filter test rest ≡ d ∷ [] = rw hit at e in cc more
-
-rest-same : (test : Directive → Bool) (held : Option Directive) (rest : List Directive) → passes test held ≡ false → filter test (option_to_list held ++ rest) ≡ filter test rest
-rest-same test None rest miss = refl
-rest-same test (Some x) rest miss = rw miss refl
 
 renewing-stays : (test : Directive → Bool) (new : Rewriting) (d : Directive) (block : Option Placed) (lines : List (Line Placed)) → LinesAreSet test new block lines → filter test (held_from block lines) ≡ d ∷ []
     → renewing_from test new block lines ≡ all_stay lines
@@ -257,9 +213,9 @@ renewing-stays test new d block (line ∷ lines) are alone =
     let rest : List Directive = held_from behind lines in
     elim (cases_Bool (passes test (directive_at block line))) [
       | inl hit ↦
-          let none : is_there_from test behind lines ≡ false = there-is test behind lines ∙ none-any test rest (rest-none test (directive_at block line) rest d hit alone) in
+          let none : is_there test behind lines ≡ false = there-is test behind lines ∙ none-any test rest (rest-none test (directive_at block line) rest d hit alone) in
           rw (hit, are.0 hit, none-dropped-from test behind lines none) refl
-      | inr miss ↦ rw miss (ap (λ (fs : List Fate). Some line ∷ fs) (renewing-stays test new d behind lines are.1 (sym (rest-same test (directive_at block line) rest miss) ∙ alone)))
+      | inr miss ↦ rw miss (ap (λ (fs : List Fate). Some line ∷ fs) (renewing-stays test new d behind lines are.1 (sym (past-held test (directive_at block line) rest miss) ∙ alone)))
     ]
 
 stays : (test : Directive → Bool) (new : Rewriting) (d : Directive) (lines : List (Line Placed)) → LinesAreSet test new None lines → filter test (held_from None lines) ≡ d ∷ []
@@ -278,7 +234,7 @@ pub second-setting : SecondSettingChangesNothing
 second-setting edit lines d is sets =
     let after : List (Line Placed) = edited edit lines in
     let alone : filter (about edit) (directives_of after) ≡ d ∷ [] = set-stands-alone edit lines d is sets in
-    let there : is_there (about edit) after ≡ true = there-said (about edit) after ∙ some-filtered (about edit) (directives_of after) [] d alone in
+    let there : is_there (about edit) None after ≡ true = there-said (about edit) after ∙ any-filled (about edit) (directives_of after) ∙ ap is_filled alone in
     by-edited (λ ls. ls ≡ changed edit after) edit after (λ e. refl) (λ none. absurd (false≢true (sym none ∙ there)))
     ∙ again-changes edit after d sets (edited-set edit lines d sets (document-sound lines is.2 is.3)) (ap (filter (about edit)) (sym (file-held after)) ∙ alone)
 

@@ -1,7 +1,8 @@
 -- A drop of what an operation put in leaves the lines as they were.
 use Rattle.std.proofs.Common.{◌≡◌, ℕ, ◌||◌, if◌then◌else◌, Bool, true, false, List, [], ◌∷◌, ◌++◌, Option, Some, None, is_some, refl, sym, ap, subst, ◌∙◌, append-nil, append_assoc, inl, inr}
+use Rattle.std.specs.Prelude.{IfSome}
 use Rattle.std.specs.List.{list_any}
-use Rattle.std.proofs.lemmas.Bool.{cases_Bool, or_parts, true≢false}
+use Rattle.std.proofs.lemmas.Bool.{cases_Bool, or_parts}
 use Rattle.std.proofs.lemmas.List.{map-append}
 use Rattle.gm_syntax.specs.Layout.{initial_state, is_blank_line, layout, layout_from, line_with_gap, state_after}
 use Rattle.gm_syntax.specs.LineViews.{plain, plain_lines}
@@ -15,32 +16,32 @@ use Rattle.gm_file_edit.specs.Kinds.{is_drop}
 use Rattle.gm_file_edit.specs.About.{about, excludes_pair, is_covered_by, is_replaced_by, replaces_left, requires_path, retracts_ends}
 use Rattle.gm_file_edit.specs.Edited.{added, edited, has_verb, new_entry}
 use Rattle.gm_file_edit.specs.Fates.{Fate, dropped, dropping_from, kept, remaining, widened_from}
-use Rattle.gm_file_edit.specs.Holding.{directive_at, passes}
+use Rattle.gm_file_edit.specs.Holding.{directive_at, passes, is_there}
 use Rattle.gm_file_edit.specs.Laws.{directives_of}
 use Rattle.gm_file_edit.specs.NewWords.{entry_at, single}
-use Rattle.gm_file_edit.specs.Searching.{is_there, is_there_from}
 use Rattle.gm_file_edit.specs.Undone.{DropUndoes, DropUndoesForLayout, undone_by}
-use Rattle.gm_file_edit.proofs.Additions.{added-after-last, added-at-end, edited-added}
-use Rattle.gm_file_edit.proofs.AddingSound.{Fits, IsAddition, entry-fits, passing-level, passing-verb}
-use Rattle.gm_file_edit.proofs.EditedSound.{fewer-any, says}
-use Rattle.gm_file_edit.proofs.Idle.{there-said}
+use Rattle.gm_file_edit.proofs.Additions.{edited-added}
+use Rattle.gm_file_edit.proofs.AddingSound.{Fits, IsAddition, entry-fits}
+use Rattle.gm_file_edit.proofs.EditedSound.{says}
+use Rattle.gm_file_edit.proofs.Filters.{fewer-any}
+use Rattle.gm_file_edit.proofs.Insertions.{added-after-last, added-at-end, entry_put, last-one, passing-level, passing-verb, there-append, there-said}
 use Rattle.gm_file_edit.proofs.Renewals.{left-itself, pair-itself, put_by, text-itself}
 use Rattle.gm_file_edit.proofs.SaidAfter.{sound-of}
-use Rattle.gm_file_edit.proofs.Pairs.{IsSound}
+use Rattle.gm_file_edit.proofs.Pairs.{IsSound, block-append}
 use Rattle.gm_file_edit.proofs.Untouched.{all-lines-left, all_stay, edited-drop, none-dropped-from, stay-before}
 use Rattle.std.proofs.lemmas.Option.{same_Some}
 
 -- ---- the fates of the lines
 
 -- only an entry behind these lines is dropped
-one-gone : (test : Directive → Bool) (block : Option Placed) (front back : List (Line Placed)) (entry : Line Placed) → is_there_from test block (front ++ back) ≡ false
+one-gone : (test : Directive → Bool) (block : Option Placed) (front back : List (Line Placed)) (entry : Line Placed) → is_there test block (front ++ back) ≡ false
     → passes test (directive_at (block_after_lines block front) entry) ≡ true → dropping_from test block (front ++ entry ∷ back) ≡ all_stay front ++ None ∷ all_stay back
 one-gone test block [] back entry none hit =
     let level : block_after_line block entry ≡ block = passing-level test block entry hit in
     let held : passes test (directive_at block entry) ≡ true = hit in
     rw (held, level) (ap (λ (fs : List Fate). None ∷ fs) (none-dropped-from test block back none))
 one-gone test block (line ∷ front) back entry none hit =
-    let parts = or_parts (passes test (directive_at block line)) (is_there_from test (block_after_line block line) (front ++ back)) none in
+    let parts = or_parts (passes test (directive_at block line)) (is_there test (block_after_line block line) (front ++ back)) none in
     rw parts.0 (ap (λ (fs : List Fate). Some line ∷ fs) (one-gone test (block_after_line block line) front back entry parts.1 hit))
 
 -- ---- what is left
@@ -62,62 +63,30 @@ last-gone front = stay-before (None ∷ []) [] refl (λ inside. refl) false fron
 
 -- ---- the lines
 
--- the lines around the last one that holds a directive that passes the test
-record IsLast (test : Directive → Bool) (block : Option Placed) (lines : List (Line Placed)) : Type 0 where
-  front : List (Line Placed)
-  line : Line Placed
-  back : List (Line Placed)
-  parts : lines ≡ front ++ line ∷ back
-  hit : passes test (directive_at (block_after_lines block front) line) ≡ true
-  later : is_there_from test (block_after_lines block (front ++ line ∷ [])) back ≡ false
-
-or-first : (a b : Bool) → b ≡ false → (a || b) ≡ true → a ≡ true
-or-first true b e f = refl
-or-first false b e f = absurd (true≢false (sym f ∙ e))
-
-last-one : (test : Directive → Bool) (block : Option Placed) (lines : List (Line Placed)) → is_there_from test block lines ≡ true → IsLast test block lines
-last-one test block [] e = absurd cc
-last-one test block (line ∷ lines) e = elim (cases_Bool (is_there_from test (block_after_line block line) lines)) [
-  | inl later ↦
-      let is = last-one test (block_after_line block line) lines later in
-      record { front = line ∷ is.front; line = is.line; back = is.back; parts = ap (λ (ls : List (Line Placed)). line ∷ ls) is.parts; hit = is.hit; later = is.later }
-  | inr none ↦
-      record { front = []; line = line; back = lines; parts = refl; hit = or-first (passes test (directive_at block line)) (is_there_from test (block_after_line block line) lines) none e; later = none }
-]
-
 -- a line that holds a directive is an entry
-record IsAnEntry (line : Line Placed) : Type 0 where
-  words : List Placed
-  suffix : Option (List ℕ)
-  is : line ≡ Entry words suffix
-
-holds-entry : (test : Directive → Bool) (block : Option Placed) (line : Line Placed) → passes test (directive_at block line) ≡ true → IsAnEntry line
+holds-entry : (test : Directive → Bool) (block : Option Placed) (line : Line Placed) → passes test (directive_at block line) ≡ true → (words : List Placed) × (suffix : Option (List ℕ)) × (line ≡ Entry words suffix)
 unfolding item_at
 holds-entry test block Blank e = absurd cc
 holds-entry test block (Comment text) e = absurd cc
 holds-entry test block (Open verb suffix) e = absurd cc
 holds-entry test block (Close suffix) e = absurd cc
-holds-entry test block (Entry words suffix) e = record { words = words; suffix = suffix; is = refl }
-
-level-after : (block : Option Placed) (front : List (Line Placed)) (line : Line Placed) → block_after_lines block (front ++ line ∷ []) ≡ block_after_line (block_after_lines block front) line
-level-after block [] line = refl
-level-after block (first ∷ front) line = level-after (block_after_line block first) front line
+holds-entry test block (Entry words suffix) e = (words, suffix, refl)
 
 -- what is put in behind an entry of its verb and dropped
 behind-entry : (test : Directive → Bool) (v : List ℕ) (arguments : List Placed) (new : Directive) (front back : List (Line Placed)) (line : Line Placed) → IsAddition v arguments new → test new ≡ true
-    → is_there test (front ++ line ∷ back) ≡ false → passes (has_verb v) (directive_at (block_after_lines None front) line) ≡ true
+    → is_there test None (front ++ line ∷ back) ≡ false → passes (has_verb v) (directive_at (block_after_lines None front) line) ≡ true
     → dropped test (front ++ line ∷ entry_at (is_some (block_after_lines None front)) v arguments ∷ back) ≡ front ++ line ∷ back
 behind-entry test v arguments new front back line so own none hit =
     let block : Option Placed = block_after_lines None front in
     let entry : Line Placed = entry_at (is_some block) v arguments in
     let fits : Fits block new entry = entry-fits v arguments new block (passing-verb v block line (directive_at block line) refl hit) so in
     let passed : passes test (directive_at block entry) ≡ true = ap (passes test) fits.holds ∙ own in
-    let behind : block_after_lines None (front ++ line ∷ []) ≡ block = level-after None front line ∙ passing-level (has_verb v) block line hit in
+    let behind : block_after_lines None (front ++ line ∷ []) ≡ block = block-append None front (line ∷ []) ∙ passing-level (has_verb v) block line hit in
     let whole : (front ++ line ∷ []) ++ back ≡ front ++ line ∷ back = append_assoc front (line ∷ []) back in
     let fates : dropping_from test None ((front ++ line ∷ []) ++ entry ∷ back) ≡ all_stay (front ++ line ∷ []) ++ None ∷ all_stay back =
-    one-gone test None (front ++ line ∷ []) back entry (ap (is_there test) whole ∙ none) (ap (λ (b : Option Placed). passes test (directive_at b entry)) behind ∙ passed) in
+    one-gone test None (front ++ line ∷ []) back entry (ap (is_there test None) whole ∙ none) (ap (λ (b : Option Placed). passes test (directive_at b entry)) behind ∙ passed) in
     let is = holds-entry (has_verb v) block line hit in
-    ap (dropped test) (sym (append_assoc front (line ∷ []) (entry ∷ back))) ∙ ap (remaining) (fates ∙ split) ∙ left is.words is.suffix is.is
+    ap (dropped test) (sym (append_assoc front (line ∷ []) (entry ∷ back))) ∙ ap (remaining) (fates ∙ split) ∙ left is.0 is.1 is.2
   where
     split : all_stay (front ++ line ∷ []) ++ None ∷ all_stay back ≡ all_stay front ++ Some line ∷ None ∷ all_stay back
     split = ap (λ (fs : List Fate). fs ++ None ∷ all_stay back) (map-append (λ (l : Line Placed). Some l) front (line ∷ [])) ∙ append_assoc (all_stay front) (Some line ∷ []) (None ∷ all_stay back)
@@ -126,32 +95,29 @@ behind-entry test v arguments new front back line so own none hit =
     left words suffix is =
         subst (λ (l : Line Placed). remaining (all_stay front ++ Some l ∷ None ∷ all_stay back) ≡ front ++ l ∷ back) (sym is) (gone-behind words suffix front back)
 
-blank-none : (test : Directive → Bool) (block : Option Placed) (lines : List (Line Placed)) → is_there_from test block lines ≡ false → is_there_from test block (lines ++ Blank ∷ []) ≡ false
+blank-none : (test : Directive → Bool) (lines : List (Line Placed)) → is_there test None lines ≡ false → is_there test None (lines ++ Blank ∷ []) ≡ false
 unfolding item_at
-blank-none test block [] none = refl
-blank-none test block (line ∷ lines) none =
-    let parts = or_parts (passes test (directive_at block line)) (is_there_from test (block_after_line block line) lines) none in
-    rw (parts.0, blank-none test (block_after_line block line) lines parts.1) refl
+blank-none test lines none = there-append test None lines (Blank ∷ []) ∙ ap (λ (b : Bool). b || false) none
 
 -- what is put in at the end and dropped
 at-end : (test : Directive → Bool) (v : List ℕ) (arguments : List Placed) (new : Directive) (lines : List (Line Placed)) → IsAddition v arguments new → test new ≡ true
-    → is_there test lines ≡ false → IsSound lines → dropped test (lines ++ Blank ∷ single v arguments ∷ []) ≡ lines ++ Blank ∷ []
+    → is_there test None lines ≡ false → IsSound lines → dropped test (lines ++ Blank ∷ single v arguments ∷ []) ≡ lines ++ Blank ∷ []
 at-end test v arguments new lines so own none sound =
     let front : List (Line Placed) = lines ++ Blank ∷ [] in
     let entry : Line Placed = single v arguments in
     let fits : Fits None new entry = entry-fits v arguments new None tt so in
-    let outside : block_after_lines None front ≡ None = level-after None lines Blank ∙ sound.closed in
+    let outside : block_after_lines None front ≡ None = block-append None lines (Blank ∷ []) ∙ sound.closed in
     let passed : passes test (directive_at (block_after_lines None front) entry) ≡ true = ap (λ (b : Option Placed). passes test (directive_at b entry)) outside ∙ ap (passes test) fits.holds ∙ own in
-    let absent : is_there test (front ++ []) ≡ false = ap (is_there test) (append-nil front) ∙ blank-none test None lines none in
+    let absent : is_there test None (front ++ []) ≡ false = ap (is_there test None) (append-nil front) ∙ blank-none test lines none in
     ap (dropped test) (sym (append_assoc lines (Blank ∷ []) (entry ∷ []))) ∙ ap (remaining) (one-gone test None front [] entry absent passed)
     ∙ last-gone front
 
-added-undone : (test : Directive → Bool) (v : List ℕ) (arguments : List Placed) (new : Directive) (lines : List (Line Placed)) → IsAddition v arguments new → test new ≡ true → is_there test lines ≡ false → IsSound lines
-    → dropped test (added v arguments lines) ≡ (if is_there (has_verb v) lines then lines else lines ++ Blank ∷ [])
-added-undone test v arguments new lines so own none sound = elim (cases_Bool (is_there (has_verb v) lines)) [
+added-undone : (test : Directive → Bool) (v : List ℕ) (arguments : List Placed) (new : Directive) (lines : List (Line Placed)) → IsAddition v arguments new → test new ≡ true → is_there test None lines ≡ false → IsSound lines
+    → dropped test (added v arguments lines) ≡ (if is_there (has_verb v) None lines then lines else lines ++ Blank ∷ [])
+added-undone test v arguments new lines so own none sound = elim (cases_Bool (is_there (has_verb v) None lines)) [
   | inl there ↦
       let is = last-one (has_verb v) None lines there in
-      let still : is_there test (is.front ++ is.line ∷ is.back) ≡ false = ap (is_there test) (sym is.parts) ∙ none in
+      let still : is_there test None (is.front ++ is.line ∷ is.back) ≡ false = ap (is_there test None) (sym is.parts) ∙ none in
       rw there
       (ap (λ (ls : List (Line Placed)). dropped test (added v arguments ls)) is.parts
       ∙ ap (dropped test) (added-after-last v arguments is.front is.back is.line is.hit is.later)
@@ -177,26 +143,28 @@ replaced-left : (left : Left) (d : Directive) → is_replaced_by left d ≡ fals
 replaced-left left (Replaces r) e = covered-left left r.0 left.version refl e
 replaced-left left d e = refl
 
+drop-of : (edit : Edit) → IfSome (undone_by edit) (IsUndoing edit)
+drop-of (Set (ModuleIs path)) = tt
+drop-of (Set (GoIs text)) = tt
+drop-of (Set (RequireAt p)) = record { drops = refl; entry = _; adds = refl; own = λ new put. ap (requires_path p.0) (sym (same_Some _ _ put)) ∙ text-itself p.0; fewer = λ d f. f }
+drop-of (Set (ReplaceWith r)) = record { drops = refl; entry = _; adds = refl; own = λ new put. ap (replaces_left r.0) (sym (same_Some _ _ put)) ∙ left-itself r.0; fewer = replaced-left r.0 }
+drop-of (Add (Exclude p)) = record { drops = refl; entry = _; adds = refl; own = λ new put. ap (excludes_pair p) (sym (same_Some _ _ put)) ∙ pair-itself p; fewer = λ d f. f }
+drop-of (Add (Retract ends)) = record { drops = refl; entry = _; adds = refl; own = λ new put. ap (retracts_ends ends) (sym (same_Some _ _ put)) ∙ pair-itself ends; fewer = λ d f. f }
+drop-of (Drop t) = tt
+
 undoing : (edit undo : Edit) → undone_by edit ≡ Some undo → IsUndoing edit undo
-undoing (Set (ModuleIs path)) undo e = absurd cc
-undoing (Set (GoIs text)) undo e = absurd cc
-undoing (Set (RequireAt p)) undo e =
-    subst (IsUndoing (Set (RequireAt p))) (same_Some _ _ e) (record { drops = refl; entry = _; adds = refl; own = λ new put. ap (requires_path p.0) (sym (same_Some _ _ put)) ∙ text-itself p.0; fewer = λ d f. f })
-undoing (Set (ReplaceWith r)) undo e =
-    subst (IsUndoing (Set (ReplaceWith r))) (same_Some _ _ e)
-    (record { drops = refl; entry = _; adds = refl; own = λ new put. ap (replaces_left r.0) (sym (same_Some _ _ put)) ∙ left-itself r.0; fewer = replaced-left r.0 })
-undoing (Add (Exclude p)) undo e =
-    subst (IsUndoing (Add (Exclude p))) (same_Some _ _ e) (record { drops = refl; entry = _; adds = refl; own = λ new put. ap (excludes_pair p) (sym (same_Some _ _ put)) ∙ pair-itself p; fewer = λ d f. f })
-undoing (Add (Retract ends)) undo e =
-    subst (IsUndoing (Add (Retract ends))) (same_Some _ _ e) (record { drops = refl; entry = _; adds = refl; own = λ new put. ap (retracts_ends ends) (sym (same_Some _ _ put)) ∙ pair-itself ends; fewer = λ d f. f })
-undoing (Drop t) undo e = absurd cc
+undoing edit undo e = subst (λ (o : Option Edit). IfSome o (IsUndoing edit)) e (drop-of edit)
+
+new-put : (edit : Edit) (entry : List ℕ × List Placed) → new_entry edit ≡ Some entry → entry_put edit ≡ Some entry
+new-put (Set (GoIs text)) entry e = absurd cc
+new-put edit entry e = e
 
 pub drop-undoes : DropUndoes
 drop-undoes edit undo verb arguments lines is adds undoes none =
     let sound = sound-of edit lines is in
-    let by = says edit (verb, arguments) adds sound.0 in
+    let by = says edit (verb, arguments) (new-put edit (verb, arguments) adds) sound.0 in
     let u = undoing edit undo undoes in
-    let absent : is_there (about undo) lines ≡ false = there-said (about undo) lines ∙ fewer-any (about edit) (about undo) u.fewer (directives_of lines) none in
+    let absent : is_there (about undo) None lines ≡ false = there-said (about undo) lines ∙ fewer-any (about edit) (about undo) u.fewer (directives_of lines) none in
     edited-drop undo (edited edit lines) u.drops ∙ ap (dropped (about undo)) (edited-added edit (verb, arguments) lines adds none)
     ∙ added-undone (about undo) verb arguments by.new lines by.is (u.own by.new by.put) absent sound.1 ∙ ap (λ (b : Bool). if b then lines else lines ++ Blank ∷ []) (there-said (has_verb verb) lines)
 

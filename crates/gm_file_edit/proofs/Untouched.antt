@@ -8,17 +8,16 @@ use Rattle.gm_file_edit.specs.Edited.{changed, edited, put_in}
 use Rattle.gm_file_edit.specs.Edits.{Edit, Set, Add, Drop}
 use Rattle.gm_file_edit.specs.Kinds.{is_drop}
 use Rattle.gm_file_edit.specs.Fates.{Fate, dropped, dropping_from, empties, is_emptied, kept, remaining, widened_from}
-use Rattle.gm_file_edit.specs.Holding.{directive_at, passes}
-use Rattle.gm_file_edit.specs.Searching.{is_there, is_there_from}
+use Rattle.gm_file_edit.specs.Holding.{directive_at, passes, is_there}
 use Rattle.std.proofs.lemmas.Bool.{and_right, cases_Bool, or_parts}
 
 abbrev pub all_stay : List (Line Placed) → List Fate
 all_stay lines = map (λ line. Some line) lines
 
-pub none-dropped-from : (test : Directive → Bool) (block : Option Placed) (lines : List (Line Placed)) → is_there_from test block lines ≡ false → dropping_from test block lines ≡ all_stay lines
+pub none-dropped-from : (test : Directive → Bool) (block : Option Placed) (lines : List (Line Placed)) → is_there test block lines ≡ false → dropping_from test block lines ≡ all_stay lines
 none-dropped-from test block [] e = refl
 none-dropped-from test block (line ∷ lines) e =
-    let parts = or_parts (passes test (directive_at block line)) (is_there_from test (block_after_line block line) lines) e in
+    let parts = or_parts (passes test (directive_at block line)) (is_there test (block_after_line block line) lines) e in
     rw parts.0 (ap (λ (fs : List Fate). Some line ∷ fs) (none-dropped-from test (block_after_line block line) lines parts.1))
 
 -- lines that stay empty no block, before fates that empty none
@@ -52,15 +51,15 @@ pub all-lines-stay : (lines : List (Line Placed)) → remaining (all_stay lines)
 unfolding remaining
 all-lines-stay lines = all-lines-left false lines
 
-pub none-dropped : (test : Directive → Bool) (lines : List (Line Placed)) → is_there test lines ≡ false → dropped test lines ≡ lines
+pub none-dropped : (test : Directive → Bool) (lines : List (Line Placed)) → is_there test None lines ≡ false → dropped test lines ≡ lines
 none-dropped test lines e = ap remaining (none-dropped-from test None lines e) ∙ all-lines-stay lines
 
 -- ---- the lines after an operation
 
 -- what holds whether an operation targets a directive or none
-pub by-edited : (P : List (Line Placed) → Type 0) (edit : Edit) (lines : List (Line Placed)) → (is_there (about edit) lines ≡ true → P (changed edit lines)) → (is_there (about edit) lines ≡ false → P (put_in edit lines)) → P (edited edit lines)
+pub by-edited : (P : List (Line Placed) → Type 0) (edit : Edit) (lines : List (Line Placed)) → (is_there (about edit) None lines ≡ true → P (changed edit lines)) → (is_there (about edit) None lines ≡ false → P (put_in edit lines)) → P (edited edit lines)
 unfolding edited
-by-edited P edit lines there none = elim (cases_Bool (is_there (about edit) lines)) [
+by-edited P edit lines there none = elim (cases_Bool (is_there (about edit) None lines)) [
   | inl is ↦ rw is (there is)
   | inr not_there ↦ rw not_there (none not_there)
 ]

@@ -1,17 +1,27 @@
 -- Lists from an index on, and lines walked over by their keys.
-use Rattle.std.proofs.Common.{◌≡◌, ℕ, suc, ◌+◌, ◌<◌, false, List, [], ◌∷◌, length, get_or, drop, take, drop-cons, Option, None, refl, sym, ap, ◌∙◌, arith}
-use Rattle.std.proofs.lemmas.List.{take_more}
+use Rattle.std.proofs.Common.{◌≡◌, ℕ, zero, suc, ◌+◌, ◌<◌, false, List, [], ◌∷◌, length, get_or, drop, take, drop-cons, Option, None, refl, sym, ap, ◌∙◌, arith}
+use Rattle.std.proofs.lemmas.List.{get_or_default, take_more}
 use Rattle.gm_syntax.specs.Tokens.{Placed}
 use Rattle.gm_syntax.specs.Document.{Line, Blank, Comment, Open, Close, Entry}
 use Rattle.gm_file.specs.Directives.{block_after_line, block_after_lines}
 use Rattle.gm_file_edit.specs.Keys.{changes_block, key_of}
 use Rattle.gm_file_edit.specs.Marks.{line_at}
-use Rattle.gm_file_edit.proofs.Pairs.{block-append}
+use Rattle.gm_file_edit.proofs.Pairs.{AreRightFrom, IsRightLine, block-append}
 
 pub drop-next : {X : Type 0} (xs : List X) (n : ℕ) (x : X) → n < length xs → x ≡ get_or xs n x → drop n xs ≡ x ∷ drop (n + 1) xs
 drop-next {X} xs n x lt is =
     let e : suc n ≡ n + 1 = omega arith in
     drop-cons xs n x lt ∙ ap (λ (y : X). y ∷ drop (suc n) xs) (sym is) ∙ ap (λ (k : ℕ). x ∷ drop k xs) e
+
+-- the line at an index, before the others
+pub line-here : (whole : List (Line Placed)) (n : ℕ) → n < length whole → drop n whole ≡ line_at whole n ∷ drop (n + 1) whole
+line-here whole n lt = drop-next whole n (line_at whole n) lt (get_or_default whole n Blank (line_at whole n) lt)
+
+-- a line of a file is right in its block
+pub right-at : (block : Option Placed) (lines : List (Line Placed)) (n : ℕ) → n < length lines → AreRightFrom block lines → IsRightLine (block_after_lines block (take n lines), line_at lines n)
+right-at block [] n lt right = absurd (omega (arith, lt))
+right-at block (line ∷ lines) zero lt right = right.0
+right-at block (line ∷ lines) (suc n) lt right = right-at (block_after_line block line) lines n (omega (arith, lt)) right.1
 
 -- ---- the open block
 

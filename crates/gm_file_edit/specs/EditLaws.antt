@@ -7,11 +7,10 @@ use Rattle.gm_file.specs.Directives.{Directive, block_after_lines}
 use Rattle.gm_file_edit.specs.About.{about}
 use Rattle.gm_file_edit.specs.Edited.{edited, has_verb, new_entry}
 use Rattle.gm_file_edit.specs.Edits.{Edit}
-use Rattle.gm_file_edit.specs.Holding.{directive_at, passes}
+use Rattle.gm_file_edit.specs.Holding.{directive_at, passes, is_there}
 use Rattle.gm_file_edit.specs.Laws.{directives_of, IsEditOf}
-use Rattle.gm_file_edit.specs.Kinds.{added_by, is_drop}
+use Rattle.gm_file_edit.specs.Kinds.{added_by, is_drop, set_by}
 use Rattle.gm_file_edit.specs.NewWords.{entry_at, single}
-use Rattle.gm_file_edit.specs.Searching.{is_there_from}
 
 -- ---- operations with nothing to do
 
@@ -35,6 +34,16 @@ abbrev pub SecondAdditionChangesNothing : Type 0
 SecondAdditionChangesNothing = (edit : Edit) (lines : List (Line Placed)) (d : Directive) → IsEditOf edit lines
     → added_by edit ≡ Some d → edited edit (edited edit lines) ≡ edited edit lines
 
+-- a setting that follows the same setting changes nothing
+abbrev pub SecondSettingChangesNothing : Type 0
+SecondSettingChangesNothing = (edit : Edit) (lines : List (Line Placed)) (d : Directive) → IsEditOf edit lines
+    → set_by edit ≡ Some d → edited edit (edited edit lines) ≡ edited edit lines
+
+-- so does every operation: given twice, it leaves what it leaves if it is given once
+abbrev pub SecondOperationChangesNothing : Type 0
+SecondOperationChangesNothing = (edit : Edit) (lines : List (Line Placed)) → IsEditOf edit lines
+    → edited edit (edited edit lines) ≡ edited edit lines
+
 -- ---- comments
 
 -- whether a line is a comment and nothing else
@@ -57,7 +66,7 @@ CommentLinesStay = (edit : Edit) (lines : List (Line Placed))
 pub record IsLastOfVerb (verb : List ℕ) (front : List (Line Placed)) (line : Line Placed)
     (back : List (Line Placed)) : Type 0 where
   pub is_of_verb : passes (has_verb verb) (directive_at (block_after_lines None front) line) ≡ true
-  pub none_later : is_there_from (has_verb verb) (block_after_lines None (front ++ line ∷ [])) back ≡ false
+  pub none_later : is_there (has_verb verb) (block_after_lines None (front ++ line ∷ [])) back ≡ false
 
 -- If an operation targets no directive and the file has a directive of its verb, the new entry goes directly after
 -- the last one, in the same block if that one is in a block. All lines stay.

@@ -7,10 +7,9 @@ use Rattle.gm_file.specs.Faults.{is_module}
 use Rattle.gm_file_edit.specs.About.{about}
 use Rattle.gm_file_edit.specs.Edits.{Edit, Set, Add, Drop, GoIs, RequireAt, ReplaceWith, Exclude, Retract}
 use Rattle.gm_file_edit.specs.Fates.{dropped, renewed}
-use Rattle.gm_file_edit.specs.Holding.{directive_at, passes}
+use Rattle.gm_file_edit.specs.Holding.{directive_at, is_there, passes}
 use Rattle.gm_file_edit.specs.NewWords.{entry_at, interval_words, made_word, pair_words, replace_words, single}
 use Rattle.gm_file_edit.specs.Renewing.{made_new}
-use Rattle.gm_file_edit.specs.Searching.{is_there, is_there_from}
 
 -- ---- where a new entry goes
 
@@ -24,7 +23,7 @@ abbrev pub after_last_of : (Directive → Bool) → List ℕ → List Placed →
     → List (Line Placed)
 after_last_of test verb arguments block [] = []
 after_last_of test verb arguments block (line ∷ lines) =
-    if passes test (directive_at block line) && not (is_there_from test (block_after_line block line) lines)
+    if passes test (directive_at block line) && not (is_there test (block_after_line block line) lines)
     then line ∷ entry_at (is_some block) verb arguments ∷ lines
     else line ∷ after_last_of test verb arguments (block_after_line block line) lines
 
@@ -32,7 +31,7 @@ after_last_of test verb arguments block (line ∷ lines) =
 -- the end, after a blank line.
 unfoldable pub added : List ℕ → List Placed → List (Line Placed) → List (Line Placed)
 added verb arguments lines =
-    if is_there (has_verb verb) lines then after_last_of (has_verb verb) verb arguments None lines
+    if is_there (has_verb verb) None lines then after_last_of (has_verb verb) verb arguments None lines
     else lines ++ Blank ∷ single verb arguments ∷ []
 
 -- the rest of the lines of a block with new ones after its closing
@@ -50,10 +49,6 @@ after_first_of test new block (line ∷ lines) =
     line ∷ (if passes test (directive_at block line)
     then (if is_some block then after_closing new lines else new ++ lines)
     else after_first_of test new (block_after_line block line) lines)
-
--- the same for lines of a file
-unfoldable pub after_first_that : (Directive → Bool) → List (Line Placed) → List (Line Placed) → List (Line Placed)
-after_first_that test new lines = after_first_of test new None lines
 
 -- a blank line and a go directive outside blocks
 abbrev pub new_go : List ℕ → List (Line Placed)
@@ -84,9 +79,9 @@ with_entry (Some entry) lines = added entry.0 entry.1 lines
 -- The lines after an operation that targets none: its entry is put in, after the last one of its verb, but a go
 -- directive after the module directive or its block. No module directive is put in.
 unfoldable pub put_in : Edit → List (Line Placed) → List (Line Placed)
-put_in (Set (GoIs text)) lines = after_first_that is_module (new_go text) lines
+put_in (Set (GoIs text)) lines = after_first_of is_module (new_go text) None lines
 put_in edit lines = with_entry (new_entry edit) lines
 
 -- the lines after the operation
 unfoldable pub edited : Edit → List (Line Placed) → List (Line Placed)
-edited edit lines = if is_there (about edit) lines then changed edit lines else put_in edit lines
+edited edit lines = if is_there (about edit) None lines then changed edit lines else put_in edit lines

@@ -58,25 +58,15 @@ version_in text = if is_version text then Some text else None
 abbrev pub go_text_in : List ℕ → Option (List ℕ)
 go_text_in text = if is_some (strict_go text) then Some text else None
 
--- both parts of a split text, as a path and a version
-abbrev pub path_and_version_in : List ℕ × List ℕ → Option ModuleVersion
-path_and_version_in parts = both pair (path_in parts.0) (version_in parts.1)
-
 -- a path, `@` and a version
 unfoldable pub pair_in : List ℕ → Option ModuleVersion
-pair_in text = option_and_then path_and_version_in (split_at_byte 64 text)
-
-abbrev pub left_of_pair : ModuleVersion → Left
-left_of_pair p = left_with p.0 p.1
+pair_in text = option_and_then (λ parts. both pair (path_in parts.0) (version_in parts.1)) (split_at_byte 64 text)
 
 -- a path, optionally with `@` and a version
 unfoldable pub left_in : List ℕ → Option Left
 left_in text =
-    if has_byte 64 text then option_map left_of_pair (pair_in text)
+    if has_byte 64 text then option_map (λ p. left_with p.0 p.1) (pair_in text)
     else option_map left_without (path_in text)
-
-abbrev pub module_of_pair : ModuleVersion → Right
-module_of_pair p = Module p.0 p.1
 
 -- a folder, taken verbatim, without a line feed
 abbrev pub folder_in : List ℕ → Option Right
@@ -84,15 +74,13 @@ folder_in text = if has_byte 10 text then None else Some (Folder text)
 
 -- a folder, or a path, `@` and a version
 unfoldable pub right_in : List ℕ → Option Right
-right_in text = if is_folder_path text then folder_in text else option_map module_of_pair (pair_in text)
-
--- both parts of a split text, as a left side and a right side
-abbrev pub sides_in : List ℕ × List ℕ → Option Replacing
-sides_in parts = both replacing (left_in parts.0) (right_in parts.1)
+right_in text =
+    if is_folder_path text then folder_in text else option_map (λ p. Module p.0 p.1) (pair_in text)
 
 -- a left side, `=` and a right side; the left side ends at the first `=`
 unfoldable pub replacing_in : List ℕ → Option Replacing
-replacing_in text = option_and_then sides_in (split_at_byte 61 text)
+replacing_in text =
+    option_and_then (λ parts. both replacing (left_in parts.0) (right_in parts.1)) (split_at_byte 61 text)
 
 abbrev pub is_space_or_tab : ℕ → Bool
 is_space_or_tab b = (b == 32) || (b == 9)
@@ -109,10 +97,6 @@ without_trailing text = take (length text - suffix_len is_space_or_tab text) tex
 unfoldable pub trimmed : List ℕ → List ℕ
 trimmed text = without_trailing (without_leading text)
 
--- both parts of a split text, trimmed, as versions
-abbrev pub both_versions_in : List ℕ × List ℕ → Option VersionInterval
-both_versions_in parts = both pair (version_in (trimmed parts.0)) (version_in (trimmed parts.1))
-
 -- whether the text starts with `[` and ends with another byte, `]`
 abbrev pub is_bracketed : List ℕ → Bool
 is_bracketed text = nat_lt 1 (length text) && (slice_index text 0 == 91) && (slice_index text (length text - 1) == 93)
@@ -127,7 +111,9 @@ one_version_in text = option_map (λ v. pair v v) (version_in text)
 
 -- two versions separated by a comma; spaces and tabs are allowed around each
 abbrev pub two_versions_in : List ℕ → Option VersionInterval
-two_versions_in text = option_and_then both_versions_in (split_at_byte 44 text)
+two_versions_in text =
+    option_and_then (λ parts. both pair (version_in (trimmed parts.0)) (version_in (trimmed parts.1)))
+    (split_at_byte 44 text)
 
 -- a version, which is both ends, or two in brackets
 unfoldable pub interval_in : List ℕ → Option VersionInterval
@@ -148,10 +134,6 @@ named name text =
     else (if bytes_eq name (codes "dropretract") then option_map (λ ends. Drop (AnyRetract ends)) (interval_in text)
     else None)))))))))
 
--- both parts of a split text, as a name and its argument
-abbrev pub named_in : List ℕ × List ℕ → Option Edit
-named_in parts = named parts.0 parts.1
-
 -- the operation that a text spells
 unfoldable pub edit_in : List ℕ → Option Edit
-edit_in text = option_and_then named_in (split_at_byte 61 text)
+edit_in text = option_and_then (λ parts. named parts.0 parts.1) (split_at_byte 61 text)

@@ -65,12 +65,9 @@ widened_from inside goes (Some line ∷ fates) = Some line ∷ widened_from insi
 
 -- ---- the lines that are kept
 
-abbrev pub itself : Fate → Fate
-itself fate = fate
-
 -- the lines without a mark
 abbrev pub kept : List Fate → List (Line Placed)
-kept fates = filter_map itself fates
+kept fates = filter_map (λ fate. fate) fates
 
 -- the lines without a mark, and without the blocks that are emptied
 unfoldable pub remaining : List Fate → List (Line Placed)

@@ -8,9 +8,8 @@ use Rattle.gm_file.specs.Directives.{block_after_lines}
 use Rattle.gm_file.specs.Faults.{is_go, is_module}
 use Rattle.gm_file_edit.specs.Edited.{edited, new_go}
 use Rattle.gm_file_edit.specs.Edits.{Set, GoIs}
-use Rattle.gm_file_edit.specs.Holding.{directive_at, passes}
+use Rattle.gm_file_edit.specs.Holding.{directive_at, passes, is_there}
 use Rattle.gm_file_edit.specs.Laws.{directives_of}
-use Rattle.gm_file_edit.specs.Searching.{is_there}
 
 -- whether a line neither opens nor closes a block
 abbrev pub is_loose : Line Placed → Bool
@@ -18,7 +17,7 @@ is_loose line = is_level (plain line)
 
 -- the line holds a module directive, and no line before it does
 pub record IsFirstModule (front : List (Line Placed)) (line : Line Placed) : Type 0 where
-  pub none_earlier : is_there is_module front ≡ false
+  pub none_earlier : is_there is_module None front ≡ false
   pub is_module_line : passes is_module (directive_at (block_after_lines None front) line) ≡ true
 
 -- a new go directive goes after the first module directive, if that one is in no block

@@ -1,5 +1,6 @@
--- Keys of lines: what tells most lines apart without a look at their words. No public contract cites it.
-use Rattle.std.specs.Prelude.{◌%◌, ◌^◌, ◌&&◌, ◌==◌, if◌then◌else◌, ℕ, Bool, true, false, List, [], ◌∷◌, Option, Some, None}
+-- What arguments are about, and keys of lines: what tells most lines apart without a look at their words. No public
+-- contract cites it.
+use Rattle.std.specs.Prelude.{◌%◌, ◌^◌, ◌&&◌, ◌==◌, if◌then◌else◌, ℕ, Bool, true, false, List, [], ◌∷◌, Option, Some, None, ◌-◌, nat_lt, length, take, drop, slice_get, slice_index, is_some}
 use Rattle.gm_name.specs.Fingerprint.{fingerprint}
 use Rattle.gm_syntax.specs.Tokens.{Placed, words_of}
 use Rattle.gm_syntax.specs.Document.{Line, Blank, Comment, Open, Close, Entry}
@@ -15,7 +16,103 @@ use Rattle.gm_file_edit.specs.declared.keys.Scope.TheVariants as scope
 use Rattle.gm_file.specs.declared.verb.Verb.{Verb}
 use Rattle.gm_file.specs.declared.verb.Verb.TheVariants as verb
 use Rattle.gm_file_edit.specs.Edits.{Edit, Set, ModuleIs, GoIs, RequireAt, Drop, AnyRequire, Add, Exclude, AnyExclude, ReplaceWith, AnyReplace, Retract, AnyRetract}
-use Rattle.gm_file_edit.specs.Subjects.{Sought, Any, First, Both, Subject, is_told, subject_inside, subject_outside}
+use Rattle.std.specs.Option.{option_map, option_or}
+use Rattle.gm_syntax.specs.Bytes.{is_quote}
+use Rattle.gm_syntax.specs.declared.word.Kind.{Kind}
+use Rattle.gm_syntax.specs.declared.word.Kind.TheVariants as kind
+use Rattle.gm_syntax.specs.Words.{Word}
+use Rattle.gm_file.specs.Faults.{is_same_version}
+use Rattle.gm_file_edit.specs.declared.subject.Subject as declared
+use Rattle.gm_file_edit.specs.declared.subject.Sought as declared_sought
+use Rattle.gm_file_edit.specs.declared.subject.Sought.TheVariants as looked
+
+-- ---- the texts of arguments
+
+-- whether a text begins and ends with a quote or a grave accent
+abbrev pub is_quoted : List ℕ → Bool
+is_quoted text = nat_lt 1 (length text) && is_quote (slice_index text 0)
+    && is_quote (slice_index text (length text - 1))
+
+-- the text without its quotes, if it has some
+abbrev pub between_quotes : List ℕ → List ℕ
+between_quotes text = if is_quoted text then take (length text - 2) (drop 1 text) else text
+
+abbrev pub text_by_kind : Kind → List ℕ → Option (List ℕ)
+text_by_kind kind.Bare text = Some text
+text_by_kind kind.Text text = Some (between_quotes text)
+text_by_kind kind.Mark text = None
+
+-- the text of a word that is an argument; that of a string is its value, unless it has escapes
+abbrev pub argument_text : Word → Option (List ℕ)
+argument_text word = text_by_kind word.kind word.spelling
+
+abbrev pub text_at : Option Placed → Option (List ℕ)
+text_at None = None
+text_at (Some word) = argument_text word.word
+
+-- ---- what arguments are about
+
+-- a path and its version, or both ends of an interval
+pub record Subject : Type 0 where
+  pub first : Option (List ℕ)
+  pub second : Option (List ℕ)
+
+-- The first two arguments; a single one counts as both, since it is both ends of its interval. If the first is a mark,
+-- which has no text, the ends in brackets.
+abbrev pub subject_of : Option Placed → Option Placed → Option Placed → Subject
+subject_of first second fourth =
+    if is_some (text_at first) then record { first = text_at first; second = text_at (option_or second first) }
+    else record { first = text_at second; second = text_at fourth }
+
+-- the same if all words are arguments, as in a block
+abbrev pub subject_inside : List Placed → Subject
+subject_inside words = subject_of (slice_get words 0) (slice_get words 1) (slice_get words 3)
+
+-- the same if the first word is the verb
+abbrev pub subject_outside : List Placed → Subject
+subject_outside words = subject_of (slice_get words 1) (slice_get words 2) (slice_get words 4)
+
+-- ---- what an operation looks for
+
+-- any arguments, those with this first text, or those with both texts
+pub data Sought : Type 0 where
+  Any : Sought
+  First : List ℕ → Sought
+  Both : List ℕ → Option (List ℕ) → Sought
+
+-- a left side without a version supersedes each with its path
+abbrev pub sought_of_left : List ℕ → Option (List ℕ) → Sought
+sought_of_left path None = First path
+sought_of_left path (Some version) = Both path (Some version)
+
+-- what the entries are about that an operation targets
+abbrev pub sought_of : Edit → Sought
+sought_of (Set (ModuleIs path)) = Any
+sought_of (Set (GoIs text)) = Any
+sought_of (Set (RequireAt p)) = First p.0
+sought_of (Drop (AnyRequire path)) = First path
+sought_of (Add (Exclude p)) = Both p.0 (Some p.1)
+sought_of (Drop (AnyExclude p)) = Both p.0 (Some p.1)
+sought_of (Set (ReplaceWith r)) = sought_of_left r.0.path r.0.version
+sought_of (Drop (AnyReplace left)) = Both left.path left.version
+sought_of (Add (Retract ends)) = Both ends.0 (Some ends.1)
+sought_of (Drop (AnyRetract ends)) = Both ends.0 (Some ends.1)
+
+-- whether arguments are about what an operation looks for
+abbrev pub is_told : Sought → Subject → Bool
+is_told Any s = true
+is_told (First path) s = is_same_version s.first (Some path)
+is_told (Both path version) s = is_same_version s.first (Some path) && is_same_version s.second version
+
+-- ---- the program's values as contracts see them
+
+abbrev pub subject_view : declared.Subject → Subject
+subject_view s = record { first = option_map (λ t. t.now) s.first; second = option_map (λ t. t.now) s.second }
+
+abbrev pub sought_view : declared_sought.Sought → Sought
+sought_view looked.Any = Any
+sought_view (looked.First path) = First path.now
+sought_view (looked.Both path version) = Both path.now (option_map (λ t. t.now) version)
 
 -- ---- verbs
 

@@ -1,6 +1,7 @@
 -- Laws about what a file says before and after an operation (go help mod edit). They concern the definitions alone.
-use Rattle.std.specs.Prelude.{◌≡◌, if◌then◌else◌, ℕ, true, false, not, List, [], ◌∷◌, Some, None, filter}
+use Rattle.std.specs.Prelude.{◌≡◌, ◌&&◌, if◌then◌else◌, ℕ, true, false, not, List, [], ◌∷◌, Some, None, filter}
 use Rattle.std.specs.List.{list_any}
+use Rattle.std.specs.List.Sorted.{IsPermutation}
 use Rattle.gm_syntax.specs.Tokens.{Placed}
 use Rattle.gm_syntax.specs.Document.{Line, IsDocument}
 use Rattle.gm_syntax.specs.LineViews.{plain_lines}
@@ -42,3 +43,15 @@ abbrev pub OthersStay : Type 0
 OthersStay = (edit : Edit) (lines : List (Line Placed)) → IsEditOf edit lines
     → filter (λ d. not (about edit d)) (directives_of (edited edit lines))
     ≡ filter (λ d. not (about edit d)) (directives_of lines)
+
+-- ---- two operations in either order
+
+-- no directive is one that both operations target
+abbrev pub AreApart : Edit → Edit → Type 0
+AreApart one other = (d : Directive) → (about one d && about other d) ≡ false
+
+-- Two such operations leave the same directives, each as often, in either order. Their order in the file may differ.
+abbrev pub EitherOrderLeavesTheSame : Type 0
+EitherOrderLeavesTheSame = (one other : Edit) (lines : List (Line Placed)) → IsEditOf one lines → IsEditOf other lines
+    → AreApart one other
+    → IsPermutation (directives_of (edited other (edited one lines))) (directives_of (edited one (edited other lines)))

@@ -1,6 +1,5 @@
 pub mod Edits
 pub mod Kinds
-pub mod Views
 pub mod Holding
 pub mod Fates
 pub mod About
@@ -8,13 +7,9 @@ pub mod Marks
 pub mod NewWords
 pub mod Renewing
 pub mod Sound
-pub mod Subjects
-pub mod Searching
 pub mod Edited
 pub mod Laws
 pub mod EditLaws
 pub mod GoPlace
-pub mod Twice
 pub mod Undone
-pub mod EitherOrder
 pub mod Keys

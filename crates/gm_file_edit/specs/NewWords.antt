@@ -9,7 +9,7 @@ use Rattle.gm_syntax.specs.Words.{Word, mark_text}
 use Rattle.gm_syntax.specs.Bare.{new_word}
 use Rattle.gm_syntax.specs.Tokens.{Placed}
 use Rattle.gm_syntax.specs.Document.{Line, Entry}
-use Rattle.gm_file.specs.Directives.{VersionInterval, Left, Right, Folder, Module, Replacing}
+use Rattle.gm_file.specs.Directives.{VersionInterval, Right, Folder, Module, Replacing}
 
 -- a word with no source position
 abbrev pub unplaced : Word → Placed
@@ -27,13 +27,10 @@ made_mark punct = unplaced (record { kind = Mark; spelling = mark_text punct })
 abbrev pub pair_words : ModuleVersion → List Placed
 pair_words p = made_word p.0 ∷ made_word p.1 ∷ []
 
-abbrev pub left_words_of : List ℕ → Option (List ℕ) → List Placed
-left_words_of path None = made_word path ∷ []
-left_words_of path (Some version) = made_word path ∷ made_word version ∷ []
-
 -- the words of a left side
-abbrev pub left_words : Left → List Placed
-left_words left = left_words_of left.path left.version
+abbrev pub left_words : List ℕ → Option (List ℕ) → List Placed
+left_words path None = made_word path ∷ []
+left_words path (Some version) = made_word path ∷ made_word version ∷ []
 
 -- the words of a right side
 abbrev pub right_words : Right → List Placed
@@ -42,7 +39,7 @@ right_words (Module path version) = made_word path ∷ made_word version ∷ []
 
 -- the two sides of a replace, with the arrow between them
 abbrev pub replace_words : Replacing → List Placed
-replace_words r = left_words r.0 ++ made_mark Arrow ∷ right_words r.1
+replace_words r = left_words r.0.path r.0.version ++ made_mark Arrow ∷ right_words r.1
 
 -- one version if both ends are equal, and both in brackets otherwise
 abbrev pub interval_words : VersionInterval → List Placed

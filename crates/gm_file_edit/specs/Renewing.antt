@@ -1,5 +1,5 @@
 -- Entries that an operation rewrites.
-use Rattle.std.specs.Prelude.{ℕ, ◌-◌, List, [], ◌∷◌, ◌++◌, length, take, Option, Some, None}
+use Rattle.std.specs.Prelude.{ℕ, ◌-◌, List, [], ◌∷◌, ◌++◌, length, take, if◌then◌else◌, Option, is_some}
 use Rattle.gm_syntax.specs.Tokens.{Placed}
 use Rattle.gm_syntax.specs.Document.{Line, Entry}
 use Rattle.gm_file_edit.specs.Edits.{Edit, Set, ModuleIs, GoIs, RequireAt, ReplaceWith}
@@ -10,15 +10,10 @@ abbrev pub with_last : List ℕ → Option Placed → Line Placed → Line Place
 with_last value block (Entry words suffix) = Entry (take (length words - 1) words ++ made_word value ∷ []) suffix
 with_last value block line = line
 
--- the number of words before the arguments: the verb, unless it is at the opening of the block
-abbrev pub before_arguments : Option Placed → ℕ
-before_arguments None = 1
-before_arguments (Some verb) = 0
-
--- an entry with its arguments replaced; its comment stays
+-- an entry with its arguments replaced; its verb, if it is outside blocks, and its comment stay
 abbrev pub with_arguments : List Placed → Option Placed → Line Placed → Line Placed
-with_arguments arguments block (Entry words suffix) = Entry (take (before_arguments block) words ++ arguments) suffix
-with_arguments arguments block line = line
+with_arguments new block (Entry words suffix) = Entry (take (if is_some block then 0 else 1) words ++ new) suffix
+with_arguments new block line = line
 
 -- the first targeted entry as the operation rewrites it
 abbrev pub made_new : Edit → Option Placed → Line Placed → Line Placed

@@ -1,11 +1,68 @@
--- What is known of the arguments of a parsed operation. No public contract cites it.
-use Rattle.std.specs.Prelude.{◌≡◌, ℕ, true, false, List, Option, Some, None, is_some, ⊤}
+-- How contracts see a parsed operation, and what is known of its arguments. No public contract cites it.
+use Rattle.std.specs.Prelude.{◌≡◌, ℕ, List, Option, Some, None, Result, Ok, Err, string_bytes, ⊤, true, false, is_some}
+use Rattle.std.specs.Option.{option_map}
+use Rattle.std.specs.Borrow.{Bor}
+use Rattle.gm_file.specs.Directives.{Left, VersionInterval, Right, Folder, Module}
+use Rattle.gm_file_edit.specs.declared.part.LeftSide.{LeftSide}
+use Rattle.gm_file.specs.Views.{interval_view, replace_view}
+use Rattle.gm_file_edit.specs.declared.fault.OpFault.{OpFault}
+use Rattle.gm_file_edit.specs.declared.fault.OpFault.TheVariants as fault
+use Rattle.gm_file_edit.specs.declared.op.Addition as declared_addition
+use Rattle.gm_file_edit.specs.declared.op.Addition.TheVariants as addition
+use Rattle.gm_file_edit.specs.declared.op.Setting as declared_setting
+use Rattle.gm_file_edit.specs.declared.op.Setting.TheVariants as setting
+use Rattle.gm_file_edit.specs.declared.op.Target as declared_target
+use Rattle.gm_file_edit.specs.declared.op.Target.TheVariants as target
+use Rattle.gm_file_edit.specs.declared.op.Change as declared
+use Rattle.gm_file_edit.specs.declared.op.Change.TheVariants as change
+use Rattle.gm_file_edit.specs.Edits.{Edit, Set, Add, Drop, Setting, ModuleIs, GoIs, RequireAt, ReplaceWith, Addition, Exclude, Retract, Target, AnyRequire, AnyExclude, AnyReplace, AnyRetract, has_byte}
 use Rattle.gm_name.specs.Names.{is_path, is_version}
 use Rattle.gm_name.specs.ModuleVersion.{ModuleVersion}
 use Rattle.gm_file.specs.Values.{is_folder_path}
 use Rattle.gm_file.specs.GoVersions.{strict_go}
-use Rattle.gm_file.specs.Directives.{VersionInterval, Left, Right, Folder, Module}
-use Rattle.gm_file_edit.specs.Edits.{Edit, Set, ModuleIs, GoIs, RequireAt, Drop, Add, Exclude, ReplaceWith, Retract, has_byte}
+
+-- ---- the program's values as contracts see them
+
+-- the left side of a replace
+abbrev pub left_seen : LeftSide → Left
+left_seen side = record { path = side.path; version = side.version }
+
+-- the two parts of a split text
+abbrev pub split_seen : Option (Bor (List ℕ) × Bor (List ℕ)) → Option (List ℕ × List ℕ)
+split_seen cut = option_map (λ parts. (parts.0.now, parts.1.now)) cut
+
+-- the directive that is set
+abbrev pub setting_of : declared_setting.Setting → Setting
+setting_of (setting.Module path) = ModuleIs path
+setting_of (setting.Go text) = GoIs (string_bytes text)
+setting_of (setting.Require p) = RequireAt p
+setting_of (setting.Replace r) = ReplaceWith (replace_view r)
+
+-- the directive that is added
+abbrev pub addition_of : declared_addition.Addition → Addition
+addition_of (addition.Exclude p) = Exclude p
+addition_of (addition.Retract ends) = Retract (interval_view ends)
+
+-- the directives that are dropped
+abbrev pub target_of : declared_target.Target → Target
+target_of (target.Require path) = AnyRequire path
+target_of (target.Exclude p) = AnyExclude p
+target_of (target.Replace side) = AnyReplace (left_seen side)
+target_of (target.Retract ends) = AnyRetract (interval_view ends)
+
+-- the operation that a change is
+abbrev pub edit_of : declared.Change → Edit
+edit_of (change.Set s) = Set (setting_of s)
+edit_of (change.Add a) = Add (addition_of a)
+edit_of (change.Drop t) = Drop (target_of t)
+
+-- the result is this part, or `Spelling` if there is none; nothing is known if memory runs out
+abbrev pub IsParsedPart : {X Y : Type 0} → (Y → X) → Option X → Result Y OpFault → Type 0
+IsParsedPart view part (Ok y) = part ≡ Some (view y)
+IsParsedPart view part (Err fault.NoMemory) = ⊤
+IsParsedPart view part (Err fault.Spelling) = part ≡ None
+
+-- ---- valid arguments
 
 -- a path and a version
 abbrev pub IsPairOfNames : ModuleVersion → Type 0

@@ -9,12 +9,12 @@ ghost use Rattle.gm_syntax.specs.LineViews.{line_of, plain_lines};
 ghost use Rattle.gm_file.specs.Directives.{Strict, is_of_verb, main_verb, verb_eq};
 ghost use Rattle.gm_file.specs.declared.verb.Verb.TheVariants.{Unknown};
 ghost use Rattle.gm_file.specs.Faults.{fault_of, is_module};
-ghost use Rattle.gm_file_edit.specs.Edited.{added, after_closing, after_first_that};
+ghost use Rattle.gm_file_edit.specs.Edited.{added, after_closing, after_first_of};
 ghost use Rattle.gm_syntax.specs.Lines.{HasNoLineFeed};
 ghost use Rattle.gm_file_edit.specs.NewWords.{entry_at, made_word, single};
 ghost use Rattle.gm_file_edit.specs.Keys.{is_inside};
 ghost use Rattle.gm_file_edit.specs.Marks.{IsPlaceOf};
-ghost use Rattle.gm_file_edit.specs.Searching.{is_there};
+ghost use Rattle.gm_file_edit.specs.Holding.{is_there};
 
 use crate::keyed_lines::KeyedLines;
 use crate::keys::{Scope, changes_block, is_entry_in, scope_after};
@@ -48,7 +48,7 @@ fn last_spot(own: Verb, lines: &KeyedLines) -> Option<Spot>
     requires document { IsDocument (plain_lines lines.now) }
     requires sound { fault_of Strict (plain_lines lines.now) ≡ None }
     ensures place { IfSome result (λ spot. IsPlaceOf own lines.now spot) }
-    ensures none { IfNone result (is_there (is_of_verb own) lines.now ≡ false) }
+    ensures none { IfNone result (is_there (is_of_verb own) None lines.now ≡ false) }
 {
     let mut spot = None;
     let mut scope = Scope::Outside;
@@ -92,7 +92,7 @@ fn added_spot(own: Verb, lines: &KeyedLines) -> Option<Spot>
     requires document { IsDocument (plain_lines lines.now) }
     requires sound { fault_of Strict (plain_lines lines.now) ≡ None }
     ensures place { IfSome result (λ spot. IsPlaceOf own lines.now spot) }
-    ensures none { IfNone result (is_there (is_of_verb own) lines.now ≡ false) }
+    ensures none { IfNone result (is_there (is_of_verb own) None lines.now ≡ false) }
 {
     match tail_spot(own, lines) {
         Some(spot) => Some(spot),
@@ -193,7 +193,7 @@ fn go_index(lines: &KeyedLines) -> usize
     requires document { IsDocument (plain_lines lines.now) }
     requires sound { fault_of Strict (plain_lines lines.now) ≡ None }
     ensures index { (new : List (LineOf Placed))
-        → take result lines.now ++ (new ++ drop result lines.now) ≡ after_first_that is_module new lines.now }
+        → take result lines.now ++ (new ++ drop result lines.now) ≡ after_first_of is_module new None lines.now }
     ensures in_range { result ≤ length lines.now }
 {
     let mut scope = Scope::Outside;
@@ -220,8 +220,8 @@ pub(crate) fn add_go<'a>(
     requires version { HasNoLineFeed version.now }
     requires document { IsDocument (plain_lines lines.old) }
     requires sound { fault_of Strict (plain_lines lines.old) ≡ None }
-    ensures ok { OnOk result (lines.new ≡ after_first_that is_module
-        (Blank ∷ single (codes "go") (made_word version.now ∷ []) ∷ []) lines.old) }
+    ensures ok { OnOk result (lines.new ≡ after_first_of is_module
+        (Blank ∷ single (codes "go") (made_word version.now ∷ []) ∷ []) None lines.old) }
     ensures err { OnErr result (lines.new ≡ lines.old) }
 {
     let at = go_index(lines);

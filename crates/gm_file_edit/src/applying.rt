@@ -16,8 +16,7 @@ ghost use Rattle.gm_file_edit.specs.Edited.{added, changed, edited, put_in};
 ghost use Rattle.gm_file_edit.specs.Kinds.{is_fit};
 ghost use Rattle.gm_file_edit.specs.Marks.{marks_from};
 ghost use Rattle.gm_file_edit.specs.NewWords.{pair_words};
-ghost use Rattle.gm_file_edit.specs.Sound.{IsSoundEdit};
-ghost use Rattle.gm_file_edit.specs.Views.{addition_of, edit_of, setting_of};
+ghost use Rattle.gm_file_edit.specs.Sound.{IsSoundEdit, addition_of, edit_of, setting_of};
 
 use crate::adding::{add, add_go};
 use crate::keyed_lines::KeyedLines;

@@ -8,8 +8,7 @@ ghost use Rattle.std.specs.Prelude.{◌≡◌, ◌%◌, ◌^◌};
 ghost use Rattle.std.specs.Option.{option_map};
 ghost use Rattle.gm_syntax.specs.LineViews.{line_of};
 ghost use Rattle.gm_file.specs.Directives.{verb_eq};
-ghost use Rattle.gm_file_edit.specs.Keys.{changes_block, hash, hash_at, hashes_of, key_of, may_concern, may_tell, scope_after, is_entry_in, scope_if, sought_key, verb_outside, words_key};
-ghost use Rattle.gm_file_edit.specs.Subjects.{sought_view, subject_view};
+ghost use Rattle.gm_file_edit.specs.Keys.{changes_block, hash, hash_at, hashes_of, key_of, may_concern, may_tell, scope_after, is_entry_in, scope_if, sought_key, verb_outside, words_key, sought_view, subject_view};
 
 use crate::subject::{Sought, Subject, subject_inside, subject_outside};
 use gm_file::{Verb, is_empty_block, main_verb};

@@ -12,12 +12,10 @@ ghost use Rattle.gm_file.specs.Directives.{Strict};
 ghost use Rattle.gm_file.specs.Faults.{fault_of};
 ghost use Rattle.gm_file_edit.specs.Edited.{edited};
 ghost use Rattle.gm_file_edit.specs.Kinds.{is_fit};
-ghost use Rattle.gm_file_edit.specs.EditLaws.{AdditionFollowsItsVerb, AdditionOfANewVerbIsLast, CommentLinesStay, IdleAdditionChangesNothing, IdleDropChangesNothing, SecondAdditionChangesNothing, SecondDropChangesNothing};
+ghost use Rattle.gm_file_edit.specs.EditLaws.{AdditionFollowsItsVerb, AdditionOfANewVerbIsLast, CommentLinesStay, IdleAdditionChangesNothing, IdleDropChangesNothing, SecondAdditionChangesNothing, SecondDropChangesNothing, SecondOperationChangesNothing, SecondSettingChangesNothing};
 ghost use Rattle.gm_file_edit.specs.Edits.{Edit, edit_in};
-ghost use Rattle.gm_file_edit.specs.EitherOrder.{EitherOrderLeavesTheSame};
 ghost use Rattle.gm_file_edit.specs.GoPlace.{GoFollowsModule, GoFollowsModuleBlock};
-ghost use Rattle.gm_file_edit.specs.Laws.{AddedIsThere, DroppedIsGone, OthersStay, SetStandsAlone};
-ghost use Rattle.gm_file_edit.specs.Twice.{SecondOperationChangesNothing, SecondSettingChangesNothing};
+ghost use Rattle.gm_file_edit.specs.Laws.{AddedIsThere, DroppedIsGone, EitherOrderLeavesTheSame, OthersStay, SetStandsAlone};
 ghost use Rattle.gm_file_edit.specs.Undone.{DropUndoes, DropUndoesForLayout};
 
 /// A valid file stays valid. If the lines are a document that strict reading accepts without a fault, so are the

@@ -6,10 +6,9 @@ ghost use Rattle.gm_syntax.specs.LineViews.{line_of, plain_lines};
 ghost use Rattle.gm_file.specs.Directives.{Strict};
 ghost use Rattle.gm_file.specs.Faults.{fault_of};
 ghost use Rattle.gm_file_edit.specs.About.{about};
-ghost use Rattle.gm_file_edit.specs.Keys.{does_tell, may_concern};
+ghost use Rattle.gm_file_edit.specs.Keys.{does_tell, may_concern, sought_view};
 ghost use Rattle.gm_file_edit.specs.Marks.{marks_from};
-ghost use Rattle.gm_file_edit.specs.Subjects.{sought_view};
-ghost use Rattle.gm_file_edit.specs.Views.{edit_of};
+ghost use Rattle.gm_file_edit.specs.Sound.{edit_of};
 
 use crate::keyed_lines::KeyedLines;
 use crate::keys::{Key, Scope, SoughtKey, may_concern, scope_after, sought_key};

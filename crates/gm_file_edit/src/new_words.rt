@@ -5,7 +5,7 @@
 ghost use Rattle.std.specs.Prelude.{◌≡◌, ◌∷◌, ◌++◌, [], IfOk, OnOk};
 ghost use Rattle.gm_syntax.specs.Lines.{HasNoLineFeed};
 ghost use Rattle.gm_file.specs.Views.{interval_view, replace_view, right_view};
-ghost use Rattle.gm_file_edit.specs.NewWords.{interval_words, left_words_of, made_mark, made_word, pair_words, replace_words, right_words};
+ghost use Rattle.gm_file_edit.specs.NewWords.{interval_words, left_words, made_mark, made_word, pair_words, replace_words, right_words};
 ghost use Rattle.gm_file_edit.specs.Sound.{IsSoundRight};
 
 use gm_file::{Interval, Replace, Right};
@@ -82,7 +82,7 @@ fn push_left<'a>(
     path: &ModPath,
     version: &Option<ModVersion>,
 ) -> Result<(), AllocError>
-    ensures { OnOk result (words.new.items ≡ words.old.items ++ left_words_of path.now version.now) }
+    ensures { OnOk result (words.new.items ≡ words.old.items ++ left_words path.now version.now) }
 {
     match version {
         None => push_path(alloc, words, path),

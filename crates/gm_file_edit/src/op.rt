@@ -4,7 +4,7 @@
 
 ghost use Rattle.std.specs.Prelude.{◌≡◌, IfOk, IsErrOf, None, Some};
 ghost use Rattle.gm_file_edit.specs.Edits.{edit_in, named};
-ghost use Rattle.gm_file_edit.specs.Views.{IsParsedPart, edit_of};
+ghost use Rattle.gm_file_edit.specs.Sound.{IsParsedPart, edit_of};
 
 use crate::fault::OpFault;
 use crate::part::{
@@ -73,7 +73,7 @@ pub struct Op {
 impl Model for Op {
     ghost use Rattle.gm_file_edit.specs.Edits.{Edit};
     ghost use Rattle.gm_file_edit.specs.Sound.{IsSoundEdit};
-    ghost use Rattle.gm_file_edit.specs.Views.{edit_of};
+    ghost use Rattle.gm_file_edit.specs.Sound.{edit_of};
 
     ghost Value = { Edit };
 

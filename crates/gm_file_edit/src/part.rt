@@ -8,7 +8,7 @@ ghost use Rattle.std.specs.List.{suffix_len};
 ghost use Rattle.std.specs.String.{string_bytes};
 ghost use Rattle.gm_file.specs.Views.{interval_view, replace_view, right_view};
 ghost use Rattle.gm_file_edit.specs.Edits.{split_at_byte, has_byte, inside_brackets, interval_in, is_bracketed, is_space_or_tab, go_text_in, left_in, pair_in, path_in, replacing_in, right_in, trimmed, two_versions_in, version_in, without_trailing, without_leading};
-ghost use Rattle.gm_file_edit.specs.Views.{IsParsedPart, split_seen, left_seen};
+ghost use Rattle.gm_file_edit.specs.Sound.{IsParsedPart, split_seen, left_seen};
 
 use crate::fault::OpFault;
 use gm_file::{Interval, Replace, Right, is_folder, strict_go};

@@ -2,7 +2,7 @@
 //!
 //! An entry is rewritten in place, so that its comment and its position in a block are kept.
 
-ghost use Rattle.std.specs.Prelude.{◌≡◌, ◌<◌, ◌≤◌, Option, false, length, take, slice_set, IfOk, OnOk, None};
+ghost use Rattle.std.specs.Prelude.{◌≡◌, ◌<◌, ◌≤◌, if◌then◌else◌, Option, false, is_some, length, take, slice_set, IfOk, OnOk, None};
 ghost use Rattle.std.specs.Option.{option_map};
 ghost use Rattle.gm_syntax.specs.LineViews.{line_of};
 ghost use Rattle.gm_syntax.specs.Lines.{HasNoLineFeed};
@@ -11,11 +11,10 @@ ghost use Rattle.gm_file.specs.Directives.{block_after_lines};
 ghost use Rattle.gm_file.specs.Views.{replace_view};
 ghost use Rattle.gm_file_edit.specs.Edits.{Set};
 ghost use Rattle.gm_file_edit.specs.Fates.{remaining};
-ghost use Rattle.gm_file_edit.specs.Renewing.{before_arguments, made_new, with_arguments, with_last};
+ghost use Rattle.gm_file_edit.specs.Renewing.{made_new, with_arguments, with_last};
 ghost use Rattle.gm_file_edit.specs.NewWords.{replace_words};
 ghost use Rattle.gm_file_edit.specs.Marks.{line_at, marked};
-ghost use Rattle.gm_file_edit.specs.Sound.{IsSoundEdit, IsSoundRight};
-ghost use Rattle.gm_file_edit.specs.Views.{setting_of};
+ghost use Rattle.gm_file_edit.specs.Sound.{IsSoundEdit, IsSoundRight, setting_of};
 
 use crate::keyed_lines::KeyedLines;
 use crate::keys::changes_block;
@@ -40,7 +39,7 @@ fn set_last<'a>(alloc: Global, line: &mut Line<'a>, value: &str) -> Result<(), A
 
 /// The number of words before the arguments: none in a block, where the verb is at the opening.
 fn before_arguments(block: Option<&Token>) -> usize
-    ensures { result ≡ before_arguments (option_map (λ t. t.now) block.entry) }
+    ensures { result ≡ (if is_some (option_map (λ t. t.now) block.entry) then 0 else 1) }
 {
     match block {
         None => 1,

@@ -4,10 +4,10 @@
 //! value, if that is one of these, and nothing need be read to compare it.
 
 ghost use Rattle.std.specs.Prelude.{◌≡◌, true, slice_get};
-ghost use Rattle.std.specs.Option.{option_map};
+ghost use Rattle.std.specs.Option.{option_map, option_or};
 ghost use Rattle.gm_syntax.specs.Bytes.{is_quote};
 ghost use Rattle.gm_file.specs.Faults.{is_same_version};
-ghost use Rattle.gm_file_edit.specs.Subjects.{argument_text, between_quotes, is_told, is_mark_at, is_quoted, second_text, sought_view, subject_of, subject_inside, subject_outside, subject_view, text_at};
+ghost use Rattle.gm_file_edit.specs.Keys.{argument_text, between_quotes, is_told, is_quoted, sought_view, subject_of, subject_inside, subject_outside, subject_view, text_at};
 
 use gm_syntax::{Kind, Token};
 
@@ -83,21 +83,11 @@ fn text_at<'w>(word: Option<&'w Token>) -> Option<&'w str>
 /// interval.
 fn second_text<'w>(first: Option<&'w Token>, second: Option<&'w Token>) -> Option<&'w str>
     ensures { option_map (λ t. t.now) result
-        ≡ second_text (option_map (λ t. t.now) first.entry) (option_map (λ t. t.now) second.entry) }
+        ≡ text_at (option_or (option_map (λ t. t.now) second.entry) (option_map (λ t. t.now) first.entry)) }
 {
     match second {
         None => text_at(first),
         Some(word) => argument_text(word),
-    }
-}
-
-/// Whether there is a word and it is a mark.
-fn is_mark_at(word: Option<&Token>) -> bool
-    ensures { result ≡ is_mark_at (option_map (λ t. t.now) word.entry) }
-{
-    match word {
-        None => false,
-        Some(word) => matches!(word.kind(), Kind::Mark),
     }
 }
 
@@ -111,15 +101,15 @@ fn subject_of<'w>(
     ensures { subject_view result ≡ subject_of (option_map (λ t. t.now) first.entry)
         (option_map (λ t. t.now) second.entry) (option_map (λ t. t.now) fourth.entry) }
 {
-    if is_mark_at(first) {
-        return Subject {
+    match text_at(first) {
+        Some(text) => Subject {
+            first: Some(text),
+            second: second_text(first, second),
+        },
+        None => Subject {
             first: text_at(second),
             second: text_at(fourth),
-        };
-    }
-    Subject {
-        first: text_at(first),
-        second: second_text(first, second),
+        },
     }
 }
 

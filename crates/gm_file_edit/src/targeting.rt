@@ -7,9 +7,8 @@ ghost use Rattle.std.specs.Prelude.{◌≡◌, Some};
 ghost use Rattle.gm_file.specs.Views.{interval_view};
 ghost use Rattle.gm_syntax.specs.LineViews.{line_of};
 ghost use Rattle.gm_file_edit.specs.Edits.{Add, Drop, Set};
-ghost use Rattle.gm_file_edit.specs.Keys.{does_tell, verb_sought};
-ghost use Rattle.gm_file_edit.specs.Subjects.{Both, sought_of, sought_of_left, sought_side, sought_view};
-ghost use Rattle.gm_file_edit.specs.Views.{addition_of, edit_of, setting_of, target_of};
+ghost use Rattle.gm_file_edit.specs.Keys.{does_tell, verb_sought, Both, sought_of, sought_of_left, sought_view};
+ghost use Rattle.gm_file_edit.specs.Sound.{addition_of, edit_of, setting_of, target_of};
 
 use crate::keys::Scope;
 use crate::op::{Addition, Change, Setting, Target};
@@ -29,7 +28,7 @@ pub(crate) struct Aim<'c> {
 
 /// A left side of a `replace`, with or without a version.
 fn sought_side<'c>(path: &'c ModPath, version: &'c Option<ModVersion>) -> Sought<'c>
-    ensures { sought_view result ≡ sought_side path.now version.now }
+    ensures { sought_view result ≡ Both path.now version.now }
 {
     match version {
         None => Sought::Both(path.as_str(), None),

@@ -26,7 +26,7 @@ pub fn additions_have_a_place()
     ensures end { FirstRequirementIsLast }
 {}
 
-/// `after_first_that`: a new go directive stands after the block of the module directive.
+/// `after_first_of`: a new go directive stands after the block of the module directive.
 pub fn go_goes_after_the_block()
     ensures { GoGoesAfterTheBlock }
 {}

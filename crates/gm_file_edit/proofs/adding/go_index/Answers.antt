@@ -1,16 +1,16 @@
-use Rattle.std.proofs.Common.{◌∙◌, arith, false, sym, true}
-use Rattle.gm_file_edit.proofs.AddingCode.{unmet-begin, unmet-end, unmet-found, unmet-more}
+use Rattle.std.proofs.Common.{◌∙◌, arith, false, refl, sym, true}
+use Rattle.gm_file_edit.proofs.AddingCode.{unmet-end, unmet-found, unmet-more}
 use Rattle.gm_file_edit.proofs.Pairs.{document-sound}
 use Rattle.gm_file_edit.proofs.adding.go_index.Goals as goal
 
 pub loop-n-init : goal.loop-n-init
-loop-n-init c = unmet-begin c.args.lines.now (document-sound c.args.lines.now c.requires.document c.requires.sound)
+loop-n-init c = record { scope = refl; same = λ new. refl }
 
 pub loop-n-preserved : goal.loop-n-preserved
 loop-n-preserved c =
     let inside = c.loop-n-test.true in
     let len = c.len-n-end.ensures in
-    unmet-more c.args.lines.now c.loop-n.scope c.scope_after-scope.result c.loop-n.n c.key-key.result (omega (arith, inside, len)) c.key-key.ensures
+    unmet-more c.args.lines.now c.loop-n.scope c.scope_after-scope.result c.loop-n.n c.key-key.result (document-sound c.args.lines.now c.requires.document c.requires.sound) (omega (arith, inside, len)) c.key-key.ensures
     (sym c.is_entry_in.ensures ∙ c.if-is_entry_in.false) c.scope_after-scope.ensures c.loop-n.invariant
 
 pub returns-then-is_inside-clause-index : goal.returns-then-is_inside-clause-index
@@ -18,13 +18,13 @@ returns-then-is_inside-clause-index c = λ new.
     let inside = c.loop-n-test.true in
     let len = c.len-n-end.ensures in
     c.close_index.ensures.index new
-    ∙ unmet-found c.args.lines.now c.loop-n.scope c.loop-n.n c.key-key.result true (omega (arith, inside, len)) c.key-key.ensures (sym c.is_entry_in.ensures ∙ c.if-is_entry_in.true) (sym c.if-is_inside.true ∙ c.is_inside.ensures) c.loop-n.invariant new
+    ∙ unmet-found c.args.lines.now c.loop-n.scope c.loop-n.n c.key-key.result true (document-sound c.args.lines.now c.requires.document c.requires.sound) (omega (arith, inside, len)) c.key-key.ensures (sym c.is_entry_in.ensures ∙ c.if-is_entry_in.true) (sym c.if-is_inside.true ∙ c.is_inside.ensures) c.loop-n.invariant new
 
 pub returns-then-is_entry_in-clause-index : goal.returns-then-is_entry_in-clause-index
 returns-then-is_entry_in-clause-index c = λ new.
     let inside = c.loop-n-test.true in
     let len = c.len-n-end.ensures in
-    unmet-found c.args.lines.now c.loop-n.scope c.loop-n.n c.key-key.result false (omega (arith, inside, len)) c.key-key.ensures (sym c.is_entry_in.ensures ∙ c.if-is_entry_in.true) (sym c.if-is_inside.false ∙ c.is_inside.ensures) c.loop-n.invariant new
+    unmet-found c.args.lines.now c.loop-n.scope c.loop-n.n c.key-key.result false (document-sound c.args.lines.now c.requires.document c.requires.sound) (omega (arith, inside, len)) c.key-key.ensures (sym c.is_entry_in.ensures ∙ c.if-is_entry_in.true) (sym c.if-is_inside.false ∙ c.is_inside.ensures) c.loop-n.invariant new
 
 pub returns-clause-index : goal.returns-clause-index
 returns-clause-index c = λ new.

@@ -1,11 +1,11 @@
-use Rattle.std.proofs.Common.{◌≡◌, ◌+◌, ◌∙◌, Bool, Some, ap, arith}
-use Rattle.gm_file_edit.proofs.AddingCode.{better_at, last-begin, last-end, last-more, none-there, place-of}
+use Rattle.std.proofs.Common.{◌≡◌, ◌+◌, ◌∙◌, Bool, Some, ap, arith, refl}
+use Rattle.gm_file_edit.proofs.AddingCode.{best-none, best-place, better_at, last-end, last-more}
 use Rattle.gm_file_edit.proofs.Pairs.{document-sound}
 use Rattle.gm_file_edit.proofs.adding.last_spot.Goals as goal
 use Rattle.gm_file_edit.proofs.adding.last_spot.Goals.{then-is_entry_in, else-is_entry_in}
 
 pub loop-n-init : goal.loop-n-init
-loop-n-init c = last-begin c.args.own c.args.lines.now c.requires.known (document-sound c.args.lines.now c.requires.document c.requires.sound)
+loop-n-init c = record { scope = refl; best_is = refl }
 
 pub loop-n-preserved : goal.loop-n-preserved
 loop-n-preserved c =
@@ -17,17 +17,18 @@ loop-n-preserved c =
           (w.spot-is ∙ ap (λ (inside : Bool). Some (record { before = c.loop-n.n + 1; inside = inside })) w.is_inside.ensures)
       | else-is_entry_in w ↦ rw w.if-is_entry_in.false w.spot-is
     ] in
-    last-more c.args.own c.args.lines.now c.loop-n.scope c.scope_after-scope.result c.loop-n.n c.key-key.result c.loop-n.spot c.if-is_entry_in.spot (omega (arith, inside, len)) c.key-key.ensures
+    last-more c.args.own c.args.lines.now c.loop-n.scope c.scope_after-scope.result c.loop-n.n c.key-key.result c.loop-n.spot c.if-is_entry_in.spot c.requires.known
+    (document-sound c.args.lines.now c.requires.document c.requires.sound) (omega (arith, inside, len)) c.key-key.ensures
     (found ∙ ap (λ (b : Bool). better_at c.loop-n.n c.loop-n.scope b c.loop-n.spot) c.is_entry_in.ensures) c.scope_after-scope.ensures c.loop-n.invariant
 
 pub returns-clause-place : goal.returns-clause-place
 returns-clause-place c =
     let over = c.loop-n-test.false in
     let len = c.len-n-end.ensures in
-    place-of c.args.own c.args.lines.now c.loop-n.spot (last-end c.args.own c.args.lines.now c.loop-n.scope c.loop-n.n c.loop-n.spot (omega (arith, over, len)) c.loop-n.invariant)
+    best-place c.args.own c.args.lines.now c.loop-n.spot (last-end c.args.own c.args.lines.now c.loop-n.scope c.loop-n.n c.loop-n.spot (omega (arith, over, len)) c.loop-n.invariant)
 
 pub returns-clause-none : goal.returns-clause-none
 returns-clause-none c =
     let over = c.loop-n-test.false in
     let len = c.len-n-end.ensures in
-    none-there c.args.own c.args.lines.now c.loop-n.spot (last-end c.args.own c.args.lines.now c.loop-n.scope c.loop-n.n c.loop-n.spot (omega (arith, over, len)) c.loop-n.invariant)
+    best-none c.args.own c.args.lines.now c.loop-n.spot (last-end c.args.own c.args.lines.now c.loop-n.scope c.loop-n.n c.loop-n.spot (omega (arith, over, len)) c.loop-n.invariant)

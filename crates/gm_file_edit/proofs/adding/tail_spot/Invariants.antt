@@ -1,4 +1,4 @@
-use Rattle.gm_file_edit.proofs.Tails.{IsTail}
+use Rattle.gm_file_edit.proofs.AddingCode.{IsTail}
 use Rattle.gm_file_edit.proofs.adding.tail_spot.Given as goal
 
 abbrev pub invariant-loop-n : goal.invariant-loop-n

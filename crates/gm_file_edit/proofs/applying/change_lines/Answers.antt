@@ -1,12 +1,11 @@
-use Rattle.std.proofs.Common.{◌∙◌, Bool, None, ap, length, sym}
+use Rattle.std.proofs.Common.{◌∙◌, Bool, None, ap, length, sym, ◌≡◌, List, is_some, refl, take}
 use Rattle.gm_syntax.specs.LineViews.{line_of}
 use Rattle.gm_file_edit.specs.About.{about}
 use Rattle.gm_file_edit.specs.Kinds.{is_drop, set_by}
 use Rattle.gm_file_edit.specs.declared.op.Change.{Change}
 use Rattle.gm_file_edit.specs.Fates.{remaining}
 use Rattle.gm_file_edit.specs.Marks.{line_at, marked}
-use Rattle.gm_file_edit.specs.Views.{edit_of, setting_of}
-use Rattle.std.proofs.Common.{◌≡◌, List, is_some, refl, take}
+use Rattle.gm_file_edit.specs.Sound.{edit_of, setting_of}
 use Rattle.gm_file.specs.Directives.{block_after_lines}
 use Rattle.gm_file_edit.specs.Edits.{Edit, Set}
 use Rattle.gm_file_edit.specs.Renewing.{made_new}

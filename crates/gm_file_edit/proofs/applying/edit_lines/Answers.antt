@@ -4,7 +4,7 @@ use Rattle.gm_syntax.specs.Document.{Line}
 use Rattle.gm_syntax.specs.Tokens.{Placed}
 use Rattle.gm_file_edit.specs.About.{about}
 use Rattle.gm_file_edit.specs.Marks.{marks_from}
-use Rattle.gm_file_edit.specs.Views.{edit_of}
+use Rattle.gm_file_edit.specs.Sound.{edit_of}
 use Rattle.gm_file_edit.proofs.Marks.{edited-new, edited-there}
 use Rattle.gm_file_edit.proofs.Packs.{first-is}
 use Rattle.gm_file_edit.proofs.applying.edit_lines.Goals as goal

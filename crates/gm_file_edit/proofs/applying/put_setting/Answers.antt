@@ -2,8 +2,7 @@ use Rattle.std.proofs.Common.{subst}
 use Rattle.std.specs.String.{string_bytes}
 use Rattle.gm_file_edit.specs.declared.op.Setting.{Setting}
 use Rattle.gm_file_edit.specs.Edits.{Set, GoIs}
-use Rattle.gm_file_edit.specs.Sound.{IsSoundEdit}
-use Rattle.gm_file_edit.specs.Views.{setting_of}
+use Rattle.gm_file_edit.specs.Sound.{IsSoundEdit, setting_of}
 use Rattle.gm_file_edit.proofs.Feeds.{go-feed}
 use Rattle.gm_file_edit.proofs.applying.put_setting.Goals as goal
 

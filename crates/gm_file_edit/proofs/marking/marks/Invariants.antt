@@ -1,4 +1,4 @@
-use Rattle.gm_file_edit.specs.Views.{edit_of}
+use Rattle.gm_file_edit.specs.Sound.{edit_of}
 use Rattle.gm_file_edit.proofs.Marks.{AreMarkedTo}
 use Rattle.gm_file_edit.proofs.marking.marks.Given as goal
 

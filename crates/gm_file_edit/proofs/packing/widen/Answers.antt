@@ -1,4 +1,4 @@
-use Rattle.std.proofs.Common.{arith, refl}
+use Rattle.std.proofs.Common.{arith}
 use Rattle.gm_file_edit.proofs.Packs.{widen-line, widen-marked}
 use Rattle.gm_file_edit.proofs.packing.widen.Goals as goal
 use Rattle.gm_file_edit.proofs.packing.widen.Goals.{then-not-index, else-not-index}
@@ -15,8 +15,8 @@ loop-n-preserved c =
       | then-not-index w ↦
           let after = w.after_line-state.result in
           rw (w.marks-is, w.state-is)
-          (widen-line lines old n state.inside state.goes after.inside after.goes c.index.result.now after.mark c.loop-n.marks.items w.as_slice.result.now _ c.requires (omega (arith, inside, len))
-          c.index.ensures w.if-not-index.true w.as_slice.ensures.value w.after_line-state.ensures refl c.loop-n.invariant)
+          (widen-line lines old n state.inside state.goes after.inside after.goes c.index.result.now after.mark c.loop-n.marks.items w.as_slice.result.now c.requires (omega (arith, inside, len))
+          c.index.ensures w.if-not-index.true w.as_slice.ensures.value w.after_line-state.ensures c.loop-n.invariant)
       | else-not-index w ↦
           rw (w.marks-is, w.state-is)
           (widen-marked lines old n state.inside state.goes c.index.result.now c.loop-n.marks.items c.requires (omega (arith, inside, len)) c.index.ensures w.if-not-index.false c.loop-n.invariant)

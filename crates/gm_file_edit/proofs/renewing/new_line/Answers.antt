@@ -4,7 +4,7 @@ use Rattle.gm_syntax.specs.Tokens.{Placed}
 use Rattle.gm_file.specs.Directives.{block_after_lines}
 use Rattle.gm_file_edit.specs.Edits.{Set}
 use Rattle.gm_file_edit.specs.Renewing.{made_new}
-use Rattle.gm_file_edit.specs.Views.{setting_of}
+use Rattle.gm_file_edit.specs.Sound.{setting_of}
 use Rattle.gm_file_edit.proofs.renewing.new_line.Goals as goal
 
 pub returns : goal.returns

@@ -3,8 +3,7 @@ use Rattle.std.specs.Option.{option_map}
 use Rattle.std.specs.String.{string_bytes}
 use Rattle.gm_file_edit.specs.declared.op.Setting.{Setting}
 use Rattle.gm_file_edit.specs.Edits.{Set, GoIs}
-use Rattle.gm_file_edit.specs.Sound.{IsSoundEdit}
-use Rattle.gm_file_edit.specs.Views.{setting_of}
+use Rattle.gm_file_edit.specs.Sound.{IsSoundEdit, setting_of}
 use Rattle.gm_file_edit.proofs.Feeds.{go-feed, path-plain, version-plain}
 use Rattle.gm_file_edit.proofs.renewing.rewrite.Goals as goal
 

@@ -1,5 +1,5 @@
 use Rattle.std.proofs.Common.{◌∙◌, ap, sym}
-use Rattle.gm_file_edit.specs.Subjects.{is_quoted}
+use Rattle.gm_file_edit.specs.Keys.{is_quoted}
 use Rattle.gm_file_edit.proofs.Quotes.{close-quote, open-quote}
 use Rattle.gm_file_edit.proofs.subject.between_quotes.Goals as goal
 

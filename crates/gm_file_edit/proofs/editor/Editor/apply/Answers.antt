@@ -5,7 +5,7 @@ use Rattle.gm_syntax.specs.LineViews.{plain_lines}
 use Rattle.gm_file.specs.Directives.{Strict}
 use Rattle.gm_file.specs.Faults.{fault_of}
 use Rattle.gm_file_edit.specs.Kinds.{is_fit}
-use Rattle.gm_file_edit.specs.Views.{edit_of}
+use Rattle.gm_file_edit.specs.Sound.{edit_of}
 use Rattle.gm_file_edit.proofs.EditedSound.{edited-document}
 use Rattle.gm_file_edit.proofs.editor.Editor.apply.Goals as goal
 

@@ -1,0 +1,108 @@
+-- Filters of lists, and tests of what they leave.
+use Rattle.std.proofs.Common.{◌≡◌, ◌&&◌, ◌||◌, not, if◌then◌else◌, Bool, true, false, List, [], ◌∷◌, refl, sym, ap, ◌∙◌, inl, inr}
+use Rattle.std.specs.Prelude.{filter}
+use Rattle.std.specs.List.{list_any}
+use Rattle.std.proofs.lemmas.Bool.{and_right, cases_Bool, not-true, or_from, or_parts}
+use Rattle.std.proofs.lemmas.List.Elements.{filter_agree}
+
+pub filter-one : {X : Type 0} (p : X → Bool) (x : X) (xs : List X) → p x ≡ true → filter p (x ∷ xs) ≡ x ∷ filter p xs
+filter-one p x xs e = rw e refl
+
+pub filter-none : {X : Type 0} (p : X → Bool) (x : X) (xs : List X) → p x ≡ false → filter p (x ∷ xs) ≡ filter p xs
+filter-none p x xs e = rw e refl
+
+filter-filter : {X : Type 0} (p q : X → Bool) (xs : List X) → filter p (filter q xs) ≡ filter (λ x. q x && p x) xs
+filter-filter p q [] = refl
+filter-filter {X} p q (x ∷ xs) = elim (cases_Bool (q x)) [
+  | inl hit ↦ rw hit (ap (λ (ys : List X). if p x then x ∷ ys else ys) (filter-filter p q xs))
+  | inr miss ↦ rw miss (filter-filter p q xs)
+]
+
+any-filter : {X : Type 0} (p q : X → Bool) (xs : List X) → list_any p (filter q xs) ≡ list_any (λ x. q x && p x) xs
+any-filter p q [] = refl
+any-filter p q (x ∷ xs) = elim (cases_Bool (q x)) [
+  | inl hit ↦ rw hit (ap (λ (b : Bool). p x || b) (any-filter p q xs))
+  | inr miss ↦ rw miss (any-filter p q xs)
+]
+
+-- a test that passes no more than another passes none where that passes none
+pub fewer-any : {X : Type 0} (test fewer : X → Bool) → ((x : X) → test x ≡ false → fewer x ≡ false) → (xs : List X) → list_any test xs ≡ false → list_any fewer xs ≡ false
+fewer-any test fewer less [] e = refl
+fewer-any test fewer less (x ∷ xs) e =
+    let parts = or_parts (test x) (list_any test xs) e in
+    or_from (fewer x) (list_any fewer xs) (less x parts.0) (fewer-any test fewer less xs parts.1)
+
+-- if what passes one test fails the other, a filter by one leaves none for the other
+and-none : (a b : Bool) → (a ≡ true → b ≡ false) → (a && b) ≡ false
+and-none true b f = f refl
+and-none false b f = refl
+
+pub none-filtered : {X : Type 0} (p q : X → Bool) → ((x : X) → q x ≡ true → p x ≡ false) → (xs : List X) → list_any p (filter q xs) ≡ false
+none-filtered p q other [] = refl
+none-filtered p q other (x ∷ xs) =
+    any-filter p q (x ∷ xs) ∙ or_from (q x && p x) (list_any (λ y. q y && p y) xs) (and-none (q x) (p x) (other x)) (sym (any-filter p q xs) ∙ none-filtered p q other xs)
+
+pub filter-any : {X : Type 0} (p q : X → Bool) (xs : List X) → list_any p xs ≡ false → list_any p (filter q xs) ≡ false
+filter-any p q xs none = any-filter p q xs ∙ fewer-any p (λ x. q x && p x) (λ x miss. and_right (q x) (p x) miss) xs none
+
+-- ---- whether anything passes
+
+abbrev pub is_filled : {X : Type 0} → List X → Bool
+is_filled [] = false
+is_filled (x ∷ xs) = true
+
+pub any-filled : {X : Type 0} (test : X → Bool) (xs : List X) → list_any test xs ≡ is_filled (filter test xs)
+any-filled test [] = refl
+any-filled test (x ∷ xs) = elim (cases_Bool (test x)) [
+  | inl hit ↦ rw hit refl
+  | inr miss ↦ rw miss (any-filled test xs)
+]
+
+not-filled : {X : Type 0} (xs : List X) → is_filled xs ≡ false → xs ≡ []
+not-filled [] e = refl
+not-filled (x ∷ xs) e = absurd cc
+
+pub no-filter : {X : Type 0} (test : X → Bool) (xs : List X) → list_any test xs ≡ false → filter test xs ≡ []
+no-filter test xs none = not-filled (filter test xs) (sym (any-filled test xs) ∙ none)
+
+pub none-any : {X : Type 0} (test : X → Bool) (xs : List X) → filter test xs ≡ [] → list_any test xs ≡ false
+none-any test xs e = any-filled test xs ∙ ap is_filled e
+
+-- ---- what fails a test
+
+abbrev pub others : {X : Type 0} → (X → Bool) → X → Bool
+others test x = not (test x)
+
+pub others-none : {X : Type 0} (test : X → Bool) (xs : List X) → list_any test (filter (others test) xs) ≡ false
+others-none test xs = none-filtered test (others test) (λ x e. not-true (test x) e) xs
+
+pub none-of-others : {X : Type 0} (test : X → Bool) (xs : List X) → filter test (filter (others test) xs) ≡ []
+none-of-others test xs = no-filter test (filter (others test) xs) (others-none test xs)
+
+-- what passes a test is not lost among the others of a test that excludes it
+pub among-others : {X : Type 0} (test other : X → Bool) → ((x : X) → (test x && other x) ≡ false) → (xs : List X) → filter test (filter (others other) xs) ≡ filter test xs
+among-others test other apart xs = filter-filter test (others other) xs ∙ filter_agree (λ x. others other x && test x) test (λ x. beside (test x) (other x) (apart x)) xs
+  where
+    beside : (a b : Bool) → (a && b) ≡ false → (not b && a) ≡ a
+    beside true true e = absurd cc
+    beside true false e = refl
+    beside false true e = refl
+    beside false false e = refl
+
+pub and-swap : (a b : Bool) → (a && b) ≡ (b && a)
+and-swap true true = refl
+and-swap true false = refl
+and-swap false true = refl
+and-swap false false = refl
+
+-- two filters in either order
+pub filters-swap : {X : Type 0} (p q : X → Bool) (xs : List X) → filter p (filter q xs) ≡ filter q (filter p xs)
+filters-swap p q xs = filter-filter p q xs ∙ filter_agree (λ x. q x && p x) (λ x. p x && q x) (λ x. and-swap (q x) (p x)) xs ∙ sym (filter-filter q p xs)
+
+-- filtering a second time changes nothing
+pub others-twice : {X : Type 0} (test : X → Bool) (xs : List X) → filter (others test) (filter (others test) xs) ≡ filter (others test) xs
+others-twice test xs = filter-filter (others test) (others test) xs ∙ filter_agree (λ x. others test x && others test x) (others test) (λ x. and-same (others test x)) xs
+  where
+    and-same : (a : Bool) → (a && a) ≡ a
+    and-same true = refl
+    and-same false = refl

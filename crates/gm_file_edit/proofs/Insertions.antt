@@ -1,0 +1,223 @@
+-- Where an operation puts a new entry: next to those of its verb, or outside blocks after a blank line.
+use Rattle.std.proofs.Common.{◌≡◌, ℕ, ◌||◌, Bool, true, false, List, [], ◌∷◌, ◌++◌, Option, Some, None, is_some, refl, sym, ap, subst, ◌∙◌, append-nil, append_assoc, inl, inr}
+use Rattle.std.specs.Prelude.{⊤, codes}
+use Rattle.std.specs.List.{cons_option, list_any}
+use Rattle.std.proofs.lemmas.Bool.{and_right, cases_Bool, or_right, true≢false}
+use Rattle.gm_syntax.specs.Tokens.{Placed, words_of}
+use Rattle.gm_syntax.specs.Document.{Line, Blank, Comment, Open, Close, Entry}
+use Rattle.gm_file.specs.Directives.{Strict, Directive, block_after_line, block_after_lines, item_at, main_verb, verb_in, verb_of_directive}
+use Rattle.gm_file.specs.Faults.{is_module}
+use Rattle.gm_file.proofs.DirectiveVerbs.{directive-verb, same-verb}
+use Rattle.gm_file_edit.specs.Edited.{added, after_closing, after_first_of, after_last_of, has_verb, new_entry, put_in}
+use Rattle.gm_file_edit.specs.Edits.{Edit, Target, Set, ModuleIs, GoIs, RequireAt, ReplaceWith, Add, Exclude, Retract, Drop}
+use Rattle.gm_file_edit.specs.Holding.{directive_at, passes, is_there}
+use Rattle.gm_file_edit.specs.Laws.{directives_of}
+use Rattle.gm_file_edit.specs.NewWords.{entry_at, made_word, single}
+use Rattle.gm_file_edit.proofs.Pairs.{block-append, file-held, held_from, no-block}
+
+-- ---- lines that hold a directive
+
+or-assoc : (a b c : Bool) → (a || (b || c)) ≡ ((a || b) || c)
+or-assoc true b c = refl
+or-assoc false b c = refl
+
+pub there-append : (test : Directive → Bool) (block : Option Placed) (xs ys : List (Line Placed)) → is_there test block (xs ++ ys) ≡ (is_there test block xs || is_there test (block_after_lines block xs) ys)
+there-append test block [] ys = refl
+there-append test block (line ∷ xs) ys =
+    let here : Bool = passes test (directive_at block line) in
+    let behind : Option Placed = block_after_line block line in
+    ap (λ (b : Bool). here || b) (there-append test behind xs ys) ∙ or-assoc here (is_there test behind xs) (is_there test (block_after_lines behind xs) ys)
+
+any-held : (test : Directive → Bool) (held : Option Directive) (rest : List Directive) → list_any test (cons_option held rest) ≡ (passes test held || list_any test rest)
+any-held test None rest = refl
+any-held test (Some d) rest = refl
+
+-- an entry is found if and only if one of the directives that the lines hold passes the test
+pub there-is : (test : Directive → Bool) (block : Option Placed) (lines : List (Line Placed)) → is_there test block lines ≡ list_any test (held_from block lines)
+there-is test block [] = refl
+there-is test block (line ∷ lines) =
+    let held : Option Directive = directive_at block line in
+    ap (λ (b : Bool). passes test held || b) (there-is test (block_after_line block line) lines) ∙ sym (any-held test held (held_from (block_after_line block line) lines))
+
+pub there-said : (test : Directive → Bool) (lines : List (Line Placed)) → is_there test None lines ≡ list_any test (directives_of lines)
+there-said test lines = there-is test None lines ∙ ap (list_any test) (sym (file-held lines))
+
+-- a line that holds a directive leaves the open block open
+pub passing-level : (test : Directive → Bool) (block : Option Placed) (line : Line Placed) → passes test (directive_at block line) ≡ true → block_after_line block line ≡ block
+unfolding item_at
+passing-level test block Blank e = refl
+passing-level test block (Comment text) e = refl
+passing-level test block (Open opened suffix) e = absurd cc
+passing-level test block (Close suffix) e = absurd cc
+passing-level test block (Entry words suffix) e = refl
+
+-- the open block, if any, has this verb
+abbrev pub IsOfVerb : List ℕ → Option Placed → Type 0
+IsOfVerb v None = ⊤
+IsOfVerb v (Some t) = verb_in Strict t.word.spelling ≡ main_verb v
+
+pub passing-verb : (v : List ℕ) (block : Option Placed) (line : Line Placed) (held : Option Directive) → directive_at block line ≡ held → passes (has_verb v) held ≡ true → IsOfVerb v block
+unfolding item_at
+passing-verb v None line held is e = tt
+passing-verb v (Some t) line None is e = absurd cc
+passing-verb v (Some t) Blank (Some d) is e = absurd cc
+passing-verb v (Some t) (Comment text) (Some d) is e = absurd cc
+passing-verb v (Some t) (Open opened suffix) (Some d) is e = absurd cc
+passing-verb v (Some t) (Close suffix) (Some d) is e = absurd cc
+passing-verb v (Some t) (Entry words suffix) (Some d) is e = sym (directive-verb (verb_in Strict t.word.spelling) (words_of words) d is) ∙ sym (same-verb (main_verb v) (verb_of_directive d) e)
+
+-- ---- after the last line that holds a directive of a verb
+
+-- the lines around the last one that holds a directive that passes the test
+pub record IsLast (test : Directive → Bool) (block : Option Placed) (lines : List (Line Placed)) : Type 0 where
+  pub front : List (Line Placed)
+  pub line : Line Placed
+  pub back : List (Line Placed)
+  pub parts : lines ≡ front ++ line ∷ back
+  pub hit : passes test (directive_at (block_after_lines block front) line) ≡ true
+  pub later : is_there test (block_after_lines block (front ++ line ∷ [])) back ≡ false
+
+or-first : (a b : Bool) → b ≡ false → (a || b) ≡ true → a ≡ true
+or-first true b e f = refl
+or-first false b e f = absurd (true≢false (sym f ∙ e))
+
+pub last-one : (test : Directive → Bool) (block : Option Placed) (lines : List (Line Placed)) → is_there test block lines ≡ true → IsLast test block lines
+last-one test block [] e = absurd cc
+last-one test block (line ∷ lines) e = elim (cases_Bool (is_there test (block_after_line block line) lines)) [
+  | inl later ↦
+      let is = last-one test (block_after_line block line) lines later in
+      record { front = line ∷ is.front; line = is.line; back = is.back; parts = ap (λ (ls : List (Line Placed)). line ∷ ls) is.parts; hit = is.hit; later = is.later }
+  | inr none ↦
+      record { front = []; line = line; back = lines; parts = refl; hit = or-first (passes test (directive_at block line)) (is_there test (block_after_line block line) lines) none e; later = none }
+]
+
+-- the line stands somewhere behind
+there-behind : (test : Directive → Bool) (block : Option Placed) (front back : List (Line Placed)) (line : Line Placed) → passes test (directive_at (block_after_lines block front) line) ≡ true → is_there test block (front ++ line ∷ back) ≡ true
+there-behind test block front back line hit =
+    there-append test block front (line ∷ back) ∙ or_right (is_there test block front) _ (ap (λ (b : Bool). b || is_there test (block_after_line (block_after_lines block front) line) back) hit)
+
+after-last-behind : (test : Directive → Bool) (text : List ℕ) (arguments : List Placed) (block : Option Placed) (front back : List (Line Placed)) (line : Line Placed) → passes test (directive_at (block_after_lines block front) line) ≡ true
+    → is_there test (block_after_lines block (front ++ line ∷ [])) back ≡ false
+    → after_last_of test text arguments block (front ++ line ∷ back) ≡ front ++ line ∷ entry_at (is_some (block_after_lines block front)) text arguments ∷ back
+after-last-behind test text arguments block [] back line hit none = let held : passes test (directive_at block line) ≡ true = hit in let later : is_there test (block_after_line block line) back ≡ false = none in rw (held, later) refl
+after-last-behind test text arguments block (x ∷ front) back line hit none =
+    rw (there-behind test (block_after_line block x) front back line hit, and_right (passes test (directive_at block x)) false refl)
+    (ap (λ (ls : List (Line Placed)). x ∷ ls) (after-last-behind test text arguments (block_after_line block x) front back line hit none))
+
+pub added-after-last : (verb : List ℕ) (arguments : List Placed) (front back : List (Line Placed)) (line : Line Placed) → passes (has_verb verb) (directive_at (block_after_lines None front) line) ≡ true
+    → is_there (has_verb verb) (block_after_lines None (front ++ line ∷ [])) back ≡ false
+    → added verb arguments (front ++ line ∷ back) ≡ front ++ line ∷ entry_at (is_some (block_after_lines None front)) verb arguments ∷ back
+unfolding added
+added-after-last verb arguments front back line hit none = rw (there-behind (has_verb verb) None front back line hit) (after-last-behind (has_verb verb) verb arguments None front back line hit none)
+
+pub added-at-end : (verb : List ℕ) (arguments : List Placed) (lines : List (Line Placed)) → is_there (has_verb verb) None lines ≡ false → added verb arguments lines ≡ lines ++ Blank ∷ single verb arguments ∷ []
+unfolding added
+added-at-end verb arguments lines none = rw none refl
+
+-- ---- lines with an entry put in
+
+-- a blank line or none
+abbrev pub gap_lines : Bool → List (Line Placed)
+gap_lines true = Blank ∷ []
+gap_lines false = []
+
+-- The entry is put between two lines, behind a blank line or none. If no block is open at the end, it fits the block
+-- that is open there, if any.
+pub record IsPutInto (v : List ℕ) (arguments : List Placed) (lines after : List (Line Placed)) : Type 0 where
+  pub front : List (Line Placed)
+  pub back : List (Line Placed)
+  pub gap : Bool
+  pub inside : Bool
+  pub was : lines ≡ front ++ back
+  pub is : after ≡ front ++ (gap_lines gap ++ entry_at inside v arguments ∷ back)
+  pub fits : block_after_lines None lines ≡ None → (is_some (block_after_lines None front) ≡ inside) × IsOfVerb v (block_after_lines None front)
+
+pub added-into : (v : List ℕ) (arguments : List Placed) (lines : List (Line Placed)) → IsPutInto v arguments lines (added v arguments lines)
+added-into v arguments lines = elim (cases_Bool (is_there (has_verb v) None lines)) [
+  | inl there ↦
+      let at = last-one (has_verb v) None lines there in
+      let block : Option Placed = block_after_lines None at.front in
+      let behind : block_after_lines None (at.front ++ at.line ∷ []) ≡ block = block-append None at.front (at.line ∷ []) ∙ passing-level (has_verb v) block at.line at.hit in
+      record {
+        front = at.front ++ at.line ∷ [];
+        back = at.back;
+        gap = false;
+        inside = is_some block;
+        was = at.parts ∙ sym (append_assoc at.front (at.line ∷ []) at.back);
+        is =
+            ap (added v arguments) at.parts ∙ added-after-last v arguments at.front at.back at.line at.hit at.later
+            ∙ sym (append_assoc at.front (at.line ∷ []) (entry_at (is_some block) v arguments ∷ at.back));
+        fits = λ closed. (ap is_some behind, subst (IsOfVerb v) (sym behind) (passing-verb v block at.line (directive_at block at.line) refl at.hit));
+      }
+  | inr none ↦ record {
+    front = lines;
+    back = [];
+    gap = true;
+    inside = false;
+    was = sym (append-nil lines);
+    is = added-at-end v arguments lines none;
+    fits = λ closed. (ap is_some closed, subst (IsOfVerb v) (sym closed) tt);
+  }
+]
+
+-- more lines are put between two lines, outside blocks if no block is open at the end
+record IsPutOutside (more : List (Line Placed)) (block : Option Placed) (lines after : List (Line Placed)) : Type 0 where
+  front : List (Line Placed)
+  back : List (Line Placed)
+  was : lines ≡ front ++ back
+  is : after ≡ front ++ (more ++ back)
+  outside : block_after_lines block lines ≡ None → block_after_lines block front ≡ None
+
+behind-line : (more : List (Line Placed)) (block : Option Placed) (line : Line Placed) (lines after : List (Line Placed)) → IsPutOutside more (block_after_line block line) lines after → IsPutOutside more block (line ∷ lines) (line ∷ after)
+behind-line more block line lines after put =
+    record { front = line ∷ put.front; back = put.back; was = ap (λ (ls : List (Line Placed)). line ∷ ls) put.was; is = ap (λ (ls : List (Line Placed)). line ∷ ls) put.is; outside = put.outside }
+
+behind-closing : (more : List (Line Placed)) (block : Option Placed) (lines : List (Line Placed)) → IsPutOutside more block lines (after_closing more lines)
+behind-closing more block [] = record { front = []; back = []; was = refl; is = sym (append-nil more); outside = λ closed. closed }
+behind-closing more block (Blank ∷ lines) = behind-line more block Blank lines _ (behind-closing more block lines)
+behind-closing more block (Comment text ∷ lines) = behind-line more block (Comment text) lines _ (behind-closing more block lines)
+behind-closing more block (Open verb suffix ∷ lines) = behind-line more block (Open verb suffix) lines _ (behind-closing more (Some verb) lines)
+behind-closing more block (Close suffix ∷ lines) = record { front = Close suffix ∷ []; back = lines; was = refl; is = refl; outside = λ closed. refl }
+behind-closing more block (Entry words suffix ∷ lines) = behind-line more block (Entry words suffix) lines _ (behind-closing more block lines)
+
+behind-first : (test : Directive → Bool) (more : List (Line Placed)) (block : Option Placed) (lines : List (Line Placed)) → IsPutOutside more block lines (after_first_of test more block lines)
+behind-first test more block [] = behind-closing more block []
+behind-first test more block (line ∷ lines) = elim (cases_Bool (passes test (directive_at block line))) [
+  | inl hit ↦ rw hit (elim (cases_Bool (is_some block)) [
+    | inl inside ↦ rw inside (behind-line more block line lines _ (behind-closing more (block_after_line block line) lines))
+    | inr outside ↦ rw outside (record { front = line ∷ []; back = lines; was = refl; is = refl; outside = λ closed. passing-level test block line hit ∙ no-block block outside })
+  ])
+  | inr miss ↦ rw miss (behind-line more block line lines _ (behind-first test more (block_after_line block line) lines))
+]
+
+pub after-first-into : (test : Directive → Bool) (v : List ℕ) (arguments : List Placed) (lines : List (Line Placed)) → IsPutInto v arguments lines (after_first_of test (Blank ∷ single v arguments ∷ []) None lines)
+after-first-into test v arguments lines =
+    let put = behind-first test (Blank ∷ single v arguments ∷ []) None lines in
+    record {
+      front = put.front;
+      back = put.back;
+      gap = true;
+      inside = false;
+      was = put.was;
+      is = put.is;
+      fits = λ closed. (ap is_some (put.outside closed), subst (IsOfVerb v) (sym (put.outside closed)) tt);
+    }
+
+-- ---- what an operation puts in
+
+-- the verb and the arguments of the entry that an operation puts in, if it does
+abbrev pub entry_put : Edit → Option (List ℕ × List Placed)
+entry_put (Set (GoIs text)) = Some (codes "go", made_word text ∷ [])
+entry_put edit = new_entry edit
+
+-- what holds of the lines after an operation that targets none
+pub by-put : (P : Edit → List (Line Placed) → Type 0) (lines : List (Line Placed)) → ((path : List ℕ) → P (Set (ModuleIs path)) lines)
+    → ((edit : Edit) (entry : List ℕ × List Placed) (after : List (Line Placed)) → entry_put edit ≡ Some entry → IsPutInto entry.0 entry.1 lines after → P edit after) → ((t : Target) → P (Drop t) lines) → (edit : Edit) → P edit (put_in edit lines)
+unfolding put_in
+by-put P lines module_is put drop (Set (ModuleIs path)) = module_is path
+by-put P lines module_is put drop (Set (GoIs text)) = put (Set (GoIs text)) _ _ refl (after-first-into is_module (codes "go") (made_word text ∷ []) lines)
+by-put P lines module_is put drop (Set (RequireAt p)) = put (Set (RequireAt p)) _ _ refl (added-into _ _ lines)
+by-put P lines module_is put drop (Set (ReplaceWith r)) = put (Set (ReplaceWith r)) _ _ refl (added-into _ _ lines)
+by-put P lines module_is put drop (Add (Exclude p)) = put (Add (Exclude p)) _ _ refl (added-into _ _ lines)
+by-put P lines module_is put drop (Add (Retract ends)) = put (Add (Retract ends)) _ _ refl (added-into _ _ lines)
+by-put P lines module_is put drop (Drop t) = drop t
