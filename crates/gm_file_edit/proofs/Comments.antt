@@ -1,11 +1,11 @@
 -- No operation removes, adds or moves a comment line.
 use Rattle.std.proofs.Common.{◌≡◌, ℕ, ◌&&◌, Bool, true, false, List, [], ◌∷◌, ◌++◌, Option, Some, None, refl, sym, ap, ◌∙◌, inl, inr}
-use Rattle.std.specs.Prelude.{filter}
+use Rattle.std.specs.Prelude.{filter, if◌then◌else◌}
 use Rattle.std.proofs.lemmas.Bool.{cases_Bool}
 use Rattle.std.proofs.lemmas.List.Elements.{filter-append}
 use Rattle.gm_syntax.specs.Tokens.{Placed}
 use Rattle.gm_syntax.specs.Document.{Line, Blank, Comment, Open, Close, Entry}
-use Rattle.gm_file.specs.Directives.{Directive, item_at}
+use Rattle.gm_file.specs.Directives.{Directive, block_after_line, item_at}
 use Rattle.gm_file_edit.specs.Edits.{Edit, Set, Setting, ModuleIs, GoIs, RequireAt, ReplaceWith, Add, Drop}
 use Rattle.gm_file_edit.specs.About.{about}
 use Rattle.gm_file_edit.specs.Edited.{changed, edited, put_in}
@@ -14,6 +14,7 @@ use Rattle.gm_file_edit.specs.Fates.{Fate, dropped, dropping_from, is_emptied, k
 use Rattle.gm_file_edit.specs.Holding.{directive_at, passes}
 use Rattle.gm_file_edit.specs.NewWords.{entry_at}
 use Rattle.gm_file_edit.specs.Renewing.{made_new}
+use Rattle.gm_file_edit.proofs.Filters.{filter-none}
 use Rattle.gm_file_edit.proofs.Insertions.{IsPutInto, by-put, gap_lines}
 use Rattle.gm_file_edit.proofs.Untouched.{by-edited}
 
@@ -44,51 +45,42 @@ remaining-comments fates = left-comments false false fates
 
 -- ---- the lines without the targeted entries
 
-pub blank-holds : (block : Option Placed) → directive_at block Blank ≡ None
-unfolding item_at
-blank-holds None = refl
-blank-holds (Some verb) = refl
-
-pub comment-holds : (block : Option Placed) (text : List ℕ) → directive_at block (Comment text) ≡ None
-unfolding item_at
-comment-holds None text = refl
-comment-holds (Some verb) text = refl
-
-pub open-holds : (block : Option Placed) (verb : Placed) (suffix : Option (List ℕ)) → directive_at block (Open verb suffix) ≡ None
-unfolding item_at
-open-holds None verb suffix = refl
-open-holds (Some outer) verb suffix = refl
-
-pub close-holds : (block : Option Placed) (suffix : Option (List ℕ)) → directive_at block (Close suffix) ≡ None
-unfolding item_at
-close-holds None suffix = refl
-close-holds (Some verb) suffix = refl
-
-dropping-comments : (test : Directive → Bool) (block : Option Placed) (lines : List (Line Placed)) → comments (kept (dropping_from test block lines)) ≡ comments lines
-dropping-comments test block [] = refl
-dropping-comments test block (Blank ∷ lines) = rw (blank-holds block) (dropping-comments test block lines)
-dropping-comments test block (Comment text ∷ lines) = rw (comment-holds block text) (ap (λ (ls : List (Line Placed)). Comment text ∷ ls) (dropping-comments test block lines))
-dropping-comments test block (Open verb suffix ∷ lines) = rw (open-holds block verb suffix) (dropping-comments test (Some verb) lines)
-dropping-comments test block (Close suffix ∷ lines) = rw (close-holds block suffix) (dropping-comments test None lines)
-dropping-comments test block (Entry words suffix ∷ lines) = elim (cases_Bool (passes test (directive_at block (Entry words suffix)))) [
-  | inl holds ↦ rw holds (dropping-comments test block lines)
-  | inr fails ↦ rw fails (dropping-comments test block lines)
-]
-
 -- the rewritten form of an entry is no comment line
 abbrev RewritesEntries : (Option Placed → Line Placed → Line Placed) → Type 0
 RewritesEntries new = (block : Option Placed) (words : List Placed) (suffix : Option (List ℕ)) → is_comment_line (new block (Entry words suffix)) ≡ false
 
+-- a line that holds a directive is no comment line, and neither is its rewritten form
+no-comment : (test : Directive → Bool) (new : Option Placed → Line Placed → Line Placed) → RewritesEntries new → (block : Option Placed) (line : Line Placed) → passes test (directive_at block line) ≡ true
+    → (is_comment_line line ≡ false) × (is_comment_line (new block line) ≡ false)
+unfolding item_at
+no-comment test new rewrites block Blank hit = absurd cc
+no-comment test new rewrites block (Comment text) hit = absurd cc
+no-comment test new rewrites block (Open verb suffix) hit = absurd cc
+no-comment test new rewrites block (Close suffix) hit = absurd cc
+no-comment test new rewrites block (Entry words suffix) hit = (refl, rewrites block words suffix)
+
+behind-same : (line : Line Placed) (xs ys : List (Line Placed)) → comments xs ≡ comments ys → comments (line ∷ xs) ≡ comments (line ∷ ys)
+behind-same line xs ys e = ap (λ (ls : List (Line Placed)). if is_comment_line line then line ∷ ls else ls) e
+
+dropping-comments : (test : Directive → Bool) (block : Option Placed) (lines : List (Line Placed)) → comments (kept (dropping_from test block lines)) ≡ comments lines
+dropping-comments test block [] = refl
+dropping-comments test block (line ∷ lines) =
+    let rest = dropping-comments test (block_after_line block line) lines in
+    elim (cases_Bool (passes test (directive_at block line))) [
+      | inl hit ↦ rw hit (rest ∙ sym (filter-none is_comment_line line lines (no-comment test (λ b l. l) (λ b words suffix. refl) block line hit).0))
+      | inr miss ↦ rw miss (behind-same line (kept (dropping_from test (block_after_line block line) lines)) lines rest)
+    ]
+
 renewing-comments : (test : Directive → Bool) (new : Option Placed → Line Placed → Line Placed) → RewritesEntries new → (block : Option Placed) (lines : List (Line Placed)) → comments (kept (renewing_from test new block lines)) ≡ comments lines
 renewing-comments test new rewrites block [] = refl
-renewing-comments test new rewrites block (Blank ∷ lines) = rw (blank-holds block) (renewing-comments test new rewrites block lines)
-renewing-comments test new rewrites block (Comment text ∷ lines) = rw (comment-holds block text) (ap (λ (ls : List (Line Placed)). Comment text ∷ ls) (renewing-comments test new rewrites block lines))
-renewing-comments test new rewrites block (Open verb suffix ∷ lines) = rw (open-holds block verb suffix) (renewing-comments test new rewrites (Some verb) lines)
-renewing-comments test new rewrites block (Close suffix ∷ lines) = rw (close-holds block suffix) (renewing-comments test new rewrites None lines)
-renewing-comments test new rewrites block (Entry words suffix ∷ lines) = elim (cases_Bool (passes test (directive_at block (Entry words suffix)))) [
-  | inl holds ↦ rw (holds, rewrites block words suffix) (dropping-comments test block lines)
-  | inr fails ↦ rw fails (renewing-comments test new rewrites block lines)
-]
+renewing-comments test new rewrites block (line ∷ lines) =
+    let behind : Option Placed = block_after_line block line in
+    elim (cases_Bool (passes test (directive_at block line))) [
+      | inl hit ↦
+          let none = no-comment test new rewrites block line hit in
+          rw hit (filter-none is_comment_line (new block line) (kept (dropping_from test behind lines)) none.1 ∙ dropping-comments test behind lines ∙ sym (filter-none is_comment_line line lines none.0))
+      | inr miss ↦ rw miss (behind-same line (kept (renewing_from test new behind lines)) lines (renewing-comments test new rewrites behind lines))
+    ]
 
 dropped-comments : (test : Directive → Bool) (lines : List (Line Placed)) → comments (dropped test lines) ≡ comments lines
 dropped-comments test lines = remaining-comments (dropping_from test None lines) ∙ dropping-comments test None lines

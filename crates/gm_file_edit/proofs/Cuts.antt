@@ -1,9 +1,9 @@
--- Splitting and trimming the texts of operations keeps them valid UTF-8.
+-- Splitting and trimming the texts of operations keeps them valid UTF-8; paths and versions that are parsed.
 use Rattle.std.specs.Borrow.{Bor}
 use Rattle.std.specs.Prelude.{MatchOption, slice_index}
 use Rattle.gm_file_edit.specs.Sound.{split_seen}
-use Rattle.gm_name.proofs.NameTests.{and_both}
-use Rattle.std.proofs.Common.{◌≡◌, ℕ, ◌+◌, ◌-◌, ◌==◌, ◌&&◌, ◌<◌, ◌≤◌, nat_lt, true, false, List, [], ◌∷◌, length, get_or, take_while, Option, Some, None, inl, inr, refl, subst, ◌∙◌, arith}
+use Rattle.gm_name.proofs.NameTests.{and_both, path-tested, version-tested}
+use Rattle.std.proofs.Common.{◌≡◌, ℕ, ◌+◌, ◌-◌, ◌==◌, ◌&&◌, ◌<◌, ◌≤◌, nat_lt, true, false, List, [], ◌∷◌, length, get_or, take_while, Option, Some, None, inl, inr, refl, subst, ◌∙◌, arith, ◌↔◌, Bool}
 use Rattle.std.proofs.lemmas.Bool.{cases_Bool, cases_lt}
 use Rattle.std.proofs.lemmas.Bool.Decides.{nat_tests}
 use Rattle.std.proofs.lemmas.List.Folds.{length-prefix_len}
@@ -11,7 +11,10 @@ use Rattle.std.proofs.lemmas.List.Sums.{prefix_len-le-length, prefix_len_passes}
 use Rattle.std.proofs.lemmas.Str.{IsCharBoundary-start, IsCharBoundary-after_ascii}
 use Rattle.std.specs.List.{position_or_len, prefix_len, before_first, after_first}
 use Rattle.std.specs.Str.{IsCharBoundary, IsUtf8}
-use Rattle.gm_file_edit.specs.Edits.{split_at_byte, has_byte, is_bracketed, is_space_or_tab}
+use Rattle.gm_file_edit.specs.Edits.{split_at_byte, has_byte, is_bracketed, is_space_or_tab, path_in, version_in}
+use Rattle.gm_name.specs.Path.{IsPath}
+use Rattle.gm_name.specs.Version.{IsVersion}
+use Rattle.gm_name.specs.Names.{is_path, is_version}
 
 pub blank-ascii : (b : ℕ) → is_space_or_tab b ≡ true → b < 128
 blank-ascii b e = grind (arith, nat_tests)
@@ -66,3 +69,21 @@ open-boundary text utf8 e =
     let at : slice_index text 0 ≡ 91 = grind (arith, nat_tests) in
     let small : get_or text 0 0 < 128 = grind arith in
     IsCharBoundary-after_ascii text 0 utf8 (omega (arith, long)) small
+
+-- ---- paths and versions, by the facts proved in gm_name
+
+not-tested : (b : Bool) (P : Type 0) → (b ≡ true ↔ P) → ¬ P → b ≡ false
+not-tested true P is none = absurd (none (is.0 refl))
+not-tested false P is none = refl
+
+pub path-there : (text : List ℕ) → IsPath text → path_in text ≡ Some text
+path-there text holds = rw ((path-tested text).1 holds) refl
+
+pub path-none : (text : List ℕ) → ¬ (IsPath text) → path_in text ≡ None
+path-none text fails = rw (not-tested (is_path text) (IsPath text) (path-tested text) fails) refl
+
+pub version-there : (text : List ℕ) → IsVersion text → version_in text ≡ Some text
+version-there text holds = rw ((version-tested text).1 holds) refl
+
+pub version-none : (text : List ℕ) → ¬ (IsVersion text) → version_in text ≡ None
+version-none text fails = rw (not-tested (is_version text) (IsVersion text) (version-tested text) fails) refl

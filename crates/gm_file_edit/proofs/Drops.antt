@@ -15,7 +15,7 @@ use Rattle.gm_file_edit.specs.Holding.{directive_at, passes, is_there}
 use Rattle.gm_file_edit.proofs.Filters.{fewer-any, filter-any, filter-none, filter-one, none-any, none-filtered, others}
 use Rattle.gm_file_edit.proofs.Insertions.{passing-level}
 use Rattle.gm_file_edit.proofs.Pairs.{AreRightFrom, IsRightLine, IsSound, held_from}
-use Rattle.gm_file_edit.proofs.Renews.{IsRenewal, Makes}
+use Rattle.gm_file_edit.proofs.Made.{IsRenewal, Makes}
 use Rattle.gm_file_edit.proofs.Said.{dropped-held, held-some, renewed-alone, renewed-others}
 use Rattle.gm_file_edit.proofs.Seats.{fewer-all, remaining-left}
 
@@ -108,10 +108,7 @@ others-declared test other ds some =
 -- ---- both
 
 sound-by : (lines : List (Line Placed)) → AreRightTo None lines None → AreApart (held_from None lines) → list_any is_module (held_from None lines) ≡ true → IsSound lines
-sound-by lines right apart declared = record {
-  lines_are = record { right = right.0; apart = apart; declared = declared };
-  closed = right.1;
-}
+sound-by lines right apart declared = record { lines_are = record { right = right.0; apart = apart; declared = declared }; closed = right.1 }
 
 module _ (test : Directive → Bool) (lines : List (Line Placed)) (sound : IsSound lines) where
   abbrev ds : List Directive

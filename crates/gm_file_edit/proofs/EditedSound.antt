@@ -26,8 +26,7 @@ use Rattle.gm_file_edit.specs.Holding.{is_there}
 use Rattle.gm_file_edit.specs.NewWords.{interval_words, pair_words, replace_words, single}
 use Rattle.gm_file_edit.specs.Renewing.{made_new}
 use Rattle.gm_file_edit.specs.Sound.{AreVersions, IsPairOfNames, IsSoundEdit}
-use Rattle.gm_file_edit.proofs.AddingSound.{IsAddition, IsNewTo, into-sound}
-use Rattle.gm_file_edit.proofs.Insertions.{by-put, entry_put, there-is}
+use Rattle.gm_file_edit.proofs.Insertions.{IsAddition, IsNewTo, into-sound, by-put, entry_put, there-is}
 use Rattle.gm_file_edit.proofs.Filters.{fewer-any}
 use Rattle.gm_file_edit.proofs.Drops.{dropped-sound, renewed-sound}
 use Rattle.gm_file_edit.proofs.Feeds.{byte-feed, go-feed, path-feed, version-feed}

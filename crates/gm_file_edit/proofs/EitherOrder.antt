@@ -1,5 +1,6 @@
 -- Two operations with no common target leave the same directives in either order.
 use Rattle.std.proofs.Common.{◌≡◌, if◌then◌else◌, Bool, List, [], ◌∷◌, ◌++◌, refl, sym, ap, subst, ◌∙◌}
+use mathlib.Core.Bool.{and_comm}
 use Rattle.std.specs.Prelude.{filter}
 use Rattle.std.specs.List.{list_any}
 use Rattle.std.specs.List.Sorted.{IsPermutation}
@@ -13,14 +14,11 @@ use Rattle.gm_file_edit.specs.Edits.{Edit, Set, Add, Drop}
 use Rattle.gm_file_edit.specs.Laws.{AreApart, EitherOrderLeavesTheSame, IsEditOf, directives_of}
 use Rattle.gm_file_edit.specs.Kinds.{directive_added, directive_set}
 use Rattle.gm_file_edit.proofs.EditedSound.{edited-document}
-use Rattle.gm_file_edit.proofs.Filters.{among-others, and-swap, any-filled, filters-swap, is_filled, no-filter, others}
+use Rattle.gm_file_edit.proofs.Filters.{among-others, any-filled, filters-swap, is_filled, no-filter, others}
 use Rattle.gm_file_edit.proofs.SaidAfter.{added-is-there, dropped-is-gone, others-stay, set-stands-alone}
 use Rattle.gm_file_edit.proofs.Written.{written-sound}
 
 -- ---- one operation on two files
-
-abbrev as_before : Directive → Bool → List Directive → List Directive
-as_before d there said = if there then said else d ∷ []
 
 -- files that say the same of what an operation targets do so after it
 targeted-same : (edit : Edit) (xs ys : List (Line Placed)) → IsEditOf edit xs → IsEditOf edit ys → filter (about edit) (directives_of xs) ≡ filter (about edit) (directives_of ys)
@@ -29,8 +27,8 @@ targeted-same (Set s) xs ys one two same = set-stands-alone (Set s) xs (directiv
 targeted-same (Add a) xs ys one two same =
     let test : Directive → Bool = about (Add a) in
     let there : list_any test (directives_of xs) ≡ list_any test (directives_of ys) = any-filled test (directives_of xs) ∙ ap is_filled same ∙ sym (any-filled test (directives_of ys)) in
-    added-is-there (Add a) xs (directive_added a) one refl ∙ ap (λ (b : Bool). as_before (directive_added a) b (filter test (directives_of xs))) there
-    ∙ ap (as_before (directive_added a) (list_any test (directives_of ys))) same ∙ sym (added-is-there (Add a) ys (directive_added a) two refl)
+    added-is-there (Add a) xs (directive_added a) one refl ∙ ap (λ (b : Bool). if b then filter test (directives_of xs) else directive_added a ∷ []) there
+    ∙ ap (λ (ds : List Directive). if list_any test (directives_of ys) then ds else directive_added a ∷ []) same ∙ sym (added-is-there (Add a) ys (directive_added a) two refl)
 targeted-same (Drop t) xs ys one two same =
     let test : Directive → Bool = about (Drop t) in
     no-filter test (directives_of (edited (Drop t) xs)) (dropped-is-gone (Drop t) xs refl) ∙ sym (no-filter test (directives_of (edited (Drop t) ys)) (dropped-is-gone (Drop t) ys refl))
@@ -65,15 +63,12 @@ neither-after one other lines is also =
     ∙ ap (filter (others (about one))) (others-stay other (edited one lines) (edit-after other one lines also is))
     ∙ filters-swap (others (about one)) (others (about other)) (directives_of (edited one lines)) ∙ ap (filter (others (about other))) (others-stay one lines is)
 
-neither-swap : (one other : Edit) (ds : List Directive) → neither one other ds ≡ neither other one ds
-neither-swap one other ds = filters-swap (others (about other)) (others (about one)) ds
-
 -- the directives in three parts
 abbrev parts_of : Edit → Edit → List Directive → List Directive
 parts_of one other ds = filter (about one) ds ++ (filter (about other) ds ++ neither one other ds)
 
 apart-swap : (one other : Edit) → AreApart one other → AreApart other one
-apart-swap one other apart d = and-swap (about other d) (about one d) ∙ apart d
+apart-swap one other apart d = and_comm (about other d) (about one d) ∙ apart d
 
 in-parts : (one other : Edit) (ds : List Directive) → AreApart one other → IsPermutation ds (parts_of one other ds)
 in-parts one other ds apart =
@@ -91,7 +86,7 @@ either-order one other lines is also apart =
     let here : filter (about one) xs ≡ filter (about one) ys = first-same one other lines is also apart in
     let there : filter (about other) xs ≡ filter (about other) ys = sym (first-same other one lines also is (apart-swap one other apart)) in
     let rest : neither one other xs ≡ neither one other ys =
-    neither-after one other lines is also ∙ neither-swap one other (directives_of lines) ∙ sym (neither-after other one lines also is) ∙ sym (neither-swap one other ys) in
+    neither-after one other lines is also ∙ filters-swap (others (about other)) (others (about one)) (directives_of lines) ∙ sym (neither-after other one lines also is) ∙ sym (filters-swap (others (about other)) (others (about one)) ys) in
     let same : parts_of one other xs ≡ parts_of one other ys =
     ap (λ (ds : List Directive). ds ++ (filter (about other) xs ++ neither one other xs)) here ∙ ap (λ (ds : List Directive). filter (about one) ys ++ (ds ++ neither one other xs)) there
     ∙ ap (λ (ds : List Directive). filter (about one) ys ++ (filter (about other) ys ++ ds)) rest in

@@ -1,6 +1,6 @@
 -- Texts without a line feed: paths, versions and go versions.
 use Rattle.std.proofs.Common.{◌≡◌, ◌≢◌, ℕ, suc, ◌+◌, ◌==◌, ◌&&◌, not, nat_lt, Bool, true, false, List, [], ◌∷◌, length, take, drop, take_while, Option, Some, None, is_some, refl, sym, ap, subst, ◌∙◌, arith, inl, inr}
-use Rattle.std.specs.Prelude.{if◌then◌else◌}
+use Rattle.std.specs.Prelude.{if◌then◌else◌, option_and_then}
 use Rattle.std.specs.Char.{is_ascii_digit, is_ascii_lowercase}
 use Rattle.std.specs.List.{AllByRecursion, list_all, prefix_len}
 use Rattle.std.specs.Str.Parse.{digits_value}
@@ -16,9 +16,25 @@ use Rattle.gm_name.specs.Path.{IsPath, is_byte_of_path}
 use Rattle.gm_name.specs.Version.{IsVersion, is_byte_of_version}
 use Rattle.gm_name.proofs.Bytes.{path-bytes, version-bytes}
 use Rattle.gm_name.proofs.NameTests.{and_both, path-tested, version-tested}
-use Rattle.gm_file.specs.Values.{both}
 use Rattle.gm_file_edit.specs.Edits.{has_byte}
 use Rattle.gm_file.specs.GoVersions.{after_dot, before_dot, first_number, has_dot, is_go_suffix, last_number, numbers, second_number, small_number, strict_go}
+use Rattle.std.specs.Option.{option_map}
+use Rattle.gm_file.specs.Values.{both}
+
+-- ---- options that hold a value
+
+pub map-some : {X Y : Type 0} (f : X → Y) (o : Option X) (y : Y) → option_map f o ≡ Some y → (x : X) × (o ≡ Some x) × (f x ≡ y)
+map-some f None y e = absurd cc
+map-some f (Some x) y e = (x, refl, cc)
+
+pub then-some : {X Y : Type 0} (f : X → Option Y) (o : Option X) (y : Y) → option_and_then f o ≡ Some y → (x : X) × (o ≡ Some x) × (f x ≡ Some y)
+then-some f None y e = absurd cc
+then-some f (Some x) y e = (x, refl, e)
+
+pub both-are : {A B C : Type 0} (f : A → B → C) (a : Option A) (b : Option B) (c : C) → both f a b ≡ Some c → (x : A) × (y : B) × (a ≡ Some x) × (b ≡ Some y) × (f x y ≡ c)
+both-are f None b c e = absurd cc
+both-are f (Some x) None c e = absurd cc
+both-are f (Some x) (Some y) c e = (x, y, refl, refl, cc)
 
 -- a text whose bytes pass a test that a byte fails is without the byte
 pub has-no : (byte : ℕ) (test : ℕ → Bool) → test byte ≡ false → (text : List ℕ) → list_all test text ≡ true → AllByRecursion (λ b. b ≢ byte) text
@@ -55,11 +71,6 @@ if-some false o x e = absurd cc
 pub if-other : {X : Type 0} (b : Bool) (o : Option X) (x : X) → (if b then None else o) ≡ Some x → (b ≡ false) × (o ≡ Some x)
 if-other true o x e = absurd cc
 if-other false o x e = (refl, e)
-
-pub both-some : {A B C : Type 0} (f : A → B → C) (a : Option A) (b : Option B) (c : C) → both f a b ≡ Some c → ((x : A) × (a ≡ Some x)) × ((y : B) × (b ≡ Some y))
-both-some f None b c e = absurd cc
-both-some f (Some x) None c e = absurd cc
-both-some f (Some x) (Some y) c e = ((x, refl), (y, refl))
 
 decimal-feed : (text : List ℕ) → is_decimal text ≡ true → HasNoLineFeed text
 decimal-feed text h = has-no 10 is_ascii_digit refl text (and_both (not (starts_as_no_number text)) (list_all is_ascii_digit text) h).1
@@ -145,5 +156,5 @@ pub go-feed : (text : List ℕ) → is_some (strict_go text) ≡ true → HasNoL
 unfolding strict_go
 go-feed text e =
     let read = some-in (strict_go text) e in
-    let parts = both-some numbers (first_number (before_dot text)) (second_number (after_dot text)) read.0 read.1 in
-    dot-feed text (first-feed (before_dot text) parts.0.0 parts.0.1) (second-feed (after_dot text) parts.1.0 parts.1.1)
+    let parts = both-are numbers (first_number (before_dot text)) (second_number (after_dot text)) read.0 read.1 in
+    dot-feed text (first-feed (before_dot text) parts.0 parts.2) (second-feed (after_dot text) parts.1 parts.3)

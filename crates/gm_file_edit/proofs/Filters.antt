@@ -1,5 +1,6 @@
 -- Filters of lists, and tests of what they leave.
 use Rattle.std.proofs.Common.{◌≡◌, ◌&&◌, ◌||◌, not, if◌then◌else◌, Bool, true, false, List, [], ◌∷◌, refl, sym, ap, ◌∙◌, inl, inr}
+use mathlib.Core.Bool.{and_comm, and_self}
 use Rattle.std.specs.Prelude.{filter}
 use Rattle.std.specs.List.{list_any}
 use Rattle.std.proofs.lemmas.Bool.{and_right, cases_Bool, not-true, or_from, or_parts}
@@ -89,20 +90,10 @@ among-others test other apart xs = filter-filter test (others other) xs ∙ filt
     beside false true e = refl
     beside false false e = refl
 
-pub and-swap : (a b : Bool) → (a && b) ≡ (b && a)
-and-swap true true = refl
-and-swap true false = refl
-and-swap false true = refl
-and-swap false false = refl
-
 -- two filters in either order
 pub filters-swap : {X : Type 0} (p q : X → Bool) (xs : List X) → filter p (filter q xs) ≡ filter q (filter p xs)
-filters-swap p q xs = filter-filter p q xs ∙ filter_agree (λ x. q x && p x) (λ x. p x && q x) (λ x. and-swap (q x) (p x)) xs ∙ sym (filter-filter q p xs)
+filters-swap p q xs = filter-filter p q xs ∙ filter_agree (λ x. q x && p x) (λ x. p x && q x) (λ x. and_comm (q x) (p x)) xs ∙ sym (filter-filter q p xs)
 
 -- filtering a second time changes nothing
 pub others-twice : {X : Type 0} (test : X → Bool) (xs : List X) → filter (others test) (filter (others test) xs) ≡ filter (others test) xs
-others-twice test xs = filter-filter (others test) (others test) xs ∙ filter_agree (λ x. others test x && others test x) (others test) (λ x. and-same (others test x)) xs
-  where
-    and-same : (a : Bool) → (a && a) ≡ a
-    and-same true = refl
-    and-same false = refl
+others-twice test xs = filter-filter (others test) (others test) xs ∙ filter_agree (λ x. others test x && others test x) (others test) (λ x. and_self (others test x)) xs

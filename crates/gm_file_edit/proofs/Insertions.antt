@@ -1,32 +1,36 @@
--- Where an operation puts a new entry: next to those of its verb, or outside blocks after a blank line.
+-- Where an operation puts a new entry, next to those of its verb, or outside blocks after a blank line, and that the lines
+-- stay a document without a fault.
 use Rattle.std.proofs.Common.{◌≡◌, ℕ, ◌||◌, Bool, true, false, List, [], ◌∷◌, ◌++◌, Option, Some, None, is_some, refl, sym, ap, subst, ◌∙◌, append-nil, append_assoc, inl, inr}
+use mathlib.Core.Bool.{or_assoc}
 use Rattle.std.specs.Prelude.{⊤, codes}
 use Rattle.std.specs.List.{cons_option, list_any}
 use Rattle.std.proofs.lemmas.Bool.{and_right, cases_Bool, or_right, true≢false}
 use Rattle.gm_syntax.specs.Tokens.{Placed, words_of}
-use Rattle.gm_syntax.specs.Document.{Line, Blank, Comment, Open, Close, Entry}
-use Rattle.gm_file.specs.Directives.{Strict, Directive, block_after_line, block_after_lines, item_at, main_verb, verb_in, verb_of_directive}
-use Rattle.gm_file.specs.Faults.{is_module}
+use Rattle.gm_syntax.specs.Document.{Line, Blank, Comment, Open, Close, Entry, IsValidLine}
+use Rattle.gm_file.specs.Directives.{Strict, Directive, block_after_line, block_after_lines, item_at, main_verb, verb_in, verb_of_directive, Item, Silent, Opening, Saying, directive_in, directive_of, is_empty_block, with_blocks}
+use Rattle.gm_file.specs.Faults.{is_module, directive_kinds, entry_kinds, item_kinds}
 use Rattle.gm_file.proofs.DirectiveVerbs.{directive-verb, same-verb}
 use Rattle.gm_file_edit.specs.Edited.{added, after_closing, after_first_of, after_last_of, has_verb, new_entry, put_in}
 use Rattle.gm_file_edit.specs.Edits.{Edit, Target, Set, ModuleIs, GoIs, RequireAt, ReplaceWith, Add, Exclude, Retract, Drop}
-use Rattle.gm_file_edit.specs.Holding.{directive_at, passes, is_there}
+use Rattle.gm_file_edit.specs.Holding.{directive_at, passes, is_there, item_of}
 use Rattle.gm_file_edit.specs.Laws.{directives_of}
 use Rattle.gm_file_edit.specs.NewWords.{entry_at, made_word, single}
-use Rattle.gm_file_edit.proofs.Pairs.{block-append, file-held, held_from, no-block}
+use Rattle.gm_file_edit.proofs.Pairs.{block-append, file-held, held_from, no-block, IsSound, held_in, put-line}
+use Rattle.gm_syntax.specs.Bare.{new_word}
+use Rattle.gm_syntax.specs.LineViews.{plain}
+use Rattle.gm_syntax.proofs.Changes.{blank_stands}
+use Rattle.gm_file.specs.declared.verb.Verb.{Verb}
+use Rattle.gm_file.specs.Pairwise.{do_clash}
+use Rattle.gm_file.proofs.Pairwise.{IsClear}
 
 -- ---- lines that hold a directive
-
-or-assoc : (a b c : Bool) → (a || (b || c)) ≡ ((a || b) || c)
-or-assoc true b c = refl
-or-assoc false b c = refl
 
 pub there-append : (test : Directive → Bool) (block : Option Placed) (xs ys : List (Line Placed)) → is_there test block (xs ++ ys) ≡ (is_there test block xs || is_there test (block_after_lines block xs) ys)
 there-append test block [] ys = refl
 there-append test block (line ∷ xs) ys =
     let here : Bool = passes test (directive_at block line) in
     let behind : Option Placed = block_after_line block line in
-    ap (λ (b : Bool). here || b) (there-append test behind xs ys) ∙ or-assoc here (is_there test behind xs) (is_there test (block_after_lines behind xs) ys)
+    ap (λ (b : Bool). here || b) (there-append test behind xs ys) ∙ sym (or_assoc here (is_there test behind xs) (is_there test (block_after_lines behind xs) ys))
 
 any-held : (test : Directive → Bool) (held : Option Directive) (rest : List Directive) → list_any test (cons_option held rest) ≡ (passes test held || list_any test rest)
 any-held test None rest = refl
@@ -221,3 +225,70 @@ by-put P lines module_is put drop (Set (ReplaceWith r)) = put (Set (ReplaceWith 
 by-put P lines module_is put drop (Add (Exclude p)) = put (Add (Exclude p)) _ _ refl (added-into _ _ lines)
 by-put P lines module_is put drop (Add (Retract ends)) = put (Add (Retract ends)) _ _ refl (added-into _ _ lines)
 by-put P lines module_is put drop (Drop t) = drop t
+
+-- ---- they leave a valid file valid
+
+-- ---- an inserted line
+
+-- a line that can be in this block and holds the directive there
+pub record Fits (block : Option Placed) (new : Directive) (line : Line Placed) : Type 0 where
+  pub stands : IsValidLine (is_some block) (plain line)
+  pub holds : directive_at block line ≡ Some new
+  pub level : block_after_line block line ≡ block
+
+-- a directive that has no fault by itself and clashes with none of these
+abbrev pub IsNewTo : List Directive → Directive → Type 0
+IsNewTo ds new = (directive_kinds Strict [] new ≡ []) × (list_any (do_clash new) ds ≡ false)
+
+item-alone : (item : Item) (new : Directive) → directive_in Strict item ≡ Some new → directive_kinds Strict [] new ≡ [] → item_kinds Strict [] item ≡ []
+item-alone Silent new e right = absurd cc
+item-alone (Opening text) new e right = absurd cc
+item-alone (Saying text arguments) new e right = ap (entry_kinds Strict [] (verb_in Strict text)) e ∙ right
+
+-- insertion between the lines of a file
+put-in : (new : Directive) (front back : List (Line Placed)) (line : Line Placed) → Fits (block_after_lines None front) new line → IsNewTo (held_from None (front ++ back)) new
+    → IsSound (front ++ back) → IsSound (front ++ line ∷ back)
+put-in new front back line fits fresh sound =
+    let block : Option Placed = block_after_lines None front in
+    let clear : IsClear (directive_at block line) (held_in (with_blocks (front ++ back))) =
+    subst (λ (o : Option Directive). IsClear o (held_in (with_blocks (front ++ back)))) (sym fits.holds) fresh.1 in
+    put-line front back line (fits.stands, item-alone (item_of block line) new fits.holds fresh.0) fits.level clear sound
+
+-- a blank line holds no directive, so it changes nothing
+with-gap : (gap : Bool) (front back : List (Line Placed)) → IsSound (front ++ back) → IsSound (front ++ (gap_lines gap ++ back))
+unfolding item_at
+with-gap true front back sound = put-line front back Blank (blank_stands (is_some (block_after_lines None front)), refl) refl tt sound
+with-gap false front back sound = sound
+
+-- ---- added entries
+
+-- arguments that give the directive after its verb, both outside blocks and in a block of the verb
+pub record IsAddition (v : List ℕ) (arguments : List Placed) (new : Directive) : Type 0 where
+  pub inside : IsValidLine true (plain (Entry arguments None))
+  pub alone : IsValidLine false (plain (single v arguments))
+  pub written : main_verb (new_word v).spelling ≡ main_verb v
+  pub filled : is_empty_block (words_of arguments) ≡ false
+  pub says : directive_of (main_verb v) (words_of arguments) ≡ Some new
+
+single-holds : (text : List ℕ) (v : Verb) (arguments : List Placed) (new : Directive) → verb_in Strict (new_word text).spelling ≡ v → is_empty_block (words_of arguments) ≡ false
+    → directive_of v (words_of arguments) ≡ Some new → directive_at None (single text arguments) ≡ Some new
+unfolding item_at
+single-holds text v arguments new named filled says = rw (filled, named) says
+
+pub entry-fits : (v : List ℕ) (arguments : List Placed) (new : Directive) (block : Option Placed) → IsOfVerb v block → IsAddition v arguments new → Fits block new (entry_at (is_some block) v arguments)
+unfolding item_at
+entry-fits v arguments new None is so = record { stands = so.alone; holds = single-holds v (main_verb v) arguments new so.written so.filled so.says; level = refl }
+entry-fits v arguments new (Some t) is so = record { stands = so.inside; holds = ap (λ (x : Verb). directive_of x (words_of arguments)) is ∙ so.says; level = refl }
+
+pub into-fits : (v : List ℕ) (arguments : List Placed) (new : Directive) (block : Option Placed) (inside : Bool) → IsAddition v arguments new → (is_some block ≡ inside) × IsOfVerb v block → Fits block new (entry_at inside v arguments)
+into-fits v arguments new block inside so fits = subst (λ (b : Bool). Fits block new (entry_at b v arguments)) fits.0 (entry-fits v arguments new block fits.1 so)
+
+-- an entry that is put in
+pub into-sound : (v : List ℕ) (arguments : List Placed) (new : Directive) (lines after : List (Line Placed)) → IsAddition v arguments new → IsNewTo (held_from None lines) new
+    → IsSound lines → IsPutInto v arguments lines after → IsSound after
+into-sound v arguments new lines after so fresh sound put =
+    let block : Option Placed = block_after_lines None put.front in
+    let fits : Fits block new (entry_at put.inside v arguments) = into-fits v arguments new block put.inside so (put.fits sound.closed) in
+    subst IsSound (sym put.is)
+    (with-gap put.gap put.front (entry_at put.inside v arguments ∷ put.back)
+    (put-in new put.front put.back (entry_at put.inside v arguments) fits (subst (λ (ls : List (Line Placed)). IsNewTo (held_from None ls) new) put.was fresh) (subst IsSound put.was sound)))

@@ -19,6 +19,13 @@ pub record AreKeyed (lines : List declared.Line) (keys : List Key) (seen : List 
   pub view : line_views lines ≡ seen
   pub numbers : keys ≡ map key_of (line_views lines)
 
+-- lines and keys that change alike
+keyed-by : (lines new : List declared.Line) (keys changed : List Key) (seen : List (Line Placed)) (on_lines : List (Line Placed) → List (Line Placed)) (on_keys : List Key → List Key) → line_views lines ≡ seen → keys ≡ map key_of (line_views lines)
+    → line_views new ≡ on_lines (line_views lines) → changed ≡ on_keys keys → on_keys (map key_of seen) ≡ map key_of (on_lines seen) → AreKeyed new changed (on_lines seen)
+keyed-by lines new keys changed seen on_lines on_keys view are viewed keys_changed same =
+    let seen_new : line_views new ≡ on_lines seen = viewed ∙ ap on_lines view in
+    record { view = seen_new; numbers = keys_changed ∙ ap on_keys (are ∙ ap (map key_of) view) ∙ same ∙ ap (map key_of) (sym seen_new) }
+
 map-swap : {X Y : Type 0} (f : X → Y) (d : X) (xs : List X) (i j : ℕ) → i < length xs → j < length xs → map f (swap xs i j) ≡ swap (map f xs) i j
 map-swap {X} {Y} f d xs i j low high =
     let count = length-map xs f in
@@ -34,21 +41,12 @@ pub swapped : (lines new : List declared.Line) (keys changed : List Key) (seen :
 swapped lines new keys changed seen i j view are moved keys_moved low high =
     let count = length-map lines line_of in
     let whole = ap length view in
-    let seen_new : line_views new ≡ swap seen i j =
-    ap line_views moved ∙ map-swap line_of variants.Blank lines i j (omega (arith, low, count, whole)) (omega (arith, high, count, whole)) ∙ ap (λ (ls : List (Line Placed)). swap ls i j) view in
-    record {
-      view = seen_new;
-      numbers = keys_moved ∙ ap (λ (ks : List Key). swap ks i j) (are ∙ ap (map key_of) view) ∙ sym (map-swap key_of Blank seen i j low high) ∙ ap (map key_of) (sym seen_new);
-    }
+    keyed-by lines new keys changed seen (λ ls. swap ls i j) (λ ks. swap ks i j) view are
+    (ap line_views moved ∙ map-swap line_of variants.Blank lines i j (omega (arith, low, count, whole)) (omega (arith, high, count, whole))) keys_moved (sym (map-swap key_of Blank seen i j low high))
 
 pub taken : (lines new : List declared.Line) (keys changed : List Key) (seen : List (Line Placed)) (n : ℕ) → line_views lines ≡ seen → keys ≡ map key_of (line_views lines)
     → new ≡ take n lines → changed ≡ take n keys → AreKeyed new changed (take n seen)
-taken lines new keys changed seen n view are cut keys_cut =
-    let seen_new : line_views new ≡ take n seen = ap line_views cut ∙ sym (take-map line_of n lines) ∙ ap (take n) view in
-    record {
-      view = seen_new;
-      numbers = keys_cut ∙ ap (take n) (are ∙ ap (map key_of) view) ∙ take-map key_of n seen ∙ ap (map key_of) (sym seen_new);
-    }
+taken lines new keys changed seen n view are cut keys_cut = keyed-by lines new keys changed seen (take n) (take n) view are (ap line_views cut ∙ sym (take-map line_of n lines)) keys_cut (take-map key_of n seen)
 
 -- an item less, seen through a function
 map-without : {X Y : Type 0} (f : X → Y) (n : ℕ) (xs : List X) → map f (take n xs ++ drop (n + 1) xs) ≡ take n (map f xs) ++ drop (n + 1) (map f xs)
@@ -58,29 +56,17 @@ map-without {X} {Y} f n xs =
 pub removed : (lines new : List declared.Line) (keys changed : List Key) (seen : List (Line Placed)) (at : ℕ) → line_views lines ≡ seen → keys ≡ map key_of (line_views lines)
     → new ≡ take at lines ++ drop (at + 1) lines → changed ≡ take at keys ++ drop (at + 1) keys → AreKeyed new changed (take at seen ++ drop (at + 1) seen)
 removed lines new keys changed seen at view are cut keys_cut =
-    let seen_new : line_views new ≡ take at seen ++ drop (at + 1) seen = ap line_views cut ∙ map-without line_of at lines ∙ ap (λ (ls : List (Line Placed)). take at ls ++ drop (at + 1) ls) view in
-    record {
-      view = seen_new;
-      numbers = keys_cut ∙ ap (λ (ks : List Key). take at ks ++ drop (at + 1) ks) (are ∙ ap (map key_of) view) ∙ sym (map-without key_of at seen) ∙ ap (map key_of) (sym seen_new);
-    }
+    keyed-by lines new keys changed seen (λ ls. take at ls ++ drop (at + 1) ls) (λ ks. take at ks ++ drop (at + 1) ks) view are (ap line_views cut ∙ map-without line_of at lines) keys_cut (sym (map-without key_of at seen))
 
 pub inserted : (lines new : List declared.Line) (keys changed : List Key) (seen : List (Line Placed)) (at : ℕ) (line : declared.Line) → line_views lines ≡ seen → keys ≡ map key_of (line_views lines)
     → new ≡ insert lines at line → changed ≡ insert keys at (key_of (line_of line)) → AreKeyed new changed (insert seen at (line_of line))
 inserted lines new keys changed seen at line view are put keys_put =
-    let seen_new : line_views new ≡ insert seen at (line_of line) = ap line_views put ∙ map-insert line_of lines at line ∙ ap (λ (ls : List (Line Placed)). insert ls at (line_of line)) view in
-    record {
-      view = seen_new;
-      numbers = keys_put ∙ ap (λ (ks : List Key). insert ks at (key_of (line_of line))) (are ∙ ap (map key_of) view) ∙ sym (map-insert key_of seen at (line_of line)) ∙ ap (map key_of) (sym seen_new);
-    }
+    keyed-by lines new keys changed seen (λ ls. insert ls at (line_of line)) (λ ks. insert ks at (key_of (line_of line))) view are (ap line_views put ∙ map-insert line_of lines at line) keys_put (sym (map-insert key_of seen at (line_of line)))
 
 pub replaced : (lines new : List declared.Line) (keys changed : List Key) (seen : List (Line Placed)) (at : ℕ) (line : declared.Line) (key : Key) → line_views lines ≡ seen → keys ≡ map key_of (line_views lines)
     → key ≡ key_of (line_of line) → new ≡ set lines at line → changed ≡ set keys at key → AreKeyed new changed (set seen at (line_of line))
 replaced lines new keys changed seen at line key view are of put keys_put =
-    let seen_new : line_views new ≡ set seen at (line_of line) = ap line_views put ∙ map-set line_of lines at line ∙ ap (λ (ls : List (Line Placed)). set ls at (line_of line)) view in
-    record {
-      view = seen_new;
-      numbers = keys_put ∙ ap (λ (ks : List Key). set ks at key) (are ∙ ap (map key_of) view) ∙ ap (set (map key_of seen) at) of ∙ sym (map-set key_of seen at (line_of line)) ∙ ap (map key_of) (sym seen_new);
-    }
+    keyed-by lines new keys changed seen (λ ls. set ls at (line_of line)) (λ ks. set ks at key) view are (ap line_views put ∙ map-set line_of lines at line) keys_put (ap (set (map key_of seen) at) of ∙ sym (map-set key_of seen at (line_of line)))
 
 pub insert-both : {X : Type 0} (xs : List X) (at : ℕ) (x y : X) → at ≤ length xs → insert (insert xs at y) at x ≡ take at xs ++ (x ∷ y ∷ drop at xs)
 insert-both xs zero x y le = refl

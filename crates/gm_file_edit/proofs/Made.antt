@@ -1,7 +1,8 @@
 -- The words of new entries, and what an entry says after its arguments are replaced.
-use Rattle.std.proofs.Common.{◌≡◌, ℕ, ◌<◌, false, List, [], ◌∷◌, ◌++◌, length, Option, Some, None, is_some, refl, sym, ap, subst, ◌∙◌, arith, inl, inr}
+use Rattle.std.proofs.Common.{◌≡◌, ℕ, ◌-◌, ◌<◌, Bool, true, false, List, [], ◌∷◌, ◌++◌, length, length-append, take, Option, Some, None, is_some, refl, sym, ap, subst, ◌∙◌, arith, inl, inr}
 use Rattle.std.specs.List.{AllByRecursion}
 use Rattle.std.proofs.lemmas.Bool.{cases_Bool}
+use Rattle.std.proofs.lemmas.List.{take_at}
 use Rattle.gm_name.specs.ModuleVersion.{ModuleVersion}
 use Rattle.gm_syntax.specs.declared.word.Kind.{Kind}
 use Rattle.gm_syntax.specs.declared.word.Kind.TheVariants.{Bare, Text, Mark}
@@ -18,12 +19,39 @@ use Rattle.gm_syntax.proofs.NewWords.{new_word_no_mark, new_word_stands, value_i
 use Rattle.gm_syntax.proofs.Changes.{entry_stands, standing_entry}
 use Rattle.gm_file.specs.Values.{argument, argument_of_kind}
 use Rattle.gm_file.specs.Directives.{Strict, pair, Directive, Saying, directive_in, directive_of, is_empty_block, item_at, main_verb, one_of, pair_of}
-use Rattle.gm_file.specs.Faults.{directive_kinds, item_kinds, entry_kinds}
+use Rattle.gm_file.specs.Faults.{directive_kinds, item_kinds, entry_kinds, is_module}
 use Rattle.gm_file_edit.specs.Holding.{directive_at, item_of}
 use Rattle.gm_file_edit.specs.NewWords.{made_word}
 use Rattle.gm_file_edit.specs.Renewing.{with_arguments, with_last}
-use Rattle.gm_file_edit.proofs.Renews.{IsMadeNew}
-use Rattle.gm_file_edit.proofs.Parts.{both-are}
+use Rattle.gm_file_edit.proofs.Feeds.{both-are}
+use Rattle.gm_file.specs.Pairwise.{do_clash}
+
+-- ---- what an operation puts in, and how a setting rewrites an entry
+
+-- a directive without a fault, which an operation targets, and which clashes with none that it doesn't target
+pub record IsWanted (test : Directive → Bool) (new : Directive) : Type 0 where
+  pub kinds : directive_kinds Strict [] new ≡ []
+  pub mild : (d : Directive) → test d ≡ false → do_clash new d ≡ false
+  pub own : test new ≡ true
+
+-- a valid entry of this block that says the directive
+pub record IsMadeNew (new : Directive) (block : Option Placed) (next : Line Placed) : Type 0 where
+  pub words : List Placed
+  pub suffix : Option (List ℕ)
+  pub is_entry : next ≡ Entry words suffix
+  pub stands : IsValidLine (is_some block) (plain (Entry words suffix))
+  pub holds : directive_at block (Entry words suffix) ≡ Some new
+  pub alone : item_kinds Strict [] (item_of block (Entry words suffix)) ≡ []
+
+-- each line that holds a targeted directive is rewritten to such an entry
+abbrev pub Makes : (Directive → Bool) → Directive → (Option Placed → Line Placed → Line Placed) → Type 0
+Makes test said make = (block : Option Placed) (line : Line Placed) (d : Directive) → directive_at block line ≡ Some d → test d ≡ true → IsValidLine (is_some block) (plain line) → IsMadeNew said block (make block line)
+
+-- how an operation rewrites the entries that it targets; it targets module directives only to set one
+pub record IsRenewal (test : Directive → Bool) (said : Directive) (make : Option Placed → Line Placed → Line Placed) : Type 0 where
+  pub wanted : IsWanted test said
+  pub made : Makes test said make
+  pub other : (d : Directive) → test d ≡ true → is_module d ≡ is_module said
 
 -- ---- new words
 
@@ -147,15 +175,11 @@ entry-made new was block line next h arguments is stands are says kinds =
 
 -- ---- replacing the last word
 
-pub one-last : (block : Option Placed) (verb : List ℕ) (front : List Placed) (line : Line Placed) (suffix : Option (List ℕ)) (value : List ℕ) (a : Placed) → IsFront block verb front
-    → line ≡ Entry (front ++ a ∷ []) suffix → with_last value block line ≡ Entry (front ++ made_word value ∷ []) suffix
-one-last None verb front line suffix value a at is = rw (is, at.1) refl
-one-last (Some v) verb front line suffix value a at is = rw (is, at.0) refl
+without-last : (words : List Placed) (last : Placed) → take (length (words ++ last ∷ []) - 1) (words ++ last ∷ []) ≡ words
+without-last words last = take_at words (last ∷ []) (length (words ++ last ∷ []) - 1) (omega (arith, length-append words (last ∷ [])))
 
-pub two-last : (block : Option Placed) (verb : List ℕ) (front : List Placed) (line : Line Placed) (suffix : Option (List ℕ)) (value : List ℕ) (a b : Placed) → IsFront block verb front
-    → line ≡ Entry (front ++ a ∷ b ∷ []) suffix → with_last value block line ≡ Entry (front ++ a ∷ made_word value ∷ []) suffix
-two-last None verb front line suffix value a b at is = rw (is, at.1) refl
-two-last (Some v) verb front line suffix value a b at is = rw (is, at.0) refl
+pub last-replaced : (value : List ℕ) (block : Option Placed) (words : List Placed) (last : Placed) (suffix : Option (List ℕ)) → with_last value block (Entry (words ++ last ∷ []) suffix) ≡ Entry (words ++ made_word value ∷ []) suffix
+last-replaced value block words last suffix = ap (λ (front : List Placed). Entry (front ++ made_word value ∷ []) suffix) (without-last words last)
 
 pub all-arguments : (block : Option Placed) (verb : List ℕ) (front old : List Placed) (line : Line Placed) (suffix : Option (List ℕ)) (arguments : List Placed) → IsFront block verb front
     → line ≡ Entry (front ++ old) suffix → with_arguments arguments block line ≡ Entry (front ++ arguments) suffix

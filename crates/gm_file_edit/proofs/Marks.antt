@@ -1,5 +1,5 @@
 -- The marks of lines, and what removing marked lines leaves.
-use Rattle.std.proofs.Common.{◌≡◌, ◌&&◌, ℕ, suc, ◌+◌, ◌<◌, ◌≤◌, not, Bool, true, false, List, [], ◌∷◌, ◌++◌, length, take, set, replicate, Option, Some, None, is_some, refl, sym, ap, ◌∙◌, arith, inl, inr}
+use Rattle.std.proofs.Common.{◌≡◌, ◌&&◌, ℕ, suc, ◌+◌, ◌<◌, ◌≤◌, not, Bool, true, false, List, [], ◌∷◌, ◌++◌, length, take, set, replicate, Option, Some, None, refl, sym, ap, ◌∙◌, arith, inl, inr}
 use Rattle.std.specs.Prelude.{take_while}
 use Rattle.std.proofs.lemmas.List.{length-replicate, length-set, take_all, take_more, take_more_set}
 use Rattle.std.proofs.lemmas.Bool.{cases_Bool}
@@ -10,8 +10,7 @@ use Rattle.gm_file_edit.specs.Fates.{Fate, dropped, dropping_from, fate_by, rema
 use Rattle.gm_file_edit.specs.Holding.{directive_at, passes, is_there}
 use Rattle.gm_file_edit.specs.About.{about}
 use Rattle.gm_file_edit.specs.Edited.{changed, edited, put_in}
-use Rattle.gm_file_edit.specs.Edits.{Edit, Set, Drop, Add}
-use Rattle.gm_file_edit.specs.Kinds.{is_drop, set_by}
+use Rattle.gm_file_edit.specs.Edits.{Edit}
 use Rattle.gm_file_edit.specs.Renewing.{made_new}
 use Rattle.gm_file_edit.specs.Marks.{line_at, marked, marks_from}
 use Rattle.gm_file_edit.specs.declared.keys.Key.{Key}
@@ -116,33 +115,19 @@ pub renewed-marked : (test : Directive → Bool) (new : Option Placed → Line P
     → renewed test new lines ≡ remaining (marked (after_first (marks_from test None lines)) (rewritten new None (marks_from test None lines) lines))
 renewed-marked test new lines lt = ap (remaining) (renewing-marked test new None lines lt)
 
--- ---- what an operation does with the lines that it targets
+-- ---- the lines after an operation
 
-pub sets-changed : (edit : Edit) (lines : List (Line Placed)) → is_some (set_by edit) ≡ true → changed edit lines ≡ renewed (about edit) (made_new edit) lines
-unfolding changed
-sets-changed (Set s) lines e = refl
-sets-changed (Drop t) lines e = absurd cc
-sets-changed (Add a) lines e = absurd cc
-
-pub drops-changed : (edit : Edit) (lines : List (Line Placed)) → is_drop edit ≡ true → changed edit lines ≡ dropped (about edit) lines
-unfolding changed
-drops-changed (Set s) lines e = absurd cc
-drops-changed (Drop t) lines e = refl
-drops-changed (Add a) lines e = absurd cc
-
-pub adds-changed : (edit : Edit) (lines : List (Line Placed)) → is_some (set_by edit) ≡ false → is_drop edit ≡ false → changed edit lines ≡ lines
-unfolding changed
-adds-changed (Set s) lines e f = absurd cc
-adds-changed (Drop t) lines e f = absurd cc
-adds-changed (Add a) lines e f = refl
-
-pub edited-there : (edit : Edit) (lines : List (Line Placed)) → first_of (marks_from (about edit) None lines) < length lines → edited edit lines ≡ changed edit lines
+pub edited-there : (edit : Edit) (lines : List (Line Placed)) (marks : List Bool) (first : ℕ) → marks ≡ marks_from (about edit) None lines → first ≡ length (take_while (λ mark. not mark) marks) → first < length lines → edited edit lines ≡ changed edit lines
 unfolding edited
-edited-there edit lines lt = rw (some-mark (about edit) None lines lt) refl
+edited-there edit lines marks first marks_are first_is lt =
+    let at = first_is ∙ first-is marks ∙ ap first_of marks_are in
+    rw (some-mark (about edit) None lines (omega (arith, at, lt))) refl
 
-pub edited-new : (edit : Edit) (lines : List (Line Placed)) → length lines ≤ first_of (marks_from (about edit) None lines) → edited edit lines ≡ put_in edit lines
+pub edited-new : (edit : Edit) (lines : List (Line Placed)) (marks : List Bool) (first : ℕ) → marks ≡ marks_from (about edit) None lines → first ≡ length (take_while (λ mark. not mark) marks) → length lines ≤ first → edited edit lines ≡ put_in edit lines
 unfolding edited
-edited-new edit lines le = rw (no-mark (about edit) None lines le) refl
+edited-new edit lines marks first marks_are first_is le =
+    let at = first_is ∙ first-is marks ∙ ap first_of marks_are in
+    rw (no-mark (about edit) None lines (omega (arith, at, le))) refl
 
 -- what is left of lines of which the first with a mark is rewritten
 pub renew-is : (edit : Edit) (lines new : List (Line Placed)) (marks others : List Bool) (first : ℕ) (line : Line Placed)

@@ -1,6 +1,5 @@
 -- What the key of a line and its texts say of the line.
 use Rattle.std.proofs.Common.{◌≡◌, ◌==◌, ◌&&◌, ℕ, ◌+◌, ◌<◌, length, take, Bool, true, false, List, [], ◌∷◌, Option, Some, None, is_some, refl, sym, ap, subst, ◌∙◌, inl, inr}
-use Rattle.std.specs.Str.{bytes_eq}
 use Rattle.std.proofs.lemmas.Bool.{and_from, cases_Bool}
 use Rattle.std.proofs.lemmas.Bool.Decides.{Decides-eqb}
 use Rattle.std.proofs.lemmas.Slice.Eq.{bytes_eq-Decides}
@@ -26,9 +25,6 @@ use Rattle.gm_file_edit.proofs.Pairs.{IsSound}
 use Rattle.gm_file_edit.proofs.Targets.{entry-holds, is_entry_of, other-about}
 use Rattle.gm_file_edit.proofs.Told.{AreWords, told}
 use Rattle.gm_file_edit.proofs.Walking.{block-next, right-at}
-
-same-text : (a b : List ℕ) → bytes_eq a b ≡ true → a ≡ b
-same-text a b same = (bytes_eq-Decides a b).0 same
 
 -- ---- verbs
 
@@ -127,7 +123,7 @@ same-version : (a b : Option (List ℕ)) → is_same_version a b ≡ true → a 
 same-version None None same = refl
 same-version None (Some w) same = absurd cc
 same-version (Some v) None same = absurd cc
-same-version (Some v) (Some w) same = ap Some (same-text v w same)
+same-version (Some v) (Some w) same = ap Some ((bytes_eq-Decides v w).0 same)
 
 same-hash : (a b : Option (List ℕ)) → is_same_version a b ≡ true → (hash_at a == hash_at b) ≡ true
 same-hash a b same = (Decides-eqb (hash_at a) (hash_at b)).1 (ap hash_at (same-version a b same))

@@ -1,5 +1,5 @@
 -- The operations that rewrite an entry.
-use Rattle.std.proofs.Common.{◌≡◌, ℕ, ◌&&◌, not, true, false, List, [], ◌∷◌, ◌++◌, Option, Some, None, is_some, refl, sym, ap, subst, ◌∙◌, inl, inr}
+use Rattle.std.proofs.Common.{◌≡◌, ℕ, ◌&&◌, not, true, false, List, [], ◌∷◌, ◌++◌, Option, Some, None, is_some, refl, sym, ap, subst, append_assoc, ◌∙◌, inl, inr}
 use Rattle.std.specs.Prelude.{IfSome}
 use Rattle.std.specs.Option.{option_map}
 use Rattle.std.specs.List.{after_first, before_first}
@@ -29,11 +29,9 @@ use Rattle.gm_file_edit.specs.Holding.{directive_at}
 use Rattle.gm_file_edit.specs.NewWords.{left_words, made_mark, made_word, replace_words, right_words}
 use Rattle.gm_file_edit.specs.Renewing.{made_new, with_arguments, with_last}
 use Rattle.gm_file_edit.specs.Sound.{AreVersions, IsPairOfNames, IsSoundEdit, IsSoundLeft, IsSoundRight, IsSoundVersion}
-use Rattle.gm_file_edit.proofs.Feeds.{byte-feed, go-feed, path-feed, version-feed}
+use Rattle.gm_file_edit.proofs.Feeds.{byte-feed, go-feed, path-feed, version-feed, map-some}
 use Rattle.gm_file_edit.proofs.Folders.{path-no-folder}
-use Rattle.gm_file_edit.proofs.Made.{AreArguments, IsFront, all-arguments, begins-path, entry-made, held-by, made-no-mark, made-stands, made-value, one-are, one-argument, one-last, two-are, two-arguments, two-last}
-use Rattle.gm_file_edit.proofs.Parts.{map-some}
-use Rattle.gm_file_edit.proofs.Renews.{IsMadeNew, IsRenewal, IsWanted, Makes}
+use Rattle.gm_file_edit.proofs.Made.{AreArguments, IsFront, all-arguments, begins-path, entry-made, held-by, made-no-mark, made-stands, made-value, one-are, one-argument, last-replaced, two-are, two-arguments, IsMadeNew, IsRenewal, IsWanted, Makes}
 use Rattle.gm_file_edit.proofs.Targets.{about-module, about-verb}
 use Rattle.gm_file_edit.specs.Edits.{Edit, Set, Setting, ModuleIs, GoIs, RequireAt, ReplaceWith, Add, Exclude, Retract, Drop}
 use Rattle.gm_file_edit.specs.Kinds.{directive_added, directive_set, is_fit}
@@ -65,7 +63,7 @@ one-made v make reads text plain kinds block line d held named stands =
     let one = map-some make (one_of (words_of by.arguments)) d (sym (reads (words_of by.arguments)) ∙ said) in
     let a = one-argument by.arguments one.0 one.1 in
     let is : line ≡ Entry (by.front ++ a.0 ∷ []) by.suffix = by.is ∙ ap (λ (ws : List Placed). Entry (by.front ++ ws) by.suffix) a.1 in
-    entry-made (make text) d block line (with_last text block line) by (made_word text ∷ []) (one-last block by.verb by.front line by.suffix text a.0 by.at is) stands (one-are text plain)
+    entry-made (make text) d block line (with_last text block line) by (made_word text ∷ []) (ap (with_last text block) is ∙ last-replaced text block by.front a.0 by.suffix) stands (one-are text plain)
     (ap (λ (x : Verb). directive_of x (words_of (made_word text ∷ []))) verb ∙ reads (words_of (made_word text ∷ [])) ∙ ap (option_map make) (made-value text plain)) kinds
 
 module-made : (path : List ℕ) → is_path path ≡ true → Makes is_module (DeclaresModule path) (with_last path)
@@ -116,7 +114,8 @@ require-made p names fit block line (Requires q) held e stands =
     let is : line ≡ Entry (by.front ++ two.0 ∷ two.1 ∷ []) by.suffix = by.is ∙ ap (λ (ws : List Placed). Entry (by.front ++ ws) by.suffix) two.2 in
     let word : IsWord two.0.word = kept-word block by.verb by.front (two.1 ∷ []) by.suffix two.0 line by.at is stands in
     entry-made (Requires p) (Requires q) block line (with_last p.1 block line) by (two.0 ∷ made_word p.1 ∷ [])
-    (two-last block by.verb by.front line by.suffix p.1 two.0 two.1 by.at is) stands (two-are two.0 p.0 p.1 word path plain_version) (subst (λ (v : Verb). directive_of v (words_of (two.0 ∷ made_word p.1 ∷ [])) ≡ Some (Requires p)) (sym verb) (require-says two.0 p path plain_version)) (require-kinds p names fit)
+    (ap (with_last p.1 block) (is ∙ ap (λ (ws : List Placed). Entry ws by.suffix) (sym (append_assoc by.front (two.0 ∷ []) (two.1 ∷ [])))) ∙ last-replaced p.1 block (by.front ++ two.0 ∷ []) two.1 by.suffix
+    ∙ ap (λ (ws : List Placed). Entry ws by.suffix) (append_assoc by.front (two.0 ∷ []) (made_word p.1 ∷ []))) stands (two-are two.0 p.0 p.1 word path plain_version) (subst (λ (v : Verb). directive_of v (words_of (two.0 ∷ made_word p.1 ∷ [])) ≡ Some (Requires p)) (sym verb) (require-says two.0 p path plain_version)) (require-kinds p names fit)
 require-made p names fit block line d held e stands = absurd cc
 
 -- ---- a replace

@@ -12,10 +12,9 @@ use Rattle.gm_file.proofs.Pairwise.{nil-parts}
 use Rattle.gm_file_edit.specs.NewWords.{entry_at}
 use Rattle.gm_file_edit.specs.Fates.{Fate, dropped, dropping_from, kept, remaining, renewed, renewing_from}
 use Rattle.gm_file_edit.specs.Holding.{directive_at, passes, is_there}
-use Rattle.gm_file_edit.proofs.AddingSound.{Fits, IsAddition, into-fits}
+use Rattle.gm_file_edit.proofs.Insertions.{Fits, IsAddition, into-fits, IsPutInto, gap_lines, passing-level}
 use Rattle.gm_file_edit.proofs.Filters.{filter-none, filter-one, no-filter, none-of-others, others, others-twice}
-use Rattle.gm_file_edit.proofs.Insertions.{IsPutInto, gap_lines, passing-level}
-use Rattle.gm_file_edit.proofs.Renews.{IsMadeNew, Makes}
+use Rattle.gm_file_edit.proofs.Made.{IsMadeNew, Makes}
 use Rattle.gm_file_edit.proofs.Seats.{fewer-held, remaining-left}
 use Rattle.gm_file_edit.proofs.Pairs.{AreRightFrom, IsSound, held-append, held_from}
 

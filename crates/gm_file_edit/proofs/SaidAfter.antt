@@ -1,8 +1,8 @@
 -- What a file says after an operation.
-use Rattle.std.proofs.Common.{◌≡◌, if◌then◌else◌, Bool, true, false, List, [], ◌∷◌, Some, None, refl, sym, ap, subst, ◌∙◌}
+use Rattle.std.proofs.Common.{◌≡◌, if◌then◌else◌, Bool, true, false, List, [], ◌∷◌, Some, None, refl, sym, ap, subst, ◌∙◌, inl, inr}
 use Rattle.std.specs.Prelude.{filter}
 use Rattle.std.specs.List.{list_any}
-use Rattle.std.proofs.lemmas.Bool.{true≢false}
+use Rattle.std.proofs.lemmas.Bool.{true≢false, cases_Bool}
 use Rattle.gm_syntax.specs.Tokens.{Placed}
 use Rattle.gm_syntax.specs.Document.{Line}
 use Rattle.gm_file.specs.Directives.{Directive}
@@ -12,19 +12,19 @@ use Rattle.gm_file_edit.specs.About.{about}
 use Rattle.gm_file_edit.specs.Edited.{changed, edited, put_in}
 use Rattle.gm_file_edit.specs.Kinds.{added_by, directive_added, directive_set, is_fit, set_by}
 use Rattle.gm_file_edit.specs.Holding.{is_there}
-use Rattle.gm_file_edit.specs.Laws.{AddedIsThere, DroppedIsGone, IsEditOf, OthersStay, SetStandsAlone}
+use Rattle.gm_file_edit.specs.Laws.{AddedIsThere, DroppedIsGone, IsEditOf, OthersStay, SetStandsAlone, directives_of}
 use Rattle.gm_file_edit.specs.Renewing.{made_new}
 use Rattle.gm_file_edit.specs.Sound.{IsSoundEdit}
-use Rattle.gm_file_edit.proofs.AddingSound.{IsAddition}
+use Rattle.gm_file_edit.proofs.Insertions.{IsAddition, by-put, there-is, there-said}
 use Rattle.gm_file_edit.proofs.EditedSound.{says}
-use Rattle.gm_file_edit.proofs.Filters.{others, others-none, others-twice}
-use Rattle.gm_file_edit.proofs.Insertions.{by-put, there-is}
+use Rattle.gm_file_edit.proofs.Filters.{others, others-none, others-twice, any-filled, is_filled}
 use Rattle.gm_file_edit.proofs.Renewals.{put_by, renewal, wanted}
 use Rattle.gm_file_edit.proofs.Said.{IsPutIn, dropped-held, into-said, put-alone, put-others, renewed-alone, renewed-others}
 use Rattle.gm_file_edit.proofs.Pairs.{IsSound, document-sound, file-held, held_from}
-use Rattle.gm_file_edit.proofs.Untouched.{by-edited, edited-drop}
+use Rattle.gm_file_edit.proofs.Untouched.{by-edited, edited-drop, none-dropped}
 use Rattle.gm_file_edit.proofs.Written.{written-sound}
 use Rattle.std.proofs.lemmas.Option.{same_Some}
+use Rattle.gm_file_edit.specs.EditLaws.{IdleAdditionChangesNothing, IdleDropChangesNothing, SecondAdditionChangesNothing, SecondDropChangesNothing}
 
 -- ---- if some entry is targeted
 
@@ -143,3 +143,23 @@ pub others-stay : OthersStay
 others-stay = λ edit lines is.
     let sound = sound-of edit lines is in
     ap (filter (others (about edit))) (file-held (edited edit lines)) ∙ others-after edit lines sound.0 is.1 sound.1 ∙ ap (filter (others (about edit))) (sym (file-held lines))
+
+-- ---- operations with nothing to do
+
+pub idle-drop : IdleDropChangesNothing
+idle-drop edit lines drop none = edited-drop edit lines drop ∙ none-dropped (about edit) lines (there-said (about edit) lines ∙ none)
+
+pub idle-addition : IdleAdditionChangesNothing
+idle-addition edit lines d adds some = by-edited (λ after. after ≡ lines) edit lines (λ there. addition-changes-nothing edit lines d adds)
+    (λ absent. absurd (true≢false (sym some ∙ sym (there-said (about edit) lines) ∙ absent)))
+
+pub second-drop : SecondDropChangesNothing
+second-drop edit lines drop = idle-drop edit (edited edit lines) drop (dropped-is-gone edit lines drop)
+
+pub second-addition : SecondAdditionChangesNothing
+second-addition edit lines d is adds =
+    idle-addition edit (edited edit lines) d adds
+    (elim (cases_Bool (list_any (about edit) (directives_of lines))) [
+      | inl some ↦ ap (λ (ls : List (Line Placed)). list_any (about edit) (directives_of ls)) (idle-addition edit lines d adds some) ∙ some
+      | inr none ↦ any-filled (about edit) (directives_of (edited edit lines)) ∙ ap is_filled (added-is-there edit lines d is adds ∙ ap (λ (b : Bool). if b then filter (about edit) (directives_of lines) else d ∷ []) none)
+    ])

@@ -21,7 +21,7 @@ use Rattle.gm_file.specs.Values.{argument, both}
 use Rattle.gm_file_edit.specs.About.{about, excludes_pair, is_covered_by, is_replaced_by, replaces_left, requires_path, retracts_ends}
 use Rattle.gm_file_edit.specs.Edits.{Edit, Set, ModuleIs, GoIs, RequireAt, Drop, AnyRequire, Add, Exclude, AnyExclude, ReplaceWith, AnyReplace, Retract, AnyRetract}
 use Rattle.gm_file_edit.specs.Keys.{Sought, First, Both, Subject, argument_text, is_told, text_at, sought_of, sought_of_left, subject_inside, subject_of, text_by_kind, verb_sought}
-use Rattle.gm_file_edit.proofs.Parts.{both-are, map-some}
+use Rattle.gm_file_edit.proofs.Feeds.{both-are, map-some}
 use Rattle.gm_file_edit.proofs.Quotes.{IsPlain, argument-plain, path-plain, version-plain}
 use Rattle.gm_file.proofs.Pairwise.{nil-parts}
 

@@ -1,9 +1,8 @@
 -- An operation that follows itself leaves the lines as they are.
-use Rattle.std.proofs.Common.{◌≡◌, ℕ, ◌-◌, Bool, true, false, List, [], ◌∷◌, ◌++◌, length, take, Option, Some, None, is_some, refl, sym, ap, subst, ◌∙◌, arith, length-append, inl, inr}
+use Rattle.std.proofs.Common.{◌≡◌, ℕ, ◌-◌, Bool, true, false, List, [], ◌∷◌, ◌++◌, length, take, Option, Some, None, is_some, refl, sym, ap, subst, ◌∙◌, inl, inr}
 use Rattle.std.specs.Prelude.{IfSome, codes, filter}
 use Rattle.std.specs.List.{AllByRecursion, cons_option}
 use Rattle.std.proofs.lemmas.Bool.{cases_Bool, false≢true, or_parts}
-use Rattle.std.proofs.lemmas.List.{take_at}
 use Rattle.gm_syntax.specs.Tokens.{Placed}
 use Rattle.gm_syntax.specs.Document.{Line, Blank, Comment, Open, Close, Entry}
 use Rattle.gm_file.specs.Directives.{Directive, LineInBlock, block_after_line, block_after_lines, item_at, with_blocks_from}
@@ -19,10 +18,10 @@ use Rattle.gm_file_edit.specs.NewWords.{entry_at, made_word, pair_words, replace
 use Rattle.gm_file_edit.specs.Renewing.{made_new, with_arguments, with_last}
 use Rattle.gm_file_edit.specs.EditLaws.{SecondOperationChangesNothing, SecondSettingChangesNothing}
 use Rattle.gm_file_edit.proofs.Filters.{any-filled, is_filled, none-any}
-use Rattle.gm_file_edit.proofs.Idle.{second-addition, second-drop}
+use Rattle.gm_file_edit.proofs.SaidAfter.{second-addition, second-drop, set-stands-alone}
 use Rattle.gm_file_edit.proofs.Insertions.{IsPutInto, by-put, entry_put, gap_lines, passing-level, there-is, there-said}
+use Rattle.gm_file_edit.proofs.Made.{last-replaced}
 use Rattle.gm_file_edit.proofs.Said.{past-held}
-use Rattle.gm_file_edit.proofs.SaidAfter.{set-stands-alone}
 use Rattle.gm_file_edit.proofs.Seats.{fewer-all, remaining-left}
 use Rattle.gm_file.proofs.Snoc.{with_blocks-snoc}
 use Rattle.gm_file_edit.proofs.Pairs.{IsSound, document-sound, file-held, held_from}
@@ -61,10 +60,20 @@ none-set test new block (line ∷ lines) none =
 
 -- ---- the lines that a setting leaves, if it targets some
 
--- how an operation rewrites lines: a line that it targets once at most
+-- how an operation rewrites entries: one that it targets once at most
 record IsSetting (test : Directive → Bool) (new : Rewriting) : Type 0 where
-  pub level : (block : Option Placed) (line : Line Placed) → block_after_line block (new block line) ≡ block_after_line block line
-  pub again : (block : Option Placed) (line : Line Placed) → passes test (directive_at block line) ≡ true → new block (new block line) ≡ new block line
+  pub level : (block : Option Placed) (words : List Placed) (suffix : Option (List ℕ)) → block_after_line block (new block (Entry words suffix)) ≡ block
+  pub again : (block : Option Placed) (words : List Placed) (suffix : Option (List ℕ)) → passes test (directive_at block (Entry words suffix)) ≡ true → new block (new block (Entry words suffix)) ≡ new block (Entry words suffix)
+
+-- only entries are targeted
+hit-sets : (test : Directive → Bool) (new : Rewriting) → IsSetting test new → (block : Option Placed) (line : Line Placed) → passes test (directive_at block line) ≡ true
+    → (block_after_line block (new block line) ≡ block_after_line block line) × (new block (new block line) ≡ new block line)
+unfolding item_at
+hit-sets test new sets block Blank hit = absurd cc
+hit-sets test new sets block (Comment text) hit = absurd cc
+hit-sets test new sets block (Open verb suffix) hit = absurd cc
+hit-sets test new sets block (Close suffix) hit = absurd cc
+hit-sets test new sets block (Entry words suffix) hit = (sets.level block words suffix, sets.again block words suffix hit)
 
 dropping-set : (test : Directive → Bool) (new : Rewriting) (block : Option Placed) (lines : List (Line Placed)) → LinesAreSet test new block (kept (dropping_from test block lines))
 dropping-set test new block [] = tt
@@ -80,52 +89,32 @@ renewing-set test new sets block [] = tt
 renewing-set test new sets block (line ∷ lines) =
     let behind : Option Placed = block_after_line block line in
     elim (cases_Bool (passes test (directive_at block line))) [
-      | inl hit ↦ rw hit ((λ e. sets.again block line hit), subst (λ (b : Option Placed). LinesAreSet test new b (kept (dropping_from test behind lines))) (sym (sets.level block line)) (dropping-set test new behind lines))
+      | inl hit ↦
+          let set = hit-sets test new sets block line hit in
+          rw hit ((λ e. set.1), subst (λ (b : Option Placed). LinesAreSet test new b (kept (dropping_from test behind lines))) (sym set.0) (dropping-set test new behind lines))
       | inr miss ↦ rw miss (missed test new block line miss, renewing-set test new sets behind lines)
     ]
 
 -- ---- rewriting twice
 
-last-level : (value : List ℕ) (block : Option Placed) (line : Line Placed) → block_after_line block (with_last value block line) ≡ block_after_line block line
-last-level value block Blank = refl
-last-level value block (Comment text) = refl
-last-level value block (Open verb suffix) = refl
-last-level value block (Close suffix) = refl
-last-level value block (Entry words suffix) = refl
+last-sets : (test : Directive → Bool) (value : List ℕ) → IsSetting test (with_last value)
+last-sets test value = record {
+  level = λ block words suffix. refl;
+  again = λ block words suffix hit. last-replaced value block (take (length words - 1) words) (made_word value) suffix;
+}
 
-arguments-level : (arguments : List Placed) (block : Option Placed) (line : Line Placed) → block_after_line block (with_arguments arguments block line) ≡ block_after_line block line
-arguments-level arguments block Blank = refl
-arguments-level arguments block (Comment text) = refl
-arguments-level arguments block (Open verb suffix) = refl
-arguments-level arguments block (Close suffix) = refl
-arguments-level arguments block (Entry words suffix) = refl
-
-without-last : (words : List Placed) (last : Placed) → take (length (words ++ last ∷ []) - 1) (words ++ last ∷ []) ≡ words
-without-last words last = take_at words (last ∷ []) (length (words ++ last ∷ []) - 1) (omega (arith, length-append words (last ∷ [])))
-
-last-again : (value : List ℕ) (block : Option Placed) (line : Line Placed) → with_last value block (with_last value block line) ≡ with_last value block line
-last-again value block Blank = refl
-last-again value block (Comment text) = refl
-last-again value block (Open verb suffix) = refl
-last-again value block (Close suffix) = refl
-last-again value block (Entry words suffix) = ap (λ (front : List Placed). Entry (front ++ made_word value ∷ []) suffix) (without-last (take (length words - 1) words) (made_word value))
-
-arguments-again : (test : Directive → Bool) (arguments : List Placed) (block : Option Placed) (line : Line Placed) → passes test (directive_at block line) ≡ true
-    → with_arguments arguments block (with_arguments arguments block line) ≡ with_arguments arguments block line
+arguments-again : (test : Directive → Bool) (arguments : List Placed) (block : Option Placed) (words : List Placed) (suffix : Option (List ℕ)) → passes test (directive_at block (Entry words suffix)) ≡ true
+    → with_arguments arguments block (with_arguments arguments block (Entry words suffix)) ≡ with_arguments arguments block (Entry words suffix)
 unfolding item_at
-arguments-again test arguments block Blank hit = refl
-arguments-again test arguments block (Comment text) hit = refl
-arguments-again test arguments block (Open verb suffix) hit = refl
-arguments-again test arguments block (Close suffix) hit = refl
-arguments-again test arguments (Some verb) (Entry words suffix) hit = refl
-arguments-again test arguments None (Entry [] suffix) hit = absurd cc
-arguments-again test arguments None (Entry (verb ∷ words) suffix) hit = refl
+arguments-again test arguments (Some verb) words suffix hit = refl
+arguments-again test arguments None [] suffix hit = absurd cc
+arguments-again test arguments None (verb ∷ words) suffix hit = refl
 
 setting-sets : (s : Setting) → IsSetting (about (Set s)) (made_new (Set s))
-setting-sets (ModuleIs path) = record { level = last-level path; again = λ block line hit. last-again path block line }
-setting-sets (GoIs text) = record { level = last-level text; again = λ block line hit. last-again text block line }
-setting-sets (RequireAt p) = record { level = last-level p.1; again = λ block line hit. last-again p.1 block line }
-setting-sets (ReplaceWith r) = record { level = arguments-level (replace_words r); again = arguments-again (about (Set (ReplaceWith r))) (replace_words r) }
+setting-sets (ModuleIs path) = last-sets (about (Set (ModuleIs path))) path
+setting-sets (GoIs text) = last-sets (about (Set (GoIs text))) text
+setting-sets (RequireAt p) = last-sets (about (Set (RequireAt p))) p.1
+setting-sets (ReplaceWith r) = record { level = λ block words suffix. refl; again = arguments-again (about (Set (ReplaceWith r))) (replace_words r) }
 
 remaining-set : (test : Directive → Bool) (new : Rewriting) → IsSetting test new → (lines : List (Line Placed)) → LinesAreSet test new None (remaining (renewing_from test new None lines))
 remaining-set test new sets lines = fewer-all (IsSet test new) (remaining-left (renewing_from test new None lines)).0 (renewing-set test new sets None lines)

@@ -21,10 +21,9 @@ use Rattle.gm_file_edit.specs.Laws.{directives_of}
 use Rattle.gm_file_edit.specs.NewWords.{entry_at, single}
 use Rattle.gm_file_edit.specs.Undone.{DropUndoes, DropUndoesForLayout, undone_by}
 use Rattle.gm_file_edit.proofs.Additions.{edited-added}
-use Rattle.gm_file_edit.proofs.AddingSound.{Fits, IsAddition, entry-fits}
+use Rattle.gm_file_edit.proofs.Insertions.{Fits, IsAddition, entry-fits, added-after-last, added-at-end, entry_put, last-one, passing-level, passing-verb, there-append, there-said}
 use Rattle.gm_file_edit.proofs.EditedSound.{says}
 use Rattle.gm_file_edit.proofs.Filters.{fewer-any}
-use Rattle.gm_file_edit.proofs.Insertions.{added-after-last, added-at-end, entry_put, last-one, passing-level, passing-verb, there-append, there-said}
 use Rattle.gm_file_edit.proofs.Renewals.{left-itself, pair-itself, put_by, text-itself}
 use Rattle.gm_file_edit.proofs.SaidAfter.{sound-of}
 use Rattle.gm_file_edit.proofs.Pairs.{IsSound, block-append}

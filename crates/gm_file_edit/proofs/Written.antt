@@ -9,11 +9,10 @@ use Rattle.gm_name.specs.ModuleVersion.{ModuleVersion}
 use Rattle.gm_file.specs.Values.{both, is_folder_path}
 use Rattle.gm_file.specs.GoVersions.{strict_go}
 use Rattle.gm_file.specs.Directives.{VersionInterval, pair, Left, left_with, left_without, Right, Folder, Module, Replacing, replacing}
-use Rattle.gm_file_edit.specs.Edits.{Edit, Set, ModuleIs, GoIs, RequireAt, Drop, AnyRequire, Add, Exclude, AnyExclude, ReplaceWith, AnyReplace, Retract, AnyRetract, split_at_byte, edit_in, go_text_in, has_byte, inside_brackets, interval_in, is_bracketed, left_in, named, pair_in, path_in, replacing_in, right_in, trimmed, two_versions_in, version_in}
+use Rattle.gm_file_edit.specs.Edits.{Edit, Set, ModuleIs, GoIs, RequireAt, Drop, AnyRequire, Add, Exclude, AnyExclude, ReplaceWith, AnyReplace, Retract, AnyRetract, split_at_byte, edit_in, go_text_in, has_byte, inside_brackets, interval_in, is_bracketed, left_in, named, pair_in, path_in, replacing_in, right_in, trimmed, version_in}
 use Rattle.gm_file_edit.specs.Sound.{AreVersions, IsPairOfNames, IsSoundEdit, IsSoundLeft, IsSoundRight}
 use Rattle.std.proofs.lemmas.Option.{same_Some}
-use Rattle.gm_file_edit.proofs.Feeds.{if-some, if-other}
-use Rattle.gm_file_edit.proofs.Parts.{both-are, map-some, then-some}
+use Rattle.gm_file_edit.proofs.Feeds.{if-some, if-other, both-are, map-some, then-some}
 
 -- a text that passes a test
 tested : (test : List ℕ → Bool) (text out : List ℕ) → (if test text then Some text else None) ≡ Some out → test out ≡ true

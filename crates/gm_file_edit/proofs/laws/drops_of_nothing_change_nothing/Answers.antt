@@ -1,4 +1,4 @@
-use Rattle.gm_file_edit.proofs.Idle.{idle-drop}
+use Rattle.gm_file_edit.proofs.SaidAfter.{idle-drop}
 use Rattle.gm_file_edit.proofs.laws.drops_of_nothing_change_nothing.Goals as goal
 
 pub returns : goal.returns

@@ -1,4 +1,4 @@
-use Rattle.gm_file_edit.proofs.GoPlace.{go-follows-block}
+use Rattle.gm_file_edit.proofs.Additions.{go-follows-block}
 use Rattle.gm_file_edit.proofs.laws.new_go_follows_the_block_of_the_module.Goals as goal
 
 pub returns : goal.returns

@@ -1,4 +1,4 @@
-use Rattle.gm_file_edit.proofs.Idle.{second-addition}
+use Rattle.gm_file_edit.proofs.SaidAfter.{second-addition}
 use Rattle.gm_file_edit.proofs.laws.second_additions_change_nothing.Goals as goal
 
 pub returns : goal.returns

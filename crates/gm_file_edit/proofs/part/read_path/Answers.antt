@@ -1,5 +1,5 @@
 use Rattle.std.proofs.Common.{Err, ap}
-use Rattle.gm_file_edit.proofs.Names.{path-none, path-there}
+use Rattle.gm_file_edit.proofs.Cuts.{path-none, path-there}
 use Rattle.gm_file_edit.proofs.part.read_path.Goals as goal
 
 pub returns-in-Ok : goal.returns-in-Ok

@@ -1,5 +1,5 @@
 use Rattle.std.proofs.Common.{Err, ap}
-use Rattle.gm_file_edit.proofs.Names.{version-none, version-there}
+use Rattle.gm_file_edit.proofs.Cuts.{version-none, version-there}
 use Rattle.gm_file_edit.proofs.part.read_version.Goals as goal
 
 pub returns-in-Ok : goal.returns-in-Ok
