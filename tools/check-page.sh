@@ -4,6 +4,7 @@
 #
 #   tools/check-page.sh [WORLDS [SEED]]   worlds SEED, SEED + 1, .. (300 from 1)
 #   tools/check-page.sh --program FILE .. the same with another program
+#   tools/check-page.sh --list ..         it also prints each misreading: its definition, and a world that refutes it
 #
 # tools/check_page.py has the definitions of the page, a method each, and misreadings of them, one rule each, such as that
 # versions are ordered as texts. A world is a main file, a go.sum or none, a proxy folder and folders that replace
@@ -18,7 +19,11 @@ cd "$(dirname "$0")/.."
 # shellcheck source=tools/lib.sh
 . tools/lib.sh
 help_if_asked tools/check-page.sh "$@"
-program=bin/gomod
+program=bin/gomod listing=
+if [ "${1-}" = --list ]; then
+  listing=yes
+  shift
+fi
 if [ "${1-}" = --program ]; then
   [ -x "${2-}" ] || refuse_arguments tools/check-page.sh "--program takes an executable file"
   program=$2
@@ -30,4 +35,4 @@ for number in "$@"; do
   [[ $number =~ ^[1-9][0-9]{0,8}$ ]] || refuse_arguments tools/check-page.sh "'$number' is not a number from 1"
 done
 [ $# -le 2 ] || refuse_arguments tools/check-page.sh "there are more than two numbers"
-exec python3 -B tools/check_page.py "$program" "${1:-300}" "${2:-1}"
+exec python3 -B tools/check_page.py "$program" "${1:-300}" "${2:-1}" $listing

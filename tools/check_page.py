@@ -51,7 +51,7 @@ class Page:
         self.main, self.sums, self.answers, self.faulty = world.main, world.sums, world.answers, world.faulty
         self.known = {}
 
-    # 2. the file of a module
+    # 6. what a module says: its file
     def replacement(self, x):
         return self.main.replaces.get(x) or self.main.replaces.get((x[0], None))
 
@@ -68,7 +68,7 @@ class Page:
     def is_askable(self, x):
         return self.is_folder(self.file_of(x)) or self.is_fetchable(self.file_of(x)[0])
 
-    # 3. the fault of a module
+    # 6. what it says, or its fault
     def sum_fault(self, name, text):
         if self.sums is None or self.is_folder(name):
             return None
@@ -117,7 +117,7 @@ class Page:
     def fault(self, x):
         return self.says(x) if isinstance(self.says(x), str) else None
 
-    # 4, 5. requirements and pruning
+    # 5. requirements and pruning
     def without_excluded(self, modules):
         return [x for x in modules if x not in self.main.excludes]
 
@@ -130,7 +130,7 @@ class Page:
     def is_unpruned(self, x):
         return not self.fault(x) and not self.is_pruned(self.says(x).go)
 
-    # 6. opened modules
+    # 5. opened modules
     def top(self):
         return set(self.without_excluded(self.main.requirements))
 
@@ -152,11 +152,11 @@ class Page:
     def opened(self):
         return self.top() | self.deep()
 
-    # 7. edges
+    # 4. edges
     def edge_ends(self):
         return self.top() | {y for x in self.opened() for y in self.requirements(x)}
 
-    # 8. the build list
+    # 4. the build list
     def is_greater(self, version, other):
         return order_of(version) > order_of(other)
 
@@ -172,12 +172,12 @@ class Page:
         at = [row[0] for row in rows].index(path)
         return rows[at + 1:]
 
-    # 9. the text of the list
+    # the text of the list (REPORTS.md)
     def row_text(self, x):
         right = self.replacement(x) if len(x) == 2 else None
         return " ".join([*x, *(["=>", *right] if right else [])]) + "\n"
 
-    # 10. the outcome
+    # 7 and 1. faults, and the outcome
     def faults(self):
         found = [x for x in self.opened() if self.fault(x)]
         return sorted(found, key=lambda x: (x[0], order_of(x[1])))
@@ -271,9 +271,26 @@ class World:
         return words + (["--limit", str(self.limit)] if self.limit else [])
 
 
+# The methods whose definition has another name on the page.
+READ = {
+    "replacement": "replacement_of",
+    "first_that_applies": "IsFileReading",
+    "requirements": "Requires",
+    "is_pruned": "is_pruned_by",
+    "from_main": "IsDeep",
+    "from_top": "IsDeep",
+    "from_deep": "IsDeep",
+    "edge_ends": "IsEdge",
+    "is_greater": "version_cmp",
+    "selected": "IsSelected",
+    "rest_after": "IsRestAfter",
+    "faults": "AreFaults",
+}
+
+
 def wrong(title, **rules):
     """A page on which some rules read otherwise."""
-    return type(title, (Page,), rules)
+    return type(title, (Page,), {**rules, "read": [READ.get(it, it) for it in rules]})
 
 
 def later_faults(self):
@@ -346,8 +363,8 @@ def run(program, world, room):
     return words, (done.stdout, done.stderr, done.returncode)
 
 
-def compare(program, count, seed):
-    unrefuted, differing, printed = dict.fromkeys(WRONG), 0, 0
+def compare(program, count, seed, is_listing):
+    unrefuted, refuted, differing, printed = dict.fromkeys(WRONG), {}, 0, 0
     for number in range(seed, seed + count):
         world = World(number)
         with tempfile.TemporaryDirectory() as room:
@@ -360,6 +377,9 @@ def compare(program, count, seed):
         for page in [*unrefuted]:
             if page(world).outcome(world.after, world.limit) != want:
                 del unrefuted[page]
+                refuted[page] = number
+    for page in sorted(refuted, key=WRONG.index) if is_listing else []:
+        print(f"{', '.join(page.read)}: {page.__name__}: world {refuted[page]}")
     for page in unrefuted:
         print(f"check-page: no world refutes this misreading: {page.__name__}")
     print(f"{count} worlds, {printed} of them with a list, {differing} differ; "
@@ -371,8 +391,8 @@ def main(*words):
     if words in (("-h",), ("--help",)):
         print(__doc__, end="")
         return 0
-    program, count, seed = words
-    return compare(program, int(count), int(seed))
+    program, count, seed, *listing = words
+    return compare(program, int(count), int(seed), bool(listing))
 
 
 if __name__ == "__main__":

@@ -1,8 +1,10 @@
 #!/usr/bin/env bash
-# Keeps the pages that show what `gomod list` is proved to print in step with the definitions and with docs/proof/SPEC.md.
+# Keeps the pages that show what `gomod list` is proved to print, and the crate page, in step with the definitions and
+# with docs/proof/SPEC.md.
 #
-#   tools/headline.sh          writes the shown definitions into the pages anew: HEADLINE, REPORTS, BYTES, DIRECTIVES, EDITS, NAMES
-#   tools/headline.sh --check  changes nothing, and tells which page is out of step
+#   tools/headline.sh          writes the shown definitions into the pages anew: HEADLINE, REPORTS, BYTES, DIRECTIVES,
+#                              EDITS, NAMES; and copies of those that `list` needs into crates/page/specs
+#   tools/headline.sh --check  changes nothing, and tells which page or copy is out of step, or too long
 #   tools/headline.sh --names  lists the names that stand in two files of specs/, and what each exported contract reaches
 #
 # Between the marks `<!-- show .. -->` and `<!-- end -->` of a page stands what the sources say, and it is written anew:
@@ -15,11 +17,18 @@
 # All other text of a page is written by hand. A quote (a line that begins with `>`) must stand in docs/proof/SPEC.md word by
 # word. The same definition stands on one page only.
 #
+# The copies in crates/page are of all definitions that `ListEnds` reaches, but for those that the crate defines itself:
+# specs/Types.antt and Files.antt, written by hand, stand in for types of the code, for what bytes say, and for the go.sum.
+#
+# From `ListEnds` to the leaves HEADLINE.md may have 45 definitions and 170 lines, or --check fails. A leaf is what another
+# page defines: names, their order and answers (NAMES.md), what bytes and answers say (DIRECTIVES.md), texts, the limit,
+# the rest after a path and the go.sum (REPORTS.md); or what the code or the standard library does.
+#
 # The last lines count what one reads to believe a contract: that of `gomod_run::run`, and of all functions that the
 # libraries export. A definition is reached if a name of it stands in a clause or in a definition that is reached, and it
 # has as many lines as are neither empty nor a comment. A type of the code is private if its crate doesn't export it.
 #
-# The status of --check is 1 if a page is out of step. .ci/run runs it before the merge gate. It needs python3.
+# The status of --check is 1 if a page or a copy is out of step. .ci/run runs it before the merge gate. It needs python3.
 set -euo pipefail
 cd "$(dirname "$0")/.."
 # shellcheck source=tools/lib.sh
@@ -38,6 +47,7 @@ from collections import defaultdict
 
 CRATES = pathlib.Path("crates")
 PAGES = [pathlib.Path("docs/proof") / name for name in ("HEADLINE.md", "REPORTS.md", "BYTES.md", "DIRECTIVES.md", "EDITS.md", "NAMES.md")]
+COPY = "page"  # the crate that has copies of definitions
 RUNNING = "gomod_run/src/running.rt"
 LIST = [("Rattle.gomod_run.specs.Outcomes", "ListEnds"), ("Rattle.gomod_run.specs.Written", "EndsAsStated")]
 HEAD = re.compile(r"(?:(?:abbrev|unfoldable|opaque)\s+)?(?:pub\s+)?(?:(record|data)\s+)?([^\s:({]+)")
@@ -107,7 +117,7 @@ def ends_at(lines, at):
 
 FILES = {}
 for path in sorted(CRATES.glob("*/specs/*.antt")):
-    if path.name != "Lib.antt":
+    if path.name != "Lib.antt" and path.parts[1] != COPY:
         file = str(path.relative_to(CRATES))
         FILES[file] = read(file)
 
@@ -312,11 +322,11 @@ class Page:
                 page = next((it for it in others if (one.file, one.name) in it.defined), None)
                 where = f"[{page.path.name}]({page.path.name})" if page else f"`crates/{one.file}`"
                 groups[where].add(one.name)
-        rows = [f"- {where}: {', '.join(f'`{name}`' for name in sorted(names))}\n"
+        rows = [f"- {linked(where)}: {', '.join(f'`{name}`' for name in sorted(names))}\n"
                 for where, names in sorted(groups.items())]
         for name, one in sorted(renamed, key=lambda it: it[0]):
             rows.append(f"- Written `{name}` here: `{one.name}` of "
-                        + (one.source if isinstance(one, Leaf) else f"`crates/{one.file}`") + "\n")
+                        + linked(one.source if isinstance(one, Leaf) else f"`crates/{one.file}`") + "\n")
         return "".join(rows)
 
     def renewed(self, others):
@@ -336,6 +346,34 @@ class Page:
             return f"<!-- show {order} -->\n{body}<!-- end -->"
 
         return SHOWN.sub(renew, self.text)
+
+
+MOST_DEFINITIONS, MOST_LINES = 45, 170  # from `ListEnds` to the leaves
+LEAF_PAGES = ("NAMES.md", "DIRECTIVES.md", "REPORTS.md")
+
+
+def keep_short(page, others):
+    """How many things are wrong with what one reads from `ListEnds`: it is too long, or a definition is on no page."""
+    leaves = {at for it in others if it.path.name in LEAF_PAGES for at in it.defined}
+    found, left, wrong = {}, [place(*LIST[0])], 0
+    while left:
+        one = left.pop()
+        at = (one.file, one.name) if isinstance(one, Definition) else None
+        if at is None or at in found or at in leaves:
+            continue
+        found[at] = one
+        if at not in page.defined:
+            print(f"{page.path}: it has no {one.name} of {one.file}, nor does a page of leaves")
+            wrong += 1
+        left.extend(used_by(one).values())
+    lines = sum(it.lines() for it in found.values())
+    print(f"{page.path}, from `ListEnds`: {len(found)} definitions, {lines} lines; at most {MOST_DEFINITIONS} and {MOST_LINES}")
+    return wrong + (len(found) > MOST_DEFINITIONS) + (lines > MOST_LINES)
+
+
+def linked(source):
+    """A source with a link to its file."""
+    return re.sub(r"`crates/([^`]+)`", r"[\1](../../crates/\1)", source)
 
 
 def duplicates():
@@ -367,6 +405,8 @@ def exported():
     """The functions with a contract that the libraries export: the crate's name and the function's, and its clauses
     with what their names mean."""
     for path in sorted(CRATES.glob("*/src/**/*.rt")):
+        if path.parts[1] == COPY:
+            continue
         crate, file = path.parts[1], "/".join(path.parts[3:])
         names, modules = exports(crate)
         lines, owner, is_trait = path.read_text().split("\n"), None, False
@@ -394,6 +434,111 @@ def size_of(found):
     size, files = sum(it.lines() for it in reached.values()), {it.file for it in reached.values()}
     private = sorted({f"{it.owner[0]}::{it.owner[1]}" for it in leaves.values() if is_private(it)})
     return len(reached), f"{len(reached)} definitions, {size} lines, in {len(files)} files", private
+
+
+# ---- the crate that a reader can change
+
+
+BY_HAND = ("Types", "Files", "Worlds")  # its definitions that are written by hand: what they name is not copied
+USE = re.compile(r"(?m)^use ([\w.]+?)(?:\.\{([^}]*)\}|\s+as (\w+))$")
+
+
+def stand_ins():
+    """The names that the crate defines by hand, each with its file: those of definitions, and those of constructors."""
+    names, constructors = {}, {}
+    for base in BY_HAND[:-1]:
+        for one in read(f"{COPY}/specs/{base}.antt")[0].values():
+            names[one.name] = base
+            constructors.update(dict.fromkeys(one.constructors, base))
+    return names, constructors
+
+
+def stand_in(one, by_hand):
+    """The file of the crate that has a stand-in for a definition or a leaf, or None."""
+    names, constructors = by_hand
+    return names.get(one.name) or (constructors.get(one.name) if isinstance(one, Leaf) and one.owner else None)
+
+
+def copied(by_hand):
+    """The definitions from `ListEnds` to the stand-ins, by their files."""
+    found, left = defaultdict(list), [place(*LIST[0])]
+    while left:
+        one = left.pop()
+        if isinstance(one, Leaf) or stand_in(one, by_hand) or one in found[one.file]:
+            continue
+        found[one.file].append(one)
+        left.extend(used_by(one).values())
+    for file, ones in found.items():
+        order = list(FILES[file][0])
+        ones.sort(key=lambda one: order.index(one.name))
+    return {file: ones for file, ones in found.items() if ones}
+
+
+def names_kept(path, listed, ones, by_hand):
+    """Those of the imported names that these definitions use, each with the file of the crate that has it."""
+    code = "\n".join(one.code for one in ones)
+    words = {name for one in ones for name in used_by(one)}
+    for item in filter(None, (it.strip() for it in listed.split(","))):
+        name, _, other = item.partition(" as ")
+        is_used = (other or name) in words if NAME.fullmatch(name) else is_in(name, code)
+        if is_used:
+            yield item, stand_in(place(path, name), by_hand) if NAME.fullmatch(name) else None
+
+
+def is_in(name, code):
+    """Whether an operator or a sign, such as `◌++◌`, `if◌then◌else◌` or `ℕ`, stands in a text."""
+    return all(re.search(r"\b" + it + r"\b" if it.isalpha() and it.isascii() else re.escape(it), code)
+               for it in name.split("◌") if it)
+
+
+def copy_of(file, ones, by_hand):
+    """The text of the crate's file with these definitions of a source."""
+    imports, text = defaultdict(list), (CRATES / file).read_text()
+    for path, listed, short in USE.findall(text):
+        parts = path.split(".")
+        is_own = parts[0] == "Rattle" and (CRATES / parts[1]).is_dir()
+        if short:
+            if any(re.search(rf"\b{short}\.", one.code) for one in ones):
+                imports[f"Rattle.{COPY}.specs.Types as {short}"] = []
+            continue
+        for item, base in names_kept(path, listed, ones, by_hand):
+            where = f"Rattle.{COPY}.specs.{base or parts[-1]}" if is_own or base else path
+            imports[where].append(item)
+    for name, one in sorted({it for one in ones for it in used_by(one).items()}, key=lambda it: it[0]):
+        if isinstance(one, Definition) and one.file == file and stand_in(one, by_hand):
+            imports[f"Rattle.{COPY}.specs.{stand_in(one, by_hand)}"].append(name)
+    uses = [f"use {path}" + (f".{{{', '.join(items)}}}" if items else "") for path, items in imports.items()]
+    head = f"-- A copy from crates/{file}, which tools/headline.sh writes."
+    texts = [f"{one.comment}\n{one.text}".strip() for one in ones]
+    return "\n\n".join(["\n".join([head, *uses]), *texts]) + "\n"
+
+
+def copies():
+    """The files of the crate that are not written by hand, each with its text."""
+    by_hand = stand_ins()
+    files = copied(by_hand)
+    texts = {pathlib.Path(file).name: copy_of(file, ones, by_hand) for file, ones in sorted(files.items())}
+    bases = [*(name.removesuffix(".antt") for name in texts), *BY_HAND]
+    texts["Lib.antt"] = "".join(f"pub mod {base}\n" for base in sorted(bases))
+    return {CRATES / COPY / "specs" / name: text for name, text in texts.items()}
+
+
+def renew_copies(option):
+    """Writes the crate's copies, or says which is out of step."""
+    wrong, texts = 0, copies()
+    for path in (CRATES / COPY / "specs").glob("*.antt"):
+        if path not in texts and path.stem not in BY_HAND:
+            wrong += 1
+            print(f"{path}: it is a copy of nothing that the headline reaches")
+    for path, text in texts.items():
+        if path.exists() and path.read_text() == text:
+            continue
+        if option == "--check":
+            print(f"{path}: it is not what the sources say: tools/headline.sh writes it anew")
+            wrong += 1
+        elif not option:
+            path.write_text(text)
+    return wrong
 
 
 def counts(option):
@@ -445,6 +590,7 @@ def main():
             page.path.write_text(new)
         size = sum(it.lines() for it in page.defined.values())
         print(f"{page.path}: {len(page.defined)} definitions, {size} lines")
+    wrong += keep_short(pages[0], pages[1:]) + renew_copies(option)
     counts(option)
     sys.exit(1 if wrong else 0)
 

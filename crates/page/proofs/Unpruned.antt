@@ -1,0 +1,158 @@
+-- The list below the main file that is not pruned.
+use Rattle.std.proofs.Common.{◌≡◌, false, List, [], ◌∷◌, Some, None, Ok, Err, Contains, arith, codes, inl, inr, refl}
+use Rattle.std.specs.List.{AllByRecursion, IsDistinct}
+use Rattle.std.specs.Ordering.{is_gt}
+use Rattle.std.specs.declared.cmp.Ordering.TheVariants.{Less}
+use Rattle.page.specs.Asked.{names_in, same_name}
+use Rattle.page.specs.BuildList.{IsSelected, entry_of, main_entry}
+use Rattle.page.specs.Files.{low_file, low_nine, mid_file, mid_nine, old_file, old_text}
+use Rattle.page.specs.Graph.{IsEdgeEnd}
+use Rattle.page.specs.ModuleVersion.{ModuleVersion, pair_cmp}
+use Rattle.page.specs.Outcomes.{AreFound, no_fault}
+use Rattle.page.specs.Path.{is_fetchable}
+use Rattle.page.specs.Run.{AreFaults, AreRows, IsDeep, IsEdge, IsNeeded, IsOpened, IsSettled, IsTop, Requires, Run, Says, answered, from_deep, from_main, from_top, run_of, sound}
+use Rattle.page.specs.Types.{Class, Fault, Main as FromMain, Of}
+use Rattle.page.specs.Version.{version_cmp}
+use Rattle.page.specs.Worlds.{UnprunedIsListed, given_by, unpruned_answers}
+use Rattle.page.proofs.Ending.{end_in, rows_are, settled}
+use Rattle.page.proofs.Members.{differ, each_member, no_member, pairs_of}
+use Rattle.page.proofs.Saying.{has_no_fault, required_in, said_of}
+
+abbrev run : Run
+run = run_of old_file None unpruned_answers
+
+-- ---- what modules say
+
+mid_is : said_of old_file unpruned_answers mid_nine ≡ Some (Ok mid_file)
+unfolding is_fetchable
+mid_is = refl
+
+low_is : said_of old_file unpruned_answers low_nine ≡ Some (Ok low_file)
+unfolding is_fetchable
+low_is = refl
+
+mid_says : Says run mid_nine (Ok mid_file)
+unfolding is_fetchable
+mid_says = sound (answered _ refl refl refl) refl
+
+mid_leads : (y : ModuleVersion) → Requires run mid_nine y → Contains (low_nine ∷ []) y
+mid_leads = required_in old_file unpruned_answers mid_nine mid_file mid_is
+
+low_leads : (y : ModuleVersion) → Requires run low_nine y → Contains [] y
+low_leads = required_in old_file unpruned_answers low_nine low_file low_is
+
+mid_requires : Requires run mid_nine low_nine
+mid_requires = (mid_file, mid_says, (0, omega arith, refl))
+
+-- ---- what is opened
+
+abbrev tops : List ModuleVersion
+tops = mid_nine ∷ []
+
+abbrev opened : List ModuleVersion
+opened = mid_nine ∷ low_nine ∷ []
+
+leads_down : AllByRecursion (λ (x : ModuleVersion). (y : ModuleVersion) → Requires run x y → Contains opened y) opened
+leads_down = (
+  (λ y is. each_member (Contains opened) (low_nine ∷ []) ((1, omega arith, refl), tt) y (mid_leads y is)),
+  ((λ y is. absurd (no_member y (low_leads y is))), tt),
+)
+
+top_in : (x : ModuleVersion) → IsTop run x → Contains opened x
+top_in x top = each_member (Contains opened) tops ((0, omega arith, refl), tt) x top
+
+below : (x y : ModuleVersion) → Contains opened x → Requires run x y → Contains opened y
+below x y there requires = each_member (λ (x : ModuleVersion). (y : ModuleVersion) → Requires run x y → Contains opened y) opened leads_down x there y requires
+
+deep_in : (x : ModuleVersion) → IsDeep run x → Contains opened x
+deep_in x (from_main unpruned top) = top_in x top
+deep_in y (from_top {x = x} file top says unpruned there) = below x y (top_in x top) (file, says, there)
+deep_in y (from_deep {x = x} is requires) = below x y (deep_in x is) requires
+
+opened_in : (x : ModuleVersion) → IsOpened run x → Contains opened x
+opened_in x (inl top) = top_in x top
+opened_in x (inr is) = deep_in x is
+
+mid_is_top : IsTop run mid_nine
+mid_is_top = (0, omega arith, refl)
+
+mid_is_deep : IsDeep run mid_nine
+mid_is_deep = from_main refl mid_is_top
+
+low_is_deep : IsDeep run low_nine
+low_is_deep = from_deep {x = mid_nine} mid_is_deep mid_requires
+
+-- ---- what is asked
+
+once : IsDistinct same_name (names_in unpruned_answers)
+unfolding IsDistinct
+once = ((refl, tt), (tt, tt))
+
+needed : AllByRecursion (IsNeeded run) (names_in unpruned_answers)
+unfolding is_fetchable
+needed = ((mid_nine, inl mid_is_top, refl, refl), ((low_nine, inr low_is_deep, refl, refl), tt))
+
+is_settled : IsSettled run (names_in unpruned_answers)
+is_settled = settled old_file unpruned_answers opened opened_in ((λ name. (Ok mid_file, refl)), ((λ name. (Ok low_file, refl)), tt)) once needed
+    ((λ ask. (0, omega arith, refl)), ((λ ask. (1, omega arith, refl)), tt)) (omega arith)
+
+-- ---- no fault
+
+abbrev HasNone : ModuleVersion → Type 0
+HasNone x = (class : Class) → Says run x (Err class) → ⊥
+
+none_faulty : AllByRecursion HasNone opened
+none_faulty = (has_no_fault old_file unpruned_answers mid_nine mid_file mid_is, (has_no_fault old_file unpruned_answers low_nine low_file low_is, tt))
+
+faultless : AreFaults run []
+faultless = record {
+  ascending = pairs_of (λ (a b : Fault). pair_cmp a.vertex b.vertex ≡ Less) [] tt;
+  each = λ one. (
+    (λ there. absurd (no_member one there)),
+    λ is. absurd (each_member HasNone opened none_faulty one.vertex (opened_in one.vertex is.0) one.class is.1),
+  );
+}
+
+is_found : AreFound (given_by old_text unpruned_answers) old_file None []
+is_found = record {
+  read = record { main_file = refl; sums = tt };
+  settled = is_settled;
+  faults_are = faultless;
+  none_failed = refl;
+}
+
+-- ---- the build list
+
+end_is_in : (y : ModuleVersion) → IsEdgeEnd (IsEdge run) y → Contains opened y
+end_is_in = end_in old_file unpruned_answers opened opened_in opened top_in leads_down
+
+-- if it has the path of this module, it is not greater
+abbrev IsNoGreater : ModuleVersion → ModuleVersion → Type 0
+IsNoGreater x y = y.0 ≡ x.0 → is_gt (version_cmp y.1 x.1) ≡ false
+
+greatest : (x : ModuleVersion) → AllByRecursion (IsNoGreater x) opened → (y : ModuleVersion) → IsEdgeEnd (IsEdge run) y → IsNoGreater x y
+greatest x h y is = each_member (IsNoGreater x) opened h y (end_is_in y is)
+
+abbrev Selects : ModuleVersion → Type 0
+Selects x = IsSelected (codes "m") (IsEdge run) x
+
+low_selected : Selects low_nine
+low_selected = record {
+  not_main = λ e. differ (codes "low.org") (codes "m") refl e;
+  is_end = (Of mid_nine, (inl mid_is_top, mid_requires));
+  greatest = greatest low_nine ((λ e. absurd (differ _ _ refl e)), ((λ e. refl), tt));
+}
+
+mid_selected : Selects mid_nine
+mid_selected = record {
+  not_main = λ e. differ (codes "mid.org") (codes "m") refl e;
+  is_end = (FromMain, mid_is_top);
+  greatest = greatest mid_nine ((λ e. refl), ((λ e. absurd (differ _ _ refl e)), tt));
+}
+
+rows : AreRows run (main_entry ∷ entry_of old_file.replaces low_nine ∷ entry_of old_file.replaces mid_nine ∷ [])
+rows = rows_are old_file unpruned_answers opened opened_in opened top_in leads_down (low_nine ∷ mid_nine ∷ []) ((refl, tt), (tt, tt))
+    (low_selected, (mid_selected, tt)) ((λ is. (1, omega arith, refl)), ((λ is. (0, omega arith, refl)), tt))
+
+pub unpruned_is_listed : UnprunedIsListed
+unpruned_is_listed = no_fault old_file None is_found (_, rows, refl)

@@ -1,0 +1,5 @@
+use Rattle.page.proofs.Pruned.{pruned_is_listed}
+use Rattle.page.proofs.pruned_is_listed.Goals as goal
+
+pub returns : goal.returns
+returns c = pruned_is_listed

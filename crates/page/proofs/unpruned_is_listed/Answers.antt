@@ -1,0 +1,5 @@
+use Rattle.page.proofs.Unpruned.{unpruned_is_listed}
+use Rattle.page.proofs.unpruned_is_listed.Goals as goal
+
+pub returns : goal.returns
+returns c = unpruned_is_listed

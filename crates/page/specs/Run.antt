@@ -1,0 +1,104 @@
+-- A copy from crates/gm_graph/specs/Run.antt, which tools/headline.sh writes.
+use Rattle.std.specs.Prelude.{◌≡◌, ◌↔◌, ◌⊎◌, ◌<◌, ◌≤◌, true, false, List, length, AllPairs, Contains, Option, Some, None, Result, Ok, Err}
+use Rattle.std.specs.List.{IsDistinct}
+use Rattle.std.specs.declared.cmp.Ordering.TheVariants.{Less}
+use Rattle.page.specs.ModuleVersion.{ModuleVersion, pair_cmp, pair_eq}
+use Rattle.page.specs.Fields.{Dependency}
+use Rattle.page.specs.Asked.{Name, Reply, answer_in, same_name}
+use Rattle.page.specs.Types.{Sums, Class, NotFetchable, WrongPath, Fault, Step, Main as FromMain, Of}
+use Rattle.page.specs.Main.{Main, is_pruned_by, replacement_in, without_excluded}
+use Rattle.page.specs.Reading.{IsFileReading, file_of, is_askable, is_right_path}
+use Rattle.page.specs.BuildList.{Entry, IsBuildList}
+
+-- A run: what the main file says, what the go.sum says if there is one, and the answer to each name that the store was
+-- asked for.
+pub record Run : Type 0 where
+  pub main : Main
+  pub sums : Option Sums
+  pub answers : Name → Option Reply
+
+abbrev pub run_of : Main → Option Sums → List (Name × Reply) → Run
+run_of main sums asked = record { main = main; sums = sums; answers = answer_in asked }
+
+-- What the file of a name says, or what is wrong with it. A file that is not answered says nothing.
+pub data FileSays (run : Run) (name : Name) : Result Dependency Class → Type 0 where
+  unaskable : is_askable name ≡ false → FileSays run name (Err NotFetchable)
+  answered : (reply : Reply) {said : Result Dependency Class} → is_askable name ≡ true
+      → run.answers name ≡ Some reply → IsFileReading run.sums name reply said → FileSays run name said
+
+-- What the file of a module says, or its fault: that of the file, or that the file declares another path.
+pub data Says (run : Run) (x : ModuleVersion) : Result Dependency Class → Type 0 where
+  faulty : {class : Class} → FileSays run (file_of run.main x) (Err class) → Says run x (Err class)
+  wrong_path : (file : Dependency) → FileSays run (file_of run.main x) (Ok file)
+      → is_right_path x (replacement_in run.main x) file.declared ≡ false → Says run x (Err WrongPath)
+  sound : {file : Dependency} → FileSays run (file_of run.main x) (Ok file)
+      → is_right_path x (replacement_in run.main x) file.declared ≡ true → Says run x (Ok file)
+
+-- The module's file requires the other module, which the main file does not exclude.
+abbrev pub Requires : Run → ModuleVersion → ModuleVersion → Type 0
+Requires run x y = (file : Dependency) × Says run x (Ok file) × Contains (without_excluded run.main file.requirements) y
+
+-- What the main file requires, except what it excludes, is opened at the top.
+abbrev pub IsTop : Run → ModuleVersion → Type 0
+IsTop run x = Contains (without_excluded run.main run.main.requirements) x
+
+-- The modules that are opened at full depth: what the main file requires, if it is not pruned; what a module at the top
+-- requires, if its file is not pruned; and what a module at full depth requires.
+pub data IsDeep (run : Run) : ModuleVersion → Type 0 where
+  from_main : {x : ModuleVersion} → is_pruned_by run.main.go ≡ false → IsTop run x → IsDeep run x
+  from_top : {x y : ModuleVersion} (file : Dependency) → IsTop run x → Says run x (Ok file)
+      → is_pruned_by file.go ≡ false → Contains (without_excluded run.main file.requirements) y → IsDeep run y
+  from_deep : {x y : ModuleVersion} → IsDeep run x → Requires run x y → IsDeep run y
+
+abbrev pub IsOpened : Run → ModuleVersion → Type 0
+IsOpened run x = IsTop run x ⊎ IsDeep run x
+
+-- These are opened modules, each once.
+pub record AreOpened (run : Run) (xs : List ModuleVersion) : Type 0 where
+  pub once : IsDistinct pair_eq xs
+  pub each : (x : ModuleVersion) → Contains xs x → IsOpened run x
+
+-- More than 65,536 modules are opened.
+abbrev pub AreTooMany : Run → Type 0
+AreTooMany run = (xs : List ModuleVersion) × (65536 < length xs) × AreOpened run xs
+
+-- An edge leads from the main module, or from an opened module, to each of its requirements.
+abbrev pub IsEdge : Run → Step → ModuleVersion → Type 0
+IsEdge run FromMain y = IsTop run y
+IsEdge run (Of x) y = IsOpened run x × Requires run x y
+
+-- An opened module, and what is wrong with its file.
+abbrev pub IsFault : Run → Fault → Type 0
+IsFault run one = IsOpened run one.vertex × Says run one.vertex (Err one.class)
+
+-- Each fault, in strictly ascending order of modules.
+pub record AreFaults (run : Run) (faults : List Fault) : Type 0 where
+  pub ascending : AllPairs (λ (a b : Fault). pair_cmp a.vertex b.vertex ≡ Less) faults
+  pub each : (one : Fault) → Contains faults one ↔ IsFault run one
+
+-- The build list: the main module, followed by each other path that an edge leads to, once, in path order, at
+-- the greatest version.
+abbrev pub AreRows : Run → List Entry → Type 0
+AreRows run rows = IsBuildList run.main.path run.main.replaces (IsEdge run) rows
+
+-- The name is that of the file of an opened module, and may be asked for.
+abbrev pub IsNeeded : Run → Name → Type 0
+IsNeeded run name = (x : ModuleVersion) × IsOpened run x × (file_of run.main x ≡ name) × (is_askable name ≡ true)
+
+-- Each answer says something, which is a file's contents or a fault.
+abbrev pub IsRead : Run → Type 0
+IsRead run = (name : Name) (reply : Reply) → run.answers name ≡ Some reply
+    → (said : Result Dependency Class) × IsFileReading run.sums name reply said
+
+-- By these answers the name is needed, and it is not among them.
+pub record IsDue (run : Run) (name : Name) : Type 0 where
+  pub read : IsRead run
+  pub needed : IsNeeded run name
+  pub unasked : run.answers name ≡ None
+
+-- Exactly the needed files were asked for, each once, and at most 65,536 modules are opened.
+pub record IsSettled (run : Run) (asked : List Name) : Type 0 where
+  pub read : IsRead run
+  pub once : IsDistinct same_name asked
+  pub needed : (name : Name) → Contains asked name ↔ IsNeeded run name
+  pub few : (xs : List ModuleVersion) → AreOpened run xs → length xs ≤ 65536

@@ -1,0 +1,56 @@
+-- How `list` ends in a few worlds, by the definitions beside this file.
+use Rattle.std.specs.Prelude.{ℕ, List, [], ◌∷◌, Some, None, codes}
+use Rattle.page.specs.Asked.{Name, Reply, bytes, folder_file, mod_file}
+use Rattle.page.specs.Files.{end_text, folder_text, low_text, main_text, mid_text, old_text, top_text}
+use Rattle.page.specs.Outcome.{printed, refused}
+use Rattle.page.specs.Outcomes.{Given, ListEnds}
+
+abbrev pub asked_top : Name
+asked_top = mod_file (codes "top.org") (codes "v1.0.0")
+
+abbrev pub asked_mid : Name
+asked_mid = mod_file (codes "mid.org") (codes "v1.9.0")
+
+abbrev pub asked_folder : Name
+asked_folder = folder_file (codes "./mid")
+
+abbrev pub asked_low : Name
+asked_low = mod_file (codes "low.org") (codes "v1.9.0")
+
+abbrev pub asked_end : Name
+asked_end = mod_file (codes "end.org") (codes "v1.0.0")
+
+-- a run over the bytes of a main file without a go.sum, with these answers
+abbrev pub given_by : List ℕ → List (Name × Reply) → Given
+given_by file asked = record { file = file; sums = None; told = record { asked = asked; failed = [] } }
+
+-- the answers to what the pruned main file needs
+abbrev pub pruned_answers : List (Name × Reply)
+pruned_answers = (asked_top, bytes top_text) ∷ (asked_mid, bytes mid_text) ∷ (asked_folder, bytes folder_text)
+    ∷ (asked_end, bytes end_text) ∷ []
+
+-- those to what the main file of go 1.16 needs
+abbrev pub unpruned_answers : List (Name × Reply)
+unpruned_answers = (asked_mid, bytes mid_text) ∷ (asked_low, bytes low_text) ∷ []
+
+-- mid.org has the file of top.org
+abbrev pub wrong_answers : List (Name × Reply)
+wrong_answers = (asked_mid, bytes top_text) ∷ []
+
+-- The whole list, its first two rows, what follows a row, and a path without a row.
+pub record PrunedIsListed : Type 0 where
+  pub whole : ListEnds None None (given_by main_text pruned_answers) (printed
+      (codes "m\nend.org v1.0.0\nlow.org v1.9.0\nmid.org v1.10.0 => ./mid\ntop.org v1.0.0\n"))
+  pub limited : ListEnds None (Some 2) (given_by main_text pruned_answers) (printed (codes "m\nend.org v1.0.0\n"))
+  pub after : ListEnds (Some (codes "low.org")) None (given_by main_text pruned_answers) (printed
+      (codes "mid.org v1.10.0 => ./mid\ntop.org v1.0.0\n"))
+
+-- Below an unpruned main file a pruned file is opened deeply.
+abbrev pub UnprunedIsListed : Type 0
+UnprunedIsListed = ListEnds None None (given_by old_text unpruned_answers) (printed
+    (codes "m\nlow.org v1.9.0\nmid.org v1.9.0\n"))
+
+-- A file that declares another path is a fault.
+abbrev pub WrongPathIsReported : Type 0
+WrongPathIsReported = ListEnds None None (given_by old_text wrong_answers) (refused
+    (codes "mid.org@v1.9.0: WrongPath\n"))
