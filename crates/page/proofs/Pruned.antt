@@ -5,7 +5,7 @@ use Rattle.std.specs.Ordering.{is_gt}
 use Rattle.std.specs.declared.cmp.Ordering.TheVariants.{Less}
 use Rattle.std.proofs.lemmas.Bool.{false≢true}
 use Rattle.page.specs.Asked.{names_in, same_name}
-use Rattle.page.specs.BuildList.{Entry, IsSelected, entry_of, main_entry, path_of}
+use Rattle.page.specs.BuildList.{Entry, HasEntryFor, IsSelected, entry_of, main_entry, path_of}
 use Rattle.page.specs.Fields.{Dependency}
 use Rattle.page.specs.Files.{end_file, end_one, folder_says, low_nine, main_file, main_text, mid_file, mid_nine, mid_ten, top_file, top_one}
 use Rattle.page.specs.Graph.{IsEdgeEnd}
@@ -17,6 +17,7 @@ use Rattle.page.specs.Run.{AreFaults, AreRows, IsDeep, IsEdge, IsNeeded, IsOpene
 use Rattle.page.specs.Types.{Class, Fault, Main as FromMain, Of}
 use Rattle.page.specs.Version.{version_cmp}
 use Rattle.page.specs.Worlds.{PrunedIsListed, given_by, pruned_answers}
+use Rattle.page.proofs.Alone.{alone}
 use Rattle.page.proofs.Ending.{end_in, rows_are, settled}
 use Rattle.page.proofs.Members.{differ, each_member, no_member, pairs_of}
 use Rattle.page.proofs.Saying.{file_is, has_no_fault, required_in, said_of}
@@ -167,12 +168,15 @@ none_faulty = (
   ),
 )
 
+sound_if_opened : (x : ModuleVersion) (class : Class) → IsOpened run x → Says run x (Err class) → ⊥
+sound_if_opened x class opens says = each_member HasNone opened none_faulty x (opened_in x opens) class says
+
 faultless : AreFaults run []
 faultless = record {
   ascending = pairs_of (λ (a b : Fault). pair_cmp a.vertex b.vertex ≡ Less) [] tt;
   each = λ one. (
     (λ there. absurd (no_member one there)),
-    λ is. absurd (each_member HasNone opened none_faulty one.vertex (opened_in one.vertex is.0) one.class is.1),
+    λ is. absurd (sound_if_opened one.vertex one.class is.0 is.1),
   );
 }
 
@@ -261,15 +265,25 @@ top_selected = record {
 nine_is_less : Selects mid_nine → ⊥
 nine_is_less is = false≢true (sym (is.greatest mid_ten (Of top_one, (inl top_is_top, top_requires)) refl))
 
-rows : AreRows run (main_entry ∷ entry_of main_file.replaces end_one ∷ entry_of main_file.replaces low_nine ∷ entry_of main_file.replaces mid_ten ∷ entry_of main_file.replaces top_one ∷ [])
+abbrev all_rows : List Entry
+all_rows = main_entry ∷ entry_of main_file.replaces end_one ∷ entry_of main_file.replaces low_nine ∷ entry_of main_file.replaces mid_ten
+    ∷ entry_of main_file.replaces top_one ∷ []
+
+rows : AreRows run all_rows
 rows = rows_are main_file pruned_answers opened opened_in ends top_end leads selected
     ((refl, (refl, (refl, tt))), ((refl, (refl, tt)), ((refl, tt), (tt, tt))))
     (end_selected, (low_selected, (mid_selected, (top_selected, tt))))
     ((λ is. (3, omega arith, refl)), ((λ is. absurd (nine_is_less is)), ((λ is. (2, omega arith, refl)), ((λ is. (0, omega arith, refl)), ((λ is. (1, omega arith, refl)), tt)))))
 
+not_listed : HasEntryFor (codes "m") all_rows (codes "b.org") → ⊥
+not_listed (entry, there, is) = each_member (λ (entry : Entry). path_of (codes "m") entry.0 ≡ codes "b.org" → ⊥) all_rows
+    ((λ e. differ _ _ refl e), ((λ e. differ _ _ refl e), ((λ e. differ _ _ refl e), ((λ e. differ _ _ refl e), ((λ e. differ _ _ refl e), tt)))))
+    entry there is
+
 pub pruned_is_listed : PrunedIsListed
 pruned_is_listed = record {
   whole = no_fault main_file None is_found (_, rows, refl);
+  only = alone main_text main_file pruned_answers refl opened opened_in (omega arith) sound_if_opened _ rows;
   limited = no_fault main_file None is_found (_, rows, refl);
   after = no_fault main_file None is_found (
     _,
@@ -289,4 +303,5 @@ pruned_is_listed = record {
       refl,
     ),
   );
+  unlisted = no_fault main_file None is_found (_, rows, inr (not_listed, refl));
 }

@@ -14,6 +14,7 @@ use Rattle.page.specs.Run.{AreFaults, AreRows, IsDeep, IsEdge, IsNeeded, IsOpene
 use Rattle.page.specs.Types.{Class, Fault, Main as FromMain, Of}
 use Rattle.page.specs.Version.{version_cmp}
 use Rattle.page.specs.Worlds.{UnprunedIsListed, given_by, unpruned_answers}
+use Rattle.page.proofs.Alone.{alone}
 use Rattle.page.proofs.Ending.{end_in, rows_are, settled}
 use Rattle.page.proofs.Members.{differ, each_member, no_member, pairs_of}
 use Rattle.page.proofs.Saying.{has_no_fault, required_in, said_of}
@@ -104,12 +105,15 @@ HasNone x = (class : Class) → Says run x (Err class) → ⊥
 none_faulty : AllByRecursion HasNone opened
 none_faulty = (has_no_fault old_file unpruned_answers mid_nine mid_file mid_is, (has_no_fault old_file unpruned_answers low_nine low_file low_is, tt))
 
+sound_if_opened : (x : ModuleVersion) (class : Class) → IsOpened run x → Says run x (Err class) → ⊥
+sound_if_opened x class opens says = each_member HasNone opened none_faulty x (opened_in x opens) class says
+
 faultless : AreFaults run []
 faultless = record {
   ascending = pairs_of (λ (a b : Fault). pair_cmp a.vertex b.vertex ≡ Less) [] tt;
   each = λ one. (
     (λ there. absurd (no_member one there)),
-    λ is. absurd (each_member HasNone opened none_faulty one.vertex (opened_in one.vertex is.0) one.class is.1),
+    λ is. absurd (sound_if_opened one.vertex one.class is.0 is.1),
   );
 }
 
@@ -155,4 +159,7 @@ rows = rows_are old_file unpruned_answers opened opened_in opened top_in leads_d
     (low_selected, (mid_selected, tt)) ((λ is. (1, omega arith, refl)), ((λ is. (0, omega arith, refl)), tt))
 
 pub unpruned_is_listed : UnprunedIsListed
-unpruned_is_listed = no_fault old_file None is_found (_, rows, refl)
+unpruned_is_listed = record {
+  whole = no_fault old_file None is_found (_, rows, refl);
+  only = alone old_text old_file unpruned_answers refl opened opened_in (omega arith) sound_if_opened _ rows;
+}

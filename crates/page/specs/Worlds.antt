@@ -1,8 +1,8 @@
 -- How `list` ends in a few worlds, by the definitions beside this file.
-use Rattle.std.specs.Prelude.{ℕ, List, [], ◌∷◌, Some, None, codes}
+use Rattle.std.specs.Prelude.{◌≡◌, ℕ, List, [], ◌∷◌, Some, None, codes}
 use Rattle.page.specs.Asked.{Name, Reply, bytes, folder_file, mod_file}
 use Rattle.page.specs.Files.{end_text, folder_text, low_text, main_text, mid_text, old_text, top_text}
-use Rattle.page.specs.Outcome.{printed, refused}
+use Rattle.page.specs.Outcome.{Outcome, printed, refused}
 use Rattle.page.specs.Outcomes.{Given, ListEnds}
 
 abbrev pub asked_top : Name
@@ -29,26 +29,37 @@ abbrev pub pruned_answers : List (Name × Reply)
 pruned_answers = (asked_top, bytes top_text) ∷ (asked_mid, bytes mid_text) ∷ (asked_folder, bytes folder_text)
     ∷ (asked_end, bytes end_text) ∷ []
 
--- those to what the main file of go 1.16 needs
+-- what is printed of it
+abbrev pub pruned_text : List ℕ
+pruned_text = codes "m\nend.org v1.0.0\nlow.org v1.9.0\nmid.org v1.10.0 => ./mid\ntop.org v1.0.0\n"
+
+-- the answers to what the main file of go 1.16 needs
 abbrev pub unpruned_answers : List (Name × Reply)
 unpruned_answers = (asked_mid, bytes mid_text) ∷ (asked_low, bytes low_text) ∷ []
+
+abbrev pub unpruned_text : List ℕ
+unpruned_text = codes "m\nlow.org v1.9.0\nmid.org v1.9.0\n"
 
 -- mid.org has the file of top.org
 abbrev pub wrong_answers : List (Name × Reply)
 wrong_answers = (asked_mid, bytes top_text) ∷ []
 
--- The whole list, its first two rows, what follows a row, and a path without a row.
+-- The whole list and nothing else, its first two rows, what follows a row, and the report on a path without a row.
 pub record PrunedIsListed : Type 0 where
-  pub whole : ListEnds None None (given_by main_text pruned_answers) (printed
-      (codes "m\nend.org v1.0.0\nlow.org v1.9.0\nmid.org v1.10.0 => ./mid\ntop.org v1.0.0\n"))
+  pub whole : ListEnds None None (given_by main_text pruned_answers) (printed pruned_text)
+  pub only : (outcome : Outcome) → ListEnds None None (given_by main_text pruned_answers) outcome
+      → outcome ≡ printed pruned_text
   pub limited : ListEnds None (Some 2) (given_by main_text pruned_answers) (printed (codes "m\nend.org v1.0.0\n"))
   pub after : ListEnds (Some (codes "low.org")) None (given_by main_text pruned_answers) (printed
       (codes "mid.org v1.10.0 => ./mid\ntop.org v1.0.0\n"))
+  pub unlisted : ListEnds (Some (codes "b.org")) None (given_by main_text pruned_answers) (refused
+      (codes "b.org: NotListed\n"))
 
 -- Below an unpruned main file a pruned file is opened deeply.
-abbrev pub UnprunedIsListed : Type 0
-UnprunedIsListed = ListEnds None None (given_by old_text unpruned_answers) (printed
-    (codes "m\nlow.org v1.9.0\nmid.org v1.9.0\n"))
+pub record UnprunedIsListed : Type 0 where
+  pub whole : ListEnds None None (given_by old_text unpruned_answers) (printed unpruned_text)
+  pub only : (outcome : Outcome) → ListEnds None None (given_by old_text unpruned_answers) outcome
+      → outcome ≡ printed unpruned_text
 
 -- A file that declares another path is a fault.
 abbrev pub WrongPathIsReported : Type 0
