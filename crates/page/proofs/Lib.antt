@@ -4,4 +4,4 @@ pub mod Ending
 pub mod Alone
 pub mod Pruned
 pub mod Unpruned
-pub mod Wrong
+pub mod Faults

@@ -7,7 +7,7 @@ use Rattle.std.proofs.lemmas.Bool.{false≢true}
 use Rattle.page.specs.Asked.{names_in, same_name}
 use Rattle.page.specs.BuildList.{Entry, HasEntryFor, IsSelected, entry_of, main_entry, path_of}
 use Rattle.page.specs.Fields.{Dependency}
-use Rattle.page.specs.Files.{end_file, end_one, folder_says, low_nine, main_file, main_text, mid_file, mid_nine, mid_ten, top_file, top_one}
+use Rattle.page.specs.Files.{end_file, end_one, folder_says, low_nine, main_file, main_text, mid_file, mid_nine, mid_ten, own_one, top_file, top_one}
 use Rattle.page.specs.Graph.{IsEdgeEnd}
 use Rattle.page.specs.Main.{is_pruned_by, without_excluded}
 use Rattle.page.specs.ModuleVersion.{ModuleVersion, pair_cmp}
@@ -64,7 +64,7 @@ top_leads : (y : ModuleVersion) → Requires run top_one y → Contains (mid_ten
 top_leads y is =
     subst (λ (ys : List ModuleVersion). Contains ys y) top_keeps (required_in main_file pruned_answers top_one top_file top_is y is)
 
-mid_leads : (y : ModuleVersion) → Requires run mid_nine y → Contains (low_nine ∷ []) y
+mid_leads : (y : ModuleVersion) → Requires run mid_nine y → Contains (low_nine ∷ own_one ∷ []) y
 mid_leads = required_in main_file pruned_answers mid_nine mid_file mid_is
 
 folder_leads : (y : ModuleVersion) → Requires run mid_ten y → Contains (end_one ∷ []) y
@@ -191,7 +191,7 @@ is_found = record {
 -- ---- the build list
 
 abbrev ends : List ModuleVersion
-ends = top_one ∷ mid_nine ∷ mid_ten ∷ end_one ∷ low_nine ∷ []
+ends = top_one ∷ mid_nine ∷ mid_ten ∷ end_one ∷ low_nine ∷ own_one ∷ []
 
 top_end : (y : ModuleVersion) → IsTop run y → Contains ends y
 top_end y = each_member (Contains ends) tops ((0, omega arith, refl), ((1, omega arith, refl), tt)) y
@@ -200,7 +200,7 @@ leads : AllByRecursion (λ (x : ModuleVersion). (y : ModuleVersion) → Requires
 leads = (
   (λ y is. each_member (Contains ends) (mid_ten ∷ []) ((2, omega arith, refl), tt) y (top_leads y is)),
   (
-    (λ y is. each_member (Contains ends) (low_nine ∷ []) ((4, omega arith, refl), tt) y (mid_leads y is)),
+    (λ y is. each_member (Contains ends) (low_nine ∷ own_one ∷ []) ((4, omega arith, refl), ((5, omega arith, refl), tt)) y (mid_leads y is)),
     ((λ y is. each_member (Contains ends) (end_one ∷ []) ((3, omega arith, refl), tt) y (folder_leads y is)), ((λ y is. absurd (no_member y (end_leads y is))), tt)),
   ),
 )
@@ -227,7 +227,7 @@ end_selected = record {
   is_end = (Of mid_ten, (inr folder_is_deep, folder_requires));
   greatest = greatest end_one (
     (λ e. absurd (differ _ _ refl e)),
-    ((λ e. absurd (differ _ _ refl e)), ((λ e. absurd (differ _ _ refl e)), ((λ e. refl), ((λ e. absurd (differ _ _ refl e)), tt)))),
+    ((λ e. absurd (differ _ _ refl e)), ((λ e. absurd (differ _ _ refl e)), ((λ e. refl), ((λ e. absurd (differ _ _ refl e)), ((λ e. absurd (differ _ _ refl e)), tt))))),
   );
 }
 
@@ -237,7 +237,7 @@ low_selected = record {
   is_end = (Of mid_nine, (inl mid_is_top, mid_requires));
   greatest = greatest low_nine (
     (λ e. absurd (differ _ _ refl e)),
-    ((λ e. absurd (differ _ _ refl e)), ((λ e. absurd (differ _ _ refl e)), ((λ e. absurd (differ _ _ refl e)), ((λ e. refl), tt)))),
+    ((λ e. absurd (differ _ _ refl e)), ((λ e. absurd (differ _ _ refl e)), ((λ e. absurd (differ _ _ refl e)), ((λ e. refl), ((λ e. absurd (differ _ _ refl e)), tt))))),
   );
 }
 
@@ -248,7 +248,7 @@ mid_selected = record {
   is_end = (Of top_one, (inl top_is_top, top_requires));
   greatest = greatest mid_ten (
     (λ e. absurd (differ _ _ refl e)),
-    ((λ e. refl), ((λ e. refl), ((λ e. absurd (differ _ _ refl e)), ((λ e. absurd (differ _ _ refl e)), tt)))),
+    ((λ e. refl), ((λ e. refl), ((λ e. absurd (differ _ _ refl e)), ((λ e. absurd (differ _ _ refl e)), ((λ e. absurd (differ _ _ refl e)), tt))))),
   );
 }
 
@@ -258,7 +258,7 @@ top_selected = record {
   is_end = (FromMain, top_is_top);
   greatest = greatest top_one (
     (λ e. refl),
-    ((λ e. absurd (differ _ _ refl e)), ((λ e. absurd (differ _ _ refl e)), ((λ e. absurd (differ _ _ refl e)), ((λ e. absurd (differ _ _ refl e)), tt)))),
+    ((λ e. absurd (differ _ _ refl e)), ((λ e. absurd (differ _ _ refl e)), ((λ e. absurd (differ _ _ refl e)), ((λ e. absurd (differ _ _ refl e)), ((λ e. absurd (differ _ _ refl e)), tt))))),
   );
 }
 
@@ -273,7 +273,7 @@ rows : AreRows run all_rows
 rows = rows_are main_file pruned_answers opened opened_in ends top_end leads selected
     ((refl, (refl, (refl, tt))), ((refl, (refl, tt)), ((refl, tt), (tt, tt))))
     (end_selected, (low_selected, (mid_selected, (top_selected, tt))))
-    ((λ is. (3, omega arith, refl)), ((λ is. absurd (nine_is_less is)), ((λ is. (2, omega arith, refl)), ((λ is. (0, omega arith, refl)), ((λ is. (1, omega arith, refl)), tt)))))
+    ((λ is. (3, omega arith, refl)), ((λ is. absurd (nine_is_less is)), ((λ is. (2, omega arith, refl)), ((λ is. (0, omega arith, refl)), ((λ is. (1, omega arith, refl)), ((λ is. absurd (is.not_main refl)), tt))))))
 
 not_listed : HasEntryFor (codes "m") all_rows (codes "b.org") → ⊥
 not_listed (entry, there, is) = each_member (λ (entry : Entry). path_of (codes "m") entry.0 ≡ codes "b.org" → ⊥) all_rows

@@ -5,7 +5,7 @@ use Rattle.std.specs.Ordering.{is_gt}
 use Rattle.std.specs.declared.cmp.Ordering.TheVariants.{Less}
 use Rattle.page.specs.Asked.{names_in, same_name}
 use Rattle.page.specs.BuildList.{IsSelected, entry_of, main_entry}
-use Rattle.page.specs.Files.{low_file, low_nine, mid_file, mid_nine, old_file, old_text}
+use Rattle.page.specs.Files.{low_file, low_nine, short_file, mid_nine, old_file, old_text}
 use Rattle.page.specs.Graph.{IsEdgeEnd}
 use Rattle.page.specs.ModuleVersion.{ModuleVersion, pair_cmp}
 use Rattle.page.specs.Outcomes.{AreFound, no_fault}
@@ -24,7 +24,7 @@ run = run_of old_file None unpruned_answers
 
 -- ---- what modules say
 
-mid_is : said_of old_file unpruned_answers mid_nine ≡ Some (Ok mid_file)
+mid_is : said_of old_file unpruned_answers mid_nine ≡ Some (Ok short_file)
 unfolding is_fetchable
 mid_is = refl
 
@@ -32,18 +32,18 @@ low_is : said_of old_file unpruned_answers low_nine ≡ Some (Ok low_file)
 unfolding is_fetchable
 low_is = refl
 
-mid_says : Says run mid_nine (Ok mid_file)
+mid_says : Says run mid_nine (Ok short_file)
 unfolding is_fetchable
 mid_says = sound (answered _ refl refl refl) refl
 
 mid_leads : (y : ModuleVersion) → Requires run mid_nine y → Contains (low_nine ∷ []) y
-mid_leads = required_in old_file unpruned_answers mid_nine mid_file mid_is
+mid_leads = required_in old_file unpruned_answers mid_nine short_file mid_is
 
 low_leads : (y : ModuleVersion) → Requires run low_nine y → Contains [] y
 low_leads = required_in old_file unpruned_answers low_nine low_file low_is
 
 mid_requires : Requires run mid_nine low_nine
-mid_requires = (mid_file, mid_says, (0, omega arith, refl))
+mid_requires = (short_file, mid_says, (0, omega arith, refl))
 
 -- ---- what is opened
 
@@ -94,7 +94,7 @@ unfolding is_fetchable
 needed = ((mid_nine, inl mid_is_top, refl, refl), ((low_nine, inr low_is_deep, refl, refl), tt))
 
 is_settled : IsSettled run (names_in unpruned_answers)
-is_settled = settled old_file unpruned_answers opened opened_in ((λ name. (Ok mid_file, refl)), ((λ name. (Ok low_file, refl)), tt)) once needed
+is_settled = settled old_file unpruned_answers opened opened_in ((λ name. (Ok short_file, refl)), ((λ name. (Ok low_file, refl)), tt)) once needed
     ((λ ask. (0, omega arith, refl)), ((λ ask. (1, omega arith, refl)), tt)) (omega arith)
 
 -- ---- no fault
@@ -103,7 +103,7 @@ abbrev HasNone : ModuleVersion → Type 0
 HasNone x = (class : Class) → Says run x (Err class) → ⊥
 
 none_faulty : AllByRecursion HasNone opened
-none_faulty = (has_no_fault old_file unpruned_answers mid_nine mid_file mid_is, (has_no_fault old_file unpruned_answers low_nine low_file low_is, tt))
+none_faulty = (has_no_fault old_file unpruned_answers mid_nine short_file mid_is, (has_no_fault old_file unpruned_answers low_nine low_file low_is, tt))
 
 sound_if_opened : (x : ModuleVersion) (class : Class) → IsOpened run x → Says run x (Err class) → ⊥
 sound_if_opened x class opens says = each_member HasNone opened none_faulty x (opened_in x opens) class says

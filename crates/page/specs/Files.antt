@@ -2,7 +2,7 @@
 use Rattle.std.specs.Prelude.{◌≡◌, ℕ, if◌then◌else◌, List, [], ◌∷◌, Option, Some, None, Result, Ok, Err, codes}
 use Rattle.std.specs.Str.{bytes_eq}
 use Rattle.page.specs.Asked.{Name}
-use Rattle.page.specs.Directives.{Folder, Lax, Mode, Strict, left_with}
+use Rattle.page.specs.Directives.{Folder, Lax, Mode, Module, Strict, left_with, left_without}
 use Rattle.page.specs.Fields.{Dependency}
 use Rattle.page.specs.Main.{Main}
 use Rattle.page.specs.ModuleVersion.{ModuleVersion}
@@ -28,19 +28,29 @@ low_ten = (codes "low.org", codes "v1.10.0")
 abbrev pub end_one : ModuleVersion
 end_one = (codes "end.org", codes "v1.0.0")
 
+-- a module with the main module's own path
+abbrev pub own_one : ModuleVersion
+own_one = (codes "m", codes "v1.0.0")
+
+-- a path that no proxy has
+abbrev pub local_one : ModuleVersion
+local_one = (codes "local", codes "v1.0.0")
+
 -- ---- main files
 
--- It is pruned, excludes a version of low.org, and replaces one of mid.org by a folder.
+-- It is pruned, excludes a version of low.org, which it requires, and replaces one of mid.org by a folder, and the
+-- others by fork.org.
 abbrev pub main_text : List ℕ
-main_text = codes "module m\ngo 1.17\nrequire top.org v1.0.0\nrequire mid.org v1.9.0\nexclude low.org v1.10.0\nreplace mid.org v1.10.0 => ./mid\n"
+main_text = codes "module m\ngo 1.17\nrequire top.org v1.0.0\nrequire mid.org v1.9.0\nrequire low.org v1.10.0\nexclude low.org v1.10.0\nreplace mid.org v1.10.0 => ./mid\nreplace mid.org => fork.org v1.9.0\n"
 
 abbrev pub main_file : Main
 main_file = record {
   path = codes "m";
   go = (1, 17);
-  requirements = top_one ∷ mid_nine ∷ [];
+  requirements = top_one ∷ mid_nine ∷ low_ten ∷ [];
   excludes = low_ten ∷ [];
-  replaces = (left_with (codes "mid.org") (codes "v1.10.0"), Folder (codes "./mid")) ∷ [];
+  replaces = (left_with (codes "mid.org") (codes "v1.10.0"), Folder (codes "./mid"))
+      ∷ (left_without (codes "mid.org"), Module (codes "fork.org") (codes "v1.9.0")) ∷ [];
 }
 
 -- It is not pruned.
@@ -56,12 +66,20 @@ old_file = record {
   replaces = [];
 }
 
+-- It requires a module that can't be fetched.
+abbrev pub local_text : List ℕ
+local_text = codes "module m\ngo 1.16\nrequire mid.org v1.9.0\nrequire local v1.0.0\n"
+
+abbrev pub local_file : Main
+local_file = record old_file { requirements = mid_nine ∷ local_one ∷ [] }
+
 -- what the bytes of a main file say, or the line of a fault and its kind
 abbrev pub main_in : List ℕ → Result Main (ℕ × Misreading)
 main_in content =
     if bytes_eq content main_text then Ok main_file
     else (if bytes_eq content old_text then Ok old_file
-    else Err (1, Unknown))
+    else (if bytes_eq content local_text then Ok local_file
+    else Err (1, Unknown)))
 
 -- ---- files of other modules
 
@@ -76,12 +94,19 @@ top_text = codes "module top.org\ngo 1.16\nrequire mid.org v1.10.0\nrequire low.
 abbrev pub top_file : Dependency
 top_file = saying (Some (codes "top.org")) (1, 16) (mid_ten ∷ low_ten ∷ [])
 
--- It is pruned, and requires low.org.
+-- It is pruned, and requires low.org and a module with the main module's path.
 abbrev pub mid_text : List ℕ
-mid_text = codes "module mid.org\ngo 1.17\nrequire low.org v1.9.0\n"
+mid_text = codes "module mid.org\ngo 1.17\nrequire low.org v1.9.0\nrequire m v1.0.0\n"
 
 abbrev pub mid_file : Dependency
-mid_file = saying (Some (codes "mid.org")) (1, 17) (low_nine ∷ [])
+mid_file = saying (Some (codes "mid.org")) (1, 17) (low_nine ∷ own_one ∷ [])
+
+-- It is pruned, and requires low.org alone.
+abbrev pub short_text : List ℕ
+short_text = codes "module mid.org\ngo 1.17\nrequire low.org v1.9.0\n"
+
+abbrev pub short_file : Dependency
+short_file = saying (Some (codes "mid.org")) (1, 17) (low_nine ∷ [])
 
 -- The folder's file declares no path, and requires end.org.
 abbrev pub folder_text : List ℕ
@@ -107,10 +132,11 @@ abbrev pub said_in : List ℕ → Result Dependency (ℕ × Misreading)
 said_in content =
     if bytes_eq content top_text then Ok top_file
     else (if bytes_eq content mid_text then Ok mid_file
+    else (if bytes_eq content short_text then Ok short_file
     else (if bytes_eq content folder_text then Ok folder_says
     else (if bytes_eq content low_text then Ok low_file
     else (if bytes_eq content end_text then Ok end_file
-    else Err (1, Unknown)))))
+    else Err (1, Unknown))))))
 
 -- ---- what bytes say
 

@@ -1,7 +1,7 @@
 -- How `list` ends in a few worlds, by the definitions beside this file.
 use Rattle.std.specs.Prelude.{◌≡◌, ℕ, List, [], ◌∷◌, Some, None, codes}
 use Rattle.page.specs.Asked.{Name, Reply, bytes, folder_file, mod_file}
-use Rattle.page.specs.Files.{end_text, folder_text, low_text, main_text, mid_text, old_text, top_text}
+use Rattle.page.specs.Files.{end_text, folder_text, local_text, low_text, main_text, mid_text, old_text, short_text, top_text}
 use Rattle.page.specs.Outcome.{Outcome, printed, refused}
 use Rattle.page.specs.Outcomes.{Given, ListEnds}
 
@@ -10,6 +10,9 @@ asked_top = mod_file (codes "top.org") (codes "v1.0.0")
 
 abbrev pub asked_mid : Name
 asked_mid = mod_file (codes "mid.org") (codes "v1.9.0")
+
+abbrev pub asked_fork : Name
+asked_fork = mod_file (codes "fork.org") (codes "v1.9.0")
 
 abbrev pub asked_folder : Name
 asked_folder = folder_file (codes "./mid")
@@ -26,7 +29,7 @@ given_by file asked = record { file = file; sums = None; told = record { asked =
 
 -- the answers to what the pruned main file needs
 abbrev pub pruned_answers : List (Name × Reply)
-pruned_answers = (asked_top, bytes top_text) ∷ (asked_mid, bytes mid_text) ∷ (asked_folder, bytes folder_text)
+pruned_answers = (asked_top, bytes top_text) ∷ (asked_fork, bytes mid_text) ∷ (asked_folder, bytes folder_text)
     ∷ (asked_end, bytes end_text) ∷ []
 
 -- what is printed of it
@@ -35,7 +38,7 @@ pruned_text = codes "m\nend.org v1.0.0\nlow.org v1.9.0\nmid.org v1.10.0 => ./mid
 
 -- the answers to what the main file of go 1.16 needs
 abbrev pub unpruned_answers : List (Name × Reply)
-unpruned_answers = (asked_mid, bytes mid_text) ∷ (asked_low, bytes low_text) ∷ []
+unpruned_answers = (asked_mid, bytes short_text) ∷ (asked_low, bytes low_text) ∷ []
 
 abbrev pub unpruned_text : List ℕ
 unpruned_text = codes "m\nlow.org v1.9.0\nmid.org v1.9.0\n"
@@ -61,7 +64,7 @@ pub record UnprunedIsListed : Type 0 where
   pub only : (outcome : Outcome) → ListEnds None None (given_by old_text unpruned_answers) outcome
       → outcome ≡ printed unpruned_text
 
--- A file that declares another path is a fault.
-abbrev pub WrongPathIsReported : Type 0
-WrongPathIsReported = ListEnds None None (given_by old_text wrong_answers) (refused
-    (codes "mid.org@v1.9.0: WrongPath\n"))
+-- A path that no proxy has is a fault, and its file is not asked for; so is a file that declares another path.
+abbrev pub FaultsAreReported : Type 0
+FaultsAreReported = ListEnds None None (given_by local_text wrong_answers) (refused
+    (codes "local@v1.0.0: NotFetchable\nmid.org@v1.9.0: WrongPath\n"))

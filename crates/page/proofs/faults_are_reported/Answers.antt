@@ -1,0 +1,5 @@
+use Rattle.page.proofs.Faults.{faults_are_reported}
+use Rattle.page.proofs.faults_are_reported.Goals as goal
+
+pub returns : goal.returns
+returns c = faults_are_reported
