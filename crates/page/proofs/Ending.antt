@@ -1,19 +1,24 @@
 -- How a run without a go.sum ends, from what each module that is written out says.
-use Rattle.std.proofs.Common.{◌≡◌, ◌≤◌, Bool, true, false, List, [], ◌∷◌, Option, Some, None, Result, Contains, arith, length, map, refl, subst, sym}
+use Rattle.std.proofs.Common.{◌≡◌, ◌≤◌, ℕ, Bool, true, false, List, [], ◌∷◌, Option, Some, None, Result, Err, Contains, arith, length, map, refl, subst, sym}
 use Rattle.std.specs.Prelude.{if◌then◌else◌}
 use Rattle.std.specs.List.{AllByRecursion, IsDistinct}
+use Rattle.std.specs.Ordering.{is_gt}
 use Rattle.std.specs.declared.cmp.Ordering.TheVariants.{Less}
 use Rattle.std.proofs.lemmas.Option.{same_Some}
 use Rattle.page.specs.Asked.{Name, Reply, answer_in, names_in, same_name}
 use Rattle.page.specs.BuildList.{IsSelected, entry_of, main_entry, path_cmp}
 use Rattle.page.specs.Fields.{Dependency}
+use Rattle.page.specs.Files.{IsMainFile}
 use Rattle.page.specs.Graph.{IsEdgeEnd}
 use Rattle.page.specs.Main.{Main}
-use Rattle.page.specs.ModuleVersion.{ModuleVersion}
+use Rattle.page.specs.ModuleVersion.{ModuleVersion, pair_cmp}
+use Rattle.page.specs.Outcomes.{AreFound}
 use Rattle.page.specs.Reading.{IsFileReading, file_of, is_askable}
-use Rattle.page.specs.Run.{AreRows, IsEdge, IsNeeded, IsOpened, IsRead, IsSettled, IsTop, Requires, Run, run_of}
-use Rattle.page.specs.Types.{Class, Main as FromMain, Of}
-use Rattle.page.proofs.Members.{Pairs, each_member, few_members, pairs_of}
+use Rattle.page.specs.Run.{AreFaults, AreRows, IsEdge, IsNeeded, IsOpened, IsRead, IsSettled, IsTop, Requires, Run, Says, run_of}
+use Rattle.page.specs.Types.{Class, Fault, Main as FromMain, Of}
+use Rattle.page.specs.Version.{version_cmp}
+use Rattle.page.specs.Worlds.{given_by}
+use Rattle.page.proofs.Members.{Pairs, each_member, few_members, no_member, pairs_of}
 
 -- ---- answers
 
@@ -59,6 +64,32 @@ module _ (main : Main) (asked : List (Name × Reply)) (opened : List ModuleVersi
     few = λ xs are. (let all = few_members xs opened are.once (λ x there. opened_in x (are.each x there)) in omega (arith, all, few));
   }
 
+  -- ---- no fault
+
+  abbrev pub HasNone : ModuleVersion → Type 0
+  HasNone x = (class : Class) → Says run x (Err class) → ⊥
+
+  pub sound_if_opened : AllByRecursion HasNone opened → (x : ModuleVersion) (class : Class) → IsOpened run x → Says run x (Err class) → ⊥
+  sound_if_opened none x class opens says = each_member HasNone opened none x (opened_in x opens) class says
+
+  pub faultless : AllByRecursion HasNone opened → AreFaults run []
+  faultless none = record {
+    ascending = pairs_of (λ (a b : Fault). pair_cmp a.vertex b.vertex ≡ Less) [] tt;
+    each = λ one. (
+      (λ there. absurd (no_member one there)),
+      λ is. absurd (sound_if_opened none one.vertex one.class is.0 is.1),
+    );
+  }
+
+  pub found : (content : List ℕ) → IsMainFile content main → IsSettled run (names_in asked) → AllByRecursion HasNone opened
+      → AreFound (given_by content asked) main None []
+  found content is_main is_settled none = record {
+    read = record { main_file = is_main; sums = tt };
+    settled = is_settled;
+    faults_are = faultless none;
+    none_failed = refl;
+  }
+
   -- ---- the build list
 
   module _ (ends : List ModuleVersion) (tops : (y : ModuleVersion) → IsTop run y → Contains ends y)
@@ -67,6 +98,13 @@ module _ (main : Main) (asked : List (Name × Reply)) (opened : List ModuleVersi
     end_in y (FromMain, top) = tops y top
     end_in y (Of x, (opens, requires)) =
         each_member (λ (x : ModuleVersion). (y : ModuleVersion) → Requires run x y → Contains ends y) opened leads x (opened_in x opens) y requires
+
+    -- if it has the path of this module, it is not greater
+    abbrev pub IsNoGreater : ModuleVersion → ModuleVersion → Type 0
+    IsNoGreater x y = y.0 ≡ x.0 → is_gt (version_cmp y.1 x.1) ≡ false
+
+    pub greatest : (x : ModuleVersion) → AllByRecursion (IsNoGreater x) ends → (y : ModuleVersion) → IsEdgeEnd (IsEdge run) y → IsNoGreater x y
+    greatest x h y is = each_member (IsNoGreater x) ends h y (end_in y is)
 
     abbrev Selects : ModuleVersion → Type 0
     Selects x = IsSelected main.path (IsEdge run) x

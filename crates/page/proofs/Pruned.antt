@@ -18,7 +18,7 @@ use Rattle.page.specs.Types.{Class, Fault, Main as FromMain, Of}
 use Rattle.page.specs.Version.{version_cmp}
 use Rattle.page.specs.Worlds.{PrunedIsListed, given_by, pruned_answers}
 use Rattle.page.proofs.Alone.{alone}
-use Rattle.page.proofs.Ending.{end_in, rows_are, settled}
+use Rattle.page.proofs.Ending.{HasNone, IsNoGreater, found, greatest, sound_if_opened, end_in, rows_are, settled}
 use Rattle.page.proofs.Members.{differ, each_member, no_member, pairs_of}
 use Rattle.page.proofs.Saying.{file_is, has_no_fault, required_in, said_of}
 
@@ -156,10 +156,7 @@ is_settled = settled main_file pruned_answers opened opened_in
 
 -- ---- no fault
 
-abbrev HasNone : ModuleVersion → Type 0
-HasNone x = (class : Class) → Says run x (Err class) → ⊥
-
-none_faulty : AllByRecursion HasNone opened
+none_faulty : AllByRecursion (HasNone main_file pruned_answers opened opened_in) opened
 none_faulty = (
   has_no_fault main_file pruned_answers top_one top_file top_is,
   (
@@ -168,25 +165,8 @@ none_faulty = (
   ),
 )
 
-sound_if_opened : (x : ModuleVersion) (class : Class) → IsOpened run x → Says run x (Err class) → ⊥
-sound_if_opened x class opens says = each_member HasNone opened none_faulty x (opened_in x opens) class says
-
-faultless : AreFaults run []
-faultless = record {
-  ascending = pairs_of (λ (a b : Fault). pair_cmp a.vertex b.vertex ≡ Less) [] tt;
-  each = λ one. (
-    (λ there. absurd (no_member one there)),
-    λ is. absurd (sound_if_opened one.vertex one.class is.0 is.1),
-  );
-}
-
 is_found : AreFound (given_by main_text pruned_answers) main_file None []
-is_found = record {
-  read = record { main_file = refl; sums = tt };
-  settled = is_settled;
-  faults_are = faultless;
-  none_failed = refl;
-}
+is_found = found main_file pruned_answers opened opened_in main_text refl is_settled none_faulty
 
 -- ---- the build list
 
@@ -211,21 +191,15 @@ selected = end_one ∷ low_nine ∷ mid_ten ∷ top_one ∷ []
 abbrev Selects : ModuleVersion → Type 0
 Selects x = IsSelected (codes "m") (IsEdge run) x
 
-end_is_in : (y : ModuleVersion) → IsEdgeEnd (IsEdge run) y → Contains ends y
-end_is_in = end_in main_file pruned_answers opened opened_in ends top_end leads
-
--- if it has the path of this module, it is not greater
-abbrev IsNoGreater : ModuleVersion → ModuleVersion → Type 0
-IsNoGreater x y = y.0 ≡ x.0 → is_gt (version_cmp y.1 x.1) ≡ false
-
-greatest : (x : ModuleVersion) → AllByRecursion (IsNoGreater x) ends → (y : ModuleVersion) → IsEdgeEnd (IsEdge run) y → IsNoGreater x y
-greatest x h y is = each_member (IsNoGreater x) ends h y (end_is_in y is)
+no_greater : (x : ModuleVersion) → AllByRecursion (IsNoGreater main_file pruned_answers opened opened_in ends top_end leads x) ends → (y : ModuleVersion) → IsEdgeEnd (IsEdge run) y
+    → IsNoGreater main_file pruned_answers opened opened_in ends top_end leads x y
+no_greater = greatest main_file pruned_answers opened opened_in ends top_end leads
 
 end_selected : Selects end_one
 end_selected = record {
   not_main = λ e. differ (codes "end.org") (codes "m") refl e;
   is_end = (Of mid_ten, (inr folder_is_deep, folder_requires));
-  greatest = greatest end_one (
+  greatest = no_greater end_one (
     (λ e. absurd (differ _ _ refl e)),
     ((λ e. absurd (differ _ _ refl e)), ((λ e. absurd (differ _ _ refl e)), ((λ e. refl), ((λ e. absurd (differ _ _ refl e)), ((λ e. absurd (differ _ _ refl e)), tt))))),
   );
@@ -235,7 +209,7 @@ low_selected : Selects low_nine
 low_selected = record {
   not_main = λ e. differ (codes "low.org") (codes "m") refl e;
   is_end = (Of mid_nine, (inl mid_is_top, mid_requires));
-  greatest = greatest low_nine (
+  greatest = no_greater low_nine (
     (λ e. absurd (differ _ _ refl e)),
     ((λ e. absurd (differ _ _ refl e)), ((λ e. absurd (differ _ _ refl e)), ((λ e. absurd (differ _ _ refl e)), ((λ e. refl), ((λ e. absurd (differ _ _ refl e)), tt))))),
   );
@@ -246,7 +220,7 @@ mid_selected : Selects mid_ten
 mid_selected = record {
   not_main = λ e. differ (codes "mid.org") (codes "m") refl e;
   is_end = (Of top_one, (inl top_is_top, top_requires));
-  greatest = greatest mid_ten (
+  greatest = no_greater mid_ten (
     (λ e. absurd (differ _ _ refl e)),
     ((λ e. refl), ((λ e. refl), ((λ e. absurd (differ _ _ refl e)), ((λ e. absurd (differ _ _ refl e)), ((λ e. absurd (differ _ _ refl e)), tt))))),
   );
@@ -256,7 +230,7 @@ top_selected : Selects top_one
 top_selected = record {
   not_main = λ e. differ (codes "top.org") (codes "m") refl e;
   is_end = (FromMain, top_is_top);
-  greatest = greatest top_one (
+  greatest = no_greater top_one (
     (λ e. refl),
     ((λ e. absurd (differ _ _ refl e)), ((λ e. absurd (differ _ _ refl e)), ((λ e. absurd (differ _ _ refl e)), ((λ e. absurd (differ _ _ refl e)), ((λ e. absurd (differ _ _ refl e)), tt))))),
   );
@@ -283,7 +257,7 @@ not_listed (entry, there, is) = each_member (λ (entry : Entry). path_of (codes 
 pub pruned_is_listed : PrunedIsListed
 pruned_is_listed = record {
   whole = no_fault main_file None is_found (_, rows, refl);
-  only = alone main_text main_file pruned_answers refl opened opened_in (omega arith) sound_if_opened _ rows;
+  only = alone main_text main_file pruned_answers refl opened opened_in (omega arith) (sound_if_opened main_file pruned_answers opened opened_in none_faulty) _ rows;
   limited = no_fault main_file None is_found (_, rows, refl);
   after = no_fault main_file None is_found (
     _,

@@ -15,7 +15,7 @@ use Rattle.page.specs.Types.{Class, Fault, Main as FromMain, Of}
 use Rattle.page.specs.Version.{version_cmp}
 use Rattle.page.specs.Worlds.{UnprunedIsListed, given_by, unpruned_answers}
 use Rattle.page.proofs.Alone.{alone}
-use Rattle.page.proofs.Ending.{end_in, rows_are, settled}
+use Rattle.page.proofs.Ending.{HasNone, IsNoGreater, found, greatest, sound_if_opened, end_in, rows_are, settled}
 use Rattle.page.proofs.Members.{differ, each_member, no_member, pairs_of}
 use Rattle.page.proofs.Saying.{has_no_fault, required_in, said_of}
 
@@ -99,43 +99,17 @@ is_settled = settled old_file unpruned_answers opened opened_in ((λ name. (Ok s
 
 -- ---- no fault
 
-abbrev HasNone : ModuleVersion → Type 0
-HasNone x = (class : Class) → Says run x (Err class) → ⊥
-
-none_faulty : AllByRecursion HasNone opened
+none_faulty : AllByRecursion (HasNone old_file unpruned_answers opened opened_in) opened
 none_faulty = (has_no_fault old_file unpruned_answers mid_nine short_file mid_is, (has_no_fault old_file unpruned_answers low_nine low_file low_is, tt))
 
-sound_if_opened : (x : ModuleVersion) (class : Class) → IsOpened run x → Says run x (Err class) → ⊥
-sound_if_opened x class opens says = each_member HasNone opened none_faulty x (opened_in x opens) class says
-
-faultless : AreFaults run []
-faultless = record {
-  ascending = pairs_of (λ (a b : Fault). pair_cmp a.vertex b.vertex ≡ Less) [] tt;
-  each = λ one. (
-    (λ there. absurd (no_member one there)),
-    λ is. absurd (sound_if_opened one.vertex one.class is.0 is.1),
-  );
-}
-
 is_found : AreFound (given_by old_text unpruned_answers) old_file None []
-is_found = record {
-  read = record { main_file = refl; sums = tt };
-  settled = is_settled;
-  faults_are = faultless;
-  none_failed = refl;
-}
+is_found = found old_file unpruned_answers opened opened_in old_text refl is_settled none_faulty
 
 -- ---- the build list
 
-end_is_in : (y : ModuleVersion) → IsEdgeEnd (IsEdge run) y → Contains opened y
-end_is_in = end_in old_file unpruned_answers opened opened_in opened top_in leads_down
-
--- if it has the path of this module, it is not greater
-abbrev IsNoGreater : ModuleVersion → ModuleVersion → Type 0
-IsNoGreater x y = y.0 ≡ x.0 → is_gt (version_cmp y.1 x.1) ≡ false
-
-greatest : (x : ModuleVersion) → AllByRecursion (IsNoGreater x) opened → (y : ModuleVersion) → IsEdgeEnd (IsEdge run) y → IsNoGreater x y
-greatest x h y is = each_member (IsNoGreater x) opened h y (end_is_in y is)
+no_greater : (x : ModuleVersion) → AllByRecursion (IsNoGreater old_file unpruned_answers opened opened_in opened top_in leads_down x) opened → (y : ModuleVersion) → IsEdgeEnd (IsEdge run) y
+    → IsNoGreater old_file unpruned_answers opened opened_in opened top_in leads_down x y
+no_greater = greatest old_file unpruned_answers opened opened_in opened top_in leads_down
 
 abbrev Selects : ModuleVersion → Type 0
 Selects x = IsSelected (codes "m") (IsEdge run) x
@@ -144,14 +118,14 @@ low_selected : Selects low_nine
 low_selected = record {
   not_main = λ e. differ (codes "low.org") (codes "m") refl e;
   is_end = (Of mid_nine, (inl mid_is_top, mid_requires));
-  greatest = greatest low_nine ((λ e. absurd (differ _ _ refl e)), ((λ e. refl), tt));
+  greatest = no_greater low_nine ((λ e. absurd (differ _ _ refl e)), ((λ e. refl), tt));
 }
 
 mid_selected : Selects mid_nine
 mid_selected = record {
   not_main = λ e. differ (codes "mid.org") (codes "m") refl e;
   is_end = (FromMain, mid_is_top);
-  greatest = greatest mid_nine ((λ e. refl), ((λ e. absurd (differ _ _ refl e)), tt));
+  greatest = no_greater mid_nine ((λ e. refl), ((λ e. absurd (differ _ _ refl e)), tt));
 }
 
 rows : AreRows run (main_entry ∷ entry_of old_file.replaces low_nine ∷ entry_of old_file.replaces mid_nine ∷ [])
@@ -161,5 +135,5 @@ rows = rows_are old_file unpruned_answers opened opened_in opened top_in leads_d
 pub unpruned_is_listed : UnprunedIsListed
 unpruned_is_listed = record {
   whole = no_fault old_file None is_found (_, rows, refl);
-  only = alone old_text old_file unpruned_answers refl opened opened_in (omega arith) sound_if_opened _ rows;
+  only = alone old_text old_file unpruned_answers refl opened opened_in (omega arith) (sound_if_opened old_file unpruned_answers opened opened_in none_faulty) _ rows;
 }

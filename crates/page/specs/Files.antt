@@ -1,5 +1,5 @@
 -- The files of the worlds and what they say, a stand-in for docs/proof/DIRECTIVES.md.
-use Rattle.std.specs.Prelude.{◌≡◌, ℕ, if◌then◌else◌, List, [], ◌∷◌, Option, Some, None, Result, Ok, Err, codes}
+use Rattle.std.specs.Prelude.{◌≡◌, ◌++◌, ℕ, if◌then◌else◌, List, [], ◌∷◌, Option, Some, None, Result, Ok, Err, codes}
 use Rattle.std.specs.Str.{bytes_eq}
 use Rattle.page.specs.Asked.{Name}
 use Rattle.page.specs.Directives.{Folder, Lax, Mode, Module, Strict, left_with, left_without}
@@ -41,7 +41,8 @@ local_one = (codes "local", codes "v1.0.0")
 -- It is pruned, excludes a version of low.org, which it requires, and replaces one of mid.org by a folder, and the
 -- others by fork.org.
 abbrev pub main_text : List ℕ
-main_text = codes "module m\ngo 1.17\nrequire top.org v1.0.0\nrequire mid.org v1.9.0\nrequire low.org v1.10.0\nexclude low.org v1.10.0\nreplace mid.org v1.10.0 => ./mid\nreplace mid.org => fork.org v1.9.0\n"
+main_text = codes "module m\ngo 1.17\nrequire top.org v1.0.0\nrequire mid.org v1.9.0\nrequire low.org v1.10.0\n"
+    ++ codes "exclude low.org v1.10.0\nreplace mid.org v1.10.0 => ./mid\nreplace mid.org => fork.org v1.9.0\n"
 
 abbrev pub main_file : Main
 main_file = record {
