@@ -1,18 +1,18 @@
--- The report on a path that no proxy has, and on a file that declares another path.
+-- The reports on a path that no proxy has, on a file that declares another path, and on a failure of the device.
 use Rattle.std.proofs.Common.{◌≡◌, ◌∙◌, false, List, [], ◌∷◌, Some, None, Ok, Err, Contains, arith, inl, inr, refl, subst, sym}
 use Rattle.std.specs.List.{AllByRecursion, IsDistinct}
 use Rattle.std.specs.declared.cmp.Ordering.TheVariants.{Less}
 use Rattle.std.proofs.lemmas.Bool.{false≢true}
 use Rattle.page.specs.Asked.{names_in, same_name}
-use Rattle.page.specs.Files.{local_file, local_one, mid_nine, top_file}
+use Rattle.page.specs.Files.{local_file, local_one, mid_nine, old_file, top_file}
 use Rattle.page.specs.ModuleVersion.{ModuleVersion, pair_cmp}
-use Rattle.page.specs.Outcomes.{faulty}
+use Rattle.page.specs.Outcomes.{device, faulty}
 use Rattle.page.specs.Path.{is_fetchable}
 use Rattle.page.specs.Reading.{file_of, is_askable}
-use Rattle.page.specs.Run.{AreFaults, IsDeep, IsFault, IsNeeded, IsOpened, IsSettled, IsTop, Requires, Run, Says, answered, faulty as faulty_file, from_deep, from_main, from_top, run_of, unaskable, wrong_path}
+use Rattle.page.specs.Run.{AreFaults, IsDeep, IsDue, IsFault, IsNeeded, IsOpened, IsSettled, IsTop, Requires, Run, Says, answered, faulty as faulty_file, from_deep, from_main, from_top, run_of, unaskable, wrong_path}
 use Rattle.page.specs.Types.{Class, Fault, NotFetchable, WrongPath}
-use Rattle.page.specs.Worlds.{FaultsAreReported, wrong_answers}
-use Rattle.page.proofs.Ending.{settled}
+use Rattle.page.specs.Worlds.{DeviceIsReported, FaultsAreReported, asked_mid, wrong_answers}
+use Rattle.page.proofs.Ending.{all_read, settled}
 use Rattle.page.proofs.Members.{each_member, pairs_of}
 use Rattle.page.proofs.Saying.{class_is, requires_nothing, said_of}
 
@@ -114,3 +114,16 @@ pub faults_are_reported : FaultsAreReported
 faults_are_reported =
     faulty local_file None (fault_with local_one NotFetchable) (fault_with mid_nine WrongPath ∷ [])
     (record { read = record { main_file = refl; sums = tt }; settled = is_settled; faults_are = faults_are; none_failed = refl }) refl
+
+-- ---- the device
+
+mid_is_due : IsDue (run_of old_file None []) asked_mid
+unfolding is_fetchable
+mid_is_due = record {
+  read = all_read old_file [] tt;
+  needed = (mid_nine, inl (0, omega arith, refl), refl, refl);
+  unasked = refl;
+}
+
+pub device_is_reported : DeviceIsReported
+device_is_reported = device old_file None asked_mid (record { main_file = refl; sums = tt }) mid_is_due refl refl

@@ -1,8 +1,6 @@
 -- The list below the pruned main file.
-use Rattle.std.proofs.Common.{◌≡◌, ◌∙◌, true, false, List, [], ◌∷◌, Some, None, Ok, Err, Contains, ap, arith, codes, inl, inr, refl, subst, sym}
+use Rattle.std.proofs.Common.{◌≡◌, ◌∙◌, true, false, List, [], ◌∷◌, Some, None, Ok, Contains, ap, arith, codes, inl, inr, refl, subst, sym}
 use Rattle.std.specs.List.{AllByRecursion, IsDistinct}
-use Rattle.std.specs.Ordering.{is_gt}
-use Rattle.std.specs.declared.cmp.Ordering.TheVariants.{Less}
 use Rattle.std.proofs.lemmas.Bool.{false≢true}
 use Rattle.page.specs.Asked.{names_in, same_name}
 use Rattle.page.specs.BuildList.{Entry, HasEntryFor, IsSelected, entry_of, main_entry, path_of}
@@ -10,16 +8,15 @@ use Rattle.page.specs.Fields.{Dependency}
 use Rattle.page.specs.Files.{end_file, end_one, folder_says, low_nine, main_file, main_text, mid_file, mid_nine, mid_ten, own_one, top_file, top_one}
 use Rattle.page.specs.Graph.{IsEdgeEnd}
 use Rattle.page.specs.Main.{is_pruned_by, without_excluded}
-use Rattle.page.specs.ModuleVersion.{ModuleVersion, pair_cmp}
+use Rattle.page.specs.ModuleVersion.{ModuleVersion}
 use Rattle.page.specs.Outcomes.{AreFound, no_fault}
 use Rattle.page.specs.Path.{is_fetchable}
-use Rattle.page.specs.Run.{AreFaults, AreRows, IsDeep, IsEdge, IsNeeded, IsOpened, IsSettled, IsTop, Requires, Run, Says, answered, from_deep, from_main, from_top, run_of, sound}
-use Rattle.page.specs.Types.{Class, Fault, Main as FromMain, Of}
-use Rattle.page.specs.Version.{version_cmp}
+use Rattle.page.specs.Run.{AreRows, IsDeep, IsEdge, IsNeeded, IsOpened, IsSettled, IsTop, Requires, Run, Says, answered, from_deep, from_main, from_top, run_of, sound}
+use Rattle.page.specs.Types.{Main as FromMain, Of}
 use Rattle.page.specs.Worlds.{PrunedIsListed, given_by, pruned_answers}
 use Rattle.page.proofs.Alone.{alone}
-use Rattle.page.proofs.Ending.{HasNone, IsNoGreater, found, greatest, sound_if_opened, end_in, rows_are, settled}
-use Rattle.page.proofs.Members.{differ, each_member, no_member, pairs_of}
+use Rattle.page.proofs.Ending.{HasNone, IsNoGreater, found, greatest, sound_if_opened, rows_are, settled}
+use Rattle.page.proofs.Members.{differ, each_member, no_member}
 use Rattle.page.proofs.Saying.{file_is, has_no_fault, required_in, said_of}
 
 abbrev run : Run

@@ -1,22 +1,19 @@
 -- The list below the main file that is not pruned.
-use Rattle.std.proofs.Common.{◌≡◌, false, List, [], ◌∷◌, Some, None, Ok, Err, Contains, arith, codes, inl, inr, refl}
+use Rattle.std.proofs.Common.{◌≡◌, List, [], ◌∷◌, Some, None, Ok, Contains, arith, codes, inl, inr, refl}
 use Rattle.std.specs.List.{AllByRecursion, IsDistinct}
-use Rattle.std.specs.Ordering.{is_gt}
-use Rattle.std.specs.declared.cmp.Ordering.TheVariants.{Less}
 use Rattle.page.specs.Asked.{names_in, same_name}
 use Rattle.page.specs.BuildList.{IsSelected, entry_of, main_entry}
 use Rattle.page.specs.Files.{low_file, low_nine, short_file, mid_nine, old_file, old_text}
 use Rattle.page.specs.Graph.{IsEdgeEnd}
-use Rattle.page.specs.ModuleVersion.{ModuleVersion, pair_cmp}
+use Rattle.page.specs.ModuleVersion.{ModuleVersion}
 use Rattle.page.specs.Outcomes.{AreFound, no_fault}
 use Rattle.page.specs.Path.{is_fetchable}
-use Rattle.page.specs.Run.{AreFaults, AreRows, IsDeep, IsEdge, IsNeeded, IsOpened, IsSettled, IsTop, Requires, Run, Says, answered, from_deep, from_main, from_top, run_of, sound}
-use Rattle.page.specs.Types.{Class, Fault, Main as FromMain, Of}
-use Rattle.page.specs.Version.{version_cmp}
+use Rattle.page.specs.Run.{AreRows, IsDeep, IsEdge, IsNeeded, IsOpened, IsSettled, IsTop, Requires, Run, Says, answered, from_deep, from_main, from_top, run_of, sound}
+use Rattle.page.specs.Types.{Main as FromMain, Of}
 use Rattle.page.specs.Worlds.{UnprunedIsListed, given_by, unpruned_answers}
 use Rattle.page.proofs.Alone.{alone}
-use Rattle.page.proofs.Ending.{HasNone, IsNoGreater, found, greatest, sound_if_opened, end_in, rows_are, settled}
-use Rattle.page.proofs.Members.{differ, each_member, no_member, pairs_of}
+use Rattle.page.proofs.Ending.{HasNone, IsNoGreater, found, greatest, sound_if_opened, rows_are, settled}
+use Rattle.page.proofs.Members.{differ, each_member, no_member}
 use Rattle.page.proofs.Saying.{has_no_fault, required_in, said_of}
 
 abbrev run : Run

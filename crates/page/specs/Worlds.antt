@@ -2,7 +2,7 @@
 use Rattle.std.specs.Prelude.{◌≡◌, ℕ, List, [], ◌∷◌, Some, None, codes}
 use Rattle.page.specs.Asked.{Name, Reply, bytes, folder_file, mod_file}
 use Rattle.page.specs.Files.{end_text, folder_text, local_text, low_text, main_text, mid_text, old_text, short_text, top_text}
-use Rattle.page.specs.Outcome.{Outcome, printed, refused}
+use Rattle.page.specs.Outcome.{Outcome, failed, printed, refused}
 use Rattle.page.specs.Outcomes.{Given, ListEnds}
 
 abbrev pub asked_top : Name
@@ -68,3 +68,11 @@ pub record UnprunedIsListed : Type 0 where
 abbrev pub FaultsAreReported : Type 0
 FaultsAreReported = ListEnds None None (given_by local_text wrong_answers) (refused
     (codes "local@v1.0.0: NotFetchable\nmid.org@v1.9.0: WrongPath\n"))
+
+-- The device fails on the file of the required module, before anything was answered.
+abbrev pub device_failed : Given
+device_failed = record { file = old_text; sums = None; told = record { asked = []; failed = asked_mid ∷ [] } }
+
+-- That is reported, with status 3.
+abbrev pub DeviceIsReported : Type 0
+DeviceIsReported = ListEnds None None device_failed (failed (codes "gomod: device at mid.org@v1.9.0\n"))

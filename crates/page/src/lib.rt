@@ -4,7 +4,7 @@
 //! `pruned_is_listed` is followed there to the last byte that is printed.
 #![tactic(auto)]
 
-ghost use Rattle.page.specs.Worlds.{FaultsAreReported, PrunedIsListed, UnprunedIsListed};
+ghost use Rattle.page.specs.Worlds.{DeviceIsReported, FaultsAreReported, PrunedIsListed, UnprunedIsListed};
 
 /// Below a main file of go 1.17: an unpruned and a pruned file, a folder, an excluded version, and v1.10.0 above v1.9.0;
 /// all rows, the first two, and those after a path.
@@ -20,4 +20,9 @@ pub fn unpruned_is_listed()
 /// A path that no proxy has and a file that declares another path are reported, and nothing is printed.
 pub fn faults_are_reported()
     ensures { FaultsAreReported }
+{}
+
+/// A failure of the device is reported with status 3.
+pub fn device_is_reported()
+    ensures { DeviceIsReported }
 {}

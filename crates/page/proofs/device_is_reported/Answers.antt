@@ -1,0 +1,5 @@
+use Rattle.page.proofs.Faults.{device_is_reported}
+use Rattle.page.proofs.device_is_reported.Goals as goal
+
+pub returns : goal.returns
+returns c = device_is_reported
