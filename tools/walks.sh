@@ -6,7 +6,7 @@
 #   tools/walks.sh --check  prints only what is wrong
 #
 # The lists stand in this script. It checks in the sources that the body of each function names the next one. The status
-# is 1 if one doesn't, or if more than nine are on the stack when `load` is called, fifteen, from `load` on, when a
+# is 1 if one doesn't, or if more than nine are on the stack when `load` is called, fourteen, from `load` on, when a
 # requirement is put into the list, or twelve at the first change of a line. .ci/run runs it before the merge gate. It needs python3.
 set -euo pipefail
 cd "$(dirname "$0")/.."
@@ -34,21 +34,21 @@ WALKS = [
         gomod_run/src/listing/answering.rt answer
         gm_graph/src/loading.rt load
     """),
-    ("list, from `load` to a requirement that is known", 15, """
+    ("list, from `load` to a requirement that is known", 14, """
         gm_graph/src/loading.rt load visit_all
         gm_graph/src/visiting.rt visit
         gm_graph/src/cache.rt visit known_at read_file summarize
-        gm_graph/src/cache/reading.rt read_answer read_content
+        gm_graph/src/cache/reading.rt read_answer
         gm_file/src/dep_file.rt read_listed
         gm_file/src/dep_lines.rt read_all read_simple_lines read_simple
         gm_file/src/required.rt read push_known
         gm_name_table/src/module_list.rt push_known
     """),
-    ("list, from `load` to a new requirement", 15, """
+    ("list, from `load` to a new requirement", 14, """
         gm_graph/src/loading.rt load visit_all
         gm_graph/src/visiting.rt visit
         gm_graph/src/cache.rt visit known_at read_file summarize
-        gm_graph/src/cache/reading.rt read_answer read_content
+        gm_graph/src/cache/reading.rt read_answer
         gm_file/src/dep_file.rt read_listed
         gm_file/src/dep_lines.rt read_all read_simple_lines read_simple
         gm_file/src/required.rt read push
