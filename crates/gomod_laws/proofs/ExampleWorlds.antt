@@ -443,9 +443,6 @@ only_list_is_printed outcome (others, are, is) =
 abbrev pub fault_with : ModuleVersion → Class → Fault
 fault_with x class = record { vertex = x; class = class }
 
-pub same_class : (a b : Class) → Some a ≡ Some b → a ≡ b
-same_class a b e = cc e
-
 -- a module whose file is sound has no fault
 no_fault_at : (run : Run) (x z : ModuleVersion) (file : Dependency) (class : Class) → Says run z (Ok file) → x ≡ z → Says run x (Err class) → ⊥
 no_fault_at run x z file class own is says =
