@@ -19,15 +19,16 @@ use Rattle.gomod_run.specs.Outcome.{Outcome, refused}
 use Rattle.gomod_run.specs.Reports.{too_many_line}
 use Rattle.gomod_run.specs.Runs.{is_query}
 use Rattle.gomod_run.proofs.OneRead.{misread_or_main, misread_or_sums, one_main}
-use Rattle.gomod_run.proofs.OneStore.{one_for_stores}
 use Rattle.gomod_words.specs.declared.usage.Command.{Command}
 use Rattle.gomod_words.specs.declared.usage.Command.TheVariants.{Fmt, Edit, Versions, Graph, List as Rows, Chain}
 use Rattle.gomod_laws.proofs.Ended.{Ends}
 use Rattle.gomod_laws.specs.SumLaws.{HasNeedlessLines, HasSumLine, NeedlessLinesChangeNothing, SumLinesInAnyOrder}
+use Rattle.gomod_laws.proofs.FolderRuns.{answered_name}
 use Rattle.gomod_laws.proofs.QueryRuns.{one_end, query_ends}
 use Rattle.gomod_laws.proofs.RunsAlike.{ReadAlike, prints_to, says_by}
 use Rattle.gomod_laws.proofs.RunSayings.{RequiresToo, asked_answered, many_too}
-use Rattle.gomod_laws.proofs.SumsChecked.{answered_name, find_alike, read_with}
+use Rattle.gomod_laws.proofs.SumsGiven.{same_unread}
+use Rattle.gomod_laws.proofs.SumsChecked.{find_alike, read_with}
 use Rattle.gomod_laws.proofs.SumsOutcomes.{RunOver, found_with, sum_table}
 
 -- ---- what go.sums say
@@ -189,15 +190,6 @@ module _ (command : Command) (query : is_query command ≡ true) (main one other
       (prints_to (run_of said (Some t) asked) (run_of said (Some u) asked)
       (alike_with main one other asked others alike are said found.read.main_file t u found.read.sums tells found.settled.read) command a shows))
 
--- ---- commands that read no go.sum
-
-module _ (command : Command) (main one other : List ℕ) (asked others : List (Name × Reply)) (a b : Outcome) where
-  same_unread : AnswerAlike asked others → (Ends command main (Some one) asked a → Ends command main (Some other) asked a)
-      → Ends command main (Some one) asked a → Ends command main (Some other) others b → a ≡ b
-  same_unread alike carried is be =
-      one_for_stores command (given main (Some other) (answers asked [])) (given main (Some other) (answers others [])) a b
-      (record { file = refl; sums = refl; answers = alike; failed = refl }) (carried is) be
-
 -- ---- the laws
 
 same_query : (command : Command) → is_query command ≡ true → (main one other : List ℕ) (asked others : List (Name × Reply)) (a b : Outcome) → AnswerAlike asked others
@@ -209,11 +201,11 @@ same_query command query main one other asked others a b alike are is be =
 
 same_sums_change_nothing : (command : Command) (main one other : List ℕ) (asked others : List (Name × Reply)) (a b : Outcome) → AnswerAlike asked others → HaveSameSums main one other asked
     → Ends command main (Some one) asked a → Ends command main (Some other) others b → a ≡ b
-same_sums_change_nothing Fmt main one other asked others a b alike are is be = same_unread Fmt main one other asked others a b alike (λ run. run) is be
+same_sums_change_nothing Fmt main one other asked others a b alike are is be = same_unread Fmt main (Some one) (Some other) asked others a b alike (λ run. run) is be
 same_sums_change_nothing (Edit operations) main one other asked others a b alike are is be =
-    same_unread (Edit operations) main one other asked others a b alike (λ run. run) is be
+    same_unread (Edit operations) main (Some one) (Some other) asked others a b alike (λ run. run) is be
 same_sums_change_nothing (Versions path all) main one other asked others a b alike are is be =
-    same_unread (Versions path all) main one other asked others a b alike (λ run. run) is be
+    same_unread (Versions path all) main (Some one) (Some other) asked others a b alike (λ run. run) is be
 same_sums_change_nothing Graph main one other asked others a b alike are is be = same_query Graph refl main one other asked others a b alike are is be
 same_sums_change_nothing (Rows after limit) main one other asked others a b alike are is be =
     same_query (Rows after limit) refl main one other asked others a b alike are is be

@@ -1,8 +1,7 @@
 -- What files say with a go.sum that finds no fault, and without one.
-use Rattle.std.proofs.Common.{◌≡◌, ◌∙◌, Bool, true, false, cond, List, [], ◌∷◌, Option, Some, None, Result, Ok, Err, Contains, ap, sym, refl, subst, ℕ}
+use Rattle.std.proofs.Common.{◌≡◌, ◌∙◌, List, [], Option, Some, None, Result, Ok, Err, ap, sym, refl, subst, ℕ}
 use Rattle.gm_file.specs.Fields.{Dependency}
-use Rattle.gm_store.specs.Asked.{Name, Reply, absent, answer_in, bytes, folder_file, list_file, mod_file, names_in, same_name, too_long}
-use Rattle.gm_store.proofs.NameOrder.{names_equal}
+use Rattle.gm_store.specs.Asked.{Name, Reply, absent, answer_in, bytes, folder_file, list_file, mod_file, names_in, too_long}
 use Rattle.gm_store_sums.specs.Hash.{file_hash}
 use Rattle.gm_store_sums.specs.Sums.{ReadsAs, Says as SumSays, Sums, check_in}
 use Rattle.gm_store_sums.specs.declared.sum_table.Sum.{Sum}
@@ -13,25 +12,10 @@ use Rattle.gm_file.specs.Main.{Main}
 use Rattle.gm_graph.specs.Reading.{IsContentReading, IsFileReading, IsReadUnless, class_of_sum, sum_fault}
 use Rattle.gm_graph.specs.Run.{AreFaults, FileSays, IsNeeded, IsRead, IsSettled, Run, answered as file_answered, faulty, run_of}
 use Rattle.gm_graph.proofs.OneReading.{one_reading}
-use Rattle.gm_graph_select.proofs.Ascending.{member_head, member_tail, no_member}
+use Rattle.gm_graph_select.proofs.Ascending.{no_member}
+use Rattle.gomod_laws.proofs.FolderRuns.{answered_name}
 use Rattle.gomod_laws.proofs.LineOrderSame.{says_itself}
 use Rattle.gomod_laws.proofs.RunsAlike.{ReadAlike}
-
--- ---- a name with an answer was asked for
-
-named_by : (test : Bool) (pair : Name × Reply) (names : List Name) (name : Name) (rest : Option Reply) (reply : Reply)
-    → same_name name pair.0 ≡ test → cond test (Some pair.1) rest ≡ Some reply
-    → (rest ≡ Some reply → Contains names name) → Contains (pair.0 ∷ names) name
-named_by true pair names name rest reply same answered there =
-    subst (λ (n : Name). Contains (n ∷ names) name) (names_equal name pair.0 same) (member_head name names)
-named_by false pair names name rest reply same answered there = member_tail pair.0 name names (there answered)
-
-pub answered_name : (pairs : List (Name × Reply)) (name : Name) (reply : Reply) → answer_in pairs name ≡ Some reply
-    → Contains (names_in pairs) name
-answered_name [] name reply answered = cc answered
-answered_name (pair ∷ pairs) name reply answered =
-    named_by (same_name name pair.0) pair (names_in pairs) name (answer_in pairs name) reply refl answered
-    (λ later. answered_name pairs name reply later)
 
 -- ---- two go.sums that find the same
 

@@ -63,11 +63,11 @@ module _ (command : Command) (query : is_query command ≡ true) (main sums : Li
 
 pub only_refuses : OnlyRefuses
 only_refuses Fmt main sums asked others one other alike is be ends =
-    sym (same_unread Fmt main sums asked others one other alike (λ run. run) is.0 be.0)
+    sym (same_unread Fmt main (Some sums) None asked others one other alike (λ run. run) is.0 be.0)
 only_refuses (Edit operations) main sums asked others one other alike is be ends =
-    sym (same_unread (Edit operations) main sums asked others one other alike (λ run. run) is.0 be.0)
+    sym (same_unread (Edit operations) main (Some sums) None asked others one other alike (λ run. run) is.0 be.0)
 only_refuses (Versions path all) main sums asked others one other alike is be ends =
-    sym (same_unread (Versions path all) main sums asked others one other alike (λ run. run) is.0 be.0)
+    sym (same_unread (Versions path all) main (Some sums) None asked others one other alike (λ run. run) is.0 be.0)
 only_refuses Graph main sums asked others one other alike is be ends =
     one_unchecked Graph refl main sums asked others one other alike ends is.0 be.0
 only_refuses (Rows after limit) main sums asked others one other alike is be ends =
@@ -167,12 +167,12 @@ module _ (command : Command) (query : is_query command ≡ true) (main sums : Li
 
 pub right_sums_change_nothing : RightSumsChangeNothing
 right_sums_change_nothing Fmt main sums asked others one other alike right is be =
-    same_unread Fmt main sums others asked other one (alike_back asked others alike) (λ run. run) be.0 is.0
+    same_unread Fmt main (Some sums) None others asked other one (alike_back asked others alike) (λ run. run) be.0 is.0
 right_sums_change_nothing (Edit operations) main sums asked others one other alike right is be =
-    same_unread (Edit operations) main sums others asked other one (alike_back asked others alike)
+    same_unread (Edit operations) main (Some sums) None others asked other one (alike_back asked others alike)
     (λ run. run) be.0 is.0
 right_sums_change_nothing (Versions path all) main sums asked others one other alike right is be =
-    same_unread (Versions path all) main sums others asked other one (alike_back asked others alike)
+    same_unread (Versions path all) main (Some sums) None others asked other one (alike_back asked others alike)
     (λ run. run) be.0 is.0
 right_sums_change_nothing Graph main sums asked others one other alike right is be =
     one_checked Graph refl main sums asked others one other right alike is.0 be.0
