@@ -6,8 +6,9 @@ use Rattle.gomod_run.specs.Outcomes.{Answers, QueryEnds, answers, given}
 use Rattle.gomod_run.specs.Outcome.{Outcome}
 use Rattle.gomod_words.specs.declared.usage.Command.{Command}
 use Rattle.gomod_run.specs.Runs.{PrintsOf, is_query}
+use Rattle.gomod_run.proofs.QueryParts.{query_ends}
 use Rattle.gomod_laws.proofs.Ended.{Ends}
-use Rattle.gomod_laws.proofs.QueryRuns.{one_end, query_ends}
+use Rattle.gomod_laws.proofs.RunsAlike.{one_end}
 
 -- each outcome of a query over the one file is also one over the other
 abbrev pub QueriesMove : List ℕ → List ℕ → Option (List ℕ) → Type 0
@@ -17,5 +18,5 @@ pub same_outcome : (command : Command) (file other : List ℕ) (sums : Option (L
     → Ends command file sums asked a → Ends command other sums answered b → a ≡ b
 same_outcome command file other sums asked answered a b query moves alike one two =
     one_end command query (given other sums (answers asked [])) (given other sums (answers answered [])) a b (record { file = refl; sums = refl; answers = alike; failed = refl })
-    (moves command (answers asked []) a (query_ends command (given file sums (answers asked [])) a query one))
-    (query_ends command (given other sums (answers answered [])) b query two)
+    (moves command (answers asked []) a (query_ends (given file sums (answers asked [])) a command query one))
+    (query_ends (given other sums (answers answered [])) b command query two)

@@ -10,18 +10,21 @@ use Rattle.gm_graph.specs.declared.cache.class.Class.{Class}
 use Rattle.gm_graph.specs.declared.fault.Fault.{Fault}
 use Rattle.gm_graph.specs.Reading.{IsFileReading, file_of, is_askable, is_right_path}
 use Rattle.gm_graph.specs.Run.{AreEdges, AreFaults, AreRows, AreTooMany, FileSays, IsDue, IsEdge, IsNeeded, IsOpened, IsRead, IsSettled, IsTop, Run, Says, answered, faulty, sound, unaskable, wrong_path}
+use Rattle.gm_graph.proofs.RunLemmas.{RequiresToo, edge_too, many_too, opened_too}
 use Rattle.gm_graph_select.specs.declared.step.Edge.{Edge}
 use Rattle.gm_graph_select.specs.declared.step.Step.TheVariants.{Of}
 use Rattle.gm_graph_select.specs.BuildList.{Entry, IsBuildList, entry_of, main_entry}
 use Rattle.gm_graph_select.proofs.Same.{AreSame, same_build_list, same_chain}
 use Rattle.gomod_run.specs.ListingTexts.{graph_text}
 use Rattle.gomod_run.specs.Outcome.{Outcome, printed}
-use Rattle.gomod_run.specs.Outcomes.{PrintsRows, ShowsChain}
-use Rattle.gomod_run.specs.Runs.{PrintsOf}
+use Rattle.gomod_run.specs.Outcomes.{Given, PrintsRows, QueryEnds, ShowsChain}
+use Rattle.gomod_run.specs.Runs.{PrintsOf, is_query}
+use Rattle.gomod_run.specs.ListingLaws.{AreAlike}
+use Rattle.gomod_run.proofs.OneStore.{one_for_stores}
+use Rattle.gomod_run.proofs.QueryParts.{ends_query}
 use Rattle.gomod_words.specs.declared.usage.Command.{Command}
 use Rattle.gomod_words.specs.declared.usage.Command.TheVariants.{Fmt, Edit, Versions, Graph, List as Rows, Chain}
 use Rattle.gomod_laws.proofs.LineOrderSame.{SayTheSame, files_same, without_same}
-use Rattle.gomod_laws.proofs.RunSayings.{RequiresToo, edge_too, many_too, opened_too}
 
 -- What a module says by the first run, it says by the second, if its file does and both main files replace it alike.
 pub says_by : (r s : Run) (x : ModuleVersion) → replacement_in r.main x ≡ replacement_in s.main x
@@ -184,3 +187,11 @@ module _ (r s : Run) (alike : ReadAlike r s) where
   prints_to Fmt outcome says = says
   prints_to (Edit operations) outcome says = says
   prints_to (Versions path all) outcome says = says
+
+-- ---- how queries end
+
+-- a query ends in one way over stores that answer alike
+pub one_end : (command : Command) → is_query command ≡ true → (run next : Given) (one other : Outcome) → AreAlike run next
+    → QueryEnds (PrintsOf command) run one → QueryEnds (PrintsOf command) next other → one ≡ other
+one_end command query run next one other alike is be =
+    one_for_stores command run next one other alike (ends_query run one command query is) (ends_query next other command query be)

@@ -12,6 +12,7 @@ use Rattle.gm_graph.specs.declared.cache.class.Class.{Class}
 use Rattle.gm_graph.specs.declared.fault.Fault.{Fault}
 use Rattle.gm_graph.specs.Reading.{IsFileReading, class_of_sum, file_of, is_askable, sum_fault}
 use Rattle.gm_graph.specs.Run.{AreTooMany, FileSays, IsNeeded, IsRead, IsSettled, Run, answered, run_of, unaskable}
+use Rattle.gm_graph.proofs.RunLemmas.{RequiresToo, asked_answered, many_too}
 use Rattle.gomod_run.specs.ListingLaws.{AnswerAlike}
 use Rattle.gomod_run.specs.Outcomes.{AreFound, AreSums, answers, bad_main, bad_sums, device, faulty, given, longest, no_fault, too_many}
 use Rattle.gomod_run.specs.Needs.{GraphNeeds}
@@ -19,14 +20,13 @@ use Rattle.gomod_run.specs.Outcome.{Outcome, refused}
 use Rattle.gomod_run.specs.Reports.{too_many_line}
 use Rattle.gomod_run.specs.Runs.{is_query}
 use Rattle.gomod_run.proofs.OneRead.{misread_or_main, misread_or_sums, one_main}
+use Rattle.gomod_run.proofs.QueryParts.{query_ends}
 use Rattle.gomod_words.specs.declared.usage.Command.{Command}
 use Rattle.gomod_words.specs.declared.usage.Command.TheVariants.{Fmt, Edit, Versions, Graph, List as Rows, Chain}
 use Rattle.gomod_laws.proofs.Ended.{Ends}
 use Rattle.gomod_laws.specs.SumLaws.{HasNeedlessLines, HasSumLine, NeedlessLinesChangeNothing, SumLinesInAnyOrder}
 use Rattle.gomod_laws.proofs.FolderRuns.{answered_name}
-use Rattle.gomod_laws.proofs.QueryRuns.{one_end, query_ends}
-use Rattle.gomod_laws.proofs.RunsAlike.{ReadAlike, prints_to, says_by}
-use Rattle.gomod_laws.proofs.RunSayings.{RequiresToo, asked_answered, many_too}
+use Rattle.gomod_laws.proofs.RunsAlike.{ReadAlike, one_end, prints_to, says_by}
 use Rattle.gomod_laws.proofs.SumsGiven.{same_unread}
 use Rattle.gomod_laws.proofs.SumsChecked.{find_alike, read_with}
 use Rattle.gomod_laws.proofs.SumsOutcomes.{RunOver, found_with, sum_table}
@@ -196,8 +196,8 @@ same_query : (command : Command) → is_query command ≡ true → (main one oth
     → HaveSameSums main one other asked → Ends command main (Some one) asked a → Ends command main (Some other) others b → a ≡ b
 same_query command query main one other asked others a b alike are is be =
     same_runs command query main one other asked others a b alike are
-    (query_ends command (given main (Some other) (answers others [])) b query be)
-    (query_ends command (given main (Some one) (answers asked [])) a query is)
+    (query_ends (given main (Some other) (answers others [])) b command query be)
+    (query_ends (given main (Some one) (answers asked [])) a command query is)
 
 same_sums_change_nothing : (command : Command) (main one other : List ℕ) (asked others : List (Name × Reply)) (a b : Outcome) → AnswerAlike asked others → HaveSameSums main one other asked
     → Ends command main (Some one) asked a → Ends command main (Some other) others b → a ≡ b

@@ -12,13 +12,14 @@ use Rattle.gomod_run.specs.Outcome.{Outcome}
 use Rattle.gomod_run.specs.Runs.{PrintsOf, is_query}
 use Rattle.gomod_run.proofs.OneQueryStore.{alike_back}
 use Rattle.gomod_run.proofs.OneRead.{misread_or_main}
+use Rattle.gomod_run.proofs.QueryParts.{query_ends}
+use Rattle.gomod_run.proofs.PrintedList.{printed_run}
 use Rattle.gomod_words.specs.declared.usage.Command.{Command}
 use Rattle.gomod_words.specs.declared.usage.Command.TheVariants.{Fmt, Edit, Versions, Graph, List as Rows, Chain}
 use Rattle.gomod_laws.specs.Runs.{HasPrinted}
 use Rattle.gomod_laws.specs.SumLaws.{AreRight, OnlyRefuses, RightSumsChangeNothing}
 use Rattle.gomod_laws.proofs.Ended.{Ends}
-use Rattle.gomod_laws.proofs.QueryRuns.{one_end, printed_run, query_ends}
-use Rattle.gomod_laws.proofs.RunsAlike.{ReadAlike, faults_to, many_to, prints_to, settled_to}
+use Rattle.gomod_laws.proofs.RunsAlike.{ReadAlike, faults_to, many_to, one_end, prints_to, settled_to}
 use Rattle.gomod_laws.proofs.SumsGiven.{same_unread}
 use Rattle.gomod_laws.proofs.SumsChecked.{IsRightFor, alike_unchecked, find_alike, no_sum_fault, read_checked, read_unchecked}
 
@@ -58,8 +59,8 @@ module _ (command : Command) (query : is_query command ≡ true) (main sums : Li
   one_unchecked alike prints is be =
       sym (one_end command query (given main None (answers asked [])) (given main None (answers others [])) one other
       (record { file = refl; sums = refl; answers = alike; failed = refl })
-      (unchecked_outcome prints (query_ends command (given main (Some sums) (answers asked [])) one query is))
-      (query_ends command (given main None (answers others [])) other query be))
+      (unchecked_outcome prints (query_ends (given main (Some sums) (answers asked [])) one command query is))
+      (query_ends (given main None (answers others [])) other command query be))
 
 pub only_refuses : OnlyRefuses
 only_refuses Fmt main sums asked others one other alike is be ends =
@@ -160,10 +161,10 @@ module _ (command : Command) (query : is_query command ≡ true) (main sums : Li
   one_checked : AnswerAlike asked others → Ends command main None asked one → Ends command main (Some sums) others other
       → other ≡ one
   one_checked alike is be =
-      let ends = query_ends command (given main (Some sums) (answers others [])) other query be in
+      let ends = query_ends (given main (Some sums) (answers others [])) other command query be in
       sym (one_end command query (given main (Some sums) (answers asked [])) (given main (Some sums) (answers others [])) one other
       (record { file = refl; sums = refl; answers = alike; failed = refl })
-      (checked_outcome ends (query_ends command (given main None (answers asked [])) one query is)) ends)
+      (checked_outcome ends (query_ends (given main None (answers asked [])) one command query is)) ends)
 
 pub right_sums_change_nothing : RightSumsChangeNothing
 right_sums_change_nothing Fmt main sums asked others one other alike right is be =
