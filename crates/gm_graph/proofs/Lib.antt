@@ -28,6 +28,7 @@ pub mod Rooted
 pub mod Exactly
 pub mod Loads
 pub mod LawProofs
+pub mod RunLemmas
 pub mod Excluding
 pub mod Holding
 pub mod Telling

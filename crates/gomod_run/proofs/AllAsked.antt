@@ -1,26 +1,18 @@
 -- A run that is done has an answer for every file that it needs.
-use Rattle.std.proofs.Common.{◌≡◌, ◌∙◌, ℕ, Bool, List, Option, Some, None, IsSome, Result, false, true, ap, arith, inl, inr, refl, subst, sym}
-use Rattle.gm_name.specs.ModuleVersion.{ModuleVersion}
-use mathlib.Core.Path.{fun_ext}
-use Rattle.gm_file.specs.Fields.{Dependency}
+use Rattle.std.proofs.Common.{◌≡◌, ◌∙◌, ℕ, Bool, List, [], Option, Some, false, ap, arith, inl, inr, subst, sym}
 use Rattle.gm_store.specs.Asked.{Name, Reply, absent, answer_in, bytes, list_file, mod_file, too_long}
 use Rattle.gm_store.specs.Latest.{IsLatest}
 use Rattle.gm_store.specs.Listed.{AreListed}
 use Rattle.gm_store_sums.specs.Sums.{Sums}
-use Rattle.gm_graph.proofs.OneReading.{one_reading}
-use Rattle.gm_graph.specs.declared.cache.class.Class.{Class}
-use Rattle.gm_file.specs.Main.{Main, IsMainFile}
-use Rattle.gm_graph.specs.Reading.{Held, IsFileReading, IsReadUnless, IsTold, Tells, is_askable, readings_by}
-use Rattle.gm_graph.specs.Graph.{IsOpened}
-use Rattle.gm_graph.specs.Loading.{IsAnswered, IsNeeded}
-use Rattle.gomod_run.specs.Outcomes.{Answers, AreSums, Given}
-use Rattle.gm_graph.specs.Run.{run_of}
-use Rattle.gm_graph.proofs.RunReadings.{held_by, needed_same}
-use Rattle.gomod_run.proofs.HeldEnds.{chain_held, graph_held, list_held, Prints, PrintsChain, PrintsGraph, PrintsList, QueryEnds}
+use Rattle.gm_file.specs.Main.{Main}
+use Rattle.gm_graph.specs.declared.fault.Fault.{Fault}
+use Rattle.gm_graph.specs.Run.{Run, run_of}
+use Rattle.gm_graph.proofs.RunLemmas.{Agrees, needed, settled_answers}
+use Rattle.gomod_run.specs.Outcomes.{Answers, AreFound, Given, Prints, PrintsChain, PrintsGraph, PrintsList, QueryEnds}
 use Rattle.gomod_run.specs.Needs.{AnsweredAll, AnswersByName, GraphNeeds}
 use Rattle.gomod_run.specs.Outcome.{OrNoMemory, Outcome, failed}
 use Rattle.gomod_run.specs.Reports.{device_line}
-use Rattle.gomod_run.proofs.OneRead.{FindSame, one_finding, one_main}
+use Rattle.gomod_run.proofs.OneQueryStore.{itself, stores_agree}
 use Rattle.gomod_run.proofs.PrintedList.{printed_run}
 use Rattle.gomod_run.proofs.Uniqueness.{latest_once, listed_once, none_latest}
 use Rattle.gomod_run.proofs.WrittenTexts.{written_as}
@@ -32,46 +24,15 @@ use Rattle.gomod_run.specs.Versions.{IsOutcomeByList, IsVersionsOutcome, Version
 use Rattle.gomod_run.specs.Written.{IsWritten}
 use Rattle.gm_store.specs.Taken.{SinkState}
 
--- ---- what was read is unique
-
-module _ (one other : Option Sums) (same : FindSame one other) where
-  same_reading : (name : Name) (reply : Reply) (a b : Result Dependency Class) → IsFileReading one name reply a → IsFileReading other name reply b → a ≡ b
-  same_reading name absent a b is is' = is ∙ sym is'
-  same_reading name too_long a b is is' = is ∙ sym is'
-  same_reading name (bytes content) a b is is' =
-      one_reading other name (bytes content) a b (subst (λ (fault : Option Class). IsReadUnless fault content a) (same name content) is) is'
-
-  same_told : (name : Name) (reply : Option Reply) (a b : Option (Result Dependency Class)) → IsTold one name reply a → IsTold other name reply b → a ≡ b
-  same_told name None None None is is' = refl
-  same_told name None None (Some b) is is' = absurd is'
-  same_told name None (Some a) b is is' = absurd is
-  same_told name (Some reply) None b is is' = absurd is
-  same_told name (Some reply) (Some a) None is is' = absurd is'
-  same_told name (Some reply) (Some a) (Some b) is is' = ap (λ (r : Result Dependency Class). Some r) (same_reading name reply a b is is')
-
 -- ---- each file that is needed is answered
 
-some_reply : (answer : Option Reply) → IsSome answer → (reply : Reply) × (answer ≡ Some reply)
-some_reply None is = cc is
-some_reply (Some reply) is = (reply, refl)
-
-module _ (file : List ℕ) (sums : Option (List ℕ)) (asked : List (Name × Reply)) (main : Main) (table : Option Sums) (held : Held)
-    (main_reads : IsMainFile file main) (sums_read : AreSums sums table) (tells : Tells table asked held)
-    (heard : (x : ModuleVersion) → IsOpened main (readings_by main held) x → IsAnswered main asked x) where
-  needed_answered : (name : Name) → IsNeeded main (readings_by main held) name → (reply : Reply) × (answer_in asked name ≡ Some reply)
-  needed_answered name (x, opened, is, askable) =
-      let has = heard x opened (subst (λ (n : Name). is_askable n ≡ true) (sym is) askable) in
-      some_reply (answer_in asked name) (subst (λ (n : Name). IsSome (answer_in asked n)) is has)
-
-  all_answered : AnsweredAll (GraphNeeds file sums) (answer_in asked)
-  all_answered name needs =
-      let theirs = run_of needs.main needs.table asked in
-      let (h, reads) = held_by theirs needs.known in
-      let held_same : h ≡ held =
-      fun_ext (λ (n : Name). same_told needs.table table (one_finding sums needs.table table needs.read.sums sums_read) n (answer_in asked n) (h n) (held n) (reads n) (tells n)) in
-      let by_held : IsNeeded needs.main (readings_by needs.main held) name =
-      subst (λ (h : Held). IsNeeded needs.main (readings_by needs.main h) name) held_same ((needed_same theirs h reads name).0 needs.needed) in
-      needed_answered name (subst (λ (m : Main). IsNeeded m (readings_by m held) name) (one_main file needs.main main needs.read.main_file main_reads) by_held)
+-- what the answers need by any reading of the two files, they need by this one
+graph_answered : (run : Given) (main : Main) (table : Option Sums) (faults : List Fault) → AreFound run main table faults → AnsweredAll (GraphNeeds run.file run.sums) (answer_in run.told.asked)
+graph_answered run main table faults found name needs =
+    let theirs : Run = run_of needs.main needs.table run.told.asked in
+    let ours : Run = run_of main table run.told.asked in
+    let agrees : Agrees theirs ours = stores_agree run run needs.main main needs.table table (itself run) needs.read found.read found.settled in
+    settled_answers main table run.told.asked found.settled name (needed theirs ours agrees name needs.needed)
 
 -- ---- what `versions` needs
 
@@ -107,8 +68,7 @@ module _ (path : List ℕ) (all : Bool) (told : AnswersByName) where
 
 query_done : (prints : Prints) (run : Given) (outcome : Outcome) → QueryEnds prints run outcome → outcome.status ≡ 0 → AnsweredAll (GraphNeeds run.file run.sums) (answer_in run.told.asked)
 query_done prints run outcome is done =
-    let (main, held, valid, says) = printed_run prints run outcome is done in
-    all_answered run.file run.sums run.told.asked main valid.table held valid.read.main_file valid.read.sums valid.known.tells valid.known.answered
+    let (main, table, found, says) = printed_run prints run outcome is done in graph_answered run main table [] found
 
 versions_done : (path : List ℕ) (all : Bool) (told : Answers) (outcome : Outcome) → VersionsEnds path all told outcome → outcome.status ≡ 0 → AnsweredAll (VersionsNeed path all) (answer_in told.asked)
 versions_done path all told outcome (answered is none) done = versions_answered path all (answer_in told.asked) outcome is
@@ -119,9 +79,9 @@ pub done_answers : (command : Command) (run : Given) (outcome : Outcome) → Run
 done_answers Fmt run outcome is done = λ name need. absurd need
 done_answers (Edit operations) run outcome is done = λ name need. absurd need
 done_answers (Versions path all) run outcome is done = versions_done path all run.told outcome is done
-done_answers Graph run outcome is done = query_done PrintsGraph run outcome (graph_held run outcome is) done
-done_answers (Rows after limit) run outcome is done = query_done (PrintsList after limit) run outcome (list_held run outcome after limit is) done
-done_answers (Chain path) run outcome is done = query_done (PrintsChain path) run outcome (chain_held run outcome path is) done
+done_answers Graph run outcome is done = query_done PrintsGraph run outcome is done
+done_answers (Rows after limit) run outcome is done = query_done (PrintsList after limit) run outcome is done
+done_answers (Chain path) run outcome is done = query_done (PrintsChain path) run outcome is done
 
 -- the same where memory may have run out: its report has another status
 pub done_if_memory : (command : Command) (run : Given) (outcome : Outcome) → OrNoMemory (RunEnds command run) outcome → outcome.status ≡ 0

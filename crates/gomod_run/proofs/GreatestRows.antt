@@ -8,14 +8,12 @@ use Rattle.std.proofs.lemmas.Bool.{false≢true}
 use Rattle.gm_name.specs.Version.{version_cmp}
 use Rattle.gm_name.specs.VersionOrder.{version_total, version-anti}
 use Rattle.gm_name.specs.ModuleVersion.{ModuleVersion}
-use Rattle.gm_file.specs.Main.{Main}
-use Rattle.gm_graph.specs.Reading.{Readings, readings_by}
 use Rattle.gm_graph_select.specs.BuildList.{IsBuildList, IsSelected, entry_of, main_entry, path_cmp}
 use Rattle.gm_graph_select.specs.Order.{IsAscending}
 use Rattle.gm_graph_select.proofs.Ascending.{less_itself, member_cases, no_member, pairs_head, pairs_tail}
-use Rattle.gm_graph.specs.Graph.{IsEdge}
+use Rattle.gm_graph.specs.Run.{IsEdge, Run, run_of}
 use Rattle.gomod_run.specs.ListingLaws.{AreGreatest, BuildListIsListed}
-use Rattle.gomod_run.proofs.HeldEnds.{list_said, no_fault}
+use Rattle.gomod_run.specs.Outcomes.{no_fault}
 
 -- two versions are the same if neither is greater
 same_version : (v w : List ℕ) → is_gt (version_cmp v w) ≡ false → is_gt (version_cmp w v) ≡ false → v ≡ w
@@ -43,9 +41,8 @@ one_member (z ∷ xs) up x y in_x in_y same = by_places (member_cases z x xs in_
     by_places (inr a) (inl b) rest = absurd (other_path z x (pairs_head IsBelow z x xs up a) (ap (λ (v : ModuleVersion). v.0) b ∙ sym same))
     by_places (inr a) (inr b) rest = rest a b
 
-module _ (main : Main) (readings : Readings) (selected : List ModuleVersion)
-    (are : AreGreatest main readings selected) where
-  is_selected : (x : ModuleVersion) → Contains selected x → IsSelected main.path (IsEdge main readings) x
+module _ (run : Run) (selected : List ModuleVersion) (are : AreGreatest run selected) where
+  is_selected : (x : ModuleVersion) → Contains selected x → IsSelected run.main.path (IsEdge run) x
   is_selected x there = record {
     not_main = are.not_main x there;
     is_end = are.required x there;
@@ -54,17 +51,16 @@ module _ (main : Main) (readings : Readings) (selected : List ModuleVersion)
         subst (λ (w : ModuleVersion). is_gt (version_cmp y.1 w.1) ≡ false) (one_member selected are.ascending z x inside there (path ∙ same)) high;
   }
 
-  is_row : (x : ModuleVersion) → IsSelected main.path (IsEdge main readings) x → Contains selected x
+  is_row : (x : ModuleVersion) → IsSelected run.main.path (IsEdge run) x → Contains selected x
   is_row x is =
       let (z, inside, path, high) = are.satisfied x is.is_end is.not_main in
       let versions : z.1 ≡ x.1 = same_version z.1 x.1 (is.greatest z (are.required z inside) path) high in
       let same : z ≡ x = ap₂ (λ (p v : List ℕ). let m : ModuleVersion = (p, v) in m) path versions in
       subst (λ (w : ModuleVersion). Contains selected w) same inside
 
-  pub as_build_list : IsBuildList main.path main.replaces (IsEdge main readings) (main_entry ∷ map (entry_of main.replaces) selected)
+  pub as_build_list : IsBuildList run.main.path run.main.replaces (IsEdge run) (main_entry ∷ map (entry_of run.main.replaces) selected)
   as_build_list = record { selected = selected; entries_are = refl; ascending = are.ascending; each = λ x. (is_selected x, is_row x) }
 
 pub build_list_is_listed : BuildListIsListed
-build_list_is_listed run main held selected found greatest =
-    list_said run _ None None
-    (no_fault main held found (main_entry ∷ map (entry_of main.replaces) selected, as_build_list main (readings_by main held) selected greatest, refl))
+build_list_is_listed run main table selected found greatest =
+    no_fault main table found (main_entry ∷ map (entry_of main.replaces) selected, as_build_list (run_of main table run.told.asked) selected greatest, refl)

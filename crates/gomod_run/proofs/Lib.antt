@@ -25,7 +25,6 @@ pub mod OnePrinted
 pub mod OneOutcome
 pub mod PrintedList
 pub mod QueryParts
-pub mod HeldEnds
 pub mod OneGraph
 pub mod GreatestRows
 pub mod ShortestChain
@@ -38,4 +37,3 @@ pub mod PathStarts
 pub mod ClassWords
 pub mod FaultLines
 pub mod LineNumbers
-pub mod RunFaults

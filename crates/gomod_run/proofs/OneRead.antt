@@ -10,13 +10,13 @@ use Rattle.gm_syntax.specs.declared.fault.SyntaxFault.TheVariants as syntax
 use Rattle.gm_file.specs.Directives.{Strict}
 use Rattle.gm_file.specs.Faults.{Fault, fault_of}
 use Rattle.gm_file.specs.Fields.{Dependency, module_of, go_of, requirements_of, excludes_of, replaces_of}
-use Rattle.gm_store.specs.Asked.{Name, Reply, answer_in, mod_file, folder_file, list_file, bytes, absent, too_long}
+use Rattle.gm_store.specs.Asked.{Name, Reply, mod_file, folder_file, list_file, bytes, absent, too_long}
 use Rattle.gm_store_sums.specs.Hash.{file_hash}
 use Rattle.gm_store_sums.specs.Sums.{ReadsAs, Says, Sums, check_in}
 use Rattle.gm_store_sums.specs.declared.sum_table.Sum.{Sum}
 use Rattle.gm_store_sums.specs.declared.sum_table.Sum.TheVariants.{Good, Unlisted, Differs}
 use Rattle.gm_file.specs.Main.{Main, IsMainFile, IsMainOf}
-use Rattle.gm_graph.specs.Reading.{Held, IsFileReading, IsReadUnless, IsTold, Tells, class_of_sum, sum_fault}
+use Rattle.gm_graph.specs.Reading.{IsFileReading, IsReadUnless, class_of_sum, sum_fault}
 use Rattle.gm_graph.specs.declared.cache.class.Class.{Class}
 use Rattle.gm_graph.specs.declared.cache.class.Class.TheVariants.{Malformed}
 use Rattle.gm_file.specs.declared.misreading.Misreading.{Misreading}
@@ -176,17 +176,7 @@ one_finding (Some text) (Some a) (Some b) is other = same_found text a b is.2 ot
 
 -- ---- what the files of modules say is the same with either of these tables
 
-module _ (a b : Option Sums) (same : FindSame a b) where
-  read_alike : (name : Name) (reply : Reply) (reading : Result Dependency Class) → IsFileReading a name reply reading → IsFileReading b name reply reading
-  read_alike name absent reading is = is
-  read_alike name too_long reading is = is
-  read_alike name (bytes content) reading is = subst (λ (o : Option Class). IsReadUnless o content reading) (same name content) is
-
-  told_alike : (name : Name) (reply : Option Reply) (held : Option (Result Dependency Class)) → IsTold a name reply held → IsTold b name reply held
-  told_alike name None None is = is
-  told_alike name None (Some reading) is = is
-  told_alike name (Some reply) None is = is
-  told_alike name (Some reply) (Some reading) is = read_alike name reply reading is
-
-  pub tells_alike : (pairs : List (Name × Reply)) (held : Held) → Tells a pairs held → Tells b pairs held
-  tells_alike pairs held is name = told_alike name (answer_in pairs name) (held name) (is name)
+pub read_alike : (a b : Option Sums) → FindSame a b → (name : Name) (reply : Reply) (said : Result Dependency Class) → IsFileReading a name reply said → IsFileReading b name reply said
+read_alike a b same name absent said is = is
+read_alike a b same name too_long said is = is
+read_alike a b same name (bytes content) said is = subst (λ (o : Option Class). IsReadUnless o content said) (same name content) is

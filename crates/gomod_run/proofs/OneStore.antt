@@ -3,15 +3,15 @@ use Rattle.std.proofs.Common.{◌≡◌, ◌∙◌, ◌∷◌, ℕ, Bool, List, 
 use Rattle.gm_store.specs.Asked.{Name, Reply, absent, answer_in, bytes, too_long}
 use Rattle.gomod_run.specs.Editing.{EditEnds}
 use Rattle.gomod_run.specs.ListingLaws.{AnswerAlike}
-use Rattle.gomod_run.specs.Outcomes.{Answers}
-use Rattle.gomod_run.proofs.HeldEnds.{PrintsChain, PrintsGraph, PrintsList, chain_held, graph_held, list_held}
+use Rattle.gomod_run.specs.Outcomes.{Answers, PrintsChain, PrintsGraph, PrintsList}
 use Rattle.gomod_run.specs.Needs.{AnswersByName}
 use Rattle.gomod_run.specs.Outcome.{Outcome, failed}
 use Rattle.gomod_run.specs.Reports.{device_line}
 use Rattle.gomod_run.specs.Laws.{OneForStores, OneOutcome}
 use Rattle.gomod_run.specs.Runs.{FmtEnds}
 use Rattle.gomod_run.specs.Versions.{IsOutcomeByList, IsListedOutcome, IsVersionsOutcome, VersionsEnds, answered, device}
-use Rattle.gomod_run.proofs.OneOutcome.{itself, one_end}
+use Rattle.gomod_run.proofs.OneOutcome.{one_end}
+use Rattle.gomod_run.proofs.OneQueryStore.{itself}
 use Rattle.gomod_run.proofs.OnePrinted.{chain_once, graph_once, list_once}
 use Rattle.gomod_run.proofs.Sameness.{edit_once, fmt_once, versions_once}
 use Rattle.gomod_words.specs.Usage.{texts_in}
@@ -84,9 +84,9 @@ one_for_stores Fmt run next a b alike is be = fmt_once next.file a b (subst (λ 
 one_for_stores (Edit operations) run next a b alike is be =
     edit_once (texts_in operations) next.file a b (subst (λ (file : List ℕ). EditEnds (texts_in operations) file a) alike.file is) be
 one_for_stores (Versions path all) run next a b alike is be = versions_alike path all run.told next.told a b alike.answers alike.failed is be
-one_for_stores Graph run next a b alike is be = one_end PrintsGraph graph_once run next a b alike (graph_held run a is) (graph_held next b be)
-one_for_stores (Rows after limit) run next a b alike is be = one_end (PrintsList after limit) (list_once after limit) run next a b alike (list_held run a after limit is) (list_held next b after limit be)
-one_for_stores (Chain path) run next a b alike is be = one_end (PrintsChain path) (chain_once path) run next a b alike (chain_held run a path is) (chain_held next b path be)
+one_for_stores Graph run next a b alike is be = one_end PrintsGraph graph_once run next a b alike is be
+one_for_stores (Rows after limit) run next a b alike is be = one_end (PrintsList after limit) (list_once after limit) run next a b alike is be
+one_for_stores (Chain path) run next a b alike is be = one_end (PrintsChain path) (chain_once path) run next a b alike is be
 
 pub one_outcome : OneOutcome
 one_outcome command run a b is be = one_for_stores command run run a b (itself run) is be

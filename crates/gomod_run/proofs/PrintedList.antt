@@ -8,7 +8,7 @@ use Rattle.gm_name.specs.Version.{version_cmp}
 use Rattle.gm_name.specs.ModuleVersion.{ModuleVersion}
 use Rattle.gm_file.specs.Directives.{Replacing}
 use Rattle.gm_file.specs.Main.{Main}
-use Rattle.gm_graph.specs.Reading.{Held, Readings, readings_by}
+use Rattle.gm_store_sums.specs.Sums.{Sums}
 use Rattle.gm_graph_select.specs.declared.step.Edge.{Edge}
 use Rattle.gm_graph_select.specs.declared.step.Step.TheVariants.{Main as FromMain}
 use Rattle.gm_graph_select.specs.BuildList.{Entry, IsBuildList, IsRestAfter, IsSelected, path_of}
@@ -18,23 +18,18 @@ use Rattle.gm_graph_select.proofs.Ascending.{member_cases, member_head, member_t
 use Rattle.gm_graph_select.proofs.Lawful.{pages_exist, pages_join as rows_join, row_selected, rows_satisfy}
 use Rattle.gm_graph_select.proofs.RestRows.{texts_differ, texts_same}
 use Rattle.gm_graph_select.proofs.Same.{AreSame, same_back, same_build_list}
-use Rattle.gm_graph.specs.Graph.{IsEdge, IsVertex}
-use Rattle.gm_graph.specs.Loading.{AreFew}
+use Rattle.gm_graph.specs.Run.{AreRows, IsEdge, IsVertex, Run, run_of}
 use Rattle.gm_graph.proofs.Mapped.{from_mapped, in_mapped}
 use Rattle.gomod_run.specs.ListingLaws.{AreGreatest, ArePrintedPages, ListIsBuildList, PrintedPagesJoin, no_row, one_page}
-use Rattle.gomod_run.specs.Outcomes.{Given}
-use Rattle.gomod_run.specs.HeldFiles.{AllFilesAreValid}
-use Rattle.gomod_run.proofs.HeldEnds.{QueryEnds, Prints, PrintsList, bad_main, bad_sums, device, faulty, no_fault, too_many, list_held, list_said}
-use Rattle.gm_graph.specs.Outcome.{AreRows}
+use Rattle.gomod_run.specs.Outcomes.{AreFound, Given, ListEnds, Prints, PrintsList, QueryEnds, bad_main, bad_sums, device, faulty, no_fault, too_many}
 use Rattle.gomod_run.specs.Outcome.{Outcome, failed, printed, refused}
 use Rattle.gomod_run.specs.ListingTexts.{list_text}
-use Rattle.gomod_run.proofs.FewOpened.{edges_listed}
-use Rattle.gomod_run.specs.Outcomes as ends
+use Rattle.gomod_run.proofs.FewOpened.{IsFew, edges_listed}
 
 -- ---- a run that prints
 
 abbrev pub Printed : Prints → Given → Outcome → Type 0
-Printed prints run outcome = (main : Main) × (held : Held) × AllFilesAreValid run main held × prints main (readings_by main held) outcome
+Printed prints run outcome = (main : Main) × (table : Option Sums) × AreFound run main table [] × prints (run_of main table run.told.asked) outcome
 
 pub not_refused : (report : List ℕ) (outcome : Outcome) → outcome ≡ refused report → outcome.status ≡ 0 → ⊥
 not_refused report outcome same is = let code = ap (λ (o : Outcome). o.status) same in omega (arith, code, is)
@@ -46,13 +41,13 @@ pub printed_run : (prints : Prints) (run : Given) (outcome : Outcome) → QueryE
 printed_run prints run outcome (bad_main place misread none says) is = absurd (not_refused _ outcome says is)
 printed_run prints run outcome (bad_sums main report reads misread none says) is = absurd (not_refused _ outcome says is)
 printed_run prints run outcome (device main table name are due one says) is = absurd (not_failed _ outcome says is)
-printed_run prints run outcome (too_many main table are over none says) is = absurd (not_refused _ outcome says is)
-printed_run prints run outcome (faulty main table held first others are known faults says) is = absurd (not_refused _ outcome says is)
-printed_run prints run outcome (no_fault main held valid says) is = (main, held, valid, says)
+printed_run prints run outcome (too_many main table are read over none says) is = absurd (not_refused _ outcome says is)
+printed_run prints run outcome (faulty main table first others found says) is = absurd (not_refused _ outcome says is)
+printed_run prints run outcome (no_fault main table found says) is = (main, table, found, says)
 
 -- ---- the build list of edges that are given as a relation
 
-module _ (main : Main) (readings : Readings) (few : AreFew main readings) (rows : List Entry) (list : AreRows main readings rows) where
+module _ (run : Run) (few : IsFew run) (rows : List Entry) (list : AreRows run rows) where
   with_path : (path : List ℕ) (xs : List ModuleVersion) → ((x : ModuleVersion) × Contains xs x × (x.0 ≡ path)) ⊎ ((x : ModuleVersion) → Contains xs x → x.0 ≢ path)
   with_path path [] = inr (λ x there. absurd (no_member x there))
   with_path path (first ∷ xs) = by_test (bytes_eq first.0 path) refl (with_path path xs)
@@ -69,21 +64,21 @@ module _ (main : Main) (readings : Readings) (few : AreFew main readings) (rows 
   abbrev Satisfied : ModuleVersion → Type 0
   Satisfied y = (x : ModuleVersion) × Contains list.selected x × (x.0 ≡ y.0) × (is_gt (version_cmp y.1 x.1) ≡ false)
 
-  satisfied : (y : ModuleVersion) → IsVertex main readings y → y.0 ≢ main.path → Satisfied y
+  satisfied : (y : ModuleVersion) → IsVertex run y → y.0 ≢ run.main.path → Satisfied y
   satisfied y (from, is) apart = go (with_path y.0 list.selected)
     where
-      listed : ((x : ModuleVersion) → Contains list.selected x → x.0 ≢ y.0) → (edges : List Edge) → AreSame (among edges) (IsEdge main readings) → ⊥
+      listed : ((x : ModuleVersion) → Contains list.selected x → x.0 ≢ y.0) → (edges : List Edge) → AreSame (among edges) (IsEdge run) → ⊥
       listed none edges same =
-          let among_list : IsBuildList main.path main.replaces (among edges) rows =
-          same_build_list main.path main.replaces (IsEdge main readings) (among edges) rows (same_back (among edges) (IsEdge main readings) same) list in
-          let (x, right, row, path, high) = rows_satisfy main.path main.replaces edges rows among_list y (from, (same from y).1 is) apart in
-          none x ((list.each x).1 (row_selected main.path main.replaces (IsEdge main readings) rows list x right row)) path
+          let among_list : IsBuildList run.main.path run.main.replaces (among edges) rows =
+          same_build_list run.main.path run.main.replaces (IsEdge run) (among edges) rows (same_back (among edges) (IsEdge run) same) list in
+          let (x, right, row, path, high) = rows_satisfy run.main.path run.main.replaces edges rows among_list y (from, (same from y).1 is) apart in
+          none x ((list.each x).1 (row_selected run.main.path run.main.replaces (IsEdge run) rows list x right row)) path
 
       go : ((x : ModuleVersion) × Contains list.selected x × (x.0 ≡ y.0)) ⊎ ((x : ModuleVersion) → Contains list.selected x → x.0 ≢ y.0) → Satisfied y
       go (inl (x, there, same)) = (x, there, same, ((list.each x).0 there).greatest y (from, is) (sym same))
-      go (inr none) = absurd (edges_listed main readings few (listed none))
+      go (inr none) = absurd (edges_listed run few (listed none))
 
-  pub greatest : AreGreatest main readings list.selected
+  pub greatest : AreGreatest run list.selected
   greatest = record {
     ascending = list.ascending;
     not_main = λ x there. ((list.each x).0 there).not_main;
@@ -93,12 +88,12 @@ module _ (main : Main) (readings : Readings) (few : AreFew main readings) (rows 
 
 pub list_is_build_list : ListIsBuildList
 list_is_build_list run outcome is ends =
-    let (main, held, found, (rows, list, says)) = printed_run (PrintsList None None) run outcome (list_held run outcome None None is) ends in (
+    let (main, table, found, (rows, list, says)) = printed_run (PrintsList None None) run outcome is ends in (
       main,
-      held,
+      table,
       list.selected,
       found,
-      greatest main (readings_by main held) found.known.few rows list,
+      greatest (run_of main table run.told.asked) found.settled.few rows list,
       says ∙ ap (λ (es : List Entry). printed (list_text main.path es)) list.entries_are,
     )
 
@@ -143,34 +138,34 @@ pub texts_join : (main : List ℕ) (pages : List (List Entry)) → list_text mai
 texts_join main [] = refl
 texts_join main (page ∷ pages) = flat_map-append _ page (entries_of_pages pages) ∙ ap (λ (t : List ℕ). list_text main page ++ t) (texts_join main pages)
 
-module _ (run : Given) (main : Main) (held : Held) (found : AllFilesAreValid run main held) (rows : List Entry) (list : AreRows main (readings_by main held) rows) (n : ℕ) where
+module _ (run : Given) (main : Main) (table : Option Sums) (found : AreFound run main table []) (rows : List Entry) (list : AreRows (run_of main table run.told.asked) rows) (n : ℕ) where
   -- the rows that remain after a path, or all rows
   abbrev AreLeft : Option (List ℕ) → List Entry → Type 0
   AreLeft None left = left ≡ rows
   AreLeft (Some path) left = IsRestAfter main.path rows path left
 
-  page_printed : (after : Option (List ℕ)) (left : List Entry) → AreLeft after left → ends.ListEnds after (Some n) run (printed (list_text main.path (take n left)))
-  page_printed None left is = list_said run _ None (Some n) (no_fault main held found (rows, list, ap (λ (es : List Entry). printed (list_text main.path (take n es))) is))
-  page_printed (Some path) left is = list_said run _ (Some path) (Some n) (no_fault main held found (rows, list, inl (left, is, refl)))
+  page_printed : (after : Option (List ℕ)) (left : List Entry) → AreLeft after left → ListEnds after (Some n) run (printed (list_text main.path (take n left)))
+  page_printed None left is = no_fault main table found (rows, list, ap (λ (es : List Entry). printed (list_text main.path (take n es))) is)
+  page_printed (Some path) left is = no_fault main table found (rows, list, inl (left, is, refl))
 
   paged : {left : List Entry} {pages : List (List Entry)} (after : Option (List ℕ)) → AreLeft after left → AreRowPages main.path rows n left pages → ArePrintedPages run main.path n after pages
-  paged after is no_more = no_row (subst (λ (es : List Entry). ends.ListEnds after (Some n) run (printed (list_text main.path es))) (take_none n) (page_printed after [] is))
+  paged after is no_more = no_row (subst (λ (es : List Entry). ListEnds after (Some n) run (printed (list_text main.path es))) (take_none n) (page_printed after [] is))
   paged after is (one_more {left} {rest} {pages} front last page behind more) =
       subst (λ (es : List Entry). ArePrintedPages run main.path n after (es ∷ pages)) (sym page)
       (one_page front last
-      (subst (λ (es : List Entry). ends.ListEnds after (Some n) run (printed (list_text main.path es))) page (page_printed after left is))
+      (subst (λ (es : List Entry). ListEnds after (Some n) run (printed (list_text main.path es))) page (page_printed after left is))
       (paged (Some (path_of main.path last.0)) behind more))
 
 pub pages_join : PrintedPagesJoin
 pages_join run n whole some is ends =
-    let (main, held, found, (rows, list, says)) = printed_run (PrintsList None None) run whole (list_held run whole None None is) ends in
-    let readings : Readings = readings_by main held in
-    let (pages, paging, joins) = row_pages main.path main.replaces (IsEdge main readings) rows list n some in (
+    let (main, table, found, (rows, list, says)) = printed_run (PrintsList None None) run whole is ends in
+    let r : Run = run_of main table run.told.asked in
+    let (pages, paging, joins) = row_pages main.path main.replaces (IsEdge r) rows list n some in (
       main,
-      held,
+      table,
       pages,
       found,
-      subst (λ (es : List Entry). AreRows main readings es) (sym joins) list,
-      paged run main held found rows list n None refl paging,
+      subst (λ (es : List Entry). AreRows r es) (sym joins) list,
+      paged run main table found rows list n None refl paging,
       ap (λ (o : Outcome). o.text) says ∙ ap (list_text main.path) (sym joins) ∙ texts_join main.path pages,
     )

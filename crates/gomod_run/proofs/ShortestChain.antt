@@ -1,13 +1,12 @@
 -- What `chain` prints is a shortest walk.
 use Rattle.std.proofs.Common.{◌≡◌, ◌∙◌, ◌≤◌, ℕ, suc, List, [], ◌∷◌, length, refl, arith, inl, inr, length-append}
-use Rattle.gm_graph.specs.Reading.{readings_by}
 use Rattle.gm_graph_select.specs.declared.step.Step.{Step}
 use Rattle.gm_graph_select.specs.declared.step.Step.TheVariants.{Of}
 use Rattle.gm_graph_select.specs.Chains.{IsChain, IsLevel, Leads, along, at_main, begins, goes_on}
 use Rattle.gm_graph_select.specs.Graph.{Edges}
-use Rattle.gm_graph.specs.Graph.{IsEdge}
+use Rattle.gm_graph.specs.Run.{IsEdge, run_of}
 use Rattle.gomod_run.specs.ListingLaws.{PrintedChainIsShortest, IsWalk, further, here}
-use Rattle.gomod_run.proofs.HeldEnds.{PrintsChain, chain_held}
+use Rattle.gomod_run.specs.Outcomes.{PrintsChain}
 use Rattle.gomod_run.proofs.PrintedList.{not_refused, printed_run}
 
 pub chain_walk : (E : Edges) {s : Step} {steps : List Step} → IsChain E s steps → IsWalk E s steps
@@ -39,10 +38,10 @@ no_shorter E s steps others chain walk =
 
 pub chain_is_shortest : PrintedChainIsShortest
 chain_is_shortest path run outcome is ends =
-    let (main, held, found, (rows, list, shows)) = printed_run (PrintsChain path) run outcome (chain_held run outcome path is) ends in
-    let edges : Edges = IsEdge main (readings_by main held) in
+    let (main, table, found, (rows, list, shows)) = printed_run (PrintsChain path) run outcome is ends in
+    let edges : Edges = IsEdge (run_of main table run.told.asked) in
     elim shows [
       | inl (s, steps, entry, chain, says) ↦
-          (main, held, rows, s, steps, found, list, entry, says, chain_walk edges chain, (λ others walk. no_shorter edges s steps others chain walk))
+          (main, table, rows, s, steps, found, list, entry, says, chain_walk edges chain, (λ others walk. no_shorter edges s steps others chain walk))
       | inr (unlisted, says) ↦ absurd (not_refused _ outcome says ends)
     ]

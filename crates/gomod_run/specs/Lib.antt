@@ -17,7 +17,6 @@ pub mod Taking
 pub mod Giving
 pub mod ListingTexts
 pub mod Outcomes
-pub mod HeldFiles
 pub mod Needs
 pub mod Found
 pub mod ListingLaws

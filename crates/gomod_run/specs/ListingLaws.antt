@@ -7,8 +7,8 @@ use Rattle.std.specs.Ordering.{is_gt}
 use Rattle.gm_name.specs.Version.{version_cmp}
 use Rattle.gm_name.specs.ModuleVersion.{ModuleVersion}
 use Rattle.gm_store.specs.Asked.{Name, Reply, answer_in}
+use Rattle.gm_store_sums.specs.Sums.{Sums}
 use Rattle.gm_file.specs.Main.{Main}
-use Rattle.gm_graph.specs.Reading.{Held, Readings, readings_by}
 use Rattle.gm_graph_select.specs.declared.step.Edge.{Edge}
 use Rattle.gm_graph_select.specs.declared.step.Step.{Step}
 use Rattle.gm_graph_select.specs.declared.step.Step.TheVariants.{Main as FromMain, Of}
@@ -16,12 +16,10 @@ use Rattle.gm_graph_select.specs.BuildList.{Entry, IsBuildList, IsEntryOf, entry
 use Rattle.gm_graph_select.specs.Graph.{Edges, among}
 use Rattle.gm_graph_select.specs.Laws.{entries_of_pages}
 use Rattle.gm_graph_select.specs.Order.{IsAscending}
-use Rattle.gm_graph.specs.Graph.{IsEdge, IsVertex}
-use Rattle.gm_graph.specs.Outcome.{AreEdges, AreRows}
+use Rattle.gm_graph.specs.Run.{AreEdges, AreRows, IsEdge, IsVertex, Run, run_of}
 use Rattle.gomod_run.specs.declared.reports.status.Status.TheVariants.{Done}
 use Rattle.gomod_run.specs.ListingTexts.{chain_text, graph_text, list_text}
-use Rattle.gomod_run.specs.HeldFiles.{AllFilesAreValid}
-use Rattle.gomod_run.specs.Outcomes.{Given, ChainEnds, GraphEnds, ListEnds, PrintsRows, ShowsChain}
+use Rattle.gomod_run.specs.Outcomes.{AreFound, Given, ChainEnds, GraphEnds, ListEnds, PrintsRows, ShowsChain}
 use Rattle.gomod_run.specs.Outcome.{Outcome, code_of, printed}
 
 -- ---- runs that are alike
@@ -43,22 +41,22 @@ pub record AreAlike (one other : Given) : Type 0 where
 
 -- The modules other than the main module: for each path except the main module's, the greatest version that
 -- is required.
-pub record AreGreatest (main : Main) (readings : Readings) (selected : List ModuleVersion) : Type 0 where
+pub record AreGreatest (run : Run) (selected : List ModuleVersion) : Type 0 where
   -- in the order of path bytes, each path once
   pub ascending : IsAscending path_cmp selected
-  pub not_main : (x : ModuleVersion) → Contains selected x → x.0 ≢ main.path
+  pub not_main : (x : ModuleVersion) → Contains selected x → x.0 ≢ run.main.path
   -- each is required by the main module or by an opened module
-  pub required : (x : ModuleVersion) → Contains selected x → IsVertex main readings x
+  pub required : (x : ModuleVersion) → Contains selected x → IsVertex run x
   -- whatever these require, except at the main module's path, has an entry whose version is not lower
-  pub satisfied : (y : ModuleVersion) → IsVertex main readings y → y.0 ≢ main.path
+  pub satisfied : (y : ModuleVersion) → IsVertex run y → y.0 ≢ run.main.path
       → (x : ModuleVersion) × Contains selected x × (x.0 ≡ y.0) × (is_gt (version_cmp y.1 x.1) ≡ false)
 
--- The files of the opened modules are known, and none has a fault. The main module is printed, followed by those
--- modules, each with its replacement, if any.
+-- Exactly the needed files of modules were asked for, and none has a fault. The main module is printed, followed by
+-- those modules, each with its replacement, if any.
 abbrev pub ShowsBuildList : Given → Outcome → Type 0
 ShowsBuildList run outcome =
-    (main : Main) × (held : Held) × (selected : List ModuleVersion) × AllFilesAreValid run main held
-    × AreGreatest main (readings_by main held) selected
+    (main : Main) × (table : Option Sums) × (selected : List ModuleVersion) × AreFound run main table []
+    × AreGreatest (run_of main table run.told.asked) selected
     × (outcome ≡ printed (list_text main.path (main_entry ∷ map (entry_of main.replaces) selected)))
 
 -- this holds when `list` prints
@@ -68,8 +66,8 @@ ListIsBuildList = (run : Given) (outcome : Outcome) → ListEnds None None run o
 
 -- Conversely, `list` prints any modules that meet this description.
 abbrev pub BuildListIsListed : Type 0
-BuildListIsListed = (run : Given) (main : Main) (held : Held) (selected : List ModuleVersion)
-    → AllFilesAreValid run main held → AreGreatest main (readings_by main held) selected
+BuildListIsListed = (run : Given) (main : Main) (table : Option Sums) (selected : List ModuleVersion)
+    → AreFound run main table [] → AreGreatest (run_of main table run.told.asked) selected
     → ListEnds None None run
     (printed (list_text main.path (main_entry ∷ map (entry_of main.replaces) selected)))
 
@@ -79,8 +77,8 @@ BuildListIsListed = (run : Given) (main : Main) (held : Held) (selected : List M
 -- limit; or it reports a path that has no row.
 abbrev pub ShowsPart : Option (List ℕ) → Option ℕ → Given → Outcome → Outcome → Type 0
 ShowsPart after limit run whole part =
-    (main : Main) × (held : Held) × (rows : List Entry) × AllFilesAreValid run main held
-    × AreRows main (readings_by main held) rows
+    (main : Main) × (table : Option Sums) × (rows : List Entry) × AreFound run main table []
+    × AreRows (run_of main table run.told.asked) rows
     × (whole ≡ printed (list_text main.path rows)) × PrintsRows main rows after limit part
 
 -- this holds for any path and limit when `list` prints
@@ -104,8 +102,8 @@ pub data ArePrintedPages (run : Given) (main : List ℕ) (n : ℕ) : Option (Lis
 -- The pages concatenate to the build list, and their texts to what is printed.
 abbrev pub JoinsPages : ℕ → Given → Outcome → Type 0
 JoinsPages n run whole =
-    (main : Main) × (held : Held) × (pages : List (List Entry)) × AllFilesAreValid run main held
-    × AreRows main (readings_by main held) (entries_of_pages pages) × ArePrintedPages run main.path n None pages
+    (main : Main) × (table : Option Sums) × (pages : List (List Entry)) × AreFound run main table []
+    × AreRows (run_of main table run.told.asked) (entries_of_pages pages) × ArePrintedPages run main.path n None pages
     × (whole.text ≡ flat_map (list_text main.path) pages)
 
 -- this holds of what `list` prints without a limit
@@ -124,11 +122,11 @@ pub data IsWalk (edges : Edges) : Step → List Step → Type 0 where
 -- The steps are printed. They are a walk to the build list's entry for the path, and no walk to it is shorter.
 abbrev pub ShowsShortestWalk : List ℕ → Given → Outcome → Type 0
 ShowsShortestWalk path run outcome =
-    (main : Main) × (held : Held) × (rows : List Entry) × (s : Step) × (steps : List Step)
-    × AllFilesAreValid run main held × AreRows main (readings_by main held) rows × IsEntryOf main.path rows path s
+    (main : Main) × (table : Option Sums) × (rows : List Entry) × (s : Step) × (steps : List Step)
+    × AreFound run main table [] × AreRows (run_of main table run.told.asked) rows × IsEntryOf main.path rows path s
     × (outcome ≡ printed (chain_text main.path steps))
-    × IsWalk (IsEdge main (readings_by main held)) s steps
-    × ((others : List Step) → IsWalk (IsEdge main (readings_by main held)) s others
+    × IsWalk (IsEdge (run_of main table run.told.asked)) s steps
+    × ((others : List Step) → IsWalk (IsEdge (run_of main table run.told.asked)) s others
     → length steps ≤ length others)
 
 -- this holds when `chain` prints
@@ -150,8 +148,8 @@ pub record AreOfOneGraph (main : Main) (edges : List Edge) (rows : List Entry)
 -- the same with the edges of the run
 abbrev pub ShowOneGraph : Option (List ℕ) → Option ℕ → List ℕ → Given → Outcome → Outcome → Outcome → Type 0
 ShowOneGraph after limit path run graph list chain =
-    (main : Main) × (held : Held) × (edges : List Edge) × (rows : List Entry) × AllFilesAreValid run main held
-    × AreEdges main (readings_by main held) edges
+    (main : Main) × (table : Option Sums) × (edges : List Edge) × (rows : List Entry) × AreFound run main table []
+    × AreEdges (run_of main table run.told.asked) edges
     × AreOfOneGraph main edges rows after limit path graph list chain
 
 -- this holds when `graph` prints

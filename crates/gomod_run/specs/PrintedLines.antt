@@ -16,12 +16,9 @@ use Rattle.gm_store_sums.specs.Sums.{Sums}
 use Rattle.gm_graph.specs.declared.cache.class.Class.{Class}
 use Rattle.gm_graph.specs.declared.cache.class.Class.TheVariants.{Malformed}
 use Rattle.gm_file.specs.Main.{Main as MainFile}
-use Rattle.gm_graph.specs.Reading.{Held, readings_by}
 use Rattle.gm_graph.specs.declared.fault.Fault.{Fault}
-use Rattle.gm_graph.specs.Graph.{IsEdge, IsOpened, IsVertex}
-use Rattle.gm_graph.specs.Outcome.{AreEdges, AreFaults, AreRows}
+use Rattle.gm_graph.specs.Run.{AreEdges, AreFaults, AreRows, IsEdge, IsOpened, IsVertex, run_of}
 use Rattle.gomod_run.specs.Outcomes.{FilesReadAs, Given, longest}
-use Rattle.gomod_run.specs.HeldFiles.{AreKnown, AllFilesAreValid}
 use Rattle.gomod_run.specs.Reports.{faults_text, vertex_fault_text}
 use Rattle.gomod_run.specs.ListingTexts.{chain_text, edge_text, graph_text, list_text, row_text, step_text}
 
@@ -159,31 +156,32 @@ LineIsOfAFault = (faults : List Fault) (one : Fault) → AreProperFaults faults 
 
 -- ---- the names of a run
 
--- If both files of a run are valid, and the files of the opened modules are known, whatever their faults, its main
--- module's path is a path, and a module that is opened, or that an edge leads to, is a path and a version.
+-- If both files of a run are valid, its main module's path is a path, and a module that is opened, or that an edge
+-- leads to, is a path and a version, whatever the answers and the faults.
 abbrev pub RunHasNames : Type 0
-RunHasNames = (run : Given) (main : MainFile) (table : Option Sums) (held : Held)
-    → FilesReadAs run.file run.sums main table → AreKnown main table run.told held
+RunHasNames = (run : Given) (main : MainFile) (table : Option Sums) → FilesReadAs run.file run.sums main table
     → IsPath main.path
-    × ((x : ModuleVersion) → IsOpened main (readings_by main held) x → IsPath x.0 × IsVersion x.1)
-    × ((x : ModuleVersion) → IsVertex main (readings_by main held) x → IsPath x.0 × IsVersion x.1)
+    × ((x : ModuleVersion) → IsOpened (run_of main table run.told.asked) x → IsPath x.0 × IsVersion x.1)
+    × ((x : ModuleVersion) → IsVertex (run_of main table run.told.asked) x → IsPath x.0 × IsVersion x.1)
 
 -- Its faults are proper ones.
 abbrev pub RunHasProperFaults : Type 0
-RunHasProperFaults = (run : Given) (main : MainFile) (table : Option Sums) (held : Held) (faults : List Fault)
-    → FilesReadAs run.file run.sums main table → AreKnown main table run.told held
-    → AreFaults main (readings_by main held) faults → AreProperFaults faults
+RunHasProperFaults = (run : Given) (main : MainFile) (table : Option Sums) (faults : List Fault)
+    → FilesReadAs run.file run.sums main table → AreFaults (run_of main table run.told.asked) faults
+    → AreProperFaults faults
 
--- If none has a fault, its rows are proper ones: no folder on the right side of a row has a line feed.
+-- Its rows are proper ones: no folder on the right side of a row has a line feed.
 abbrev pub RunHasProperRows : Type 0
-RunHasProperRows = (run : Given) (main : MainFile) (held : Held) (rows : List Entry) → AllFilesAreValid run main held
-    → AreRows main (readings_by main held) rows → AreProperRows rows
+RunHasProperRows = (run : Given) (main : MainFile) (table : Option Sums) (rows : List Entry)
+    → FilesReadAs run.file run.sums main table → AreRows (run_of main table run.told.asked) rows → AreProperRows rows
 
 -- And so are its edges, and the steps of a chain.
 abbrev pub RunHasProperEdges : Type 0
-RunHasProperEdges = (run : Given) (main : MainFile) (held : Held) (edges : List Edge) → AllFilesAreValid run main held
-    → AreEdges main (readings_by main held) edges → AreProperEdges edges
+RunHasProperEdges = (run : Given) (main : MainFile) (table : Option Sums) (edges : List Edge)
+    → FilesReadAs run.file run.sums main table → AreEdges (run_of main table run.told.asked) edges
+    → AreProperEdges edges
 
 abbrev pub RunHasProperSteps : Type 0
-RunHasProperSteps = (run : Given) (main : MainFile) (held : Held) (s : Step) (steps : List Step)
-    → AllFilesAreValid run main held → IsChain (IsEdge main (readings_by main held)) s steps → AreProperSteps steps
+RunHasProperSteps = (run : Given) (main : MainFile) (table : Option Sums) (s : Step) (steps : List Step)
+    → FilesReadAs run.file run.sums main table → IsChain (IsEdge (run_of main table run.told.asked)) s steps
+    → AreProperSteps steps

@@ -1,5 +1,4 @@
-use Rattle.gomod_run.proofs.RunFaults.{run_has_proper_faults}
-use Rattle.gomod_run.proofs.RunNames.{run_has_names, run_has_proper_edges, run_has_proper_rows, run_has_proper_steps}
+use Rattle.gomod_run.proofs.RunNames.{run_has_names, run_has_proper_edges, run_has_proper_faults, run_has_proper_rows, run_has_proper_steps}
 use Rattle.gomod_run.proofs.listing.laws.a_run_has_names.Goals as goal
 
 pub returns-clause-names : goal.returns-clause-names
