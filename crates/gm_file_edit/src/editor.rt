@@ -95,10 +95,8 @@ impl<'a> Editor<'a> {
         let alloc = self.alloc;
         match MainFile::read(alloc, self.into_doc()) {
             Ok(file) => Ok(file),
-            Err(fault) => match fault {
-                FileFault::NoMemory => Err(AllocError),
-                FileFault::Directive { line: _, kind: _ } => unreachable!(),
-            },
+            Err(FileFault::NoMemory) => Err(AllocError),
+            Err(FileFault::Directive { line: _, kind: _ }) => unreachable!(),
         }
     }
 }

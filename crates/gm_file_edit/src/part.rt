@@ -58,10 +58,8 @@ pub(crate) fn read_path(alloc: Global, text: &str) -> Result<ModPath, OpFault>
 {
     match ModPath::parse(alloc, text) {
         Ok(path) => Ok(path),
-        Err(fault) => match fault {
-            PathFault::NoMemory => Err(OpFault::NoMemory),
-            PathFault::BadPath => Err(OpFault::Spelling),
-        },
+        Err(PathFault::NoMemory) => Err(OpFault::NoMemory),
+        Err(PathFault::BadPath) => Err(OpFault::Spelling),
     }
 }
 
@@ -71,11 +69,9 @@ fn read_version(alloc: Global, text: &str) -> Result<ModVersion, OpFault>
 {
     match ModVersion::parse(alloc, text) {
         Ok(version) => Ok(version),
-        Err(fault) => match fault {
-            VersionFault::NoMemory => Err(OpFault::NoMemory),
-            VersionFault::BadVersion => Err(OpFault::Spelling),
-            VersionFault::NotCanonical => Err(OpFault::Spelling),
-        },
+        Err(VersionFault::NoMemory) => Err(OpFault::NoMemory),
+        Err(VersionFault::BadVersion) => Err(OpFault::Spelling),
+        Err(VersionFault::NotCanonical) => Err(OpFault::Spelling),
     }
 }
 

@@ -26,13 +26,20 @@ pub(crate) struct Aim<'c> {
     pub(crate) sought: Sought<'c>,
 }
 
+/// A path at a version.
+fn sought_pair<'c>(path: &'c ModPath, version: &'c ModVersion) -> Sought<'c>
+    ensures { sought_view result ≡ Both path.now (Some version.now) }
+{
+    Sought::Both(path.as_str(), Some(version.as_str()))
+}
+
 /// A left side of a `replace`, with or without a version.
 fn sought_side<'c>(path: &'c ModPath, version: &'c Option<ModVersion>) -> Sought<'c>
     ensures { sought_view result ≡ Both path.now version.now }
 {
     match version {
         None => Sought::Both(path.as_str(), None),
-        Some(version) => Sought::Both(path.as_str(), Some(version.as_str())),
+        Some(version) => sought_pair(path, version),
     }
 }
 
@@ -42,15 +49,8 @@ fn sought_of_left<'c>(path: &'c ModPath, version: &'c Option<ModVersion>) -> Sou
 {
     match version {
         None => Sought::First(path.as_str()),
-        Some(version) => Sought::Both(path.as_str(), Some(version.as_str())),
+        Some(version) => sought_pair(path, version),
     }
-}
-
-/// A path at a version.
-fn sought_pair<'c>(path: &'c ModPath, version: &'c ModVersion) -> Sought<'c>
-    ensures { sought_view result ≡ Both path.now (Some version.now) }
-{
-    Sought::Both(path.as_str(), Some(version.as_str()))
 }
 
 /// An interval of versions.
