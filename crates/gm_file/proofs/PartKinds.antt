@@ -18,6 +18,7 @@ use Rattle.gm_name.proofs.NameTests.{fit-tested, path-tested, version-tested}
 use Rattle.gm_name.specs.Fit.{Fits}
 use Rattle.gm_name.specs.Names.{does_fit, is_path, is_version}
 use Rattle.gm_name.specs.Path.{IsPath}
+use Rattle.gm_name.specs.Readings.{PairReading}
 use Rattle.gm_name.specs.Version.{IsVersion}
 
 not-tested : (b : Bool) (P : Type 0) → (b ≡ true ↔ P) → ¬ P → b ≡ false
@@ -81,12 +82,9 @@ version-kind text version.NoMemory bad other = tt
 version-kind text version.BadVersion bad other = rw (version-bad text (bad refl)) refl
 version-kind text version.NotCanonical bad other = rw (version-bad text (other refl)) refl
 
-pub pair-kind : (path version : List ℕ) (e : PairFault) → (◌≡◌ {A = Result ModuleVersion PairFault} (Err e) (Err pair.BadPath) → ¬ (IsPath path))
-    → (◌≡◌ {A = Result ModuleVersion PairFault} (Err e) (Err pair.BadVersion) → IsPath path × ¬ (IsVersion version))
-    → (◌≡◌ {A = Result ModuleVersion PairFault} (Err e) (Err pair.Misfit) → IsPath path × IsVersion version × ¬ (Fits path version))
+pub pair-kind : (path version : List ℕ) (e : PairFault) → PairReading path version (Err e)
     → IsRead {X = ModuleVersion} {Y = ModuleVersion} (λ p. p) WrongArguments pair_kinds (Some (path, version)) (Err (of_pair_fault e))
-pair-kind path version pair.NoMemory a b c = tt
-pair-kind path version pair.BadPath a b c = pair-bad-path path version (a refl)
-pair-kind path version pair.BadVersion a b c = let bad = b refl in pair-bad-version path version bad.0 bad.1
-pair-kind path version pair.Misfit a b c =
-    let bad = c refl in pair-misfit path version (path-sound path bad.0) (version-sound version bad.1) bad.2
+pair-kind path version pair.NoMemory read = tt
+pair-kind path version pair.BadPath read = pair-bad-path path version read
+pair-kind path version pair.BadVersion read = pair-bad-version path version read.0 read.1
+pair-kind path version pair.Misfit read = pair-misfit path version (path-sound path read.0) (version-sound version read.1) read.2

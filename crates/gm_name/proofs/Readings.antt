@@ -1,13 +1,10 @@
 -- The clauses of a reader, from what it says by its result.
 use Rattle.std.proofs.Common.{◌≡◌, ◌↔◌, ℕ, List, Result, Ok, Err, refl}
 use Rattle.std.specs.Prelude.{IfOk, IsErrOf}
-use Rattle.gm_name.specs.Fit.{Fits}
 use Rattle.gm_name.specs.Path.{IsPath}
 use Rattle.gm_name.specs.PairFaults.{pair_fault_of_path, pair_fault_of_version}
 use Rattle.gm_name.specs.Readings.{PairReading, PathReading, VersionReading}
 use Rattle.gm_name.specs.Version.{IsNotCanonical, IsSemVer, IsVersion}
-use Rattle.gm_name.specs.declared.known_names.PairFault.{PairFault}
-use Rattle.gm_name.specs.declared.known_names.PairFault.TheVariants as pair
 use Rattle.gm_name.specs.declared.path.PathFault.{PathFault}
 use Rattle.gm_name.specs.declared.path.PathFault.TheVariants as path
 use Rattle.gm_name.specs.declared.version.VersionFault.{VersionFault}
@@ -58,48 +55,6 @@ version-memory text (Err version.BadVersion) read e = absurd (cc e)
 version-memory text (Err version.NotCanonical) read e = absurd (cc e)
 
 -- ---- pairs
-
-pub pair-pair : (path version : List ℕ) (r : Result (List ℕ × List ℕ) PairFault) → PairReading path version r
-    → IfOk r (λ pair. pair ≡ (path, version))
-pair-pair path version (Ok pair) read = read.0
-pair-pair path version (Err fault) read = tt
-
-pub pair-fit : (path version : List ℕ) (r : Result (List ℕ × List ℕ) PairFault) → PairReading path version r
-    → IfOk r (λ pair. IsPath path × IsVersion version × Fits path version)
-pair-fit path version (Ok pair) read = (read.1, read.2, read.3)
-pair-fit path version (Err fault) read = tt
-
-pub pair-bad_path : (path version : List ℕ) (r : Result (List ℕ × List ℕ) PairFault) → PairReading path version r
-    → IsErrOf r pair.BadPath ↔ ¬ (IsPath path)
-pair-bad_path path version (Ok pair) read = (λ e. cc e, λ no. absurd (no read.1))
-pair-bad_path path version (Err pair.NoMemory) read = (λ e. cc e, λ no. absurd (no read))
-pair-bad_path path version (Err pair.BadPath) read = (λ e. read, λ no. refl)
-pair-bad_path path version (Err pair.BadVersion) read = (λ e. cc e, λ no. absurd (no read.0))
-pair-bad_path path version (Err pair.Misfit) read = (λ e. cc e, λ no. absurd (no read.0))
-
-pub pair-bad_version : (path version : List ℕ) (r : Result (List ℕ × List ℕ) PairFault) → PairReading path version r
-    → IsErrOf r pair.BadVersion → IsPath path × ¬ (IsVersion version)
-pair-bad_version path version (Ok pair) read e = absurd (cc e)
-pair-bad_version path version (Err pair.NoMemory) read e = absurd (cc e)
-pair-bad_version path version (Err pair.BadPath) read e = absurd (cc e)
-pair-bad_version path version (Err pair.BadVersion) read e = read
-pair-bad_version path version (Err pair.Misfit) read e = absurd (cc e)
-
-pub pair-misfit : (path version : List ℕ) (r : Result (List ℕ × List ℕ) PairFault) → PairReading path version r
-    → IsErrOf r pair.Misfit → IsPath path × IsVersion version × ¬ (Fits path version)
-pair-misfit path version (Ok pair) read e = absurd (cc e)
-pair-misfit path version (Err pair.NoMemory) read e = absurd (cc e)
-pair-misfit path version (Err pair.BadPath) read e = absurd (cc e)
-pair-misfit path version (Err pair.BadVersion) read e = absurd (cc e)
-pair-misfit path version (Err pair.Misfit) read e = read
-
-pub pair-memory : (path version : List ℕ) (r : Result (List ℕ × List ℕ) PairFault) → PairReading path version r
-    → IsErrOf r pair.NoMemory → IsPath path
-pair-memory path version (Ok pair) read e = absurd (cc e)
-pair-memory path version (Err pair.NoMemory) read e = read
-pair-memory path version (Err pair.BadPath) read e = absurd (cc e)
-pair-memory path version (Err pair.BadVersion) read e = absurd (cc e)
-pair-memory path version (Err pair.Misfit) read e = absurd (cc e)
 
 -- a path that is not read
 pub of-path : (p v : List ℕ) (fault : PathFault) → PathReading p (Err fault) → PairReading p v (Err (pair_fault_of_path fault))

@@ -230,21 +230,6 @@ impl KnownNames {
     pub fn pair(&mut self, path: &str, version: &str) -> Result<ModVer, PairFault>
         ensures kept { KeepsAll self.old self.new }
         ensures within { IsWithinRoom self.new }
-        ensures pair { IfOk result (λ pair. pair ≡ (path.now, version.now)) }
-        ensures fit { IfOk result (λ pair. IsPath path.now × IsVersion version.now × Fits path.now version.now) }
-        ensures bad_path { IsErrOf result PairFault.BadPath ↔ ¬ (IsPath path.now) }
-        ensures bad_version { IsErrOf result PairFault.BadVersion → IsPath path.now × ¬ (IsVersion version.now) }
-        ensures misfit { IsErrOf result PairFault.Misfit
-            → IsPath path.now × IsVersion version.now × ¬ (Fits path.now version.now) }
-        ensures memory { IsErrOf result PairFault.NoMemory → IsPath path.now }
-    {
-        self.read_pair(path, version)
-    }
-
-    /// The pair of the names in two texts.
-    fn read_pair(&mut self, path: &str, version: &str) -> Result<ModVer, PairFault>
-        ensures kept { KeepsAll self.old self.new }
-        ensures within { IsWithinRoom self.new }
         ensures read { PairReading path.now version.now result }
     {
         let path = self.numbered_path(self.number_of(path), path)?;

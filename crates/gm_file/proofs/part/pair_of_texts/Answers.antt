@@ -5,11 +5,10 @@ use Rattle.gm_file.proofs.part.pair_of_texts.Goals as goal
 
 pub returns-in_err-pair : goal.returns-in_err-pair
 returns-in_err-pair c =
-    let is = c.in_err-pair.ensures in
     rw (refused-as c.from_residual.result (of_pair_fault c.in_err-pair.field-0.0) c.from_residual.ensures.0 (λ h e. rw e at c.from_residual.ensures.1))
-    (pair-kind c.args.path.now c.args.version.now c.in_err-pair.field-0.0 is.bad_path.0 is.bad_version is.misfit)
+    (pair-kind c.args.path.now c.args.version.now c.in_err-pair.field-0.0 c.in_err-pair.ensures.read)
 
 pub returns : goal.returns
 returns c =
-    let fit = c.in_ok-pair.ensures.fit in
-    rw c.in_ok-pair.ensures.pair (refl, pair-sound c.args.path.now c.args.version.now (path-sound _ fit.0) (version-sound _ fit.1) fit.2)
+    let read = c.in_ok-pair.ensures.read in
+    rw read.0 (refl, pair-sound c.args.path.now c.args.version.now (path-sound _ read.1) (version-sound _ read.2) read.3)
