@@ -118,8 +118,8 @@ abbrev pub IsLenderNamed : Run → ModuleVersion → Option Name → Type 0
 IsLenderNamed run x None = (class : Class) × Says run x (Err class)
 IsLenderNamed run x (Some name) = HasSoundFile run x name
 
--- By answers that the cache knows, this is the name of the file that has a vertex's requirements: none if the vertex has
--- a fault.
+-- By answers that the cache knows, this is the name of the file that has a vertex's requirements: none if the vertex
+-- has a fault.
 pub record KnowsLender (cache : Cache) (x : ModuleVersion) (name : Option Name) : Type 0 where
   pub pairs : List (Name × Reply)
   pub knows : Knows cache pairs

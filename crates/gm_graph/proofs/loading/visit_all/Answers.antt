@@ -88,11 +88,11 @@ pub returns-in_err-visit-clause-too_many : goal.returns-in_err-visit-clause-too_
 returns-in_err-visit-clause-too_many g c = λ e.
     let one = c.index-one.result.now in
     let main = main_in c.args.cache.now in
-    let sums = sums_in c.args.cache.now in
     let pairs = (g.F.Asks.state c.turns.files).asked in
+    let sums = sums_in c.args.cache.now in
     let longer = (g.F.Asks.state c.visit.new.files).asked in
-    let modules = modules_in c.turns.cache in
     let x = numbered c.turns.cache one.number in
+    let modules = modules_in c.turns.cache in
     let below = turn_below modules c.turns.builder c.turns.at (omega arith) in
     let here = turn_here modules c.turns.builder c.turns.at one (omega arith) c.index-one.ensures in
     let state = c.turns.invariant.state in
@@ -105,12 +105,12 @@ returns-in_err-visit-clause-too_many g c = λ e.
 pub returns-in_err-visit-clause-device : goal.returns-in_err-visit-clause-device
 returns-in_err-visit-clause-device g c = λ name e.
     let one = c.index-one.result.now in
+    let x = numbered c.turns.cache one.number in
     let main = main_in c.args.cache.now in
     let sums = sums_in c.args.cache.now in
     let pairs = (g.F.Asks.state c.turns.files).asked in
     let longer = (g.F.Asks.state c.visit.new.files).asked in
     let modules = modules_in c.turns.cache in
-    let x = numbered c.turns.cache one.number in
     let below = turn_below modules c.turns.builder c.turns.at (omega arith) in
     let here = turn_here modules c.turns.builder c.turns.at one (omega arith) c.index-one.ensures in
     let state = c.turns.invariant.state in

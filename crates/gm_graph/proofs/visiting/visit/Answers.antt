@@ -176,8 +176,8 @@ returns-in-Ok-Required-clause-visited g c =
     let one = c.args.one in
     let seen : HasVisited old earlier new pairs one.number one.depth c.in-Ok-Required.field-0 = rw c.in-Ok-Required.is at c.visit.follows.holds-at-none in
     let has = subst (λ (v : Visit). HasVisited old earlier new pairs one.number one.depth v) c.in-Ok-Required.field-0-is seen in
-    let x = numbered old one.number in
     let after = c.add_requirements.new.builder in
+    let x = numbered old one.number in
     on_ok_weaker c.add_requirements.result
     (λ visited. visited_by old new c.args.builder.now one has.continues c.requires.builder (run_in new pairs) after
     (subst (λ (ms : List ModuleVersion). IsVisited (run_in new pairs) (built ms c.args.builder.now) (built ms after) x one.depth) has.visit_is.2 visited))
@@ -254,9 +254,9 @@ pub returns-in-Ok-Fault-clause-followed : goal.returns-in-Ok-Fault-clause-follow
 returns-in-Ok-Fault-clause-followed g c =
     let old = c.args.cache.now in
     let new = c.visit.follows.lender-at-none in
+    let one = c.args.one in
     let earlier = (g.F.Asks.state c.args.files.now).asked in
     let pairs = (g.F.Asks.state c.visit.new.files).asked in
-    let one = c.args.one in
     let seen : HasVisited old earlier new pairs one.number one.depth c.in-Ok-Fault.field-0 = rw c.in-Ok-Fault.is at c.visit.follows.holds-at-none in
     let has = subst (λ (v : Visit). HasVisited old earlier new pairs one.number one.depth v) c.in-Ok-Fault.field-0-is seen in
     on_ok_weaker c.add_fault.result
