@@ -1,6 +1,6 @@
 -- What stays when more is asked for, and when a cache returns requirements.
 use Rattle.std.proofs.Common.{◌≡◌, ◌∙◌, ◌<◌, ℕ, zero, suc, List, [], ◌∷◌, ◌++◌, Option, Some, None, Result, Ok, Err, append_assoc, append-nil, arith, inl, inr, length, length-append, sym, ap, ap₂, subst, refl}
-use Rattle.std.specs.Prelude.{IsErrAnd, OnErr, slice_get}
+use Rattle.std.specs.Prelude.{IsErrAnd, IsSome, OnErr, slice_get}
 use Rattle.std.specs.Option.{option_map}
 use Rattle.gm_store.specs.Asked.{Name, Reply, name_of}
 use Rattle.gm_store.specs.Requests.{refused_for}
@@ -22,7 +22,7 @@ use Rattle.gm_graph.specs.Cached.{AnswerSays, HoldsSame, KeepsSound, Knows, Lend
 use Rattle.gm_graph.specs.CacheVisits.{KeepsSayings}
 use Rattle.gm_graph.specs.Run.{IsRead, Run, Says, run_of}
 use Rattle.gm_graph.specs.Asking.{AsksFor, FailsFor, StillLacks}
-use Rattle.gm_graph.specs.Refusals.{load_fault_at, refused_in, refused_names}
+use Rattle.gm_graph.specs.Refusals.{IsLoadFaultOf, refused_in, refused_names}
 use Rattle.gm_graph.specs.declared.cache.load_fault.LoadFault.{LoadFault}
 use Rattle.gm_graph.specs.declared.cache.load_fault.LoadFault.TheVariants as load
 use Rattle.gm_graph.proofs.Sayings.{says_more}
@@ -201,23 +201,28 @@ none_refused_for T (Err fault) old new name given same =
 -- ---- the name at which the device failed
 
 module _ (main : Main) (before after : StoreState) (x : ModuleVersion) where
-  pub device_failed : (fault : AskFault) (failed : Option FileName) (name : FileName)
-      → (fault ≡ ask.Device → FailsFor main before after x failed) → load_fault_at fault failed ≡ load.Device name
+  pub failed_there : (failed : Option FileName) → FailsFor main before after x failed → IsSome failed
+  failed_there None fails = absurd fails
+  failed_there (Some there) fails = refl
+
+  pub device_failed : (fault : AskFault) (failed : Option FileName) (result : LoadFault) (name : FileName)
+      → (fault ≡ ask.Device → FailsFor main before after x failed) → IsLoadFaultOf fault failed result → result ≡ load.Device name
       → StillLacks main before after x (name_of name)
-  device_failed ask.NoMemory failed name fails e = absurd (cc e)
-  device_failed ask.Device None name fails e = absurd (fails refl)
-  device_failed ask.Device (Some there) name fails e =
-      let same : there ≡ name = cc e in
+  device_failed ask.NoMemory failed result name fails is e = let never = sym is ∙ e in absurd (cc never)
+  device_failed ask.Device None result name fails is e = absurd is
+  device_failed ask.Device (Some there) result name fails is e =
+      let both = sym is ∙ e in
+      let same : there ≡ name = cc both in
       subst (λ (n : FileName). StillLacks main before after x (name_of n)) same (fails refl)
 
-  pub refused_failed : (T : Type 0) (fault : AskFault) (failed : Option FileName)
-      → (fault ≡ ask.Device → FailsFor main before after x failed)
-      → refused_for {T = T} (file_of main x) (Err fault) ≡ refused_names (load_fault_at fault failed)
-  refused_failed T ask.NoMemory failed fails = refl
-  refused_failed T ask.Device None fails = absurd (fails refl)
-  refused_failed T ask.Device (Some there) fails = ap (λ (n : Name). n ∷ []) (sym (fails refl).1)
+  pub refused_failed : (T : Type 0) (fault : AskFault) (failed : Option FileName) (result : LoadFault)
+      → (fault ≡ ask.Device → FailsFor main before after x failed) → IsLoadFaultOf fault failed result
+      → refused_for {T = T} (file_of main x) (Err fault) ≡ refused_names result
+  refused_failed T ask.NoMemory failed result fails is = sym (ap refused_names is)
+  refused_failed T ask.Device None result fails is = absurd is
+  refused_failed T ask.Device (Some there) result fails is = ap (λ (n : Name). n ∷ []) (sym (fails refl).1) ∙ sym (ap refused_names is)
 
-pub never_many : (fault : AskFault) (failed : Option FileName) → load_fault_at fault failed ≡ load.TooMany → ⊥
-never_many ask.NoMemory failed e = cc e
-never_many ask.Device None e = cc e
-never_many ask.Device (Some there) e = cc e
+pub never_many : (fault : AskFault) (failed : Option FileName) (result : LoadFault) → IsLoadFaultOf fault failed result → result ≡ load.TooMany → ⊥
+never_many ask.NoMemory failed result is e = cc (sym is ∙ e)
+never_many ask.Device None result is e = is
+never_many ask.Device (Some there) result is e = cc (sym is ∙ e)

@@ -24,7 +24,7 @@ pub(crate) mod reading;
 pub(crate) mod summary;
 pub(crate) mod visit;
 
-ghost use Rattle.std.specs.Prelude.{◌≡◌, ◌≤◌, ◌<◌, ◌+◌, ◌++◌, ◌∷◌, [], List, IfOk, OnOk, OnErr, None, Some, Err, length, take, true};
+ghost use Rattle.std.specs.Prelude.{◌≡◌, ◌≤◌, ◌<◌, ◌+◌, ◌++◌, ◌∷◌, [], List, IfOk, OnOk, OnErr, IsSome, None, Some, Err, length, take, true};
 ghost use Rattle.std.specs.Option.{option_copied};
 ghost use Rattle.gm_name.specs.ModuleVersion.{ModuleVersion};
 ghost use Rattle.gm_name_table.specs.Listed.{listed};
@@ -36,7 +36,7 @@ ghost use Rattle.gm_file.specs.Listed.{with_requirements};
 ghost use Rattle.gm_file.specs.Main.{main_of, without_excluded};
 ghost use Rattle.gm_graph.specs.Asking.{AsksAtMost, AsksFor, FailsFor};
 ghost use Rattle.gm_graph.specs.Reading.{IsFileReading, file_of, is_askable as may_be_asked, leads_on};
-ghost use Rattle.gm_graph.specs.Refusals.{load_fault_at};
+ghost use Rattle.gm_graph.specs.Refusals.{IsLoadFaultOf};
 ghost use Rattle.gm_graph.specs.FileTable.{PutsFile, HasReplacing};
 ghost use Rattle.gm_graph.specs.Lent.{lent_modules};
 ghost use Rattle.gm_graph.specs.Summaries.{Grows, IsKept, IsWithinList, at_span, summary_reading};
@@ -395,9 +395,10 @@ impl<'a> Cache<'a> {
         Ok(self.said(number, depth, place))
     }
 
-    /// Why loading stops after this fault of a visit. The name of the file is given once.
+    /// Why loading stops after this fault of a request. The name of the file is given once.
     pub(crate) fn load_fault(&mut self, fault: AskFault) -> LoadFault
-        ensures fault { result ≡ load_fault_at fault self.old.failed }
+        requires { fault ≡ AskFault.Device → IsSome self.old.failed }
+        ensures fault { IsLoadFaultOf fault self.old.failed result }
         ensures holds { HoldsSame self.old self.new }
         ensures lent { LentSame self.old self.new }
         ensures count { file_count self.new ≡ file_count self.old }

@@ -4,7 +4,6 @@ use Rattle.gm_name.specs.ModuleVersion.{ModuleVersion, module_at}
 use Rattle.gm_store.specs.Asked.{Name}
 use Rattle.gm_store.specs.declared.files.AskFault.TheVariants as ask
 use Rattle.gm_graph.specs.Asking.{FailsFor}
-use Rattle.gm_graph.specs.declared.cache.load_fault.LoadFault.{LoadFault}
 use Rattle.gm_graph.specs.declared.cache.load_fault.LoadFault.TheVariants as load
 use Rattle.gm_graph.specs.declared.cache.depth.Turn.{Turn}
 use Rattle.gm_graph.specs.declared.cache.visit.Visit.{Visit}
@@ -12,7 +11,6 @@ use Rattle.gm_graph.specs.declared.graph_builder.NumberedTurn.{NumberedTurn}
 use Rattle.gm_graph.specs.Builder.{IsBuilder, built, turn_of, turns_of}
 use Rattle.gm_graph.specs.Cached.{main_in, modules_in, numbered, run_in, turns_in}
 use Rattle.gm_graph.specs.Followed.{AreFollowedIn}
-use Rattle.gm_graph.specs.Refusals.{refused_names}
 use Rattle.gm_graph.specs.Run.{Says}
 use Rattle.gm_graph.specs.CacheVisits.{HasVisited, LendsOver, table_of}
 use Rattle.gm_graph.specs.Visiting.{IsVisited}
@@ -20,7 +18,7 @@ use Rattle.gm_graph.proofs.VisitSteps.{on_ok_given, on_ok_two, overflows_at, sam
 use Rattle.gm_graph.proofs.FileLists.{has_its_numbers, have_files_known, have_files_more, have_files_still}
 use Rattle.gm_graph.proofs.FollowedFiles.{followed_known, followed_more, has_its_turns}
 use Rattle.gm_graph.proofs.Growing.{builder_over, number_below}
-use Rattle.gm_graph.proofs.Keeping.{device_failed, never_many, refused_failed}
+use Rattle.gm_graph.proofs.Keeping.{device_failed, failed_there, never_many, refused_failed}
 use Rattle.gm_graph.proofs.visiting.visit.Goals as goal
 
 -- ---- the vertex has no fault
@@ -294,10 +292,21 @@ returns-in-Ok-Fault-clause-too_many g c = λ e. absurd (c.add_fault.ensures.not_
 
 -- ---- it was refused
 
+pub load_fault-requires : goal.load_fault-requires
+load_fault-requires g c = λ is.
+    let main = main_in c.args.cache.now in
+    let before = g.F.Asks.state c.args.files.now in
+    let after = g.F.Asks.state c.visit.new.files in
+    let x = numbered c.args.cache.now c.args.one.number in
+    let failed = c.visit.follows.lender-at-none.failed in
+    let ended : (turns_in c.visit.follows.lender-at-none ≡ turns_in c.args.cache.now) × (c.in-Err.fault ≡ ask.Device → FailsFor main before after x failed) =
+    rw c.in-Err.is at c.visit.follows.holds-at-none in
+    failed_there main before after x failed (ended.1 is)
+
 pub returns-in-Err-clause-too_many : goal.returns-in-Err-clause-too_many
 returns-in-Err-clause-too_many g c = λ e.
     let same : c.load_fault.result ≡ load.TooMany = cc e in
-    absurd (never_many c.in-Err.fault c.visit.follows.lender-at-none.failed (sym c.load_fault.ensures.fault ∙ same))
+    absurd (never_many c.in-Err.fault c.visit.follows.lender-at-none.failed c.load_fault.result c.load_fault.ensures.fault same)
 
 pub returns-in-Err-clause-device : goal.returns-in-Err-clause-device
 returns-in-Err-clause-device g c = λ name e.
@@ -308,9 +317,8 @@ returns-in-Err-clause-device g c = λ name e.
     let failed = c.visit.follows.lender-at-none.failed in
     let ended : (turns_in c.visit.follows.lender-at-none ≡ turns_in c.args.cache.now) × (c.in-Err.fault ≡ ask.Device → FailsFor main before after x failed) =
     rw c.in-Err.is at c.visit.follows.holds-at-none in
-    let fails = ended.1 in
     let same : c.load_fault.result ≡ load.Device name = cc e in
-    device_failed main before after x c.in-Err.fault failed name fails (sym c.load_fault.ensures.fault ∙ same)
+    device_failed main before after x c.in-Err.fault failed c.load_fault.result name ended.1 c.load_fault.ensures.fault same
 
 pub returns-in-Err-clause-refused : goal.returns-in-Err-clause-refused
 returns-in-Err-clause-refused g c =
@@ -321,8 +329,6 @@ returns-in-Err-clause-refused g c =
     let failed = c.visit.follows.lender-at-none.failed in
     let ended : (turns_in c.visit.follows.lender-at-none ≡ turns_in c.args.cache.now) × (c.in-Err.fault ≡ ask.Device → FailsFor main before after x failed) =
     rw c.in-Err.is at c.visit.follows.holds-at-none in
-    let fails = ended.1 in
     c.in-Err.ensures.refused
     ∙ ap (λ (ns : List Name). before.refused ++ ns)
-    (refused_failed main before after x Visit c.in-Err.fault failed fails
-    ∙ ap (λ (f : LoadFault). refused_names f) (sym c.load_fault.ensures.fault))
+    (refused_failed main before after x Visit c.in-Err.fault failed c.load_fault.result ended.1 c.load_fault.ensures.fault)
