@@ -30,8 +30,6 @@ import textwrap
 
 # file, function, why memory has run out there, and below it the condition
 LISTED = r"""
-gm_graph/src/cache/load_fault.rt of_request: never, since a request that failed left the name (`FailsFor`)
-  match fault { AskFault::Device => AskFault::Device => match name { None => LoadFault::NoMemory
 gm_name/src/borrowed_version.rt to_version: a text that is a version was refused
   let Ok(version) = ModVersion::parse(alloc, self.text) else { return Err(AllocError)
 gm_name/src/version.rt is_out_of_memory: it is only compared

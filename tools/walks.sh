@@ -34,22 +34,22 @@ WALKS = [
         gomod_run/src/listing/answering.rt answer
         gm_graph/src/loading.rt load
     """),
-    ("list, from `load` to a requirement that is known", 17, """
+    ("list, from `load` to a requirement that is known", 16, """
         gm_graph/src/loading.rt load visit_all
         gm_graph/src/visiting.rt visit
         gm_graph/src/cache.rt visit known_at read_file summarize
-        gm_graph/src/cache/reading.rt read_answer read_content
+        gm_graph/src/cache/reading.rt read_answer
         gm_file/src/dep_file.rt read_listed
         gm_file/src/dep_lines.rt read_all read_simple_lines read_simple read_pair
         gm_file/src/fields.rt read_requirement
         gm_file/src/required.rt read push_known
         gm_name_table/src/module_list.rt push_known
     """),
-    ("list, from `load` to a new requirement", 17, """
+    ("list, from `load` to a new requirement", 16, """
         gm_graph/src/loading.rt load visit_all
         gm_graph/src/visiting.rt visit
         gm_graph/src/cache.rt visit known_at read_file summarize
-        gm_graph/src/cache/reading.rt read_answer read_content
+        gm_graph/src/cache/reading.rt read_answer
         gm_file/src/dep_file.rt read_listed
         gm_file/src/dep_lines.rt read_all read_simple_lines read_simple read_pair
         gm_file/src/fields.rt read_requirement

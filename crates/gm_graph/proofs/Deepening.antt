@@ -1,99 +1,127 @@
 -- Opened vertices as the answers grow, and turns that are all done.
-use Rattle.std.proofs.Common.{◌≡◌, true, false, List, [], Option, Some, None, IsSome, Result, Contains, ap, ◌∙◌, sym, refl, subst, inl, inr, arith, append-nil}
-use Rattle.std.proofs.lemmas.Bool.{cases_Bool, false≢true}
+use Rattle.std.proofs.Common.{◌≡◌, ◌∙◌, not, true, false, List, [], Option, Result, Ok, Err, Contains, ap, sym, refl, subst, inl, inr, append-nil}
+use Rattle.std.proofs.lemmas.Bool.{cases_Bool, false≢true, not-true}
 use Rattle.gm_name.specs.ModuleVersion.{ModuleVersion}
 use Rattle.gm_file.specs.Fields.{Dependency}
-use Rattle.gm_file.specs.Main.{Main, is_pruned_by}
-use Rattle.gm_graph.specs.Reading.{Keeps, Readings, is_unpruned_in, requirements_in, vertex_requirements, said_in}
+use Rattle.gm_file.specs.Main.{Main, is_pruned_by, without_excluded}
+use Rattle.gm_store.specs.Asked.{Name, Reply}
+use Rattle.gm_store_sums.specs.Sums.{Sums}
+use Rattle.gm_graph.specs.declared.cache.class.Class.{Class}
 use Rattle.gm_graph.specs.declared.cache.depth.Turn.{Turn}
 use Rattle.gm_graph.specs.declared.cache.depth.Depth.{Depth}
 use Rattle.gm_graph.specs.declared.cache.depth.Depth.TheVariants.{Top, Deep}
-use Rattle.gm_graph.specs.declared.cache.class.Class.{Class}
-use Rattle.gm_graph.specs.Graph.{IsTop, IsDeep, from_main, from_top, from_deep, TakesTurn}
-use Rattle.gm_graph.specs.Turns.{leads_on, leads_on_in, IsDone, AddsAll, Visits, turn}
-
-requirement_in-kept : (main : Main) (a b : Option (Result Dependency Class)) → ((s : Result Dependency Class) → a ≡ Some s → b ≡ Some s) → (y : ModuleVersion) → Contains (requirements_in main (said_in a)) y → Contains (requirements_in main (said_in b)) y
-requirement_in-kept main None b keeps y (k, below, at) = absurd (omega arith)
-requirement_in-kept main (Some s) b keeps y h = subst (λ (o : Option (Result Dependency Class)). Contains (requirements_in main (said_in o)) y) (sym (keeps s refl)) h
-
-unpruned_in-kept : (a b : Option (Result Dependency Class)) → ((s : Result Dependency Class) → a ≡ Some s → b ≡ Some s) → is_unpruned_in (said_in a) ≡ true → is_unpruned_in (said_in b) ≡ true
-unpruned_in-kept None b keeps h = cc
-unpruned_in-kept (Some s) b keeps h = ap (λ (o : Option (Result Dependency Class)). is_unpruned_in (said_in o)) (keeps s refl) ∙ h
-
-module _ (main : Main) (a b : Readings) (keeps : Keeps a b) where
-  pub requirement-kept : (x y : ModuleVersion) → Contains (vertex_requirements main a x) y
-      → Contains (vertex_requirements main b x) y
-  requirement-kept x y h = requirement_in-kept main (a x) (b x) (keeps x) y h
-
-  -- What was opened stays opened.
-  pub IsDeep-kept : {x : ModuleVersion} → IsDeep main a x → IsDeep main b x
-  IsDeep-kept (from_main p t) = from_main p t
-  IsDeep-kept (from_top {x} {y} t u r) = from_top t (unpruned_in-kept (a x) (b x) (keeps x) u) (requirement-kept x y r)
-  IsDeep-kept (from_deep {x} {y} d r) = from_deep (IsDeep-kept d) (requirement-kept x y r)
+use Rattle.gm_graph.specs.CacheVisits.{KeepsSayings}
+use Rattle.gm_graph.specs.Reading.{leads_on}
+use Rattle.gm_graph.specs.Run.{IsDeep, IsEdge, IsOpened, IsTop, Requires, Run, Says, TakesTurn, from_deep, from_main, from_top, run_of}
+use Rattle.gm_graph.specs.Turns.{AddsAll, turn}
+use Rattle.gm_graph.specs.VisitedTurns.{IsDone, LeadsTo, Visits}
+use Rattle.gm_graph_select.specs.declared.step.Step.{Step}
+use Rattle.gm_graph_select.specs.declared.step.Step.TheVariants.{Main as FromMain, Of}
+use Rattle.gm_graph.proofs.Sayings.{file_same, not_both}
 
 -- If each turn is done, and they begin as the main file says, they have every vertex that is opened at full depth.
-pub IsDeep-among : (main : Main) (answers : Readings) (turns : List Turn)
-    → (is_pruned_by main.go ≡ true → (x : ModuleVersion) → IsTop main x → Contains turns (turn x Top))
-    → (is_pruned_by main.go ≡ false → (x : ModuleVersion) → IsTop main x → Contains turns (turn x Deep))
-    → ((one : Turn) → Contains turns one → IsDone main answers turns one)
-    → {x : ModuleVersion} → IsDeep main answers x → Contains turns (turn x Deep)
-IsDeep-among main answers turns tops deeps done (from_main p t) = deeps p _ t
-IsDeep-among main answers turns tops deeps done (from_top {x} {y} t u r) = elim (cases_Bool (is_pruned_by main.go)) [
-  | inl pruned ↦ (done (turn x Top) (tops pruned x t)).followed u y r
-  | inr unpruned ↦ (done (turn x Deep) (deeps unpruned x t)).followed refl y r
+pub IsDeep-among : (run : Run) (turns : List Turn)
+    → (is_pruned_by run.main.go ≡ true → (x : ModuleVersion) → IsTop run x → Contains turns (turn x Top))
+    → (is_pruned_by run.main.go ≡ false → (x : ModuleVersion) → IsTop run x → Contains turns (turn x Deep))
+    → ((one : Turn) → Contains turns one → IsDone run turns one)
+    → {x : ModuleVersion} → IsDeep run x → Contains turns (turn x Deep)
+IsDeep-among run turns tops deeps done (from_main p t) = deeps p _ t
+IsDeep-among run turns tops deeps done (from_top {x} {y} file t says u c) = elim (cases_Bool (is_pruned_by run.main.go)) [
+  | inl pruned ↦ (done (turn x Top) (tops pruned x t)).followed y (record { file = file; says = says; leads = ap not u; requires = c })
+  | inr unpruned ↦ (done (turn x Deep) (deeps unpruned x t)).followed y (record { file = file; says = says; leads = refl; requires = c })
 ]
-IsDeep-among main answers turns tops deeps done (from_deep {x} {y} d r) = (done (turn x Deep) (IsDeep-among main answers turns tops deeps done d)).followed refl y r
+IsDeep-among run turns tops deeps done (from_deep {x} {y} d r) =
+    (done (turn x Deep) (IsDeep-among run turns tops deeps done d)).followed y
+    (record { file = r.0; says = r.1; leads = refl; requires = r.2 })
 
 -- What a turn leads to was added.
-pub follows_adds : (main : Main) (readings : Readings) (old new : List Turn) (x : ModuleVersion) (d : Depth) → IsSome (readings x) → leads_on readings x d ≡ true → AddsAll old new (vertex_requirements main readings x) Deep → Visits main readings old new (turn x d)
-follows_adds main readings old new x d known leads adds = record {
+pub follows_adds : (run : Run) (old new : List Turn) (x : ModuleVersion) (d : Depth) (file : Dependency) → Says run x (Ok file)
+    → leads_on file d ≡ true → AddsAll old new (without_excluded run.main file.requirements) Deep → Visits run old new (turn x d)
+follows_adds run old new x d file says leads adds = record {
   extends = adds.extends;
-  done = record { answered = known; followed = λ _ y h. adds.each y h };
-  only = λ next h. elim (adds.only next h) [ inl there ↦ inl there | inr found ↦ inr (leads, found) ];
-}
-
--- a turn that leads no further
-pub follows_nothing : (main : Main) (readings : Readings) (turns : List Turn) (x : ModuleVersion) (d : Depth) → IsSome (readings x) → leads_on readings x d ≡ false → Visits main readings turns turns (turn x d)
-follows_nothing main readings turns x d known nothing = record {
-  extends = ([], sym (append-nil turns));
-  done = record { answered = known; followed = λ leads y h. absurd (false≢true (sym nothing ∙ leads)) };
-  only = λ next h. inl h;
-}
-
--- a turn of a vertex that requires nothing
-pub follows_leaf : (main : Main) (readings : Readings) (turns : List Turn) (x : ModuleVersion) (d : Depth) → IsSome (readings x) → vertex_requirements main readings x ≡ [] → Visits main readings turns turns (turn x d)
-follows_leaf main readings turns x d known none = record {
-  extends = ([], sym (append-nil turns));
   done = record {
-    answered = known;
-    followed = λ leads y h. absurd (let in_none : Contains [] y = subst (λ (ys : List ModuleVersion). Contains ys y) none h in omega (arith, in_none.1));
+    said = Ok file;
+    says = says;
+    followed = λ y to. adds.each y
+        (subst (λ (f : Dependency). Contains (without_excluded run.main f.requirements) y) (file_same to.says says) to.requires);
   };
+  only = λ next h. elim (adds.only next h) [
+    | inl there ↦ inl there
+    | inr found ↦ inr (found.0, record { file = file; says = says; leads = leads; requires = found.1 }, found.2)
+  ];
+}
+
+-- a turn that leads to nothing
+pub follows_nothing : (run : Run) (turns : List Turn) (x : ModuleVersion) (d : Depth) (said : Result Dependency Class) → Says run x said
+    → ((y : ModuleVersion) → LeadsTo run (turn x d) y → ⊥) → Visits run turns turns (turn x d)
+follows_nothing run turns x d said says nothing = record {
+  extends = ([], sym (append-nil turns));
+  done = record { said = said; says = says; followed = λ y to. absurd (nothing y to) };
   only = λ next h. inl h;
 }
 
--- A known reading stays the same with more answers.
-pub known-same : (a b : Option (Result Dependency Class)) → ((s : Result Dependency Class) → a ≡ Some s → b ≡ Some s) → IsSome a → b ≡ a
-known-same None b keeps h = absurd (false≢true h)
-known-same (Some s) b keeps h = keeps s refl
+-- So does a visit that stops at a pruned file, and one that finds a fault.
+pub stops_there : (run : Run) (x : ModuleVersion) (d : Depth) (file : Dependency) → Says run x (Ok file) → leads_on file d ≡ false
+    → (y : ModuleVersion) → LeadsTo run (turn x d) y → ⊥
+stops_there run x d file says stops y to =
+    false≢true (sym stops ∙ ap (λ (f : Dependency). leads_on f d) (file_same says to.says) ∙ to.leads)
 
-pub IsSome-kept : (a b : Option (Result Dependency Class)) → ((s : Result Dependency Class) → a ≡ Some s → b ≡ Some s) → IsSome a → IsSome b
-IsSome-kept None b keeps h = absurd (false≢true h)
-IsSome-kept (Some s) b keeps h = subst (λ (o : Option (Result Dependency Class)). IsSome o) (sym (keeps s refl)) h
-
-module _ (main : Main) (a b : Readings) (keeps : Keeps a b) where
-  pub IsDone-kept : (turns : List Turn) (one : Turn) → IsDone main a turns one → IsDone main b turns one
-  IsDone-kept turns one done =
-      let same : b one.vertex ≡ a one.vertex = known-same (a one.vertex) (b one.vertex) (keeps one.vertex) done.answered in
-      record {
-        answered = IsSome-kept (a one.vertex) (b one.vertex) (keeps one.vertex) done.answered;
-        followed = λ leads y h. done.followed (subst (λ (o : Option (Result Dependency Class)). leads_on_in (said_in o) one.depth ≡ true) same leads) y (subst (λ (o : Option (Result Dependency Class)). Contains (requirements_in main (said_in o)) y) same h);
-      }
-
-  pub IsValidTurn-kept : (x : ModuleVersion) (d : Depth) → TakesTurn main a x d → TakesTurn main b x d
-  IsValidTurn-kept x Top h = h
-  IsValidTurn-kept x Deep h = IsDeep-kept main a b keeps h
+pub faulty_stops : (run : Run) (x : ModuleVersion) (d : Depth) (class : Class) → Says run x (Err class)
+    → (y : ModuleVersion) → LeadsTo run (turn x d) y → ⊥
+faulty_stops run x d class says y to = not_both says to.says
 
 -- What a valid turn leads to is opened at full depth.
-pub leads_to_deep : (main : Main) (answers : Readings) (x : ModuleVersion) (d : Depth) (y : ModuleVersion) → TakesTurn main answers x d → leads_on answers x d ≡ true → Contains (vertex_requirements main answers x) y → IsDeep main answers y
-leads_to_deep main answers x Top y taken leads h = from_top taken.1 leads h
-leads_to_deep main answers x Deep y taken leads h = from_deep taken h
+pub leads_to_deep : (run : Run) (x : ModuleVersion) (d : Depth) (y : ModuleVersion) → TakesTurn run x d → LeadsTo run (turn x d) y
+    → IsDeep run y
+leads_to_deep run x Top y taken to = from_top {x = x} to.file taken.1 to.says (not-true (is_pruned_by to.file.go) to.leads) to.requires
+leads_to_deep run x Deep y taken to = from_deep {x = x} taken (to.file, to.says, to.requires)
+
+-- ---- when more was asked for
+
+module _ (main : Main) (sums : Option Sums) (pairs longer : List (Name × Reply))
+    (keeps : KeepsSayings (run_of main sums pairs) (run_of main sums longer)) where
+  abbrev earlier : Run
+  earlier = run_of main sums pairs
+
+  abbrev later : Run
+  later = run_of main sums longer
+
+  requirement-kept : (x y : ModuleVersion) → Requires earlier x y → Requires later x y
+  requirement-kept x y (file, says, there) = (file, keeps x (Ok file) says, there)
+
+  -- What was opened stays opened.
+  IsDeep-kept : {x : ModuleVersion} → IsDeep earlier x → IsDeep later x
+  IsDeep-kept (from_main p t) = from_main p t
+  IsDeep-kept (from_top {x} {y} file t says u c) = from_top {x = x} file t (keeps x (Ok file) says) u c
+  IsDeep-kept (from_deep {x} {y} d r) = from_deep {x = x} (IsDeep-kept d) (requirement-kept x y r)
+
+  pub opened_kept : (x : ModuleVersion) → IsOpened earlier x → IsOpened later x
+  opened_kept x (inl top) = inl top
+  opened_kept x (inr deep) = inr (IsDeep-kept deep)
+
+  pub edge_kept : (s : Step) (y : ModuleVersion) → IsEdge earlier s y → IsEdge later s y
+  edge_kept FromMain y t = t
+  edge_kept (Of x) y e = (opened_kept x e.0, requirement-kept x y e.1)
+
+  pub IsValidTurn-kept : (x : ModuleVersion) (d : Depth) → TakesTurn earlier x d → TakesTurn later x d
+  IsValidTurn-kept x Top h = h
+  IsValidTurn-kept x Deep h = IsDeep-kept h
+
+  -- What a turn leads to it led to before, if what its vertex says was known.
+  led_before : (one : Turn) (said : Result Dependency Class) → Says earlier one.vertex said → (y : ModuleVersion) → LeadsTo later one y → LeadsTo earlier one y
+  led_before one (Err class) says y to = absurd (not_both (keeps one.vertex (Err class) says) to.says)
+  led_before one (Ok file) says y to =
+      let same : to.file ≡ file = file_same to.says (keeps one.vertex (Ok file) says) in
+      record {
+        file = file;
+        says = says;
+        leads = subst (λ (f : Dependency). leads_on f one.depth ≡ true) same to.leads;
+        requires = subst (λ (f : Dependency). Contains (without_excluded main f.requirements) y) same to.requires;
+      }
+
+  pub IsDone-kept : (turns : List Turn) (one : Turn) → IsDone earlier turns one → IsDone later turns one
+  IsDone-kept turns one done = record {
+    said = done.said;
+    says = keeps one.vertex done.said done.says;
+    followed = λ y to. done.followed y (led_before one done.said done.says y to);
+  }

@@ -9,16 +9,18 @@ use Rattle.gm_graph.specs.declared.cache.Cache.{Cache}
 use Rattle.gm_graph.specs.declared.cache.depth.Depth.{Depth}
 use Rattle.gm_graph.specs.declared.cache.depth.Turn.{Turn}
 use Rattle.gm_graph.specs.declared.cache.load_fault.LoadFault.{LoadFault}
-use Rattle.gm_graph.specs.Cached.{Knows, held_of, main_in, sums_in}
-use Rattle.gm_graph.specs.Turns.{turn, AllValidTurns, VisitOverflows}
 use Rattle.gm_file.specs.Main.{Main}
-use Rattle.gm_graph.specs.Reading.{Tells, file_of, is_askable, readings_by}
+use Rattle.gm_graph.specs.Cached.{Knows}
+use Rattle.gm_graph.specs.CacheVisits.{KeepsSayings}
+use Rattle.gm_graph.specs.Reading.{file_of, is_askable}
 use Rattle.gm_graph.specs.Refusals.{refused_names, refused_in}
-use Rattle.gm_graph.proofs.Keeping.{readings_stay}
+use Rattle.gm_graph.specs.Run.{AreTooMany, AsksInTurn, IsDue, IsRead, Says, more, nothing, run_of}
+use Rattle.gm_graph.specs.Turns.{turn}
+use Rattle.gm_graph.specs.VisitedTurns.{AllValidTurns}
 use Rattle.gm_graph.specs.Visiting.{OverflowsAt}
-use Rattle.gm_graph.specs.Loading.{AreTooMany, AsksInTurn, IsDue, Told, nothing, more}
 use Rattle.gm_graph.proofs.Queueing.{many_followed}
 use Rattle.gm_graph.proofs.Rounds.{opened_from}
+use Rattle.gm_graph.proofs.Sayings.{says_more}
 
 pub asks_nothing : (main : Main) (sums : Option Sums) (pairs : List (Name × Reply)) → pairs ≡ [] → AsksInTurn main sums pairs
 asks_nothing main sums pairs e = subst (λ (ps : List (Name × Reply)). AsksInTurn main sums ps) (sym e) nothing
@@ -32,34 +34,39 @@ AddsFile main old new x = (new ≡ old)
     ⊎ ((is_askable (file_of main x) ≡ true) × (answer_in old (file_of main x) ≡ None)
     × ((reply : Reply) × (new ≡ old ++ (file_of main x, reply) ∷ [])))
 
+-- What was said before is said still.
+pub says_still : (main : Main) (sums : Option Sums) (old new : List (Name × Reply)) (x : ModuleVersion) → AddsFile main old new x
+    → KeepsSayings (run_of main sums old) (run_of main sums new)
+says_still main sums old new x (inl same) = λ y said says.
+    subst (λ (ps : List (Name × Reply)). Says (run_of main sums ps) y said) (sym same) says
+says_still main sums old new x (inr asked) = λ y said says.
+    subst (λ (ps : List (Name × Reply)). Says (run_of main sums ps) y said) (sym asked.2.1)
+    (says_more main sums old ((file_of main x, asked.2.0) ∷ []) y said says)
+
 -- The vertex of a turn in the worklist is opened, so its file may be asked for.
-module _ (main : Main) (sums : Option Sums) (cache : Cache) (main_is : main_in cache ≡ main) (sums_are : sums_in cache ≡ sums) (old : List (Name × Reply)) (knows : Knows cache old)
-    (turns : List Turn) (at : ℕ) (x : ModuleVersion) (depth : Depth) (sound : AllValidTurns main (readings_by main (held_of cache)) turns) (below : at < length turns) (here : get_or turns at (turn x depth) ≡ turn x depth) where
-  due : (name : Name) → file_of main x ≡ name → is_askable name ≡ true → answer_in old name ≡ None → IsDue main sums old name
-  due name is askable fresh = (
-    (held_of cache, subst (λ (s : Option Sums). Tells s old (held_of cache)) sums_are knows.tells, (x, opened_from main (readings_by main (held_of cache)) x depth (sound (turn x depth) (at, below, here)), is, askable)),
-    fresh,
-  )
+module _ (main : Main) (sums : Option Sums) (old : List (Name × Reply)) (read : IsRead (run_of main sums old)) (turns : List Turn) (at : ℕ)
+    (x : ModuleVersion) (depth : Depth) (valid : AllValidTurns (run_of main sums old) turns) (below : at < length turns)
+    (here : get_or turns at (turn x depth) ≡ turn x depth) where
+  due : (name : Name) → file_of main x ≡ name → is_askable name ≡ true → answer_in old name ≡ None → IsDue (run_of main sums old) name
+  due name is askable fresh = record {
+    read = read;
+    needed = (x, opened_from (run_of main sums old) x depth (valid (turn x depth) (at, below, here)), is, askable);
+    unasked = fresh;
+  }
 
-  asks_by : (new : List (Name × Reply)) → AsksInTurn main sums old → AddsFile main old new x → AsksInTurn main sums new
-  asks_by new asks (inl e) = subst (λ (ps : List (Name × Reply)). AsksInTurn main sums ps) (sym e) asks
-  asks_by new asks (inr asked) = subst (λ (ps : List (Name × Reply)). AsksInTurn main sums ps) (sym asked.2.1) (more asked.2.0 asks (due (file_of main x) refl asked.0 asked.1))
+  pub asks_more : (new : List (Name × Reply)) → AsksInTurn main sums old → AddsFile main old new x → AsksInTurn main sums new
+  asks_more new asks (inl e) = subst (λ (ps : List (Name × Reply)). AsksInTurn main sums ps) (sym e) asks
+  asks_more new asks (inr asked) = subst (λ (ps : List (Name × Reply)). AsksInTurn main sums ps) (sym asked.2.1) (more asked.2.0 asks (due (file_of main x) refl asked.0 asked.1))
 
-  pub asks_more : (new : List (Name × Reply)) → AsksInTurn main sums old → AddsFile (main_in cache) old new x → AsksInTurn main sums new
-  asks_more new asks for = asks_by new asks (subst (λ (m : Main). AddsFile m old new x) main_is for)
-
-  pub due_here : (new : List (Name × Reply)) (name : Name) → new ≡ old → name ≡ file_of (main_in cache) x → is_askable name ≡ true → answer_in old name ≡ None → IsDue main sums new name
+  pub due_here : (new : List (Name × Reply)) (name : Name) → new ≡ old → name ≡ file_of main x → is_askable name ≡ true → answer_in old name ≡ None
+      → IsDue (run_of main sums new) name
   due_here new name same is askable none =
-      subst (λ (ps : List (Name × Reply)). IsDue main sums ps name) (sym same) (due name (sym (is ∙ ap (λ (m : Main). file_of m x) main_is)) askable none)
+      subst (λ (ps : List (Name × Reply)). IsDue (run_of main sums ps) name) (sym same) (due name (sym is) askable none)
 
-  pub many_here : (new : List (Name × Reply)) → OverflowsAt cache new turns x depth → Told main sums new (AreTooMany main)
-  many_here new over =
-      let held = over.0 in (
-        held,
-        subst (λ (s : Option Sums). Tells s new held) sums_are over.1,
-        many_followed main (readings_by main (held_of cache)) (readings_by main held) turns at x depth sound (readings_stay main (held_of cache) held over.2) below here
-            (subst (λ (m : Main). VisitOverflows m (readings_by m held) turns x depth) main_is over.3),
-      )
+  pub many_here : (new : List (Name × Reply)) → AddsFile main old new x → OverflowsAt (run_of main sums new) turns x depth
+      → IsRead (run_of main sums new) × AreTooMany (run_of main sums new)
+  many_here new for over =
+      (over.0, many_followed main sums old new (says_still main sums old new x for) turns at x depth below here valid over.1)
 
 -- ---- the refused names of a refusal that is passed on
 

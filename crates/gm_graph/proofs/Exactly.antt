@@ -1,5 +1,5 @@
--- Exactly the needed names were asked for, at most 65,536 vertices are opened, and each opened vertex was answered.
-use Rattle.std.proofs.Common.{◌≡◌, ◌≤◌, ◌↔◌, ◌||◌, Bool, true, false, cond, List, [], ◌∷◌, ◌++◌, length, Option, Some, None, IsSome, Contains, ap, ap₂, sym, refl, subst, inl, inr, arith, suc, Result}
+-- Exactly the needed names were asked for, and at most 65,536 vertices are opened.
+use Rattle.std.proofs.Common.{◌≡◌, ◌∙◌, ◌≤◌, ◌||◌, Bool, true, false, cond, List, [], ◌∷◌, ◌++◌, length, Option, Some, None, IsSome, Contains, ap, ap₂, sym, refl, subst, inl, inr, arith, suc, Result}
 use Rattle.std.specs.List.{IsDistinct, list_any}
 use Rattle.std.specs.Cmp.{IsEquivalence}
 use Rattle.std.specs.Cmp.Derive.{both_true}
@@ -11,22 +11,19 @@ use Rattle.std.proofs.lemmas.Map.Made.{length-le_from_is_member, is_member-Decid
 use Rattle.std.proofs.lemmas.List.Elements.{Contains-push_cases}
 use Rattle.gm_name.specs.ModuleVersion.{ModuleVersion, pair_eq-Decides, pairs-equivalence}
 use Rattle.gm_file.specs.Fields.{Dependency}
+use Rattle.gm_file.specs.Main.{Main, is_pruned_by}
 use Rattle.gm_store.specs.Asked.{Name, Reply, answer_in, names_in, same_name, mod_file, folder_file, list_file}
 use Rattle.gm_store_sums.specs.Sums.{Sums}
 use Rattle.gm_graph.specs.declared.cache.class.Class.{Class}
 use Rattle.gm_graph.specs.declared.cache.depth.Turn.{Turn}
 use Rattle.gm_graph.specs.declared.cache.depth.Depth.{Depth}
 use Rattle.gm_graph.specs.declared.cache.depth.Depth.TheVariants.{Top, Deep}
-use Rattle.gm_file.specs.Main.{Main, is_pruned_by}
-use Rattle.gm_graph.specs.Reading.{Held, IsTold, Keeps, Readings, Tells, file_of, is_askable, readings_by}
-use Rattle.gm_graph.proofs.ReadingIf.{reading_if}
+use Rattle.gm_graph.specs.Reading.{file_of, is_askable}
+use Rattle.gm_graph.specs.Run.{AreOpened, AreTurns, AsksInTurn, FileSays, IsNeeded, IsOpened, IsRead, IsSettled, Run, Says, answered, faulty, from_main, more, nothing, run_of, sound, unaskable, wrong_path}
 use Rattle.gm_graph.specs.Turns.{turn, AreTurnsOf}
-use Rattle.gm_graph.proofs.Keeping.{readings_stay, earlier_readings_stay}
-use Rattle.gm_graph.specs.Graph.{IsOpened, from_main}
-use Rattle.gm_graph.specs.Loading.{AreAsked, AreFew, AreTurns, AsksInTurn, IsAnswered, IsNeeded, nothing, more}
-use Rattle.gm_graph.proofs.BuiltEdges.{opened_kept}
-use Rattle.gm_graph.proofs.Rounds.{opened_from}
+use Rattle.gm_graph.proofs.Deepening.{opened_kept}
 use Rattle.gm_graph.proofs.Sameness.{same_bytes, first_true, second_true, equivalence_from_exact}
+use Rattle.gm_graph.proofs.Sayings.{says_more}
 
 same_name-refl : (n : Name) → same_name n n ≡ true
 same_name-refl (mod_file p v) = both_true (nat_list_eq_equiv.refl p) (nat_list_eq_equiv.refl v)
@@ -74,64 +71,66 @@ unfolding IsDistinct
 asked_once main sums nothing = tt
 asked_once main sums (more {pairs} {name} reply asks due) =
     subst (λ (ns : List Name). IsDistinct same_name ns) (sym (names_push pairs name reply))
-    (IsDistinct-push names_equivalence (names_in pairs) name (asked_once main sums asks) (none_named pairs name due.1))
+    (IsDistinct-push names_equivalence (names_in pairs) name (asked_once main sums asks) (none_named pairs name due.unasked))
 
-needed_kept : (main : Main) (a b : Readings) → Keeps a b → (n : Name) → IsNeeded main a n → IsNeeded main b n
-needed_kept main a b keeps n (x, opened, is, askable) = (x, opened_kept main a b keeps x opened, is, askable)
+-- What was needed is needed when more was asked for.
+needed_kept : (main : Main) (sums : Option Sums) (pairs : List (Name × Reply)) (one : Name × Reply) (n : Name)
+    → IsNeeded (run_of main sums pairs) n → IsNeeded (run_of main sums (pairs ++ one ∷ [])) n
+needed_kept main sums pairs one n (x, opened, is, askable) =
+    (x, opened_kept main sums pairs (pairs ++ one ∷ []) (says_more main sums pairs (one ∷ [])) x opened, is, askable)
 
-asked_only : (main : Main) (sums : Option Sums) {pairs : List (Name × Reply)} → AsksInTurn main sums pairs → (held : Held) → Tells sums pairs held → (n : Name) → Contains (names_in pairs) n → IsNeeded main (readings_by main held) n
-asked_only main sums nothing held tells n h = absurd (omega (arith, h.1))
-asked_only main sums (more {pairs} {name} reply asks due) held tells n h =
-    let before = due.0.0 in
-    let keeps : Keeps (readings_by main before) (readings_by main held) = readings_stay main before held (earlier_readings_stay sums pairs ((name, reply) ∷ []) before held due.0.1 tells) in
-    needed_kept main (readings_by main before) (readings_by main held) keeps n (elim (Contains-push_cases (names_in pairs) name n (subst (λ (ns : List Name). Contains ns n) (names_push pairs name reply) h)) [
-      | inl there ↦ asked_only main sums asks before due.0.1 n there
-      | inr same ↦ subst (λ (m : Name). IsNeeded main (readings_by main before) m) same due.0.2
+asked_only : (main : Main) (sums : Option Sums) {pairs : List (Name × Reply)} → AsksInTurn main sums pairs → (n : Name) → Contains (names_in pairs) n
+    → IsNeeded (run_of main sums pairs) n
+asked_only main sums nothing n h = absurd (omega (arith, h.1))
+asked_only main sums (more {pairs} {name} reply asks due) n h =
+    needed_kept main sums pairs (name, reply) n (elim (Contains-push_cases (names_in pairs) name n (subst (λ (ns : List Name). Contains ns n) (names_push pairs name reply) h)) [
+      | inl there ↦ asked_only main sums asks n there
+      | inr same ↦ subst (λ (m : Name). IsNeeded (run_of main sums pairs) m) same due.needed
     ])
 
-known_held : (t : Bool) (main : Main) (x : ModuleVersion) (o : Option (Result Dependency Class)) → t ≡ true → IsSome (reading_if t main x o) → IsSome o
-known_held true main x None e h = absurd (false≢true h)
-known_held true main x (Some r) e h = refl
-known_held false main x o e h = absurd (false≢true e)
+-- A module's file was answered if it says something and may be asked for.
+file_answered : {run : Run} {name : Name} {said : Result Dependency Class} → FileSays run name said → is_askable name ≡ true → IsSome (run.answers name)
+file_answered (unaskable e) may = absurd (false≢true (sym e ∙ may))
+file_answered (answered reply ask is reads) may = subst (λ (o : Option Reply). IsSome o) (sym is) refl
 
-told_answered : (sums : Option Sums) (name : Name) (a : Option Reply) (o : Option (Result Dependency Class)) → IsTold sums name a o → IsSome o → IsSome a
-told_answered sums name None None told h = absurd (false≢true h)
-told_answered sums name None (Some r) told h = absurd told
-told_answered sums name (Some reply) o told h = refl
+module_answered : {run : Run} {x : ModuleVersion} {said : Result Dependency Class} → Says run x said → is_askable (file_of run.main x) ≡ true
+    → IsSome (run.answers (file_of run.main x))
+module_answered (faulty is) may = file_answered is may
+module_answered (wrong_path file is wrong) may = file_answered is may
+module_answered (sound is right) may = file_answered is may
 
--- A vertex about which something is known was answered.
-pub answered : (main : Main) (sums : Option Sums) (pairs : List (Name × Reply)) (held : Held) → Tells sums pairs held → (x : ModuleVersion) → IsSome (readings_by main held x) → IsAnswered main pairs x
-answered main sums pairs held tells x known askable =
-    told_answered sums (file_of main x) (answer_in pairs (file_of main x)) (held (file_of main x)) (tells (file_of main x)) (known_held (is_askable (file_of main x)) main x (held (file_of main x)) askable known)
+module _ (main : Main) (sums : Option Sums) (pairs : List (Name × Reply)) (asks : AsksInTurn main sums pairs)
+    (known : (x : ModuleVersion) → IsOpened (run_of main sums pairs) x → (said : Result Dependency Class) × Says (run_of main sums pairs) x said) where
+  needed_asked : (n : Name) → IsNeeded (run_of main sums pairs) n → Contains (names_in pairs) n
+  needed_asked n (x, opened, is, askable) =
+      let says = (known x opened).1 in
+      let has = module_answered says (subst (λ (m : Name). is_askable m ≡ true) (sym is) askable) in
+      subst (λ (m : Name). Contains (names_in pairs) m) is (some_named pairs (file_of main x) has)
 
-pub asked_exactly : (main : Main) (sums : Option Sums) (pairs : List (Name × Reply)) (held : Held) → Tells sums pairs held → AsksInTurn main sums pairs → ((x : ModuleVersion) → IsOpened main (readings_by main held) x → IsSome (readings_by main held x)) → AreAsked main (readings_by main held) (names_in pairs)
-asked_exactly main sums pairs held tells asks known = record {
-  once = asked_once main sums asks;
-  each = λ n. (
-    (λ h. asked_only main sums asks held tells n h),
-    (λ found. let (x, opened, is, askable) = found in
-        let has = answered main sums pairs held tells x (known x opened) (subst (λ (m : Name). is_askable m ≡ true) (sym is) askable) in
-        subst (λ (m : Name). Contains (names_in pairs) m) is (some_named pairs (file_of main x) has)),
-  );
-}
+  -- Exactly the needed files were asked for.
+  pub settled : IsRead (run_of main sums pairs) → ((xs : List ModuleVersion) → AreOpened (run_of main sums pairs) xs → length xs ≤ 65536)
+      → IsSettled (run_of main sums pairs) (names_in pairs)
+  settled read few = record {
+    read = read;
+    once = asked_once main sums asks;
+    needed = λ n. ((λ h. asked_only main sums asks n h), (λ is. needed_asked n is));
+    few = few;
+  }
 
-module _ (main : Main) (readings : Readings) (vertices : List ModuleVersion) (turns : List Turn) (are : AreTurnsOf vertices turns) (exact : AreTurns main readings turns) where
-  opened_turn : (x : ModuleVersion) → IsOpened main readings x → (d : Depth) × Contains turns (turn x d)
-  opened_turn x (inl top) = elim (cases_Bool (is_pruned_by main.go)) [
+module _ (run : Run) (vertices : List ModuleVersion) (turns : List Turn) (are : AreTurnsOf vertices turns) (exact : AreTurns run turns) where
+  opened_turn : (x : ModuleVersion) → IsOpened run x → (d : Depth) × Contains turns (turn x d)
+  opened_turn x (inl top) = elim (cases_Bool (is_pruned_by run.main.go)) [
     | inl pruned ↦ (Top, (exact.each x Top).1 (pruned, top))
     | inr unpruned ↦ (Deep, (exact.each x Deep).1 (from_main unpruned top))
   ]
   opened_turn x (inr deep) = (Deep, (exact.each x Deep).1 deep)
 
-  pub opened_exactly : (x : ModuleVersion) → Contains vertices x ↔ IsOpened main readings x
-  opened_exactly x = (
-    (λ h. let one = are.has_turn x h in opened_from main readings x one.0 ((exact.each x one.0).0 one.1)),
-    (λ h. let one = opened_turn x h in are.has_vertex (turn x one.0) one.1),
-  )
+  opened_there : (x : ModuleVersion) → IsOpened run x → Contains vertices x
+  opened_there x h = let one = opened_turn x h in are.has_vertex (turn x one.0) one.1
 
-  pub few_opened : AreFew main readings
-  few_opened all once each =
-      let fewer : length all ≤ length vertices = length-le_from_is_member pairs-equivalence all vertices once
-      (λ q h. let there = (is_member-Decides pair_eq-Decides all q).0 h in (is_member-Decides pair_eq-Decides vertices q).1 ((opened_exactly q).1 (each q there))) in
+  pub few_opened : (xs : List ModuleVersion) → AreOpened run xs → length xs ≤ 65536
+  few_opened xs opened =
+      let fewer : length xs ≤ length vertices = length-le_from_is_member pairs-equivalence xs vertices opened.once
+      (λ q h. let there = (is_member-Decides pair_eq-Decides xs q).0 h in (is_member-Decides pair_eq-Decides vertices q).1 (opened_there q (opened.each q there))) in
       let few = are.few in
       omega arith

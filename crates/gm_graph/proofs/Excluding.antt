@@ -1,5 +1,5 @@
 -- Lists without an excluded module.
-use Rattle.std.proofs.Common.{◌≡◌, ◌||◌, not, Bool, true, false, cond, List, [], ◌∷◌, refl, sym, ap, ◌∙◌}
+use Rattle.std.proofs.Common.{◌≡◌, not, Bool, false, cond, List, [], ◌∷◌, refl, sym, ap, ◌∙◌}
 use Rattle.std.proofs.lemmas.Bool.{or_parts}
 use Rattle.std.specs.List.{filter, list_any}
 

@@ -1,5 +1,5 @@
 -- The lists that a graph builder has of files, as the cache and the graph grow.
-use Rattle.std.proofs.Common.{◌≡◌, ◌∙◌, ◌⊎◌, ◌+◌, ◌<◌, ◌++◌, ◌∷◌, [], ℕ, List, Option, None, Some, Result, Ok, ap, ap₂, arith, get_or, inl, inr, length, length-append, refl, subst, sym}
+use Rattle.std.proofs.Common.{◌≡◌, ◌∙◌, ◌⊎◌, ◌+◌, ◌<◌, ◌++◌, ◌∷◌, [], ℕ, List, Option, None, Some, Ok, ap, ap₂, arith, get_or, inl, inr, length, length-append, refl, subst, sym}
 use Rattle.std.specs.Global.{Vec}
 use Rattle.std.specs.List.{IsDistinct}
 use Rattle.std.specs.Option.{option_map}
@@ -11,22 +11,19 @@ use Rattle.gm_name_table.specs.Listed.{AreModuleNumbers, BeginsWith, modules_at}
 use Rattle.gm_graph.specs.declared.cache.Cache.{Cache}
 use Rattle.gm_graph.specs.declared.cache.depth.Depth.{Depth}
 use Rattle.gm_graph.specs.declared.cache.visit.Required.{Required}
-use Rattle.gm_graph.specs.declared.cache.visit.Visit.{Visit}
 use Rattle.gm_graph.specs.declared.cache.visit.Visit.TheVariants as visit
-use Rattle.gm_graph.specs.Cached.{IsSound, KeepsSound, LendsKept, held_of, main_in, modules_in}
-use Rattle.gm_file.specs.Main.{Main}
-use Rattle.gm_file.specs.Fields.{Dependency}
-use Rattle.gm_graph.specs.declared.cache.class.Class.{Class}
-use Rattle.gm_graph.specs.Reading.{readings_by, requirements_in, said_in, vertex_requirements}
-use Rattle.gm_graph.proofs.Keeping.{readings_stay}
-use Rattle.gm_graph.proofs.Lending.{lent_kept}
-use Rattle.gm_graph_select.specs.Adjacency.{list_at}
 use Rattle.gm_graph.specs.declared.edge_lists.EdgeLists.{EdgeLists}
+use Rattle.gm_file.specs.Main.{Main, without_excluded}
+use Rattle.gm_file.specs.Fields.{Dependency}
+use Rattle.gm_graph_select.specs.Adjacency.{list_at}
+use Rattle.gm_graph.specs.Cached.{IsSound, KeepsSound, modules_in}
+use Rattle.gm_graph.specs.CacheVisits.{Continues, IsVisit, KeepsSayings, LendsFile, required_by, table_of}
 use Rattle.gm_graph.specs.EdgeLists.{AreLists, HasNumbers, IsListFor, IsPushed, KeepsLists, list_by, list_of, numbers_of}
 use Rattle.gm_graph.specs.FileLists.{AddsFileList, AreNumbersOf, HasNumbersOf, HaveFiles}
-use Rattle.gm_graph.specs.Visiting.{Continues, IsVisit, LendsFile, LendsOver, readings_in, required_by, table_of}
+use Rattle.gm_graph.specs.Run.{Run}
 use Rattle.gm_graph.proofs.Growing.{vertex_stays}
 use Rattle.gm_graph.proofs.PushedEdges.{one_longer, pushed_kept, pushed_there}
+use Rattle.gm_graph.proofs.Sayings.{file_same}
 
 -- ---- numbers of modules
 
@@ -174,89 +171,71 @@ numbers_over old new numbers xs begins these = subst (λ (ms : List ModuleVersio
       are = modules_stay old begins.0 numbers these.below ∙ these.are;
     } in over)
 
--- ---- vertices that share a file
-
--- They require the same.
-pub same_requirements : (cache : Cache) (x y : ModuleVersion) (file : ℕ) → LendsKept cache → IsSound cache x file
-    → IsSound cache y file
-    → vertex_requirements (main_in cache) (readings_in cache) x ≡ vertex_requirements (main_in cache) (readings_in cache) y
-same_requirements cache x y file lends one other =
-    sym (lent_kept cache x (Some file) lends one) ∙ lent_kept cache y (Some file) lends other
+-- ---- the lists of files
 
 -- What was lent over them has the list of its file.
-pub has_its_numbers : (old : Cache) (edges : EdgeLists) (required : Required) → LendsFile old required
-    → HaveFiles old edges → HasNumbersOf edges (Some required.file) (table_of required) (required_by required)
-has_its_numbers old edges required lends have = λ f held e there.
+pub has_its_numbers : (old : Cache) (run : Run) (edges : EdgeLists) (required : Required) → LendsFile old run required
+    → HaveFiles old run edges → HasNumbersOf edges (Some required.file) (table_of required) (required_by required)
+has_its_numbers old run edges required lends have = λ f held e there.
     let file_is : f ≡ required.file = cc e in
     let of_file = have f held there in
     let x = of_file.vertex in
+    let file = of_file.sound.file in
+    let sound = subst (λ (p : ℕ). IsSound old run x p) file_is of_file.sound in
     subst (λ (xs : List ModuleVersion). AreNumbersOf (table_of required) held xs)
-    (sym (lends.shared x (subst (λ (p : ℕ). IsSound old x p) file_is of_file.sound)))
-    (numbers_over (modules_in old) (table_of required) held (vertex_requirements (main_in old) (readings_in old) x) lends.begins of_file.numbers_are)
+    (sym (lends.shared x file sound of_file.sound.says))
+    (numbers_over (modules_in old) (table_of required) held (without_excluded run.main file.requirements) lends.begins of_file.numbers_are)
 
 -- The lists are still of files after that of a vertex's file was added.
-pub have_files_more : (cache : Cache) (old new : EdgeLists) (x : ModuleVersion) (d : Depth) (required : Required)
-    → IsVisit cache x d (visit.Required required) → HaveFiles cache old
-    → AddsFileList old new (Some required.file) (table_of required) (required_by required) → HaveFiles cache new
-have_files_more cache old new x d required is have adds = λ f held e. elim (adds f held e) [
+pub have_files_more : (cache : Cache) (run : Run) (old new : EdgeLists) (x : ModuleVersion) (d : Depth) (required : Required)
+    → IsVisit cache run x d (visit.Required required) → HaveFiles cache run old
+    → AddsFileList old new (Some required.file) (table_of required) (required_by required) → HaveFiles cache run new
+have_files_more cache run old new x d required is have adds = λ f held e. elim (adds f held e) [
   | inl was ↦ have f held was
   | inr added ↦
       (let file_is : required.file ≡ f = cc added.0 in
+      let sound = subst (λ (p : ℕ). IsSound cache run x p) file_is is.0 in
+      let same : is.1.file ≡ sound.file = file_same is.1.says sound.says in
       record {
         vertex = x;
-        sound = subst (λ (p : ℕ). IsSound cache x p) file_is is.0;
-        numbers_are = subst (λ (ms : List ModuleVersion). AreNumbersOf ms held (vertex_requirements (main_in cache) (readings_in cache) x)) is.2
-            (subst (λ (xs : List ModuleVersion). AreNumbersOf (table_of required) held xs) is.1.modules added.1);
+        sound = sound;
+        numbers_are = subst (λ (ms : List ModuleVersion). AreNumbersOf ms held (without_excluded run.main sound.file.requirements)) is.2
+            (subst (λ (f : Dependency). AreNumbersOf (table_of required) held (without_excluded run.main f.requirements)) same
+            (subst (λ (xs : List ModuleVersion). AreNumbersOf (table_of required) held xs) is.1.modules added.1));
       })
 ]
 
 -- So are they after none was added.
-pub have_files_still : (cache : Cache) (old new : EdgeLists) → HaveFiles cache old → KeepsLists old new None []
-    → HaveFiles cache new
-have_files_still cache old new have keeps = λ f held e. elim (keeps f held e) [
+pub have_files_still : (cache : Cache) (run : Run) (old new : EdgeLists) → HaveFiles cache run old → KeepsLists old new None []
+    → HaveFiles cache run new
+have_files_still cache run old new have keeps = λ f held e. elim (keeps f held e) [
   | inl was ↦ have f held was
   | inr none ↦ absurd (cc none.0)
 ]
 
 -- No list was added but that of no file.
-pub have_files_first : (cache : Cache) (old new : EdgeLists) (modules xs : List ModuleVersion)
+pub have_files_first : (cache : Cache) (run : Run) (old new : EdgeLists) (modules xs : List ModuleVersion)
     → ((f : ℕ) (held : List ℕ) → numbers_of old f ≡ Some held → ⊥) → AddsFileList old new None modules xs
-    → HaveFiles cache new
-have_files_first cache old new modules xs none adds = λ f held e. elim (adds f held e) [
+    → HaveFiles cache run new
+have_files_first cache run old new modules xs none adds = λ f held e. elim (adds f held e) [
   | inl was ↦ absurd (none f held was)
   | inr added ↦ absurd (cc added.0)
 ]
 
--- ---- a cache that knows more
-
--- What a vertex requires whose file was read stays.
-pub requirements_known : (old new : Cache) → Continues old new → (x : ModuleVersion) (file : ℕ) → IsSound old x file
-    → vertex_requirements (main_in old) (readings_in old) x ≡ vertex_requirements (main_in new) (readings_in new) x
-requirements_known old new continues x file sound =
-    let still = readings_stay (main_in old) (held_of old) (held_of new) continues.held x (Ok sound.file) sound.reading in
-    ap (λ (o : Option (Result Dependency Class)). requirements_in (main_in old) (said_in o)) (sound.reading ∙ sym still)
-    ∙ ap (λ (m : Main). vertex_requirements m (readings_by m (held_of new)) x) (sym continues.main)
-
-pub have_files_known : (old new : Cache) (edges : EdgeLists) → Continues old new → KeepsSound old new
-    → HaveFiles old edges → HaveFiles new edges
-have_files_known old new edges continues keeps have = λ f held e.
+-- A cache that knows more.
+pub have_files_known : (old new : Cache) (earlier later : Run) (edges : EdgeLists) → Continues old new
+    → later.main ≡ earlier.main → KeepsSayings earlier later → KeepsSound old earlier new later
+    → HaveFiles old earlier edges → HaveFiles new later edges
+have_files_known old new earlier later edges continues main stays keeps have = λ f held e.
     let of_file = have f held e in
     let x = of_file.vertex in
-    let required = requirements_known old new continues x f of_file.sound in
+    let file = of_file.sound.file in
+    let sound = keeps x f of_file.sound in
+    let same : file ≡ sound.file = file_same (stays x (Ok file) of_file.sound.says) sound.says in
     record {
       vertex = x;
-      sound = keeps x f of_file.sound;
-      numbers_are = subst (λ (xs : List ModuleVersion). AreNumbersOf (modules_in new) held xs) required
-          (numbers_over (modules_in old) (modules_in new) held (vertex_requirements (main_in old) (readings_in old) x) continues.numbered of_file.numbers_are);
+      sound = sound;
+      numbers_are = subst (λ (g : Dependency). AreNumbersOf (modules_in new) held (without_excluded later.main g.requirements)) same
+          (subst (λ (m : Main). AreNumbersOf (modules_in new) held (without_excluded m file.requirements)) (sym main)
+          (numbers_over (modules_in old) (modules_in new) held (without_excluded earlier.main file.requirements) continues.numbered of_file.numbers_are));
     }
-
--- What a visit gets is what each vertex requires that had this file.
-pub lends_over : (old new : Cache) (x : ModuleVersion) (d : Depth) (got : Visit) → Continues old new → KeepsSound old new
-    → LendsKept new → IsDistinct pair_eq (modules_in new) → IsVisit new x d got → LendsOver old got
-lends_over old new x d (visit.Fault vertex class) continues keeps lends distinct is = tt
-lends_over old new x d (visit.Required required) continues keeps lends distinct is = record {
-  begins = subst (λ (ms : List ModuleVersion). BeginsWith (modules_in old) ms) (sym is.2) continues.numbered;
-  distinct = subst (λ (ms : List ModuleVersion). IsDistinct pair_eq ms) (sym is.2) distinct;
-  shared = λ y sound. is.1.modules ∙ same_requirements new x y required.file lends is.0 (keeps y required.file sound)
-      ∙ sym (requirements_known old new continues y required.file sound);
-}

@@ -1,5 +1,5 @@
 -- The files that were followed, as the cache and the worklist grow.
-use Rattle.std.proofs.Common.{◌≡◌, [], Contains, List, ℕ, inl, inr, subst, sym, true, append-nil}
+use Rattle.std.proofs.Common.{◌≡◌, [], Contains, List, Ok, ℕ, inl, inr, subst, sym, true, append-nil}
 use Rattle.std.proofs.lemmas.List.Elements.{Contains-append_left}
 use Rattle.gm_name.specs.ModuleVersion.{ModuleVersion}
 use Rattle.gm_name_table.specs.Listed.{BeginsWith}
@@ -10,14 +10,16 @@ use Rattle.gm_graph.specs.declared.cache.depth.Turn.{Turn}
 use Rattle.gm_graph.specs.declared.cache.visit.Required.{Required}
 use Rattle.gm_graph.specs.declared.cache.visit.Visit.TheVariants as visit
 use Rattle.gm_graph.specs.Cached.{IsSound, KeepsSound, modules_in}
+use Rattle.gm_graph.specs.Run.{Run}
 use Rattle.gm_graph.specs.Turns.{turn, AddsAll}
 use Rattle.gm_graph.specs.declared.followed.Followed.{Followed}
 use Rattle.gm_graph.specs.declared.graph_builder.GraphBuilder.{GraphBuilder}
 use Rattle.gm_graph.specs.Builder.{IsBuilder, turns_of}
 use Rattle.gm_graph.specs.Followed.{AddsFollowed, AreFollowedIn, FollowsFile, followed_at}
-use Rattle.gm_graph.specs.Visiting.{Continues, IsVisit, LendsFile, required_by, table_of}
-use Rattle.gm_graph.proofs.FileLists.{requirements_known}
+use Rattle.gm_graph.specs.CacheVisits.{Continues, IsVisit, KeepsSayings, LendsFile, required_by, table_of}
 use Rattle.gm_graph.proofs.Growing.{turns_over}
+use Rattle.gm_graph.proofs.Sayings.{requires_before}
+use Rattle.gm_graph.proofs.Visited.{required_of}
 
 -- Turns that are there already.
 pub adds_there : (turns : List Turn) (xs : List ModuleVersion)
@@ -41,50 +43,53 @@ pub follows_none : (followed : Followed) (file : ℕ) (turns : List Turn) (xs : 
 follows_none followed file turns xs = λ f is. inl is
 
 -- What was lent over them has turns, if its file was followed.
-pub has_its_turns : (old : Cache) (builder : GraphBuilder) (followed : Followed) (required : Required)
-    → IsBuilder (modules_in old) builder → LendsFile old required
-    → AreFollowedIn old (turns_of (modules_in old) builder) followed → followed_at followed required.file ≡ true
+pub has_its_turns : (old : Cache) (run : Run) (builder : GraphBuilder) (followed : Followed) (required : Required)
+    → IsBuilder (modules_in old) builder → LendsFile old run required
+    → AreFollowedIn old run (turns_of (modules_in old) builder) followed → followed_at followed required.file ≡ true
     → (y : ModuleVersion) → Contains (required_by required) y → Contains (turns_of (table_of required) builder) (turn y Deep)
-has_its_turns old builder followed required is lends are by = λ y h.
+has_its_turns old run builder followed required is lends are by = λ y h.
     let one = are required.file by in
+    let shared = lends.shared one.vertex one.sound.file one.sound one.sound.says in
     subst (λ (ts : List Turn). Contains ts (turn y Deep)) (sym (turns_over (modules_in old) (table_of required) builder is lends.begins))
-    (one.each y (subst (λ (xs : List ModuleVersion). Contains xs y) (lends.shared one.vertex one.sound) h))
+    (one.each y (one.sound.file, one.sound.says, subst (λ (xs : List ModuleVersion). Contains xs y) shared h))
 
 -- More turns.
-pub followed_longer : (cache : Cache) (old new : List Turn) (followed : Followed) → BeginsWith old new
-    → AreFollowedIn cache old followed → AreFollowedIn cache new followed
-followed_longer cache old new followed longer are = λ f is.
+followed_longer : (cache : Cache) (run : Run) (old new : List Turn) (followed : Followed) → BeginsWith old new
+    → AreFollowedIn cache run old followed → AreFollowedIn cache run new followed
+followed_longer cache run old new followed longer are = λ f is.
     let one = are f is in
     record {
       vertex = one.vertex;
       sound = one.sound;
-      each = λ y h. subst (λ (ts : List Turn). Contains ts (turn y Deep)) (sym longer.1)
-          (Contains-append_left old longer.0 (turn y Deep) (one.each y h));
+      each = λ y r. subst (λ (ts : List Turn). Contains ts (turn y Deep)) (sym longer.1)
+          (Contains-append_left old longer.0 (turn y Deep) (one.each y r));
     }
 
 -- A vertex's file was followed.
-pub followed_more : (cache : Cache) (old new : List Turn) (before after : Followed) (x : ModuleVersion) (d : Depth)
-    (required : Required) → IsVisit cache x d (visit.Required required) → BeginsWith old new
-    → AreFollowedIn cache old before → FollowsFile before after required.file new (required_by required)
-    → AreFollowedIn cache new after
-followed_more cache old new before after x d required is longer are files = λ f followed. elim (files f followed) [
-  | inl was ↦ followed_longer cache old new before longer are f was
+pub followed_more : (cache : Cache) (run : Run) (old new : List Turn) (before after : Followed) (x : ModuleVersion)
+    (d : Depth) (required : Required) → IsVisit cache run x d (visit.Required required) → BeginsWith old new
+    → AreFollowedIn cache run old before → FollowsFile before after required.file new (required_by required)
+    → AreFollowedIn cache run new after
+followed_more cache run old new before after x d required is longer are files = λ f followed. elim (files f followed) [
+  | inl was ↦ followed_longer cache run old new before longer are f was
   | inr here ↦ record {
     vertex = x;
-    sound = subst (λ (p : ℕ). IsSound cache x p) here.0 is.0;
-    each = λ y h. here.1 y (subst (λ (xs : List ModuleVersion). Contains xs y) (sym is.1.modules) h);
+    sound = subst (λ (p : ℕ). IsSound cache run x p) here.0 is.0;
+    each = λ y r. here.1 y (subst (λ (xs : List ModuleVersion). Contains xs y) (sym is.1.modules)
+        ((required_of run x is.1.file is.1.says y).0 r));
   }
 ]
 
 -- A cache that knows more.
-pub followed_known : (old new : Cache) (builder : GraphBuilder) (followed : Followed) → IsBuilder (modules_in old) builder
-    → Continues old new → KeepsSound old new → AreFollowedIn old (turns_of (modules_in old) builder) followed
-    → AreFollowedIn new (turns_of (modules_in new) builder) followed
-followed_known old new builder followed is continues keeps are = λ f by.
+pub followed_known : (old new : Cache) (earlier later : Run) (builder : GraphBuilder) (followed : Followed)
+    → IsBuilder (modules_in old) builder → Continues old new → later.main ≡ earlier.main → KeepsSayings earlier later
+    → KeepsSound old earlier new later → AreFollowedIn old earlier (turns_of (modules_in old) builder) followed
+    → AreFollowedIn new later (turns_of (modules_in new) builder) followed
+followed_known old new earlier later builder followed is continues main stays keeps are = λ f by.
     let one = are f by in
     record {
       vertex = one.vertex;
       sound = keeps one.vertex f one.sound;
-      each = λ y h. subst (λ (ts : List Turn). Contains ts (turn y Deep)) (sym (turns_over (modules_in old) (modules_in new) builder is continues.numbered))
-          (one.each y (subst (λ (xs : List ModuleVersion). Contains xs y) (sym (requirements_known old new continues one.vertex f one.sound)) h));
+      each = λ y r. subst (λ (ts : List Turn). Contains ts (turn y Deep)) (sym (turns_over (modules_in old) (modules_in new) builder is continues.numbered))
+          (one.each y (requires_before earlier later main stays one.vertex y (Ok one.sound.file) one.sound.says r));
     }

@@ -1,5 +1,5 @@
 -- A list of modules that grows at its end: the numbers stand for the same modules.
-use Rattle.std.proofs.Common.{◌≡◌, ◌<◌, ◌≤◌, ◌&&◌, ◌++◌, ◌∷◌, ◌∙◌, [], ℕ, Bool, false, All, List, Option, None, Some, ap, ap₂, arith, inl, inr, length, length-append, map, refl, subst, sym}
+use Rattle.std.proofs.Common.{◌≡◌, ◌<◌, ◌≤◌, ◌++◌, ◌∷◌, ◌∙◌, [], ℕ, false, All, List, Option, None, Some, ap, ap₂, arith, inl, inr, length, length-append, map, refl, subst, sym}
 use Rattle.std.specs.List.{IsDistinct, list_any}
 use Rattle.std.proofs.lemmas.Bool.{and_left, cases_lt}
 use Rattle.std.proofs.lemmas.List.{get_or_append_left, get_or_past}

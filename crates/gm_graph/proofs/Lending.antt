@@ -1,35 +1,37 @@
 -- What is found of a vertex, and which requirements are returned for it.
-use Rattle.std.proofs.Common.{◌≡◌, ◌<◌, ◌∙◌, ℕ, Bool, true, List, Option, Some, None, Result, Ok, Err, sym, ap, refl, cond}
+use Rattle.std.proofs.Common.{◌≡◌, ◌<◌, ◌∙◌, ℕ, List, Option, Some, None, Result, Ok, sym, ap, refl, subst}
 use Rattle.std.specs.Prelude.{IfSome, slice_get}
+use Rattle.std.specs.List.{IsDistinct}
 use Rattle.std.specs.Option.{option_and_then, option_map}
-use Rattle.gm_name.specs.ModuleVersion.{ModuleVersion}
-use Rattle.gm_name_table.specs.Listed.{listed}
+use Rattle.gm_name.specs.ModuleVersion.{ModuleVersion, pair_eq}
+use Rattle.gm_name_table.specs.Listed.{BeginsWith, listed}
 use Rattle.gm_file.specs.Fields.{Dependency}
 use Rattle.gm_file.specs.Listed.{with_requirements}
+use Rattle.gm_store.specs.Asked.{Name, Reply}
 use Rattle.gm_graph.specs.declared.cache.class.Class.{Class}
-use Rattle.gm_graph.specs.declared.cache.class.Class.TheVariants.{WrongPath}
+use Rattle.gm_graph.specs.declared.cache.depth.Depth.{Depth}
 use Rattle.gm_graph.specs.declared.cache.summary.Kept.{Kept}
 use Rattle.gm_graph.specs.declared.cache.summary.Kept.TheVariants.{Valid, Faulty}
 use Rattle.gm_graph.specs.declared.cache.summary.ListSpan.{ListSpan}
+use Rattle.gm_graph.specs.declared.cache.visit.Visit.{Visit}
+use Rattle.gm_graph.specs.declared.cache.visit.Visit.TheVariants as visit
 use Rattle.gm_graph.specs.declared.cache.Cache.{Cache}
-use Rattle.gm_file.specs.Main.{Main, without_excluded, replacement_in}
-use Rattle.gm_graph.specs.Reading.{Held, file_of, is_askable, is_right_path, readings_by, requirements_in, vertex_requirements, said_in, with_right_path}
-use Rattle.gm_graph.proofs.ReadingIf.{reading_if}
+use Rattle.gm_file.specs.Main.{Main, without_excluded}
+use Rattle.gm_graph.specs.Reading.{file_of}
 use Rattle.gm_graph.specs.Summaries.{IsKept, IsWithinList, at_span, span_found, summary_reading}
-use Rattle.gm_graph.specs.Cached.{IsLender, IsSound, LendsKept, kept_file, file_count, held_of, main_in}
-use Rattle.gm_graph.proofs.Holding.{held_sound}
+use Rattle.gm_graph.specs.Cached.{AreRequirements, HasFileAt, HoldsSame, IsLender, IsSound, KeepsSound, Knows, LendsKept, file_count, its_requirements, kept_file, main_in, modules_in, no_requirements, run_in}
+use Rattle.gm_graph.specs.CacheVisits.{Continues, IsVisit, KeepsSayings, LendsOver}
+use Rattle.gm_graph.specs.Run.{FileSays, Run, Says}
+use Rattle.gm_graph.proofs.Holding.{held_says, held_sound}
+use Rattle.gm_graph.proofs.Keeping.{same_run}
 use Rattle.gm_graph.proofs.Spans.{span_within}
 
-abbrev or_wrong : Bool → Dependency → Result Dependency Class
-or_wrong b file = cond b (Ok file) (Err WrongPath)
-
--- A file that declares a right path has the reading that is held of it.
-pub finds_right : (main : Main) (held : Held) (x : ModuleVersion) (file : Dependency) → is_askable (file_of main x) ≡ true → held (file_of main x) ≡ Some (Ok file)
-    → is_right_path x (replacement_in main x) file.declared ≡ true → readings_by main held x ≡ Some (Ok file)
-finds_right main held x file askable there right =
-    ap (λ (b : Bool). reading_if b main x (held (file_of main x))) askable
-    ∙ ap (λ (o : Option (Result Dependency Class)). option_map (with_right_path x (replacement_in main x)) o) there
-    ∙ ap (λ (b : Bool). Some (or_wrong b file)) right
+-- What is kept at the place of a vertex's file is what the file says.
+pub kept_says : (cache : Cache) (pairs : List (Name × Reply)) (x : ModuleVersion) (place : ℕ) (one : Kept) → Knows cache pairs → HasFileAt cache x place
+    → kept_file cache place ≡ Some one → FileSays (run_in cache pairs) (file_of (main_in cache) x) (summary_reading (listed cache.modules) one)
+kept_says cache pairs x place one knows at there =
+    held_says cache pairs knows (file_of (main_in cache) x) (summary_reading (listed cache.modules) one) at.askable
+    (ap (option_map (summary_reading (listed cache.modules))) (sym at.kept ∙ there))
 
 lent_one : (main : Main) (modules : List ModuleVersion) (o : Option Kept) (file : Dependency) → ((one : Kept) → o ≡ Some one → IsKept main modules one)
     → option_map (summary_reading modules) o ≡ Some (Ok file) → at_span modules (span_found o) ≡ without_excluded main file.requirements
@@ -40,32 +42,71 @@ lent_one main modules (Some (Valid summary)) file is e =
     (is (Valid summary) refl).without ∙ ap (λ (f : Dependency). without_excluded main f.requirements) same
 
 -- If a vertex has no fault, what its file says is held of the file at its place.
-held_there : (cache : Cache) (x : ModuleVersion) (place : ℕ) (sound : IsSound cache x place)
-    → option_map (summary_reading (listed cache.modules)) (kept_file cache place) ≡ Some (Ok sound.file)
-held_there cache x place sound =
-    ap (option_map (summary_reading (listed cache.modules))) sound.kept ∙ held_sound (main_in cache) (held_of cache) x sound.file sound.reading
+held_there : (cache : Cache) (pairs : List (Name × Reply)) (x : ModuleVersion) (place : ℕ) (file : Dependency) → Knows cache pairs
+    → IsSound cache (run_in cache pairs) x place → Says (run_in cache pairs) x (Ok file)
+    → option_map (summary_reading (listed cache.modules)) (kept_file cache place) ≡ Some (Ok file)
+held_there cache pairs x place file knows at says =
+    ap (option_map (summary_reading (listed cache.modules))) at.kept ∙ held_sound cache pairs knows x file says
 
 abbrev span_at : Cache → Option ℕ → ListSpan
 span_at cache place = span_found (option_and_then (slice_get cache.files.files.items) place)
 
 -- The requirements returned from the place of a vertex's file, or from none if the vertex has a fault, are its
 -- requirements.
-pub lent_kept : (cache : Cache) (x : ModuleVersion) (place : Option ℕ) → LendsKept cache → IsLender cache x place
-    → at_span (listed cache.modules) (span_at cache place) ≡ vertex_requirements (main_in cache) (readings_by (main_in cache) (held_of cache)) x
-lent_kept cache x None lends lender = sym (ap (λ (r : Option (Result Dependency Class)). requirements_in (main_in cache) (said_in r)) lender.1)
-lent_kept cache x (Some place) lends lender =
-    lent_one (main_in cache) (listed cache.modules) (kept_file cache place) lender.file
-    (λ one e. lends (file_of (main_in cache) x) one (sym lender.kept ∙ e)) (held_there cache x place lender)
-    ∙ sym (ap (λ (r : Option (Result Dependency Class)). requirements_in (main_in cache) (said_in r)) lender.reading)
+pub lent_kept : (cache : Cache) (pairs : List (Name × Reply)) (x : ModuleVersion) (place : Option ℕ) → Knows cache pairs
+    → IsLender cache (run_in cache pairs) x place
+    → AreRequirements (run_in cache pairs) x (at_span (listed cache.modules) (span_at cache place))
+lent_kept cache pairs x None knows lender = no_requirements lender.1
+lent_kept cache pairs x (Some place) knows lender =
+    subst (λ (xs : List ModuleVersion). AreRequirements (run_in cache pairs) x xs)
+    (sym (lent_one (main_in cache) (listed cache.modules) (kept_file cache place) lender.file
+    (λ one e. knows.lends (file_of (main_in cache) x) one (sym lender.kept ∙ e)) (held_there cache pairs x place lender.file knows lender lender.says)))
+    (its_requirements lender.says)
+
+-- So they are by a cache that holds the same.
+pub lent_named : (old cache : Cache) (pairs : List (Name × Reply)) (x y : ModuleVersion) (place : Option ℕ) (xs : List ModuleVersion)
+    → HoldsSame old cache → x ≡ y → Knows cache pairs → IsLender cache (run_in cache pairs) x place
+    → xs ≡ at_span (listed cache.modules) (span_at cache place) → AreRequirements (run_in old pairs) y xs
+lent_named old cache pairs x y place xs same is knows lender e =
+    let lent = at_span (listed cache.modules) (span_at cache place) in
+    subst (λ (ms : List ModuleVersion). AreRequirements (run_in old pairs) y ms) (sym e)
+    (subst (λ (v : ModuleVersion). AreRequirements (run_in old pairs) v lent) is
+    (subst (λ (r : Run). AreRequirements r x lent) (same_run old cache pairs same.main same.sums)
+    (lent_kept cache pairs x place knows lender)))
 
 -- Where these requirements are is within the list of modules.
-pub lent_within : (cache : Cache) (x : ModuleVersion) (place : Option ℕ) → LendsKept cache → IsLender cache x place
+pub lent_within : (cache : Cache) (run : Run) (x : ModuleVersion) (place : Option ℕ) → LendsKept cache → IsLender cache run x place
     → IsWithinList (listed cache.modules) (span_at cache place)
-lent_within cache x None lends lender = span_within (main_in cache) (listed cache.modules) None (λ one e. absurd (cc e))
-lent_within cache x (Some place) lends lender =
+lent_within cache run x None lends lender = span_within (main_in cache) (listed cache.modules) None (λ one e. absurd (cc e))
+lent_within cache run x (Some place) lends lender =
     span_within (main_in cache) (listed cache.modules) (kept_file cache place) (λ one e. lends (file_of (main_in cache) x) one (sym lender.kept ∙ e))
 
 -- A place is that of a file.
-pub lender_within : (cache : Cache) (x : ModuleVersion) (place : Option ℕ) → IsLender cache x place → IfSome place (λ there. there < file_count cache)
-lender_within cache x None lender = tt
-lender_within cache x (Some place) lender = lender.within
+pub lender_within : (cache : Cache) (run : Run) (x : ModuleVersion) (place : Option ℕ) → IsLender cache run x place
+    → IfSome place (λ there. there < file_count cache)
+lender_within cache run x None lender = tt
+lender_within cache run x (Some place) lender = lender.within
+
+-- Vertices whose file is at one place have the same file.
+one_file_there : (cache : Cache) (pairs : List (Name × Reply)) (x y : ModuleVersion) (place : ℕ) (file other : Dependency) → Knows cache pairs
+    → IsSound cache (run_in cache pairs) x place → Says (run_in cache pairs) x (Ok file)
+    → IsSound cache (run_in cache pairs) y place → Says (run_in cache pairs) y (Ok other) → file ≡ other
+one_file_there cache pairs x y place file other knows at says there also =
+    let same : ◌≡◌ {A = Option (Result Dependency Class)} (Some (Ok file)) (Some (Ok other)) =
+    sym (held_there cache pairs x place file knows at says) ∙ held_there cache pairs y place other knows there also in
+    cc same
+
+-- What a visit gets is what each vertex requires that had this file.
+pub lends_over : (old new : Cache) (earlier pairs : List (Name × Reply)) (x : ModuleVersion) (d : Depth) (got : Visit) → Knows new pairs
+    → Continues old new → KeepsSayings (run_in old earlier) (run_in new pairs) → KeepsSound old (run_in old earlier) new (run_in new pairs)
+    → IsDistinct pair_eq (modules_in new) → IsVisit new (run_in new pairs) x d got → LendsOver old (run_in old earlier) got
+lends_over old new earlier pairs x d (visit.Fault vertex class) knows continues stays keeps distinct is = tt
+lends_over old new earlier pairs x d (visit.Required required) knows continues stays keeps distinct is = record {
+  begins = subst (λ (ms : List ModuleVersion). BeginsWith (modules_in old) ms) (sym is.2) continues.numbered;
+  distinct = subst (λ (ms : List ModuleVersion). IsDistinct pair_eq ms) (sym is.2) distinct;
+  shared = λ y file at says.
+      let same : is.1.file ≡ file =
+      one_file_there new pairs x y required.file is.1.file file knows is.0 is.1.says (keeps y required.file at) (stays y (Ok file) says) in
+      is.1.modules ∙ ap (λ (f : Dependency). without_excluded (main_in new) f.requirements) same
+      ∙ ap (λ (m : Main). without_excluded m file.requirements) continues.main;
+}

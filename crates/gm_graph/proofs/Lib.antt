@@ -10,6 +10,7 @@ pub mod Rounds
 pub mod Sources
 pub mod Turning
 pub mod Visited
+pub mod VisitSteps
 pub mod FirstGraph
 pub mod Caching
 pub mod FilledPlaces
@@ -35,10 +36,9 @@ pub mod AskedFile
 pub mod OwnFiles
 pub mod Lending
 pub mod OneReading
+pub mod Sayings
 pub mod Misread
 pub mod Keeping
-pub mod ReadingIf
-pub mod RunReadings
 pub mod FilePlaces
 pub mod PuttingPlaces
 pub mod Replacements

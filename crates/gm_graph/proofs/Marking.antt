@@ -1,5 +1,5 @@
 -- The marks of vertices in a graph builder.
-use Rattle.std.proofs.Common.{◌≡◌, ◌⊎◌, ◌+◌, ◌<◌, ◌≤◌, ◌&&◌, ◌||◌, ◌++◌, ◌∷◌, ◌∙◌, [], ℕ, Bool, true, false, All, List, Contains, ap, ap₂, arith, get_or, inl, if◌then◌else◌, inr, length, length-append, map, refl, replicate, set, subst, suc, sym, take, zero}
+use Rattle.std.proofs.Common.{◌≡◌, ◌+◌, ◌<◌, ◌≤◌, ◌&&◌, ◌||◌, ◌++◌, ◌∷◌, ◌∙◌, [], ℕ, Bool, true, false, All, List, Contains, ap, ap₂, arith, get_or, inl, if◌then◌else◌, inr, length, length-append, map, refl, replicate, set, subst, suc, sym, take, zero}
 use Rattle.std.specs.List.{IsDistinct, list_any}
 use Rattle.std.specs.Cmp.{both_ways}
 use Rattle.std.proofs.lemmas.Bool.{cases_eq, cases_lt, or_cases}

@@ -1,72 +1,80 @@
 -- The calls of a cache that name modules and files.
-use Rattle.std.proofs.Common.{◌≡◌, ◌∙◌, ℕ, Bool, true, false, Option, None, Some, Result, Ok, ap, refl, subst, sym}
+use Rattle.std.proofs.Common.{◌≡◌, ◌∙◌, ℕ, List, Option, None, Some, Ok, Err, ap, refl, subst, sym}
 use Rattle.std.specs.Option.{option_map}
 use Rattle.gm_name.specs.ModuleVersion.{ModuleVersion}
 use Rattle.gm_name_table.specs.Listed.{listed}
-use Rattle.gm_file.specs.Fields.{Dependency}
-use Rattle.gm_store.specs.Asked.{Name}
+use Rattle.gm_store.specs.Asked.{Name, Reply}
 use Rattle.gm_store.specs.States.{StoreState}
-use Rattle.gm_graph.specs.declared.cache.class.Class.{Class}
 use Rattle.gm_graph.specs.declared.cache.Cache.{Cache}
-use Rattle.gm_graph.specs.Cached.{HasSoundFile, HoldsSame, IsLender, IsLenderNamed, held_of, main_in, modules_in, summary_at}
+use Rattle.gm_graph.specs.Cached.{HasSoundFile, HoldsSame, IsLender, IsLenderNamed, Knows, KnowsLender, held_of, main_in, modules_in, run_in, summary_at}
+use Rattle.gm_graph.specs.CacheVisits.{KeepsSayings}
 use Rattle.gm_graph.specs.Asking.{AsksFor}
 use Rattle.gm_graph.specs.FileTable.{IsPlaceOf}
+use Rattle.gm_graph.specs.Run.{Run}
 use Rattle.gm_file.specs.Main.{Main, main_of}
-use Rattle.gm_graph.specs.Reading.{Held, file_of, is_askable, readings_by, vertex_requirements}
+use Rattle.gm_graph.specs.Reading.{file_of}
 use Rattle.gm_graph.specs.Summaries.{summary_reading}
-use Rattle.gm_graph.proofs.Holding.{held_sound}
-use Rattle.gm_graph.proofs.ReadingIf.{reading_if}
-use Rattle.gm_graph.proofs.Keeping.{held_same, main_same}
+use Rattle.gm_graph.proofs.Holding.{held_sound, known_alike}
+use Rattle.gm_graph.proofs.Keeping.{knows_still, same_run}
 
 -- ---- the place of a file that is named
 
-askable_if : (b : Bool) (main : Main) (x : ModuleVersion) (held : Option (Result Dependency Class)) (file : Dependency) → reading_if b main x held ≡ Some (Ok file) → b ≡ true
-askable_if true main x held file e = refl
-askable_if false main x held file e = absurd cc
-
-module _ (cache : Cache) (x : ModuleVersion) (name : Name) (is : HasSoundFile (main_in cache) (held_of cache) x name) where
-  pub named_askable : is_askable name ≡ true
-  named_askable = ap is_askable is.name_is
-      ∙ askable_if (is_askable (file_of (main_in cache) x)) (main_in cache) x (held_of cache (file_of (main_in cache) x)) is.file is.reading
-
+module _ (cache : Cache) (pairs : List (Name × Reply)) (x : ModuleVersion) (name : Name) (knows : Knows cache pairs)
+    (is : HasSoundFile (run_in cache pairs) x name) where
   -- Something is kept of the file.
-  pub named_kept : summary_at cache name ≡ None → ⊥
+  named_kept : summary_at cache name ≡ None → ⊥
   named_kept none =
-      let held : held_of cache (file_of (main_in cache) x) ≡ Some (Ok is.file) = held_sound (main_in cache) (held_of cache) x is.file is.reading in
+      let held : held_of cache (file_of (main_in cache) x) ≡ Some (Ok is.file) = held_sound cache pairs knows x is.file is.says in
       let empty : held_of cache name ≡ None = ap (option_map (summary_reading (listed cache.modules))) none in
       let here : held_of cache name ≡ Some (Ok is.file) = ap (held_of cache) is.name_is ∙ held in
       cc (sym empty ∙ here)
 
   -- The place at which it is found is that of the vertex's file.
-  pub lender_named : (place : Option ℕ) → IsPlaceOf (modules_in cache) cache.files name place → IsLender cache x place
+  pub lender_named : (place : Option ℕ) → IsPlaceOf (modules_in cache) cache.files name place → IsLender cache (run_in cache pairs) x place
   lender_named None none = absurd (named_kept none)
   lender_named (Some place) at = record {
     within = at.0;
     kept = at.1 ∙ ap (summary_at cache) is.name_is;
     file = is.file;
-    reading = is.reading;
+    says = is.says;
   }
 
 -- The name that was given.
-pub name_here : {A : Type 0} (f : A → Name) (main : Main) (held : Held) (x : ModuleVersion) (o : Option A) (a : A) → o ≡ Some a
-    → IsLenderNamed main held x (option_map f o) → HasSoundFile main held x (f a)
-name_here f main held x None a e named = absurd (cc e)
-name_here f main held x (Some b) a e named = let same : b ≡ a = cc e in subst (λ v. HasSoundFile main held x (f v)) same named
+pub name_here : {A : Type 0} (f : A → Name) (run : Run) (x : ModuleVersion) (o : Option A) (a : A) → o ≡ Some a
+    → IsLenderNamed run x (option_map f o) → HasSoundFile run x (f a)
+name_here f run x None a e named = absurd (cc e)
+name_here f run x (Some b) a e named = let same : b ≡ a = cc e in subst (λ v. HasSoundFile run x (f v)) same named
+
+-- No name was given.
+pub no_name : {A : Type 0} (f : A → Name) (run : Run) (x : ModuleVersion) (o : Option A) → o ≡ None → IsLenderNamed run x (option_map f o)
+    → IsLenderNamed run x None
+no_name f run x o e named = subst (λ v. IsLenderNamed run x (option_map f v)) e named
+
+named_by : (earlier later : Run) (x : ModuleVersion) (name : Option Name) → later.main ≡ earlier.main → KeepsSayings earlier later
+    → IsLenderNamed earlier x name → IsLenderNamed later x name
+named_by earlier later x None same keeps named = (named.0, keeps x (Err named.0) named.1)
+named_by earlier later x (Some name) same keeps named = record {
+  name_is = named.name_is ∙ ap (λ (m : Main). file_of m x) (sym same);
+  file = named.file;
+  says = keeps x (Ok named.file) named.says;
+}
+
+-- What is named by some answers that the cache knows is named by all that it knows.
+pub named_known : (cache : Cache) (pairs : List (Name × Reply)) (x : ModuleVersion) (name : Option Name) → Knows cache pairs
+    → KnowsLender cache x name → IsLenderNamed (run_in cache pairs) x name
+named_known cache pairs x name knows lender =
+    named_by (run_in cache lender.pairs) (run_in cache pairs) x name refl
+    (known_alike cache lender.pairs pairs lender.knows knows) lender.named
 
 -- What is named in one cache is named in one that holds the same.
 pub named_still : (old mid : Cache) (x y : ModuleVersion) (name : Option Name) → HoldsSame old mid → x ≡ y
-    → IsLenderNamed (main_in old) (held_of old) x name → IsLenderNamed (main_in mid) (held_of mid) y name
-named_still old mid x y name same is named =
-    subst (λ (v : ModuleVersion). IsLenderNamed (main_in mid) (held_of mid) v name) is
-    (subst (λ (m : Main). IsLenderNamed m (held_of mid) x name) (sym (main_same old mid same))
-    (subst (λ (h : Held). IsLenderNamed (main_in old) h x name) (sym (held_same old mid same)) named))
-
--- A vertex requires the same in a cache that holds the same.
-pub requirements_same : (old mid : Cache) (x : ModuleVersion) → HoldsSame old mid
-    → vertex_requirements (main_in mid) (readings_by (main_in mid) (held_of mid)) x ≡ vertex_requirements (main_in old) (readings_by (main_in old) (held_of old)) x
-requirements_same old mid x same =
-    ap (λ (m : Main). vertex_requirements m (readings_by m (held_of mid)) x) (main_same old mid same)
-    ∙ ap (λ (h : Held). vertex_requirements (main_in old) (readings_by (main_in old) h) x) (held_same old mid same)
+    → KnowsLender old x name → KnowsLender mid y name
+named_still old mid x y name same is lender = record {
+  pairs = lender.pairs;
+  knows = knows_still old mid lender.pairs same lender.knows;
+  named = subst (λ (v : ModuleVersion). IsLenderNamed (run_in mid lender.pairs) v name) is
+      (subst (λ (r : Run). IsLenderNamed r x name) (sym (same_run old mid lender.pairs same.main same.sums)) lender.named);
+}
 
 -- What is asked for is the file of the same vertex.
 pub asks_named : (old mid : Cache) (before after : StoreState) (x y : ModuleVersion) → mid.main.now ≡ old.main.now → y ≡ x

@@ -1,5 +1,5 @@
 -- What changes of the places of files, and of what is kept, if a place is put.
-use Rattle.std.proofs.Common.{◌≡◌, ◌∙◌, ◌<◌, ℕ, zero, suc, Bool, true, false, cond, List, [], ◌∷◌, ◌++◌, Option, Some, None, length, nat_eq, get_or, ap, ap₂, arith, inl, inr, refl, subst, sym}
+use Rattle.std.proofs.Common.{◌≡◌, ◌∙◌, ◌<◌, ℕ, zero, suc, Bool, true, false, cond, List, [], ◌∷◌, ◌++◌, Option, Some, None, length, nat_eq, get_or, ap, ap₂, arith, refl, subst, sym}
 use Rattle.std.specs.List.{IsDistinct}
 use Rattle.std.specs.Map.{lookup, set_value}
 use Rattle.std.specs.Option.{IsSome, option_and_then, unwrap_or}
@@ -7,10 +7,8 @@ use Rattle.std.specs.Ordering.{is_eq}
 use Rattle.std.specs.Prelude.{slice_get}
 use Rattle.std.proofs.Math.Path.{fun_ext}
 use Rattle.std.proofs.lemmas.Bool.{ne_eqb}
-use Rattle.std.proofs.lemmas.Bool.Decides.{Decides-eqb, eqb_tells, same_from_decides}
-use Rattle.std.proofs.lemmas.List.{length-append}
+use Rattle.std.proofs.lemmas.Bool.Decides.{Decides-eqb, same_from_decides}
 use Rattle.std.proofs.lemmas.Map.Keys.{IsDistinct-tail, apart_from_distinct}
-use Rattle.std.proofs.lemmas.Option.{slice_get_past}
 use Rattle.gm_name.specs.ModuleVersion.{ModuleVersion, module_at, pair_eq, pair_eq-Decides}
 use Rattle.gm_name.specs.OptionalPlaces.{no_place, place_in}
 use Rattle.gm_name.specs.declared.place.OptionalPlace.{OptionalPlace}

@@ -2,8 +2,6 @@
 use Rattle.std.proofs.Common.{◌↔◌, ℕ, zero, suc, List, ◌∷◌, map, Contains, subst, inl, inr, arith}
 use Rattle.gm_name.specs.ModuleVersion.{ModuleVersion}
 use Rattle.gm_file.specs.Directives.{Replacing}
-use Rattle.gm_file.specs.Main.{Main}
-use Rattle.gm_graph.specs.Reading.{Readings}
 use Rattle.gm_graph_select.specs.declared.step.Edge.{Edge}
 use Rattle.gm_graph_select.specs.declared.step.Step.TheVariants.{Main as FromMain, Of}
 use Rattle.gm_graph_select.specs.BuildList.{Entry, IsBuildList, IsSelected, entry_of, main_entry}
@@ -11,33 +9,33 @@ use Rattle.gm_graph_select.specs.Chains.{IsReached, IsRooted, along, at_main}
 use Rattle.gm_graph_select.specs.Graph.{among, edge, edge_cmp}
 use Rattle.gm_graph_select.specs.Order.{HaveSame, IsAscending}
 use Rattle.gm_graph_select.proofs.Same.{AreSame, same_back, same_rooted}
-use Rattle.gm_graph.specs.Graph.{IsDeep, IsEdge, IsOpened, IsTop, from_deep, from_main, from_top}
+use Rattle.gm_graph.specs.Run.{IsDeep, IsEdge, IsOpened, IsTop, Run, from_deep, from_main, from_top}
 use Rattle.gm_graph.specs.Outcome.{AreReached}
 use Rattle.gm_graph.proofs.Mapped.{from_mapped}
 
-module _ (main : Main) (readings : Readings) where
-  top_reached : (x : ModuleVersion) → IsTop main x → IsReached (IsEdge main readings) (Of x)
+module _ (run : Run) where
+  top_reached : (x : ModuleVersion) → IsTop run x → IsReached (IsEdge run) (Of x)
   top_reached x t = (1, along at_main t)
 
-  deep_reached : {x : ModuleVersion} → IsDeep main readings x → IsReached (IsEdge main readings) (Of x)
+  deep_reached : {x : ModuleVersion} → IsDeep run x → IsReached (IsEdge run) (Of x)
   deep_reached (from_main {x} p t) = top_reached x t
-  deep_reached (from_top {x} {y} t u r) = (2, along (along at_main t) (inl t, r))
+  deep_reached (from_top {x} {y} file t says u c) = (2, along (along at_main t) (inl t, (file, says, c)))
   deep_reached (from_deep {x} {y} d r) = let (n, l) = deep_reached d in (suc n, along l (inr d, r))
 
-  opened_reached : (x : ModuleVersion) → IsOpened main readings x → IsReached (IsEdge main readings) (Of x)
+  opened_reached : (x : ModuleVersion) → IsOpened run x → IsReached (IsEdge run) (Of x)
   opened_reached x (inl t) = top_reached x t
   opened_reached x (inr d) = deep_reached d
 
-  pub edges_rooted : IsRooted (IsEdge main readings)
+  pub edges_rooted : IsRooted (IsEdge run)
   edges_rooted FromMain y e = (0, at_main)
   edges_rooted (Of x) y e = opened_reached x e.0
 
-pub same_edges : (main : Main) (readings : Readings) (edges : List Edge) → ((e : Edge) → Contains edges e ↔ IsEdge main readings e.from e.to) → AreSame (among edges) (IsEdge main readings)
-same_edges main readings edges exact s y = exact (edge s y)
+pub same_edges : (run : Run) (edges : List Edge) → ((e : Edge) → Contains edges e ↔ IsEdge run e.from e.to) → AreSame (among edges) (IsEdge run)
+same_edges run edges exact s y = exact (edge s y)
 
-pub list_rooted : (main : Main) (readings : Readings) (edges : List Edge) → ((e : Edge) → Contains edges e ↔ IsEdge main readings e.from e.to) → IsRooted (among edges)
-list_rooted main readings edges exact =
-    same_rooted (IsEdge main readings) (among edges) (same_back (among edges) (IsEdge main readings) (same_edges main readings edges exact)) (edges_rooted main readings)
+pub list_rooted : (run : Run) (edges : List Edge) → ((e : Edge) → Contains edges e ↔ IsEdge run e.from e.to) → IsRooted (among edges)
+list_rooted run edges exact =
+    same_rooted (IsEdge run) (among edges) (same_back (among edges) (IsEdge run) (same_edges run edges exact)) (edges_rooted run)
 
 -- The entries of a build list are reached.
 module _ (main : List ℕ) (replaces : List Replacing) (edges : List Edge) (entries : List Entry) (rooted : IsRooted (among edges)) (list : IsBuildList main replaces (among edges) entries) where

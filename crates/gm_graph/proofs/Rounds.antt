@@ -1,29 +1,30 @@
 -- Turns that are all done.
-use Rattle.std.proofs.Common.{◌≡◌, ◌+◌, ◌≤◌, Bool, true, false, List, [], ◌++◌, length, Contains, map, ap, ◌∙◌, sym, refl, subst, inl, inr, arith, length-append, ◌↔◌, IsSome}
+use Rattle.std.proofs.Common.{◌≡◌, ◌+◌, ◌≤◌, Bool, true, false, List, [], ◌++◌, length, Contains, map, ap, ◌∙◌, sym, refl, subst, inl, inr, arith, length-append, ◌↔◌, Result}
 use Rattle.std.proofs.lemmas.List.{length-map, get_or-map}
 use Rattle.std.proofs.lemmas.Bool.{cases_Bool, false≢true}
 use Rattle.std.specs.Bool.{Decides}
 use Rattle.std.proofs.lemmas.Map.Made.{length-le_from_is_member, is_member-Decides}
 use Rattle.std.proofs.lemmas.List.Elements.{Contains-append_left, Contains-append_right}
 use Rattle.gm_name.specs.ModuleVersion.{ModuleVersion}
-use Rattle.gm_file.specs.Main.{Main, is_pruned_by, without_excluded}
-use Rattle.gm_graph.specs.Reading.{Readings}
+use Rattle.gm_file.specs.Fields.{Dependency}
+use Rattle.gm_file.specs.Main.{is_pruned_by, without_excluded}
+use Rattle.gm_graph.specs.declared.cache.class.Class.{Class}
 use Rattle.gm_graph.specs.declared.cache.depth.Turn.{Turn}
 use Rattle.gm_graph.specs.declared.cache.depth.Depth.{Depth}
 use Rattle.gm_graph.specs.declared.cache.depth.Depth.TheVariants.{Top, Deep}
-use Rattle.gm_graph.specs.Graph.{IsTop, from_main, IsOpened, TakesTurn}
-use Rattle.gm_graph.specs.Loading.{AreTurns}
-use Rattle.gm_graph.specs.Turns.{same_turn, IsDone, AreTurnsOf, AddsAll, IsValidTurn, AllValidTurns, AreFirstTurns, depth_by, turn}
+use Rattle.gm_graph.specs.Run.{AreTurns, IsOpened, IsTop, Run, Says, TakesTurn, from_main}
+use Rattle.gm_graph.specs.Turns.{same_turn, AreTurnsOf, AddsAll, depth_by, turn}
+use Rattle.gm_graph.specs.VisitedTurns.{AllValidTurns, AreFirstTurns, IsDone}
 use Rattle.gm_name_table.specs.Listed.{BeginsWith}
 use Rattle.gm_graph.proofs.Sameness.{turns_equivalence, exact_turn}
 use Rattle.gm_graph.proofs.Deepening.{IsDeep-among}
 
 -- The first turns and more, each one that its vertex takes, and each of them done.
-pub record AreVisited (main : Main) (answers : Readings) (turns : List Turn) : Type 0 where
-  pub tops : is_pruned_by main.go ≡ true → (x : ModuleVersion) → IsTop main x → Contains turns (turn x Top)
-  pub deeps : is_pruned_by main.go ≡ false → (x : ModuleVersion) → IsTop main x → Contains turns (turn x Deep)
-  pub sound : AllValidTurns main answers turns
-  pub done : (one : Turn) → Contains turns one → IsDone main answers turns one
+pub record AreVisited (run : Run) (turns : List Turn) : Type 0 where
+  pub tops : is_pruned_by run.main.go ≡ true → (x : ModuleVersion) → IsTop run x → Contains turns (turn x Top)
+  pub deeps : is_pruned_by run.main.go ≡ false → (x : ModuleVersion) → IsTop run x → Contains turns (turn x Deep)
+  pub valid : AllValidTurns run turns
+  pub done : (one : Turn) → Contains turns one → IsDone run turns one
 
 same_turn-Decides : (a b : Turn) → Decides (same_turn a b) (a ≡ b)
 same_turn-Decides a b = (exact_turn a b, λ e. subst (λ (t : Turn). same_turn a t ≡ true) e (turns_equivalence.refl a))
@@ -56,59 +57,62 @@ few_turns vertices turns are =
 pub along : (old new : List Turn) (one : Turn) → BeginsWith old new → Contains old one → Contains new one
 along old new one (more, e) h = subst (λ (t : List Turn). Contains t one) (sym e) (Contains-append_left old more one h)
 
-pub opened_from : (main : Main) (answers : Readings) (x : ModuleVersion) (d : Depth) → TakesTurn main answers x d → IsOpened main answers x
-opened_from main answers x Top h = inl h.1
-opened_from main answers x Deep h = inr h
+pub opened_from : (run : Run) (x : ModuleVersion) (d : Depth) → TakesTurn run x d → IsOpened run x
+opened_from run x Top h = inl h.1
+opened_from run x Deep h = inr h
 
 -- Every opened vertex has a turn.
-pub has_turn_of : (main : Main) (answers : Readings) (turns : List Turn) → AreVisited main answers turns → (x : ModuleVersion) → IsOpened main answers x → (d : Depth) × Contains turns (turn x d)
-has_turn_of main answers turns followed x (inl top) = elim (cases_Bool (is_pruned_by main.go)) [
+pub has_turn_of : (run : Run) (turns : List Turn) → AreVisited run turns → (x : ModuleVersion) → IsOpened run x → (d : Depth) × Contains turns (turn x d)
+has_turn_of run turns followed x (inl top) = elim (cases_Bool (is_pruned_by run.main.go)) [
   | inl pruned ↦ (Top, followed.tops pruned x top)
   | inr unpruned ↦ (Deep, followed.deeps unpruned x top)
 ]
-has_turn_of main answers turns followed x (inr deep) = (Deep, IsDeep-among main answers turns followed.tops followed.deeps followed.done deep)
+has_turn_of run turns followed x (inr deep) = (Deep, IsDeep-among run turns followed.tops followed.deeps followed.done deep)
 
-module _ (main : Main) (answers : Readings) (vertices : List ModuleVersion) (turns : List Turn) (are : AreTurnsOf vertices turns) (followed : AreVisited main answers turns) where
-  pub turns_exactly : (x : ModuleVersion) (d : Depth) → Contains turns (turn x d) ↔ TakesTurn main answers x d
-  turns_exactly x Top = ((λ h. followed.sound (turn x Top) h), (λ h. followed.tops h.0 x h.1))
-  turns_exactly x Deep = ((λ h. followed.sound (turn x Deep) h), (λ h. IsDeep-among main answers turns followed.tops followed.deeps followed.done h))
+module _ (run : Run) (vertices : List ModuleVersion) (turns : List Turn) (are : AreTurnsOf vertices turns) (followed : AreVisited run turns) where
+  pub turns_exactly : (x : ModuleVersion) (d : Depth) → Contains turns (turn x d) ↔ TakesTurn run x d
+  turns_exactly x Top = ((λ h. followed.valid (turn x Top) h), (λ h. followed.tops h.0 x h.1))
+  turns_exactly x Deep = ((λ h. followed.valid (turn x Deep) h), (λ h. IsDeep-among run turns followed.tops followed.deeps followed.done h))
 
-  pub are_turns : AreTurns main answers turns
+  pub are_turns : AreTurns run turns
   are_turns = record { once = are.turns_once; each = turns_exactly }
 
-  pub opened_known : (x : ModuleVersion) → IsOpened main answers x → IsSome (answers x)
-  opened_known x h = let one = has_turn_of main answers turns followed x h in (followed.done (turn x one.0) one.1).answered
+  pub opened_known : (x : ModuleVersion) → IsOpened run x → (said : Result Dependency Class) × Says run x said
+  opened_known x h =
+      let one = has_turn_of run turns followed x h in
+      let done = followed.done (turn x one.0) one.1 in
+      (done.said, done.says)
 
 not_in_none : (one : Turn) → Contains [] one → ⊥
 not_in_none one h = absurd (omega (arith, h.1))
 
-module _ (main : Main) (old new : List Turn) (none : old ≡ []) where
+module _ (run : Run) (old new : List Turn) (none : old ≡ []) where
   -- if the main file is pruned
-  first_tops : is_pruned_by main.go ≡ true → AddsAll old new (without_excluded main main.requirements) Top
-      → AreFirstTurns main new
+  first_tops : is_pruned_by run.main.go ≡ true → AddsAll old new (without_excluded run.main run.main.requirements) Top
+      → AreFirstTurns run new
   first_tops pruned adds = record {
     tops = λ _ x t. adds.each x t;
     deeps = λ p. absurd (false≢true (sym p ∙ pruned));
-    sound = λ answers one h. elim (adds.only one h) [
+    valid = λ one h. elim (adds.only one h) [
       | inl there ↦ absurd (not_in_none one (subst (λ (t : List Turn). Contains t one) none there))
-      | inr found ↦ subst (λ (t : Turn). IsValidTurn main answers t) (sym found.2) (pruned, found.1)
+      | inr found ↦ subst (λ (t : Turn). TakesTurn run t.vertex t.depth) (sym found.2) (pruned, found.1)
     ];
   }
 
   -- if it is unpruned
-  first_deeps : is_pruned_by main.go ≡ false → AddsAll old new (without_excluded main main.requirements) Deep → AreFirstTurns main new
+  first_deeps : is_pruned_by run.main.go ≡ false → AddsAll old new (without_excluded run.main run.main.requirements) Deep → AreFirstTurns run new
   first_deeps unpruned adds = record {
     tops = λ p. absurd (false≢true (sym unpruned ∙ p));
     deeps = λ _ x t. adds.each x t;
-    sound = λ answers one h. elim (adds.only one h) [
+    valid = λ one h. elim (adds.only one h) [
       | inl there ↦ absurd (not_in_none one (subst (λ (t : List Turn). Contains t one) none there))
-      | inr found ↦ subst (λ (t : Turn). IsValidTurn main answers t) (sym found.2) (from_main unpruned found.1)
+      | inr found ↦ subst (λ (t : Turn). TakesTurn run t.vertex t.depth) (sym found.2) (from_main unpruned found.1)
     ];
   }
 
-  first_by : (pruned : Bool) → is_pruned_by main.go ≡ pruned → AddsAll old new (without_excluded main main.requirements) (depth_by pruned) → AreFirstTurns main new
+  first_by : (pruned : Bool) → is_pruned_by run.main.go ≡ pruned → AddsAll old new (without_excluded run.main run.main.requirements) (depth_by pruned) → AreFirstTurns run new
   first_by true is adds = first_tops is adds
   first_by false is adds = first_deeps is adds
 
-  pub first_turns_are : AddsAll old new (without_excluded main main.requirements) (depth_by (is_pruned_by main.go)) → AreFirstTurns main new
-  first_turns_are adds = first_by (is_pruned_by main.go) refl adds
+  pub first_turns_are : AddsAll old new (without_excluded run.main run.main.requirements) (depth_by (is_pruned_by run.main.go)) → AreFirstTurns run new
+  first_turns_are adds = first_by (is_pruned_by run.main.go) refl adds

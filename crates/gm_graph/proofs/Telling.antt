@@ -1,5 +1,6 @@
--- The readings of the answers so far, and of one more answer.
-use Rattle.std.proofs.Common.{◌≡◌, ◌∙◌, Bool, true, false, cond, List, [], ◌∷◌, ◌++◌, Option, Some, None, Result, sym, ap, subst, refl}
+-- A cache that keeps one more file knows one more answer.
+use Rattle.std.proofs.Common.{◌≡◌, ◌∙◌, ◌↔◌, Bool, true, false, cond, List, [], ◌∷◌, ◌++◌, Option, Some, None, Result, sym, ap, subst, refl}
+use Rattle.std.proofs.lemmas.Option.{same_Some}
 use Rattle.std.specs.Option.{option_map}
 use Rattle.gm_name.specs.ModuleVersion.{ModuleVersion}
 use Rattle.gm_file.specs.Fields.{Dependency}
@@ -11,24 +12,40 @@ use Rattle.gm_graph.specs.declared.cache.class.Class.{Class}
 use Rattle.gm_graph.specs.declared.cache.summary.Kept.{Kept}
 use Rattle.gm_graph.specs.declared.cache.Cache.{Cache}
 use Rattle.gm_file.specs.Main.{Main, main_of}
-use Rattle.gm_graph.specs.Reading.{Held, IsFileReading, IsTold, KeepsHeld, Tells}
+use Rattle.gm_graph.specs.Reading.{IsFileReading}
 use Rattle.gm_graph.specs.FileTable.{PutsFile, kept_at}
-use Rattle.gm_graph.proofs.Keeping.{keeps_same, knows_still, main_same, sound_still}
+use Rattle.gm_graph.proofs.Keeping.{knows_still, main_same, same_run, says_later, sound_still}
+use Rattle.gm_graph.proofs.OneReading.{one_reading}
 use Rattle.gm_graph.specs.Summaries.{IsKept, summary_reading}
-use Rattle.gm_graph.specs.Cached.{HoldsSame, KeepsSound, Knows, LentSame, held_of, main_in, modules_in, summary_at, sums_in}
+use Rattle.gm_graph.specs.Cached.{AnswerSays, HoldsSame, KeepsSound, Knows, LentSame, held_of, main_in, modules_in, run_in, summary_at, sums_in}
+use Rattle.gm_graph.specs.Run.{IsRead, Run}
 
--- If no reading is held, the name was not answered.
-none_told : (sums : Option Sums) (name : Name) (a : Option Reply) (h : Option (Result Dependency Class)) → IsTold sums name a h → h ≡ None → a ≡ None
-none_told sums name None h told e = refl
-none_told sums name (Some reply) None told e = absurd told
-none_told sums name (Some reply) (Some reading) told e = absurd cc
+-- What is held of one name is what the answer to it says.
+record IsAnswerOf (sums : Option Sums) (name : Name) (answer : Option Reply) (held : Option (Result Dependency Class)) : Type 0 where
+  read : (reply : Reply) → answer ≡ Some reply → (said : Result Dependency Class) × IsFileReading sums name reply said
+  kept : (said : Result Dependency Class)
+      → (held ≡ Some said) ↔ ((reply : Reply) × (answer ≡ Some reply) × IsFileReading sums name reply said)
+
+known_of : (cache : Cache) (pairs : List (Name × Reply)) → Knows cache pairs → (name : Name)
+    → IsAnswerOf (sums_in cache) name (answer_in pairs name) (held_of cache name)
+known_of cache pairs knows name = record { read = knows.read name; kept = knows.kept name }
+
+-- If nothing is held, the name was not answered.
+none_told : (sums : Option Sums) (name : Name) (answer : Option Reply) (held : Option (Result Dependency Class))
+    → IsAnswerOf sums name answer held → held ≡ None → answer ≡ None
+none_told sums name None held is e = refl
+none_told sums name (Some reply) held is e =
+    let (said, reads) = is.read reply refl in
+    let there : held ≡ Some said = (is.kept said).1 (reply, refl, reads) in
+    absurd (cc (sym e ∙ there))
 
 said_none : (modules : List ModuleVersion) (o : Option Kept) → o ≡ None → option_map (summary_reading modules) o ≡ None
 said_none modules o e = ap (option_map (summary_reading modules)) e
 
 -- A name without an entry was not asked for.
 pub not_asked : (cache : Cache) (pairs : List (Name × Reply)) (name : Name) → Knows cache pairs → summary_at cache name ≡ None → answer_in pairs name ≡ None
-not_asked cache pairs name knows e = none_told (sums_in cache) name (answer_in pairs name) (held_of cache name) (knows.tells name) (said_none (listed cache.modules) (summary_at cache name) e)
+not_asked cache pairs name knows e = none_told (sums_in cache) name (answer_in pairs name) (held_of cache name) (known_of cache pairs knows name)
+    (said_none (listed cache.modules) (summary_at cache name) e)
 
 -- ---- one more answer
 
@@ -44,27 +61,32 @@ answer_elsewhere : (pairs : List (Name × Reply)) (name other : Name) (reply : R
 answer_elsewhere [] name other reply e = ap (λ (b : Bool). cond b (Some reply) None) e
 answer_elsewhere (pair ∷ pairs) name other reply e = ap (λ (o : Option Reply). cond (same_name other pair.0) (Some pair.1) o) (answer_elsewhere pairs name other reply e)
 
-told_along : (sums : Option Sums) (name : Name) (a b : Option Reply) (h k : Option (Result Dependency Class)) → a ≡ b → h ≡ k → IsTold sums name b k → IsTold sums name a h
-told_along sums name a b h k e f told = subst (λ (x : Option Reply). IsTold sums name x h) (sym e) (subst (λ (y : Option (Result Dependency Class)). IsTold sums name b y) (sym f) told)
+one_answer : (sums : Option Sums) (name : Name) (reply : Reply) (reading : Result Dependency Class) → IsFileReading sums name reply reading
+    → IsAnswerOf sums name (Some reply) (Some reading)
+one_answer sums name reply reading reads = record {
+  read = λ other e. (reading, subst (λ (r : Reply). IsFileReading sums name r reading) (same_Some reply other e) reads);
+  kept = λ said. (
+    (λ e. (reply, refl, subst (λ (r : Result Dependency Class). IsFileReading sums name reply r) (same_Some reading said e) reads)),
+    (λ says. ap Some (one_reading sums name reply reading said reads
+        (subst (λ (r : Reply). IsFileReading sums name r said) (sym (same_Some reply says.0 says.1)) says.2))),
+  );
+}
+
+answer_along : (sums : Option Sums) (name : Name) (a b : Option Reply) (h k : Option (Result Dependency Class)) → a ≡ b → h ≡ k → IsAnswerOf sums name b k → IsAnswerOf sums name a h
+answer_along sums name a b h k e f is = subst (λ (x : Option Reply). IsAnswerOf sums name x h) (sym e) (subst (λ (y : Option (Result Dependency Class)). IsAnswerOf sums name b y) (sym f) is)
 
 -- what is held with one more reading, at one name
-told_with : (b : Bool) (sums : Option Sums) (pairs : List (Name × Reply)) (old new : Held) (name : Name) (reply : Reply) (reading : Result Dependency Class) (other : Name)
-    → (b ≡ same_name other name) → Tells sums pairs old → answer_in pairs name ≡ None → IsFileReading sums name reply reading → new other ≡ cond b (Some reading) (old other)
-    → IsTold sums other (answer_in (pairs ++ (name, reply) ∷ []) other) (new other)
-told_with true sums pairs old new name reply reading other is tells fresh reads e =
+answer_with : (b : Bool) (old : Cache) (pairs : List (Name × Reply)) (held : Option (Result Dependency Class)) (name : Name) (reply : Reply) (reading : Result Dependency Class) (other : Name)
+    → (b ≡ same_name other name) → Knows old pairs → answer_in pairs name ≡ None → IsFileReading (sums_in old) name reply reading
+    → held ≡ cond b (Some reading) (held_of old other) → IsAnswerOf (sums_in old) other (answer_in (pairs ++ (name, reply) ∷ []) other) held
+answer_with true old pairs held name reply reading other is knows fresh reads e =
     let same : name ≡ other = sym (names_equal other name (sym is)) in
-    told_along sums other (answer_in (pairs ++ (name, reply) ∷ []) other) (Some reply) (new other) (Some reading)
+    answer_along (sums_in old) other (answer_in (pairs ++ (name, reply) ∷ []) other) (Some reply) held (Some reading)
     (subst (λ (n : Name). answer_in (pairs ++ (name, reply) ∷ []) n ≡ Some reply) same (answer_there pairs name reply fresh)) e
-    (subst (λ (n : Name). IsFileReading sums n reply reading) same reads)
-told_with false sums pairs old new name reply reading other is tells fresh reads e =
-    told_along sums other (answer_in (pairs ++ (name, reply) ∷ []) other) (answer_in pairs other) (new other) (old other)
-    (answer_elsewhere pairs name other reply (sym is)) e (tells other)
-
--- With the reading of one more reply added, what is held has the readings of all pairs.
-pub tells_more : (sums : Option Sums) (pairs : List (Name × Reply)) (old new : Held) (name : Name) (reply : Reply) (reading : Result Dependency Class)
-    → Tells sums pairs old → answer_in pairs name ≡ None → IsFileReading sums name reply reading → ((other : Name) → new other ≡ cond (same_name other name) (Some reading) (old other))
-    → Tells sums (pairs ++ (name, reply) ∷ []) new
-tells_more sums pairs old new name reply reading tells fresh reads e other = told_with (same_name other name) sums pairs old new name reply reading other refl tells fresh reads (e other)
+    (one_answer (sums_in old) other reply reading (subst (λ (n : Name). IsFileReading (sums_in old) n reply reading) same reads))
+answer_with false old pairs held name reply reading other is knows fresh reads e =
+    answer_along (sums_in old) other (answer_in (pairs ++ (name, reply) ∷ []) other) (answer_in pairs other) held (held_of old other)
+    (answer_elsewhere pairs name other reply (sym is)) e (known_of old pairs knows other)
 
 map_cond : {A B : Type 0} (f : A → B) (b : Bool) (v : A) (r : Option A) → option_map f (cond b (Some v) r) ≡ cond b (Some (f v)) (option_map f r)
 map_cond f true v r = refl
@@ -89,14 +111,23 @@ pub knows_more : (old new : Cache) (pairs : List (Name × Reply)) (name : Name) 
     → Knows old pairs → answer_in pairs name ≡ None → new.main.now ≡ old.main.now → sums_in new ≡ sums_in old → new.modules ≡ old.modules
     → PutsFile (modules_in old) old.files new.files name one → IsFileReading (sums_in old) name reply (summary_reading (listed old.modules) one) → IsKept (main_in old) (listed old.modules) one
     → Knows new (pairs ++ (name, reply) ∷ [])
-knows_more old new pairs name reply one knows none same_main same_sums modules keeps reads is = record {
-  tells = subst (λ (s : Option Sums). Tells s (pairs ++ (name, reply) ∷ []) (held_of new)) (sym same_sums)
-      (tells_more (sums_in old) pairs (held_of old) (held_of new) name reply (summary_reading (listed old.modules) one) knows.tells none reads (held_with old new name one modules keeps));
-  lends = λ other some e. subst (λ (m : Main). IsKept m (listed new.modules) some) (ap main_of (sym same_main))
-      (subst (λ (list : NumberedList). IsKept (main_in old) (listed list) some) (sym modules)
-      (kept_with (same_name other name) (main_in old) (listed old.modules) (summary_at old other) one some (λ any f. knows.lends other any f) is
-      (sym (ap (λ (list : NumberedList). kept_at list.modules new.files other) modules ∙ keeps other) ∙ e)));
-}
+knows_more old new pairs name reply one knows none same_main same_sums modules keeps reads is =
+    let all : List (Name × Reply) = pairs ++ (name, reply) ∷ [] in
+    let run : run_in new all ≡ run_in old all = same_run old new all same_main same_sums in
+    let answers : (other : Name) → IsAnswerOf (sums_in old) other (answer_in all other) (held_of new other) =
+    λ other. answer_with (same_name other name) old pairs (held_of new other) name reply (summary_reading (listed old.modules) one) other refl knows none reads
+    (held_with old new name one modules keeps other) in
+    record {
+      read = subst (λ (r : Run). IsRead r) (sym run) (λ other. (answers other).read);
+      kept = λ other said. (
+        (λ e. subst (λ (r : Run). AnswerSays r other said) (sym run) (((answers other).kept said).0 e)),
+        (λ says. ((answers other).kept said).1 (subst (λ (r : Run). AnswerSays r other said) run says)),
+      );
+      lends = λ other some e. subst (λ (m : Main). IsKept m (listed new.modules) some) (ap main_of (sym same_main))
+          (subst (λ (list : NumberedList). IsKept (main_in old) (listed list) some) (sym modules)
+          (kept_with (same_name other name) (main_in old) (listed old.modules) (summary_at old other) one some (λ any f. knows.lends other any f) is
+          (sym (ap (λ (list : NumberedList). kept_at list.modules new.files other) modules ∙ keeps other) ∙ e)));
+    }
 
 -- A cache that adds what was read of one more file knows all answers.
 pub knows_read : (old mid new : Cache) (pairs all : List (Name × Reply)) (name : Name) (reply : Reply) (one : Kept)
@@ -112,14 +143,6 @@ stays : {R : Type 0} (b : Bool) (v r : R) (old new : Option R) → new ≡ cond 
 stays true v r old new is none e = let never = sym (none refl) ∙ e in absurd (cc never)
 stays false v r old new is none e = is ∙ e
 
--- What is held stays when what was read of one more file is added.
-keeps_more : (old new : Cache) (name : Name) (one : Kept) → new.modules ≡ old.modules → summary_at old name ≡ None
-    → PutsFile (modules_in old) old.files new.files name one → KeepsHeld (held_of old) (held_of new)
-keeps_more old new name one modules none adds other reading e =
-    stays (same_name other name) (summary_reading (listed old.modules) one) reading (held_of old other) (held_of new other)
-    (held_with old new name one modules adds other)
-    (λ is. ap (held_of old) (names_equal other name is) ∙ said_none (listed old.modules) (summary_at old name) none) e
-
 none_kept : (modules : List ModuleVersion) (o : Option Kept) → option_map (summary_reading modules) o ≡ None → o ≡ None
 none_kept modules None e = refl
 none_kept modules (Some one) e = absurd cc
@@ -129,19 +152,17 @@ none_still : (old mid : Cache) (name : Name) → HoldsSame old mid → summary_a
 none_still old mid name same none =
     none_kept (listed mid.modules) (summary_at mid name) (same.held name ∙ said_none (listed old.modules) (summary_at old name) none)
 
-pub keeps_read : (old mid new : Cache) (name : Name) (one : Kept) → HoldsSame old mid → new.modules ≡ mid.modules → summary_at old name ≡ None
-    → PutsFile (modules_in mid) mid.files new.files name one → KeepsHeld (held_of old) (held_of new)
-keeps_read old mid new name one same modules none adds other reading e =
-    keeps_more mid new name one modules (none_still old mid name same none) adds other reading (keeps_same old mid same other reading e)
-
--- So does what was found at a place, if the files begin with those that were kept.
-pub sound_read : (old mid new : Cache) (name : Name) (one : Kept) → HoldsSame old mid → LentSame mid new → new.modules ≡ mid.modules
-    → summary_at old name ≡ None → PutsFile (modules_in mid) mid.files new.files name one
-    → BeginsWith mid.files.files.items new.files.files.items → KeepsSound old new
-sound_read old mid new name one same lent modules none adds files x place sound =
+-- What was found at a place is found there still after what was read of one more file was added, if the files begin with
+-- those that were kept.
+pub sound_read : (old mid new : Cache) (pairs all : List (Name × Reply)) (name : Name) (reply : Reply) (one : Kept) → HoldsSame old mid
+    → LentSame mid new → new.modules ≡ mid.modules → summary_at old name ≡ None → PutsFile (modules_in mid) mid.files new.files name one
+    → BeginsWith mid.files.files.items new.files.files.items → all ≡ pairs ++ (name, reply) ∷ []
+    → KeepsSound old (run_in old pairs) new (run_in new all)
+sound_read old mid new pairs all name reply one same lent modules none adds files asked x place sound =
     let none_more : summary_at mid name ≡ None = none_still old mid name same none in
-    sound_still mid new lent.main files
+    sound_still mid new (run_in old pairs) (run_in new all) lent.main files
     (λ other some e. ap (λ (list : NumberedList). kept_at list.modules new.files other) modules
     ∙ stays (same_name other name) one some (summary_at mid other) (kept_at (modules_in mid) new.files other) (adds other)
     (λ is. ap (summary_at mid) (names_equal other name is) ∙ none_more) e)
-    (keeps_more mid new name one modules none_more adds) x place (same.sound x place sound)
+    (says_later old new pairs ((name, reply) ∷ []) all (lent.main ∙ same.main) (lent.sums ∙ same.sums) asked) x place
+    (same.sound (run_in old pairs) x place sound)

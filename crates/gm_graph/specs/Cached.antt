@@ -1,5 +1,5 @@
 -- What a cache holds, what it finds of a vertex, and which requirements it returns.
-use Rattle.std.specs.Prelude.{◌≡◌, ◌<◌, ℕ, true, false, List, [], ◌∷◌, ◌++◌, Option, Some, None, MatchResult, Result, Ok, Err, length, slice_get}
+use Rattle.std.specs.Prelude.{◌≡◌, ◌↔◌, ◌<◌, ℕ, true, false, List, [], ◌∷◌, ◌++◌, Option, Some, None, MatchResult, Result, Ok, Err, length, slice_get}
 use Rattle.std.specs.Option.{option_copied, option_map}
 use Rattle.std.specs.Borrow.{Fml, MutBor}
 use Rattle.std.specs.Io.BufRead.{Rests}
@@ -14,10 +14,11 @@ use Rattle.gm_graph.specs.declared.cache.class.Class.{Class}
 use Rattle.gm_graph.specs.declared.cache.depth.Turn.{Turn}
 use Rattle.gm_graph.specs.declared.cache.summary.Kept.{Kept}
 use Rattle.gm_graph.specs.declared.cache.Cache.{Cache}
-use Rattle.gm_file.specs.Main.{Main, main_of}
+use Rattle.gm_file.specs.Main.{Main, main_of, without_excluded}
 use Rattle.gm_graph.specs.FileTable.{kept_at}
 use Rattle.gm_graph.specs.Summaries.{IsKept, summary_reading}
-use Rattle.gm_graph.specs.Reading.{Held, Tells, readings_by, file_of, is_askable}
+use Rattle.gm_graph.specs.Reading.{IsFileReading, file_of, is_askable}
+use Rattle.gm_graph.specs.Run.{IsRead, Run, Says, run_of}
 use mir.Syntax.{named}
 use Rattle.gm_graph.specs.contracts.cache.Cache.{the_row}
 
@@ -52,28 +53,38 @@ file_count cache = length cache.files.files.items
 abbrev pub kept_file : Cache → ℕ → Option Kept
 kept_file cache place = slice_get cache.files.files.items place
 
--- what a cache holds of the file of each name
-abbrev pub held_of : Cache → Held
+-- what is held of the file of a name: its contents or its fault
+abbrev pub held_of : Cache → Name → Option (Result Dependency Class)
 held_of cache name = option_map (summary_reading (listed cache.modules)) (summary_at cache name)
+
+-- The run of a cache whose store gave these answers.
+abbrev pub run_in : Cache → List (Name × Reply) → Run
+run_in cache pairs = run_of (main_in cache) (sums_in cache) pairs
 
 -- Each summary has the requirements of its file, without the excluded ones, and the list of modules has both.
 abbrev pub LendsKept : Cache → Type 0
 LendsKept cache = (name : Name) (one : Kept) → summary_at cache name ≡ Some one
     → IsKept (main_in cache) (listed cache.modules) one
 
--- The cache holds what these replies say, and nothing else.
+-- The answer to a name says this.
+abbrev pub AnswerSays : Run → Name → Result Dependency Class → Type 0
+AnswerSays run name said = (reply : Reply) × (run.answers name ≡ Some reply) × IsFileReading run.sums name reply said
+
+-- The cache holds what these answers say, and nothing else.
 pub record Knows (cache : Cache) (pairs : List (Name × Reply)) : Type 0 where
-  pub tells : Tells (sums_in cache) pairs (held_of cache)
+  pub read : IsRead (run_in cache pairs)
+  pub kept : (name : Name) (said : Result Dependency Class)
+      → (held_of cache name ≡ Some said) ↔ AnswerSays (run_in cache pairs) name said
   pub lends : LendsKept cache
 
 -- ---- what is found of a vertex
 
--- The vertex has no fault, and what is kept at this place is what was read of its file.
-pub record IsSound (cache : Cache) (x : ModuleVersion) (place : ℕ) : Type 0 where
+-- By this run the vertex has no fault, and what is kept at this place is what was read of its file.
+pub record IsSound (cache : Cache) (run : Run) (x : ModuleVersion) (place : ℕ) : Type 0 where
   pub within : place < file_count cache
   pub kept : kept_file cache place ≡ summary_at cache (file_of (main_in cache) x)
   pub file : Dependency
-  pub reading : readings_by (main_in cache) (held_of cache) x ≡ Some (Ok file)
+  pub says : Says run x (Ok file)
 
 -- The vertex's file may be asked for, and what is kept at this place is what was read of it.
 pub record HasFileAt (cache : Cache) (x : ModuleVersion) (place : ℕ) : Type 0 where
@@ -87,29 +98,43 @@ IsPlaceFor cache x None = is_askable (file_of (main_in cache) x) ≡ false
 IsPlaceFor cache x (Some place) = HasFileAt cache x place
 
 -- The place at which a vertex's requirements are found: none if the vertex has a fault, otherwise that of its file.
-abbrev pub IsLender : Cache → ModuleVersion → Option ℕ → Type 0
-IsLender cache x None = (class : Class) × (readings_by (main_in cache) (held_of cache) x ≡ Some (Err class))
-IsLender cache x (Some place) = IsSound cache x place
+abbrev pub IsLender : Cache → Run → ModuleVersion → Option ℕ → Type 0
+IsLender cache run x None = (class : Class) × Says run x (Err class)
+IsLender cache run x (Some place) = IsSound cache run x place
 
 -- The vertex has no fault, and its file has this name.
-pub record HasSoundFile (main : Main) (held : Held) (x : ModuleVersion) (name : Name) : Type 0 where
-  pub name_is : name ≡ file_of main x
+pub record HasSoundFile (run : Run) (x : ModuleVersion) (name : Name) : Type 0 where
+  pub name_is : name ≡ file_of run.main x
   pub file : Dependency
-  pub reading : readings_by main held x ≡ Some (Ok file)
+  pub says : Says run x (Ok file)
 
 -- What is known of a vertex: its fault, or the name of its file if it has none.
-abbrev pub IsKnownAs : Main → Held → ModuleVersion → Known → Type 0
-IsKnownAs main held x (known.Fault class) = readings_by main held x ≡ Some (Err class)
-IsKnownAs main held x (known.Sound name) = HasSoundFile main held x (name_of name)
+abbrev pub IsKnownAs : Run → ModuleVersion → Known → Type 0
+IsKnownAs run x (known.Fault class) = Says run x (Err class)
+IsKnownAs run x (known.Sound name) = HasSoundFile run x (name_of name)
 
 -- The name of the file that has a vertex's requirements: none if the vertex has a fault.
-abbrev pub IsLenderNamed : Main → Held → ModuleVersion → Option Name → Type 0
-IsLenderNamed main held x None = (class : Class) × (readings_by main held x ≡ Some (Err class))
-IsLenderNamed main held x (Some name) = HasSoundFile main held x name
+abbrev pub IsLenderNamed : Run → ModuleVersion → Option Name → Type 0
+IsLenderNamed run x None = (class : Class) × Says run x (Err class)
+IsLenderNamed run x (Some name) = HasSoundFile run x name
+
+-- By answers that the cache knows, this is the name of the file that has a vertex's requirements: none if the vertex has
+-- a fault.
+pub record KnowsLender (cache : Cache) (x : ModuleVersion) (name : Option Name) : Type 0 where
+  pub pairs : List (Name × Reply)
+  pub knows : Knows cache pairs
+  pub named : IsLenderNamed (run_in cache pairs) x name
+
+-- The requirements of a vertex, without the excluded ones: none if it has a fault.
+pub data AreRequirements (run : Run) (x : ModuleVersion) : List ModuleVersion → Type 0 where
+  no_requirements : {class : Class} → Says run x (Err class) → AreRequirements run x []
+  its_requirements : {file : Dependency} → Says run x (Ok file)
+      → AreRequirements run x (without_excluded run.main file.requirements)
 
 -- Each file is at the place at which it was.
-abbrev pub KeepsSound : Cache → Cache → Type 0
-KeepsSound old new = (x : ModuleVersion) (place : ℕ) → IsSound old x place → IsSound new x place
+abbrev pub KeepsSound : Cache → Run → Cache → Run → Type 0
+KeepsSound old earlier new later = (x : ModuleVersion) (place : ℕ) → IsSound old earlier x place
+    → IsSound new later x place
 
 -- ---- what changes
 
@@ -121,7 +146,7 @@ pub record HoldsSame (old new : Cache) : Type 0 where
   pub held : (name : Name) → held_of new name ≡ held_of old name
   pub lends : LendsKept old → LendsKept new
   pub numbered : BeginsWith (modules_in old) (modules_in new)
-  pub sound : KeepsSound old new
+  pub sound : (run : Run) → KeepsSound old run new run
 
 -- the same main file, go.sum and list of turns
 pub record LentSame (old new : Cache) : Type 0 where

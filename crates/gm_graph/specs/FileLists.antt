@@ -2,12 +2,12 @@
 use Rattle.std.specs.Prelude.{◌≡◌, ◌⊎◌, ℕ, List, Option, Some}
 use Rattle.gm_name.specs.ModuleVersion.{ModuleVersion}
 use Rattle.gm_name_table.specs.Listed.{AreModuleNumbers, modules_at}
+use Rattle.gm_file.specs.Main.{without_excluded}
 use Rattle.gm_graph.specs.declared.cache.Cache.{Cache}
-use Rattle.gm_graph.specs.Cached.{IsSound, main_in, modules_in}
-use Rattle.gm_graph.specs.Reading.{vertex_requirements}
 use Rattle.gm_graph.specs.declared.edge_lists.EdgeLists.{EdgeLists}
+use Rattle.gm_graph.specs.Cached.{IsSound, modules_in}
 use Rattle.gm_graph.specs.EdgeLists.{numbers_of}
-use Rattle.gm_graph.specs.Visiting.{readings_in}
+use Rattle.gm_graph.specs.Run.{Run}
 
 -- These are the numbers of these modules.
 pub record AreNumbersOf (modules : List ModuleVersion) (numbers : List ℕ) (xs : List ModuleVersion) : Type 0 where
@@ -25,13 +25,12 @@ AddsFileList old new file modules xs = (f : ℕ) (held : List ℕ) → numbers_o
     → (numbers_of old f ≡ Some held) ⊎ ((file ≡ Some f) × AreNumbersOf modules held xs)
 
 -- These are the numbers of what the file at a place requires: a vertex has that file.
-pub record AreOfFile (cache : Cache) (file : ℕ) (numbers : List ℕ) : Type 0 where
+pub record AreOfFile (cache : Cache) (run : Run) (file : ℕ) (numbers : List ℕ) : Type 0 where
   pub vertex : ModuleVersion
-  pub sound : IsSound cache vertex file
-  pub numbers_are : AreNumbersOf (modules_in cache) numbers
-      (vertex_requirements (main_in cache) (readings_in cache) vertex)
+  pub sound : IsSound cache run vertex file
+  pub numbers_are : AreNumbersOf (modules_in cache) numbers (without_excluded run.main sound.file.requirements)
 
 -- The list of each file that was added has the numbers of what the file requires.
-abbrev pub HaveFiles : Cache → EdgeLists → Type 0
-HaveFiles cache edges = (file : ℕ) (numbers : List ℕ) → numbers_of edges file ≡ Some numbers
-    → AreOfFile cache file numbers
+abbrev pub HaveFiles : Cache → Run → EdgeLists → Type 0
+HaveFiles cache run edges = (file : ℕ) (numbers : List ℕ) → numbers_of edges file ≡ Some numbers
+    → AreOfFile cache run file numbers

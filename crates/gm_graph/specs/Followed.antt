@@ -4,11 +4,10 @@ use Rattle.gm_name.specs.ModuleVersion.{ModuleVersion}
 use Rattle.gm_graph.specs.declared.cache.Cache.{Cache}
 use Rattle.gm_graph.specs.declared.cache.depth.Depth.TheVariants.{Deep}
 use Rattle.gm_graph.specs.declared.cache.depth.Turn.{Turn}
-use Rattle.gm_graph.specs.Cached.{IsSound, main_in}
-use Rattle.gm_graph.specs.Reading.{vertex_requirements}
-use Rattle.gm_graph.specs.Turns.{turn}
 use Rattle.gm_graph.specs.declared.followed.Followed.{Followed}
-use Rattle.gm_graph.specs.Visiting.{readings_in}
+use Rattle.gm_graph.specs.Cached.{IsSound}
+use Rattle.gm_graph.specs.Run.{Requires, Run}
+use Rattle.gm_graph.specs.Turns.{turn}
 
 -- Whether the file at a place was followed.
 abbrev pub followed_at : Followed → ℕ → Bool
@@ -24,12 +23,12 @@ FollowsFile old new file turns xs = (f : ℕ) → followed_at new f ≡ true
     → (followed_at old f ≡ true) ⊎ ((file ≡ f) × ((y : ModuleVersion) → Contains xs y → Contains turns (turn y Deep)))
 
 -- What the file at a place requires has turns at full depth: a vertex has that file.
-pub record IsFollowedIn (cache : Cache) (turns : List Turn) (file : ℕ) : Type 0 where
+pub record IsFollowedIn (cache : Cache) (run : Run) (turns : List Turn) (file : ℕ) : Type 0 where
   pub vertex : ModuleVersion
-  pub sound : IsSound cache vertex file
-  pub each : (y : ModuleVersion) → Contains (vertex_requirements (main_in cache) (readings_in cache) vertex) y
-      → Contains turns (turn y Deep)
+  pub sound : IsSound cache run vertex file
+  pub each : (y : ModuleVersion) → Requires run vertex y → Contains turns (turn y Deep)
 
 -- The files were followed.
-abbrev pub AreFollowedIn : Cache → List Turn → Followed → Type 0
-AreFollowedIn cache turns followed = (file : ℕ) → followed_at followed file ≡ true → IsFollowedIn cache turns file
+abbrev pub AreFollowedIn : Cache → Run → List Turn → Followed → Type 0
+AreFollowedIn cache run turns followed = (file : ℕ) → followed_at followed file ≡ true
+    → IsFollowedIn cache run turns file

@@ -1,11 +1,11 @@
-pub mod Graph
 pub mod Turns
 pub mod Marks
 pub mod WorklistFaults
-pub mod Loading
+pub mod VisitedTurns
 pub mod Building
 pub mod Builder
 pub mod EdgeLists
+pub mod CacheVisits
 pub mod Visiting
 pub mod FileLists
 pub mod Followed

@@ -1,6 +1,5 @@
--- What the answers of a store mean for a vertex: its fault, or what its file says.
-use Rattle.std.specs.Prelude.{◌≡◌, ◌||◌, ℕ, Bool, true, false, not, if◌then◌else◌, List, [], Option, Some, None, Result, Ok, Err, ⊤}
-use Rattle.std.specs.Option.{option_map}
+-- What a store's answer to a name says, and which file a vertex has.
+use Rattle.std.specs.Prelude.{◌≡◌, ◌||◌, ℕ, Bool, true, false, not, List, Option, Some, None, Result, Ok, Err}
 use Rattle.std.specs.Str.{bytes_eq}
 use Rattle.gm_name.specs.Path.{is_fetchable}
 use Rattle.gm_name.specs.ModuleVersion.{ModuleVersion}
@@ -8,15 +7,17 @@ use Rattle.gm_file.specs.Directives.{Lax, Right, Folder, Module, VersionInterval
 use Rattle.gm_file.specs.DepLines.{AreRetractedIn, IsDependencyIn}
 use Rattle.gm_file.specs.Fields.{Dependency}
 use Rattle.gm_file.specs.Misreading.{IsMisread}
-use Rattle.gm_store.specs.Asked.{Name, Reply, mod_file, folder_file, list_file, bytes, absent, too_long, answer_in}
+use Rattle.gm_store.specs.Asked.{Name, Reply, mod_file, folder_file, list_file, bytes, absent, too_long}
 use Rattle.gm_store_sums.specs.Sums.{Sums, check_in}
 use Rattle.gm_store_sums.specs.Hash.{file_hash}
 use Rattle.gm_store_sums.specs.declared.sum_table.Sum.{Sum}
 use Rattle.gm_store_sums.specs.declared.sum_table.Sum.TheVariants.{Good, Unlisted, Differs}
 use Rattle.gm_graph.specs.declared.cache.class.Class.{Class}
-use Rattle.gm_graph.specs.declared.cache.class.Class.TheVariants.{NotFetchable, Missing, TooLong, NoSum, SumDiffers, Malformed, WrongPath}
+use Rattle.gm_graph.specs.declared.cache.class.Class.TheVariants.{Missing, TooLong, NoSum, SumDiffers, Malformed}
 use Rattle.gm_file.specs.declared.misreading.Misreading.TheVariants as misreading
-use Rattle.gm_file.specs.Main.{Main, without_excluded, is_pruned_by, replacement_in}
+use Rattle.gm_graph.specs.declared.cache.depth.Depth.{Depth}
+use Rattle.gm_graph.specs.declared.cache.depth.Depth.TheVariants.{Top, Deep}
+use Rattle.gm_file.specs.Main.{Main, is_pruned_by, replacement_in}
 
 -- ---- which file is read
 
@@ -73,32 +74,12 @@ abbrev pub AreRetractedBy : Reply → List VersionInterval → Type 0
 AreRetractedBy (bytes content) intervals = AreRetractedIn content intervals
 AreRetractedBy _ intervals = ⊥
 
--- ---- what the files say that were asked for
+-- Whether a visit to this depth also opens what the file requires.
+abbrev pub leads_on : Dependency → Depth → Bool
+leads_on file Top = not (is_pruned_by file.go)
+leads_on file Deep = true
 
--- What the file of each name says or what is wrong with it, if that is known.
-abbrev pub Held : Type 0
-Held = Name → Option (Result Dependency Class)
-
-abbrev pub IsTold : Option Sums → Name → Option Reply → Option (Result Dependency Class) → Type 0
-IsTold sums name None None = ⊤
-IsTold sums name (Some reply) (Some reading) = IsFileReading sums name reply reading
-IsTold sums name _ _ = ⊥
-
--- What is held of the file of each name is what the reply to it says, checked against the go.sum if there is one.
--- Nothing is held if there is no reply.
-abbrev pub HeldByAnswers : Option Sums → (Name → Option Reply) → Held → Type 0
-HeldByAnswers sums answers held = (name : Name) → IsTold sums name (answers name) (held name)
-
--- What is held is what the replies to the requested names say, and nothing about any other name.
-abbrev pub Tells : Option Sums → List (Name × Reply) → Held → Type 0
-Tells sums pairs held = HeldByAnswers sums (answer_in pairs) held
-
--- What is held stays.
-abbrev pub KeepsHeld : Held → Held → Type 0
-KeepsHeld old new = (name : Name) (reading : Result Dependency Class) → old name ≡ Some reading
-    → new name ≡ Some reading
-
--- ---- what that means for a vertex
+-- ---- whether it declares the path of a vertex
 
 abbrev pub declares : List ℕ → Option (List ℕ) → Bool
 declares path None = false
@@ -110,52 +91,3 @@ abbrev pub is_right_path : ModuleVersion → Option Right → Option (List ℕ) 
 is_right_path x None declared = declares x.0 declared
 is_right_path x (Some (Folder text)) declared = true
 is_right_path x (Some (Module path version)) declared = declares x.0 declared || declares path declared
-
--- the same reading, unless the declared path is wrong
-abbrev pub with_right_path : ModuleVersion → Option Right → Result Dependency Class → Result Dependency Class
-with_right_path x right (Err class) = Err class
-with_right_path x right (Ok file) = if is_right_path x right file.declared then Ok file else Err WrongPath
-
--- For each vertex, what its file says or its fault, if that is known.
-abbrev pub Readings : Type 0
-Readings = ModuleVersion → Option (Result Dependency Class)
-
--- the readings of vertices, by what is held of the files
-abbrev pub readings_by : Main → Held → Readings
-readings_by main held x = if is_askable (file_of main x)
-    then option_map (with_right_path x (replacement_in main x)) (held (file_of main x))
-    else Some (Err NotFetchable)
-
--- ---- fault, requirements, pruning
-
-abbrev pub fault_in : Option (Result Dependency Class) → Option Class
-fault_in (Some (Err class)) = Some class
-fault_in _ = None
-
-abbrev pub said_in : Option (Result Dependency Class) → Option Dependency
-said_in (Some (Ok file)) = Some file
-said_in _ = None
-
--- the fault of a vertex
-abbrev pub vertex_fault : Readings → ModuleVersion → Option Class
-vertex_fault readings x = fault_in (readings x)
-
-abbrev pub requirements_in : Main → Option Dependency → List ModuleVersion
-requirements_in main None = []
-requirements_in main (Some file) = without_excluded main file.requirements
-
--- The requirements of a vertex, without the excluded ones: none if it has a fault or is not known.
-abbrev pub vertex_requirements : Main → Readings → ModuleVersion → List ModuleVersion
-vertex_requirements main readings x = requirements_in main (said_in (readings x))
-
-abbrev pub is_unpruned_in : Option Dependency → Bool
-is_unpruned_in None = false
-is_unpruned_in (Some file) = not (is_pruned_by file.go)
-
--- The vertex has no fault, and its file is unpruned.
-abbrev pub is_unpruned : Readings → ModuleVersion → Bool
-is_unpruned readings x = is_unpruned_in (said_in (readings x))
-
--- Each reading stays.
-abbrev pub Keeps : Readings → Readings → Type 0
-Keeps old new = (x : ModuleVersion) (reading : Result Dependency Class) → old x ≡ Some reading → new x ≡ Some reading

@@ -1,5 +1,5 @@
 -- The names on which loading was refused, as its result reports them.
-use Rattle.std.specs.Prelude.{List, [], ◌∷◌, Option, None, Some, Result, Ok, Err}
+use Rattle.std.specs.Prelude.{◌≡◌, List, [], ◌∷◌, Option, None, Some, Result, Ok, Err}
 use Rattle.gm_store.specs.Asked.{Name, name_of}
 use Rattle.gm_store.specs.declared.files.AskFault.{AskFault}
 use Rattle.gm_store.specs.declared.files.AskFault.TheVariants as ask
@@ -17,8 +17,9 @@ abbrev pub refused_in : {T : Type 0} → Result T LoadFault → List Name
 refused_in (Ok value) = []
 refused_in (Err fault) = refused_names fault
 
--- why loading stops after this refusal of a request, if this is the name of the file for which it was made
-abbrev pub load_fault_at : AskFault → Option FileName → LoadFault
-load_fault_at ask.NoMemory failed = NoMemory
-load_fault_at ask.Device None = NoMemory
-load_fault_at ask.Device (Some name) = Device name
+-- Loading stops for this reason after this refusal of a request, if this is the name of the file for which it was made.
+-- A device that failed left the name.
+abbrev pub IsLoadFaultOf : AskFault → Option FileName → LoadFault → Type 0
+IsLoadFaultOf ask.NoMemory failed fault = fault ≡ NoMemory
+IsLoadFaultOf ask.Device None fault = ⊥
+IsLoadFaultOf ask.Device (Some name) fault = fault ≡ Device name

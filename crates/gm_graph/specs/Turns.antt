@@ -1,37 +1,15 @@
 -- The turns of a worklist, which are visited one after another.
-use Rattle.std.specs.Prelude.{◌≡◌, ◌<◌, Bool, true, false, List, [], ◌++◌, length, Contains, ◌⊎◌, Option, IsSome, ◌∷◌, ◌≤◌, ◌&&◌}
+use Rattle.std.specs.Prelude.{◌≡◌, ◌<◌, Bool, true, false, List, ◌++◌, length, Contains, ◌⊎◌, ◌∷◌, [], ◌≤◌, ◌&&◌}
 use Rattle.std.specs.List.{IsDistinct}
 use Rattle.gm_name.specs.ModuleVersion.{ModuleVersion, pair_eq}
-use Rattle.gm_file.specs.Fields.{Dependency}
 use Rattle.gm_graph.specs.declared.cache.depth.Turn.{Turn}
 use Rattle.gm_graph.specs.declared.cache.depth.Depth.{Depth}
 use Rattle.gm_graph.specs.declared.cache.depth.Depth.TheVariants.{Top, Deep}
-use Rattle.gm_file.specs.Main.{Main, is_pruned_by}
-use Rattle.gm_graph.specs.Reading.{Readings, is_unpruned_in, vertex_requirements, said_in}
 use Rattle.gm_name_table.specs.Listed.{BeginsWith}
-use Rattle.gm_graph.specs.Graph.{IsTop, TakesTurn}
 
 -- a vertex and a depth
 abbrev pub turn : ModuleVersion → Depth → Turn
 turn x d = record { vertex = x; depth = d }
-
--- A turn is one that its vertex takes.
-abbrev pub IsValidTurn : Main → Readings → Turn → Type 0
-IsValidTurn main readings turn = TakesTurn main readings turn.vertex turn.depth
-
--- Whether the requirements of a turn are opened.
-abbrev pub leads_on_in : Option Dependency → Depth → Bool
-leads_on_in summary Top = is_unpruned_in summary
-leads_on_in summary Deep = true
-
-abbrev pub leads_on : Readings → ModuleVersion → Depth → Bool
-leads_on readings x = leads_on_in (said_in (readings x))
-
--- What the turn's vertex says is known, and what the turn leads to is among the turns.
-pub record IsDone (main : Main) (readings : Readings) (turns : List Turn) (one : Turn) : Type 0 where
-  pub answered : IsSome (readings one.vertex)
-  pub followed : leads_on readings one.vertex one.depth ≡ true → (y : ModuleVersion)
-      → Contains (vertex_requirements main readings one.vertex) y → Contains turns (turn y Deep)
 
 -- the same turn
 abbrev pub same_depth : Depth → Depth → Bool
@@ -62,24 +40,6 @@ pub record AddsAll (old new : List Turn) (xs : List ModuleVersion) (d : Depth) :
   pub only : (one : Turn) → Contains new one
       → Contains old one ⊎ ((y : ModuleVersion) × Contains xs y × (one ≡ turn y d))
 
--- What a turn leads to was added, and nothing else.
-pub record Visits (main : Main) (readings : Readings) (old new : List Turn) (one : Turn) : Type 0 where
-  pub extends : BeginsWith old new
-  pub done : IsDone main readings new one
-  pub only : (next : Turn) → Contains new next
-      → Contains old next ⊎ ((leads_on readings one.vertex one.depth ≡ true)
-      × ((y : ModuleVersion) × Contains (vertex_requirements main readings one.vertex) y × (next ≡ turn y Deep)))
-
--- Each turn is one that its vertex takes.
-abbrev pub AllValidTurns : Main → Readings → List Turn → Type 0
-AllValidTurns main readings turns = (one : Turn) → Contains turns one → IsValidTurn main readings one
-
--- The turns are exactly those of the main file's requirements.
-pub record AreFirstTurns (main : Main) (turns : List Turn) : Type 0 where
-  pub tops : is_pruned_by main.go ≡ true → (x : ModuleVersion) → IsTop main x → Contains turns (turn x Top)
-  pub deeps : is_pruned_by main.go ≡ false → (x : ModuleVersion) → IsTop main x → Contains turns (turn x Deep)
-  pub sound : (readings : Readings) → AllValidTurns main readings turns
-
 -- the depth of the first turns
 abbrev pub depth_by : Bool → Depth
 depth_by true = Top
@@ -93,8 +53,3 @@ HasTurn turns x = (d : Depth) × Contains turns (turn x d)
 abbrev pub OverflowsWith : List Turn → List ModuleVersion → Type 0
 OverflowsWith turns xs = (all : List ModuleVersion) × (65536 < length all) × IsDistinct pair_eq all
     × ((x : ModuleVersion) → Contains all x → HasTurn turns x ⊎ Contains xs x)
-
--- The vertices with turns, together with what the turn leads to, are too many.
-abbrev pub VisitOverflows : Main → Readings → List Turn → ModuleVersion → Depth → Type 0
-VisitOverflows main readings turns x d = (leads_on readings x d ≡ true)
-    × OverflowsWith turns (vertex_requirements main readings x)

@@ -24,22 +24,23 @@ pub(crate) mod reading;
 pub(crate) mod summary;
 pub(crate) mod visit;
 
-ghost use Rattle.std.specs.Prelude.{◌≡◌, ◌≤◌, ◌<◌, ◌+◌, ◌++◌, ◌∷◌, [], List, IfOk, OnOk, OnErr, None, Some, Err, length, take, true};
+ghost use Rattle.std.specs.Prelude.{◌≡◌, ◌≤◌, ◌<◌, ◌+◌, ◌++◌, ◌∷◌, [], List, IfOk, OnOk, OnErr, IsSome, None, Some, Err, length, take, true};
 ghost use Rattle.std.specs.Option.{option_copied};
 ghost use Rattle.gm_name.specs.ModuleVersion.{ModuleVersion};
 ghost use Rattle.gm_name_table.specs.Listed.{listed};
-ghost use Rattle.gm_store.specs.Asked.{IsWithinLimit, Reply, answer_in, name_of, reply_of};
+ghost use Rattle.gm_store.specs.Asked.{IsWithinLimit, Name, Reply, answer_in, name_of, reply_of};
 ghost use Rattle.gm_store.specs.Requests.{refused_for};
 ghost use Rattle.gm_store.specs.States.{AddsAnswer, HasServed};
 ghost use Rattle.gm_store.specs.declared.files.FileName.{FileName};
+ghost use Rattle.gm_file.specs.Listed.{with_requirements};
 ghost use Rattle.gm_file.specs.Main.{main_of, without_excluded};
 ghost use Rattle.gm_graph.specs.Asking.{AsksAtMost, AsksFor, FailsFor};
-ghost use Rattle.gm_graph.specs.Reading.{IsFileReading, KeepsHeld, file_of, is_askable as may_be_asked, said_in};
-ghost use Rattle.gm_graph.specs.Refusals.{load_fault_at};
+ghost use Rattle.gm_graph.specs.Reading.{IsFileReading, file_of, is_askable as may_be_asked, leads_on};
+ghost use Rattle.gm_graph.specs.Refusals.{IsLoadFaultOf};
 ghost use Rattle.gm_graph.specs.FileTable.{PutsFile, HasReplacing};
 ghost use Rattle.gm_graph.specs.Lent.{lent_modules};
 ghost use Rattle.gm_graph.specs.Summaries.{Grows, IsKept, IsWithinList, at_span, summary_reading};
-ghost use Rattle.gm_graph.specs.Turns.{turn, leads_on_in};
+ghost use Rattle.gm_graph.specs.Turns.{turn};
 
 use crate::cache::class::Class;
 use crate::cache::depth::{Depth, Turn};
@@ -168,10 +169,10 @@ impl<'a> Cache<'a> {
     ghost use Rattle.std.specs.List.{IsDistinct};
     ghost use Rattle.gm_name.specs.ModuleVersion.{pair_eq};
     ghost use Rattle.gm_name_table.specs.Listed.{BeginsWith};
-    ghost use Rattle.gm_graph.specs.Cached.{HasFileAt, HoldsSame, IsPlaceFor, KeepsSound, Knows, LendsKept, LentSame, file_count, held_of, main_in, modules_in, numbered, sums_in, turns_in};
+    ghost use Rattle.gm_graph.specs.Cached.{HasFileAt, HoldsSame, IsPlaceFor, KeepsSound, Knows, LendsKept, LentSame, file_count, main_in, modules_in, numbered, run_in, sums_in, turns_in};
     ghost use Rattle.gm_graph.specs.Lent.{lent_table};
     ghost use Rattle.gm_graph.specs.declared.cache.Cache.{Cache};
-    ghost use Rattle.gm_graph.specs.Visiting.{Continues, IsVisit, LendsOver, Visits};
+    ghost use Rattle.gm_graph.specs.CacheVisits.{Continues, IsVisit, KeepsSayings, LendsOver, Visits};
 
     /// A cache for a main file, without files. If there is a go.sum, the files that come from proxies are checked
     /// against it. The only refusal is `NoMemory`.
@@ -286,9 +287,9 @@ impl<'a> Cache<'a> {
         ensures knows { OnOk result (Knows self.new (F.state files.new).asked) }
         ensures place { IfOk result (IsPlaceFor self.new (numbered self.old number)) }
         ensures lent { LentSame self.old self.new }
-        ensures grows { KeepsHeld (held_of self.old) (held_of self.new) }
         ensures numbered { BeginsWith (modules_in self.old) (modules_in self.new) }
-        ensures sound { KeepsSound self.old self.new }
+        ensures sound { OnOk result (KeepsSound self.old (run_in self.old (F.state files.old).asked)
+            self.new (run_in self.new (F.state files.new).asked)) }
         ensures err { OnErr result (HoldsSame self.old self.new) }
         ensures asks { AsksFor (main_in self.old) (F.state files.old) (F.state files.new) (numbered self.old number) }
         ensures device { result ≡ Err AskFault.Device → FailsFor (main_in self.old) (F.state files.old)
@@ -318,8 +319,8 @@ impl<'a> Cache<'a> {
     fn required(&self, place: u32, summary: &Summary, depth: Depth) -> Required<'_>
         requires within { IsWithinList (listed self.now.modules) summary.now.kept }
         ensures file { result.file ≡ place }
-        ensures leads { (modules : List ModuleVersion)
-            → result.leads ≡ leads_on_in (said_in (Some (summary_reading modules (Kept.Valid summary.now)))) depth }
+        ensures leads { (requirements : List ModuleVersion)
+            → result.leads ≡ leads_on (with_requirements summary.now.file requirements) depth }
         ensures modules { lent_modules result.list ≡ at_span (listed self.now.modules) summary.now.kept }
         ensures table { lent_table result.list ≡ modules_in self.now }
     {
@@ -336,8 +337,12 @@ impl<'a> Cache<'a> {
         requires vertex { number < length (modules_in self.now) }
         requires place { IsPlaceFor self.now (numbered self.now number) place }
         requires lends { LendsKept self.now }
-        ensures visit { IsVisit self.now (numbered self.now number) depth result }
-        ensures lends { (old : Cache) → Continues old self.now → KeepsSound old self.now → LendsOver old result }
+        ensures visit { (pairs : List (Name × Reply)) → Knows self.now pairs
+            → IsVisit self.now (run_in self.now pairs) (numbered self.now number) depth result }
+        ensures lends { (old : Cache) (earlier pairs : List (Name × Reply)) → Knows self.now pairs
+            → Continues old self.now → KeepsSayings (run_in old earlier) (run_in self.now pairs)
+            → KeepsSound old (run_in old earlier) self.now (run_in self.now pairs)
+            → LendsOver old (run_in old earlier) result }
         ensures distinct { IsDistinct pair_eq (modules_in self.now) }
     {
         let vertex = self.modules.module(number);
@@ -372,7 +377,7 @@ impl<'a> Cache<'a> {
         requires knows { Knows self.old (F.state files.old).asked }
         requires vertex { number < length (modules_in self.old) }
         requires few { file_count self.old < 4294967295 }
-        ensures lends { IfOk result (LendsOver self.old) }
+        ensures lends { IfOk result (LendsOver self.old (run_in self.old (F.state files.old).asked)) }
         ensures asks { AsksFor (main_in self.old) (F.state files.old) (F.state files.new) (numbered self.old number) }
         ensures refused { (F.state files.new).refused ≡ (F.state files.old).refused
             ++ refused_for (file_of (main_in self.old) (numbered self.old number)) result }
@@ -390,9 +395,10 @@ impl<'a> Cache<'a> {
         Ok(self.said(number, depth, place))
     }
 
-    /// Why loading stops after this fault of a visit. The name of the file is given once.
+    /// Why loading stops after this fault of a request. The name of the file is given once.
     pub(crate) fn load_fault(&mut self, fault: AskFault) -> LoadFault
-        ensures fault { result ≡ load_fault_at fault self.old.failed }
+        requires { fault ≡ AskFault.Device → IsSome self.old.failed }
+        ensures fault { IsLoadFaultOf fault self.old.failed result }
         ensures holds { HoldsSame self.old self.new }
         ensures lent { LentSame self.old self.new }
         ensures count { file_count self.new ≡ file_count self.old }

@@ -5,7 +5,7 @@ ghost use Rattle.std.specs.Option.{option_copied};
 ghost use Rattle.gm_store.specs.Asked.{name_of, names_in};
 ghost use Rattle.gm_store.specs.States.{HasServed};
 ghost use Rattle.gm_store.specs.declared.files.FileName.{FileName};
-ghost use Rattle.gm_graph.specs.Cached.{Knows, file_count, main_in, modules_in, sums_in, turns_in};
+ghost use Rattle.gm_graph.specs.Cached.{Knows, file_count, main_in, modules_in, run_in, sums_in, turns_in};
 ghost use Rattle.gm_graph.specs.Refusals.{refused_in};
 ghost use Rattle.gm_file.specs.Main.{main_of};
 ghost use Rattle.gm_graph_select.specs.BuildList.{IsBuildList};
@@ -20,7 +20,6 @@ ghost use Rattle.std.specs.List.{IsDistinct};
 ghost use Rattle.gm_graph.specs.Builder.{IsBuilder, edges_in, sources_in};
 ghost use Rattle.gm_graph.specs.Building.{fault};
 ghost use Rattle.gm_graph.specs.FileLists.{HaveFiles};
-ghost use Rattle.gm_graph.specs.Loading as held;
 ghost use Rattle.gm_graph.specs.Run.{AreTooMany, AsksInTurn, IsDue, IsRead, run_of};
 ghost use Rattle.gm_graph.specs.Outcome.{IsLoaded};
 ghost use Rattle.gm_graph.specs.Visiting.{IsFirstGraph, IsOpenedIn};
@@ -51,14 +50,14 @@ fn visit_all<F: Asks>(
     requires knows { Knows cache.old [] }
     requires lent { turns_in cache.old ≡ [] }
     requires none { file_count cache.old ≡ 0 }
-    requires first { IsFirstGraph (main_in cache.old) (modules_in cache.old) builder.old }
-    requires files { HaveFiles cache.old builder.old.edges }
-    ensures opened { OnOk result (IsOpenedIn cache.old cache.new (F.state files.new).asked builder.new) }
-    ensures too_many { result ≡ Err LoadFault.TooMany
-        → held.Told (main_in cache.old) (sums_in cache.old) (F.state files.new).asked (held.AreTooMany (main_in cache.old)) }
-    ensures asks { held.AsksInTurn (main_in cache.old) (sums_in cache.old) (F.state files.new).asked }
+    requires first { IsFirstGraph (run_in cache.old []) (modules_in cache.old) builder.old }
+    requires files { HaveFiles cache.old (run_in cache.old []) builder.old.edges }
+    ensures opened { OnOk result (IsOpenedIn (run_in cache.old (F.state files.new).asked) cache.new builder.new) }
+    ensures too_many { result ≡ Err LoadFault.TooMany → IsRead (run_in cache.old (F.state files.new).asked)
+        × AreTooMany (run_in cache.old (F.state files.new).asked) }
+    ensures asks { AsksInTurn (main_in cache.old) (sums_in cache.old) (F.state files.new).asked }
     ensures device { (name : FileName) → result ≡ Err (LoadFault.Device name)
-        → held.IsDue (main_in cache.old) (sums_in cache.old) (F.state files.new).asked (name_of name) }
+        → IsDue (run_in cache.old (F.state files.new).asked) (name_of name) }
     ensures refused { (F.state files.new).refused ≡ (F.state files.old).refused ++ refused_in result }
     ensures served { HasServed (F.may_answer files.old) (F.may_answer files.new)
         (F.state files.old) (F.state files.new) }

@@ -6,16 +6,16 @@ ghost use Rattle.gm_store.specs.Asked.{name_of};
 ghost use Rattle.gm_store.specs.States.{HasServed};
 ghost use Rattle.gm_store.specs.declared.files.FileName.{FileName};
 ghost use Rattle.gm_graph.specs.Asking.{AsksFor, StillLacks};
-ghost use Rattle.gm_graph.specs.Cached.{Knows, file_count, main_in, modules_in, numbered, turns_in};
+ghost use Rattle.gm_graph.specs.Cached.{Knows, file_count, main_in, modules_in, numbered, run_in, turns_in};
+ghost use Rattle.gm_graph.specs.CacheVisits.{Continues, SaysRequired, required_by, table_of};
 ghost use Rattle.gm_graph.specs.Refusals.{refused_in};
 ghost use Rattle.gm_graph.specs.Builder.{IsBuilder, KeepsTurns, built, turn_of, turns_of};
 ghost use Rattle.gm_graph.specs.EdgeLists.{AreLists, KeepsLists};
 ghost use Rattle.gm_graph.specs.FileLists.{AddsFileList, HasNumbersOf, HaveFiles};
 ghost use Rattle.gm_graph.specs.Followed.{AreFollowedIn, FollowsFile, followed_at};
-ghost use Rattle.gm_file.specs.Main.{Main};
-ghost use Rattle.gm_graph.specs.Reading.{Readings};
+ghost use Rattle.gm_graph.specs.Run.{Run, Says};
 ghost use Rattle.gm_graph.specs.Turns.{turn, OverflowsWith};
-ghost use Rattle.gm_graph.specs.Visiting.{Continues, IsVisited, OverflowsAt, SaysRequired, readings_in, required_by, table_of};
+ghost use Rattle.gm_graph.specs.Visiting.{IsVisited, OverflowsAt};
 ghost use Rattle.gm_graph.specs.declared.cache.depth.Depth.TheVariants.{Deep};
 
 use crate::cache::Cache;
@@ -37,10 +37,9 @@ fn add_fault(
     requires lists { AreLists builder.old.edges }
     ensures builder { (modules : List ModuleVersion) → IsBuilder modules builder.old → one.number < length modules
         → OnOk result (IsBuilder modules builder.new) }
-    ensures visited { (modules : List ModuleVersion) (main : Main) (readings : Readings)
-        → IsBuilder modules builder.old → one.number < length modules → vertex.now ≡ module_at modules one.number
-        → readings vertex.now ≡ Some (Err class) → OnOk result (IsVisited main readings
-        (built modules builder.old) (built modules builder.new) vertex.now one.depth) }
+    ensures visited { (modules : List ModuleVersion) (run : Run) → IsBuilder modules builder.old
+        → one.number < length modules → vertex.now ≡ module_at modules one.number → Says run vertex.now (Err class)
+        → OnOk result (IsVisited run (built modules builder.old) (built modules builder.new) vertex.now one.depth) }
     ensures turns { OnOk result (KeepsTurns builder.old builder.new) }
     ensures files { OnOk result (KeepsLists builder.old.edges builder.new.edges None []) }
     ensures not_refused { refused_in result ≡ [] }
@@ -68,10 +67,9 @@ fn add_requirements(
     requires followed { followed_at followed.old required.file ≡ true → (y : ModuleVersion)
         → Contains (required_by required) y → Contains (turns_of (table_of required) builder.old) (turn y Deep) }
     ensures builder { OnOk result (IsBuilder (table_of required.entry) builder.new) }
-    ensures visited { (main : Main) (readings : Readings) (x : ModuleVersion)
-        → x ≡ module_at (table_of required.entry) one.number → SaysRequired main readings x one.depth required.entry
-        → OnOk result (IsVisited main readings (built (table_of required.entry) builder.old)
-        (built (table_of required.entry) builder.new) x one.depth) }
+    ensures visited { (run : Run) (x : ModuleVersion) → x ≡ module_at (table_of required.entry) one.number
+        → SaysRequired run x one.depth required.entry → OnOk result (IsVisited run
+        (built (table_of required.entry) builder.old) (built (table_of required.entry) builder.new) x one.depth) }
     ensures files { OnOk result (AddsFileList builder.old.edges builder.new.edges (Some required.entry.file)
         (table_of required.entry) (required_by required.entry)) }
     ensures followed { OnOk result (FollowsFile followed.old followed.new required.entry.file
@@ -106,8 +104,9 @@ pub(crate) fn visit<F: Asks>(
     requires knows { Knows cache.old (F.state files.old).asked }
     requires builder { IsBuilder (modules_in cache.old) builder.old }
     requires below { one.number < length (modules_in cache.old) }
-    requires files { HaveFiles cache.old builder.old.edges }
-    requires followed { AreFollowedIn cache.old (turns_of (modules_in cache.old) builder.old) followed.old }
+    requires files { HaveFiles cache.old (run_in cache.old (F.state files.old).asked) builder.old.edges }
+    requires followed { AreFollowedIn cache.old (run_in cache.old (F.state files.old).asked)
+        (turns_of (modules_in cache.old) builder.old) followed.old }
     requires few { file_count cache.old < 4294967295 }
     ensures count { OnOk result (file_count cache.new ≤ file_count cache.old + 1) }
     ensures knows { OnOk result (Knows cache.new (F.state files.new).asked) }
@@ -115,13 +114,14 @@ pub(crate) fn visit<F: Asks>(
     ensures turns { OnOk result (turns_in cache.new
         ≡ turns_in cache.old ++ turn_of (modules_in cache.old) one ∷ []) }
     ensures builder { OnOk result (IsBuilder (modules_in cache.new) builder.new) }
-    ensures files { OnOk result (HaveFiles cache.new builder.new.edges) }
-    ensures followed { OnOk result
-        (AreFollowedIn cache.new (turns_of (modules_in cache.new) builder.new) followed.new) }
-    ensures visited { OnOk result (IsVisited (main_in cache.new) (readings_in cache.new)
+    ensures files { OnOk result
+        (HaveFiles cache.new (run_in cache.new (F.state files.new).asked) builder.new.edges) }
+    ensures followed { OnOk result (AreFollowedIn cache.new (run_in cache.new (F.state files.new).asked)
+        (turns_of (modules_in cache.new) builder.new) followed.new) }
+    ensures visited { OnOk result (IsVisited (run_in cache.new (F.state files.new).asked)
         (built (modules_in cache.old) builder.old) (built (modules_in cache.new) builder.new)
         (numbered cache.old one.number) one.depth) }
-    ensures too_many { result ≡ Err LoadFault.TooMany → OverflowsAt cache.old (F.state files.new).asked
+    ensures too_many { result ≡ Err LoadFault.TooMany → OverflowsAt (run_in cache.old (F.state files.new).asked)
         (turns_of (modules_in cache.old) builder.old) (numbered cache.old one.number) one.depth }
     ensures asks { AsksFor (main_in cache.old) (F.state files.old) (F.state files.new)
         (numbered cache.old one.number) }

@@ -3,14 +3,14 @@
 //! Loading gives each module a number once, and asks by that. These calls find the number, and give one to a module
 //! that has none.
 
-ghost use Rattle.std.specs.Prelude.{◌≡◌, ◌≤◌, ◌+◌, ◌++◌, ◌<◌, IfOk, OnErr, OnOk, Err, length};
+ghost use Rattle.std.specs.Prelude.{◌≡◌, ◌≤◌, ◌+◌, ◌++◌, ◌<◌, IfOk, List, OnErr, OnOk, Err, length};
 ghost use Rattle.std.specs.Option.{option_map};
 ghost use Rattle.gm_name.specs.ModuleVersion.{module_at};
-ghost use Rattle.gm_store.specs.Asked.{name_of};
+ghost use Rattle.gm_store.specs.Asked.{Name, Reply, name_of};
 ghost use Rattle.gm_store.specs.States.{HasServed};
 ghost use Rattle.gm_graph.specs.Asking.{AsksFor, StillLacks};
 ghost use Rattle.gm_graph.specs.Lent.{lent_modules};
-ghost use Rattle.gm_graph.specs.Reading.{KeepsHeld, file_of, readings_by, vertex_requirements};
+ghost use Rattle.gm_graph.specs.Reading.{file_of};
 ghost use Rattle.gm_graph.specs.Refusals.{refused_in};
 ghost use Rattle.gm_graph.specs.Summaries.{Grows};
 ghost use Rattle.gm_graph.specs.Turns.{turn};
@@ -49,7 +49,8 @@ fn number_of(modules: &mut ModuleList, x: &ModVer) -> Result<u32, NoMemory>
 impl<'a> Cache<'a> {
     ghost use Rattle.std.specs.Borrow.{sem};
     ghost use Rattle.std.specs.Prelude.{IfSome};
-    ghost use Rattle.gm_graph.specs.Cached.{HoldsSame, IsKnownAs, IsLender, IsPlaceFor, IsLenderNamed, Knows, LendsKept, LendsNamed, LentSame, file_count, held_of, main_in, modules_in, numbered};
+    ghost use Rattle.gm_graph.specs.Cached.{AreRequirements, HoldsSame, IsKnownAs, IsLender, IsPlaceFor, Knows, KnowsLender, LendsKept, LendsNamed, LentSame, file_count, main_in, modules_in, numbered, run_in};
+    ghost use Rattle.gm_graph.specs.CacheVisits.{KeepsSayings};
 
     /// The number of a module, which gets one if it has none. The only refusal is `NoMemory`.
     fn number(&mut self, x: &ModVer) -> Result<u32, NoMemory>
@@ -75,9 +76,10 @@ impl<'a> Cache<'a> {
         requires few { file_count self.old < 4294967295 }
         ensures count { file_count self.new ≤ file_count self.old + 1 }
         ensures knows { OnOk result (Knows self.new (F.state files.new).asked) }
-        ensures known { IfOk result (IsKnownAs (main_in self.new) (held_of self.new) vertex.now) }
+        ensures known { IfOk result (IsKnownAs (run_in self.new (F.state files.new).asked) vertex.now) }
         ensures lent { LentSame self.old self.new }
-        ensures grows { KeepsHeld (held_of self.old) (held_of self.new) }
+        ensures stays { KeepsSayings (run_in self.old (F.state files.old).asked)
+            (run_in self.new (F.state files.new).asked) }
         ensures err { OnErr result (HoldsSame self.old self.new) }
         ensures asks { AsksFor (main_in self.old) (F.state files.old) (F.state files.new) vertex.now }
         ensures not_too_many { result ≡ Err LoadFault.TooMany → ⊥ }
@@ -102,7 +104,8 @@ impl<'a> Cache<'a> {
         requires place { IsPlaceFor self.now (numbered self.now number) place }
         requires lends { LendsKept self.now }
         requires name { name_of name ≡ file_of (main_in self.now) (numbered self.now number) }
-        ensures { IsKnownAs (main_in self.now) (held_of self.now) (numbered self.now number) result }
+        ensures { (pairs : List (Name × Reply)) → Knows self.now pairs
+            → IsKnownAs (run_in self.now pairs) (numbered self.now number) result }
     {
         match self.said(number, Depth::Deep, place) {
             Visit::Fault(_, class) => Known::Fault(class),
@@ -114,9 +117,9 @@ impl<'a> Cache<'a> {
     /// fault.
     fn lender(&self, number: u32, name: Option<&FileName>) -> Option<u32>
         requires vertex { number < length (modules_in self.now) }
-        requires named { IsLenderNamed (main_in self.now) (held_of self.now) (numbered self.now number)
-            (option_map (λ n. name_of n.now) name) }
-        ensures { IsLender self.now (numbered self.now number) result }
+        requires named { KnowsLender self.now (numbered self.now number) (option_map (λ n. name_of n.now) name) }
+        ensures { (pairs : List (Name × Reply)) → Knows self.now pairs
+            → IsLender self.now (run_in self.now pairs) (numbered self.now number) result }
     {
         match name {
             None => None,
@@ -138,11 +141,9 @@ impl<'a> Cache<'a> {
         depth: Depth,
         name: Option<&FileName>,
     ) -> Result<Lent<'_>, NoMemory>
-        requires lends { LendsKept self.old }
-        requires lender { IsLenderNamed (main_in self.old) (held_of self.old) vertex.now
-            (option_map (λ n. name_of n.now) name) }
-        ensures lent { IfOk result (λ lent. lent_modules lent ≡ vertex_requirements (main_in self.old)
-            (readings_by (main_in self.old) (held_of self.old)) vertex.now) }
+        requires { KnowsLender self.old vertex.now (option_map (λ n. name_of n.now) name) }
+        ensures lent { IfOk result (λ lent. (pairs : List (Name × Reply)) → Knows self.old pairs
+            → AreRequirements (run_in self.old pairs) vertex.now (lent_modules lent)) }
         ensures* after { sem 𝓛 (LendsNamed self.entry (turn vertex.now depth) result) }
     {
         let number = self.number(vertex)?;

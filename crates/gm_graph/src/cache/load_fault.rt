@@ -1,7 +1,7 @@
 //! Why loading a module graph stops.
 
-ghost use Rattle.std.specs.Prelude.{◌≡◌};
-ghost use Rattle.gm_graph.specs.Refusals.{load_fault_at};
+ghost use Rattle.std.specs.Prelude.{◌≡◌, IsSome};
+ghost use Rattle.gm_graph.specs.Refusals.{IsLoadFaultOf};
 ghost use Rattle.gm_graph.specs.declared.cache.load_fault.LoadFault.TheVariants as load;
 
 use gm_store::{AskFault, FileName};
@@ -23,15 +23,16 @@ pub enum LoadFault {
 }
 
 impl LoadFault {
-    /// Why loading stops after this refusal of a request for the file with a name.
+    /// Why loading stops after this refusal of a request for the file with a name, which a device that failed left.
     pub(crate) fn of_request(fault: AskFault, name: Option<FileName>) -> LoadFault
-        ensures { result ≡ load_fault_at fault name }
+        requires { fault ≡ AskFault.Device → IsSome name }
+        ensures { IsLoadFaultOf fault name result }
     {
         match fault {
             AskFault::NoMemory => LoadFault::NoMemory,
             AskFault::Device => match name {
                 Some(name) => LoadFault::Device(name),
-                None => LoadFault::NoMemory,
+                None => unreachable!(),
             },
         }
     }

@@ -91,24 +91,6 @@ fn class_of_fault(fault: BytesFault) -> Result<Class, NoMemory>
     }
 }
 
-/// Reads a dependency's file, and puts its requirements at the end of the list of modules. The result is what else it
-/// says, or why it can't be read. The only refusal is `NoMemory`.
-fn read_content(
-    alloc: Global,
-    names: &mut KnownNames,
-    modules: &mut ModuleList,
-    content: &[u8],
-) -> Result<ListedReading, NoMemory>
-    ensures reading { IfOk result (λ read. length content.now ≤ 16777216
-        → IsContentReading content.now (listed_reading (drop (length modules.old.numbers) (listed modules.new)) read)) }
-    ensures grows { Grows modules.old modules.new }
-{
-    match DepFile::read_listed(alloc, names, modules, content) {
-        Ok(file) => Ok(ListedReading::Valid(file)),
-        Err(fault) => Ok(ListedReading::Faulty(class_of_fault(fault)?)),
-    }
-}
-
 /// What an answer says, or what is wrong with it. The requirements go to the end of the list of modules. No store's
 /// answer is over the limit.
 pub(crate) fn read_answer(
@@ -129,7 +111,10 @@ pub(crate) fn read_answer(
         Answer::TooLong => Ok(ListedReading::Faulty(Class::TooLong)),
         Answer::Bytes(content) => match sum_fault(sums, name, content) {
             Some(class) => Ok(ListedReading::Faulty(class)),
-            None => read_content(alloc, names, modules, content),
+            None => match DepFile::read_listed(alloc, names, modules, content) {
+                Ok(file) => Ok(ListedReading::Valid(file)),
+                Err(fault) => Ok(ListedReading::Faulty(class_of_fault(fault)?)),
+            },
         },
     }
 }

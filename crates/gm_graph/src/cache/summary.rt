@@ -7,10 +7,10 @@ ghost use Rattle.std.specs.Prelude.{◌≡◌, ◌≤◌, List, IfOk, OnOk, Some
 ghost use Rattle.std.specs.List.{list_any};
 ghost use Rattle.gm_name.specs.ModuleVersion.{ModuleVersion};
 ghost use Rattle.gm_name_table.specs.Listed.{Appends, listed};
+ghost use Rattle.gm_file.specs.Listed.{with_requirements};
 ghost use Rattle.gm_file.specs.Main.{is_excluded, without_excluded, main_of};
-ghost use Rattle.gm_graph.specs.Reading.{said_in};
-ghost use Rattle.gm_graph.specs.Summaries.{Grows, IsSummary, at_span, nowhere, span_found, summary_reading};
-ghost use Rattle.gm_graph.specs.Turns.{leads_on_in};
+ghost use Rattle.gm_graph.specs.Reading.{leads_on};
+ghost use Rattle.gm_graph.specs.Summaries.{Grows, IsSummary, at_span, nowhere, span_found};
 
 use crate::cache::class::Class;
 use crate::cache::depth::Depth;
@@ -127,8 +127,8 @@ impl Summary {
     /// file is unpruned, that is, if the first two numbers of its go version are below 1.17 (Go Modules Reference,
     /// "Module graph pruning").
     pub(crate) fn leads_on(&self, depth: Depth) -> bool
-        ensures { (modules : List ModuleVersion)
-            → result ≡ leads_on_in (said_in (Some (summary_reading modules (Kept.Valid self.now)))) depth }
+        ensures { (requirements : List ModuleVersion)
+            → result ≡ leads_on (with_requirements self.now.file requirements) depth }
     {
         match depth {
             Depth::Top => !self.file.is_pruned(),

@@ -2,7 +2,7 @@
 
 ghost use Rattle.std.specs.Option.{option_map};
 ghost use Rattle.gm_store.specs.Asked.{name_of};
-ghost use Rattle.gm_graph.specs.Cached.{IsLenderNamed, LendsKept, held_of, main_in};
+ghost use Rattle.gm_graph.specs.Cached.{KnowsLender};
 
 use super::{File, OUT_OF_MEMORY, main_file, path, store_of, version};
 use gm_file::MainFile;
@@ -26,9 +26,7 @@ fn lent_count(
     vertex: &ModVer,
     name: Option<&FileName>,
 ) -> usize
-    requires lends { LendsKept cache.old }
-    requires lender { IsLenderNamed (main_in cache.old) (held_of cache.old) vertex.now
-        (option_map (λ n. name_of n.now) name) }
+    requires { KnowsLender cache.old vertex.now (option_map (λ n. name_of n.now) name) }
 {
     let lent = cache
         .lend(vertex, Depth::Deep, name)

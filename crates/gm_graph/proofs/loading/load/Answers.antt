@@ -1,26 +1,25 @@
-use Rattle.std.proofs.Common.{◌∙◌, ◌++◌, Contains, Err, List, Option, append-nil, sym, ap, subst}
+use Rattle.std.proofs.Common.{◌∙◌, ◌++◌, Contains, Err, List, append-nil, sym, ap, subst}
 use Rattle.std.specs.List.{IsDistinct}
 use Rattle.std.specs.Option.{option_copied}
 use Rattle.gm_name.specs.ModuleVersion.{ModuleVersion}
+use Rattle.gm_file.specs.Main.{main_of}
 use Rattle.gm_store.specs.Asked.{Name, name_of}
-use Rattle.gm_store_sums.specs.Sums.{Sums}
-use Rattle.gm_graph.specs.Cached.{main_in}
-use Rattle.gm_file.specs.Main.{Main, main_of}
+use Rattle.gm_store.proofs.Serving.{nothing_served}
+use Rattle.gm_graph.specs.Builder.{IsBuilder, edges_in, sources_in}
+use Rattle.gm_graph.specs.Run.{AreTooMany, IsDue, IsRead, Run}
+use Rattle.gm_graph.specs.Visiting.{IsOpenedIn}
 use Rattle.gm_graph_select.specs.declared.step.Step.TheVariants.{Of}
 use Rattle.gm_graph_select.specs.Chains.{IsRooted}
 use Rattle.gm_graph_select.specs.Graph.{IsEdgeEnd, among}
 use Rattle.gm_graph_select.specs.Order.{HaveSame}
 use Rattle.gm_graph_select.specs.StepOrder.{step_eq}
-use Rattle.gm_graph.specs.Builder.{IsBuilder, edges_in, sources_in}
-use Rattle.gm_graph.specs.Loading.{AreTooMany, IsDue, Told}
-use Rattle.gm_store.proofs.Serving.{nothing_served}
 use Rattle.gm_graph.proofs.Dues.{asks_nothing, refused_same}
-use Rattle.gm_graph.proofs.Loads.{asks_of, gathered_ends, gathered_rooted, loads_of, too_many_first}
-use Rattle.gm_graph.proofs.RunReadings.{asks_told, due_told, many_told}
+use Rattle.gm_graph.proofs.Loads.{gathered_ends, gathered_rooted, loads, too_many_first}
+use Rattle.gm_graph.proofs.Stepping.{asks_by, by_run}
 use Rattle.gm_graph.proofs.loading.load.Goals as goal
 
 pub returns-in_err-builder-clause-asks : goal.returns-in_err-builder-clause-asks
-returns-in_err-builder-clause-asks g c = asks_told _ _ (asks_nothing _ _ _ c.requires)
+returns-in_err-builder-clause-asks g c = asks_nothing _ _ _ c.requires
 
 pub returns-in_err-builder-clause-refused : goal.returns-in_err-builder-clause-refused
 returns-in_err-builder-clause-refused g c =
@@ -29,19 +28,19 @@ returns-in_err-builder-clause-refused g c =
     sym (append-nil refused) ∙ ap (λ (ns : List Name). refused ++ ns) (sym (same ∙ c.in_err-builder.ensures.not_refused))
 
 pub returns-in_err-cache-clause-asks : goal.returns-in_err-cache-clause-asks
-returns-in_err-cache-clause-asks g c = asks_told _ _ (asks_nothing _ _ _ c.requires)
+returns-in_err-cache-clause-asks g c = asks_nothing _ _ _ c.requires
 
 pub returns-in_err-visit_all-clause-asks : goal.returns-in_err-visit_all-clause-asks
 returns-in_err-visit_all-clause-asks g c =
-    asks_of c.in_ok-cache.cache _ _ _ c.in_ok-cache.ensures.main c.in_ok-cache.ensures.sums c.visit_all.ensures.asks
+    asks_by _ _ c.in_ok-cache.cache _ c.in_ok-cache.ensures.main c.in_ok-cache.ensures.sums c.visit_all.ensures.asks
 
 pub returns-in_err-assemble-clause-asks : goal.returns-in_err-assemble-clause-asks
 returns-in_err-assemble-clause-asks g c =
-    asks_of c.in_ok-cache.cache _ _ _ c.in_ok-cache.ensures.main c.in_ok-cache.ensures.sums c.visit_all.ensures.asks
+    asks_by _ _ c.in_ok-cache.cache _ c.in_ok-cache.ensures.main c.in_ok-cache.ensures.sums c.visit_all.ensures.asks
 
 pub returns-clause-asks : goal.returns-clause-asks
 returns-clause-asks g c =
-    asks_of c.in_ok-cache.cache _ _ _ c.in_ok-cache.ensures.main c.in_ok-cache.ensures.sums c.visit_all.ensures.asks
+    asks_by _ _ c.in_ok-cache.cache _ c.in_ok-cache.ensures.main c.in_ok-cache.ensures.sums c.visit_all.ensures.asks
 
 pub returns-in_err-builder-clause-too_many : goal.returns-in_err-builder-clause-too_many
 returns-in_err-builder-clause-too_many g c = λ e.
@@ -50,41 +49,44 @@ returns-in_err-builder-clause-too_many g c = λ e.
 
 pub returns-in_err-visit_all-clause-device : goal.returns-in_err-visit_all-clause-device
 returns-in_err-visit_all-clause-device g c = λ name e.
-    let pairs = (g.F.Asks.state c.visit_all.new.files).asked in
-    due_told (main_of c.args.main.now) (option_copied c.args.sums) pairs (name_of name)
-    (subst (λ (m : Main). IsDue m (option_copied c.args.sums) pairs (name_of name)) c.in_ok-cache.ensures.main
-    (subst (λ (s : Option Sums). IsDue (main_in c.in_ok-cache.cache) s pairs (name_of name)) c.in_ok-cache.ensures.sums
-    (c.in_err-visit_all.ensures.device name (ap Err (sym (rw e at c.from_residual-in_err-visit_all.ensures.1))))))
+    by_run (λ (run : Run). IsDue run (name_of name)) (main_of c.args.main.now) (option_copied c.args.sums) c.in_ok-cache.cache
+    (g.F.Asks.state c.visit_all.new.files).asked c.in_ok-cache.ensures.main c.in_ok-cache.ensures.sums
+    (c.in_err-visit_all.ensures.device name (ap Err (sym (rw e at c.from_residual-in_err-visit_all.ensures.1))))
 
 pub returns-in_err-visit_all-clause-too_many : goal.returns-in_err-visit_all-clause-too_many
 returns-in_err-visit_all-clause-too_many g c = λ e.
-    let pairs = (g.F.Asks.state c.visit_all.new.files).asked in
-    many_told (main_of c.args.main.now) (option_copied c.args.sums) pairs
-    (subst (λ (m : Main). Told m (option_copied c.args.sums) pairs (AreTooMany m)) c.in_ok-cache.ensures.main
-    (subst (λ (s : Option Sums). Told (main_in c.in_ok-cache.cache) s pairs (AreTooMany (main_in c.in_ok-cache.cache))) c.in_ok-cache.ensures.sums
-    (c.in_err-visit_all.ensures.too_many (ap Err (sym (rw e at c.from_residual-in_err-visit_all.ensures.1))))))
+    by_run (λ (run : Run). IsRead run × AreTooMany run) (main_of c.args.main.now) (option_copied c.args.sums) c.in_ok-cache.cache
+    (g.F.Asks.state c.visit_all.new.files).asked c.in_ok-cache.ensures.main c.in_ok-cache.ensures.sums
+    (c.in_err-visit_all.ensures.too_many (ap Err (sym (rw e at c.from_residual-in_err-visit_all.ensures.1))))
 
 pub assemble-requires : goal.assemble-requires
 assemble-requires g c =
     let opened = c.in_ok-visit_all.ensures.opened in
+    let cache = c.visit_all.new.cache in
     let builder = c.visit_all.new.builder in
     let same = sym c.into_parts-modules.ensures.modules in
     record {
       few = c.into_parts-modules.ensures.few;
       builder = subst (λ (ms : List ModuleVersion). IsBuilder ms builder) same opened.is_builder;
-      rooted = subst (λ (ms : List ModuleVersion). IsRooted (among (edges_in ms builder))) same (gathered_rooted _ _ _ builder opened);
+      rooted = subst (λ (ms : List ModuleVersion). IsRooted (among (edges_in ms builder))) same (gathered_rooted _ cache builder opened);
       once = subst (λ (ms : List ModuleVersion). IsDistinct step_eq (sources_in ms builder)) same opened.once;
-      sources = subst (λ (ms : List ModuleVersion). (x : ModuleVersion) → Contains (sources_in ms builder) (Of x) → IsEdgeEnd (among (edges_in ms builder)) x) same (gathered_ends _ _ _ builder opened);
+      sources = subst (λ (ms : List ModuleVersion). (x : ModuleVersion) → Contains (sources_in ms builder) (Of x) → IsEdgeEnd (among (edges_in ms builder)) x) same (gathered_ends _ cache builder opened);
     }
 
 pub returns-clause-loaded : goal.returns-clause-loaded
 returns-clause-loaded g c =
     let told = c.in_ok-assemble.ensures in
+    let main = main_of c.args.main.now in
+    let sums = option_copied c.args.sums in
+    let pairs = (g.F.Asks.state c.visit_all.new.files).asked in
+    let cache = c.visit_all.new.cache in
     let builder = c.visit_all.new.builder in
     let loaded = c.in_ok-assemble.field-0 in
-    loads_of c.in_ok-cache.cache c.visit_all.new.cache (g.F.Asks.state c.visit_all.new.files).asked builder c.in_ok-visit_all.ensures.opened
-    (main_of c.args.main.now) (option_copied c.args.sums) c.in_ok-cache.ensures.main c.in_ok-cache.ensures.sums loaded c.visit_all.ensures.asks
-    told.main told.faults told.ordered told.ascending
+    let opened = by_run (λ (run : Run). IsOpenedIn run cache builder) main sums c.in_ok-cache.cache pairs
+    c.in_ok-cache.ensures.main c.in_ok-cache.ensures.sums c.in_ok-visit_all.ensures.opened in
+    loads main sums pairs cache builder opened
+    (asks_by main sums c.in_ok-cache.cache pairs c.in_ok-cache.ensures.main c.in_ok-cache.ensures.sums c.visit_all.ensures.asks)
+    loaded told.main told.faults told.ordered told.ascending
     (subst (λ (ms : List ModuleVersion). HaveSame (edges_in ms builder) loaded.edges) c.into_parts-modules.ensures.modules told.edges)
     told.rows (told.turns ∙ c.into_parts-modules.ensures.turns)
 

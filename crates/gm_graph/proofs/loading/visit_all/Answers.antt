@@ -1,18 +1,24 @@
-use Rattle.std.proofs.Common.{◌∙◌, ◌++◌, sym, ap, Err, arith, refl, List, append-nil}
-use Rattle.gm_store.specs.Asked.{Name}
+use Rattle.std.proofs.Common.{◌∙◌, ◌++◌, sym, ap, subst, Err, arith, refl, List, append-nil}
+use Rattle.gm_file.specs.Main.{Main}
+use Rattle.gm_store.specs.Asked.{Name, Reply}
 use Rattle.gm_store.proofs.Serving.{nothing_served, served_both}
-use Rattle.gm_graph.specs.Cached.{main_in, modules_in, numbered, sums_in}
-use Rattle.gm_graph.specs.Refusals.{refused_names}
-use Rattle.gm_graph.proofs.Dues.{asks_more, due_here, many_here, refused_same}
-use Rattle.gm_graph.proofs.Rounds.{few_turns}
 use Rattle.gm_graph.specs.Builder.{turns_of}
-use Rattle.gm_graph.proofs.Stepping.{first_step, last_step, number_here, past_all, step, turn_below, turn_here}
+use Rattle.gm_graph.specs.Cached.{main_in, modules_in, numbered, run_in, sums_in}
+use Rattle.gm_graph.specs.FileLists.{HaveFiles}
+use Rattle.gm_graph.specs.Reading.{file_of}
+use Rattle.gm_graph.specs.Refusals.{refused_names}
+use Rattle.gm_graph.specs.Run.{Run}
+use Rattle.gm_graph.specs.Visiting.{OverflowsAt}
+use Rattle.gm_graph.proofs.Dues.{AddsFile, asks_more, due_here, many_here, refused_same}
+use Rattle.gm_graph.proofs.Rounds.{few_turns}
+use Rattle.gm_graph.proofs.Stepping.{by_run, first_step, last_step, number_here, past_all, read_by, step, turn_below, turn_here}
 use Rattle.gm_graph.proofs.loading.visit_all.Goals as goal
 
 pub turns-init : goal.turns-init
 turns-init g c = record {
   state = first_step c.args.cache.now (g.F.Asks.state c.args.files.now).asked c.args.builder.now c.requires.asked c.requires.knows c.requires.lent c.requires.first;
-  files = c.requires.files;
+  files = subst (λ (pairs : List (Name × Reply)). HaveFiles c.args.cache.now (run_in c.args.cache.now pairs) c.args.builder.now.edges)
+      (sym c.requires.asked) c.requires.files;
   few = omega (arith, c.requires.none);
   followed = λ file by. absurd (c.new-followed.ensures file by);
   served = nothing_served _ (g.F.Asks.state c.args.files.now);
@@ -44,7 +50,7 @@ turns-preserved g c =
     }
 
 pub returns-clause-opened : goal.returns-clause-opened
-returns-clause-opened g c = last_step c.args.cache.now c.turns.cache (g.F.Asks.state c.turns.files).asked c.turns.builder c.turns.at c.turns.invariant.state (past_all (modules_in c.turns.cache) c.turns.builder c.turns.at (omega arith))
+returns-clause-opened g c = last_step (main_in c.args.cache.now) (sums_in c.args.cache.now) c.turns.cache (g.F.Asks.state c.turns.files).asked c.turns.builder c.turns.at c.turns.invariant.state (past_all (modules_in c.turns.cache) c.turns.builder c.turns.at (omega arith))
 
 pub returns-clause-asks : goal.returns-clause-asks
 returns-clause-asks g c = c.turns.invariant.state.asks
@@ -66,36 +72,51 @@ visit-requires g c =
 pub returns-in_err-visit-clause-asks : goal.returns-in_err-visit-clause-asks
 returns-in_err-visit-clause-asks g c =
     let one = c.index-one.result.now in
+    let main = main_in c.args.cache.now in
+    let sums = sums_in c.args.cache.now in
+    let pairs = (g.F.Asks.state c.turns.files).asked in
+    let longer = (g.F.Asks.state c.visit.new.files).asked in
     let modules = modules_in c.turns.cache in
     let x = numbered c.turns.cache one.number in
     let below = turn_below modules c.turns.builder c.turns.at (omega arith) in
     let here = turn_here modules c.turns.builder c.turns.at one (omega arith) c.index-one.ensures in
     let state = c.turns.invariant.state in
-    asks_more (main_in c.args.cache.now) (sums_in c.args.cache.now) c.turns.cache state.main_is state.sums_are (g.F.Asks.state c.turns.files).asked state.knows (turns_of modules c.turns.builder) c.turns.at x one.depth state.queue.sound below here
-    (g.F.Asks.state c.visit.new.files).asked state.asks c.visit.ensures.asks
+    asks_more main sums pairs (read_by main sums c.turns.cache pairs state.sums_are state.knows) (turns_of modules c.turns.builder) c.turns.at x one.depth state.queue.valid below here
+    longer state.asks (subst (λ (m : Main). AddsFile m pairs longer x) state.main_is c.visit.ensures.asks)
 
 pub returns-in_err-visit-clause-too_many : goal.returns-in_err-visit-clause-too_many
 returns-in_err-visit-clause-too_many g c = λ e.
     let one = c.index-one.result.now in
+    let main = main_in c.args.cache.now in
+    let sums = sums_in c.args.cache.now in
+    let pairs = (g.F.Asks.state c.turns.files).asked in
+    let longer = (g.F.Asks.state c.visit.new.files).asked in
     let modules = modules_in c.turns.cache in
     let x = numbered c.turns.cache one.number in
     let below = turn_below modules c.turns.builder c.turns.at (omega arith) in
     let here = turn_here modules c.turns.builder c.turns.at one (omega arith) c.index-one.ensures in
     let state = c.turns.invariant.state in
-    many_here (main_in c.args.cache.now) (sums_in c.args.cache.now) c.turns.cache state.main_is state.sums_are (g.F.Asks.state c.turns.files).asked state.knows (turns_of modules c.turns.builder) c.turns.at x one.depth state.queue.sound below here
-    (g.F.Asks.state c.visit.new.files).asked (c.in_err-visit.ensures.too_many (ap Err (sym (rw e at c.from_residual.ensures.1))))
+    let turns = turns_of modules c.turns.builder in
+    let over = c.in_err-visit.ensures.too_many (ap Err (sym (rw e at c.from_residual.ensures.1))) in
+    many_here main sums pairs (read_by main sums c.turns.cache pairs state.sums_are state.knows) turns c.turns.at x one.depth state.queue.valid below here
+    longer (subst (λ (m : Main). AddsFile m pairs longer x) state.main_is c.visit.ensures.asks)
+    (by_run (λ (run : Run). OverflowsAt run turns x one.depth) main sums c.turns.cache longer state.main_is state.sums_are over)
 
 pub returns-in_err-visit-clause-device : goal.returns-in_err-visit-clause-device
 returns-in_err-visit-clause-device g c = λ name e.
     let one = c.index-one.result.now in
+    let main = main_in c.args.cache.now in
+    let sums = sums_in c.args.cache.now in
+    let pairs = (g.F.Asks.state c.turns.files).asked in
+    let longer = (g.F.Asks.state c.visit.new.files).asked in
     let modules = modules_in c.turns.cache in
     let x = numbered c.turns.cache one.number in
     let below = turn_below modules c.turns.builder c.turns.at (omega arith) in
     let here = turn_here modules c.turns.builder c.turns.at one (omega arith) c.index-one.ensures in
     let state = c.turns.invariant.state in
     let said = c.in_err-visit.ensures.device name (ap Err (sym (rw e at c.from_residual.ensures.1))) in
-    due_here (main_in c.args.cache.now) (sums_in c.args.cache.now) c.turns.cache state.main_is state.sums_are (g.F.Asks.state c.turns.files).asked state.knows (turns_of modules c.turns.builder) c.turns.at x one.depth state.queue.sound below here
-    (g.F.Asks.state c.visit.new.files).asked _ said.0 said.1 said.2 said.3
+    due_here main sums pairs (read_by main sums c.turns.cache pairs state.sums_are state.knows) (turns_of modules c.turns.builder) c.turns.at x one.depth state.queue.valid below here
+    longer _ said.0 (said.1 ∙ ap (λ (m : Main). file_of m x) state.main_is) said.2 said.3
 
 pub returns-in_err-visit-clause-served : goal.returns-in_err-visit-clause-served
 returns-in_err-visit-clause-served g c =

@@ -1,17 +1,13 @@
-use Rattle.std.proofs.Common.{◌≡◌, ◌++◌, ◌∷◌, ◌∙◌, [], List, Option, None, Some, Result, IsSome, ap, append-nil, inl, map, refl, subst, sym}
+use Rattle.std.proofs.Common.{◌≡◌, ◌++◌, ◌∷◌, ◌∙◌, [], None, Some, Err, ap, append-nil, inl, refl, subst, sym}
 use Rattle.gm_name.specs.ModuleVersion.{ModuleVersion}
-use Rattle.gm_file.specs.Fields.{Dependency}
-use Rattle.gm_graph.specs.declared.cache.class.Class.{Class}
 use Rattle.gm_graph.specs.declared.edge_lists.EdgeLists.{EdgeLists}
 use Rattle.gm_graph.specs.declared.graph_builder.GraphBuilder.{GraphBuilder}
 use Rattle.gm_graph.specs.Builder.{IsBuilder, KeepsTurns, built, edges_in, sources_in, turns_of}
 use Rattle.gm_graph.specs.Building.{gathers}
 use Rattle.gm_graph.specs.EdgeLists.{KeepsLists}
-use Rattle.gm_graph.specs.Reading.{fault_in, requirements_in, said_in, vertex_requirements}
 use Rattle.gm_graph.specs.Turns.{turn}
-use Rattle.gm_graph_select.specs.Graph.{edge}
 use Rattle.gm_graph_select.specs.declared.step.Step.TheVariants.{Of}
-use Rattle.gm_graph.proofs.Visited.{AddsIf, adds_nothing, adds_them, notes_fault, opens_leaf, visited}
+use Rattle.gm_graph.proofs.Visited.{AddsIf, adds_nothing, adds_them, notes_fault, opens_leaf, requires_none, visited}
 use Rattle.gm_graph.proofs.visiting.add_fault.Goals as goal
 use Rattle.gm_graph.proofs.visiting.add_fault.Goals.{then-gathers+in_ok-add_leaf, else-gathers}
 
@@ -41,29 +37,27 @@ returns-clause-files c =
     ]
 
 pub returns-clause-visited : goal.returns-clause-visited
-returns-clause-visited c = λ modules main readings is below at fault.
+returns-clause-visited c = λ modules run is below at says.
     let x = c.args.vertex.now in
     let d = c.args.one.depth in
+    let class = c.args.class in
     let old = c.args.builder.now in
     let noted = c.note.new.self in
     let new = c.if-gathers.builder in
-    let ys = vertex_requirements main readings x in
     let does = gathers (turns_of modules old) (turn x d) in
-    let known : IsSome (readings x) = subst (λ (o : Option (Result Dependency Class)). IsSome o) (sym fault) refl in
-    let none : ys ≡ [] = ap (λ (o : Option (Result Dependency Class)). requirements_in main (said_in o)) fault in
     let adds_edges : c.gathers-gathers.result ≡ does =
     c.gathers-gathers.ensures modules is below ∙ ap (λ (v : ModuleVersion). gathers (turns_of modules old) (turn v d)) (sym at) in
-    let notes = notes_fault modules old noted x (Some c.args.class) c.in_ok-note.ensures.turns c.in_ok-note.ensures.edges c.in_ok-note.ensures.faults in
-    let opens = opens_leaf modules noted noted main readings x d known none (record { edges = refl; faults = refl }) refl in
-    let adds : AddsIf does (built modules noted) (built modules new) x ys = elim c.if-gathers.branch [
+    let notes = notes_fault modules old noted x (Some class) c.in_ok-note.ensures.turns c.in_ok-note.ensures.edges c.in_ok-note.ensures.faults in
+    let opens = opens_leaf modules noted noted run x d class says (record { edges = refl; faults = refl }) refl in
+    let adds : AddsIf does (built modules noted) (built modules new) x [] = elim c.if-gathers.branch [
       | then-gathers+in_ok-add_leaf w ↦
           let after = w.add_leaf.new.self in
-          subst (λ (b : GraphBuilder). AddsIf does (built modules noted) (built modules b) x ys) (sym w.builder-is)
-          (adds_them modules noted after does x ys (sym adds_edges ∙ w.if-gathers.true)
-          (w.in_ok-add_leaf.ensures.edges modules ∙ sym (append-nil (edges_in modules noted))
-          ∙ ap (λ (zs : List ModuleVersion). edges_in modules noted ++ map (edge (Of x)) zs) (sym none))
+          subst (λ (b : GraphBuilder). AddsIf does (built modules noted) (built modules b) x []) (sym w.builder-is)
+          (adds_them modules noted after does x [] (sym adds_edges ∙ w.if-gathers.true)
+          (w.in_ok-add_leaf.ensures.edges modules ∙ sym (append-nil (edges_in modules noted)))
           (w.in_ok-add_leaf.ensures.sources modules ∙ ap (λ (v : ModuleVersion). sources_in modules noted ++ Of v ∷ []) (sym at))
           w.in_ok-add_leaf.ensures.turns w.in_ok-add_leaf.ensures.faults)
-      | else-gathers w ↦ adds_nothing modules noted new does x ys (sym adds_edges ∙ w.if-gathers.false) w.builder-is
+      | else-gathers w ↦ adds_nothing modules noted new does x [] (sym adds_edges ∙ w.if-gathers.false) w.builder-is
     ] in
-    visited main readings x d (Some c.args.class) (sym (ap fault_in fault)) (built modules old) (built modules noted) (built modules noted) (built modules new) notes opens adds
+    visited run x d (Err class) says [] (requires_none run x class says)
+    (built modules old) (built modules noted) (built modules noted) (built modules new) notes opens adds

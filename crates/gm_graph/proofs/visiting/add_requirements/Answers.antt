@@ -1,7 +1,6 @@
-use Rattle.std.proofs.Common.{◌≡◌, ◌++◌, ◌∷◌, ◌∙◌, [], List, Option, None, Some, Result, Err, IsSome, ap, inl, map, refl, subst, sym}
+use Rattle.std.proofs.Common.{◌≡◌, ◌++◌, ◌∷◌, ◌∙◌, [], List, Some, Ok, Err, ap, inl, map, subst, sym}
 use Rattle.gm_name.specs.ModuleVersion.{ModuleVersion, module_at}
-use Rattle.gm_file.specs.Fields.{Dependency}
-use Rattle.gm_graph.specs.declared.cache.class.Class.{Class}
+use Rattle.gm_file.specs.Main.{without_excluded}
 use Rattle.gm_graph.specs.declared.cache.depth.Depth.TheVariants.{Deep}
 use Rattle.gm_graph.specs.declared.cache.depth.Turn.{Turn}
 use Rattle.gm_graph.specs.declared.edge_lists.EdgeLists.{EdgeLists}
@@ -13,14 +12,14 @@ use Rattle.gm_graph.specs.Building.{gathers}
 use Rattle.gm_graph.specs.EdgeLists.{numbers_of}
 use Rattle.gm_graph.specs.FileLists.{AddsFileList, HasNumbersOf}
 use Rattle.gm_graph.specs.Followed.{FollowsFile}
-use Rattle.gm_graph.specs.Reading.{fault_in, vertex_requirements}
-use Rattle.gm_graph.specs.Turns.{turn, AddsAll, leads_on}
-use Rattle.gm_graph.specs.Visiting.{required_by, table_of}
+use Rattle.gm_graph.specs.CacheVisits.{required_by, table_of}
+use Rattle.gm_graph.specs.Reading.{leads_on}
+use Rattle.gm_graph.specs.Turns.{turn, AddsAll}
 use Rattle.gm_graph_select.specs.Graph.{edge}
 use Rattle.gm_graph_select.specs.declared.step.Step.TheVariants.{Of}
 use Rattle.gm_graph.proofs.AddFaults.{add_too_many}
 use Rattle.gm_graph.proofs.FollowedFiles.{follows_file, follows_none}
-use Rattle.gm_graph.proofs.Visited.{AddsIf, Opens, adds_nothing, adds_them, notes_none, opens_all, opens_none, visited}
+use Rattle.gm_graph.proofs.Visited.{AddsIf, Opens, adds_nothing, adds_them, notes_none, opens_all, opens_none, required_of, visited}
 use Rattle.gm_graph.proofs.visiting.add_requirements.Goals as goal
 use Rattle.gm_graph.proofs.visiting.add_requirements.Goals.{then-gathers+in_ok-add_edges, else-gathers, then-leads+in_ok-follow, else-leads}
 
@@ -99,7 +98,7 @@ returns-clause-followed c =
     subst (λ (ts : List Turn). FollowsFile before c.if-leads.followed file ts xs) (sym same) turned
 
 pub returns-clause-visited : goal.returns-clause-visited
-returns-clause-visited c = λ main readings x at says.
+returns-clause-visited c = λ run x at says.
     let required = c.args.required in
     let table = table_of required in
     let number = c.args.one.number in
@@ -107,20 +106,20 @@ returns-clause-visited c = λ main readings x at says.
     let old = c.args.builder.now in
     let turned = c.if-leads.builder in
     let new = c.if-gathers.builder in
-    let ys = vertex_requirements main readings x in
+    let file = says.file in
+    let ys = without_excluded run.main file.requirements in
     let does = gathers (turns_of table old) (turn x d) in
-    let known : IsSome (readings x) = subst (λ (o : Option (Result Dependency Class)). IsSome o) (sym says.reading) refl in
-    let leads : required.leads ≡ leads_on readings x d = says.leads in
+    let leads : required.leads ≡ leads_on file d = says.leads in
     let adds_edges : c.gathers-gathers.result ≡ does =
     c.gathers-gathers.ensures table c.requires.builder c.requires.below
     ∙ ap (λ (v : ModuleVersion). gathers (turns_of table old) (turn v d)) (sym at) in
-    let opens : Opens main readings (built table old) (built table turned) x d = elim c.if-leads.branch [
+    let opens : Opens run (built table old) (built table turned) x d = elim c.if-leads.branch [
       | then-leads+in_ok-follow w ↦
           let after = w.follow.new.builder in
-          subst (λ (b : GraphBuilder). Opens main readings (built table old) (built table b) x d) (sym w.builder-is)
-          (opens_all table old after main readings x d known (sym leads ∙ w.if-leads.true) w.in_ok-follow.ensures.graph
+          subst (λ (b : GraphBuilder). Opens run (built table old) (built table b) x d) (sym w.builder-is)
+          (opens_all table old after run x d file says.says (sym leads ∙ w.if-leads.true) w.in_ok-follow.ensures.graph
           (subst (λ (zs : List ModuleVersion). AddsAll (turns_of table old) (turns_of table after) zs Deep) says.modules w.in_ok-follow.ensures.adds))
-      | else-leads w ↦ opens_none table old turned main readings x d known (sym leads ∙ w.if-leads.false) w.builder-is
+      | else-leads w ↦ opens_none table old turned run x d file says.says (sym leads ∙ w.if-leads.false) w.builder-is
     ] in
     let adds : AddsIf does (built table turned) (built table new) x ys = elim c.if-gathers.branch [
       | then-gathers+in_ok-add_edges w ↦
@@ -134,5 +133,5 @@ returns-clause-visited c = λ main readings x at says.
           more.turns more.faults)
       | else-gathers w ↦ adds_nothing table turned new does x ys (sym adds_edges ∙ w.if-gathers.false) w.builder-is
     ] in
-    visited main readings x d None (sym (ap fault_in says.reading)) (built table old) (built table old) (built table turned) (built table new)
-    (notes_none (built table old) x) opens adds
+    visited run x d (Ok file) says.says ys (required_of run x file says.says)
+    (built table old) (built table old) (built table turned) (built table new) (notes_none (built table old) x) opens adds

@@ -1,27 +1,18 @@
-use Rattle.std.proofs.Common.{◌≡◌, ◌∙◌, ◌++◌, ℕ, List, Option, Err, ap, subst, sym}
+use Rattle.std.proofs.Common.{◌≡◌, ◌∙◌, ◌++◌, ℕ, List, Option, Err, ap, inl, refl, subst, sym}
 use Rattle.gm_name.specs.ModuleVersion.{ModuleVersion}
 use Rattle.gm_store.specs.Asked.{Name, name_of}
-use Rattle.gm_graph.specs.declared.cache.load_fault.LoadFault.{LoadFault}
 use Rattle.gm_graph.specs.declared.cache.load_fault.LoadFault.TheVariants as load
 use Rattle.gm_graph.specs.Asking.{StillLacks}
-use Rattle.gm_graph.specs.Cached.{IsKnownAs, IsPlaceFor, held_of, main_in, modules_in, numbered}
+use Rattle.gm_graph.specs.Cached.{IsKnownAs, IsPlaceFor, main_in, modules_in, numbered, run_in}
 use Rattle.gm_file.specs.Main.{Main, main_of}
 use Rattle.gm_graph.specs.Reading.{file_of}
-use Rattle.gm_graph.specs.Refusals.{refused_names}
 use Rattle.gm_graph.proofs.Growing.{number_below, number_stays}
-use Rattle.gm_graph.proofs.Keeping.{device_failed, holds_after, keeps_same, knows_still, lent_after, never_many, refused_failed}
+use Rattle.gm_graph.proofs.Keeping.{device_failed, failed_there, holds_after, knows_still, lent_after, never_many, refused_failed, says_still}
 use Rattle.gm_graph.proofs.Named.{asks_named}
 use Rattle.gm_graph.proofs.cache.Cache.known.Goals as goal
 
 pub known_at-requires-clause-knows : goal.known_at-requires-clause-knows
 known_at-requires-clause-knows g c = knows_still c.args.self.now c.number.new.self (g.F.Asks.state c.args.files.now).asked c.number.ensures.holds c.requires.knows
-
-pub returns-in_err-number-clause-grows : goal.returns-in_err-number-clause-grows
-returns-in_err-number-clause-grows g c = keeps_same c.args.self.now c.number.new.self c.number.ensures.holds
-
-pub returns-in-Ok-clause-grows : goal.returns-in-Ok-clause-grows
-returns-in-Ok-clause-grows g c = λ name reading e.
-    c.known_at.ensures.grows name reading (keeps_same c.args.self.now c.number.new.self c.number.ensures.holds name reading e)
 
 pub returns-in-Ok-clause-asks : goal.returns-in-Ok-clause-asks
 returns-in-Ok-clause-asks g c =
@@ -43,19 +34,31 @@ returns-in-Err-clause-err g c =
     holds_after c.args.self.now c.number.new.self c.load_fault.new.self c.number.ensures.holds
     (holds_after c.number.new.self c.known_at.new.self c.load_fault.new.self c.in-Err.ensures.err c.load_fault.ensures.holds)
 
-pub returns-in-Err-clause-grows : goal.returns-in-Err-clause-grows
-returns-in-Err-clause-grows g c = keeps_same c.args.self.now c.load_fault.new.self
-    (holds_after c.args.self.now c.number.new.self c.load_fault.new.self c.number.ensures.holds
-    (holds_after c.number.new.self c.known_at.new.self c.load_fault.new.self c.in-Err.ensures.err c.load_fault.ensures.holds))
+-- ---- what files said
+
+pub returns-in_err-number-clause-stays : goal.returns-in_err-number-clause-stays
+returns-in_err-number-clause-stays g c =
+    says_still c.args.self.now c.number.new.self (g.F.Asks.state c.args.files.now) (g.F.Asks.state c.args.files.now) c.args.vertex.now c.number.ensures.lent (inl refl)
+
+pub returns-in-Ok-clause-stays : goal.returns-in-Ok-clause-stays
+returns-in-Ok-clause-stays g c =
+    says_still c.args.self.now c.known_at.new.self (g.F.Asks.state c.args.files.now) (g.F.Asks.state c.known_at.new.files) c.args.vertex.now
+    (lent_after c.args.self.now c.number.new.self c.known_at.new.self c.number.ensures.lent c.known_at.ensures.lent) (returns-in-Ok-clause-asks g c)
+
+pub returns-in-Err-clause-stays : goal.returns-in-Err-clause-stays
+returns-in-Err-clause-stays g c =
+    says_still c.args.self.now c.load_fault.new.self (g.F.Asks.state c.args.files.now) (g.F.Asks.state c.known_at.new.files) c.args.vertex.now
+    (returns-in-Err-clause-lent g c) (returns-in-Err-clause-asks g c)
 
 pub returns-in-Ok-clause-known : goal.returns-in-Ok-clause-known
 returns-in-Ok-clause-known g c =
     let new = c.known_at.new.self in
     let number = c.in_ok-number.number in
-    subst (λ (v : ModuleVersion). IsKnownAs (main_in new) (held_of new) v c.known_by.result)
+    let pairs = (g.F.Asks.state c.known_at.new.files).asked in
+    subst (λ (v : ModuleVersion). IsKnownAs (run_in new pairs) v c.known_by.result)
     (number_stays (modules_in c.number.new.self) (modules_in new) number c.known_at.ensures.numbered c.in_ok-number.ensures.number
     ∙ c.in_ok-number.ensures.module)
-    c.known_by.ensures
+    (c.known_by.ensures pairs c.in-Ok.ensures.knows)
 
 pub known_by-requires-clause-name : goal.known_by-requires-clause-name
 known_by-requires-clause-name g c =
@@ -76,10 +79,15 @@ known_by-requires-clause-place g c =
     (sym (number_stays (modules_in c.number.new.self) (modules_in c.known_at.new.self) c.in_ok-number.number c.known_at.ensures.numbered c.in_ok-number.ensures.number))
     c.in-Ok.ensures.place
 
+pub load_fault-requires : goal.load_fault-requires
+load_fault-requires g c = λ is.
+    failed_there (main_in c.number.new.self) (g.F.Asks.state c.args.files.now) (g.F.Asks.state c.known_at.new.files)
+    (numbered c.number.new.self c.in_ok-number.number) c.known_at.new.self.failed (c.in-Err.ensures.device (ap Err is))
+
 pub returns-in-Err-clause-not_too_many : goal.returns-in-Err-clause-not_too_many
 returns-in-Err-clause-not_too_many g c = λ e.
     let same : c.load_fault.result ≡ load.TooMany = cc e in
-    never_many c.in-Err.fault c.known_at.new.self.failed (sym c.load_fault.ensures.fault ∙ same)
+    never_many c.in-Err.fault c.known_at.new.self.failed c.load_fault.result c.load_fault.ensures.fault same
 
 pub returns-in-Err-clause-device : goal.returns-in-Err-clause-device
 returns-in-Err-clause-device g c = λ name e.
@@ -90,8 +98,8 @@ returns-in-Err-clause-device g c = λ name e.
     let same : c.load_fault.result ≡ load.Device name = cc e in
     subst (λ (m : Main). StillLacks m before after c.args.vertex.now (name_of name)) (ap main_of c.number.ensures.holds.main)
     (subst (λ (v : ModuleVersion). StillLacks (main_in mid) before after v (name_of name)) c.in_ok-number.ensures.module
-    (device_failed (main_in mid) before after x c.in-Err.fault c.known_at.new.self.failed name (λ is. c.in-Err.ensures.device (ap Err is))
-    (sym c.load_fault.ensures.fault ∙ same)))
+    (device_failed (main_in mid) before after x c.in-Err.fault c.known_at.new.self.failed c.load_fault.result name
+    (λ is. c.in-Err.ensures.device (ap Err is)) c.load_fault.ensures.fault same))
 
 pub returns-in-Err-clause-refused : goal.returns-in-Err-clause-refused
 returns-in-Err-clause-refused g c =
@@ -100,5 +108,5 @@ returns-in-Err-clause-refused g c =
     let after = g.F.Asks.state c.known_at.new.files in
     c.in-Err.ensures.refused
     ∙ ap (λ (ns : List Name). before.refused ++ ns)
-    (refused_failed (main_in mid) before after (numbered mid c.in_ok-number.number) (Option ℕ) c.in-Err.fault c.known_at.new.self.failed (λ is. c.in-Err.ensures.device (ap Err is))
-    ∙ ap (λ (f : LoadFault). refused_names f) (sym c.load_fault.ensures.fault))
+    (refused_failed (main_in mid) before after (numbered mid c.in_ok-number.number) (Option ℕ) c.in-Err.fault c.known_at.new.self.failed c.load_fault.result
+    (λ is. c.in-Err.ensures.device (ap Err is)) c.load_fault.ensures.fault)

@@ -6,9 +6,9 @@ use Rattle.gm_graph.specs.Cached.{HasFileAt, main_in, modules_in, numbered, summ
 use Rattle.gm_graph.specs.Reading.{file_of, is_askable}
 use Rattle.gm_graph.proofs.AskedFile.{asks_file}
 use Rattle.gm_graph.proofs.Growing.{number_stays}
-use Rattle.gm_graph.proofs.Keeping.{any_err, holds_after, holds_failed, holds_itself, keeps_same, lent_after, none_refused_for, sound_failed}
+use Rattle.gm_graph.proofs.Keeping.{any_err, holds_after, holds_failed, holds_itself, lent_after, none_refused_for}
 use Rattle.gm_graph.proofs.OwnFiles.{file_is}
-use Rattle.gm_graph.proofs.Telling.{keeps_read, knows_read, not_asked, sound_read}
+use Rattle.gm_graph.proofs.Telling.{knows_read, not_asked, sound_read}
 use Rattle.gm_graph.proofs.cache.Cache.known_at.Goals as goal
 
 pub read_file-requires-clause-fresh : goal.read_file-requires-clause-fresh
@@ -42,15 +42,13 @@ returns-in_err-name-clause-err g c = any_err c.from_residual.result (holds_itsel
 pub returns-in_ok-keep-in-Ok-clause-lent : goal.returns-in_ok-keep-in-Ok-clause-lent
 returns-in_ok-keep-in-Ok-clause-lent g c = lent_after c.args.self.now c.read_file.new.self c.keep.new.self c.read_file.ensures.lent c.keep.ensures.lent
 
-pub returns-in_ok-keep-in-Ok-clause-grows : goal.returns-in_ok-keep-in-Ok-clause-grows
-returns-in_ok-keep-in-Ok-clause-grows g c =
-    keeps_read c.args.self.now c.read_file.new.self c.keep.new.self (name_of c.in_ok-name.name) c.in-Ok.kept c.read_file.ensures.holds c.keep.ensures.modules
-    (c.in_default.ensures (modules_in c.args.self.now) (file_is c.args.self.now c.args.number c.in_ok-name.name c.module.result.now c.module.ensures.distinct c.requires.vertex c.in_ok-name.ensures c.module.ensures.module)) c.in_ok-keep-in-Ok.ensures.adds
-
 pub returns-in_ok-keep-in-Ok-clause-sound : goal.returns-in_ok-keep-in-Ok-clause-sound
 returns-in_ok-keep-in-Ok-clause-sound g c =
-    sound_read c.args.self.now c.read_file.new.self c.keep.new.self (name_of c.in_ok-name.name) c.in-Ok.kept c.read_file.ensures.holds c.keep.ensures.lent
+    let read = c.in-Ok.ensures.reading in
+    sound_read c.args.self.now c.read_file.new.self c.keep.new.self (g.F.Asks.state c.args.files.now).asked (g.F.Asks.state c.read_file.new.files).asked
+    (name_of c.in_ok-name.name) read.0 c.in-Ok.kept c.read_file.ensures.holds c.keep.ensures.lent
     c.keep.ensures.modules (c.in_default.ensures (modules_in c.args.self.now) (file_is c.args.self.now c.args.number c.in_ok-name.name c.module.result.now c.module.ensures.distinct c.requires.vertex c.in_ok-name.ensures c.module.ensures.module)) c.in_ok-keep-in-Ok.ensures.adds c.keep.ensures.files
+    read.1
 
 pub returns-in_ok-keep-in-Ok-clause-refused : goal.returns-in_ok-keep-in-Ok-clause-refused
 returns-in_ok-keep-in-Ok-clause-refused g c = c.in-Ok.ensures.refused
@@ -59,14 +57,6 @@ returns-in_ok-keep-in-Ok-clause-refused g c = c.in-Ok.ensures.refused
 
 pub returns-in_err-keep-in-Ok-clause-lent : goal.returns-in_err-keep-in-Ok-clause-lent
 returns-in_err-keep-in-Ok-clause-lent g c = lent_after c.args.self.now c.read_file.new.self c.keep.new.self c.read_file.ensures.lent c.keep.ensures.lent
-
-pub returns-in_err-keep-in-Ok-clause-grows : goal.returns-in_err-keep-in-Ok-clause-grows
-returns-in_err-keep-in-Ok-clause-grows g c =
-    keeps_same c.args.self.now c.keep.new.self (holds_after c.args.self.now c.read_file.new.self c.keep.new.self c.read_file.ensures.holds c.in_err-keep-in-Ok.ensures.err)
-
-pub returns-in_err-keep-in-Ok-clause-sound : goal.returns-in_err-keep-in-Ok-clause-sound
-returns-in_err-keep-in-Ok-clause-sound g c =
-    (holds_after c.args.self.now c.read_file.new.self c.keep.new.self c.read_file.ensures.holds c.in_err-keep-in-Ok.ensures.err).sound
 
 pub returns-in_err-keep-in-Ok-clause-err : goal.returns-in_err-keep-in-Ok-clause-err
 returns-in_err-keep-in-Ok-clause-err g c =
@@ -106,9 +96,6 @@ returns-in_err-keep-in-Ok-clause-device g c = λ e. absurd (cc (rw e at c.from_r
 pub returns-in_err-keep-in-Ok-clause-refused : goal.returns-in_err-keep-in-Ok-clause-refused
 returns-in_err-keep-in-Ok-clause-refused g c =
     none_refused_for _ c.from_residual-in_err-keep-in-Ok.result (g.F.Asks.state c.args.files.now).refused _ _ c.from_residual-in_err-keep-in-Ok.ensures.1 (c.in-Ok.ensures.refused ∙ append-nil _)
-
-pub returns-in-Err-clause-sound : goal.returns-in-Err-clause-sound
-returns-in-Err-clause-sound g c = sound_failed c.args.self.now c.read_file.new.self _ c.read_file.ensures.holds refl refl refl refl
 
 pub returns-in-Err-clause-err : goal.returns-in-Err-clause-err
 returns-in-Err-clause-err g c = holds_failed c.args.self.now c.read_file.new.self _ c.read_file.ensures.holds refl refl refl refl

@@ -2,29 +2,36 @@ use Rattle.std.proofs.Common.{◌∙◌, ◌++◌, ◌∷◌, [], List, ap, appe
 use Rattle.gm_name_table.specs.Listed.{listed}
 use Rattle.gm_graph.specs.declared.cache.summary.ListSpan.{ListSpan}
 use Rattle.gm_graph.specs.Summaries.{IsWithinList, at_span}
-use Rattle.gm_graph.specs.Cached.{held_of, main_in, numbered}
-use Rattle.gm_graph.specs.Reading.{readings_by, vertex_requirements}
+use Rattle.gm_graph.specs.Cached.{numbered, run_in}
 use Rattle.gm_graph.specs.Turns.{turn}
 use Rattle.gm_graph.specs.declared.cache.depth.Turn.{Turn}
-use Rattle.gm_name.specs.ModuleVersion.{ModuleVersion}
-use Rattle.gm_graph.proofs.Keeping.{holds_after, holds_listed}
-use Rattle.gm_graph.proofs.Lending.{lender_within, lent_kept, lent_within}
-use Rattle.gm_graph.proofs.Named.{named_still, requirements_same}
+use Rattle.gm_graph.proofs.Keeping.{holds_after, holds_listed, knows_still}
+use Rattle.gm_graph.proofs.Lending.{lender_within, lent_named, lent_within}
+use Rattle.gm_graph.proofs.Named.{named_still}
 use Rattle.gm_graph.proofs.cache.Cache.lend.Goals as goal
 
 pub lender-place-requires-clause-named : goal.lender-place-requires-clause-named
 lender-place-requires-clause-named c =
     named_still c.args.self.now c.number.new.self c.args.vertex.now (numbered c.number.new.self c.in_ok-number.number) _ c.number.ensures.holds
-    (sym c.in_ok-number.ensures.module) c.requires.lender
+    (sym c.in_ok-number.ensures.module) c.requires
+
+pub number-requires : goal.number-requires
+number-requires c = c.requires.knows.lends
 
 pub span_of-span-requires : goal.span_of-span-requires
-span_of-span-requires c = lender_within c.number.new.self (numbered c.number.new.self c.in_ok-number.number) c.lender-place.result c.lender-place.ensures
+span_of-span-requires c =
+    let cache = c.number.new.self in
+    let pairs = c.requires.pairs in
+    lender_within cache (run_in cache pairs) (numbered cache c.in_ok-number.number) c.lender-place.result
+    (c.lender-place.ensures pairs (knows_still c.args.self.now cache pairs c.number.ensures.holds c.requires.knows))
 
 pub at-requires : goal.at-requires
 at-requires c =
     let cache = c.number.new.self in
+    let pairs = c.requires.pairs in
+    let knows = knows_still c.args.self.now cache pairs c.number.ensures.holds c.requires.knows in
     subst (λ (span : ListSpan). IsWithinList (listed cache.modules) span) (sym c.span_of-span.ensures)
-    (lent_within cache (numbered cache c.in_ok-number.number) c.lender-place.result (c.number.ensures.holds.lends c.requires.lends) c.lender-place.ensures)
+    (lent_within cache (run_in cache pairs) (numbered cache c.in_ok-number.number) c.lender-place.result knows.lends (c.lender-place.ensures pairs knows))
 
 pub returns : goal.returns
 returns c =
@@ -41,10 +48,11 @@ returns c =
         },
       ),
       record {
-        lent = c.at.ensures.modules ∙ ap (λ (span : ListSpan). at_span (listed cache.modules) span) c.span_of-span.ensures
-            ∙ lent_kept cache x c.lender-place.result (c.number.ensures.holds.lends c.requires.lends) c.lender-place.ensures
-            ∙ ap (λ (v : ModuleVersion). vertex_requirements (main_in cache) (readings_by (main_in cache) (held_of cache)) v) c.in_ok-number.ensures.module
-            ∙ requirements_same old cache c.args.vertex.now c.number.ensures.holds;
+        lent = λ pairs knows.
+            let still = knows_still old cache pairs c.number.ensures.holds knows in
+            lent_named old cache pairs x c.args.vertex.now c.lender-place.result _ c.number.ensures.holds c.in_ok-number.ensures.module still
+            (c.lender-place.ensures pairs still)
+            (c.at.ensures.modules ∙ ap (λ (span : ListSpan). at_span (listed cache.modules) span) c.span_of-span.ensures);
         after = tt;
       },
     )

@@ -1,31 +1,35 @@
 use Rattle.std.proofs.Common.{◌≡◌, ◌++◌, ◌∷◌, [], append-nil, refl, subst, sym}
 use Rattle.gm_name.specs.ModuleVersion.{ModuleVersion}
+use Rattle.gm_graph.specs.Cached.{numbered}
 use Rattle.gm_graph.specs.Turns.{turn}
-use Rattle.gm_graph.proofs.Caching.{continues_both, has_visited, sound_both}
-use Rattle.gm_graph.proofs.Keeping.{holds_listed}
+use Rattle.gm_graph.proofs.Caching.{has_visited, known_both}
+use Rattle.gm_graph.proofs.Keeping.{holds_listed, knows_still, says_still}
 use Rattle.gm_graph.proofs.cache.Cache.visit.Goals as goal
 
 pub returns : goal.returns
 returns g c =
     let old = c.args.self.now in
     let mid = c.known_at.new.self in
-    let known = c.known_at.ensures in (
+    let known = c.known_at.ensures in
+    let before = g.F.Asks.state c.args.files.now in
+    let after = g.F.Asks.state c.known_at.new.files in
+    let stays = says_still old mid before after (numbered old c.args.number) known.lent known.asks in (
       (
         refl,
         λ _. tt,
-        has_visited old mid _ known.lent known.grows known.numbered
+        has_visited old mid _ known.lent known.numbered
             (holds_listed mid _ refl refl (λ _. refl) ([], sym (append-nil mid.files.files.items)) refl) refl
-            (g.F.Asks.state c.known_at.new.files).asked c.args.number c.args.depth c.said.result c.requires.vertex
-            c.in_ok-place.ensures.knows known.sound known.count refl
+            before.asked after.asked c.args.number c.args.depth c.said.result c.requires.vertex
+            c.in_ok-place.ensures.knows stays c.in_ok-place.ensures.sound known.count refl
             (subst (λ (x : ModuleVersion). c.push_turn.new.turns.items ≡ mid.turns.items ++ turn x c.args.depth ∷ []) c.module.ensures.module c.in_ok-push_turn.ensures.ok)
-            c.said.ensures.distinct c.said.ensures.visit,
+            c.said.ensures.distinct
+            (c.said.ensures.visit after.asked
+            (knows_still mid _ after.asked (holds_listed mid _ refl refl (λ _. refl) ([], sym (append-nil mid.files.files.items)) refl) c.in_ok-place.ensures.knows)),
       ),
       record {
-        lends = c.said.ensures.lends old
-            (continues_both old mid _ known.lent known.grows known.numbered
-            (holds_listed mid _ refl refl (λ _. refl) ([], sym (append-nil mid.files.files.items)) refl) refl)
-            (sound_both old mid _ known.sound
-            (holds_listed mid _ refl refl (λ _. refl) ([], sym (append-nil mid.files.files.items)) refl));
+        lends = known_both old mid _ known.lent known.numbered
+            (holds_listed mid _ refl refl (λ _. refl) ([], sym (append-nil mid.files.files.items)) refl) refl before.asked after.asked
+            (c.said.ensures.lends old before.asked after.asked) c.in_ok-place.ensures.knows stays c.in_ok-place.ensures.sound;
         asks = known.asks;
         refused = c.in_ok-place.ensures.refused;
         served = known.served;

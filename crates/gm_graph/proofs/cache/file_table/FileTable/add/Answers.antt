@@ -3,7 +3,7 @@ use Rattle.std.specs.Prelude.{slice_get}
 use Rattle.gm_store.specs.Asked.{name_of}
 use Rattle.gm_graph.proofs.PuttingPlaces.{at_end, file_added, files_kept}
 use Rattle.gm_graph.specs.declared.cache.summary.Kept.{Kept}
-use Rattle.gm_graph.specs.FileTable.{KeepsFiles, NotesPlace}
+use Rattle.gm_graph.specs.FileTable.{KeepsFiles}
 use Rattle.gm_graph.proofs.cache.file_table.FileTable.add.Goals as goal
 
 pub returns-in_err-put-clause-err : goal.returns-in_err-put-clause-err
