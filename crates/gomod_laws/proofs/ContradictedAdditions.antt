@@ -1,6 +1,7 @@
 -- What the laws of two runs of queries conclude is false of pairs of outputs that contradict them.
 use Rattle.std.proofs.Common.{◌≡◌, ◌∙◌, ◌∷◌, ◌++◌, ℕ, true, List, [], Contains, ap, append_assoc, arith, codes, drop, inl, inr, length, length-append, map, refl, subst, sym}
 use Rattle.std.specs.Ordering.{is_gt}
+use Rattle.std.proofs.Math.Seq.{drop_at}
 use Rattle.std.proofs.lemmas.Bool.{false≢true}
 use Rattle.std.proofs.lemmas.List.{append_cancel_right}
 use Rattle.gm_name.specs.Version.{version_cmp}
@@ -17,7 +18,7 @@ use Rattle.gomod_laws.specs.CounterAdditions.{ChainIsByNoLine, ChainIsToAnother,
 use Rattle.gomod_laws.specs.Counterexamples.{a_one}
 use Rattle.gomod_laws.specs.RowLaws.{IsExplained, LeadsTo, further, here, text_of}
 use Rattle.gomod_laws.proofs.Contradicted.{edge_to, edges_are, list_main, only_row, row_there}
-use Rattle.gomod_laws.proofs.KnownVersions.{one_one, one_one_is, one_one_is_above, one_zero, one_zero_is, versions_differ}
+use Rattle.gomod_laws.proofs.KnownVersions.{first_byte, one_one, one_one_is, one_one_is_above, one_zero, one_zero_is, versions_differ}
 use Rattle.gomod_laws.proofs.ShownTexts.{same_text}
 
 -- ---- additions
@@ -47,9 +48,6 @@ line_is_lost run later first second (edges, others, shows, also, kept) =
 
 -- ---- a chain that takes no line of a graph
 
-first_byte : (a b : ℕ) (x y : List ℕ) → a ∷ x ≡ b ∷ y → a ≡ b
-first_byte a b x y e = cc e
-
 abbrev the_line : List ℕ
 the_line = codes "m a.b@v1.0.0"
 
@@ -62,16 +60,12 @@ line_only text there = elim (member_cases the_line text [] there) [
   | inr none ↦ absurd (no_member text none)
 ]
 
-drop_front : (xs ys : List ℕ) → drop (length xs) (xs ++ ys) ≡ ys
-drop_front [] ys = refl
-drop_front (x ∷ xs) ys = drop_front xs ys
-
 ends_in_digit : (front : List ℕ) → the_line ≡ front ++ codes "m" → ⊥
 ends_in_digit front e =
     let whole : 12 ≡ length (front ++ codes "m") = ap (λ (t : List ℕ). length t) e in
     let parts = length-append front (codes "m") in
     let size : length front ≡ 11 = omega (arith, whole, parts) in
-    let behind : drop 11 the_line ≡ codes "m" = ap (drop 11) e ∙ subst (λ (n : ℕ). drop n (front ++ codes "m") ≡ codes "m") size (drop_front front (codes "m")) in
+    let behind : drop 11 the_line ≡ codes "m" = ap (drop 11) e ∙ drop_at front (codes "m") 11 size in
     let digit : 48 ≡ 109 = first_byte 48 109 _ _ behind in omega (arith, digit)
 
 -- no line leads to m

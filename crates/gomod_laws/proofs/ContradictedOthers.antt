@@ -1,11 +1,9 @@
 -- What the laws of `edit` conclude is false of outputs that contradict them.
-use Rattle.std.proofs.Common.{◌≡◌, ◌∷◌, ℕ, List, ap, arith, codes, drop, inl, inr, refl, sym}
+use Rattle.std.proofs.Common.{◌≡◌, ap, arith, codes, drop, inl, inr, refl, sym}
 use Rattle.gomod_run.specs.Outcome.{Outcome}
 use Rattle.gomod_laws.specs.CounterOthers.{FormatsAnother, NeitherFormats, TwiceIsRefused, TwicePrintsAnother, file_of_m, file_of_n}
+use Rattle.gomod_laws.proofs.KnownVersions.{first_byte}
 use Rattle.gomod_laws.proofs.ShownTexts.{same_text}
-
-first_byte : (a b : ℕ) (x y : List ℕ) → a ∷ x ≡ b ∷ y → a ≡ b
-first_byte a b x y e = cc e
 
 codes_differ : (a b : Outcome) → a.status ≡ 0 → b.status ≡ 1 → a ≡ b → ⊥
 codes_differ a b p q e = let codes_are : a.status ≡ b.status = ap (λ (o : Outcome). o.status) e in omega (arith, codes_are, p, q)

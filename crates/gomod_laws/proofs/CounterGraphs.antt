@@ -1,9 +1,10 @@
 -- What the laws on `graph` and `chain` conclude is false of graphs and chains that contradict them.
-use Rattle.std.proofs.Common.{◌≡◌, ◌∙◌, ◌∷◌, ◌++◌, ℕ, List, [], None, Contains, ap, append_assoc, arith, codes, inl, inr, length, refl, subst, sym}
+use Rattle.std.proofs.Common.{◌≡◌, ◌∙◌, ◌∷◌, ◌++◌, ℕ, List, [], Option, None, Contains, ap, append_assoc, arith, codes, inl, inr, length, refl, subst, sym}
 use Rattle.std.proofs.lemmas.List.Elements.{Contains-push_cases}
 use Rattle.gm_name.specs.ModuleVersion.{ModuleVersion}
 use Rattle.gm_file.specs.Main.{Main}
-use Rattle.gm_graph.specs.Reading.{Held, readings_by}
+use Rattle.gm_store_sums.specs.Sums.{Sums}
+use Rattle.gm_graph.specs.Run.{AreEdges, AreRows, IsEdge, run_of}
 use Rattle.gm_graph_select.specs.declared.step.Edge.{Edge}
 use Rattle.gm_graph_select.specs.declared.step.Step.{Step}
 use Rattle.gm_graph_select.specs.declared.step.Step.TheVariants.{Main as FromMain, Of}
@@ -11,13 +12,9 @@ use Rattle.gm_graph_select.specs.BuildList.{Entry, main_entry, path_of}
 use Rattle.gm_graph_select.specs.Graph.{Edges, among, edge}
 use Rattle.gm_graph_select.proofs.Ascending.{member_cases, member_head, member_tail, no_member}
 use Rattle.gm_graph_select.proofs.Lawful.{rows_are_ends}
-use Rattle.gm_graph_select.proofs.Same.{same_build_list, same_chain}
-use Rattle.gm_graph.specs.Graph.{IsEdge, IsTop}
-use Rattle.gm_graph.specs.Outcome.{AreEdges, AreRows}
-use Rattle.gm_graph.proofs.Rooted.{same_edges}
+use Rattle.gm_graph_select.proofs.Same.{AreSame, same_build_list, same_chain}
 use Rattle.gomod_run.specs.ListingLaws.{IsWalk, further, here}
-use Rattle.gomod_run.specs.Outcomes.{Given}
-use Rattle.gomod_run.specs.HeldFiles.{AllFilesAreValid}
+use Rattle.gomod_run.specs.Outcomes.{AreFound, Given}
 use Rattle.gomod_run.specs.Outcome.{printed}
 use Rattle.gomod_run.specs.PrintedLines.{AreProperRows, AreProperSteps, IsProperRow, IsProperStep}
 use Rattle.gomod_run.specs.Reports.{not_listed_line}
@@ -28,7 +25,7 @@ use Rattle.gomod_run.proofs.OneRead.{one_main}
 use Rattle.gomod_run.proofs.RunNames.{end_name, run_has_names, run_has_proper_edges}
 use Rattle.gomod_run.proofs.ShortestChain.{chain_walk}
 use Rattle.gomod_laws.specs.Counterexamples.{a_one, graph_of_a}
-use Rattle.gomod_laws.specs.CounterListings.{ChainBeginsElsewhere, ChainEndsElsewhere, ChainIsOfAnotherGraph, ChainIsTooLong, ListIsOfAnotherGraph, b_one}
+use Rattle.gomod_laws.specs.CounterListings.{ChainBeginsElsewhere, ChainEndsElsewhere, ChainIsOfAnotherGraph, ChainIsTooLong, IsRequiredBy, ListIsOfAnotherGraph, b_one}
 use Rattle.gomod_laws.proofs.Contradicted.{a_is_path, b_is_path, edge_proper, edge_to, other_name}
 use Rattle.gomod_laws.proofs.CounterLists.{a_is_not_b, each_of, m_lacks, not_refused, rows_are}
 use Rattle.gomod_laws.proofs.KnownVersions.{one_zero, one_zero_is}
@@ -67,24 +64,24 @@ a_step = (a_is_path, one_zero_is)
 b_step : IsProperStep (Of b_one)
 b_step = (b_is_path, one_zero_is)
 
-module _ (run : Given) (main : Main) (held : Held) (valid : AllFilesAreValid run main held) {s : Step} {steps : List Step} (walk : IsWalk (IsEdge main (readings_by main held)) s steps) where
+module _ (run : Given) (main : Main) (table : Option Sums) (found : AreFound run main table []) {s : Step} {steps : List Step} (walk : IsWalk (IsEdge (run_of main table run.told.asked)) s steps) where
   steps_proper : AreProperSteps steps
   steps_proper FromMain there = tt
   steps_proper (Of y) there =
-      let (t, is) = walk_step (IsEdge main (readings_by main held)) walk y there in end_name run main valid.table held valid.read valid.known t y is
+      let (t, is) = walk_step (IsEdge (run_of main table run.told.asked)) walk y there in end_name (run_of main table run.told.asked) run.file found.read.main_file t y is
 
   known_steps : (known : List Step) → AreProperSteps known → chain_text main.path steps ≡ chain_text main.path known → steps ≡ known
   known_steps known proper text =
-      text_says_steps main.path steps known (run_has_names run main valid.table held valid.read valid.known).0 steps_proper proper text
+      text_says_steps main.path steps known (run_has_names run main table found.read).0 steps_proper proper text
 
   -- steps with this text are these steps, and the main module is m
   steps_are : (known : List Step) → AreProperSteps (FromMain ∷ known) → chain_text main.path steps ≡ chain_text (codes "m") (FromMain ∷ known)
       → (main.path ≡ codes "m") × (steps ≡ FromMain ∷ known)
   steps_are known proper e =
-      let (rest, begins) = walk_begins (IsEdge main (readings_by main held)) walk in
+      let (rest, begins) = walk_begins (IsEdge (run_of main table run.told.asked)) walk in
       let text : main.path ++ (10 ∷ chain_text main.path rest) ≡ codes "m" ++ (10 ∷ chain_text (codes "m") known) =
       sym (append_assoc main.path (codes "\n") (chain_text main.path rest)) ∙ ap (chain_text main.path) (sym begins) ∙ e in
-      let own = (cut_at 10 main.path (codes "m") (chain_text main.path rest) (chain_text (codes "m") known) (path_has_no_feed main.path (run_has_names run main valid.table held valid.read valid.known).0) m_lacks text).0 in
+      let own = (cut_at 10 main.path (codes "m") (chain_text main.path rest) (chain_text (codes "m") known) (path_has_no_feed main.path (run_has_names run main table found.read).0) m_lacks text).0 in
       (own, known_steps (FromMain ∷ known) proper (e ∙ ap (λ (m : List ℕ). chain_text m (FromMain ∷ known)) (sym own)))
 
 abbrev to_a : List Step
@@ -125,25 +122,25 @@ not_from_main x rest e = cc e
 -- ---- shortest chains
 
 pub chain_ends_elsewhere : ChainEndsElsewhere
-chain_ends_elsewhere run (main, held, rows, s, steps, valid, are, (entry, rest, at, is), says, walk, least) =
-    let (own, same) = steps_are run main held valid walk (Of a_one ∷ []) to_a_proper (sym (same_text (codes "m\na.b@v1.0.0\n") (chain_text main.path steps) says)) in
-    let (front, ends) = walk_ends (IsEdge main (readings_by main held)) walk in
+chain_ends_elsewhere run (main, table, rows, s, steps, found, are, (entry, rest, at, is), says, walk, least) =
+    let (own, same) = steps_are run main table found walk (Of a_one ∷ []) to_a_proper (sym (same_text (codes "m\na.b@v1.0.0\n") (chain_text main.path steps) says)) in
+    let (front, ends) = walk_ends (IsEdge (run_of main table run.told.asked)) walk in
     let last : s ≡ Of a_one = last_of_two front s FromMain (Of a_one) (sym ends ∙ same) in
     other_name (ap (path_of main.path) (sym last ∙ sym is) ∙ at.path_is)
 
 pub chain_begins_elsewhere : ChainBeginsElsewhere
-chain_begins_elsewhere path run (main, held, rows, s, steps, valid, are, row, says, walk, least) =
-    let same : steps ≡ Of a_one ∷ [] = known_steps run main held valid walk (Of a_one ∷ []) (each_of IsProperStep (Of a_one ∷ []) (a_step, tt)) (sym (same_text (codes "a.b@v1.0.0\n") (chain_text main.path steps) says)) in
-    let (rest, begins) = walk_begins (IsEdge main (readings_by main held)) walk in
+chain_begins_elsewhere path run (main, table, rows, s, steps, found, are, row, says, walk, least) =
+    let same : steps ≡ Of a_one ∷ [] = known_steps run main table found walk (Of a_one ∷ []) (each_of IsProperStep (Of a_one ∷ []) (a_step, tt)) (sym (same_text (codes "a.b@v1.0.0\n") (chain_text main.path steps) says)) in
+    let (rest, begins) = walk_begins (IsEdge (run_of main table run.told.asked)) walk in
     not_from_main a_one rest (sym begins ∙ same)
 
 pub chain_is_too_long : ChainIsTooLong
-chain_is_too_long run file is top (main, held, rows, s, steps, valid, are, row, says, walk, least) =
-    let edges : Edges = IsEdge main (readings_by main held) in
-    let (own, same) = steps_are run main held valid walk (Of b_one ∷ Of a_one ∷ []) by_b_proper (sym (same_text (codes "m\nb.c@v1.0.0\na.b@v1.0.0\n") (chain_text main.path steps) says)) in
+chain_is_too_long run file is top (main, table, rows, s, steps, found, are, row, says, walk, least) =
+    let edges : Edges = IsEdge (run_of main table run.told.asked) in
+    let (own, same) = steps_are run main table found walk (Of b_one ∷ Of a_one ∷ []) by_b_proper (sym (same_text (codes "m\nb.c@v1.0.0\na.b@v1.0.0\n") (chain_text main.path steps) says)) in
     let (front, ends) = walk_ends edges walk in
     let last : s ≡ Of a_one = last_of_three front s FromMain (Of b_one) (Of a_one) (sym ends ∙ same) in
-    let required : IsTop main a_one = subst (λ (m : Main). IsTop m a_one) (one_main run.file file main is valid.read.main_file) top in
+    let required : IsRequiredBy main a_one = subst (λ (m : Main). IsRequiredBy m a_one) (one_main run.file file main is found.read.main_file) top in
     let shorter : IsWalk edges (Of a_one) to_a = further here required in
     let size : length steps ≡ 3 = ap (λ (ss : List Step). length ss) same in
     let low = least to_a (subst (λ (t : Step). IsWalk edges t to_a) (sym last) shorter) in
@@ -151,10 +148,10 @@ chain_is_too_long run file is top (main, held, rows, s, steps, valid, are, row, 
 
 -- ---- one graph
 
-edges_are : (run : Given) (main : Main) (held : Held) (edges : List Edge) → AllFilesAreValid run main held → AreEdges main (readings_by main held) edges → main.path ≡ codes "m"
+edges_are : (run : Given) (main : Main) (table : Option Sums) (edges : List Edge) → AreFound run main table [] → AreEdges (run_of main table run.told.asked) edges → main.path ≡ codes "m"
     → graph_of_a ≡ printed (graph_text main.path edges) → edges ≡ edge_to one_zero ∷ []
-edges_are run main held edges valid exact own says =
-    text_says_edges main.path edges (edge_to one_zero ∷ []) (run_has_names run main valid.table held valid.read valid.known).0 (run_has_proper_edges run main held edges valid exact) (edge_proper one_zero one_zero_is)
+edges_are run main table edges found exact own says =
+    text_says_edges main.path edges (edge_to one_zero ∷ []) (run_has_names run main table found.read).0 (run_has_proper_edges run main table edges found.read exact) (edge_proper one_zero one_zero_is)
     (sym (same_text (codes "m a.b@v1.0.0\n") (graph_text main.path edges) says) ∙ ap (λ (m : List ℕ). graph_text m (edge_to one_zero ∷ [])) (sym own))
 
 -- no such edge leads to b.c
@@ -171,22 +168,22 @@ with_b_proper : AreProperRows rows_with_b
 with_b_proper = each_of IsProperRow rows_with_b (refl, ((b_is_path, one_zero_is, tt), tt))
 
 pub list_is_of_another_graph : ListIsOfAnotherGraph
-list_is_of_another_graph path run chain (main, held, edges, rows, valid, exact, one) =
-    let here_edges : Edges = IsEdge main (readings_by main held) in
-    let are : AreRows main (readings_by main held) rows = same_build_list main.path main.replaces (among edges) here_edges rows (same_edges main (readings_by main held) edges exact.each) one.build_list in
-    let (own, same) = rows_are run main held rows valid are ((Of b_one, None) ∷ []) with_b_proper (sym (same_text (codes "m\nb.c v1.0.0\n") (list_text main.path rows) one.list_is)) in
+list_is_of_another_graph path run chain (main, table, edges, rows, found, exact, one) =
+    let here_edges : Edges = IsEdge (run_of main table run.told.asked) in
+    let are : AreRows (run_of main table run.told.asked) rows = same_build_list main.path main.replaces (among edges) here_edges rows (λ t y. exact.each (edge t y)) one.build_list in
+    let (own, same) = rows_are run main table rows found are ((Of b_one, None) ∷ []) with_b_proper (sym (same_text (codes "m\nb.c v1.0.0\n") (list_text main.path rows) one.list_is)) in
     let there : Contains rows (Of b_one, None) = subst (λ (es : List Entry). Contains es (Of b_one, None)) (sym same) (member_tail main_entry (Of b_one, None) ((Of b_one, None) ∷ []) (member_head (Of b_one, None) [])) in
     let (s, end) = rows_are_ends main.path main.replaces edges rows one.build_list b_one None there in
-    b_is_no_end edges s (edges_are run main held edges valid exact own one.graph_is) end
+    b_is_no_end edges s (edges_are run main table edges found exact own one.graph_is) end
 
 pub chain_is_of_another_graph : ChainIsOfAnotherGraph
-chain_is_of_another_graph after limit path run list (main, held, edges, rows, valid, exact, one) = elim one.chain_is [
+chain_is_of_another_graph after limit path run list (main, table, edges, rows, found, exact, one) = elim one.chain_is [
   | inr (none, says) ↦ not_refused (codes "m\nb.c@v1.0.0\n") (not_listed_line path) says
   | inl (s, steps, row, chain, says) ↦ (
-      let same_graph = same_edges main (readings_by main held) edges exact.each in
-      let walk : IsWalk (IsEdge main (readings_by main held)) s steps = chain_walk (IsEdge main (readings_by main held)) (same_chain (among edges) (IsEdge main (readings_by main held)) same_graph chain) in
-      let (own, same) = steps_are run main held valid walk (Of b_one ∷ []) to_b_proper (sym (same_text (codes "m\nb.c@v1.0.0\n") (chain_text main.path steps) says)) in
+      let same_graph : AreSame (among edges) (IsEdge (run_of main table run.told.asked)) = λ t y. exact.each (edge t y) in
+      let walk : IsWalk (IsEdge (run_of main table run.told.asked)) s steps = chain_walk (IsEdge (run_of main table run.told.asked)) (same_chain (among edges) (IsEdge (run_of main table run.told.asked)) same_graph chain) in
+      let (own, same) = steps_are run main table found walk (Of b_one ∷ []) to_b_proper (sym (same_text (codes "m\nb.c@v1.0.0\n") (chain_text main.path steps) says)) in
       let there : Contains steps (Of b_one) = subst (λ (ss : List Step). Contains ss (Of b_one)) (sym same) (member_tail FromMain (Of b_one) (Of b_one ∷ []) (member_head (Of b_one) [])) in
       let (t, end) = walk_step (among edges) (chain_walk (among edges) chain) b_one there in
-      b_is_no_end edges t (edges_are run main held edges valid exact own one.graph_is) end)
+      b_is_no_end edges t (edges_are run main table edges found exact own one.graph_is) end)
 ]

@@ -10,35 +10,31 @@ use Rattle.gm_name.specs.Version.{IsVersion, version_cmp}
 use Rattle.gm_name.specs.ModuleVersion.{ModuleVersion}
 use Rattle.gm_file.specs.Directives.{Replacing}
 use Rattle.gm_file.specs.Main.{Main, without_excluded, IsMainFile}
-use Rattle.gm_graph.specs.Reading.{Held, Readings, readings_by}
+use Rattle.gm_store_sums.specs.Sums.{Sums}
+use Rattle.gm_graph.specs.Run.{AreRows, IsDeep, IsOpened, IsTop, IsVertex, Run, from_deep, from_main, from_top, run_of}
 use Rattle.gm_graph_select.specs.declared.step.Step.TheVariants.{Main as FromMain, Of}
 use Rattle.gm_graph_select.specs.BuildList.{Entry, entry_of, main_entry, path_of}
 use Rattle.gm_graph_select.specs.Laws.{entries_of_pages}
 use Rattle.gm_graph_select.proofs.Ascending.{member_cases, member_head, member_tail, no_member}
-use Rattle.gm_graph.specs.Graph.{IsDeep, IsOpened, IsTop, IsVertex, from_deep, from_main, from_top}
 use Rattle.gomod_run.specs.ListingLaws.{AreGreatest, ArePrintedPages, ShowsBuildList, no_row, one_page}
-use Rattle.gomod_run.specs.Outcomes.{Given}
-use Rattle.gomod_run.specs.HeldFiles.{AllFilesAreValid}
-use Rattle.gomod_run.proofs.HeldEnds.{PrintsList, list_held}
-use Rattle.gm_graph.specs.Outcome.{AreRows}
+use Rattle.gomod_run.specs.Outcomes.{AreFound, Given, ListEnds}
 use Rattle.gomod_run.specs.Outcome.{Outcome, printed, refused}
 use Rattle.gomod_run.specs.PrintedLines.{AreProperRows, IsProperRow}
 use Rattle.gomod_run.specs.Reports.{not_listed_line}
 use Rattle.gomod_run.specs.ListingTexts.{limited, list_text}
 use Rattle.gomod_run.proofs.GreatestRows.{as_build_list}
 use Rattle.gomod_run.proofs.ListLines.{Lacks, cut_at, lacks, path_has_no_blank, path_has_no_feed, text_says_rows}
-use Rattle.gomod_run.proofs.OneOutcome.{ends_once}
-use Rattle.gomod_run.proofs.OnePrinted.{list_once}
 use Rattle.gomod_run.proofs.OneRead.{one_main}
+use Rattle.gomod_run.proofs.OneStore.{one_outcome}
 use Rattle.gomod_run.proofs.PrintedList.{texts_join}
 use Rattle.gomod_run.proofs.RunNames.{run_has_names, run_has_proper_rows}
+use Rattle.gomod_words.specs.declared.usage.Command.TheVariants.{List as Rows}
 use Rattle.gomod_laws.specs.Counterexamples.{a_one, list_of_a}
-use Rattle.gomod_laws.specs.CounterListings.{MainIsMissing, PageHasAnotherRow, PageIsMissing, PartHasAnotherRow, PartIsTheWhole, PartIsTooLong, PathIsTwice, RequiredHasNoRow, RowIsNotRequired, RowIsTooLow, RowsAreUnordered, a_two, b_one}
+use Rattle.gomod_laws.specs.CounterListings.{IsRequiredBy, MainIsMissing, PageHasAnotherRow, PageIsMissing, PartHasAnotherRow, PartIsTheWhole, PartIsTooLong, PathIsTwice, RequiredHasNoRow, RowIsNotRequired, RowIsTooLow, RowsAreUnordered, a_two, b_one}
 use Rattle.gomod_laws.proofs.Contradicted.{a_is_path, b_is_path, other_name}
 use Rattle.gomod_laws.proofs.KnownVersions.{one_one_is, one_one_is_above, one_zero_is}
 use Rattle.gomod_laws.proofs.PrintedRow.{limited_member, printed_rows}
 use Rattle.gomod_laws.proofs.ShownTexts.{same_text}
-use Rattle.gomod_run.specs.Outcomes as ends
 
 -- ---- lists of rows
 
@@ -101,12 +97,12 @@ spread_main main rest = append_assoc (main ++ []) (codes "\n") rest ∙ ap (λ (
 own_path : (main rest text : List ℕ) → IsPath main → ((main ++ []) ++ codes "\n") ++ rest ≡ codes "m" ++ (10 ∷ text) → main ≡ codes "m"
 own_path main rest text is e = (cut_at 10 main (codes "m") rest text (path_has_no_feed main is) m_lacks (sym (spread_main main rest) ∙ e)).0
 
-module _ (run : Given) (main : Main) (held : Held) (rows : List Entry) (valid : AllFilesAreValid run main held) (are : AreRows main (readings_by main held) rows) where
+module _ (run : Given) (main : Main) (table : Option Sums) (rows : List Entry) (found : AreFound run main table []) (are : AreRows (run_of main table run.told.asked) rows) where
   pub main_is_path : IsPath main.path
-  main_is_path = (run_has_names run main valid.table held valid.read valid.known).0
+  main_is_path = (run_has_names run main table found.read).0
 
   rows_proper : AreProperRows rows
-  rows_proper = run_has_proper_rows run main held rows valid are
+  rows_proper = run_has_proper_rows run main table rows found.read are
 
   -- rows with this text are these rows, and the main module is m
   pub rows_are : (known : List Entry) → AreProperRows (main_entry ∷ known) → list_text main.path rows ≡ list_text (codes "m") (main_entry ∷ known)
@@ -153,21 +149,21 @@ names_proper (x ∷ known) names = ((names.0.0, names.0.1, tt), names_proper kno
 -- a build list with this text selects these modules
 record Selects (run : Given) (known : List ModuleVersion) : Type 0 where
   main : Main
-  held : Held
-  valid : AllFilesAreValid run main held
+  table : Option Sums
+  found : AreFound run main table []
   own : main.path ≡ codes "m"
-  greatest : AreGreatest main (readings_by main held) known
+  greatest : AreGreatest (run_of main table run.told.asked) known
 
 selects : (run : Given) (text : List ℕ) (known : List ModuleVersion) → AllByRecursion IsName known → text ≡ list_text (codes "m") (main_entry ∷ map row_at known)
     → ShowsBuildList run (printed text) → Selects run known
-selects run text known names is (main, held, selected, valid, greatest, says) =
-    let readings : Readings = readings_by main held in
+selects run text known names is (main, table, selected, found, greatest, says) =
+    let r : Run = run_of main table run.told.asked in
     let rows : List Entry = main_entry ∷ map (entry_of main.replaces) selected in
-    let are : AreRows main readings rows = as_build_list main readings selected greatest in
+    let are : AreRows r rows = as_build_list r selected greatest in
     let proper : AreProperRows (main_entry ∷ map row_at known) = each_of IsProperRow (main_entry ∷ map row_at known) (refl, names_proper known names) in
-    let (own, same) = rows_are run main held rows valid are (map row_at known) proper (sym (same_text text (list_text main.path rows) says) ∙ is) in
+    let (own, same) = rows_are run main table rows found are (map row_at known) proper (sym (same_text text (list_text main.path rows) says) ∙ is) in
     let modules : selected ≡ known = vertices_are main.replaces selected known (tails_same main_entry main_entry (map (entry_of main.replaces) selected) (map row_at known) same) in
-    record { main = main; held = held; valid = valid; own = own; greatest = subst (λ (xs : List ModuleVersion). AreGreatest main readings xs) modules greatest }
+    record { main = main; table = table; found = found; own = own; greatest = subst (λ (xs : List ModuleVersion). AreGreatest r xs) modules greatest }
 
 a_name : IsName a_one
 a_name = (a_is_path, one_zero_is)
@@ -192,17 +188,17 @@ first_lacks : Lacks 10 (codes "a.b v1.0.0")
 first_lacks = lacks 10 (λ b. nat_lt 10 b) refl (codes "a.b v1.0.0") refl
 
 pub main_is_missing : MainIsMissing
-main_is_missing run (main, held, selected, valid, greatest, says) =
+main_is_missing run (main, table, selected, found, greatest, says) =
     let rows : List Entry = main_entry ∷ map (entry_of main.replaces) selected in
-    let is = main_is_path run main held rows valid (as_build_list main (readings_by main held) selected greatest) in
+    let is = main_is_path run main table rows found (as_build_list (run_of main table run.told.asked) selected greatest) in
     let rest = list_text main.path (map (entry_of main.replaces) selected) in
     let text : codes "a.b v1.0.0" ++ (10 ∷ []) ≡ main.path ++ (10 ∷ rest) = same_text (codes "a.b v1.0.0\n") (list_text main.path rows) says ∙ spread_main main.path rest in
     let own = (cut_at 10 (codes "a.b v1.0.0") main.path [] rest first_lacks (path_has_no_feed main.path is) text).0 in
     let plain : Lacks 32 (codes "a.b v1.0.0") = subst (Lacks 32) (sym own) (path_has_no_blank main.path is) in
     plain.1.1.1.0 refl
 
-same_main : (run : Given) (main other : Main) (held : Held) → AllFilesAreValid run other held → IsMainFile run.file main → main ≡ other
-same_main run main other held valid is = one_main run.file main other is valid.read.main_file
+same_main : (run : Given) (main other : Main) (table : Option Sums) → AreFound run other table [] → IsMainFile run.file main → main ≡ other
+same_main run main other table found is = one_main run.file main other is found.read.main_file
 
 a_is_not_main : (path : List ℕ) → path ≡ codes "m" → codes "a.b" ≡ path → ⊥
 a_is_not_main path own e = let first : ◌≡◌ {A = ℕ} 97 109 = cc (e ∙ own) in omega (arith, first)
@@ -210,7 +206,7 @@ a_is_not_main path own e = let first : ◌≡◌ {A = ℕ} 97 109 = cc (e ∙ ow
 pub row_is_too_low : RowIsTooLow
 row_is_too_low run main is top shows =
     let s = selects run (codes "m\na.b v1.0.0\n") (a_one ∷ []) (a_name, tt) refl shows in
-    let here : IsTop s.main a_two = subst (λ (m : Main). IsTop m a_two) (same_main run main s.main s.held s.valid is) top in
+    let here : IsRequiredBy s.main a_two = subst (λ (m : Main). IsRequiredBy m a_two) (same_main run main s.main s.table s.found is) top in
     let (x, there, path, high) = s.greatest.satisfied a_two (FromMain, here) (a_is_not_main s.main.path s.own) in
     elim (member_cases a_one x [] there) [
       | inl same ↦ two_is_above (subst (λ (y : ModuleVersion). is_gt (version_cmp a_two.1 y.1) ≡ false) (sym same) high)
@@ -220,52 +216,52 @@ row_is_too_low run main is top shows =
 pub required_has_no_row : RequiredHasNoRow
 required_has_no_row run main is top shows =
     let s = selects run (codes "m\n") [] tt refl shows in
-    let here : IsTop s.main a_one = subst (λ (m : Main). IsTop m a_one) (same_main run main s.main s.held s.valid is) top in
+    let here : IsRequiredBy s.main a_one = subst (λ (m : Main). IsRequiredBy m a_one) (same_main run main s.main s.table s.found is) top in
     let (x, there, path, high) = s.greatest.satisfied a_one (FromMain, here) (a_is_not_main s.main.path s.own) in
     no_member x there
 
 -- a main file that requires nothing opens nothing
-module _ (main : Main) (readings : Readings) (nothing : main.requirements ≡ []) where
-  no_top : (x : ModuleVersion) → IsTop main x → ⊥
-  no_top x top = no_member x (subst (λ (xs : List ModuleVersion). Contains (without_excluded main xs) x) nothing top)
+module _ (run : Run) (nothing : run.main.requirements ≡ []) where
+  no_top : (x : ModuleVersion) → IsTop run x → ⊥
+  no_top x top = no_member x (subst (λ (xs : List ModuleVersion). Contains (without_excluded run.main xs) x) nothing top)
 
-  no_deep : {x : ModuleVersion} → IsDeep main readings x → ⊥
+  no_deep : {x : ModuleVersion} → IsDeep run x → ⊥
   no_deep (from_main {x} unpruned top) = no_top x top
-  no_deep (from_top {x} {y} top unpruned there) = no_top x top
-  no_deep (from_deep {x} {y} deep there) = no_deep deep
+  no_deep (from_top {x} {y} file top says unpruned there) = no_top x top
+  no_deep (from_deep {x} {y} deep requires) = no_deep deep
 
-  no_opened : (x : ModuleVersion) → IsOpened main readings x → ⊥
+  no_opened : (x : ModuleVersion) → IsOpened run x → ⊥
   no_opened x (inl top) = no_top x top
   no_opened x (inr deep) = no_deep deep
 
-  no_vertex : (x : ModuleVersion) → IsVertex main readings x → ⊥
+  no_vertex : (x : ModuleVersion) → IsVertex run x → ⊥
   no_vertex x (FromMain, top) = no_top x top
-  no_vertex x (Of y, (opens, there)) = no_opened y opens
+  no_vertex x (Of y, (opens, requires)) = no_opened y opens
 
 pub row_is_not_required : RowIsNotRequired
 row_is_not_required run main is nothing shows =
     let s = selects run (codes "m\na.b v1.0.0\n") (a_one ∷ []) (a_name, tt) refl shows in
-    let none : s.main.requirements ≡ [] = ap (λ (m : Main). m.requirements) (sym (same_main run main s.main s.held s.valid is)) ∙ nothing in
-    no_vertex s.main (readings_by s.main s.held) none a_one (s.greatest.required a_one (member_head a_one []))
+    let none : s.main.requirements ≡ [] = ap (λ (m : Main). m.requirements) (sym (same_main run main s.main s.table s.found is)) ∙ nothing in
+    no_vertex (run_of s.main s.table run.told.asked) none a_one (s.greatest.required a_one (member_head a_one []))
 
 -- ---- parts
 
-whole_is : (run : Given) (main : Main) (held : Held) (rows : List Entry) → AllFilesAreValid run main held → AreRows main (readings_by main held) rows
+whole_is : (run : Given) (main : Main) (table : Option Sums) (rows : List Entry) → AreFound run main table [] → AreRows (run_of main table run.told.asked) rows
     → list_of_a ≡ printed (list_text main.path rows) → (main.path ≡ codes "m") × (rows ≡ rows_with_a)
-whole_is run main held rows valid are says =
-    rows_are run main held rows valid are (row_at a_one ∷ []) with_a_proper (sym (same_text (codes "m\na.b v1.0.0\n") (list_text main.path rows) says))
+whole_is run main table rows found are says =
+    rows_are run main table rows found are (row_at a_one ∷ []) with_a_proper (sym (same_text (codes "m\na.b v1.0.0\n") (list_text main.path rows) says))
 
 pub part_has_another_row : PartHasAnotherRow
-part_has_another_row after limit run (main, held, rows, valid, are, says, prints) =
-    let (own, same) = whole_is run main held rows valid are says in
+part_has_another_row after limit run (main, table, rows, found, are, says, prints) =
+    let (own, same) = whole_is run main table rows found are says in
     let (shown, text, inside) = printed_rows main rows after limit (printed (codes "b.c v1.0.0\n")) refl prints in
-    let is : shown ≡ row_at b_one ∷ [] = some_are run main held rows valid are shown (row_at b_one ∷ []) inside (each_of IsProperRow (row_at b_one ∷ []) (b_proper, tt)) (sym text) in
+    let is : shown ≡ row_at b_one ∷ [] = some_are run main table rows found are shown (row_at b_one ∷ []) inside (each_of IsProperRow (row_at b_one ∷ []) (b_proper, tt)) (sym text) in
     let there : Contains shown (row_at b_one) = subst (λ (es : List Entry). Contains es (row_at b_one)) (sym is) (member_head (row_at b_one) []) in
     b_is_no_row (subst (λ (es : List Entry). Contains es (row_at b_one)) same (inside (row_at b_one) there))
 
 pub part_is_too_long : PartIsTooLong
-part_is_too_long run (main, held, rows, valid, are, says, prints) =
-    let (own, same) = whole_is run main held rows valid are says in
+part_is_too_long run (main, table, rows, found, are, says, prints) =
+    let (own, same) = whole_is run main table rows found are says in
     let one : list_of_a ≡ printed (list_text (codes "m") (limited (Some 1) rows_with_a)) =
     prints ∙ ap (λ (m : List ℕ). printed (list_text m (limited (Some 1) rows))) own ∙ ap (λ (es : List Entry). printed (list_text (codes "m") (limited (Some 1) es))) same in
     let size : ◌≡◌ {A = ℕ} 13 2 = ap (λ (o : Outcome). length o.text) one in
@@ -287,14 +283,14 @@ pub not_refused : (text report : List ℕ) → printed text ≡ refused report �
 not_refused text report e = let status : ◌≡◌ {A = ℕ} 0 1 = ap (λ (o : Outcome). o.status) e in omega (arith, status)
 
 pub part_is_the_whole : PartIsTheWhole
-part_is_the_whole path limit run (main, held, rows, valid, are, says, inr (none, tells)) = not_refused (codes "m\na.b v1.0.0\n") (not_listed_line path) tells
-part_is_the_whole path limit run (main, held, rows, valid, are, says, inl (rest, (entry, at), tells)) =
-    let (own, same) = whole_is run main held rows valid are says in
+part_is_the_whole path limit run (main, table, rows, found, are, says, inr (none, tells)) = not_refused (codes "m\na.b v1.0.0\n") (not_listed_line path) tells
+part_is_the_whole path limit run (main, table, rows, found, are, says, inl (rest, (entry, at), tells)) =
+    let (own, same) = whole_is run main table rows found are says in
     let inside : (row : Entry) → Contains (limited limit rest) row → Contains rows row =
     λ row there. subst (λ (es : List Entry). Contains es row) (sym at.parts) (Contains-append_right at.before (entry ∷ rest) row (member_tail entry row rest (limited_member limit rest row there))) in
     let text : list_text main.path (limited limit rest) ≡ list_text main.path rows_with_a =
     sym (same_text (codes "m\na.b v1.0.0\n") (list_text main.path (limited limit rest)) tells) ∙ ap (λ (m : List ℕ). list_text m rows_with_a) (sym own) in
-    let is : limited limit rest ≡ rows_with_a = some_are run main held rows valid are (limited limit rest) rows_with_a inside with_a_proper text in
+    let is : limited limit rest ≡ rows_with_a = some_are run main table rows found are (limited limit rest) rows_with_a inside with_a_proper text in
     let there : Contains (limited limit rest) main_entry = subst (λ (es : List Entry). Contains es main_entry) (sym is) (member_head main_entry (row_at a_one ∷ [])) in
     main_is_not_later (later_rows at.before rest entry main_entry main_entry (row_at a_one ∷ []) (sym at.parts ∙ same) (limited_member limit rest main_entry there))
 
@@ -306,11 +302,11 @@ data PageCase (run : Given) (main text : List ℕ) : List (List Entry) → Type 
   some_left : {pages : List (List Entry)} (front : List Entry) (last : Entry) → list_text main (front ++ last ∷ []) ≡ text
       → ArePrintedPages run main 1 (Some (path_of main last.0)) pages → PageCase run main text ((front ++ last ∷ []) ∷ pages)
 
-page_case : (run : Given) (main text : List ℕ) {after : Option (List ℕ)} {pages : List (List Entry)} → ends.ListEnds after (Some 1) run (printed text)
+page_case : (run : Given) (main text : List ℕ) {after : Option (List ℕ)} {pages : List (List Entry)} → ListEnds after (Some 1) run (printed text)
     → ArePrintedPages run main 1 after pages → PageCase run main text pages
-page_case run main text is (no_row {after} says) = none_left (same_text text [] (ends_once (PrintsList after (Some 1)) (list_once after (Some 1)) run (printed text) (printed []) (list_held run _ after (Some 1) is) (list_held run _ after (Some 1) says)))
+page_case run main text is (no_row {after} says) = none_left (same_text text [] (one_outcome (Rows after (Some 1)) run (printed text) (printed []) is says))
 page_case run main text is (one_page {after} {pages} front last says more) =
-    some_left front last (same_text (list_text main (front ++ last ∷ [])) text (ends_once (PrintsList after (Some 1)) (list_once after (Some 1)) run (printed (list_text main (front ++ last ∷ []))) (printed text) (list_held run _ after (Some 1) says) (list_held run _ after (Some 1) is))) more
+    some_left front last (same_text (list_text main (front ++ last ∷ [])) text (one_outcome (Rows after (Some 1)) run (printed (list_text main (front ++ last ∷ []))) (printed text) says is)) more
 
 last_of : (front : List Entry) (last one : Entry) → front ++ last ∷ [] ≡ one ∷ [] → last ≡ one
 last_of [] last one e = cc e
@@ -330,26 +326,26 @@ only_m = codes "m\n"
 m_proper : AreProperRows (main_entry ∷ [])
 m_proper = each_of IsProperRow (main_entry ∷ []) (refl, tt)
 
-module _ (run : Given) (main : Main) (held : Held) (valid : AllFilesAreValid run main held) where
+module _ (run : Given) (main : Main) (table : Option Sums) (found : AreFound run main table []) where
   abbrev AreJoined : List (List Entry) → Type 0
-  AreJoined pages = AreRows main (readings_by main held) (entries_of_pages pages)
+  AreJoined pages = AreRows (run_of main table run.told.asked) (entries_of_pages pages)
 
   abbrev IsText : List (List Entry) → Type 0
   IsText pages = list_of_a.text ≡ flat_map (list_text main.path) pages
 
   joined_are : (pages : List (List Entry)) → AreJoined pages → IsText pages → (main.path ≡ codes "m") × (entries_of_pages pages ≡ rows_with_a)
-  joined_are pages are text = whole_is run main held (entries_of_pages pages) valid are (ap printed (text ∙ sym (texts_join main.path pages)))
+  joined_are pages are text = whole_is run main table (entries_of_pages pages) found are (ap printed (text ∙ sym (texts_join main.path pages)))
 
   -- the first page is that of the main module
   first_is : (page : List Entry) (pages : List (List Entry)) → AreJoined (page ∷ pages) → IsText (page ∷ pages) → list_text main.path page ≡ only_m → page ≡ main_entry ∷ []
   first_is page pages are text says =
       let own = (joined_are (page ∷ pages) are text).0 in
-      some_are run main held (entries_of_pages (page ∷ pages)) valid are page (main_entry ∷ []) (λ row there. Contains-append_left page (entries_of_pages pages) row there) m_proper
+      some_are run main table (entries_of_pages (page ∷ pages)) found are page (main_entry ∷ []) (λ row there. Contains-append_left page (entries_of_pages pages) row there) m_proper
       (says ∙ ap (λ (m : List ℕ). list_text m (main_entry ∷ [])) (sym own))
 
   -- what the second is, if this is the text of the second page
   second_case : (front : List Entry) (last : Entry) (pages : List (List Entry)) (text : List ℕ) → main.path ≡ codes "m" → front ++ last ∷ [] ≡ main_entry ∷ []
-      → ends.ListEnds (Some (codes "m")) (Some 1) run (printed text) → ArePrintedPages run main.path 1 (Some (path_of main.path last.0)) pages → PageCase run main.path text pages
+      → ListEnds (Some (codes "m")) (Some 1) run (printed text) → ArePrintedPages run main.path 1 (Some (path_of main.path last.0)) pages → PageCase run main.path text pages
   second_case front last pages text own page is more =
       let path : path_of main.path last.0 ≡ codes "m" = ap (λ (row : Entry). path_of main.path row.0) (last_of front last main_entry page) ∙ own in
       page_case run main.path text is (subst (λ (p : List ℕ). ArePrintedPages run main.path 1 (Some p) pages) path more)
@@ -363,25 +359,25 @@ module _ (run : Given) (main : Main) (held : Held) (valid : AllFilesAreValid run
         only_main (sym (append-nil (main_entry ∷ [])) ∙ ap (λ (es : List Entry). es ++ []) (sym first) ∙ (joined_are (page ∷ []) are text).1)
     missing_second are text (some_left {pages} front last says more) =
         let second : List Entry = front ++ last ∷ [] in
-        no_last front last (some_are run main held (entries_of_pages (page ∷ second ∷ pages)) valid are second [] (λ row there. in_second second pages row there) (each_of IsProperRow [] tt) says)
+        no_last front last (some_are run main table (entries_of_pages (page ∷ second ∷ pages)) found are second [] (λ row there. in_second second pages row there) (each_of IsProperRow [] tt) says)
 
     other_second : {pages : List (List Entry)} → AreJoined (page ∷ pages) → IsText (page ∷ pages) → PageCase run main.path (codes "b.c v1.0.0\n") pages → ⊥
     other_second are text (none_left none) = cc none
     other_second are text (some_left {pages} front last says more) =
         let second : List Entry = front ++ last ∷ [] in
         let is : second ≡ row_at b_one ∷ [] =
-        some_are run main held (entries_of_pages (page ∷ second ∷ pages)) valid are second (row_at b_one ∷ []) (λ row there. in_second second pages row there) (each_of IsProperRow (row_at b_one ∷ []) (b_proper, tt)) says in
+        some_are run main table (entries_of_pages (page ∷ second ∷ pages)) found are second (row_at b_one ∷ []) (λ row there. in_second second pages row there) (each_of IsProperRow (row_at b_one ∷ []) (b_proper, tt)) says in
         let there : Contains second (row_at b_one) = subst (λ (es : List Entry). Contains es (row_at b_one)) (sym is) (member_head (row_at b_one) []) in
         b_is_no_row (subst (λ (es : List Entry). Contains es (row_at b_one)) (joined_are (page ∷ second ∷ pages) are text).1 (in_second second pages (row_at b_one) there))
 
-  missing_first : {pages : List (List Entry)} → AreJoined pages → IsText pages → ends.ListEnds (Some (codes "m")) (Some 1) run (printed []) → PageCase run main.path only_m pages → ⊥
+  missing_first : {pages : List (List Entry)} → AreJoined pages → IsText pages → ListEnds (Some (codes "m")) (Some 1) run (printed []) → PageCase run main.path only_m pages → ⊥
   missing_first are text is (none_left none) = cc none
   missing_first are text is (some_left {pages} front last says more) =
       let page : List Entry = front ++ last ∷ [] in
       let first = first_is page pages are text says in
       missing_second page first are text (second_case front last pages [] (joined_are (page ∷ pages) are text).0 first is more)
 
-  other_first : {pages : List (List Entry)} → AreJoined pages → IsText pages → ends.ListEnds (Some (codes "m")) (Some 1) run (printed (codes "b.c v1.0.0\n")) → PageCase run main.path only_m pages → ⊥
+  other_first : {pages : List (List Entry)} → AreJoined pages → IsText pages → ListEnds (Some (codes "m")) (Some 1) run (printed (codes "b.c v1.0.0\n")) → PageCase run main.path only_m pages → ⊥
   other_first are text is (none_left none) = cc none
   other_first are text is (some_left {pages} front last says more) =
       let page : List Entry = front ++ last ∷ [] in
@@ -389,7 +385,7 @@ module _ (run : Given) (main : Main) (held : Held) (valid : AllFilesAreValid run
       other_second page first are text (second_case front last pages (codes "b.c v1.0.0\n") (joined_are (page ∷ pages) are text).0 first is more)
 
 pub page_is_missing : PageIsMissing
-page_is_missing run first second (main, held, pages, valid, are, paged, text) = missing_first run main held valid are text second (page_case run main.path only_m first paged)
+page_is_missing run first second (main, table, pages, found, are, paged, text) = missing_first run main table found are text second (page_case run main.path only_m first paged)
 
 pub page_has_another_row : PageHasAnotherRow
-page_has_another_row run first second (main, held, pages, valid, are, paged, text) = other_first run main held valid are text second (page_case run main.path only_m first paged)
+page_has_another_row run first second (main, table, pages, found, are, paged, text) = other_first run main table found are text second (page_case run main.path only_m first paged)

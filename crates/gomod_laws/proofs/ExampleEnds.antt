@@ -1,50 +1,40 @@
 -- How runs of `list` over small main files end.
-use Rattle.std.proofs.Common.{◌≡◌, ◌∙◌, ◌≤◌, ◌∷◌, ℕ, Bool, true, false, List, [], Option, Some, None, IsSome, Result, Ok, Err, Contains, ap, ap₂, arith, codes, inl, inr, length, lit<, refl, subst, sym}
+use Rattle.std.proofs.Common.{◌≡◌, ◌∙◌, ◌≤◌, ◌∷◌, ℕ, Bool, true, false, List, [], Option, Some, None, Result, Ok, Err, Contains, ap, ap₂, arith, codes, inl, inr, length, lit<, refl, subst, sym}
 use Rattle.std.specs.Prelude.{if◌then◌else◌}
 use Rattle.std.specs.List.{IsDistinct}
 use Rattle.std.specs.declared.cmp.Ordering.TheVariants.{Less}
 use Rattle.std.proofs.lemmas.Bool.{false≢true}
 use Rattle.std.proofs.lemmas.Fmt.{decimal_digit}
 use Rattle.std.proofs.lemmas.Map.Keys.{IsDistinct-head}
+use Rattle.std.proofs.lemmas.Option.{same_Some}
 use Rattle.gm_name.specs.Path.{is_fetchable}
 use Rattle.gm_name.specs.ModuleVersion.{ModuleVersion, pair-self, pair_cmp, pair_eq}
 use Rattle.gm_file.specs.declared.fault.DirectiveKind.TheVariants.{NoModule}
 use Rattle.gm_file.specs.Fields.{Dependency}
-use Rattle.gm_store.specs.Asked.{Name, Reply, mod_file, folder_file, list_file, absent, answer_in, same_name}
+use Rattle.gm_store.specs.Asked.{Name, Reply, mod_file, folder_file, list_file, absent, names_in, same_name}
+use Rattle.gm_store_sums.specs.Sums.{Sums}
 use Rattle.gm_file.specs.Main.{Main}
-use Rattle.gm_graph.specs.Reading.{Held, IsTold, Readings, Tells, file_of, is_askable, readings_by, requirements_in, said_in, vertex_fault, vertex_requirements}
-use Rattle.gm_graph.proofs.ReadingIf.{reading_if}
+use Rattle.gm_graph.specs.Reading.{IsFileReading, file_of, is_askable}
 use Rattle.gm_graph.specs.declared.cache.class.Class.{Class}
 use Rattle.gm_graph.specs.declared.cache.class.Class.TheVariants.{Missing}
 use Rattle.gm_file.specs.declared.misreading.Misreading.TheVariants as misreading
 use Rattle.gm_graph_select.specs.declared.step.Step.TheVariants.{Main as FromMain, Of}
 use Rattle.gm_graph_select.specs.BuildList.{main_entry, path_cmp}
-use Rattle.gm_graph_select.specs.Graph.{IsEdgeEnd}
 use Rattle.gm_graph_select.proofs.Ascending.{member_cases, member_head, no_member}
-use Rattle.gm_graph.specs.Graph.{IsEdge, IsOpened, IsTop, from_deep, from_main, from_top}
-use Rattle.gm_graph.specs.Loading.{AreAsked, AreFew, AreTooMany, IsDue, IsNeeded}
-use Rattle.gm_graph.specs.Outcome.{AreFaults, AreRows}
+use Rattle.gm_graph.specs.Run.{AreFaults, AreOpened, AreRows, AreTooMany, FileSays, IsDue, IsFault, IsNeeded, IsOpened, IsSettled, IsTop, IsVertex, Run, Says, answered, faulty as says_fault, from_deep, from_main, from_top, run_of, sound, unaskable, wrong_path}
 use Rattle.gm_graph.specs.declared.fault.Fault.{Fault}
-use Rattle.gomod_run.specs.Outcomes.{answers}
-use Rattle.gomod_run.specs.HeldFiles.{AreKnown}
-use Rattle.gomod_run.proofs.HeldEnds.{ListEnds, PrintsList, bad_main, bad_sums, device, faulty, no_fault, list_held, list_said}
-use Rattle.gomod_run.specs.Outcome.{Outcome, printed, refused}
-use Rattle.gomod_run.proofs.OneOutcome.{ends_once}
-use Rattle.gomod_run.proofs.OnePrinted.{list_once}
+use Rattle.gomod_run.specs.Outcomes.{AreFound, FilesReadAs, ListEnds, bad_main, bad_sums, device, faulty, no_fault, too_many}
+use Rattle.gomod_run.specs.Outcome.{printed, refused}
 use Rattle.gomod_run.proofs.OneRead.{misread_or_main, one_main}
-use Rattle.gomod_run.proofs.QueryParts.{LoadingEnd, Parts, are_read, is_broken, is_known, is_many, parts, unread}
+use Rattle.gomod_run.proofs.OneStore.{one_outcome}
+use Rattle.gomod_words.specs.declared.usage.Command.TheVariants.{List as Rows}
 use Rattle.gomod_laws.specs.ExampleWorld.{top_one}
-use Rattle.gomod_laws.specs.ExampleRuns.{BadSumIsRefused, EmptyIsRefused, HasNoOutcome, IsListedAlone, RequiredIsAsked, alone, low_name, main_requiring, requiring, run_of, run_with_bad_sum, top_name}
+use Rattle.gomod_laws.specs.ExampleRuns.{BadSumIsRefused, EmptyIsRefused, HasNoOutcome, IsListedAlone, RequiredIsAsked, alone, low_name, main_requiring, requiring, run_with_bad_sum, top_name}
+use Rattle.gomod_laws.specs.ExampleRuns as example
 use Rattle.gomod_laws.proofs.ExampleFiles.{empty_is_malformed, files_are_read}
-use Rattle.gomod_laws.proofs.ExampleWorlds.{fault_with, pairs_of, same_class}
+use Rattle.gomod_laws.proofs.ExampleSaid.{fault_is}
+use Rattle.gomod_laws.proofs.ExampleWorlds.{fault_with, pairs_of}
 use Rattle.gomod_laws.proofs.KnownVersions.{first_byte}
-
--- nothing is held
-abbrev nothing : Held
-nothing name = None
-
-nothing_told : Tells None [] nothing
-nothing_told name = tt
 
 nothing_twice : IsDistinct same_name []
 unfolding IsDistinct
@@ -52,36 +42,24 @@ nothing_twice = tt
 
 -- ---- a main module that requires nothing
 
-abbrev none_said : Readings
-none_said = readings_by (main_requiring []) nothing
+abbrev lone : Run
+lone = run_of (main_requiring []) None []
 
-none_opened : (x : ModuleVersion) → IsOpened (main_requiring []) none_said x → ⊥
+none_opened : (x : ModuleVersion) → IsOpened lone x → ⊥
 none_opened x (inl top) = no_member x top
 none_opened x (inr (from_main unpruned top)) = no_member x top
-none_opened y (inr (from_top {x = x} top unpruned there)) = no_member x top
-none_opened y (inr (from_deep {x = x} deep there)) = none_opened x (inr deep)
+none_opened y (inr (from_top {x = x} file top says unpruned there)) = no_member x top
+none_opened y (inr (from_deep {x = x} deep requires)) = none_opened x (inr deep)
 
-none_few : AreFew (main_requiring []) none_said
-none_few [] distinct each = omega arith
-none_few (x ∷ all) distinct each = absurd (none_opened x (each x (member_head x all)))
+none_few : (xs : List ModuleVersion) → AreOpened lone xs → length xs ≤ 65536
+none_few [] are = omega arith
+none_few (x ∷ xs) are = absurd (none_opened x (are.each x (member_head x xs)))
 
-none_known : AreKnown (main_requiring []) None (answers [] []) nothing
-none_known = record {
-  tells = nothing_told;
-  answered = λ x opens. absurd (none_opened x opens);
-  asked = record {
-    once = nothing_twice;
-    each = λ name. ((λ there. absurd (no_member name there)), λ needed. absurd (none_opened needed.0 needed.1));
-  };
-  few = none_few;
-  none_failed = refl;
-}
-
-none_leads : (x : ModuleVersion) → IsEdgeEnd (IsEdge (main_requiring []) none_said) x → ⊥
+none_leads : (x : ModuleVersion) → IsVertex lone x → ⊥
 none_leads x (FromMain, top) = no_member x top
-none_leads x (Of y, (opens, there)) = none_opened y opens
+none_leads x (Of y, (opens, requires)) = none_opened y opens
 
-none_rows : AreRows (main_requiring []) none_said (main_entry ∷ [])
+none_rows : AreRows lone (main_entry ∷ [])
 none_rows = record {
   selected = [];
   entries_are = refl;
@@ -89,21 +67,30 @@ none_rows = record {
   each = λ x. ((λ there. absurd (no_member x there)), λ is. absurd (none_leads x is.is_end));
 }
 
-none_faulty : AreFaults (main_requiring []) none_said []
+none_faulty : AreFaults lone []
 none_faulty = record {
   ascending = pairs_of (λ (a b : Fault). pair_cmp a.vertex b.vertex ≡ Less) [] tt;
-  each = λ one. ((λ there. absurd (no_member one there)), λ has. absurd (none_opened one.vertex has.0));
+  each = λ one. ((λ there. absurd (no_member one there)), λ is. absurd (none_opened one.vertex is.0));
 }
 
-alone_listed : ListEnds None None (run_of alone [] []) (printed (codes "m\n"))
+none_settled : IsSettled lone []
+none_settled = record {
+  read = λ name reply at. absurd (cc at);
+  once = nothing_twice;
+  needed = λ name. ((λ there. absurd (no_member name there)), λ need. absurd (none_opened need.0 need.1));
+  few = none_few;
+}
+
+alone_listed : ListEnds None None (example.run_of alone [] []) (printed (codes "m\n"))
 alone_listed =
-    no_fault (main_requiring []) nothing (record { table = None; read = record { main_file = files_are_read.one; sums = tt }; known = none_known; sound = none_faulty })
+    no_fault (main_requiring []) None
+    (record { read = record { main_file = files_are_read.one; sums = tt }; settled = none_settled; faults_are = none_faulty; none_failed = refl })
     (main_entry ∷ [], none_rows, refl)
 
 pub is_listed_alone : IsListedAlone
 is_listed_alone = record {
-  listed = list_said (run_of alone [] []) _ None None alone_listed;
-  only = λ outcome is. ends_once (PrintsList None None) (list_once None None) (run_of alone [] []) outcome (printed (codes "m\n")) (list_held (run_of alone [] []) outcome None None is) alone_listed;
+  listed = alone_listed;
+  only = λ outcome is. one_outcome (Rows None None) (example.run_of alone [] []) outcome (printed (codes "m\n")) is alone_listed;
 }
 
 -- ---- a go.sum with a line of two fields
@@ -114,97 +101,126 @@ bad_sum_reported =
 
 pub bad_sum_is_refused : BadSumIsRefused
 bad_sum_is_refused = record {
-  reported = list_said run_with_bad_sum _ None None bad_sum_reported;
-  only = λ outcome is. ends_once (PrintsList None None) (list_once None None) run_with_bad_sum outcome (refused (codes "go.sum:1: BadSum\n")) (list_held run_with_bad_sum outcome None None is) bad_sum_reported;
+  reported = bad_sum_reported;
+  only = λ outcome is. one_outcome (Rows None None) run_with_bad_sum outcome (refused (codes "go.sum:1: BadSum\n")) is bad_sum_reported;
 }
 
 -- ---- the empty file
 
 pub empty_is_refused : EmptyIsRefused
-empty_is_refused =
-    list_said (run_of [] [] []) _ None None
-    (bad_main (0, misreading.Directive NoModule) empty_is_malformed (refl, refl) (rw (decimal_digit 0 (lit< tt)) refl))
+empty_is_refused = bad_main (0, misreading.Directive NoModule) empty_is_malformed (refl, refl) (rw (decimal_digit 0 (lit< tt)) refl)
 
 -- ---- a main module that requires one, of which no file says anything
 
 abbrev main : Main
 main = main_requiring (top_one ∷ [])
 
-is_top : IsTop main top_one
-is_top = member_head top_one []
+abbrev run_with : List (Name × Reply) → Run
+run_with asked = run_of main None asked
 
-module _ (held : Held) (silent : (x : ModuleVersion) → vertex_requirements main (readings_by main held) x ≡ []) where
-  none_required : (x y : ModuleVersion) → Contains (vertex_requirements main (readings_by main held) x) y → ⊥
-  none_required x y there = no_member y (subst (λ (ys : List ModuleVersion). Contains ys y) (silent x) there)
+-- no module's file is valid
+abbrev IsSilent : Run → Type 0
+IsSilent run = (x : ModuleVersion) (file : Dependency) → Says run x (Ok file) → ⊥
 
-  top_is : (x : ModuleVersion) → IsTop main x → x ≡ top_one
+module _ (asked : List (Name × Reply)) (silent : IsSilent (run_with asked)) where
+  abbrev run : Run
+  run = run_with asked
+
+  is_top : IsTop run top_one
+  is_top = member_head top_one []
+
+  top_is : (x : ModuleVersion) → IsTop run x → x ≡ top_one
   top_is x there = elim (member_cases top_one x [] there) [
     | inl same ↦ sym same
     | inr none ↦ absurd (no_member x none)
   ]
 
-  opened_is : (x : ModuleVersion) → IsOpened main (readings_by main held) x → x ≡ top_one
+  opened_is : (x : ModuleVersion) → IsOpened run x → x ≡ top_one
   opened_is x (inl top) = top_is x top
   opened_is x (inr (from_main unpruned top)) = top_is x top
-  opened_is y (inr (from_top {x = x} top unpruned there)) = absurd (none_required x y there)
-  opened_is y (inr (from_deep {x = x} deep there)) = absurd (none_required x y there)
+  opened_is y (inr (from_top {x = x} file top says unpruned there)) = absurd (silent x file says)
+  opened_is y (inr (from_deep {x = x} deep requires)) = absurd (silent x requires.0 requires.1)
 
-  one_at_most : (all : List ModuleVersion) → IsDistinct pair_eq all → ((x : ModuleVersion) → Contains all x → IsOpened main (readings_by main held) x)
-      → length all ≤ 1
-  one_at_most [] distinct each = omega arith
-  one_at_most (x ∷ []) distinct each = omega arith
-  one_at_most (x ∷ y ∷ all) distinct each =
-      let first : x ≡ top_one = opened_is x (each x (member_head x (y ∷ all))) in
-      let second : y ≡ top_one = opened_is y (each y (1, omega arith, refl)) in
+  one_at_most : (xs : List ModuleVersion) → AreOpened run xs → length xs ≤ 1
+  one_at_most [] are = omega arith
+  one_at_most (x ∷ []) are = omega arith
+  one_at_most (x ∷ y ∷ xs) are =
+      let first : x ≡ top_one = opened_is x (are.each x (member_head x (y ∷ xs))) in
+      let second : y ≡ top_one = opened_is y (are.each y (1, omega arith, refl)) in
       let same : pair_eq x y ≡ true = subst (λ (z : ModuleVersion). pair_eq x z ≡ true) (first ∙ sym second) (pair-self x) in
-      absurd (false≢true (sym (IsDistinct-head pair_eq x (y ∷ all) distinct).0 ∙ same))
+      absurd (false≢true (sym (IsDistinct-head pair_eq x (y ∷ xs) are.once).0 ∙ same))
 
-  one_few : AreFew main (readings_by main held)
-  one_few all distinct each = let one = one_at_most all distinct each in omega (arith, one)
+  one_few : (xs : List ModuleVersion) → AreOpened run xs → length xs ≤ 65536
+  one_few xs are = let one = one_at_most xs are in omega (arith, one)
 
-  not_too_many : AreTooMany main (readings_by main held) → ⊥
-  not_too_many (all, many, distinct, each) = let one = one_at_most all distinct each in omega (arith, one, many)
+  not_too_many : AreTooMany run → ⊥
+  not_too_many (xs, long, are) = let one = one_at_most xs are in omega (arith, one, long)
 
--- ---- nothing is answered
-
-unheld_says : (askable : Bool) (x : ModuleVersion) (name : Name) (said : Option (Result Dependency Class)) → IsTold None name None said
-    → requirements_in main (said_in (reading_if askable main x said)) ≡ []
-unheld_says true x name None told = refl
-unheld_says false x name None told = refl
-unheld_says askable x name (Some reading) told = absurd told
-
-unheld_silent : (held : Held) → Tells None [] held → (x : ModuleVersion) → vertex_requirements main (readings_by main held) x ≡ []
-unheld_silent held tells x = unheld_says (is_askable (file_of main x)) x (file_of main x) (held (file_of main x)) (tells (file_of main x))
+  need_is : (name : Name) → IsNeeded run name → top_name ≡ name
+  need_is name (x, opens, is, askable) = ap (file_of main) (sym (opened_is x opens)) ∙ is
 
 top_askable : is_askable (file_of main top_one) ≡ true
 unfolding is_fetchable
 top_askable = refl
 
--- an end of `list` on the two lines is one of loading by what they say
-by_loading : (asked : List (Name × Reply)) (refusals : List Name) → ((outcome : Outcome) → LoadingEnd (PrintsList None None) main None (answers asked refusals) outcome → ⊥) → HasNoOutcome asked refusals
-by_loading asked refusals none outcome ends = by (parts (PrintsList None None) (run_of requiring asked refusals) outcome (list_held (run_of requiring asked refusals) outcome None None ends))
-  where
-    by : Parts (PrintsList None None) (run_of requiring asked refusals) outcome → ⊥
-    by (unread (inl (place, misread, says)) unasked) = misread_or_main requiring place main misread files_are_read.two
-    by (unread (inr (again, report, is, misread, says)) unasked) = misread
-    by (are_read again (Some table) are over) = are.sums
-    by (are_read again None are over) =
-        none outcome
-        (subst (λ (m : Main). LoadingEnd (PrintsList None None) m None (answers asked refusals) outcome) (one_main requiring again main are.main_file files_are_read.two) over)
+top_needed : (asked : List (Name × Reply)) → IsNeeded (run_with asked) top_name
+unfolding is_fetchable
+top_needed asked = (top_one, inl (member_head top_one []), refl, refl)
 
-not_ended : (outcome : Outcome) → LoadingEnd (PrintsList None None) main None (answers [] []) outcome → ⊥
-not_ended outcome (is_many (held, tells, many) unfailed is) = not_too_many held (unheld_silent held tells) many
-not_ended outcome (is_broken name due failed is) = cc failed
-not_ended outcome (is_known held faults known are is) = false≢true (known.answered top_one (inl is_top) top_askable)
+-- no file is valid if none is read as a valid one
+is_silent : (asked : List (Name × Reply))
+    → ((name : Name) (reply : Reply) (file : Dependency) → (run_with asked).answers name ≡ Some reply → IsFileReading None name reply (Ok file) → ⊥) → IsSilent (run_with asked)
+is_silent asked unread x file says = by says refl
+  where
+    by_file : {said : Result Dependency Class} → FileSays (run_with asked) (file_of main x) said → (other : Dependency) → said ≡ Ok other → ⊥
+    by_file (unaskable isnt) other same = cc same
+    by_file {said} (answered reply ask at is) other same =
+        unread (file_of main x) reply other at (subst (λ (r : Result Dependency Class). IsFileReading None (file_of main x) reply r) same is)
+
+    by : {said : Result Dependency Class} → Says (run_with asked) x said → said ≡ Ok file → ⊥
+    by (says_fault is) same = cc same
+    by (wrong_path other is right) same = cc same
+    by (sound {file = other} is right) same = by_file is other refl
+
+-- a run of `list` on the two lines that found all, or too much
+module _ (asked : List (Name × Reply)) (refusals : List Name) (silent : IsSilent (run_with asked))
+    (not_settled : IsSettled (run_with asked) (names_in asked) → refusals ≡ [] → ⊥)
+    (not_due : (name : Name) → IsDue (run_with asked) name → refusals ≡ name ∷ [] → ⊥) where
+  the_main : (again : Main) (table : Option Sums) → FilesReadAs requiring None again table → (again ≡ main) × (table ≡ None)
+  the_main again None read = (one_main requiring again main read.main_file files_are_read.two, refl)
+  the_main again (Some table) read = absurd read.sums
+
+  abbrev run_by : Main → Option Sums → Run
+  run_by again table = run_of again table asked
+
+  -- what holds of the run by another reading of the files holds of this one
+  here : (P : Run → Type 0) (again : Main) (table : Option Sums) → FilesReadAs requiring None again table → P (run_by again table) → P (run_with asked)
+  here P again table read is =
+      let same = the_main again table read in
+      subst (λ (m : Main). P (run_of m None asked)) same.0 (subst (λ (t : Option Sums). P (run_of again t asked)) same.1 is)
+
+  not_found : (again : Main) (table : Option Sums) (faults : List Fault) → AreFound (example.run_of requiring asked refusals) again table faults → ⊥
+  not_found again table faults found =
+      not_settled (here (λ (r : Run). IsSettled r (names_in asked)) again table found.read found.settled) found.none_failed
+
+  no_outcome : HasNoOutcome asked refusals
+  no_outcome outcome (bad_main place misread none says) = misread_or_main requiring place main misread files_are_read.two
+  no_outcome outcome (bad_sums again report is misread none says) = misread
+  no_outcome outcome (device again table name read due failed says) =
+      not_due name (here (λ (r : Run). IsDue r name) again table read due) failed
+  no_outcome outcome (too_many again table read all many none says) = not_too_many asked silent (here AreTooMany again table read many)
+  no_outcome outcome (faulty again table first others found says) = not_found again table (first ∷ others) found
+  no_outcome outcome (no_fault again table found shows) = not_found again table [] found
+
+-- ---- nothing is answered
+
+unanswered_silent : IsSilent (run_with [])
+unanswered_silent = is_silent [] (λ name reply file at is. cc at)
+
+not_asked : IsSettled (run_with []) [] → ⊥
+not_asked settled = no_member top_name ((settled.needed top_name).1 (top_needed []))
 
 -- ---- the device failed on a file that is not due
-
-module _ (asked : List (Name × Reply)) (one : Name) (not_due : IsDue main None asked one → ⊥) where
-  not_ended_undue : (outcome : Outcome) → LoadingEnd (PrintsList None None) main None (answers asked (one ∷ [])) outcome → ⊥
-  not_ended_undue outcome (is_many told unfailed is) = cc unfailed
-  not_ended_undue outcome (is_broken name due failed is) =
-      let same : one ≡ name = cc failed in not_due (subst (IsDue main None asked) (sym same) due)
-  not_ended_undue outcome (is_known held faults known are is) = cc known.none_failed
 
 path_in : Name → List ℕ
 path_in (mod_file path version) = path
@@ -215,140 +231,124 @@ names_differ : top_name ≡ low_name → ⊥
 unfolding path_in
 names_differ e = let letter : 116 ≡ 108 = first_byte 116 108 _ _ (ap path_in e) in omega (arith, letter)
 
-abbrev Silent : Held → Type 0
-Silent held = (x : ModuleVersion) → vertex_requirements main (readings_by main held) x ≡ []
+one_of : (one other : Name) → one ∷ [] ≡ other ∷ [] → one ≡ other
+one_of one other e = cc e
 
-low_unneeded : (held : Held) → Silent held → IsNeeded main (readings_by main held) low_name → ⊥
-low_unneeded held silent (x, opens, is, askable) = names_differ (ap (file_of main) (sym (opened_is held silent x opens)) ∙ is)
+low_not_due : (name : Name) → IsDue (run_with []) name → low_name ∷ [] ≡ name ∷ [] → ⊥
+low_not_due name due failed = names_differ (need_is [] unanswered_silent name due.needed ∙ sym (one_of low_name name failed))
 
-low_not_due : IsDue main None [] low_name → ⊥
-low_not_due ((held, tells, needed), unanswered) = low_unneeded held (unheld_silent held tells) needed
-
-top_not_due : IsDue main None ((top_name, absent) ∷ []) top_name → ⊥
-top_not_due (told, unanswered) = cc unanswered
-
--- ---- two files are answered to be missing
+-- ---- files are answered to be missing
 
 ok_is_missing : (file : Dependency) → ◌≡◌ {A = Result Dependency Class} (Ok file) (Err Missing) → ⊥
 ok_is_missing file e = cc e
 
-two_say : (first second askable : Bool) (x : ModuleVersion) (name : Name) (said : Option (Result Dependency Class))
-    → IsTold None name (if first then Some absent else (if second then Some absent else None)) said
-    → requirements_in main (said_in (reading_if askable main x said)) ≡ []
-two_say first second false x name said told = refl
-two_say first second true x name None told = refl
-two_say first second true x name (Some (Err class)) told = refl
-two_say true second true x name (Some (Ok file)) told = absurd (ok_is_missing file told)
-two_say false true true x name (Some (Ok file)) told = absurd (ok_is_missing file told)
-two_say false false true x name (Some (Ok file)) told = absurd told
+-- the files of these names are
+absent_in : (asked : List (Name × Reply)) → ((name : Name) (reply : Reply) → (run_with asked).answers name ≡ Some reply → reply ≡ absent) → IsSilent (run_with asked)
+absent_in asked gone =
+    is_silent asked
+    (λ name reply file at is. ok_is_missing file (subst (λ (r : Reply). IsFileReading None name r (Ok file)) (gone name reply at) is))
 
-module _ (second : Name) (not_asked : (held : Held) → Silent held → AreAsked main (readings_by main held) (top_name ∷ second ∷ []) → ⊥) where
-  abbrev two : List (Name × Reply)
-  two = (top_name, absent) ∷ (second, absent) ∷ []
+two_absent : (first second : Bool) (reply : Reply) → (if first then Some absent else (if second then Some absent else None)) ≡ Some reply → reply ≡ absent
+two_absent true second reply at = sym (same_Some absent reply at)
+two_absent false true reply at = sym (same_Some absent reply at)
+two_absent false false reply at = absurd (cc at)
 
-  two_silent : (held : Held) → Tells None two held → Silent held
-  two_silent held tells x = two_say (same_name (file_of main x) top_name) (same_name (file_of main x) second) (is_askable (file_of main x))
-      x (file_of main x) (held (file_of main x)) (tells (file_of main x))
+abbrev two : Name → List (Name × Reply)
+two second = (top_name, absent) ∷ (second, absent) ∷ []
 
-  not_known_two : (held : Held) → AreKnown main None (answers two []) held → ⊥
-  not_known_two held known = not_asked held (two_silent held known.tells) known.asked
+two_silent : (second : Name) → IsSilent (run_with (two second))
+two_silent second = absent_in (two second) (λ name reply at. two_absent (same_name name top_name) (same_name name second) reply at)
 
-  not_ended_two : (outcome : Outcome) → LoadingEnd (PrintsList None None) main None (answers two []) outcome → ⊥
-  not_ended_two outcome (is_many (held, tells, many) unfailed is) = not_too_many held (two_silent held tells) many
-  not_ended_two outcome (is_broken name due failed is) = cc failed
-  not_ended_two outcome (is_known held faults known are is) = not_known_two held known
+low_not_needed : IsSettled (run_with (two low_name)) (top_name ∷ low_name ∷ []) → ⊥
+low_not_needed settled = names_differ (need_is (two low_name) (two_silent low_name) low_name ((settled.needed low_name).0 (1, omega arith, refl)))
 
-low_not_asked : (held : Held) → Silent held → AreAsked main (readings_by main held) (top_name ∷ low_name ∷ []) → ⊥
-low_not_asked held silent asked = low_unneeded held silent ((asked.each low_name).0 (1, omega arith, refl))
-
-top_not_twice : (held : Held) → Silent held → AreAsked main (readings_by main held) (top_name ∷ top_name ∷ []) → ⊥
-top_not_twice held silent asked = false≢true (sym (IsDistinct-head same_name top_name (top_name ∷ []) asked.once).0)
+top_not_twice : IsSettled (run_with (two top_name)) (top_name ∷ top_name ∷ []) → ⊥
+top_not_twice settled = false≢true (sym (IsDistinct-head same_name top_name (top_name ∷ []) settled.once).0)
 
 -- ---- the answer is that there is no file
 
-abbrev missing : Held
-missing name = if same_name name top_name then Some (Err Missing) else None
-
-missing_says : (askable is : Bool) (x : ModuleVersion)
-    → requirements_in main (said_in (reading_if askable main x (if is then Some (Err Missing) else None))) ≡ []
-missing_says true true x = refl
-missing_says true false x = refl
-missing_says false is x = refl
-
-missing_silent : (x : ModuleVersion) → vertex_requirements main (readings_by main missing) x ≡ []
-missing_silent x = missing_says (is_askable (file_of main x)) (same_name (file_of main x) top_name) x
-
 abbrev told : List (Name × Reply)
 told = (top_name, absent) ∷ []
+
+one_absent : (is : Bool) (reply : Reply) → (if is then Some absent else None) ≡ Some reply → reply ≡ absent
+one_absent true reply at = sym (same_Some absent reply at)
+one_absent false reply at = absurd (cc at)
+
+told_absent : (name : Name) (reply : Reply) → (run_with told).answers name ≡ Some reply → reply ≡ absent
+told_absent name reply at = one_absent (same_name name top_name) reply at
+
+missing_silent : IsSilent (run_with told)
+missing_silent = absent_in told told_absent
 
 once_asked : IsDistinct same_name (top_name ∷ [])
 unfolding IsDistinct
 once_asked = (tt, tt)
 
-abbrev IsNamed : Name → Type 0
-IsNamed name = (x : ModuleVersion) × IsOpened main (readings_by main missing) x × (file_of main x ≡ name) × (is_askable name ≡ true)
+top_not_due : (name : Name) → IsDue (run_with told) name → top_name ∷ [] ≡ name ∷ [] → ⊥
+top_not_due name due failed =
+    let unasked : (run_with told).answers top_name ≡ None = subst (λ (n : Name). (run_with told).answers n ≡ None) (sym (one_of top_name name failed)) due.unasked in
+    cc unasked
 
-name_asked : (name : Name) → IsNamed name → Contains (top_name ∷ []) name
-name_asked name (x, opens, is, askable) =
-    subst (Contains (top_name ∷ [])) (ap (file_of main) (sym (opened_is missing missing_silent x opens)) ∙ is) (member_head top_name [])
-
-asked_named : (name : Name) → Contains (top_name ∷ []) name → IsNamed name
-asked_named name there = elim (member_cases top_name name [] there) [
-  | inl same ↦ subst IsNamed same (top_one, inl is_top, refl, top_askable)
+named_needed : (name : Name) → Contains (top_name ∷ []) name → IsNeeded (run_with told) name
+named_needed name there = elim (member_cases top_name name [] there) [
+  | inl same ↦ subst (IsNeeded (run_with told)) same (top_needed told)
   | inr none ↦ absurd (no_member name none)
 ]
 
-told_by : (name : Name) (is : Bool) → IsTold None name (if is then Some absent else None) (if is then Some (Err Missing) else None)
-told_by name true = refl
-told_by name false = tt
-
-missing_known : AreKnown main None (answers told []) missing
-missing_known = record {
-  tells = λ name. told_by name (same_name name top_name);
-  answered = λ x opens askable. subst (λ (z : ModuleVersion). IsSome (answer_in told (file_of main z))) (sym (opened_is missing missing_silent x opens)) refl;
-  asked = record { once = once_asked; each = λ name. (asked_named name, name_asked name) };
-  few = one_few missing missing_silent;
-  none_failed = refl;
+missing_settled : IsSettled (run_with told) (top_name ∷ [])
+missing_settled = record {
+  read = λ name reply at. (Err Missing, subst (λ (r : Reply). IsFileReading None name r (Err Missing)) (sym (told_absent name reply at)) refl);
+  once = once_asked;
+  needed = λ name. (named_needed name, λ need. subst (Contains (top_name ∷ [])) (need_is told missing_silent name need) (member_head top_name []));
+  few = one_few told missing_silent;
 }
 
-top_is_missing : vertex_fault (readings_by main missing) top_one ≡ Some Missing
+top_is_missing : Says (run_with told) top_one (Err Missing)
 unfolding is_fetchable
-top_is_missing = refl
+top_is_missing = says_fault (answered absent refl refl refl)
 
 abbrev top_fault : Fault
 top_fault = fault_with top_one Missing
 
-abbrev HasFault : Fault → Type 0
-HasFault one = IsOpened main (readings_by main missing) one.vertex × (vertex_fault (readings_by main missing) one.vertex ≡ Some one.class)
-
-member_faulty : (one : Fault) → Contains (top_fault ∷ []) one → HasFault one
+member_faulty : (one : Fault) → Contains (top_fault ∷ []) one → IsFault (run_with told) one
 member_faulty one there = elim (member_cases top_fault one [] there) [
-  | inl same ↦ subst HasFault same (inl is_top, top_is_missing)
+  | inl same ↦ subst (IsFault (run_with told)) same (inl (member_head top_one []), top_is_missing)
   | inr none ↦ absurd (no_member one none)
 ]
 
-faulty_member : (one : Fault) → HasFault one → Contains (top_fault ∷ []) one
-faulty_member one (opens, has) =
-    let own : one.vertex ≡ top_one = opened_is missing missing_silent one.vertex opens in
-    let class : Missing ≡ one.class = same_class Missing one.class (sym top_is_missing ∙ ap (vertex_fault (readings_by main missing)) (sym own) ∙ has) in
+faulty_member : (one : Fault) → IsFault (run_with told) one → Contains (top_fault ∷ []) one
+faulty_member one (opens, says) =
+    let own : one.vertex ≡ top_one = opened_is told missing_silent one.vertex opens in
+    let class : Missing ≡ one.class = fault_is (run_with told) top_one Missing one.class top_is_missing (subst (λ (x : ModuleVersion). Says (run_with told) x (Err one.class)) own says) in
     let same : top_fault ≡ one = ap₂ fault_with (sym own) class in
     subst (Contains (top_fault ∷ [])) same (member_head top_fault [])
 
-missing_faulty : AreFaults main (readings_by main missing) (top_fault ∷ [])
+missing_faulty : AreFaults (run_with told) (top_fault ∷ [])
 missing_faulty = record {
   ascending = pairs_of (λ (a b : Fault). pair_cmp a.vertex b.vertex ≡ Less) (top_fault ∷ []) (tt, tt);
   each = λ one. (member_faulty one, faulty_member one);
 }
 
+-- ---- the outcomes
+
+files : FilesReadAs requiring None main None
+files = record { main_file = files_are_read.two; sums = tt }
+
+some_failed : (name : Name) → name ∷ [] ≡ [] → ⊥
+some_failed name e = cc e
+
+none_failed : (name : Name) → [] ≡ name ∷ [] → ⊥
+none_failed name e = cc e
+
 pub required_is_asked : RequiredIsAsked
 required_is_asked = record {
-  missing = list_said (run_of requiring ((top_name, absent) ∷ []) []) _ None None
-      (faulty main None missing top_fault [] (record { main_file = files_are_read.two; sums = tt }) missing_known missing_faulty refl);
-  device = list_said (run_of requiring [] (top_name ∷ [])) _ None None
-      (device main None top_name (record { main_file = files_are_read.two; sums = tt }) ((nothing, nothing_told, (top_one, inl is_top, refl, top_askable)), refl) refl refl);
-  unasked = by_loading [] [] not_ended;
-  undue = by_loading [] (low_name ∷ []) (not_ended_undue [] low_name low_not_due);
-  answered = by_loading ((top_name, absent) ∷ []) (top_name ∷ []) (not_ended_undue ((top_name, absent) ∷ []) top_name top_not_due);
-  no_more = by_loading ((top_name, absent) ∷ (low_name, absent) ∷ []) [] (not_ended_two low_name low_not_asked);
-  not_twice = by_loading ((top_name, absent) ∷ (top_name, absent) ∷ []) [] (not_ended_two top_name top_not_twice);
+  missing = faulty main None top_fault []
+      (record { read = files; settled = missing_settled; faults_are = missing_faulty; none_failed = refl }) refl;
+  device = device main None top_name files
+      (record { read = λ name reply at. absurd (cc at); needed = top_needed []; unasked = refl }) refl refl;
+  unasked = no_outcome [] [] unanswered_silent (λ settled none. not_asked settled) (λ name due failed. none_failed name failed);
+  undue = no_outcome [] (low_name ∷ []) unanswered_silent (λ settled none. some_failed low_name none) low_not_due;
+  answered = no_outcome told (top_name ∷ []) missing_silent (λ settled none. some_failed top_name none) top_not_due;
+  no_more = no_outcome (two low_name) [] (two_silent low_name) (λ settled none. low_not_needed settled) (λ name due failed. none_failed name failed);
+  not_twice = no_outcome (two top_name) [] (two_silent top_name) (λ settled none. top_not_twice settled) (λ name due failed. none_failed name failed);
 }

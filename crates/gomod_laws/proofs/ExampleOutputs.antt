@@ -21,7 +21,7 @@ use Rattle.gomod_run.specs.Written.{EndsAsStated, IsWritten}
 use Rattle.gomod_laws.proofs.ExampleFiles.{all_below}
 use Rattle.gomod_laws.proofs.ExampleLines.{ascii}
 use Rattle.gomod_laws.proofs.KnownVersions.{first_byte}
-use Rattle.gomod_laws.specs.ExampleOutputs.{EndIsStated, EndsBy, FileIsRead, InputIsHeld, InputIsUnread, PrintsText, WordsAreGiven, also_unreadable, empty, version_flag, other, path, taken, text, unreadable, with_bad_line, with_no_memory, with_other, with_text}
+use Rattle.gomod_laws.specs.ExampleOutputs.{EndIsStated, EndsBy, FileIsRead, InputIsHeld, InputIsUnread, IsInput, PrintsText, WordsAreGiven, also_unreadable, empty, version_flag, other, path, text, unreadable, with_bad_line, with_no_memory, with_other, with_text}
 
 -- ---- a run ends
 
@@ -87,22 +87,22 @@ file_is_read = record {
 
 -- ---- standard input
 
-no_such_line : (line : List ℕ) → ¬ (line ≡ codes "gomod: cannot read -\n") → ¬ (line ≡ codes "gomod: no memory\n") → ¬ (IsUnreadList (taken true) (failed line))
+no_such_line : (line : List ℕ) → ¬ (line ≡ codes "gomod: cannot read -\n") → ¬ (line ≡ codes "gomod: no memory\n") → ¬ (IsUnreadList (IsInput true) (failed line))
 no_such_line line no_device memory (Device, may, is) = no_device (ap (λ (o : Outcome). o.report) is)
 no_such_line line no_device memory (NoMemory, may, is) = memory (ap (λ (o : Outcome). o.report) is)
 
-unread_status : (outcome : Outcome) → IsUnreadList (taken true) outcome → outcome.status ≡ 3
+unread_status : (outcome : Outcome) → IsUnreadList (IsInput true) outcome → outcome.status ≡ 3
 unread_status outcome (Device, may, is) = ap (λ (o : Outcome). o.status) is
 unread_status outcome (NoMemory, may, is) = ap (λ (o : Outcome). o.status) is
 
 -- what reading it came to if it was taken
-read_of : (may_fail : Bool) (read : Result (Vec ℕ) InputFault) → MayRead (taken may_fail) read → IsReadFrom (opened (Some text) may_fail) read
+read_of : (may_fail : Bool) (read : Result (Vec ℕ) InputFault) → MayRead (IsInput may_fail) read → IsReadFrom (opened (Some text) may_fail) read
 read_of may_fail read (opening, is, comes) = subst (λ (o : Opening). IsReadFrom o read) is comes
 
 no_device_line : ¬ (out_of_memory ≡ failed (codes "gomod: cannot read -\n"))
 no_device_line same = search rules
 
-unfailing : ¬ (IsUnreadList (taken false) (failed (codes "gomod: cannot read -\n")))
+unfailing : ¬ (IsUnreadList (IsInput false) (failed (codes "gomod: cannot read -\n")))
 unfailing (Device, may, is) = let wrong : false ≡ true = read_of false (Err Device) may in cc wrong
 unfailing (NoMemory, may, is) = no_device_line (sym is)
 
@@ -123,7 +123,7 @@ same_list : (one other : List ℕ) → Some one ≡ Some other → one ≡ other
 same_list one other e = cc e
 
 -- the list of a store that has standard input is the text
-list_is_text : (files : MemoryFiles) (list : List ℕ) → held_at files (list_file path) ≡ Some list → HoldsInput (taken false) path files → list ≡ take 16777217 text
+list_is_text : (files : MemoryFiles) (list : List ℕ) → held_at files (list_file path) ≡ Some list → HoldsInput (IsInput false) path files → list ≡ take 16777217 text
 list_is_text files list there holds =
     same_list list holds.0.items (sym there ∙ holds.2 (list_file path)) ∙ read_of false (Ok holds.0) holds.1
 

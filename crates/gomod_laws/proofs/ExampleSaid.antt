@@ -15,7 +15,7 @@ use Rattle.gm_graph.specs.Reading.{IsFileReading, file_of, is_askable}
 use Rattle.gm_graph.specs.Run.{FileSays, IsRead, Requires, Run, Says, answered, faulty, run_of, sound, unaskable, wrong_path}
 use Rattle.gm_graph.proofs.LawProofs.{modules_say_one_thing}
 use Rattle.gm_graph_select.proofs.Ascending.{member_cases, member_head, no_member}
-use Rattle.gomod_laws.specs.ExampleWorld.{AnswersTell, FaultsAreClassed, OneModuleSays, RequirementsAreLeft, RequiresAlone, SaysAlone, absent_run, all_idle, all_there, all_unpruned, answers_with, folder_requiring, folder_says, folder_text, low_one, mid_file, mid_one, mid_text, mid_two, one_missing, one_wrong, top_file, top_one, top_text, world}
+use Rattle.gomod_laws.specs.ExampleWorld.{AnswersTell, FaultsAreClassed, OneModuleSays, RequirementsAreLeft, RequiresAlone, SaysAlone, absent_run, all_idle, all_there, all_unpruned, answers_with, folder_requiring, folder_says, folder_text, low_one, mid_file, mid_nine, mid_text, mid_ten, one_missing, one_wrong, top_file, top_one, top_text, world}
 use Rattle.gomod_laws.proofs.ExampleTexts.{folder_reads, mid_reads, top_reads}
 
 -- ---- what any run says
@@ -109,7 +109,7 @@ answers_tell = record {
   good = refl;
 }
 
-mid_missing : Says absent_run mid_two (Err Missing)
+mid_missing : Says absent_run mid_ten (Err Missing)
 unfolding is_fetchable
 mid_missing = faulty (answered absent refl refl refl)
 
@@ -126,10 +126,10 @@ pub one_module_says : OneModuleSays
 unfolding is_fetchable
 one_module_says = record {
   missing = mid_missing;
-  only = λ said says. modules_say_one_thing absent_run mid_two said (Err Missing) says mid_missing;
+  only = λ said says. modules_say_one_thing absent_run mid_ten said (Err Missing) says mid_missing;
   unfetchable = faulty (unaskable refl);
   unknown = low_says_nothing;
-  requires_nothing = λ y requires. has_no_fault absent_run mid_two requires.0 Missing requires.1 mid_missing;
+  requires_nothing = λ y requires. has_no_fault absent_run mid_ten requires.0 Missing requires.1 mid_missing;
   read = absent_read;
 }
 
@@ -143,37 +143,37 @@ module _ (folder : Reply) where
   unfolding is_fetchable
   top_says = sound (answered (bytes top_text) refl refl top_reads) refl
 
-  pub mid_says : Says run mid_one (Ok mid_file)
+  pub mid_says : Says run mid_nine (Ok mid_file)
   unfolding is_fetchable
   mid_says = sound (answered (bytes mid_text) refl refl mid_reads) refl
 
-  pub top_requires : RequiresAlone run top_one mid_two
-  top_requires = requires_alone run top_one mid_two top_file top_says refl
+  pub top_requires : RequiresAlone run top_one mid_ten
+  top_requires = requires_alone run top_one mid_ten top_file top_says refl
 
-  pub mid_requires : RequiresAlone run mid_one low_one
-  mid_requires = requires_alone run mid_one low_one mid_file mid_says refl
+  pub mid_requires : RequiresAlone run mid_nine low_one
+  mid_requires = requires_alone run mid_nine low_one mid_file mid_says refl
 
-pub folder_says_so : Says all_there mid_two (Ok folder_says)
+pub folder_says_so : Says all_there mid_ten (Ok folder_says)
 unfolding is_fetchable
 folder_says_so = sound (answered (bytes folder_text) refl refl folder_reads) refl
 
-pub folder_is_missing : Says one_missing mid_two (Err Missing)
+pub folder_is_missing : Says one_missing mid_ten (Err Missing)
 unfolding is_fetchable
 folder_is_missing = faulty (answered absent refl refl refl)
 
-pub folder_says_mid : Says folder_requiring mid_two (Ok mid_file)
+pub folder_says_mid : Says folder_requiring mid_ten (Ok mid_file)
 unfolding is_fetchable
 folder_says_mid = sound (answered (bytes mid_text) refl refl mid_reads) refl
 
-pub mid_says_unpruned : Says all_unpruned mid_one (Ok mid_file)
+pub mid_says_unpruned : Says all_unpruned mid_nine (Ok mid_file)
 unfolding is_fetchable
 mid_says_unpruned = sound (answered (bytes mid_text) refl refl mid_reads) refl
 
-pub mid_says_idle : Says all_idle mid_one (Ok mid_file)
+pub mid_says_idle : Says all_idle mid_nine (Ok mid_file)
 unfolding is_fetchable
 mid_says_idle = sound (answered (bytes mid_text) refl refl mid_reads) refl
 
-mid_is_wrong : Says one_wrong mid_one (Err WrongPath)
+mid_is_wrong : Says one_wrong mid_nine (Err WrongPath)
 unfolding is_fetchable
 mid_is_wrong = wrong_path top_file (answered (bytes top_text) refl refl top_reads) refl
 
@@ -195,16 +195,16 @@ read_if false false false name reply e = absurd (cc e)
 
 all_read : IsRead all_there
 all_read name reply at =
-    read_if (same_name name (mod_file (codes "top.org") (codes "v1.0.0"))) (same_name name (mod_file (codes "mid.org") (codes "v1.0.0")))
+    read_if (same_name name (mod_file (codes "top.org") (codes "v1.0.0"))) (same_name name (mod_file (codes "mid.org") (codes "v1.9.0")))
     (same_name name folder_name) name reply at
 
 pub faults_are_classed : FaultsAreClassed
 faults_are_classed = record {
   read = all_read;
-  folder = says_alone all_there mid_two (Ok folder_says) folder_says_so;
-  missing = says_alone one_missing mid_two (Err Missing) folder_is_missing;
+  folder = says_alone all_there mid_ten (Ok folder_says) folder_says_so;
+  missing = says_alone one_missing mid_ten (Err Missing) folder_is_missing;
   own = says_alone all_there top_one (Ok top_file) (top_says (bytes folder_text));
-  wrong = says_alone one_wrong mid_one (Err WrongPath) mid_is_wrong;
+  wrong = says_alone one_wrong mid_nine (Err WrongPath) mid_is_wrong;
   unfetchable = unfetchable;
   unknown = low_unknown;
 }
@@ -213,7 +213,7 @@ pub requirements_are_left : RequirementsAreLeft
 requirements_are_left = record {
   top = top_requires (bytes folder_text);
   mid = mid_requires (bytes folder_text);
-  folder = requires_none all_there mid_two folder_says folder_says_so refl;
-  faulty = λ y requires. has_no_fault one_missing mid_two requires.0 Missing requires.1 folder_is_missing;
+  folder = requires_none all_there mid_ten folder_says folder_says_so refl;
+  faulty = λ y requires. has_no_fault one_missing mid_ten requires.0 Missing requires.1 folder_is_missing;
   unknown = λ y requires. low_unknown (Ok requires.0) requires.1;
 }

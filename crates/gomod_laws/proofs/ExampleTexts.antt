@@ -26,7 +26,7 @@ use Rattle.gomod_laws.specs.ExampleWorld.{folder_says, folder_text, mid_file, mi
 use Rattle.gomod_laws.proofs.ExampleFiles.{all_below, fits_plain, one_zero_version, top_path, word_is}
 use Rattle.gomod_laws.proofs.ExampleLines.{ascii, bare, laid_parsed}
 use Rattle.gomod_laws.proofs.FormattingRead.{placeless}
-use Rattle.gomod_laws.proofs.KnownVersions.{one_one_is, one_one_parts, one_zero_parts}
+use Rattle.gomod_laws.proofs.KnownVersions.{one_one_is, one_one_parts, one_ten_is, one_ten_parts, one_zero_parts}
 
 -- ---- lines of bare words
 
@@ -64,7 +64,7 @@ required path version = path ∷ version ∷ []
 
 abbrev top_lines : List (Line Word)
 top_lines = line (codes "module" ∷ declared (codes "top.org")) ∷ line (codes "go" ∷ declared (codes "1.16"))
-    ∷ line (codes "require" ∷ required (codes "mid.org") (codes "v1.1.0")) ∷ line (codes "require" ∷ required (codes "low.org") (codes "v1.1.0")) ∷ []
+    ∷ line (codes "require" ∷ required (codes "mid.org") (codes "v1.10.0")) ∷ line (codes "require" ∷ required (codes "low.org") (codes "v1.1.0")) ∷ []
 
 abbrev mid_lines : List (Line Word)
 mid_lines = line (codes "module" ∷ declared (codes "mid.org")) ∷ line (codes "go" ∷ declared (codes "1.17"))
@@ -79,7 +79,7 @@ top_document = (
   (
     line_stands (codes "go") (declared (codes "1.16")) refl refl refl,
     (
-      line_stands (codes "require") (required (codes "mid.org") (codes "v1.1.0")) refl refl refl,
+      line_stands (codes "require") (required (codes "mid.org") (codes "v1.10.0")) refl refl refl,
       (line_stands (codes "require") (required (codes "low.org") (codes "v1.1.0")) refl refl refl, refl),
     ),
   ),
@@ -143,9 +143,12 @@ low_path = refl
 one_one_version : is_version (codes "v1.1.0") ≡ true
 one_one_version = (version-tested (codes "v1.1.0")).1 one_one_is
 
-one_one_fits_mid : does_fit (codes "mid.org") (codes "v1.1.0") ≡ true
+one_ten_version : is_version (codes "v1.10.0") ≡ true
+one_ten_version = (version-tested (codes "v1.10.0")).1 one_ten_is
+
+one_ten_fits_mid : does_fit (codes "mid.org") (codes "v1.10.0") ≡ true
 unfolding does_fit
-one_one_fits_mid = fits_plain (parts_in (codes "v1.1.0")) 1 one_one_parts
+one_ten_fits_mid = fits_plain (parts_in (codes "v1.10.0")) 10 one_ten_parts
 
 one_one_fits_low : does_fit (codes "low.org") (codes "v1.1.0") ≡ true
 unfolding does_fit
@@ -159,7 +162,7 @@ one_zero_fits_low = fits_plain (parts_in (codes "v1.0.0")) 0 one_zero_parts
 
 top_has_no_fault : fault_of Lax (plain_lines (placeless top_lines)) ≡ None
 unfolding fault_of faults item_at directive_of directive_kinds lax_go lax_go_text first_number small_number
-top_has_no_fault = rw (top_path, mid_path, low_path, one_one_version, one_one_fits_mid, one_one_fits_low) refl
+top_has_no_fault = rw (top_path, mid_path, low_path, one_one_version, one_ten_version, one_ten_fits_mid, one_one_fits_low) refl
 
 mid_has_no_fault : fault_of Lax (plain_lines (placeless mid_lines)) ≡ None
 unfolding fault_of faults item_at directive_of directive_kinds lax_go lax_go_text first_number small_number

@@ -27,9 +27,9 @@ use Rattle.gm_graph.specs.Run.{AreEdges, AreRows, IsDeep, IsEdge, IsFault, IsOpe
 use Rattle.gm_graph.specs.declared.fault.Fault.{Fault}
 use Rattle.gomod_run.specs.Outcome.{printed}
 use Rattle.gomod_run.specs.ListingTexts.{limited, list_text}
-use Rattle.gomod_laws.specs.ExampleWorld.{FilesHaveNames, FourEdgesLead, ListIsPrinted, OneFaultIsReported, OnlyListIsPrinted, PrunedFrom17, ReplacementsApply, RowsAreFour, ThreeAreOpened, all_idle, all_there, all_unpruned, answers_with, edges, fault_of_mid, folder_requiring, folder_says, folder_text, low_one, low_two, mid_file, mid_one, mid_text, mid_two, one_missing, opened_three, rows, top_file, top_one, world}
+use Rattle.gomod_laws.specs.ExampleWorld.{FilesHaveNames, FourEdgesLead, ListIsPrinted, OneFaultIsReported, OnlyListIsPrinted, PrunedFrom17, ReplacementsApply, RowsAreFour, ThreeAreOpened, all_idle, all_there, all_unpruned, answers_with, edges, fault_of_mid, folder_requiring, folder_says, folder_text, low_one, low_two, mid_file, mid_nine, mid_text, mid_ten, one_missing, opened_three, rows, top_file, top_one, world}
 use Rattle.gomod_laws.proofs.ExampleSaid.{fault_is, file_is, folder_is_missing, folder_says_mid, folder_says_so, has_no_fault, mid_requires, mid_says, mid_says_idle, mid_says_unpruned, requirements_are_left, top_requires, top_says}
-use Rattle.gomod_laws.proofs.KnownVersions.{first_byte, not_above_itself, one_one_is_above, one_zero_is_below, versions_differ}
+use Rattle.gomod_laws.proofs.KnownVersions.{first_byte, not_above_itself, one_ten_is_above, one_nine_is_below, nine_is_not_ten}
 
 -- ---- what computes
 
@@ -74,22 +74,22 @@ pairs_of R (x ∷ xs) h = AllPairs-cons R x xs (all_of (R x) xs h.0) (pairs_of R
 
 -- ---- what is opened, whatever is answered of the folder's file, if the module requires nothing by it
 
-top_cases : (x : ModuleVersion) → IsTop all_there x → (x ≡ top_one) ⊎ (x ≡ mid_one)
-top_cases x there = elim (member_cases top_one x (mid_one ∷ []) there) [
+top_cases : (x : ModuleVersion) → IsTop all_there x → (x ≡ top_one) ⊎ (x ≡ mid_nine)
+top_cases x there = elim (member_cases top_one x (mid_nine ∷ []) there) [
   | inl same ↦ inl (sym same)
-  | inr later ↦ elim (member_cases mid_one x [] later) [
+  | inr later ↦ elim (member_cases mid_nine x [] later) [
     | inl same ↦ inr (sym same)
     | inr none ↦ absurd (no_member x none)
   ]
 ]
 
 top_is_top : IsTop all_there top_one
-top_is_top = member_head top_one (mid_one ∷ [])
+top_is_top = member_head top_one (mid_nine ∷ [])
 
-mid_is_top : IsTop all_there mid_one
-mid_is_top = member_tail top_one mid_one (mid_one ∷ []) (member_head mid_one [])
+mid_is_top : IsTop all_there mid_nine
+mid_is_top = member_tail top_one mid_nine (mid_nine ∷ []) (member_head mid_nine [])
 
-module _ (folder : Reply) (none : (y : ModuleVersion) → Requires (run_of world None (answers_with folder)) mid_two y → ⊥) where
+module _ (folder : Reply) (none : (y : ModuleVersion) → Requires (run_of world None (answers_with folder)) mid_ten y → ⊥) where
   abbrev run : Run
   run = run_of world None (answers_with folder)
 
@@ -97,23 +97,23 @@ module _ (folder : Reply) (none : (y : ModuleVersion) → Requires (run_of world
   required_by : (x y z : ModuleVersion) → x ≡ z → Requires run x y → Requires run z y
   required_by x y z is requires = subst (λ (m : ModuleVersion). Requires run m y) is requires
 
-  mid_is_pruned : (x : ModuleVersion) (file : Dependency) → x ≡ mid_one → Says run x (Ok file) → is_pruned_by file.go ≡ true
+  mid_is_pruned : (x : ModuleVersion) (file : Dependency) → x ≡ mid_nine → Says run x (Ok file) → is_pruned_by file.go ≡ true
   mid_is_pruned x file is says =
-      let own : Says run mid_one (Ok file) = subst (λ (m : ModuleVersion). Says run m (Ok file)) is says in
-      ap (λ (f : Dependency). is_pruned_by f.go) (file_is run mid_one mid_file file (mid_says folder) own)
+      let own : Says run mid_nine (Ok file) = subst (λ (m : ModuleVersion). Says run m (Ok file)) is says in
+      ap (λ (f : Dependency). is_pruned_by f.go) (file_is run mid_nine mid_file file (mid_says folder) own)
 
-  deep_is : (x : ModuleVersion) → IsDeep run x → x ≡ mid_two
+  deep_is : (x : ModuleVersion) → IsDeep run x → x ≡ mid_ten
   deep_is x (from_main unpruned top) = absurd (false≢true (sym unpruned))
   deep_is y (from_top {x = x} file top says unpruned there) = elim (top_cases x top) [
     | inl is ↦ (top_requires folder y).0 (required_by x y top_one is (file, says, there))
     | inr is ↦ absurd (false≢true (sym unpruned ∙ mid_is_pruned x file is says))
   ]
-  deep_is y (from_deep {x = x} deep requires) = absurd (none y (required_by x y mid_two (deep_is x deep) requires))
+  deep_is y (from_deep {x = x} deep requires) = absurd (none y (required_by x y mid_ten (deep_is x deep) requires))
 
-  mid_is_deep : IsDeep run mid_two
-  mid_is_deep = from_top {x = top_one} top_file top_is_top (top_says folder) refl (member_head mid_two [])
+  mid_is_deep : IsDeep run mid_ten
+  mid_is_deep = from_top {x = top_one} top_file top_is_top (top_says folder) refl (member_head mid_ten [])
 
-  opened_cases : (x : ModuleVersion) → IsOpened run x → (x ≡ top_one) ⊎ ((x ≡ mid_one) ⊎ (x ≡ mid_two))
+  opened_cases : (x : ModuleVersion) → IsOpened run x → (x ≡ top_one) ⊎ ((x ≡ mid_nine) ⊎ (x ≡ mid_ten))
   opened_cases x (inl top) = elim (top_cases x top) [
     | inl is ↦ inl is
     | inr is ↦ inr (inl is)
@@ -123,17 +123,17 @@ module _ (folder : Reply) (none : (y : ModuleVersion) → Requires (run_of world
   -- ---- edges
 
   edge_cases : (x y : ModuleVersion) → IsOpened run x → Requires run x y
-      → ((x ≡ top_one) × (y ≡ mid_two)) ⊎ ((x ≡ mid_one) × (y ≡ low_one))
+      → ((x ≡ top_one) × (y ≡ mid_ten)) ⊎ ((x ≡ mid_nine) × (y ≡ low_one))
   edge_cases x y opens requires = elim (opened_cases x opens) [
     | inl is ↦ inl (is, (top_requires folder y).0 (required_by x y top_one is requires))
-    | inr (inl is) ↦ inr (is, (mid_requires folder y).0 (required_by x y mid_one is requires))
-    | inr (inr is) ↦ absurd (none y (required_by x y mid_two is requires))
+    | inr (inl is) ↦ inr (is, (mid_requires folder y).0 (required_by x y mid_nine is requires))
+    | inr (inr is) ↦ absurd (none y (required_by x y mid_ten is requires))
   ]
 
-  top_to_mid : IsEdge run (Of top_one) mid_two
-  top_to_mid = (inl top_is_top, (top_requires folder mid_two).1 refl)
+  top_to_mid : IsEdge run (Of top_one) mid_ten
+  top_to_mid = (inl top_is_top, (top_requires folder mid_ten).1 refl)
 
-  mid_to_low : IsEdge run (Of mid_one) low_one
+  mid_to_low : IsEdge run (Of mid_nine) low_one
   mid_to_low = (inl mid_is_top, (mid_requires folder low_one).1 refl)
 
 abbrev there_file : Reply
@@ -157,23 +157,23 @@ low_is_mid : (version other : List ℕ) → with_version version (codes "low.org
 low_is_mid version other e =
     let letter : 108 ≡ 109 = first_byte 108 109 _ _ (path_same (with_version version (codes "low.org")) (with_version other (codes "mid.org")) e) in omega (arith, letter)
 
-mids_differ : mid_one ≡ mid_two → ⊥
-mids_differ e = versions_differ (ap (λ (x : ModuleVersion). x.1) e)
+mids_differ : mid_nine ≡ mid_ten → ⊥
+mids_differ e = nine_is_not_ten (ap (λ (x : ModuleVersion). x.1) e)
 
 opened_member : (x : ModuleVersion) → IsOpened all_there x → Contains opened_three x
 opened_member x opens = elim (opened_cases there_file requirements_are_left.folder x opens) [
-  | inl is ↦ subst (Contains opened_three) (sym is) (member_head top_one (mid_one ∷ mid_two ∷ []))
-  | inr (inl is) ↦ subst (Contains opened_three) (sym is) (member_tail top_one mid_one (mid_one ∷ mid_two ∷ []) (member_head mid_one (mid_two ∷ [])))
+  | inl is ↦ subst (Contains opened_three) (sym is) (member_head top_one (mid_nine ∷ mid_ten ∷ []))
+  | inr (inl is) ↦ subst (Contains opened_three) (sym is) (member_tail top_one mid_nine (mid_nine ∷ mid_ten ∷ []) (member_head mid_nine (mid_ten ∷ [])))
   | inr (inr is) ↦ subst (Contains opened_three) (sym is)
-      (member_tail top_one mid_two (mid_one ∷ mid_two ∷ []) (member_tail mid_one mid_two (mid_two ∷ []) (member_head mid_two [])))
+      (member_tail top_one mid_ten (mid_nine ∷ mid_ten ∷ []) (member_tail mid_nine mid_ten (mid_ten ∷ []) (member_head mid_ten [])))
 ]
 
 member_opened : (x : ModuleVersion) → Contains opened_three x → IsOpened all_there x
-member_opened x there = elim (member_cases top_one x (mid_one ∷ mid_two ∷ []) there) [
+member_opened x there = elim (member_cases top_one x (mid_nine ∷ mid_ten ∷ []) there) [
   | inl same ↦ subst (IsOpened all_there) same (inl top_is_top)
-  | inr later ↦ elim (member_cases mid_one x (mid_two ∷ []) later) [
+  | inr later ↦ elim (member_cases mid_nine x (mid_ten ∷ []) later) [
     | inl same ↦ subst (IsOpened all_there) same (inl mid_is_top)
-    | inr last ↦ elim (member_cases mid_two x [] last) [
+    | inr last ↦ elim (member_cases mid_ten x [] last) [
       | inl same ↦ subst (IsOpened all_there) same (inr (mid_is_deep there_file requirements_are_left.folder))
       | inr none ↦ absurd (no_member x none)
     ]
@@ -184,14 +184,14 @@ member_opened x there = elim (member_cases top_one x (mid_one ∷ mid_two ∷ []
 
 below_deep : IsDeep folder_requiring low_one
 below_deep =
-    let deep : IsDeep folder_requiring mid_two = from_top {x = top_one} top_file top_is_top (top_says (bytes mid_text)) refl (member_head mid_two []) in
-    from_deep {x = mid_two} deep (mid_file, folder_says_mid, member_head low_one [])
+    let deep : IsDeep folder_requiring mid_ten = from_top {x = top_one} top_file top_is_top (top_says (bytes mid_text)) refl (member_head mid_ten []) in
+    from_deep {x = mid_ten} deep (mid_file, folder_says_mid, member_head low_one [])
 
-all_deep : IsDeep all_unpruned mid_one
+all_deep : IsDeep all_unpruned mid_nine
 all_deep = from_main refl mid_is_top
 
 all_below : IsDeep all_unpruned low_one
-all_below = from_deep {x = mid_one} all_deep (mid_file, mid_says_unpruned, member_head low_one [])
+all_below = from_deep {x = mid_nine} all_deep (mid_file, mid_says_unpruned, member_head low_one [])
 
 pub three_are_opened : ThreeAreOpened
 three_are_opened = record {
@@ -201,11 +201,11 @@ three_are_opened = record {
     | inr (inl is) ↦ low_is_mid _ _ is
     | inr (inr is) ↦ low_is_mid _ _ is
   ];
-  not_top = λ top. elim (top_cases mid_two top) [
+  not_top = λ top. elim (top_cases mid_ten top) [
     | inl is ↦ mid_is_top_one _ is
     | inr is ↦ mids_differ (sym is)
   ];
-  not_deep = λ deep. mids_differ (deep_is there_file requirements_are_left.folder mid_one deep);
+  not_deep = λ deep. mids_differ (deep_is there_file requirements_are_left.folder mid_nine deep);
   below_deep = below_deep;
   all_deep = all_deep;
   all_below = all_below;
@@ -222,20 +222,20 @@ edge_member (Of x) y (opens, there) = elim (edge_cases there_file requirements_a
   | inl (is, to) ↦ subst (λ (z : ModuleVersion). Contains edges (edge (Of z) y)) (sym is)
       (subst (λ (z : ModuleVersion). Contains edges (edge (Of top_one) z)) (sym to) (3, omega arith, refl))
   | inr (is, to) ↦ subst (λ (z : ModuleVersion). Contains edges (edge (Of z) y)) (sym is)
-      (subst (λ (z : ModuleVersion). Contains edges (edge (Of mid_one) z)) (sym to) (2, omega arith, refl))
+      (subst (λ (z : ModuleVersion). Contains edges (edge (Of mid_nine) z)) (sym to) (2, omega arith, refl))
 ]
 
 abbrev Leads : Edge → Type 0
 Leads one = IsEdge all_there one.from one.to
 
 member_leads : (one : Edge) → Contains edges one → Leads one
-member_leads one there = elim (member_cases (edge FromMain mid_one) one (edge FromMain top_one ∷ edge (Of mid_one) low_one ∷ edge (Of top_one) mid_two ∷ []) there) [
+member_leads one there = elim (member_cases (edge FromMain mid_nine) one (edge FromMain top_one ∷ edge (Of mid_nine) low_one ∷ edge (Of top_one) mid_ten ∷ []) there) [
   | inl same ↦ subst Leads same mid_is_top
-  | inr second ↦ elim (member_cases (edge FromMain top_one) one (edge (Of mid_one) low_one ∷ edge (Of top_one) mid_two ∷ []) second) [
+  | inr second ↦ elim (member_cases (edge FromMain top_one) one (edge (Of mid_nine) low_one ∷ edge (Of top_one) mid_ten ∷ []) second) [
     | inl same ↦ subst Leads same top_is_top
-    | inr third ↦ elim (member_cases (edge (Of mid_one) low_one) one (edge (Of top_one) mid_two ∷ []) third) [
+    | inr third ↦ elim (member_cases (edge (Of mid_nine) low_one) one (edge (Of top_one) mid_ten ∷ []) third) [
       | inl same ↦ subst Leads same (mid_to_low there_file requirements_are_left.folder)
-      | inr fourth ↦ elim (member_cases (edge (Of top_one) mid_two) one [] fourth) [
+      | inr fourth ↦ elim (member_cases (edge (Of top_one) mid_ten) one [] fourth) [
         | inl same ↦ subst Leads same (top_to_mid there_file requirements_are_left.folder)
         | inr none ↦ absurd (no_member one none)
       ]
@@ -271,7 +271,7 @@ four_edges_lead = record {
     | inr (is, to) ↦ mid_is_top_one _ (sym is)
   ];
   idle_requires = (mid_file, mid_says_idle, member_head low_one []);
-  not_unopened = λ leads. none_opened mid_one leads.0;
+  not_unopened = λ leads. none_opened mid_nine leads.0;
 }
 
 -- ---- the build list
@@ -279,7 +279,7 @@ four_edges_lead = record {
 abbrev Leading : Step → ModuleVersion → Type 0
 Leading s y = IsEdge all_there s y
 
-end_cases : (y : ModuleVersion) → IsEdgeEnd Leading y → (y ≡ top_one) ⊎ ((y ≡ mid_one) ⊎ ((y ≡ mid_two) ⊎ (y ≡ low_one)))
+end_cases : (y : ModuleVersion) → IsEdgeEnd Leading y → (y ≡ top_one) ⊎ ((y ≡ mid_nine) ⊎ ((y ≡ mid_ten) ⊎ (y ≡ low_one)))
 end_cases y (FromMain, top) = elim (top_cases y top) [
   | inl is ↦ inl is
   | inr is ↦ inr (inl is)
@@ -293,7 +293,7 @@ itself : (v : List ℕ) → is_gt (version_cmp v v) ≡ false
 itself v = not_above_itself (version_cmp v v) (version_total.antisymm v v)
 
 abbrev selected : List ModuleVersion
-selected = low_one ∷ mid_two ∷ top_one ∷ []
+selected = low_one ∷ mid_ten ∷ top_one ∷ []
 
 abbrev Selects : ModuleVersion → Type 0
 Selects x = IsSelected (codes "m") Leading x
@@ -304,23 +304,23 @@ long x seven e = let one : length x ≡ 1 = ap (λ (t : List ℕ). length t) e i
 low_selected : Selects low_one
 low_selected = record {
   not_main = long (codes "low.org") refl;
-  is_end = (Of mid_one, mid_to_low there_file requirements_are_left.folder);
+  is_end = (Of mid_nine, mid_to_low there_file requirements_are_left.folder);
   greatest = λ y end same. elim (end_cases y end) [
     | inl is ↦ absurd (low_is_top (ap (with_version (codes "v1.0.0")) (sym same ∙ path_same y top_one is)))
-    | inr (inl is) ↦ absurd (low_is_mid (codes "v1.0.0") (codes "v1.0.0") (ap (with_version (codes "v1.0.0")) (sym same ∙ path_same y mid_one is)))
-    | inr (inr (inl is)) ↦ absurd (low_is_mid (codes "v1.0.0") (codes "v1.0.0") (ap (with_version (codes "v1.0.0")) (sym same ∙ path_same y mid_two is)))
+    | inr (inl is) ↦ absurd (low_is_mid (codes "v1.0.0") (codes "v1.0.0") (ap (with_version (codes "v1.0.0")) (sym same ∙ path_same y mid_nine is)))
+    | inr (inr (inl is)) ↦ absurd (low_is_mid (codes "v1.0.0") (codes "v1.0.0") (ap (with_version (codes "v1.0.0")) (sym same ∙ path_same y mid_ten is)))
     | inr (inr (inr is)) ↦ subst (λ (z : ModuleVersion). is_gt (version_cmp z.1 (codes "v1.0.0")) ≡ false) (sym is) (itself (codes "v1.0.0"))
   ];
 }
 
-mid_selected : Selects mid_two
+mid_selected : Selects mid_ten
 mid_selected = record {
   not_main = long (codes "mid.org") refl;
   is_end = (Of top_one, top_to_mid there_file requirements_are_left.folder);
   greatest = λ y end same. elim (end_cases y end) [
     | inl is ↦ absurd (mid_is_top_one (codes "v1.0.0") (ap (with_version (codes "v1.0.0")) (sym same ∙ path_same y top_one is)))
-    | inr (inl is) ↦ subst (λ (z : ModuleVersion). is_gt (version_cmp z.1 (codes "v1.1.0")) ≡ false) (sym is) (ap is_gt one_zero_is_below)
-    | inr (inr (inl is)) ↦ subst (λ (z : ModuleVersion). is_gt (version_cmp z.1 (codes "v1.1.0")) ≡ false) (sym is) (itself (codes "v1.1.0"))
+    | inr (inl is) ↦ subst (λ (z : ModuleVersion). is_gt (version_cmp z.1 (codes "v1.10.0")) ≡ false) (sym is) (ap is_gt one_nine_is_below)
+    | inr (inr (inl is)) ↦ subst (λ (z : ModuleVersion). is_gt (version_cmp z.1 (codes "v1.10.0")) ≡ false) (sym is) (itself (codes "v1.10.0"))
     | inr (inr (inr is)) ↦ absurd (low_is_mid (codes "v1.0.0") (codes "v1.0.0") (ap (with_version (codes "v1.0.0")) (sym (path_same y low_one is) ∙ same)))
   ];
 }
@@ -331,16 +331,16 @@ top_selected = record {
   is_end = (FromMain, top_is_top);
   greatest = λ y end same. elim (end_cases y end) [
     | inl is ↦ subst (λ (z : ModuleVersion). is_gt (version_cmp z.1 (codes "v1.0.0")) ≡ false) (sym is) (itself (codes "v1.0.0"))
-    | inr (inl is) ↦ absurd (mid_is_top_one (codes "v1.0.0") (ap (with_version (codes "v1.0.0")) (sym (path_same y mid_one is) ∙ same)))
-    | inr (inr (inl is)) ↦ absurd (mid_is_top_one (codes "v1.0.0") (ap (with_version (codes "v1.0.0")) (sym (path_same y mid_two is) ∙ same)))
+    | inr (inl is) ↦ absurd (mid_is_top_one (codes "v1.0.0") (ap (with_version (codes "v1.0.0")) (sym (path_same y mid_nine is) ∙ same)))
+    | inr (inr (inl is)) ↦ absurd (mid_is_top_one (codes "v1.0.0") (ap (with_version (codes "v1.0.0")) (sym (path_same y mid_ten is) ∙ same)))
     | inr (inr (inr is)) ↦ absurd (low_is_top (ap (with_version (codes "v1.0.0")) (sym (path_same y low_one is) ∙ same)))
   ];
 }
 
 member_selected : (x : ModuleVersion) → Contains selected x → Selects x
-member_selected x there = elim (member_cases low_one x (mid_two ∷ top_one ∷ []) there) [
+member_selected x there = elim (member_cases low_one x (mid_ten ∷ top_one ∷ []) there) [
   | inl same ↦ subst Selects same low_selected
-  | inr second ↦ elim (member_cases mid_two x (top_one ∷ []) second) [
+  | inr second ↦ elim (member_cases mid_ten x (top_one ∷ []) second) [
     | inl same ↦ subst Selects same mid_selected
     | inr third ↦ elim (member_cases top_one x [] third) [
       | inl same ↦ subst Selects same top_selected
@@ -350,11 +350,11 @@ member_selected x there = elim (member_cases low_one x (mid_two ∷ top_one ∷ 
 ]
 
 -- the lower version is not selected
-not_lower : (x : ModuleVersion) → Selects x → x ≡ mid_one → ⊥
+not_lower : (x : ModuleVersion) → Selects x → x ≡ mid_nine → ⊥
 not_lower x is own =
-    let low : is_gt (version_cmp (codes "v1.1.0") x.1) ≡ false = is.greatest mid_two mid_selected.is_end (sym (path_same x mid_one own)) in
-    let high : is_gt (version_cmp (codes "v1.1.0") x.1) ≡ true =
-    subst (λ (z : ModuleVersion). is_gt (version_cmp (codes "v1.1.0") z.1) ≡ true) (sym own) (ap is_gt one_one_is_above) in
+    let low : is_gt (version_cmp (codes "v1.10.0") x.1) ≡ false = is.greatest mid_ten mid_selected.is_end (sym (path_same x mid_nine own)) in
+    let high : is_gt (version_cmp (codes "v1.10.0") x.1) ≡ true =
+    subst (λ (z : ModuleVersion). is_gt (version_cmp (codes "v1.10.0") z.1) ≡ true) (sym own) (ap is_gt one_ten_is_above) in
     false≢true (sym low ∙ high)
 
 selected_member : (x : ModuleVersion) → Selects x → Contains selected x
@@ -385,7 +385,7 @@ abbrev low_row : Entry
 low_row = (Of low_one, None)
 
 abbrev mid_row : Entry
-mid_row = (Of mid_two, Some (Folder (codes "./mid")))
+mid_row = (Of mid_ten, Some (Folder (codes "./mid")))
 
 abbrev top_row : Entry
 top_row = (Of top_one, None)
@@ -443,9 +443,6 @@ only_list_is_printed outcome (others, are, is) =
 abbrev pub fault_with : ModuleVersion → Class → Fault
 fault_with x class = record { vertex = x; class = class }
 
-pub same_class : (a b : Class) → Some a ≡ Some b → a ≡ b
-same_class a b e = cc e
-
 -- a module whose file is sound has no fault
 no_fault_at : (run : Run) (x z : ModuleVersion) (file : Dependency) (class : Class) → Says run z (Ok file) → x ≡ z → Says run x (Err class) → ⊥
 no_fault_at run x z file class own is says =
@@ -454,8 +451,8 @@ no_fault_at run x z file class own is says =
 no_fault : (x : ModuleVersion) (class : Class) → IsOpened all_there x → Says all_there x (Err class) → ⊥
 no_fault x class opens says = elim (opened_cases there_file requirements_are_left.folder x opens) [
   | inl is ↦ no_fault_at all_there x top_one top_file class (top_says there_file) is says
-  | inr (inl is) ↦ no_fault_at all_there x mid_one mid_file class (mid_says there_file) is says
-  | inr (inr is) ↦ no_fault_at all_there x mid_two folder_says class folder_says_so is says
+  | inr (inl is) ↦ no_fault_at all_there x mid_nine mid_file class (mid_says there_file) is says
+  | inr (inr is) ↦ no_fault_at all_there x mid_ten folder_says class folder_says_so is says
 ]
 
 member_faulty : (one : Fault) → Contains (fault_of_mid ∷ []) one → IsFault one_missing one
@@ -467,9 +464,9 @@ member_faulty one there = elim (member_cases fault_of_mid one [] there) [
 faulty_member : (one : Fault) → IsFault one_missing one → Contains (fault_of_mid ∷ []) one
 faulty_member one (opens, says) = elim (opened_cases absent requirements_are_left.faulty one.vertex opens) [
   | inl is ↦ absurd (no_fault_at one_missing one.vertex top_one top_file one.class (top_says absent) is says)
-  | inr (inl is) ↦ absurd (no_fault_at one_missing one.vertex mid_one mid_file one.class (mid_says absent) is says)
+  | inr (inl is) ↦ absurd (no_fault_at one_missing one.vertex mid_nine mid_file one.class (mid_says absent) is says)
   | inr (inr is) ↦ (let class : Missing ≡ one.class =
-      fault_is one_missing mid_two Missing one.class folder_is_missing (subst (λ (m : ModuleVersion). Says one_missing m (Err one.class)) is says) in
+      fault_is one_missing mid_ten Missing one.class folder_is_missing (subst (λ (m : ModuleVersion). Says one_missing m (Err one.class)) is says) in
       let same : fault_of_mid ≡ one = ap₂ fault_with (sym is) class in
       subst (Contains (fault_of_mid ∷ [])) same (member_head fault_of_mid []))
 ]

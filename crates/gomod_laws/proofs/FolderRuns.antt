@@ -2,7 +2,6 @@
 use Rattle.std.proofs.Common.{◌≡◌, ◌∙◌, ◌++◌, ◌∷◌, ℕ, Bool, List, [], Option, Some, None, Result, Ok, Err, Contains, ap, append_assoc, false, inl, inr, refl, subst, sym, true}
 use Rattle.std.proofs.lemmas.Bool.{false≢true}
 use Rattle.std.proofs.lemmas.List.{get_or-map, length-map}
-use Rattle.gm_name.specs.ModuleVersion.{ModuleVersion}
 use Rattle.gm_file.specs.Fields.{Dependency}
 use Rattle.gm_store.specs.Asked.{Name, Reply, absent, answer_in, bytes, list_file, mod_file, names_in, too_long}
 use Rattle.gm_store.specs.Latest.{IsLatest}
@@ -10,19 +9,18 @@ use Rattle.gm_store.specs.Listed.{AreListed}
 use Rattle.gm_store_sums.specs.Sums.{Sums}
 use Rattle.gm_graph.specs.declared.cache.class.Class.{Class}
 use Rattle.gm_file.specs.Main.{Main}
-use Rattle.gm_graph.specs.Reading.{Held, IsFileReading, IsTold, Tells, fault_in, file_of, is_askable, readings_by, vertex_fault}
-use Rattle.gm_graph.proofs.ReadingIf.{reading_if}
+use Rattle.gm_graph.specs.Reading.{IsFileReading}
 use Rattle.gm_graph.proofs.Keeping.{answer_stays}
 use Rattle.gm_graph_select.proofs.Ascending.{member_cases, no_member}
 use Rattle.gm_graph.specs.declared.fault.Fault.{Fault}
-use Rattle.gm_graph.specs.Loading.{IsNeeded}
+use Rattle.gm_graph.specs.Run as graph
+use Rattle.gm_graph.specs.Run.{FileSays, IsNeeded, run_of}
+use Rattle.gm_graph.proofs.RunLemmas.{needed}
 use Rattle.gomod_run.specs.ListingLaws.{AnswerAlike}
-use Rattle.gomod_run.specs.Outcomes.{Given, answers, given}
-use Rattle.gomod_run.specs.HeldFiles.{AllFilesAreValid}
+use Rattle.gomod_run.specs.Outcomes.{AreFound, answers, given}
 use Rattle.gomod_run.specs.Needs.{AnsweredAll, AnswersByName, AskedAfter, AskedInTurn}
 use Rattle.gomod_run.specs.Outcome.{Outcome}
-use Rattle.gomod_run.proofs.OneRead.{one_finding, one_main, tells_alike}
-use Rattle.gomod_run.proofs.OneQueryStore.{Agrees, alike_back, opened, stores_agree}
+use Rattle.gomod_run.proofs.OneQueryStore.{alike_back, stores_agree}
 use Rattle.gomod_words.specs.declared.usage.Command.{Command}
 use Rattle.gomod_words.specs.declared.usage.Command.TheVariants.{Fmt, Edit, Versions, Graph, List as Rows, Chain}
 use Rattle.gomod_run.specs.Runs.{Needs, is_query}
@@ -33,6 +31,7 @@ use Rattle.gomod_run.proofs.OneStore.{one_for_stores}
 use Rattle.gomod_run.proofs.Uniqueness.{latest_once, listed_once, none_latest}
 use Rattle.gomod_laws.specs.FolderLaws.{FolderMayAnswer, MoreFoldersChangeNothing}
 use Rattle.gomod_laws.specs.Runs.{HasPrinted}
+use Rattle.gomod_laws.specs.Shown.{run_over}
 use Rattle.gomod_laws.proofs.Ended.{Ends}
 use Rattle.gomod_laws.proofs.FolderWalks.{found_again}
 use Rattle.gomod_laws.proofs.PrintedRuns.{Pairs, valid_files}
@@ -127,46 +126,34 @@ module _ (path : List ℕ) (all : Bool) (told : AnswersByName) (outcome : Outcom
 
 -- ---- queries
 
-module _ (run : Given) (main : Main) (held : Held) (valid : AllFilesAreValid run main held) where
-  faulty : (x : ModuleVersion) (class : Class) (askable : Bool) (said : Option (Result Dependency Class)) → askable ≡ true → said ≡ Some (Err class)
-      → fault_in (reading_if askable main x said) ≡ Some class
-  faulty x class true said e is = ap (λ (o : Option (Result Dependency Class)). fault_in (reading_if true main x o)) is
-  faulty x class false said e is = absurd (false≢true e)
-
-  no_fault : (name : Name) (class : Class) → IsNeeded main (readings_by main held) name → held name ≡ Some (Err class) → ⊥
-  no_fault name class (x, opens, is, askable) said =
-      let has : vertex_fault (readings_by main held) x ≡ Some class =
-      faulty x class (is_askable (file_of main x)) (held (file_of main x)) (ap is_askable is ∙ askable) (ap held is ∙ said) in
+module _ (file : List ℕ) (sums : Option (List ℕ)) (asked : Pairs) (main : Main) (table : Option Sums) (found : AreFound (run_over file sums asked) main table []) where
+  no_fault : (name : Name) (class : Class) → IsNeeded (run_of main table asked) name → FileSays (run_of main table asked) name (Err class) → ⊥
+  no_fault name class (x, opens, is, askable) says =
       let fault : Fault = record { vertex = x; class = class } in
-      no_member fault ((valid.sound.each fault).1 (opens, has))
+      no_member fault ((found.faults_are.each fault).1 (opens, graph.faulty (subst (λ (n : Name). FileSays (run_of main table asked) n (Err class)) (sym is) says)))
 
-  told_is_file : (name : Name) (reply : Reply) (answer : Option Reply) (said : Option (Result Dependency Class)) → IsTold valid.table name answer said → answer ≡ Some reply
-      → ((class : Class) → said ≡ Some (Err class) → ⊥) → IsFile reply
-  told_is_file name reply None said told e sound = cc e
-  told_is_file name reply (Some r) None told e sound = absurd told
-  told_is_file name reply (Some r) (Some (Err class)) told e sound = absurd (sound class refl)
-  told_is_file name reply (Some r) (Some (Ok file)) told e sound =
-      let same : r ≡ reply = cc e in
-      let (content, is) = read_is_file valid.table name r file told in
-      (content, sym same ∙ is)
+  -- what was asked for was read
+  asked_is_file : (name : Name) (reply : Reply) → answer_in asked name ≡ Some reply → IsFile reply
+  asked_is_file name reply e = by said.0 said.1
+    where
+      need : IsNeeded (run_of main table asked) name
+      need = (found.settled.needed name).0 (answered_name asked name reply e)
 
-  opened_is_file : (name : Name) (reply : Reply) → answer_in run.told.asked name ≡ Some reply → IsFile reply
-  opened_is_file name reply e =
-      let needed = (valid.known.asked.each name).0 (answered_name run.told.asked name reply e) in
-      told_is_file name reply (answer_in run.told.asked name) (held name) (valid.known.tells name) e (λ class said. no_fault name class needed said)
+      said : (r : Result Dependency Class) × IsFileReading table name reply r
+      said = found.settled.read name reply e
+
+      by : (r : Result Dependency Class) → IsFileReading table name reply r → IsFile reply
+      by (Ok file) is = read_is_file table name reply file is
+      by (Err class) is = absurd (no_fault name class need (graph.answered reply need.3 e is))
 
 -- runs over answers that are alike ask for the same files
-names_into : (file : List ℕ) (sums : Option (List ℕ)) (asked told : Pairs) (main again : Main) (held next : Held) → AnswerAlike asked told
-    → AllFilesAreValid (given file sums (answers asked [])) main held → AllFilesAreValid (given file sums (answers told [])) again next
-    → (name : Name) → Contains (names_in asked) name → Contains (names_in told) name
-names_into file sums asked told main again held next alike valid also name there =
-    let same : main ≡ again = one_main file main again valid.read.main_file also.read.main_file in
-    let here : AllFilesAreValid (given file sums (answers asked [])) again held = subst (λ (m : Main). AllFilesAreValid (given file sums (answers asked [])) m held) same valid in
-    let tells : Tells also.table asked held = tells_alike here.table also.table (one_finding sums here.table also.table here.read.sums also.read.sums) asked held here.known.tells in
-    let agrees : Agrees again (readings_by again held) (readings_by again next) =
-    stores_agree again also.table asked told held next alike tells also.known.tells also.known.answered in
-    let (x, opens, is, askable) = (here.known.asked.each name).0 there in
-    (also.known.asked.each name).1 (x, opened again (readings_by again held) (readings_by again next) agrees x opens, is, askable)
+names_into : (file : List ℕ) (sums : Option (List ℕ)) (asked told : Pairs) (main again : Main) (t u : Option Sums) → AnswerAlike asked told
+    → AreFound (run_over file sums asked) main t [] → AreFound (run_over file sums told) again u [] → (name : Name) → Contains (names_in asked) name → Contains (names_in told) name
+names_into file sums asked told main again t u alike found also name there =
+    let agrees =
+    stores_agree (run_over file sums asked) (run_over file sums told) main again t u
+    (record { file = refl; sums = refl; answers = alike; failed = refl }) found.read also.read also.settled in
+    (also.settled.needed name).1 (needed (run_of main t asked) (run_of again u told) agrees name ((found.settled.needed name).0 there))
 
 -- ---- any command
 
@@ -185,8 +172,8 @@ module _ (main : List ℕ) (sums : Option (List ℕ)) where
   pub query_is_file : (command : Command) (asked : Pairs) (outcome : Outcome) → is_query command ≡ true → Ends command main sums asked outcome → HasPrinted outcome
       → (name : Name) (reply : Reply) → answer_in asked name ≡ Some reply → IsFile reply
   query_is_file command asked outcome query run prints name reply e =
-      let (says, held, valid) = valid_files command main sums asked outcome query run prints in
-      opened_is_file (given main sums (answers asked [])) says held valid name reply e
+      let (says, table, found) = valid_files command main sums asked outcome query run prints in
+      asked_is_file main sums asked says table found name reply e
 
   -- a run that prints was answered with a file wherever it asked
   pub each_is_file : (command : Command) (asked : Pairs) (outcome : Outcome) → Ends command main sums asked outcome → AskedInTurn (Needs command main sums) asked → HasPrinted outcome
@@ -204,9 +191,9 @@ module _ (main : List ℕ) (sums : Option (List ℕ)) where
   query_names : (command : Command) (asked told : Pairs) (a b : Outcome) → is_query command ≡ true → AnswerAlike asked told → Ends command main sums asked a → HasPrinted a
       → Ends command main sums told b → HasPrinted b → (name : Name) → Contains (names_in asked) name → Contains (names_in told) name
   query_names command asked told a b query alike run prints again also name there =
-      let (says, held, valid) = valid_files command main sums asked a query run prints in
-      let (tells, next, too) = valid_files command main sums told b query again also in
-      names_into main sums asked told says tells held next alike valid too name there
+      let (says, t, found) = valid_files command main sums asked a query run prints in
+      let (tells, u, too) = valid_files command main sums told b query again also in
+      names_into main sums asked told says tells t u alike found too name there
 
   -- a file that one run asked for is one that the other asked for
   pub names_in_other : (command : Command) (asked told : Pairs) (a b : Outcome) → AnswerAlike asked told → AskedInTurn (Needs command main sums) asked → Ends command main sums asked a → HasPrinted a

@@ -23,7 +23,7 @@ use Rattle.gomod_laws.proofs.FormattingBlanks.{main_said, no_fault_again, same_s
 use Rattle.gomod_laws.proofs.FormattingRead.{parsed_layout}
 use Rattle.gomod_laws.proofs.LineOrderProofs.{queries_move}
 use Rattle.gomod_laws.proofs.LineOrderRuns.{same_outcome}
-use Rattle.gomod_laws.proofs.LineOrderSame.{SayTheSame}
+use Rattle.gomod_laws.proofs.LineOrderSame.{says_itself}
 
 -- ---- what a main file says
 
@@ -54,9 +54,6 @@ laid file text (bad_syntax fault place parsed named says) = absurd (not_printed 
 
 pub fmt_printed : (file text : List ℕ) → IsFormatted file text → IsLayoutOf file text
 fmt_printed file text has = laid file text has.0
-
-pub says_itself : (main : Main) → SayTheSame main main
-says_itself main = record { path = refl; pruned = refl; required = λ x. (λ is. is, λ is. is); excluded = λ x. (λ is. is, λ is. is); replaced = λ x. refl }
 
 pub formatting_changes_no_build : FormattingChangesNoBuild
 formatting_changes_no_build command file text main sums asked answered before after query is formatted short alike one two =

@@ -1,11 +1,12 @@
--- The path a.b and the versions v1.0.0 and v1.1.0, of which the counterexamples are.
+-- The path a.b and the versions v1.0.0 and v1.1.0, of which the counterexamples are, and v1.9.0 and v1.10.0 of the example
+-- world.
 use Rattle.std.proofs.Common.{◌≡◌, ◌∙◌, ◌∷◌, ◌++◌, ◌+◌, ◌<◌, ◌==◌, ℕ, true, false, List, [], ap, ap₂, arith, codes, drop, inl, inr, length, length-append, lit<, refl, subst, sym}
 use Rattle.std.specs.Cmp.Lexicographic.{slice_cmp}
 use Rattle.std.specs.Fmt.{decimal}
 use Rattle.std.specs.Ordering.{is_gt, nat_cmp, ordering_reverse, ordering_then}
 use Rattle.std.specs.declared.cmp.Ordering.{Ordering}
 use Rattle.std.specs.declared.cmp.Ordering.TheVariants.{Less, Equal, Greater}
-use Rattle.std.proofs.lemmas.Fmt.{decimal_digit}
+use Rattle.std.proofs.lemmas.Fmt.{decimal_digit, decimal_step}
 use Rattle.gm_name.specs.Fit.{Fits}
 use Rattle.gm_name.specs.Path.{HasMajor, IsUnderGopkg}
 use Rattle.gm_name.specs.Version.{IsVersion, parts_in, precedence, version_cmp, version_text}
@@ -56,6 +57,33 @@ one_one_is = ((1, 1, 0, [], []), (lit< tt, lit< tt, lit< tt, refl, refl), inl re
 pub one_one_parts : parts_in one_one ≡ (1, 1, 0, [], [])
 one_one_parts = parts-spelled one_one (1, 1, 0, [], []) (lit< tt, lit< tt, lit< tt, refl, refl) one_one_text
 
+abbrev pub one_nine : List ℕ
+one_nine = codes "v1.9.0"
+
+abbrev pub one_ten : List ℕ
+one_ten = codes "v1.10.0"
+
+nine_is : decimal 9 ≡ 57 ∷ []
+nine_is = decimal_digit 9 (lit< tt)
+
+ten_is : decimal 10 ≡ 49 ∷ 48 ∷ []
+ten_is = decimal_step 10 (omega arith) (omega arith) ∙ ap (λ (front : List ℕ). front ++ (48 ∷ [])) one_is
+
+one_nine_text : one_nine ≡ version_text (1, 9, 0, [], [])
+one_nine_text = digits (decimal 1) (decimal 9) (decimal 0) 49 57 48 one_is nine_is zero_is
+
+one_nine_parts : parts_in one_nine ≡ (1, 9, 0, [], [])
+one_nine_parts = parts-spelled one_nine (1, 9, 0, [], []) (lit< tt, lit< tt, lit< tt, refl, refl) one_nine_text
+
+one_ten_text : one_ten ≡ version_text (1, 10, 0, [], [])
+one_ten_text = rw (one_is, ten_is, zero_is) refl
+
+pub one_ten_is : IsVersion one_ten
+one_ten_is = ((1, 10, 0, [], []), (lit< tt, lit< tt, lit< tt, refl, refl), inl refl, one_ten_text)
+
+pub one_ten_parts : parts_in one_ten ≡ (1, 10, 0, [], [])
+one_ten_parts = parts-spelled one_ten (1, 10, 0, [], []) (lit< tt, lit< tt, lit< tt, refl, refl) one_ten_text
+
 -- ---- their order
 
 decided : (v w : List ℕ) (p q : Parts) → parts_in v ≡ p → parts_in w ≡ q → precedence (parts_in v) (parts_in w) ≡ precedence p q
@@ -73,6 +101,12 @@ one_one_is_above = above one_one one_zero (decided one_one one_zero (1, 1, 0, []
 pub one_zero_is_below : version_cmp one_zero one_one ≡ Less
 one_zero_is_below = below one_zero one_one (decided one_zero one_one (1, 0, 0, [], []) (1, 1, 0, [], []) one_zero_parts one_one_parts ∙ refl)
 
+pub one_ten_is_above : version_cmp one_ten one_nine ≡ Greater
+one_ten_is_above = above one_ten one_nine (decided one_ten one_nine (1, 10, 0, [], []) (1, 9, 0, [], []) one_ten_parts one_nine_parts ∙ refl)
+
+pub one_nine_is_below : version_cmp one_nine one_ten ≡ Less
+one_nine_is_below = below one_nine one_ten (decided one_nine one_ten (1, 9, 0, [], []) (1, 10, 0, [], []) one_nine_parts one_ten_parts ∙ refl)
+
 pub same_precedence : precedence (parts_in one_zero) (parts_in one_zero) ≡ Equal
 same_precedence = decided one_zero one_zero (1, 0, 0, [], []) (1, 0, 0, [], []) one_zero_parts one_zero_parts ∙ refl
 
@@ -81,6 +115,9 @@ first_byte a b x y e = cc e
 
 pub versions_differ : one_zero ≡ one_one → ⊥
 versions_differ e = let digit : 48 ≡ 49 = first_byte 48 49 _ _ (ap (drop 3) e) in omega (arith, digit)
+
+pub nine_is_not_ten : one_nine ≡ one_ten → ⊥
+nine_is_not_ten e = let digit : 57 ≡ 49 = first_byte 57 49 _ _ (ap (drop 3) e) in omega (arith, digit)
 
 pub not_above_itself : (o : Ordering) → o ≡ ordering_reverse o → is_gt o ≡ false
 not_above_itself Less e = refl

@@ -2,13 +2,13 @@
 use Rattle.std.proofs.Common.{◌≡◌, ℕ, List, [], true, Option, refl}
 use Rattle.gm_store.specs.Asked.{Name, Reply}
 use Rattle.gomod_run.specs.ListingLaws.{AnswerAlike}
-use Rattle.gomod_run.specs.Outcomes.{Answers, answers, given}
-use Rattle.gomod_run.proofs.HeldEnds.{QueryEnds, PrintsOf, ends_query, query_ends}
+use Rattle.gomod_run.specs.Outcomes.{Answers, QueryEnds, answers, given}
 use Rattle.gomod_run.specs.Outcome.{Outcome}
 use Rattle.gomod_words.specs.declared.usage.Command.{Command}
-use Rattle.gomod_run.specs.Runs.{is_query}
-use Rattle.gomod_run.proofs.OneStore.{one_for_stores}
+use Rattle.gomod_run.specs.Runs.{PrintsOf, is_query}
+use Rattle.gomod_run.proofs.QueryParts.{query_ends}
 use Rattle.gomod_laws.proofs.Ended.{Ends}
+use Rattle.gomod_laws.proofs.RunsAlike.{one_end}
 
 -- each outcome of a query over the one file is also one over the other
 abbrev pub QueriesMove : List ℕ → List ℕ → Option (List ℕ) → Type 0
@@ -17,6 +17,6 @@ QueriesMove file other sums = (command : Command) (told : Answers) (outcome : Ou
 pub same_outcome : (command : Command) (file other : List ℕ) (sums : Option (List ℕ)) (asked answered : List (Name × Reply)) (a b : Outcome) → is_query command ≡ true → QueriesMove file other sums → AnswerAlike asked answered
     → Ends command file sums asked a → Ends command other sums answered b → a ≡ b
 same_outcome command file other sums asked answered a b query moves alike one two =
-    let moved = moves command (answers asked []) a (query_ends (given file sums (answers asked [])) a command query one) in
-    one_for_stores command (given other sums (answers asked [])) (given other sums (answers answered [])) a b (record { file = refl; sums = refl; answers = alike; failed = refl })
-    (ends_query (given other sums (answers asked [])) a command query moved) two
+    one_end command query (given other sums (answers asked [])) (given other sums (answers answered [])) a b (record { file = refl; sums = refl; answers = alike; failed = refl })
+    (moves command (answers asked []) a (query_ends (given file sums (answers asked [])) a command query one))
+    (query_ends (given other sums (answers answered [])) b command query two)

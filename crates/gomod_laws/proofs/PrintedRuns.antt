@@ -1,25 +1,36 @@
--- Runs of queries, and those that print.
-use Rattle.std.proofs.Common.{◌≡◌, ℕ, List, [], Option, true}
+-- Runs of queries that print.
+use Rattle.std.proofs.Common.{◌≡◌, ℕ, List, [], Option, subst, true}
 use Rattle.gm_store.specs.Asked.{Name, Reply}
-use Rattle.gm_file.specs.Main.{Main}
-use Rattle.gm_graph.specs.Reading.{Held}
-use Rattle.gomod_run.specs.Outcomes.{answers, given}
-use Rattle.gomod_run.specs.HeldFiles.{AllFilesAreValid}
-use Rattle.gomod_run.proofs.HeldEnds.{PrintsOf, query_ends}
-use Rattle.gomod_run.proofs.PrintedList.{printed_run}
+use Rattle.gm_store_sums.specs.Sums.{Sums}
+use Rattle.gm_file.specs.Main.{Main, IsMainFile}
+use Rattle.gm_graph.specs.Run.{run_of}
+use Rattle.gomod_run.specs.Outcomes.{AreFound, Given, Prints, QueryEnds}
 use Rattle.gomod_run.specs.Outcome.{Outcome}
+use Rattle.gomod_run.proofs.OneRead.{one_main}
+use Rattle.gomod_run.proofs.PrintedList.{printed_run}
+use Rattle.gomod_run.proofs.QueryParts.{query_ends}
 use Rattle.gomod_words.specs.declared.usage.Command.{Command}
-use Rattle.gomod_run.specs.Runs.{is_query}
+use Rattle.gomod_run.specs.Runs.{PrintsOf, is_query}
 use Rattle.gomod_laws.specs.Runs.{HasPrinted}
+use Rattle.gomod_laws.specs.Shown.{run_over}
 use Rattle.gomod_laws.proofs.Ended.{Ends}
 
 abbrev pub Pairs : Type 0
 Pairs = List (Name × Reply)
 
+-- The run finds no fault, and this is printed.
+abbrev pub PrintsOver : Prints → Given → Main → Outcome → Type 0
+PrintsOver prints run main outcome = (table : Option Sums) × AreFound run main table [] × prints (run_of main table run.told.asked) outcome
+
+-- A run that prints, by what its main file is known to say.
+pub printed_by : (prints : Prints) (run : Given) (main : Main) (outcome : Outcome) → IsMainFile run.file main → QueryEnds prints run outcome → HasPrinted outcome → PrintsOver prints run main outcome
+printed_by prints run main outcome says is ends =
+    let (other, table, found, shows) = printed_run prints run outcome is ends in
+    subst (λ (m : Main). PrintsOver prints run m outcome) (one_main run.file other main found.read.main_file says) (table, found, shows)
+
 -- what a query that prints is based on
 pub valid_files : (command : Command) (file : List ℕ) (sums : Option (List ℕ)) (asked : Pairs) (outcome : Outcome) → is_query command ≡ true → Ends command file sums asked outcome → HasPrinted outcome
-    → (main : Main) × (held : Held) × AllFilesAreValid (given file sums (answers asked [])) main held
+    → (main : Main) × (table : Option Sums) × AreFound (run_over file sums asked) main table []
 valid_files command file sums asked outcome query run done =
-    let (main, held, valid, says) =
-    printed_run (PrintsOf command) (given file sums (answers asked [])) outcome (query_ends (given file sums (answers asked [])) outcome command query run) done in
-    (main, held, valid)
+    let (main, table, found, says) = printed_run (PrintsOf command) (run_over file sums asked) outcome (query_ends (run_over file sums asked) outcome command query run) done in
+    (main, table, found)

@@ -1,10 +1,9 @@
 -- What a query prints determines the main module's path, and the rows, edges and steps of its run.
-use Rattle.std.proofs.Common.{◌≡◌, ◌≢◌, ◌∙◌, ◌∷◌, ◌++◌, ℕ, List, [], None, Contains, ap, append_assoc, arith, codes, length, length-append, map, refl, subst, sym}
+use Rattle.std.proofs.Common.{◌≡◌, ◌≢◌, ◌∙◌, ◌∷◌, ◌++◌, ℕ, List, [], None, Option, Contains, ap, append_assoc, arith, codes, length, length-append, map, refl, subst, sym}
 use Rattle.gm_name.specs.Path.{IsPath}
 use Rattle.gm_name.specs.Version.{IsVersion}
 use Rattle.gm_name.specs.ModuleVersion.{ModuleVersion}
 use Rattle.gm_file.specs.Main.{Main}
-use Rattle.gm_graph.specs.Reading.{Held}
 use Rattle.gm_graph_select.specs.declared.step.Edge.{Edge}
 use Rattle.gm_graph_select.specs.declared.step.Step.{Step}
 use Rattle.gm_graph_select.specs.declared.step.Step.TheVariants.{Main as FromMain, Of}
@@ -12,8 +11,8 @@ use Rattle.gm_graph_select.specs.Graph.{Edges, edge}
 use Rattle.gm_graph_select.specs.BuildList.{Entry, entry_of, main_entry}
 use Rattle.gm_graph_select.specs.Chains.{IsChain, begins, goes_on}
 use Rattle.gm_graph_select.proofs.Ascending.{member_head}
-use Rattle.gomod_run.specs.Outcomes.{Given}
-use Rattle.gomod_run.specs.HeldFiles.{AllFilesAreValid}
+use Rattle.gm_store_sums.specs.Sums.{Sums}
+use Rattle.gomod_run.specs.Outcomes.{AreFound, Given}
 use Rattle.gomod_run.specs.Outcome.{Outcome, printed}
 use Rattle.gomod_run.specs.PrintedLines.{AreProperEdges, AreProperRows, AreProperSteps, IsProperStep}
 use Rattle.gomod_run.specs.ListingTexts.{chain_text, graph_text, list_text, step_text}
@@ -81,8 +80,8 @@ same_text a b is = ap (λ (o : Outcome). o.text) is
 -- ---- a run
 
 module _ (run : Given) (main : Main) where
-  own_path : (held : Held) → AllFilesAreValid run main held → IsPath main.path
-  own_path held valid = (run_has_names run main valid.table held valid.read valid.known).0
+  own_path : (table : Option Sums) → AreFound run main table [] → IsPath main.path
+  own_path table found = (run_has_names run main table found.read).0
 
   -- ---- rows
 
@@ -96,11 +95,11 @@ module _ (run : Given) (main : Main) where
         let others : List Entry = map (entry_of main.replaces) shows.are.selected in
         let text : main.path ++ (10 ∷ list_text main.path others) ≡ path ++ (10 ∷ list_text path more) =
         sym (first_row main.path others) ∙ ap (list_text main.path) (sym shows.are.entries_are) ∙ sym rows_text ∙ ap (list_text path) is ∙ first_row path more in
-        (cut_at 10 main.path path (list_text main.path others) (list_text path more) (path_has_no_feed main.path (own_path shows.held shows.valid)) none text).0
+        (cut_at 10 main.path path (list_text main.path others) (list_text path more) (path_has_no_feed main.path (own_path shows.table shows.found)) none text).0
 
     pub rows_of_list : AreProperRows shown → main.path ≡ path → rows ≡ shown
     rows_of_list proper own =
-        text_says_rows main.path rows shown (own_path shows.held shows.valid) (run_has_proper_rows run main shows.held rows shows.valid shows.are) proper
+        text_says_rows main.path rows shown (own_path shows.table shows.found) (run_has_proper_rows run main shows.table rows shows.found.read shows.are) proper
         (sym rows_text ∙ ap (λ (m : List ℕ). list_text m shown) (sym own))
 
   -- ---- edges
@@ -113,9 +112,9 @@ module _ (run : Given) (main : Main) where
     by_first : (es : List Edge) → edges ≡ es → (rest : List ℕ) → Lacks 32 path → Lacks 64 path → graph_text main.path es ≡ path ++ (32 ∷ rest) → main.path ≡ path
     by_first [] is rest blank sign text = absurd (some_text path rest 32 text)
     by_first (one ∷ es) is rest blank sign text =
-        let proper = run_has_proper_edges run main shows.held edges shows.valid shows.are one (subst (λ (all : List Edge). Contains all one) (sym is) (member_head one es)) in
+        let proper = run_has_proper_edges run main shows.table edges shows.found.read shows.are one (subst (λ (all : List Edge). Contains all one) (sym is) (member_head one es)) in
         let cut = cut_at 32 (step_text main.path one.from) path (after_first main.path one.to es) rest
-        (step_lacks main.path one.from (own_path shows.held shows.valid) proper.0) blank (sym (first_edge main.path one.from one.to es) ∙ text) in
+        (step_lacks main.path one.from (own_path shows.table shows.found) proper.0) blank (sym (first_edge main.path one.from one.to es) ∙ text) in
         step_is_main main.path path one.from sign cut.0
 
     pub main_of_graph : (y : ModuleVersion) (more : List Edge) → shown ≡ edge FromMain y ∷ more → Lacks 32 path → Lacks 64 path → main.path ≡ path
@@ -124,7 +123,7 @@ module _ (run : Given) (main : Main) where
 
     pub edges_of_graph : AreProperEdges shown → main.path ≡ path → edges ≡ shown
     edges_of_graph proper own =
-        text_says_edges main.path edges shown (own_path shows.held shows.valid) (run_has_proper_edges run main shows.held edges shows.valid shows.are) proper
+        text_says_edges main.path edges shown (own_path shows.table shows.found) (run_has_proper_edges run main shows.table edges shows.found.read shows.are) proper
         (sym graph_is ∙ ap (λ (m : List ℕ). graph_text m shown) (sym own))
 
   -- ---- steps
@@ -139,9 +138,9 @@ module _ (run : Given) (main : Main) where
         let (rest, first) = chain_begins shows.are in
         let text : main.path ++ (10 ∷ chain_text main.path rest) ≡ path ++ (10 ∷ chain_text path more) =
         sym (first_step main.path rest) ∙ ap (chain_text main.path) (sym first) ∙ sym chain_is ∙ ap (chain_text path) is ∙ first_step path more in
-        (cut_at 10 main.path path (chain_text main.path rest) (chain_text path more) (path_has_no_feed main.path (own_path shows.held shows.valid)) none text).0
+        (cut_at 10 main.path path (chain_text main.path rest) (chain_text path more) (path_has_no_feed main.path (own_path shows.table shows.found)) none text).0
 
     pub steps_of_chain : AreProperSteps shown → main.path ≡ path → steps ≡ shown
     steps_of_chain proper own =
-        text_says_steps main.path steps shown (own_path shows.held shows.valid) (run_has_proper_steps run main shows.held shows.last steps shows.valid shows.are) proper
+        text_says_steps main.path steps shown (own_path shows.table shows.found) (run_has_proper_steps run main shows.table shows.last steps shows.found.read shows.are) proper
         (sym chain_is ∙ ap (λ (m : List ℕ). chain_text m shown) (sym own))

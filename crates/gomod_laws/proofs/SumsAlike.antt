@@ -1,36 +1,35 @@
 -- Two go.sums with the same hashes of each needed file change nothing.
-use Rattle.std.proofs.Common.{◌≡◌, ◌∙◌, ◌≤◌, ◌↔◌, ◌++◌, ◌∷◌, ℕ, List, [], Option, Some, None, Ok, ap, length, sym, refl, subst, arith, codes, inl, inr}
+use Rattle.std.proofs.Common.{◌≡◌, ◌∙◌, ◌≤◌, ◌↔◌, ◌++◌, ◌∷◌, ℕ, true, List, [], Option, Some, None, Result, Ok, ap, length, sym, refl, subst, arith, codes, inl, inr}
 use Rattle.std.proofs.lemmas.Bool.{false≢true}
-use Rattle.gm_store.specs.Asked.{Name, Reply, absent, answer_in, bytes, folder_file, list_file, mod_file, too_long}
+use Rattle.gm_file.specs.Fields.{Dependency}
+use Rattle.gm_store.specs.Asked.{Name, Reply, answer_in, folder_file, list_file, mod_file, names_in}
 use Rattle.gm_store_sums.specs.Hash.{file_hash}
-use Rattle.gm_store_sums.specs.Sums.{HasValidLines, IsSum, ReadsAs, Says, Sums, check_in}
+use Rattle.gm_store_sums.specs.Sums.{HasValidLines, IsSum, ReadsAs, Says as SumSays, Sums, check_in}
 use Rattle.gm_store_sums.specs.declared.sum_table.Sum.{Sum}
 use Rattle.gm_store_sums.specs.declared.sum_table.Sum.TheVariants.{Differs, Good, Unlisted}
-use Rattle.gm_graph.specs.declared.cache.class.Class.{Class}
 use Rattle.gm_file.specs.Main.{Main, IsMainFile}
-use Rattle.gm_graph.specs.Reading.{Held, IsReadUnless, IsTold, Tells, class_of_sum, file_of, is_askable, readings_by, sum_fault}
-use Rattle.gm_graph.specs.Loading.{AreTooMany, IsNeeded}
+use Rattle.gm_graph.specs.declared.cache.class.Class.{Class}
+use Rattle.gm_graph.specs.declared.fault.Fault.{Fault}
+use Rattle.gm_graph.specs.Reading.{IsFileReading, class_of_sum, file_of, is_askable, sum_fault}
+use Rattle.gm_graph.specs.Run.{AreTooMany, FileSays, IsNeeded, IsRead, IsSettled, Run, answered, run_of, unaskable}
+use Rattle.gm_graph.proofs.RunLemmas.{RequiresToo, asked_answered, many_too}
 use Rattle.gomod_run.specs.ListingLaws.{AnswerAlike}
-use Rattle.gm_graph.specs.Run.{run_of}
-use Rattle.gm_graph.proofs.RunReadings.{is_read, needed_same}
-use Rattle.gomod_run.specs.Outcomes.{AreSums, answers, given, longest}
-use Rattle.gomod_run.specs.HeldFiles.{AreKnown}
-use Rattle.gomod_run.proofs.HeldEnds.{Prints as PrintsOver, PrintsChain, PrintsGraph, PrintsList, QueryEnds, bad_main, chain_held, graph_held, list_held}
+use Rattle.gomod_run.specs.Outcomes.{AreFound, AreSums, answers, bad_main, bad_sums, device, faulty, given, longest, no_fault, too_many}
 use Rattle.gomod_run.specs.Needs.{GraphNeeds}
 use Rattle.gomod_run.specs.Outcome.{Outcome, refused}
 use Rattle.gomod_run.specs.Reports.{too_many_line}
-use Rattle.gomod_run.proofs.OneOutcome.{one_end}
-use Rattle.gomod_run.proofs.OnePrinted.{PrintsOnce, chain_once, graph_once, list_once}
+use Rattle.gomod_run.specs.Runs.{is_query}
 use Rattle.gomod_run.proofs.OneRead.{misread_or_main, misread_or_sums, one_main}
+use Rattle.gomod_run.proofs.QueryParts.{query_ends}
 use Rattle.gomod_words.specs.declared.usage.Command.{Command}
 use Rattle.gomod_words.specs.declared.usage.Command.TheVariants.{Fmt, Edit, Versions, Graph, List as Rows, Chain}
-use Rattle.gomod_run.proofs.OneStore.{one_for_stores}
-use Rattle.gomod_run.proofs.QueryParts.{LoadingEnd, Parts, are_read, is_broken, is_known, is_many, joined, parts, unread}
 use Rattle.gomod_laws.proofs.Ended.{Ends}
 use Rattle.gomod_laws.specs.SumLaws.{HasNeedlessLines, HasSumLine, NeedlessLinesChangeNothing, SumLinesInAnyOrder}
-use Rattle.gomod_laws.proofs.Carried.{IsCarried, Known, opened_too, reading_kept, told_kept}
-use Rattle.gomod_laws.proofs.SumsChecked.{answered_name}
-use Rattle.gomod_laws.proofs.SumsOutcomes.{sum_table}
+use Rattle.gomod_laws.proofs.FolderRuns.{answered_name}
+use Rattle.gomod_laws.proofs.RunsAlike.{ReadAlike, one_end, prints_to, says_by}
+use Rattle.gomod_laws.proofs.SumsGiven.{same_unread}
+use Rattle.gomod_laws.proofs.SumsChecked.{find_alike, read_with}
+use Rattle.gomod_laws.proofs.SumsOutcomes.{RunOver, found_with, sum_table}
 
 -- ---- what go.sums say
 
@@ -38,13 +37,13 @@ use Rattle.gomod_laws.proofs.SumsOutcomes.{sum_table}
 abbrev HaveSame : List ℕ → List ℕ → List ℕ → List ℕ → Type 0
 HaveSame one other path version = (hash : List ℕ) → IsSum one path version hash ↔ IsSum other path version hash
 
-says_too : (one other path version hash : List ℕ) (sum : Sum) → HaveSame one other path version → Says one path version hash sum → Says other path version hash sum
+says_too : (one other path version hash : List ℕ) (sum : Sum) → HaveSame one other path version → SumSays one path version hash sum → SumSays other path version hash sum
 says_too one other path version hash Unlisted same is = λ h there. is h ((same h).1 there)
 says_too one other path version hash Differs same is = (is.0, (same is.0).0 is.1, is.2)
 says_too one other path version hash Good same is = ((same hash).0 is.0, λ h there. is.1 h ((same h).1 there))
 
 -- a text says one thing of a hash
-one_says : (text path version hash : List ℕ) (a b : Sum) → Says text path version hash a → Says text path version hash b → a ≡ b
+one_says : (text path version hash : List ℕ) (a b : Sum) → SumSays text path version hash a → SumSays text path version hash b → a ≡ b
 one_says text path version hash Unlisted Unlisted is be = refl
 one_says text path version hash Unlisted Differs is be = absurd (is be.0 be.1)
 one_says text path version hash Unlisted Good is be = absurd (is hash be.0)
@@ -71,16 +70,6 @@ same_fault one other t u reads tells (mod_file path version) content same =
 same_fault one other t u reads tells (folder_file folder) content same = refl
 same_fault one other t u reads tells (list_file path) content same = refl
 
--- what an answer says, with the other go.sum
-told_with : (t u : Sums) (name : Name) (reply : Option Reply) (known : Known) → IsTold (Some t) name reply known
-    → ((content : List ℕ) → sum_fault (Some t) name content ≡ sum_fault (Some u) name content) → IsTold (Some u) name reply known
-told_with t u name None None told same = told
-told_with t u name None (Some reading) told same = told
-told_with t u name (Some reply) None told same = told
-told_with t u name (Some absent) (Some reading) told same = told
-told_with t u name (Some too_long) (Some reading) told same = told
-told_with t u name (Some (bytes content)) (Some reading) told same = subst (λ (o : Option Class). IsReadUnless o content reading) (same content) told
-
 -- ---- runs of a query
 
 -- Both go.sums are valid. For each file of a proxy that a run with these answers and the first go.sum needs, they have
@@ -93,128 +82,135 @@ record HaveSameSums (main one other : List ℕ) (asked : List (Name × Reply)) :
   same : (path version hash : List ℕ) → GraphNeeds main (Some one) (answer_in asked) (mod_file path version)
       → IsSum one path version hash ↔ IsSum other path version hash
 
-module _ (prints : PrintsOver) (once : PrintsOnce prints) (main one other : List ℕ) (asked others : List (Name × Reply)) (a b : Outcome)
-    (alike : AnswerAlike asked others) (are : HaveSameSums main one other asked) where
-  module _ (said : Main) (is_main : IsMainFile main said) (t u : Sums) (reads : AreSums (Some one) (Some t)) (tells : AreSums (Some other) (Some u)) where
-    -- of a file that the first run needs the two find the same
-    finds_same : (held : Held) → Tells (Some t) asked held → (name : Name) → IsNeeded said (readings_by said held) name
-        → (content : List ℕ) → sum_fault (Some t) name content ≡ sum_fault (Some u) name content
-    finds_same held told name needed content = same_fault one other t u reads.2 tells.2 name content (same_for name needed)
-      where
-        same_for : (name : Name) → IsNeeded said (readings_by said held) name → HaveSameFor one other name
-        same_for (mod_file path version) needed =
-            λ hash. are.same path version hash
-            (record {
-              main = said;
-              table = Some t;
-              read = record { main_file = is_main; sums = reads };
-              known = is_read (run_of said (Some t) asked) held told;
-              needed = (needed_same (run_of said (Some t) asked) held told (mod_file path version)).1 needed;
-            })
-        same_for (folder_file folder) needed = tt
-        same_for (list_file path) needed = tt
+module _ (main one other : List ℕ) (asked others : List (Name × Reply)) (alike : AnswerAlike asked others) (are : HaveSameSums main one other asked)
+    (said : Main) (is_main : IsMainFile main said) (t u : Sums) (reads : AreSums (Some one) (Some t)) (tells : AreSums (Some other) (Some u)) where
+  abbrev one_run : Run
+  one_run = run_of said (Some t) asked
 
-    known_with : (held : Held) → AreKnown said (Some t) (answers asked []) held → AreKnown said (Some u) (answers asked []) held
-    known_with held known = record { tells = told; answered = known.answered; asked = known.asked; few = known.few; none_failed = known.none_failed }
-      where
-        by_reply : (name : Name) (reply : Option Reply) → answer_in asked name ≡ reply → IsTold (Some t) name reply (held name) → IsTold (Some u) name reply (held name)
-        by_reply name None e told = told_with_none (held name) told
-          where
-            told_with_none : (k : Known) → IsTold (Some t) name None k → IsTold (Some u) name None k
-            told_with_none None told = told
-            told_with_none (Some reading) told = told
-        by_reply name (Some reply) e told =
-            told_with t u name (Some reply) (held name) told
-            (finds_same held known.tells name ((known.asked.each name).0 (answered_name asked name reply e)))
+  -- the run with the other go.sum, over the other store
+  abbrev other_run : Run
+  other_run = run_of said (Some u) others
 
-        told : Tells (Some u) asked held
-        told name = by_reply name (answer_in asked name) refl (known.tells name)
+  -- of a file that the first run needs the two find the same
+  finds_same : IsRead one_run → (name : Name) → IsNeeded one_run name → (content : List ℕ) → sum_fault (Some t) name content ≡ sum_fault (Some u) name content
+  finds_same read name needed content = same_fault one other t u reads.2 tells.2 name content (same_for name needed)
+    where
+      same_for : (name : Name) → IsNeeded one_run name → HaveSameFor one other name
+      same_for (mod_file path version) needed =
+          λ hash. are.same path version hash
+          (record { main = said; table = Some t; read = record { main_file = is_main; sums = reads }; known = read; needed = needed })
+      same_for (folder_file folder) needed = tt
+      same_for (list_file path) needed = tt
 
-    -- what the first run opens the second opens
-    carries : (held next : Held) → Tells (Some t) asked held → AreKnown said (Some u) (answers others []) next → IsCarried said (readings_by said held) (readings_by said next)
-    carries held next told known x y file is be says among =
-        let name = file_of said x in
-        reading_kept (is_askable name) said x (held name) (next name)
-        (λ askable. told_kept (Some u) name (answer_in asked name) (answer_in others name) (held name) (next name)
-        (told_with t u name (answer_in asked name) (held name) (told name) (finds_same held told name (x, is, refl, askable)))
-        (known.tells name) (alike name) (known.answered x be askable))
-        (Ok file) says
+  alike_with : IsRead one_run → ReadAlike one_run (run_of said (Some u) asked)
+  alike_with read = find_alike said (Some t) (Some u) asked (λ name needed content at. finds_same read name needed content)
 
-    not_few : (held next : Held) → Tells (Some t) asked held → AreTooMany said (readings_by said held) → AreKnown said (Some u) (answers others []) next → ⊥
-    not_few held next told (all, long, distinct, each) known =
-        let few : length all ≤ 65536 =
-        known.few all distinct (λ x there. opened_too said (readings_by said held) (readings_by said next) (carries held next told known) x (each x there)) in
+  read_too : IsSettled one_run (names_in asked) → IsRead (run_of said (Some u) asked)
+  read_too settled name reply at =
+      let (reading, is) = settled.read name reply at in
+      let needed = (settled.needed name).0 (answered_name asked name reply at) in
+      (reading, read_with (Some t) (Some u) name reply reading (λ content same. finds_same settled.read name needed content) is)
+
+  found_too : (faults : List Fault) → AreFound (given main (Some one) (answers asked [])) said (Some t) faults
+      → AreFound (given main (Some other) (answers asked [])) said (Some u) faults
+  found_too faults found =
+      found_with main (Some one) (Some other) asked said (Some t) (Some u) (alike_with found.settled.read) (read_too found.settled)
+      (record { main_file = is_main; sums = tells }) faults found
+
+  -- what the first run opens the second opens, if it has found all
+  module _ (read : IsRead one_run) (settled : IsSettled other_run (names_in others)) where
+    file_too : (name : Name) → (is_askable name ≡ true → IsNeeded one_run name) → (is_askable name ≡ true → IsNeeded other_run name)
+        → (reading : Result Dependency Class) → FileSays one_run name reading → FileSays other_run name reading
+    file_too name need needs reading (unaskable isnt) = unaskable isnt
+    file_too name need needs reading (answered reply ask at is) =
+        let (next, told) = asked_answered others name ((settled.needed name).1 (needs ask)) in
+        answered next ask told
+        (subst (λ (r : Reply). IsFileReading (Some u) name r reading) (alike name reply next at told)
+        (read_with (Some t) (Some u) name reply reading (λ content same. finds_same read name (need ask) content) is))
+
+    requires_too : RequiresToo one_run other_run
+    requires_too x y file is be says there = (
+      says_by one_run other_run x refl (λ reading it. file_too (file_of said x) (λ ask. (x, is, refl, ask)) (λ ask. (x, be, refl, ask)) reading it) (Ok file) says,
+      there,
+    )
+
+    not_few : AreTooMany one_run → ⊥
+    not_few many =
+        let (xs, long, are) = many_too one_run other_run (λ e. e) (λ x top. inl top) requires_too many in
+        let few = settled.few xs are in
         omega (arith, long, few)
 
-    many_both : (held : Held) → Tells (Some t) asked held → AreTooMany said (readings_by said held) → a ≡ refused too_many_line
-        → LoadingEnd prints said (Some u) (answers others []) b → a ≡ b
-    many_both held told many says (is_many over none is) = says ∙ sym is
-    many_both held told many says (is_broken name due some is) = absurd (let none : [] ≡ name ∷ [] = some in cc none)
-    many_both held told many says (is_known next faults known are is) = absurd (not_few held next told many known)
+-- ---- a query
 
-  finish : QueryEnds prints (given main (Some other) (answers others [])) b → QueryEnds prints (given main (Some other) (answers asked [])) a → a ≡ b
-  finish be is =
-      one_end prints once (given main (Some other) (answers asked [])) (given main (Some other) (answers others [])) a b
+module _ (command : Command) (query : is_query command ≡ true) (main one other : List ℕ) (asked others : List (Name × Reply)) (a b : Outcome)
+    (alike : AnswerAlike asked others) (are : HaveSameSums main one other asked) (be : RunOver command main (Some other) others b) where
+  -- if the first run opens too many modules, so does the second
+  module _ (said : Main) (t : Sums) (is_main : IsMainFile main said) (reads : AreSums (Some one) (Some t)) (read : IsRead (run_of said (Some t) asked))
+      (many : AreTooMany (run_of said (Some t) asked)) (says : a ≡ refused too_many_line) where
+    not_found : (again : Main) (v : Option Sums) (faults : List Fault) → AreFound (given main (Some other) (answers others [])) again v faults → ⊥
+    not_found again None faults found = found.read.sums
+    not_found again (Some v) faults found =
+        not_few main one other asked others alike are said is_main t v reads found.read.sums read
+        (subst (λ (m : Main). IsSettled (run_of m (Some v) others) (names_in others)) (one_main main again said found.read.main_file is_main) found.settled)
+        many
+
+    many_both : (u : Sums) → AreSums (Some other) (Some u) → RunOver command main (Some other) others b → a ≡ b
+    many_both u tells (bad_main place misread none is) = absurd (misread_or_main main place said misread is_main)
+    many_both u tells (bad_sums again report file invalid none is) = absurd (misread_or_sums (Some other) report (Some u) invalid tells)
+    many_both u tells (device again v name files due failed is) = absurd (let none : [] ≡ name ∷ [] = failed in cc none)
+    many_both u tells (too_many again v files all more none is) = says ∙ sym is
+    many_both u tells (faulty again v first more found is) = absurd (not_found again v (first ∷ more) found)
+    many_both u tells (no_fault again v found shows) = absurd (not_found again v [] found)
+
+  table : (said : Main) → IsMainFile main said → (u : Sums) × AreSums (Some other) (Some u)
+  table said is_main = sum_table command main other others b said are.other_short are.other_valid is_main be
+
+  finish : RunOver command main (Some other) asked a → a ≡ b
+  finish is =
+      one_end command query (given main (Some other) (answers asked [])) (given main (Some other) (answers others [])) a b
       (record { file = refl; sums = refl; answers = alike; failed = refl }) is be
 
-  module _ (said : Main) (is_main : IsMainFile main said) (t : Sums) (reads : AreSums (Some one) (Some t)) (be : QueryEnds prints (given main (Some other) (answers others [])) b) where
-    ends : (u : Sums) → AreSums (Some other) (Some u) → LoadingEnd prints said (Some t) (answers asked []) a → a ≡ b
-    ends u tells (is_many (held, told, many) none says) = by_other (parts prints (given main (Some other) (answers others [])) b be)
-      where
-        by_other : Parts prints (given main (Some other) (answers others [])) b → a ≡ b
-        by_other (unread (inl (place, misread, is)) none) = absurd (misread_or_main main place said misread is_main)
-        by_other (unread (inr (again, report, read, invalid, is)) none) = absurd (misread_or_sums (Some other) report (Some u) invalid tells)
-        by_other (are_read again None read over) = absurd read.sums
-        by_other (are_read again (Some v) read over) =
-            many_both said is_main t v reads read.sums held told many says
-            (subst (λ (m : Main). LoadingEnd prints m (Some v) (answers others []) b) (one_main main again said read.main_file is_main) over)
-    ends u tells (is_broken name due some says) = absurd (let none : [] ≡ name ∷ [] = some in cc none)
-    ends u tells (is_known held faults known are says) =
-        finish be
-        (joined prints (given main (Some other) (answers asked [])) a
-        (are_read said (Some u) (record { main_file = is_main; sums = tells }) (is_known held faults (known_with said is_main t u reads tells held known) are says)))
-
-  same_runs : QueryEnds prints (given main (Some one) (answers asked [])) a → QueryEnds prints (given main (Some other) (answers others [])) b → a ≡ b
-  same_runs is be = by (parts prints (given main (Some one) (answers asked [])) a is)
-    where
-      by : Parts prints (given main (Some one) (answers asked [])) a → a ≡ b
-      by (unread (inl (place, misread, says)) none) = finish be (bad_main place misread none says)
-      by (unread (inr (said, report, reads, inl long, says)) none) = absurd (let limit = are.short in omega (arith, long.0, limit))
-      by (unread (inr (said, report, reads, inr bad, says)) none) = absurd (let first = bad.2.0 in let valid = are.valid in omega (arith, first, valid))
-      by (are_read said None reads over) = absurd reads.sums
-      by (are_read said (Some t) reads over) =
-          let (u, tells) = sum_table prints main other others b said are.other_short are.other_valid reads.main_file be in
-          ends said reads.main_file t reads.sums be u tells over
-
--- ---- commands that read no go.sum
-
-module _ (command : Command) (main one other : List ℕ) (asked others : List (Name × Reply)) (a b : Outcome) where
-  same_unread : AnswerAlike asked others → (Ends command main (Some one) asked a → Ends command main (Some other) asked a)
-      → Ends command main (Some one) asked a → Ends command main (Some other) others b → a ≡ b
-  same_unread alike carried is be =
-      one_for_stores command (given main (Some other) (answers asked [])) (given main (Some other) (answers others [])) a b
-      (record { file = refl; sums = refl; answers = alike; failed = refl }) (carried is) be
+  same_runs : RunOver command main (Some one) asked a → a ≡ b
+  same_runs (bad_main place misread none says) = finish (bad_main place misread none says)
+  same_runs (bad_sums said report reads (inl long) none says) = absurd (let limit = are.short in omega (arith, long.0, limit))
+  same_runs (bad_sums said report reads (inr bad) none says) = absurd (let first = bad.2.0 in let valid = are.valid in omega (arith, first, valid))
+  same_runs (device said t name files due failed says) = absurd (let none : [] ≡ name ∷ [] = failed in cc none)
+  same_runs (too_many said None files all many none says) = absurd files.sums
+  same_runs (too_many said (Some t) files all many none says) =
+      let (u, tells) = table said files.main_file in many_both said t files.main_file files.sums all many says u tells be
+  same_runs (faulty said None first more found says) = absurd found.read.sums
+  same_runs (faulty said (Some t) first more found says) =
+      let (u, tells) = table said found.read.main_file in
+      finish (faulty said (Some u) first more (found_too main one other asked others alike are said found.read.main_file t u found.read.sums tells (first ∷ more) found) says)
+  same_runs (no_fault said None found shows) = absurd found.read.sums
+  same_runs (no_fault said (Some t) found shows) =
+      let (u, tells) = table said found.read.main_file in
+      finish
+      (no_fault said (Some u) (found_too main one other asked others alike are said found.read.main_file t u found.read.sums tells [] found)
+      (prints_to (run_of said (Some t) asked) (run_of said (Some u) asked)
+      (alike_with main one other asked others alike are said found.read.main_file t u found.read.sums tells found.settled.read) command a shows))
 
 -- ---- the laws
 
+same_query : (command : Command) → is_query command ≡ true → (main one other : List ℕ) (asked others : List (Name × Reply)) (a b : Outcome) → AnswerAlike asked others
+    → HaveSameSums main one other asked → Ends command main (Some one) asked a → Ends command main (Some other) others b → a ≡ b
+same_query command query main one other asked others a b alike are is be =
+    same_runs command query main one other asked others a b alike are
+    (query_ends (given main (Some other) (answers others [])) b command query be)
+    (query_ends (given main (Some one) (answers asked [])) a command query is)
+
 same_sums_change_nothing : (command : Command) (main one other : List ℕ) (asked others : List (Name × Reply)) (a b : Outcome) → AnswerAlike asked others → HaveSameSums main one other asked
     → Ends command main (Some one) asked a → Ends command main (Some other) others b → a ≡ b
-same_sums_change_nothing Fmt main one other asked others a b alike are is be = same_unread Fmt main one other asked others a b alike (λ run. run) is be
+same_sums_change_nothing Fmt main one other asked others a b alike are is be = same_unread Fmt main (Some one) (Some other) asked others a b alike (λ run. run) is be
 same_sums_change_nothing (Edit operations) main one other asked others a b alike are is be =
-    same_unread (Edit operations) main one other asked others a b alike (λ run. run) is be
+    same_unread (Edit operations) main (Some one) (Some other) asked others a b alike (λ run. run) is be
 same_sums_change_nothing (Versions path all) main one other asked others a b alike are is be =
-    same_unread (Versions path all) main one other asked others a b alike (λ run. run) is be
-same_sums_change_nothing Graph main one other asked others a b alike are is be =
-    same_runs PrintsGraph graph_once main one other asked others a b alike are
-    (graph_held (given main (Some one) (answers asked [])) a is) (graph_held (given main (Some other) (answers others [])) b be)
+    same_unread (Versions path all) main (Some one) (Some other) asked others a b alike (λ run. run) is be
+same_sums_change_nothing Graph main one other asked others a b alike are is be = same_query Graph refl main one other asked others a b alike are is be
 same_sums_change_nothing (Rows after limit) main one other asked others a b alike are is be =
-    same_runs (PrintsList after limit) (list_once after limit) main one other asked others a b alike are
-    (list_held (given main (Some one) (answers asked [])) a after limit is)
-    (list_held (given main (Some other) (answers others [])) b after limit be)
+    same_query (Rows after limit) refl main one other asked others a b alike are is be
 same_sums_change_nothing (Chain path) main one other asked others a b alike are is be =
-    same_runs (PrintsChain path) (chain_once path) main one other asked others a b alike are
-    (chain_held (given main (Some one) (answers asked [])) a path is)
-    (chain_held (given main (Some other) (answers others [])) b path be)
+    same_query (Chain path) refl main one other asked others a b alike are is be
 
 by_needed : (main one other : List ℕ) (asked : List (Name × Reply)) → HasNeedlessLines main one other asked → HaveSameSums main one other asked
 by_needed main one other asked are = record {

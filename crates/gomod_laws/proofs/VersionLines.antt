@@ -7,6 +7,7 @@ use Rattle.gm_graph_select.proofs.Ascending.{member_head, member_tail}
 use Rattle.gomod_run.proofs.ListLines.{version_has_no_blank, version_has_no_feed}
 use Rattle.gomod_run.specs.Versions.{versions_line}
 use Rattle.gomod_laws.specs.VersionLaws.{LineSaysVersions}
+use Rattle.gomod_laws.proofs.KnownVersions.{first_byte}
 use Rattle.gomod_laws.proofs.PrintedRow.{IsStop, IsWhole, cut_whole}
 
 -- the versions, each after a blank
@@ -31,9 +32,6 @@ stops (version ∷ versions) = (32, (version ++ spaced versions) ++ (10 ∷ []),
 
 whole : (version : List ℕ) → IsVersion version → IsWhole version
 whole version is = (version_has_no_blank version is, version_has_no_feed version is)
-
-first_byte : (a b : ℕ) (x y : List ℕ) → a ∷ x ≡ b ∷ y → a ≡ b
-first_byte a b x y e = cc e
 
 behind : (a b : ℕ) (x y : List ℕ) → a ∷ x ≡ b ∷ y → x ≡ y
 behind a b x y e = cc e

@@ -1,8 +1,7 @@
 -- What the laws of gomod_run.listing conclude of `list`, `graph` and `chain` is false of outputs that contradict them.
-use Rattle.std.specs.Prelude.{◌≡◌, ℕ, List, [], Option, None, Some, codes}
+use Rattle.std.specs.Prelude.{◌≡◌, ℕ, List, [], Option, None, Some, Contains, codes}
 use Rattle.gm_name.specs.ModuleVersion.{ModuleVersion}
-use Rattle.gm_file.specs.Main.{Main, IsMainFile}
-use Rattle.gm_graph.specs.Graph.{IsTop}
+use Rattle.gm_file.specs.Main.{Main, IsMainFile, without_excluded}
 use Rattle.gomod_run.specs.ListingLaws.{JoinsPages, ShowOneGraph, ShowsBuildList, ShowsPart, ShowsShortestWalk}
 use Rattle.gomod_run.specs.Outcomes.{Given, ListEnds}
 use Rattle.gomod_run.specs.Outcome.{Outcome, printed}
@@ -13,6 +12,10 @@ a_two = (codes "a.b", codes "v1.1.0")
 
 abbrev pub b_one : ModuleVersion
 b_one = (codes "b.c", codes "v1.0.0")
+
+-- the main file requires that version of that path, and does not exclude it
+abbrev pub IsRequiredBy : Main → ModuleVersion → Type 0
+IsRequiredBy main x = Contains (without_excluded main main.requirements) x
 
 -- ---- `ListIsBuildList`
 
@@ -30,12 +33,12 @@ MainIsMissing = (run : Given) → ¬ (ShowsBuildList run (printed (codes "a.b v1
 
 -- the main module requires a.b v1.1.0, and a.b has a row at v1.0.0,
 abbrev pub RowIsTooLow : Type 0
-RowIsTooLow = (run : Given) (main : Main) → IsMainFile run.file main → IsTop main a_two
+RowIsTooLow = (run : Given) (main : Main) → IsMainFile run.file main → IsRequiredBy main a_two
     → ¬ (ShowsBuildList run list_of_a)
 
 -- or no row
 abbrev pub RequiredHasNoRow : Type 0
-RequiredHasNoRow = (run : Given) (main : Main) → IsMainFile run.file main → IsTop main a_one
+RequiredHasNoRow = (run : Given) (main : Main) → IsMainFile run.file main → IsRequiredBy main a_one
     → ¬ (ShowsBuildList run (printed (codes "m\n")))
 
 -- the main module requires nothing, and a.b has a row
@@ -86,7 +89,7 @@ ChainBeginsElsewhere = (path : List ℕ) (run : Given)
 
 -- the main module requires a.b v1.0.0, and the chain goes by b.c
 abbrev pub ChainIsTooLong : Type 0
-ChainIsTooLong = (run : Given) (main : Main) → IsMainFile run.file main → IsTop main a_one
+ChainIsTooLong = (run : Given) (main : Main) → IsMainFile run.file main → IsRequiredBy main a_one
     → ¬ (ShowsShortestWalk (codes "a.b") run (printed (codes "m\nb.c@v1.0.0\na.b@v1.0.0\n")))
 
 -- ---- `OneGraph`

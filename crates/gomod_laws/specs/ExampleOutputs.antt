@@ -187,9 +187,9 @@ pub record FileIsRead : Type 0 where
 
 -- ---- standard input
 
--- what comes of taking it if it is the text; the flag says whether a read of it may fail
-abbrev pub taken : Bool → Opening → Type 0
-taken may_fail opening = opening ≡ opened (Some text) may_fail
+-- What comes of taking it if it is the text. The flag says whether a read of it may fail.
+abbrev pub IsInput : Bool → Opening → Type 0
+IsInput may_fail opening = opening ≡ opened (Some text) may_fail
 
 -- the module whose list it is
 abbrev pub path : List ℕ
@@ -197,27 +197,27 @@ path = codes "m"
 
 -- It can't be read: that is reported under the name `-`, or memory ran out. It can be read if no read of it fails.
 pub record InputIsUnread : Type 0 where
-  pub device : IsUnreadList (taken true) (failed (codes "gomod: cannot read -\n"))
-  pub no_memory : IsUnreadList (taken false) out_of_memory
-  pub unfailing : ¬ (IsUnreadList (taken false) (failed (codes "gomod: cannot read -\n")))
-  pub other_name : ¬ (IsUnreadList (taken true) (failed (codes "gomod: cannot read m\n")))
-  pub other_status : ¬ (IsUnreadList (taken true) (refused (codes "gomod: cannot read -\n")))
-  pub prints : ¬ (IsUnreadList (taken true) (printed text))
+  pub device : IsUnreadList (IsInput true) (failed (codes "gomod: cannot read -\n"))
+  pub no_memory : IsUnreadList (IsInput false) out_of_memory
+  pub unfailing : ¬ (IsUnreadList (IsInput false) (failed (codes "gomod: cannot read -\n")))
+  pub other_name : ¬ (IsUnreadList (IsInput true) (failed (codes "gomod: cannot read m\n")))
+  pub other_status : ¬ (IsUnreadList (IsInput true) (refused (codes "gomod: cannot read -\n")))
+  pub prints : ¬ (IsUnreadList (IsInput true) (printed text))
 
 -- A store has it if it has its bytes as the list of the module, and nothing else. An empty store has no list.
 pub record InputIsHeld : Type 0 where
   pub held : (files : MemoryFiles) (list : Vec ℕ) → list.items ≡ text → HoldsOne (list_file path) list.items files
-      → HoldsInput (taken false) path files
+      → HoldsInput (IsInput false) path files
   pub another : (files : MemoryFiles) (list : List ℕ) → list ≡ other → held_at files (list_file path) ≡ Some list
-      → ¬ (HoldsInput (taken false) path files)
+      → ¬ (HoldsInput (IsInput false) path files)
   pub cut : (files : MemoryFiles) (list : List ℕ) → list ≡ codes "m" → held_at files (list_file path) ≡ Some list
-      → ¬ (HoldsInput (taken false) path files)
+      → ¬ (HoldsInput (IsInput false) path files)
   pub nothing : (files : MemoryFiles) → held_at files (list_file path) ≡ None
-      → ¬ (HoldsInput (taken false) path files)
+      → ¬ (HoldsInput (IsInput false) path files)
   pub other_list : (files : MemoryFiles) (list : List ℕ) → held_at files (list_file (codes "n")) ≡ Some list
-      → ¬ (HoldsInput (taken false) path files)
+      → ¬ (HoldsInput (IsInput false) path files)
   pub other_file : (files : MemoryFiles) (file : List ℕ) → held_at files (mod_file path (codes "v1.0.0")) ≡ Some file
-      → ¬ (HoldsInput (taken false) path files)
+      → ¬ (HoldsInput (IsInput false) path files)
   pub not_empty : (files : MemoryFiles) (list : List ℕ) → held_at files (list_file path) ≡ Some list
       → ¬ (HoldsNothing files)
 

@@ -1,5 +1,6 @@
 -- A small world of modules, on which the definitions of a run's outcome are tried. The main module m is pruned and
--- requires top.org and mid.org at v1.0.0. It excludes low.org at v1.1.0, and replaces mid.org at v1.1.0 by a folder.
+-- requires top.org at v1.0.0 and mid.org at v1.9.0. It excludes low.org at v1.1.0, and replaces mid.org at v1.10.0 by a
+-- folder. As a version v1.10.0 is above v1.9.0, as a text below it.
 use Rattle.std.specs.Prelude.{◌≡◌, ◌↔◌, ℕ, true, false, List, [], ◌∷◌, ◌++◌, Option, Some, None, Result, Ok, Err, Contains, codes}
 use Rattle.gm_name.specs.ModuleVersion.{ModuleVersion}
 use Rattle.gm_file.specs.Directives.{Folder, Module, Replacing, Right, left_with, left_without, replacing}
@@ -27,11 +28,11 @@ use Rattle.gomod_run.specs.Reports.{faults_text}
 abbrev pub top_one : ModuleVersion
 top_one = (codes "top.org", codes "v1.0.0")
 
-abbrev pub mid_one : ModuleVersion
-mid_one = (codes "mid.org", codes "v1.0.0")
+abbrev pub mid_nine : ModuleVersion
+mid_nine = (codes "mid.org", codes "v1.9.0")
 
-abbrev pub mid_two : ModuleVersion
-mid_two = (codes "mid.org", codes "v1.1.0")
+abbrev pub mid_ten : ModuleVersion
+mid_ten = (codes "mid.org", codes "v1.10.0")
 
 abbrev pub low_one : ModuleVersion
 low_one = (codes "low.org", codes "v1.0.0")
@@ -44,9 +45,9 @@ abbrev pub world : Main
 world = record {
   path = codes "m";
   go = (1, 17);
-  requirements = top_one ∷ mid_one ∷ [];
+  requirements = top_one ∷ mid_nine ∷ [];
   excludes = low_two ∷ [];
-  replaces = replacing (left_with (codes "mid.org") (codes "v1.1.0")) (Folder (codes "./mid")) ∷ [];
+  replaces = replacing (left_with (codes "mid.org") (codes "v1.10.0")) (Folder (codes "./mid")) ∷ [];
 }
 
 -- the same main module at go 1.16, which is unpruned
@@ -63,10 +64,10 @@ saying declared go requirements = record { declared = declared; go = go; require
 
 -- The file of top.org is unpruned, and requires a later mid.org and an excluded low.org.
 abbrev pub top_text : List ℕ
-top_text = codes "module top.org\ngo 1.16\nrequire mid.org v1.1.0\nrequire low.org v1.1.0\n"
+top_text = codes "module top.org\ngo 1.16\nrequire mid.org v1.10.0\nrequire low.org v1.1.0\n"
 
 abbrev pub top_file : Dependency
-top_file = saying (Some (codes "top.org")) (1, 16) (mid_two ∷ low_two ∷ [])
+top_file = saying (Some (codes "top.org")) (1, 16) (mid_ten ∷ low_two ∷ [])
 
 -- That of mid.org is pruned, and requires low.org.
 abbrev pub mid_text : List ℕ
@@ -85,7 +86,7 @@ folder_says = saying None (1, 17) []
 -- the answers of a store, of which this one is to the folder's file
 abbrev pub answers_with : Reply → List (Name × Reply)
 answers_with folder = (mod_file (codes "top.org") (codes "v1.0.0"), bytes top_text)
-    ∷ (mod_file (codes "mid.org") (codes "v1.0.0"), bytes mid_text) ∷ (folder_file (codes "./mid"), folder) ∷ []
+    ∷ (mod_file (codes "mid.org") (codes "v1.9.0"), bytes mid_text) ∷ (folder_file (codes "./mid"), folder) ∷ []
 
 -- the run in which each file is there
 abbrev pub all_there : Run
@@ -109,7 +110,7 @@ all_idle = run_of idle_world None (answers_with (bytes folder_text))
 
 -- the run in which mid.org has the file of top.org
 abbrev pub one_wrong : Run
-one_wrong = run_of world None ((mod_file (codes "mid.org") (codes "v1.0.0"), bytes top_text) ∷ [])
+one_wrong = run_of world None ((mod_file (codes "mid.org") (codes "v1.9.0"), bytes top_text) ∷ [])
 
 -- a module that replaces every other version of mid.org
 abbrev pub fork : Right
@@ -130,31 +131,31 @@ forked_last = record world { replaces = world.replaces ++ whole_path ∷ [] }
 -- The replaced version's file is the folder's. Any other version's is its own, which is asked for if the path can be
 -- fetched.
 pub record FilesHaveNames : Type 0 where
-  pub own : file_of world mid_one ≡ mod_file (codes "mid.org") (codes "v1.0.0")
-  pub replaced : file_of world mid_two ≡ folder_file (codes "./mid")
-  pub askable : is_askable (file_of world mid_one) ≡ true
-  pub folder_askable : is_askable (file_of world mid_two) ≡ true
+  pub own : file_of world mid_nine ≡ mod_file (codes "mid.org") (codes "v1.9.0")
+  pub replaced : file_of world mid_ten ≡ folder_file (codes "./mid")
+  pub askable : is_askable (file_of world mid_nine) ≡ true
+  pub folder_askable : is_askable (file_of world mid_ten) ≡ true
   pub not_askable : is_askable (mod_file (codes "m") (codes "v1.0.0")) ≡ false
 
 -- A replacement of this version has precedence over one of the whole path, wherever it stands. That of the whole path
 -- applies to every other version, and to no other path.
 pub record ReplacementsApply : Type 0 where
-  pub version : replacement_in forked mid_two ≡ Some (Folder (codes "./mid"))
-  pub version_last : replacement_in forked_last mid_two ≡ Some (Folder (codes "./mid"))
-  pub whole : replacement_in forked mid_one ≡ Some fork
-  pub whole_last : replacement_in forked_last mid_one ≡ Some fork
+  pub version : replacement_in forked mid_ten ≡ Some (Folder (codes "./mid"))
+  pub version_last : replacement_in forked_last mid_ten ≡ Some (Folder (codes "./mid"))
+  pub whole : replacement_in forked mid_nine ≡ Some fork
+  pub whole_last : replacement_in forked_last mid_nine ≡ Some fork
   pub other_path : replacement_in forked top_one ≡ None
   -- The file is that of the replacing module at its own version.
-  pub file : file_of forked mid_one ≡ mod_file (codes "fork.org") (codes "v1.2.0")
+  pub file : file_of forked mid_nine ≡ mod_file (codes "fork.org") (codes "v1.2.0")
   -- It may declare either path, but no other, and it must declare one.
-  pub own_path : is_right_path mid_one (Some fork) (Some (codes "mid.org")) ≡ true
-  pub fork_path : is_right_path mid_one (Some fork) (Some (codes "fork.org")) ≡ true
-  pub wrong_path : is_right_path mid_one (Some fork) (Some (codes "top.org")) ≡ false
-  pub undeclared : is_right_path mid_one (Some fork) None ≡ false
+  pub own_path : is_right_path mid_nine (Some fork) (Some (codes "mid.org")) ≡ true
+  pub fork_path : is_right_path mid_nine (Some fork) (Some (codes "fork.org")) ≡ true
+  pub wrong_path : is_right_path mid_nine (Some fork) (Some (codes "top.org")) ≡ false
+  pub undeclared : is_right_path mid_nine (Some fork) None ≡ false
   -- Its row keeps path and version, followed by an arrow and the replacing module.
   pub text : replacement_text fork ≡ codes "fork.org v1.2.0"
-  pub row : list_text (codes "m") (entry_of forked.replaces mid_one ∷ [])
-      ≡ codes "mid.org v1.0.0 => fork.org v1.2.0\n"
+  pub row : list_text (codes "m") (entry_of forked.replaces mid_nine ∷ [])
+      ≡ codes "mid.org v1.9.0 => fork.org v1.2.0\n"
 
 -- the run in which the only answer is that the folder has no go.mod
 abbrev pub absent_run : Run
@@ -176,11 +177,11 @@ pub record AnswersTell : Type 0 where
 -- The module whose file is that folder's says that it is missing, and nothing else. One that can't be fetched says so,
 -- though nothing was answered; any other module without an answer says nothing, so it requires nothing.
 pub record OneModuleSays : Type 0 where
-  pub missing : Says absent_run mid_two (Err Missing)
-  pub only : (said : Result Dependency Class) → Says absent_run mid_two said → said ≡ Err Missing
+  pub missing : Says absent_run mid_ten (Err Missing)
+  pub only : (said : Result Dependency Class) → Says absent_run mid_ten said → said ≡ Err Missing
   pub unfetchable : Says absent_run (codes "m", codes "v1.0.0") (Err NotFetchable)
   pub unknown : (said : Result Dependency Class) → ¬ (Says absent_run low_one said)
-  pub requires_nothing : (y : ModuleVersion) → ¬ (Requires absent_run mid_two y)
+  pub requires_nothing : (y : ModuleVersion) → ¬ (Requires absent_run mid_ten y)
   pub read : IsRead absent_run
 
 -- The module says this, and nothing else.
@@ -191,10 +192,10 @@ SaysAlone run x said = (other : Result Dependency Class) → Says run x other �
 -- answered. What isn't answered says nothing.
 pub record FaultsAreClassed : Type 0 where
   pub read : IsRead all_there
-  pub folder : SaysAlone all_there mid_two (Ok folder_says)
-  pub missing : SaysAlone one_missing mid_two (Err Missing)
+  pub folder : SaysAlone all_there mid_ten (Ok folder_says)
+  pub missing : SaysAlone one_missing mid_ten (Err Missing)
   pub own : SaysAlone all_there top_one (Ok top_file)
-  pub wrong : SaysAlone one_wrong mid_one (Err WrongPath)
+  pub wrong : SaysAlone one_wrong mid_nine (Err WrongPath)
   pub unfetchable : SaysAlone all_there (codes "m", codes "v1.0.0") (Err NotFetchable)
   pub unknown : (said : Result Dependency Class) → ¬ (Says all_there low_one said)
 
@@ -204,10 +205,10 @@ RequiresAlone run x y = (other : ModuleVersion) → Requires run x other ↔ (ot
 
 -- The excluded version is no requirement; a module with a fault, or of which nothing is answered, has none.
 pub record RequirementsAreLeft : Type 0 where
-  pub top : RequiresAlone all_there top_one mid_two
-  pub mid : RequiresAlone all_there mid_one low_one
-  pub folder : (y : ModuleVersion) → ¬ (Requires all_there mid_two y)
-  pub faulty : (y : ModuleVersion) → ¬ (Requires one_missing mid_two y)
+  pub top : RequiresAlone all_there top_one mid_ten
+  pub mid : RequiresAlone all_there mid_nine low_one
+  pub folder : (y : ModuleVersion) → ¬ (Requires all_there mid_ten y)
+  pub faulty : (y : ModuleVersion) → ¬ (Requires one_missing mid_ten y)
   pub unknown : (y : ModuleVersion) → ¬ (Requires all_there low_one y)
 
 -- Go 1.17 and later is pruned, 1.16 is not.
@@ -219,24 +220,24 @@ pub record PrunedFrom17 : Type 0 where
   pub mid : is_pruned_by mid_file.go ≡ true
 
 abbrev pub opened_three : List ModuleVersion
-opened_three = top_one ∷ mid_one ∷ mid_two ∷ []
+opened_three = top_one ∷ mid_nine ∷ mid_ten ∷ []
 
 -- Opened are the two that the main file requires and the one below the unpruned file; low.org, below the pruned file,
 -- is not.
 pub record ThreeAreOpened : Type 0 where
   pub each : (x : ModuleVersion) → IsOpened all_there x ↔ Contains opened_three x
   pub not_low : ¬ (IsOpened all_there low_one)
-  pub not_top : ¬ (IsTop all_there mid_two)
-  pub not_deep : ¬ (IsDeep all_there mid_one)
+  pub not_top : ¬ (IsTop all_there mid_ten)
+  pub not_deep : ¬ (IsDeep all_there mid_nine)
   -- below a deep module also what a pruned file requires: `from_deep` asks for no go version
   pub below_deep : IsDeep folder_requiring low_one
   -- below an unpruned main file its own requirements are deep: `from_main`
-  pub all_deep : IsDeep all_unpruned mid_one
+  pub all_deep : IsDeep all_unpruned mid_nine
   -- and so is what their files require, pruned or not: `from_main`, then `from_deep`
   pub all_below : IsDeep all_unpruned low_one
 
 abbrev pub edges : List Edge
-edges = edge FromMain mid_one ∷ edge FromMain top_one ∷ edge (Of mid_one) low_one ∷ edge (Of top_one) mid_two ∷ []
+edges = edge FromMain mid_nine ∷ edge FromMain top_one ∷ edge (Of mid_nine) low_one ∷ edge (Of top_one) mid_ten ∷ []
 
 -- An edge leads to low.org, though it isn't opened, and none to the excluded version.
 pub record FourEdgesLead : Type 0 where
@@ -244,11 +245,11 @@ pub record FourEdgesLead : Type 0 where
   pub not_main : ¬ (IsEdge all_there FromMain low_one)
   pub not_excluded : ¬ (IsEdge all_there (Of top_one) low_two)
   -- none leaves a module that isn't opened, though its file requires one: `IsEdge` asks for `IsOpened`
-  pub idle_requires : Requires all_idle mid_one low_one
-  pub not_unopened : ¬ (IsEdge all_idle (Of mid_one) low_one)
+  pub idle_requires : Requires all_idle mid_nine low_one
+  pub not_unopened : ¬ (IsEdge all_idle (Of mid_nine) low_one)
 
 abbrev pub rows : List Entry
-rows = main_entry ∷ (Of low_one, None) ∷ (Of mid_two, Some (Folder (codes "./mid"))) ∷ (Of top_one, None) ∷ []
+rows = main_entry ∷ (Of low_one, None) ∷ (Of mid_ten, Some (Folder (codes "./mid"))) ∷ (Of top_one, None) ∷ []
 
 -- The main module, then the others in path order, the later mid.org with its folder. No other list is the build list.
 pub record RowsAreFour : Type 0 where
@@ -260,24 +261,24 @@ pub record RowsAreFour : Type 0 where
 -- The text of the list, of its first two rows, and of what follows mid.org; a path that has no row is reported.
 pub record ListIsPrinted : Type 0 where
   pub whole : PrintsList None None all_there
-      (printed (codes "m\nlow.org v1.0.0\nmid.org v1.1.0 => ./mid\ntop.org v1.0.0\n"))
+      (printed (codes "m\nlow.org v1.0.0\nmid.org v1.10.0 => ./mid\ntop.org v1.0.0\n"))
   pub limited : PrintsList None (Some 2) all_there (printed (codes "m\nlow.org v1.0.0\n"))
   pub after : PrintsList (Some (codes "mid.org")) None all_there (printed (codes "top.org v1.0.0\n"))
   -- The main module's row counts as one of its path.
   pub after_main : PrintsList (Some (codes "m")) None all_there
-      (printed (codes "low.org v1.0.0\nmid.org v1.1.0 => ./mid\ntop.org v1.0.0\n"))
+      (printed (codes "low.org v1.0.0\nmid.org v1.10.0 => ./mid\ntop.org v1.0.0\n"))
   pub unlisted : PrintsList (Some (codes "b.org")) None all_there (refused (codes "b.org: NotListed\n"))
 
 -- Nothing else is printed.
 abbrev pub OnlyListIsPrinted : Type 0
 OnlyListIsPrinted = (outcome : Outcome) → PrintsList None None all_there outcome
-    → outcome ≡ printed (codes "m\nlow.org v1.0.0\nmid.org v1.1.0 => ./mid\ntop.org v1.0.0\n")
+    → outcome ≡ printed (codes "m\nlow.org v1.0.0\nmid.org v1.10.0 => ./mid\ntop.org v1.0.0\n")
 
 abbrev pub fault_of_mid : Fault
-fault_of_mid = record { vertex = mid_two; class = Missing }
+fault_of_mid = record { vertex = mid_ten; class = Missing }
 
--- No module has a fault, unless the folder's go.mod is missing: then mid.org at v1.1.0 has, and that is the report.
+-- No module has a fault, unless the folder's go.mod is missing: then mid.org at v1.10.0 has, and that is the report.
 pub record OneFaultIsReported : Type 0 where
   pub none : AreFaults all_there []
   pub one : AreFaults one_missing (fault_of_mid ∷ [])
-  pub text : faults_text (fault_of_mid ∷ []) ≡ codes "mid.org@v1.1.0: Missing\n"
+  pub text : faults_text (fault_of_mid ∷ []) ≡ codes "mid.org@v1.10.0: Missing\n"

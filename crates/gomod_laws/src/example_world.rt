@@ -1,24 +1,24 @@
 //! The definitions of which the outcome of `list` consists, tried on a small world of modules: a definition that meant
 //! something else than its comment says would fail here.
 //!
-//! The main module m (go 1.17) requires top.org v1.0.0 and mid.org v1.0.0, excludes low.org v1.1.0, and replaces
-//! mid.org v1.1.0 by the folder ./mid. The file of top.org (go 1.16) requires mid.org v1.1.0 and low.org v1.1.0, that
-//! of mid.org v1.0.0 (go 1.17) requires low.org v1.0.0, and the folder's requires nothing. The last four functions are
+//! The main module m (go 1.17) requires top.org v1.0.0 and mid.org v1.9.0, excludes low.org v1.1.0, and replaces
+//! mid.org v1.10.0 by the folder ./mid. The file of top.org (go 1.16) requires mid.org v1.10.0 and low.org v1.1.0, that
+//! of mid.org v1.9.0 (go 1.17) requires low.org v1.0.0, and the folder's requires nothing. The last four functions are
 //! about runs over the bytes of smaller files.
 
 ghost use Rattle.gomod_laws.specs.ExampleRuns.{BadSumIsRefused, EmptyIsRefused, FilesAreRead, IsListedAlone, RequiredIsAsked};
 ghost use Rattle.gomod_laws.specs.ExampleSums.{SumsSay};
 ghost use Rattle.gomod_laws.specs.ExampleWorld.{AnswersTell, FaultsAreClassed, FilesHaveNames, FourEdgesLead, ListIsPrinted, OneFaultIsReported, OneModuleSays, OnlyListIsPrinted, PrunedFrom17, ReplacementsApply, RequirementsAreLeft, RowsAreFour, ThreeAreOpened};
 
-/// `file_of`, `is_askable`: the file of mid.org v1.1.0 is the folder's, that of mid.org v1.0.0 its own. Both may be
+/// `file_of`, `is_askable`: the file of mid.org v1.10.0 is the folder's, that of mid.org v1.9.0 its own. Both may be
 /// asked for, and the file of a path that is no host name may not.
 pub fn files_have_names()
     ensures { FilesHaveNames }
 {}
 
 /// `replacement_in`, `file_of`, `is_right_path`, `replacement_text`: beside a replacement of every mid.org by fork.org
-/// v1.2.0, that of v1.1.0 has precedence. The file of mid.org v1.0.0 is then that of fork.org v1.2.0, and may declare
-/// either path. The row is `mid.org v1.0.0 => fork.org v1.2.0`.
+/// v1.2.0, that of v1.10.0 has precedence. The file of mid.org v1.9.0 is then that of fork.org v1.2.0, and may declare
+/// either path. The row is `mid.org v1.9.0 => fork.org v1.2.0`.
 pub fn replacements_apply()
     ensures { ReplacementsApply }
 {}
@@ -36,7 +36,7 @@ pub fn sums_say()
     ensures { SumsSay }
 {}
 
-/// `FileSays`, `Says`, `Requires`, `IsRead`: if the only answer is that the folder has no go.mod, mid.org v1.1.0 says
+/// `FileSays`, `Says`, `Requires`, `IsRead`: if the only answer is that the folder has no go.mod, mid.org v1.10.0 says
 /// `Missing` and nothing else, a module that can't be fetched `NotFetchable`, and low.org nothing.
 pub fn one_module_says()
     ensures { OneModuleSays }
@@ -49,7 +49,7 @@ pub fn faults_are_classed()
     ensures { FaultsAreClassed }
 {}
 
-/// `Requires`: top.org requires mid.org v1.1.0 alone, and not the excluded low.org v1.1.0.
+/// `Requires`: top.org requires mid.org v1.10.0 alone, and not the excluded low.org v1.1.0.
 pub fn requirements_are_left()
     ensures { RequirementsAreLeft }
 {}
@@ -59,26 +59,26 @@ pub fn pruned_from_17()
     ensures { PrunedFrom17 }
 {}
 
-/// `IsTop`, `IsDeep`, `IsOpened`: opened are top.org v1.0.0, mid.org v1.0.0 and mid.org v1.1.0. low.org v1.0.0, which
-/// only the pruned mid.org v1.0.0 requires, is not. It is if the folder's file requires it, or if the main module is
+/// `IsTop`, `IsDeep`, `IsOpened`: opened are top.org v1.0.0, mid.org v1.9.0 and mid.org v1.10.0. low.org v1.0.0, which
+/// only the pruned mid.org v1.9.0 requires, is not. It is if the folder's file requires it, or if the main module is
 /// unpruned.
 pub fn three_are_opened()
     ensures { ThreeAreOpened }
 {}
 
-/// `IsEdge`, `AreEdges`: four edges, one of them from mid.org v1.0.0 to low.org v1.0.0, and none to low.org v1.1.0.
+/// `IsEdge`, `AreEdges`: four edges, one of them from mid.org v1.9.0 to low.org v1.0.0, and none to low.org v1.1.0.
 /// None leaves a module that isn't opened, though its file requires one.
 pub fn four_edges_lead()
     ensures { FourEdgesLead }
 {}
 
-/// `IsSelected`, `IsBuildList`, `AreRows`: m, low.org v1.0.0, mid.org v1.1.0 with its folder, and top.org v1.0.0. No
+/// `IsSelected`, `IsBuildList`, `AreRows`: m, low.org v1.0.0, mid.org v1.10.0 with its folder, and top.org v1.0.0. No
 /// other list is the build list. A main module top.org would not be selected again.
 pub fn rows_are_four()
     ensures { RowsAreFour }
 {}
 
-/// `list_text`, `PrintsRows`, `PrintsList`: the lines `m`, `low.org v1.0.0`, `mid.org v1.1.0 => ./mid` and
+/// `list_text`, `PrintsRows`, `PrintsList`: the lines `m`, `low.org v1.0.0`, `mid.org v1.10.0 => ./mid` and
 /// `top.org v1.0.0`; the first two of them; the one after mid.org; all but the first after m; and `b.org: NotListed`
 /// after a path without a row.
 pub fn list_is_printed()
@@ -86,7 +86,7 @@ pub fn list_is_printed()
     ensures only { OnlyListIsPrinted }
 {}
 
-/// `AreFaults`, `faults_text`: none, or `mid.org@v1.1.0: Missing` if the folder's go.mod is missing.
+/// `AreFaults`, `faults_text`: none, or `mid.org@v1.10.0: Missing` if the folder's go.mod is missing.
 pub fn one_fault_is_reported()
     ensures { OneFaultIsReported }
 {}

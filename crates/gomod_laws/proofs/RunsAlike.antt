@@ -1,0 +1,197 @@
+-- Runs whose main files say the same, and that read the same of the files which the one needs, have the same module graph.
+use Rattle.std.proofs.Common.{◌≡◌, ◌∙◌, ◌↔◌, ◌∷◌, ℕ, false, true, List, Option, Some, None, Result, Ok, Err, Contains, ap, map, refl, subst, sym, inl, inr}
+use mathlib.Core.Path.{fun_ext}
+use Rattle.gm_name.specs.ModuleVersion.{ModuleVersion}
+use Rattle.gm_file.specs.Directives.{Right}
+use Rattle.gm_file.specs.Fields.{Dependency}
+use Rattle.gm_file.specs.Main.{Main, is_pruned_by, replacement_in}
+use Rattle.gm_store.specs.Asked.{Name, Reply}
+use Rattle.gm_graph.specs.declared.cache.class.Class.{Class}
+use Rattle.gm_graph.specs.declared.fault.Fault.{Fault}
+use Rattle.gm_graph.specs.Reading.{IsFileReading, file_of, is_askable, is_right_path}
+use Rattle.gm_graph.specs.Run.{AreEdges, AreFaults, AreRows, AreTooMany, FileSays, IsDue, IsEdge, IsNeeded, IsOpened, IsRead, IsSettled, IsTop, Run, Says, answered, faulty, sound, unaskable, wrong_path}
+use Rattle.gm_graph.proofs.RunLemmas.{RequiresToo, edge_too, many_too, opened_too}
+use Rattle.gm_graph_select.specs.declared.step.Edge.{Edge}
+use Rattle.gm_graph_select.specs.declared.step.Step.TheVariants.{Of}
+use Rattle.gm_graph_select.specs.BuildList.{Entry, IsBuildList, entry_of, main_entry}
+use Rattle.gm_graph_select.proofs.Same.{AreSame, same_build_list, same_chain}
+use Rattle.gomod_run.specs.ListingTexts.{graph_text}
+use Rattle.gomod_run.specs.Outcome.{Outcome, printed}
+use Rattle.gomod_run.specs.Outcomes.{Given, PrintsRows, QueryEnds, ShowsChain}
+use Rattle.gomod_run.specs.Runs.{PrintsOf, is_query}
+use Rattle.gomod_run.specs.ListingLaws.{AreAlike}
+use Rattle.gomod_run.proofs.OneStore.{one_for_stores}
+use Rattle.gomod_run.proofs.QueryParts.{ends_query}
+use Rattle.gomod_words.specs.declared.usage.Command.{Command}
+use Rattle.gomod_words.specs.declared.usage.Command.TheVariants.{Fmt, Edit, Versions, Graph, List as Rows, Chain}
+use Rattle.gomod_laws.proofs.LineOrderSame.{SayTheSame, files_same, without_same}
+
+-- What a module says by the first run, it says by the second, if its file does and both main files replace it alike.
+pub says_by : (r s : Run) (x : ModuleVersion) → replacement_in r.main x ≡ replacement_in s.main x
+    → ((said : Result Dependency Class) → FileSays r (file_of r.main x) said → FileSays s (file_of s.main x) said)
+    → (said : Result Dependency Class) → Says r x said → Says s x said
+says_by r s x same file_too said (faulty {class} is) = faulty (file_too (Err class) is)
+says_by r s x same file_too said (wrong_path file is wrong) =
+    wrong_path file (file_too (Ok file) is) (subst (λ (right : Option Right). is_right_path x right file.declared ≡ false) same wrong)
+says_by r s x same file_too said (sound {file} is own) =
+    sound (file_too (Ok file) is) (subst (λ (right : Option Right). is_right_path x right file.declared ≡ true) same own)
+
+-- ---- runs that are alike
+
+-- The main files say the same, and both runs have the same answers. Of an answer that the first run needs they read the
+-- same.
+pub record ReadAlike (r s : Run) : Type 0 where
+  pub mains : SayTheSame r.main s.main
+  pub answers : (name : Name) → r.answers name ≡ s.answers name
+  pub read : (name : Name) (reply : Reply) (said : Result Dependency Class) → IsNeeded r name → r.answers name ≡ Some reply
+      → IsFileReading r.sums name reply said ↔ IsFileReading s.sums name reply said
+
+abbrev with_path : List ℕ → Main → Main
+with_path path main = record main { path = path }
+
+module _ (r s : Run) (alike : ReadAlike r s) where
+  mains : SayTheSame r.main s.main
+  mains = alike.mains
+
+  -- ---- what modules say
+
+  name_to : (name : Name) → (is_askable name ≡ true → IsNeeded r name) → (said : Result Dependency Class) → FileSays r name said → FileSays s name said
+  name_to name need said (unaskable isnt) = unaskable isnt
+  name_to name need said (answered reply ask at is) = answered reply ask (sym (alike.answers name) ∙ at) ((alike.read name reply said (need ask) at).0 is)
+
+  name_from : (name : Name) → (is_askable name ≡ true → IsNeeded r name) → (said : Result Dependency Class) → FileSays s name said → FileSays r name said
+  name_from name need said (unaskable isnt) = unaskable isnt
+  name_from name need said (answered reply ask at is) =
+      let here = alike.answers name ∙ at in answered reply ask here ((alike.read name reply said (need ask) here).1 is)
+
+  module _ (x : ModuleVersion) (opens : IsOpened r x) where
+    file_needed : is_askable (file_of r.main x) ≡ true → IsNeeded r (file_of r.main x)
+    file_needed ask = (x, opens, refl, ask)
+
+    says_to : (said : Result Dependency Class) → Says r x said → Says s x said
+    says_to said says =
+        says_by r s x (mains.replaced x)
+        (λ it is. subst (λ (name : Name). FileSays s name it) (files_same r.main s.main mains x) (name_to (file_of r.main x) file_needed it is)) said says
+
+    says_from : (said : Result Dependency Class) → Says s x said → Says r x said
+    says_from said says =
+        says_by s r x (sym (mains.replaced x))
+        (λ it is. name_from (file_of r.main x) file_needed it (subst (λ (name : Name). FileSays s name it) (sym (files_same r.main s.main mains x)) is)) said says
+
+  requires_to : RequiresToo r s
+  requires_to x y file is be says there =
+      (says_to x is (Ok file) says, subst (λ (ys : List ModuleVersion). Contains ys y) (without_same r.main s.main mains file.requirements) there)
+
+  requires_from : RequiresToo s r
+  requires_from x y file be is says there =
+      (says_from x is (Ok file) says, subst (λ (ys : List ModuleVersion). Contains ys y) (sym (without_same r.main s.main mains file.requirements)) there)
+
+  unpruned_to : is_pruned_by r.main.go ≡ false → is_pruned_by s.main.go ≡ false
+  unpruned_to e = sym mains.pruned ∙ e
+
+  unpruned_from : is_pruned_by s.main.go ≡ false → is_pruned_by r.main.go ≡ false
+  unpruned_from e = mains.pruned ∙ e
+
+  tops_to : (x : ModuleVersion) → IsTop r x → IsOpened s x
+  tops_to x top = inl ((mains.required x).0 top)
+
+  tops_from : (x : ModuleVersion) → IsTop s x → IsOpened r x
+  tops_from x top = inl ((mains.required x).1 top)
+
+  -- ---- what is opened, asked for and too much
+
+  pub opened_same : (x : ModuleVersion) → IsOpened r x ↔ IsOpened s x
+  opened_same x = (opened_too r s unpruned_to tops_to requires_to x, opened_too s r unpruned_from tops_from requires_from x)
+
+  needed_same : (name : Name) → IsNeeded r name ↔ IsNeeded s name
+  needed_same name = (
+    (λ need. let (x, opens, is, ask) = need in (x, (opened_same x).0 opens, sym (files_same r.main s.main mains x) ∙ is, ask)),
+    (λ need. let (x, opens, is, ask) = need in (x, (opened_same x).1 opens, files_same r.main s.main mains x ∙ is, ask)),
+  )
+
+  pub due_to : IsRead s → (name : Name) → IsDue r name → IsDue s name
+  due_to read name due = record { read = read; needed = (needed_same name).0 due.needed; unasked = sym (alike.answers name) ∙ due.unasked }
+
+  pub many_to : AreTooMany r → AreTooMany s
+  many_to many = many_too r s unpruned_to tops_to requires_to many
+
+  pub settled_to : IsRead s → (names : List Name) → IsSettled r names → IsSettled s names
+  settled_to read names settled = record {
+    read = read;
+    once = settled.once;
+    needed = λ name. (
+      (λ there. (needed_same name).0 ((settled.needed name).0 there)),
+      (λ need. (settled.needed name).1 ((needed_same name).1 need)),
+    );
+    few = λ xs are. settled.few xs (record { once = are.once; each = λ x there. (opened_same x).1 (are.each x there) });
+  }
+
+  -- ---- what is found
+
+  pub faults_to : (faults : List Fault) → AreFaults r faults → AreFaults s faults
+  faults_to faults are = record {
+    ascending = are.ascending;
+    each = λ one. (
+      (λ there. let (opens, says) = (are.each one).0 there in ((opened_same one.vertex).0 opens, says_to one.vertex opens (Err one.class) says)),
+      (λ is. let opens = (opened_same one.vertex).1 is.0 in (are.each one).1 (opens, says_from one.vertex opens (Err one.class) is.1)),
+    );
+  }
+
+  edges_same : AreSame (IsEdge r) (IsEdge s)
+  edges_same step y = (
+    edge_too r s unpruned_to tops_to requires_to (λ x top. (mains.required x).0 top) step y,
+    edge_too s r unpruned_from tops_from requires_from (λ x top. (mains.required x).1 top) step y,
+  )
+
+  edges_to : (edges : List Edge) → AreEdges r edges → AreEdges s edges
+  edges_to edges are = record {
+    ascending = are.ascending;
+    each = λ one. (
+      (λ there. (edges_same one.from one.to).0 ((are.each one).0 there)),
+      (λ is. (are.each one).1 ((edges_same one.from one.to).1 is)),
+    );
+  }
+
+  rows_to : (rows : List Entry) → AreRows r rows → AreRows s rows
+  rows_to rows are =
+      let list = same_build_list r.main.path r.main.replaces (IsEdge r) (IsEdge s) rows edges_same are in
+      let entry : ModuleVersion → Option Right → Entry = λ x right. (Of x, right) in
+      let replaced : entry_of r.main.replaces ≡ entry_of s.main.replaces = fun_ext (λ (x : ModuleVersion). ap (entry x) (mains.replaced x)) in
+      subst (λ (path : List ℕ). IsBuildList path s.main.replaces (IsEdge s) rows) mains.path
+      (record {
+        selected = list.selected;
+        entries_are = list.entries_are ∙ ap (λ (f : ModuleVersion → Entry). main_entry ∷ map f list.selected) replaced;
+        ascending = list.ascending;
+        each = list.each;
+      })
+
+  -- ---- what is printed
+
+  rows_printed : (rows : List Entry) (after : Option (List ℕ)) (limit : Option ℕ) (outcome : Outcome)
+      → PrintsRows r.main rows after limit outcome → PrintsRows s.main rows after limit outcome
+  rows_printed rows None limit outcome says = subst (λ (path : List ℕ). PrintsRows (with_path path s.main) rows None limit outcome) mains.path says
+  rows_printed rows (Some from) limit outcome says = subst (λ (path : List ℕ). PrintsRows (with_path path s.main) rows (Some from) limit outcome) mains.path says
+
+  chain_shown : (path : List ℕ) (rows : List Entry) (outcome : Outcome) → ShowsChain path r.main (IsEdge r) rows outcome → ShowsChain path s.main (IsEdge s) rows outcome
+  chain_shown path rows outcome shows = subst (λ (own : List ℕ). ShowsChain path (with_path own s.main) (IsEdge s) rows outcome) mains.path (by shows)
+    where
+      by : ShowsChain path r.main (IsEdge r) rows outcome → ShowsChain path r.main (IsEdge s) rows outcome
+      by (inl (step, steps, entry, chain, says)) = inl (step, steps, entry, same_chain (IsEdge r) (IsEdge s) edges_same chain, says)
+      by (inr unlisted) = inr unlisted
+
+  -- what a query prints of the one run, it prints of the other
+  pub prints_to : (command : Command) (outcome : Outcome) → PrintsOf command r outcome → PrintsOf command s outcome
+  prints_to Graph outcome (edges, are, says) = (edges, edges_to edges are, subst (λ (path : List ℕ). outcome ≡ printed (graph_text path edges)) mains.path says)
+  prints_to (Rows after limit) outcome (rows, are, says) = (rows, rows_to rows are, rows_printed rows after limit outcome says)
+  prints_to (Chain path) outcome (rows, are, shows) = (rows, rows_to rows are, chain_shown path rows outcome shows)
+  prints_to Fmt outcome says = says
+  prints_to (Edit operations) outcome says = says
+  prints_to (Versions path all) outcome says = says
+
+-- ---- how queries end
+
+-- a query ends in one way over stores that answer alike
+pub one_end : (command : Command) → is_query command ≡ true → (run next : Given) (one other : Outcome) → AreAlike run next
+    → QueryEnds (PrintsOf command) run one → QueryEnds (PrintsOf command) next other → one ≡ other
+one_end command query run next one other alike is be =
+    one_for_stores command run next one other alike (ends_query run one command query is) (ends_query next other command query be)
