@@ -9,7 +9,7 @@ use Rattle.gomod_words.specs.Usage.{texts_in}
 use Rattle.gomod_words.specs.declared.usage.Command.{Command}
 use Rattle.gomod_words.specs.declared.usage.Command.TheVariants.{Fmt, Edit, Versions, Graph, List as Rows, Chain}
 use Rattle.gomod_run.specs.Runs.{is_query}
-use Rattle.gomod_run.specs.Versions.{IsOutcomeByList, IsVersionsOutcome, VersionsNeed}
+use Rattle.gomod_run.specs.Versions.{by_latest, by_list, unfetchable, unfiltered, IsOutcomeByList, IsVersionsOutcome, VersionsNeed}
 use Rattle.gomod_run.proofs.Sameness.{edit_once, fmt_once, versions_once}
 use Rattle.gomod_laws.specs.LaterLaws.{LaterAsksTheSame, LaterPrintsTheSame, OnlyAddsAnswers}
 use Rattle.gomod_laws.specs.Runs.{HasPrinted}
@@ -36,15 +36,15 @@ files_stay asked later adds files name a b e f = sym (file_stays asked later add
 module _ (path : List ℕ) (all : Bool) (told kept : AnswersByName)
     (keeps : (name : Name) (reply : Reply) → VersionsNeed path all told name → told name ≡ Some reply → kept name ≡ Some reply) (outcome : Outcome) where
   kept_outcome : IsVersionsOutcome path all told outcome → IsVersionsOutcome path all kept outcome
-  kept_outcome (inl is) = inl is
-  kept_outcome (inr (reply, may, answered, is)) = inr (reply, may, keeps (list_file path) reply (may, inl refl) answered, by reply answered is)
+  kept_outcome (unfetchable is) = unfetchable is
+  kept_outcome (by_list reply may answered is) = by_list reply may (keeps (list_file path) reply (may, inl refl) answered) (by reply answered is)
     where
       by : (reply : Reply) → told (list_file path) ≡ Some reply → IsOutcomeByList path all told reply outcome → IsOutcomeByList path all kept reply outcome
       by absent answered is = is
       by too_long answered is = is
-      by (bytes list) answered (versions, listed, inl is) = (versions, listed, inl is)
-      by (bytes list) answered (versions, listed, inr (latest, reply, some, greatest, said, shows)) =
-          (versions, listed, inr (latest, reply, some, greatest, keeps (mod_file path latest) reply (may, inr (list, versions, latest, some, answered, listed, greatest, refl)) said, shows))
+      by (bytes list) answered (versions, listed, unfiltered every is) = (versions, listed, unfiltered every is)
+      by (bytes list) answered (versions, listed, by_latest latest reply some greatest said shows) =
+          (versions, listed, by_latest latest reply some greatest (keeps (mod_file path latest) reply (may, inr (list, versions, latest, some, answered, listed, greatest, refl)) said) shows)
 
 -- the first answer, or the second where there is none
 abbrev first_of : Option Reply → Option Reply → Option Reply

@@ -9,7 +9,7 @@ use Rattle.gomod_run.specs.Outcome.{Outcome, failed}
 use Rattle.gomod_run.specs.Reports.{device_line}
 use Rattle.gomod_run.specs.Laws.{OneForStores, OneOutcome}
 use Rattle.gomod_run.specs.Runs.{FmtEnds}
-use Rattle.gomod_run.specs.Versions.{IsOutcomeByList, IsListedOutcome, IsVersionsOutcome, VersionsEnds, answered, device}
+use Rattle.gomod_run.specs.Versions.{IsOutcomeByList, IsListedOutcome, IsVersionsOutcome, VersionsEnds, answered, by_latest, by_list, device, unfetchable, unfiltered}
 use Rattle.gomod_run.proofs.OneOutcome.{one_end}
 use Rattle.gomod_run.proofs.OneQueryStore.{itself}
 use Rattle.gomod_run.proofs.OnePrinted.{chain_once, graph_once, list_once}
@@ -42,8 +42,8 @@ second_kept None b reply alike e = e
 
 listed_kept : (path : List ℕ) (all : Bool) (one other : AnswersByName) (versions : List (List ℕ)) (outcome : Outcome) → Keeps one other
     → IsListedOutcome path all one versions outcome → IsListedOutcome path all other versions outcome
-listed_kept path all one other versions outcome keeps (inl is) = inl is
-listed_kept path all one other versions outcome keeps (inr (latest, reply, some, is, told, shows)) = inr (latest, reply, some, is, keeps _ reply told, shows)
+listed_kept path all one other versions outcome keeps (unfiltered every is) = unfiltered every is
+listed_kept path all one other versions outcome keeps (by_latest latest reply some is told shows) = by_latest latest reply some is (keeps _ reply told) shows
 
 list_kept : (path : List ℕ) (all : Bool) (one other : AnswersByName) (reply : Reply) (outcome : Outcome)
     → Keeps one other
@@ -53,8 +53,8 @@ list_kept path all one other too_long outcome keeps is = is
 list_kept path all one other (bytes list) outcome keeps (versions, listed, is) = (versions, listed, listed_kept path all one other versions outcome keeps is)
 
 versions_kept : (path : List ℕ) (all : Bool) (one other : AnswersByName) (outcome : Outcome) → Keeps one other → IsVersionsOutcome path all one outcome → IsVersionsOutcome path all other outcome
-versions_kept path all one other outcome keeps (inl is) = inl is
-versions_kept path all one other outcome keeps (inr (reply, fetchable, told, is)) = inr (reply, fetchable, keeps _ reply told, list_kept path all one other reply outcome keeps is)
+versions_kept path all one other outcome keeps (unfetchable is) = unfetchable is
+versions_kept path all one other outcome keeps (by_list reply fetchable told is) = by_list reply fetchable (keeps _ reply told) (list_kept path all one other reply outcome keeps is)
 
 -- ---- `versions` over two stores
 
