@@ -17,7 +17,7 @@ use Rattle.gm_graph_select.specs.BuildList.{Entry, entry_of, main_entry, path_of
 use Rattle.gm_graph_select.specs.Laws.{entries_of_pages}
 use Rattle.gm_graph_select.proofs.Ascending.{member_cases, member_head, member_tail, no_member}
 use Rattle.gomod_run.specs.ListingLaws.{AreGreatest, ArePrintedPages, ShowsBuildList, no_row, one_page}
-use Rattle.gomod_run.specs.Outcomes.{AreFound, Given, ListEnds}
+use Rattle.gomod_run.specs.Outcomes.{AreFound, Given, ListEnds, no_path, path_listed, path_unlisted}
 use Rattle.gomod_run.specs.Outcome.{Outcome, printed, refused}
 use Rattle.gomod_run.specs.PrintedLines.{AreProperRows, IsProperRow}
 use Rattle.gomod_run.specs.Reports.{not_listed_line}
@@ -26,7 +26,7 @@ use Rattle.gomod_run.proofs.GreatestRows.{as_build_list}
 use Rattle.gomod_run.proofs.ListLines.{Lacks, cut_at, lacks, path_has_no_blank, path_has_no_feed, text_says_rows}
 use Rattle.gomod_run.proofs.OneRead.{one_main}
 use Rattle.gomod_run.proofs.OneStore.{one_outcome}
-use Rattle.gomod_run.proofs.PrintedList.{texts_join}
+use Rattle.gomod_run.proofs.PrintedList.{all_rows, texts_join}
 use Rattle.gomod_run.proofs.RunNames.{run_has_names, run_has_proper_rows}
 use Rattle.gomod_words.specs.declared.usage.Command.TheVariants.{List as Rows}
 use Rattle.gomod_laws.specs.Counterexamples.{a_one, list_of_a}
@@ -263,7 +263,7 @@ pub part_is_too_long : PartIsTooLong
 part_is_too_long run (main, table, rows, found, are, says, prints) =
     let (own, same) = whole_is run main table rows found are says in
     let one : list_of_a ≡ printed (list_text (codes "m") (limited (Some 1) rows_with_a)) =
-    prints ∙ ap (λ (m : List ℕ). printed (list_text m (limited (Some 1) rows))) own ∙ ap (λ (es : List Entry). printed (list_text (codes "m") (limited (Some 1) es))) same in
+    all_rows main rows (Some 1) list_of_a prints ∙ ap (λ (m : List ℕ). printed (list_text m (limited (Some 1) rows))) own ∙ ap (λ (es : List Entry). printed (list_text (codes "m") (limited (Some 1) es))) same in
     let size : ◌≡◌ {A = ℕ} 13 2 = ap (λ (o : Outcome). length o.text) one in
     omega (arith, size)
 
@@ -283,8 +283,9 @@ pub not_refused : (text report : List ℕ) → printed text ≡ refused report �
 not_refused text report e = let status : ◌≡◌ {A = ℕ} 0 1 = ap (λ (o : Outcome). o.status) e in omega (arith, status)
 
 pub part_is_the_whole : PartIsTheWhole
-part_is_the_whole path limit run (main, table, rows, found, are, says, inr (none, tells)) = not_refused (codes "m\na.b v1.0.0\n") (not_listed_line path) tells
-part_is_the_whole path limit run (main, table, rows, found, are, says, inl (rest, (entry, at), tells)) =
+part_is_the_whole path limit run (main, table, rows, found, are, says, no_path none tells) = cc none
+part_is_the_whole path limit run (main, table, rows, found, are, says, path_unlisted other is (none, tells)) = not_refused (codes "m\na.b v1.0.0\n") (not_listed_line other) tells
+part_is_the_whole path limit run (main, table, rows, found, are, says, path_listed other rest at_path (entry, at) tells) =
     let (own, same) = whole_is run main table rows found are says in
     let inside : (row : Entry) → Contains (limited limit rest) row → Contains rows row =
     λ row there. subst (λ (es : List Entry). Contains es row) (sym at.parts) (Contains-append_right at.before (entry ∷ rest) row (member_tail entry row rest (limited_member limit rest row there))) in

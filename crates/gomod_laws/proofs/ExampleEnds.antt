@@ -23,7 +23,7 @@ use Rattle.gm_graph_select.specs.BuildList.{main_entry, path_cmp}
 use Rattle.gm_graph_select.proofs.Ascending.{member_cases, member_head, no_member}
 use Rattle.gm_graph.specs.Run.{AreFaults, AreOpened, AreRows, AreTooMany, FileSays, IsDue, IsFault, IsNeeded, IsOpened, IsSettled, IsTop, IsVertex, Run, Says, answered, faulty as says_fault, from_deep, from_main, from_top, run_of, sound, unaskable, wrong_path}
 use Rattle.gm_graph.specs.declared.fault.Fault.{Fault}
-use Rattle.gomod_run.specs.Outcomes.{AreFound, FilesReadAs, ListEnds, bad_main, bad_sums, device, faulty, no_fault, too_many}
+use Rattle.gomod_run.specs.Outcomes.{AreFound, FilesReadAs, ListEnds, bad_main, bad_sums, device, faulty, no_fault, no_path, too_many}
 use Rattle.gomod_run.specs.Outcome.{printed, refused}
 use Rattle.gomod_run.proofs.OneRead.{misread_or_main, one_main}
 use Rattle.gomod_run.proofs.OneStore.{one_outcome}
@@ -85,7 +85,7 @@ alone_listed : ListEnds None None (example.run_of alone [] []) (printed (codes "
 alone_listed =
     no_fault (main_requiring []) None
     (record { read = record { main_file = files_are_read.one; sums = tt }; settled = none_settled; faults_are = none_faulty; none_failed = refl })
-    (main_entry ∷ [], none_rows, refl)
+    (main_entry ∷ [], none_rows, no_path refl refl)
 
 pub is_listed_alone : IsListedAlone
 is_listed_alone = record {

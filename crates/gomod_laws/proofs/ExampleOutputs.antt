@@ -2,7 +2,7 @@
 use Rattle.std.proofs.Common.{rules, ◌≡◌, ◌⊎◌, ◌∙◌, ◌∷◌, ◌<◌, ℕ, Bool, List, [], Option, None, Some, Result, Ok, Err, ap, arith, codes, drop, false, inl, inr, length, min, refl, subst, sym, take, take_all, true}
 use Rattle.std.proofs.lemmas.List.{length-take}
 use Rattle.std.specs.Global.{Vec}
-use Rattle.std.proofs.lemmas.Str.{IsUtf8-from_ascii, is_utf8-from_IsUtf8}
+use Rattle.std.proofs.lemmas.Str.{IsUtf8-from_ascii, IsUtf8-nil, is_utf8-from_IsUtf8}
 use Rattle.std.specs.Str.{chars, is_utf8}
 use Rattle.gm_store.specs.Asked.{list_file, mod_file}
 use Rattle.gm_store.specs.Memory.{held_at}
@@ -42,8 +42,8 @@ tells = search rules
 
 pub end_is_stated : EndIsStated
 end_is_stated = record {
-  prints = record { outcome = printed text; as_stated = inl refl; written = prints };
-  no_memory = record { outcome = out_of_memory; as_stated = inr refl; written = tells };
+  prints = record { outcome = printed text; as_stated = inl refl; utf8 = IsUtf8-from_ascii text (ascii text (all_below text refl)); written = prints };
+  no_memory = record { outcome = out_of_memory; as_stated = inr refl; utf8 = IsUtf8-nil; written = tells };
   other_text = λ status. not_ended with_other empty status (search rules) (search rules);
   reports = λ status. not_ended empty with_bad_line status (search rules) (search rules);
   nothing = λ status. not_ended empty empty status (search rules) (search rules);

@@ -27,6 +27,8 @@ use Rattle.gm_graph.specs.Run.{AreEdges, AreRows, IsDeep, IsEdge, IsFault, IsOpe
 use Rattle.gm_graph.specs.declared.fault.Fault.{Fault}
 use Rattle.gomod_run.specs.Outcome.{printed}
 use Rattle.gomod_run.specs.ListingTexts.{limited, list_text}
+use Rattle.gomod_run.specs.Outcomes.{no_path, path_listed, path_unlisted}
+use Rattle.gomod_run.proofs.PrintedList.{all_rows}
 use Rattle.gomod_laws.specs.ExampleWorld.{FilesHaveNames, FourEdgesLead, ListIsPrinted, OneFaultIsReported, OnlyListIsPrinted, PrunedFrom17, ReplacementsApply, RowsAreFour, ThreeAreOpened, all_idle, all_there, all_unpruned, answers_with, edges, fault_of_mid, folder_requiring, folder_says, folder_text, low_one, low_two, mid_file, mid_nine, mid_text, mid_ten, one_missing, opened_three, rows, top_file, top_one, world}
 use Rattle.gomod_laws.proofs.ExampleSaid.{fault_is, file_is, folder_is_missing, folder_says_mid, folder_says_so, has_no_fault, mid_requires, mid_says, mid_says_idle, mid_says_unpruned, requirements_are_left, top_requires, top_says}
 use Rattle.gomod_laws.proofs.KnownVersions.{first_byte, not_above_itself, one_ten_is_above, one_nine_is_below, nine_is_not_ten}
@@ -419,24 +421,25 @@ no_row (entry, there, at) = elim (member_cases main_entry entry (low_row ∷ mid
 
 pub list_is_printed : ListIsPrinted
 list_is_printed = record {
-  whole = (rows, rows_are, refl);
-  limited = (rows, rows_are, refl);
-  after = (rows, rows_are, inl (top_row ∷ [], (mid_row, record { before = main_entry ∷ low_row ∷ []; parts = refl; path_is = refl; others = not_before }), refl));
+  whole = (rows, rows_are, no_path refl refl);
+  limited = (rows, rows_are, no_path refl refl);
+  after = (
+    rows,
+    rows_are,
+    path_listed (codes "mid.org") (top_row ∷ []) refl (mid_row, record { before = main_entry ∷ low_row ∷ []; parts = refl; path_is = refl; others = not_before }) refl,
+  );
   after_main = (
     rows,
     rows_are,
-    inl (
-      low_row ∷ mid_row ∷ top_row ∷ [],
-      (main_entry, record { before = []; parts = refl; path_is = refl; others = λ other there. absurd (no_member other there) }),
-      refl,
-    ),
+    path_listed (codes "m") (low_row ∷ mid_row ∷ top_row ∷ []) refl
+    (main_entry, record { before = []; parts = refl; path_is = refl; others = λ other there. absurd (no_member other there) }) refl,
   );
-  unlisted = (rows, rows_are, inr (no_row, refl));
+  unlisted = (rows, rows_are, path_unlisted (codes "b.org") refl (no_row, refl));
 }
 
 pub only_list_is_printed : OnlyListIsPrinted
 only_list_is_printed outcome (others, are, is) =
-    is ∙ ap (λ (entries : List Entry). printed (list_text (codes "m") (limited None entries))) (only_rows others are)
+    all_rows world others None outcome is ∙ ap (λ (entries : List Entry). printed (list_text (codes "m") (limited None entries))) (only_rows others are)
 
 -- ---- faults
 

@@ -24,7 +24,7 @@ use Rattle.gomod_run.proofs.OneQueryStore.{alike_back, stores_agree}
 use Rattle.gomod_words.specs.declared.usage.Command.{Command}
 use Rattle.gomod_words.specs.declared.usage.Command.TheVariants.{Fmt, Edit, Versions, Graph, List as Rows, Chain}
 use Rattle.gomod_run.specs.Runs.{Needs, is_query}
-use Rattle.gomod_run.specs.Versions.{IsListedOutcome, IsShownOutcome, IsShownBy, IsVersionsOutcome, VersionsNeed}
+use Rattle.gomod_run.specs.Versions.{by_latest, unfiltered, IsListedOutcome, IsShownOutcome, IsShownBy, IsVersionsOutcome, VersionsNeed}
 use Rattle.gomod_run.proofs.AllAsked.{done_answers}
 use Rattle.gomod_run.proofs.Answering.{answered_in}
 use Rattle.gomod_run.proofs.OneStore.{one_for_stores}
@@ -97,9 +97,9 @@ module _ (path : List ℕ) (all : Bool) (told : AnswersByName) (outcome : Outcom
 
   latest_is_file : (versions : List (List ℕ)) (latest : List ℕ) (reply : Reply) → IsListedOutcome path all told versions outcome → all ≡ false → IsLatest versions latest
       → told (mod_file path latest) ≡ Some reply → IsFile reply
-  latest_is_file versions latest reply (inl (inl every, says)) some greatest answered = absurd (false≢true (sym some ∙ every))
-  latest_is_file versions latest reply (inl (inr none, says)) some greatest answered = absurd (none_latest latest (subst (λ (vs : List (List ℕ)). IsLatest vs latest) none greatest))
-  latest_is_file versions latest reply (inr (last, other, isnt, greater, said, shows)) some greatest answered =
+  latest_is_file versions latest reply (unfiltered (inl every) says) some greatest answered = absurd (false≢true (sym some ∙ every))
+  latest_is_file versions latest reply (unfiltered (inr none) says) some greatest answered = absurd (none_latest latest (subst (λ (vs : List (List ℕ)). IsLatest vs latest) none greatest))
+  latest_is_file versions latest reply (by_latest last other isnt greater said shows) some greatest answered =
       let same : last ≡ latest = latest_once versions last latest greater greatest in
       let again : told (mod_file path latest) ≡ Some other = subst (λ (v : List ℕ). told (mod_file path v) ≡ Some other) same said in
       let (content, is) = shown_from_file versions last other shows in

@@ -1,6 +1,6 @@
 -- Runs over a store in which files that were absent now exist.
-use Rattle.std.proofs.Common.{◌≡◌, ◌∙◌, ℕ, Bool, true, List, Option, Some, None, ap, inl, inr, refl, sym}
-use Rattle.gm_store.specs.Asked.{Name, Reply, absent, answer_in, bytes, list_file, mod_file, too_long}
+use Rattle.std.proofs.Common.{◌≡◌, ◌∙◌, ℕ, Bool, true, List, Option, Some, ap, inl, inr, refl, sym}
+use Rattle.gm_store.specs.Asked.{Name, Reply, absent, answer_in, bytes, list_file}
 use Rattle.gomod_run.specs.ListingLaws.{AnswerAlike}
 use Rattle.gomod_run.specs.Needs.{AnswersByName}
 use Rattle.gomod_run.specs.Outcome.{Outcome}
@@ -9,7 +9,8 @@ use Rattle.gomod_words.specs.Usage.{texts_in}
 use Rattle.gomod_words.specs.declared.usage.Command.{Command}
 use Rattle.gomod_words.specs.declared.usage.Command.TheVariants.{Fmt, Edit, Versions, Graph, List as Rows, Chain}
 use Rattle.gomod_run.specs.Runs.{is_query}
-use Rattle.gomod_run.specs.Versions.{IsOutcomeByList, IsVersionsOutcome, VersionsNeed}
+use Rattle.gomod_run.specs.Versions.{IsVersionsOutcome, VersionsNeed}
+use Rattle.gomod_run.proofs.OneStore.{both_of, first_kept, kept_outcome, second_kept}
 use Rattle.gomod_run.proofs.Sameness.{edit_once, fmt_once, versions_once}
 use Rattle.gomod_laws.specs.LaterLaws.{LaterAsksTheSame, LaterPrintsTheSame, OnlyAddsAnswers}
 use Rattle.gomod_laws.specs.Runs.{HasPrinted}
@@ -32,37 +33,10 @@ files_stay asked later adds files name a b e f = sym (file_stays asked later add
 
 -- ---- `versions`
 
--- an outcome of `versions` is one by all answers that keep those to the needed files
-module _ (path : List ℕ) (all : Bool) (told kept : AnswersByName)
-    (keeps : (name : Name) (reply : Reply) → VersionsNeed path all told name → told name ≡ Some reply → kept name ≡ Some reply) (outcome : Outcome) where
-  kept_outcome : IsVersionsOutcome path all told outcome → IsVersionsOutcome path all kept outcome
-  kept_outcome (inl is) = inl is
-  kept_outcome (inr (reply, may, answered, is)) = inr (reply, may, keeps (list_file path) reply (may, inl refl) answered, by reply answered is)
-    where
-      by : (reply : Reply) → told (list_file path) ≡ Some reply → IsOutcomeByList path all told reply outcome → IsOutcomeByList path all kept reply outcome
-      by absent answered is = is
-      by too_long answered is = is
-      by (bytes list) answered (versions, listed, inl is) = (versions, listed, inl is)
-      by (bytes list) answered (versions, listed, inr (latest, reply, some, greatest, said, shows)) =
-          (versions, listed, inr (latest, reply, some, greatest, keeps (mod_file path latest) reply (may, inr (list, versions, latest, some, answered, listed, greatest, refl)) said, shows))
-
--- the first answer, or the second where there is none
-abbrev first_of : Option Reply → Option Reply → Option Reply
-first_of (Some reply) other = Some reply
-first_of None other = other
-
-first_kept : (a b : Option Reply) (reply : Reply) → a ≡ Some reply → first_of a b ≡ Some reply
-first_kept (Some x) b reply e = e
-first_kept None b reply e = cc e
-
-second_kept : (a b : Option Reply) (reply : Reply) → ((before : Reply) → a ≡ Some before → reply ≡ before) → b ≡ Some reply → first_of a b ≡ Some reply
-second_kept (Some x) b reply same e = ap Some (sym (same x refl))
-second_kept None b reply same e = e
-
 module _ (path : List ℕ) (all : Bool) (main : List ℕ) (sums : Option (List ℕ)) (asked later : Pairs) (one other : Outcome) (prints : HasPrinted one) (adds : OnlyAddsAnswers asked later)
     (states : IsVersionsOutcome path all (answer_in asked) one) where
   abbrev both : AnswersByName
-  both name = first_of (answer_in asked name) (answer_in later name)
+  both = both_of (answer_in asked) (answer_in later)
 
   was_file : (name : Name) (reply : Reply) → VersionsNeed path all (answer_in asked) name → answer_in asked name ≡ Some reply → IsFile reply
   was_file name reply need e = needed_is_file path all (answer_in asked) one prints name reply states need e

@@ -13,11 +13,11 @@ use Rattle.gm_graph.specs.Run.{AreEdges, AreFaults, AreRows, AreTooMany, FileSay
 use Rattle.gm_graph.proofs.RunLemmas.{RequiresToo, edge_too, many_too, opened_too}
 use Rattle.gm_graph_select.specs.declared.step.Edge.{Edge}
 use Rattle.gm_graph_select.specs.declared.step.Step.TheVariants.{Of}
-use Rattle.gm_graph_select.specs.BuildList.{Entry, IsBuildList, entry_of, main_entry}
+use Rattle.gm_graph_select.specs.BuildList.{Entry, HasEntryFor, IsBuildList, IsRestAfter, entry_of, main_entry}
 use Rattle.gm_graph_select.proofs.Same.{AreSame, same_build_list, same_chain}
-use Rattle.gomod_run.specs.ListingTexts.{graph_text}
+use Rattle.gomod_run.specs.ListingTexts.{graph_text, limited, list_text}
 use Rattle.gomod_run.specs.Outcome.{Outcome, printed}
-use Rattle.gomod_run.specs.Outcomes.{Given, PrintsRows, QueryEnds, ShowsChain}
+use Rattle.gomod_run.specs.Outcomes.{Given, PrintsRows, QueryEnds, ShowsChain, no_path, path_listed, path_unlisted}
 use Rattle.gomod_run.specs.Runs.{PrintsOf, is_query}
 use Rattle.gomod_run.specs.ListingLaws.{AreAlike}
 use Rattle.gomod_run.proofs.OneStore.{one_for_stores}
@@ -167,10 +167,16 @@ module _ (r s : Run) (alike : ReadAlike r s) where
 
   -- ---- what is printed
 
+  same_text : (shown : List Entry) (outcome : Outcome) → outcome ≡ printed (list_text r.main.path shown) → outcome ≡ printed (list_text s.main.path shown)
+  same_text shown outcome says = subst (λ (path : List ℕ). outcome ≡ printed (list_text path shown)) mains.path says
+
   rows_printed : (rows : List Entry) (after : Option (List ℕ)) (limit : Option ℕ) (outcome : Outcome)
       → PrintsRows r.main rows after limit outcome → PrintsRows s.main rows after limit outcome
-  rows_printed rows None limit outcome says = subst (λ (path : List ℕ). PrintsRows (with_path path s.main) rows None limit outcome) mains.path says
-  rows_printed rows (Some from) limit outcome says = subst (λ (path : List ℕ). PrintsRows (with_path path s.main) rows (Some from) limit outcome) mains.path says
+  rows_printed rows after limit outcome (no_path none says) = no_path none (same_text (limited limit rows) outcome says)
+  rows_printed rows after limit outcome (path_listed path others is at says) =
+      path_listed path others is (subst (λ (own : List ℕ). IsRestAfter own rows path others) mains.path at) (same_text (limited limit others) outcome says)
+  rows_printed rows after limit outcome (path_unlisted path is (none, says)) =
+      path_unlisted path is (subst (λ (own : List ℕ). HasEntryFor own rows path → ⊥) mains.path none, says)
 
   chain_shown : (path : List ℕ) (rows : List Entry) (outcome : Outcome) → ShowsChain path r.main (IsEdge r) rows outcome → ShowsChain path s.main (IsEdge s) rows outcome
   chain_shown path rows outcome shows = subst (λ (own : List ℕ). ShowsChain path (with_path own s.main) (IsEdge s) rows outcome) mains.path (by shows)

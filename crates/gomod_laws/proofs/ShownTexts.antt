@@ -20,6 +20,7 @@ use Rattle.gomod_run.specs.ReportTexts.{vertex_text}
 use Rattle.gomod_run.proofs.GraphLines.{text_says_edges, text_says_steps}
 use Rattle.gomod_run.proofs.ListLines.{Lacks, cut_at, has_it, path_has_no_blank, path_has_no_feed, text_says_rows, version_has_no_blank}
 use Rattle.gomod_run.proofs.RunNames.{run_has_names, run_has_proper_edges, run_has_proper_rows, run_has_proper_steps}
+use Rattle.gomod_run.proofs.PrintedList.{all_rows}
 use Rattle.gomod_laws.specs.Shown.{ShowsEdges, ShowsRows, ShowsSteps}
 
 -- ---- texts
@@ -88,7 +89,7 @@ module _ (run : Given) (main : Main) where
   module _ (path : List ℕ) (rows shown : List Entry)
       (shows : ShowsRows run main None None rows (printed (list_text path shown))) where
     rows_text : list_text path shown ≡ list_text main.path rows
-    rows_text = same_text (list_text path shown) (list_text main.path rows) shows.prints
+    rows_text = same_text (list_text path shown) (list_text main.path rows) (all_rows main rows None (printed (list_text path shown)) shows.prints)
 
     pub main_of_list : (more : List Entry) → shown ≡ main_entry ∷ more → Lacks 10 path → main.path ≡ path
     main_of_list more is none =

@@ -11,7 +11,7 @@ use Rattle.gm_graph.specs.Reading.{IsFileReading}
 use Rattle.gomod_run.specs.Outcome.{Outcome, printed, refused}
 use Rattle.gomod_run.specs.Needs.{AnswersByName}
 use Rattle.gomod_words.specs.declared.usage.Command.TheVariants.{Versions}
-use Rattle.gomod_run.specs.Versions.{answered as heard, device, IsListedOutcome, IsOutcomeByList, IsShownBy, IsVersionsOutcome, versions_line}
+use Rattle.gomod_run.specs.Versions.{answered as heard, by_latest, by_list, device, unfetchable, unfiltered, IsListedOutcome, IsOutcomeByList, IsShownBy, IsVersionsOutcome, versions_line}
 use Rattle.gomod_run.proofs.Uniqueness.{listed_once}
 use Rattle.gomod_laws.specs.Runs.{HasPrinted}
 use Rattle.gomod_laws.proofs.Ended.{Ends}
@@ -44,8 +44,8 @@ pub record IsAnswered (path : List ℕ) (answers : AnswersByName) (versions : Li
 -- where `versions` prints, its list was answered
 pub list_answered : (path : List ℕ) (all : Bool) (answers : AnswersByName) (outcome : Outcome) → HasPrinted outcome → IsVersionsOutcome path all answers outcome
     → (versions : List (List ℕ)) × IsAnswered path answers versions × IsListedOutcome path all answers versions outcome
-list_answered path all answers outcome prints (inl (isnt, says)) = absurd (refusal_prints_nothing outcome _ says prints)
-list_answered path all answers outcome prints (inr (reply, fetchable, answered, is)) = by reply answered is
+list_answered path all answers outcome prints (unfetchable (isnt, says)) = absurd (refusal_prints_nothing outcome _ says prints)
+list_answered path all answers outcome prints (by_list reply fetchable answered is) = by reply answered is
   where
     by : (reply : Reply) → answers (list_file path) ≡ Some reply → IsOutcomeByList path all answers reply outcome
         → (versions : List (List ℕ)) × IsAnswered path answers versions × IsListedOutcome path all answers versions outcome
@@ -56,9 +56,9 @@ list_answered path all answers outcome prints (inr (reply, fetchable, answered, 
 -- without `--retracted`, those that are not retracted are printed
 shown_printed : (path : List ℕ) (asked : Pairs) (versions : List (List ℕ)) (outcome : Outcome) → HasPrinted outcome → IsListedOutcome path false (answer_in asked) versions outcome
     → (shown : List (List ℕ)) × AreUnretracted asked path versions shown × (outcome ≡ printed (versions_line path shown))
-shown_printed path asked versions outcome prints (inl (inl every, says)) = absurd (false≢true every)
-shown_printed path asked versions outcome prints (inl (inr none, says)) = (versions, inl (none, none), says)
-shown_printed path asked versions outcome prints (inr (latest, reply, some, is, answered, shows)) = by shows.reading shows.says shows.shows
+shown_printed path asked versions outcome prints (unfiltered (inl every) says) = absurd (false≢true every)
+shown_printed path asked versions outcome prints (unfiltered (inr none) says) = (versions, inl (none, none), says)
+shown_printed path asked versions outcome prints (by_latest latest reply some is answered shows) = by shows.reading shows.says shows.shows
   where
     by : (reading : Result Dependency Class) → IsFileReading None (mod_file path latest) reply reading → IsShownBy path versions latest reply reading outcome
         → (shown : List (List ℕ)) × AreUnretracted asked path versions shown × (outcome ≡ printed (versions_line path shown))
@@ -69,8 +69,8 @@ shown_printed path asked versions outcome prints (inr (latest, reply, some, is, 
 -- with `--retracted`, each listed version is printed
 all_listed : (path : List ℕ) (answers : AnswersByName) (versions : List (List ℕ)) (outcome : Outcome) → IsListedOutcome path true answers versions outcome
     → outcome ≡ printed (versions_line path versions)
-all_listed path answers versions outcome (inl (every, says)) = says
-all_listed path answers versions outcome (inr (latest, reply, some, is, answered, shows)) = absurd (false≢true (sym some))
+all_listed path answers versions outcome (unfiltered every says) = says
+all_listed path answers versions outcome (by_latest latest reply some is answered shows) = absurd (false≢true (sym some))
 
 all_by_list : (path : List ℕ) (answers : AnswersByName) (list : List ℕ) (versions : List (List ℕ)) (reply : Reply) (outcome : Outcome) → AreListed path list versions → reply ≡ bytes list
     → IsOutcomeByList path true answers reply outcome → outcome ≡ printed (versions_line path versions)
@@ -81,8 +81,8 @@ all_by_list path answers list versions reply outcome listed same is =
 all_printed : (path : List ℕ) (answers : AnswersByName) (list : List ℕ) (versions : List (List ℕ)) (outcome : Outcome) → is_fetchable path ≡ true → AreListed path list versions
     → ((reply : Reply) → answers (list_file path) ≡ Some reply → reply ≡ bytes list) → IsVersionsOutcome path true answers outcome
     → outcome ≡ printed (versions_line path versions)
-all_printed path answers list versions outcome fetchable listed same (inl (isnt, says)) = absurd (false≢true (sym isnt ∙ fetchable))
-all_printed path answers list versions outcome fetchable listed same (inr (reply, may, answered, is)) = all_by_list path answers list versions reply outcome listed (same reply answered) is
+all_printed path answers list versions outcome fetchable listed same (unfetchable (isnt, says)) = absurd (false≢true (sym isnt ∙ fetchable))
+all_printed path answers list versions outcome fetchable listed same (by_list reply may answered is) = all_by_list path answers list versions reply outcome listed (same reply answered) is
 
 pub retracted_are_left_out : RetractedAreLeftOut
 retracted_are_left_out path main sums asked told one other run prints also alike =

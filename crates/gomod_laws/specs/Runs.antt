@@ -7,12 +7,13 @@ use Rattle.gomod_words.specs.declared.usage.Command.{Command}
 use Rattle.gomod_words.specs.declared.usage.Command.TheVariants.{Edit}
 use Rattle.gomod_run.specs.Outcomes.{answers, given}
 use Rattle.gomod_run.specs.Runs.{RunEnds}
-use Rattle.gomod_run.specs.Written.{InUtf8}
+use Rattle.std.specs.Str.{IsUtf8}
 
 -- The command, over the bytes of a main file, those of a go.sum where one is given, and a store that gave these
 -- answers and whose device did not fail, has this outcome, as the clause `ends` of `run` states it: its text is UTF-8.
 abbrev pub HasOutcome : Command → List ℕ → Option (List ℕ) → List (Name × Reply) → Outcome → Type 0
-HasOutcome command main sums asked outcome = InUtf8 (RunEnds command (given main sums (answers asked []))) outcome
+HasOutcome command main sums asked outcome =
+    RunEnds command (given main sums (answers asked [])) outcome × IsUtf8 outcome.text
 
 -- the command prints: its status is 0, and nothing is reported
 abbrev pub HasPrinted : Outcome → Type 0

@@ -20,7 +20,7 @@ use Rattle.gomod_words.specs.declared.usage.Command.{Command}
 use Rattle.gomod_words.specs.declared.usage.Command.TheVariants.{Fmt, Edit, Versions, Graph, List as Rows, Chain}
 use Rattle.gm_store.specs.States.{StoreState}
 use Rattle.gomod_run.specs.Runs.{HoldsAtAnyEnd, Needs, RunEnds}
-use Rattle.gomod_run.specs.Versions.{IsOutcomeByList, IsVersionsOutcome, VersionsEnds, VersionsNeed, answered, device}
+use Rattle.gomod_run.specs.Versions.{IsOutcomeByList, IsVersionsOutcome, VersionsEnds, VersionsNeed, answered, by_latest, by_list, device, unfetchable, unfiltered}
 use Rattle.gomod_run.specs.Written.{IsWritten}
 use Rattle.gm_store.specs.Taken.{SinkState}
 
@@ -38,18 +38,18 @@ graph_answered run main table faults found name needs =
 
 -- the list, if the path is fetchable, and the go.mod of the latest version, if that is needed
 module _ (path : List ℕ) (all : Bool) (told : AnswersByName) where
-  by_list : (list : List ℕ) (versions : List (List ℕ)) (latest : List ℕ) (name : Name) (reply : Reply) (outcome : Outcome) → told (list_file path) ≡ Some (bytes list) → all ≡ false
+  list_known : (list : List ℕ) (versions : List (List ℕ)) (latest : List ℕ) (name : Name) (reply : Reply) (outcome : Outcome) → told (list_file path) ≡ Some (bytes list) → all ≡ false
       → AreListed path list versions → IsLatest versions latest → name ≡ mod_file path latest → told (list_file path) ≡ Some reply → IsOutcomeByList path all told reply outcome
       → (answer : Reply) × (told name ≡ Some answer)
-  by_list list versions latest name absent outcome seen some listed is same heard ends = let e : Some absent ≡ Some (bytes list) = sym heard ∙ seen in absurd (cc e)
-  by_list list versions latest name too_long outcome seen some listed is same heard ends = let e : Some too_long ≡ Some (bytes list) = sym heard ∙ seen in absurd (cc e)
-  by_list list versions latest name (bytes other) outcome seen some listed is same heard (others, named, ends) =
+  list_known list versions latest name absent outcome seen some listed is same heard ends = let e : Some absent ≡ Some (bytes list) = sym heard ∙ seen in absurd (cc e)
+  list_known list versions latest name too_long outcome seen some listed is same heard ends = let e : Some too_long ≡ Some (bytes list) = sym heard ∙ seen in absurd (cc e)
+  list_known list versions latest name (bytes other) outcome seen some listed is same heard (others, named, ends) =
       let lists : other ≡ list = same_list other list (sym heard ∙ seen) in
       let all_same : others ≡ versions = listed_once path list others versions (subst (λ (l : List ℕ). AreListed path l others) lists named) listed in
       elim ends [
-        | inl (inl every, says) ↦ (let e = sym every ∙ some in absurd (cc e))
-        | inl (inr none, says) ↦ absurd (none_latest latest (subst (λ (vs : List (List ℕ)). IsLatest vs latest) (sym all_same ∙ none) is))
-        | inr (greatest, reply, few, is_greatest, heard_too, shows) ↦ (
+        | unfiltered (inl every) says ↦ (let e = sym every ∙ some in absurd (cc e))
+        | unfiltered (inr none) says ↦ absurd (none_latest latest (subst (λ (vs : List (List ℕ)). IsLatest vs latest) (sym all_same ∙ none) is))
+        | by_latest greatest reply few is_greatest heard_too shows ↦ (
           reply,
           ap told (same ∙ ap (mod_file path) (latest_once versions latest greatest is (subst (λ (vs : List (List ℕ)). IsLatest vs greatest) all_same is_greatest))) ∙ heard_too,
         )
@@ -59,10 +59,10 @@ module _ (path : List ℕ) (all : Bool) (told : AnswersByName) where
       same_list one other e = cc
 
   versions_answered : (outcome : Outcome) → IsVersionsOutcome path all told outcome → AnsweredAll (VersionsNeed path all) told
-  versions_answered outcome (inl (isnt, says)) name (fetchable, needs) = let e = sym isnt ∙ fetchable in absurd (cc e)
-  versions_answered outcome (inr (reply, may, heard, ends)) name (fetchable, inl same) = (reply, ap told same ∙ heard)
-  versions_answered outcome (inr (reply, may, heard, ends)) name (fetchable, inr (list, versions, latest, some, seen, listed, is, same)) =
-      by_list list versions latest name reply outcome seen some listed is same heard ends
+  versions_answered outcome (unfetchable (isnt, says)) name (fetchable, needs) = let e = sym isnt ∙ fetchable in absurd (cc e)
+  versions_answered outcome (by_list reply may heard ends) name (fetchable, inl same) = (reply, ap told same ∙ heard)
+  versions_answered outcome (by_list reply may heard ends) name (fetchable, inr (list, versions, latest, some, seen, listed, is, same)) =
+      list_known list versions latest name reply outcome seen some listed is same heard ends
 
 -- ---- runs that are done
 

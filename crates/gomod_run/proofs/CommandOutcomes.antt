@@ -30,7 +30,7 @@ use Rattle.gomod_run.specs.declared.listing.answering.Read.{Read}
 use Rattle.gomod_run.specs.declared.listing.query.Query.{Query}
 use Rattle.gomod_run.specs.declared.listing.query.Query.TheVariants.{Graph, List as Rows, Chain}
 use Rattle.gomod_run.specs.ListingTexts.{limited, list_text}
-use Rattle.gomod_run.specs.Outcomes.{AreInvalidSums, AreSums, FilesReadAs, Given, PrintsRows, QueryEnds, answers, bad_main, bad_sums, device, faulty, given, no_fault, too_many}
+use Rattle.gomod_run.specs.Outcomes.{AreInvalidSums, AreSums, FilesReadAs, Given, PrintsRows, QueryEnds, answers, bad_main, bad_sums, device, faulty, given, no_fault, path_listed, too_many}
 use Rattle.gomod_run.specs.Needs.{AnswersByName, AskedInTurn, FailsInTurn, GraphNeeds}
 use Rattle.gomod_run.specs.Refusals.{IsRefusedRead}
 use Rattle.gomod_run.specs.Runs.{ComesTo, Needs, PrintsOf, RunEnds, command_of, run_between}
@@ -44,10 +44,10 @@ use Rattle.gomod_run.proofs.MainMisreading.{IsMalformed, main_refused}
 -- ---- what is printed
 
 -- the case where the rows after a path are printed
-pub rest_printed : (main : Main) (rows rest : List Entry) (path : List ℕ) (limit : Option ℕ) (outcome : Outcome) → IsRestAfter main.path rows path rest
-    → OrNoMemory (λ outcome. outcome ≡ printed (list_text main.path (limited limit rest))) outcome → OrNoMemory (PrintsRows main rows (Some path) limit) outcome
-rest_printed main rows rest path limit outcome is (inl says) = inl (inl (rest, is, says))
-rest_printed main rows rest path limit outcome is (inr none) = inr none
+pub rest_printed : (main : Main) (rows others : List Entry) (path : List ℕ) (limit : Option ℕ) (outcome : Outcome) → IsRestAfter main.path rows path others
+    → OrNoMemory (λ outcome. outcome ≡ printed (list_text main.path (limited limit others))) outcome → OrNoMemory (PrintsRows main rows (Some path) limit) outcome
+rest_printed main rows others path limit outcome is (inl says) = inl (path_listed path others refl is says)
+rest_printed main rows others path limit outcome is (inr none) = inr none
 
 -- a command prints the same of what was found as of the run
 pub prints_for : (query : Query) (run : Run) (asked : List Name) (loaded : Loaded) (outcome : Outcome) → IsLoaded run asked loaded

@@ -1,5 +1,6 @@
 -- Facts about how the program ends.
 use Rattle.std.proofs.Common.{◌≡◌, ◌∙◌, ◌∷◌, ℕ, Bor, List, [], Option, None, Contains, ap, codes, inl, inr, map, subst, sym, Global, String, refl}
+use Rattle.std.proofs.lemmas.Str.{IsUtf8-nil}
 use Rattle.gm_store.specs.Asked.{Name, Reply, list_file, reply_for}
 use Rattle.std.specs.String.{string_bytes}
 use Rattle.gm_store.specs.Memory.{may_give}
@@ -12,7 +13,7 @@ use Rattle.gomod_words.specs.declared.usage.UsageFault.{UsageFault}
 use Rattle.gomod_words.specs.declared.usage.UsageFault.TheVariants.{NoMemory, Help, Version, Line, BadPath, BadProxy}
 use Rattle.gomod_words.specs.declared.usage.Command.{Command}
 use Rattle.gomod_words.specs.declared.usage.Places.{Places}
-use Rattle.gomod_run.specs.Outcomes.{answers, given, longest}
+use Rattle.gomod_run.specs.Outcomes.{Answers, answers, given, longest}
 use Rattle.gomod_run.specs.Outcome.{Outcome, out_of_memory}
 use Rattle.gomod_run.specs.Held.{HoldsOne}
 use Rattle.gomod_run.specs.Program.{IsInputOutcome, IsStoreRun, IsProgramOutcome, IsProgramStatus, IsServed, IsWordsOutcome, usage_outcome, IsOutcomeUnless, usage_error}
@@ -28,6 +29,7 @@ pub ends_weaken : (one other : Outcome → Type 0) (out out' report report' : Si
 ends_weaken one other out out' report report' status wider ends = record {
   outcome = ends.outcome;
   as_stated = elim ends.as_stated [ inl stated ↦ inl (wider ends.outcome stated) | inr memory ↦ inr memory ];
+  utf8 = ends.utf8;
   written = ends.written;
 }
 
@@ -71,7 +73,7 @@ program_ends may_open may_take given texts slice words lent out out' report repo
 -- an end that reports the first word which is not UTF-8 is an end of the program
 pub unreadable_ends : (may_open : List ℕ → Opening → Type 0) (may_take : Opening → Type 0) (given : Option (List (List ℕ))) (fault : UsageFault) (out out' report report' : SinkState) (status : ℕ) → IsUnreadableWords given fault
     → IsWritten (usage_outcome fault) out out' report report' status → EndsAsStated (IsProgramOutcome may_open may_take given) out out' report report' status
-unreadable_ends may_open may_take given NoMemory out out' report report' status is written = record { outcome = out_of_memory; as_stated = inr refl; written = written }
+unreadable_ends may_open may_take given NoMemory out out' report report' status is written = record { outcome = out_of_memory; as_stated = inr refl; utf8 = IsUtf8-nil; written = written }
 unreadable_ends may_open may_take given (Line text) out out' report report' status (word, first, shown) written =
     let (words, are, unreadable) = first in
     let outcome : Outcome = usage_error (string_bytes text) in
@@ -80,7 +82,7 @@ unreadable_ends may_open may_take given (Line text) out out' report report' stat
       are,
       subst (λ (found : Option (List ℕ)). IsOutcomeUnless may_open may_take words found outcome) (sym unreadable) (ap usage_error shown),
     ) in
-    record { outcome = outcome; as_stated = inl stated; written = written }
+    record { outcome = outcome; as_stated = inl stated; utf8 = IsUtf8-nil; written = written }
 unreadable_ends may_open may_take given (Help text) out out' report report' status is written = absurd is
 unreadable_ends may_open may_take given (Version text) out out' report report' status is written = absurd is
 unreadable_ends may_open may_take given (BadPath text) out out' report report' status is written = absurd is
@@ -110,7 +112,7 @@ input_weaken command path list store asked old new same none still held allowed 
 )
 
 -- the outcome of a run over a store follows from what it answered
-pub store_weaken : (may_answer : Name → Reply → Type 0) (command : Command) (main : List ℕ) (sums : Option (List ℕ)) (old new : StoreState)
-    → ((name : Name) (reply : Reply) → Contains new.asked (name, reply) → may_answer name reply) → (outcome : Outcome)
-    → RunEnds command (run_between main sums old new) outcome → IsStoreRun may_answer command main sums outcome
-store_weaken may_answer command main sums old new told outcome is = (told_between old new, told, is)
+pub store_weaken : (may_be_told : Answers → Type 0) (command : Command) (main : List ℕ) (sums : Option (List ℕ)) (old new : StoreState)
+    → may_be_told (told_between old new) → (outcome : Outcome)
+    → RunEnds command (run_between main sums old new) outcome → IsStoreRun may_be_told command main sums outcome
+store_weaken may_be_told command main sums old new told outcome is = (told_between old new, told, is)

@@ -1,5 +1,5 @@
 -- Rows that meet the plain description of a build list are the build list.
-use Rattle.std.proofs.Common.{◌≡◌, ◌∙◌, ◌⊎◌, ℕ, false, List, [], ◌∷◌, map, Contains, ap, ap₂, sym, refl, subst, inl, inr, None}
+use Rattle.std.proofs.Common.{◌≡◌, ◌∙◌, ◌⊎◌, ℕ, false, List, [], ◌∷◌, map, Contains, ap, ap₂, sym, refl, subst, inl, inr}
 use Rattle.std.specs.Cmp.Lexicographic.{nat_list_cmp_total, slice_cmp}
 use Rattle.std.specs.Ordering.{is_gt, nat_cmp, ordering_reverse}
 use Rattle.std.specs.declared.cmp.Ordering.{Ordering}
@@ -13,7 +13,7 @@ use Rattle.gm_graph_select.specs.Order.{IsAscending}
 use Rattle.gm_graph_select.proofs.Ascending.{less_itself, member_cases, no_member, pairs_head, pairs_tail}
 use Rattle.gm_graph.specs.Run.{IsEdge, Run, run_of}
 use Rattle.gomod_run.specs.ListingLaws.{AreGreatest, BuildListIsListed}
-use Rattle.gomod_run.specs.Outcomes.{no_fault}
+use Rattle.gomod_run.specs.Outcomes.{no_fault, no_path}
 
 -- two versions are the same if neither is greater
 same_version : (v w : List ℕ) → is_gt (version_cmp v w) ≡ false → is_gt (version_cmp w v) ≡ false → v ≡ w
@@ -63,4 +63,4 @@ module _ (run : Run) (selected : List ModuleVersion) (are : AreGreatest run sele
 
 pub build_list_is_listed : BuildListIsListed
 build_list_is_listed run main table selected found greatest =
-    no_fault main table found (main_entry ∷ map (entry_of main.replaces) selected, as_build_list (run_of main table run.told.asked) selected greatest, refl)
+    no_fault main table found (main_entry ∷ map (entry_of main.replaces) selected, as_build_list (run_of main table run.told.asked) selected greatest, no_path refl refl)

@@ -9,7 +9,7 @@ use Rattle.gomod_run.specs.Outcomes.{Given, GraphEnds, Prints, PrintsChain, Prin
 use Rattle.gomod_run.specs.Outcome.{Outcome}
 use Rattle.gomod_run.proofs.OneOutcome.{also_printed, ends_once}
 use Rattle.gomod_run.proofs.OnePrinted.{chain_once, list_once, one_rows, shown_by}
-use Rattle.gomod_run.proofs.PrintedList.{printed_run}
+use Rattle.gomod_run.proofs.PrintedList.{all_rows, printed_run}
 
 pub one_graph : OneGraph
 one_graph after limit path run graph list chain is_graph is_list is_chain ends =
@@ -53,4 +53,4 @@ parts_of_one_list after limit run whole part is_whole is_part ends =
     let (main, table, found, (rows, list, says)) = printed_run (PrintsList None None) run whole is_whole ends in
     let (others, listed, shows) = also_printed (PrintsList after limit) (list_once after limit) run main table found part is_part in
     let rows_same : others ≡ rows = one_rows (run_of main table run.told.asked) others rows listed list in
-    (main, table, rows, found, list, says, subst (λ (es : List Entry). PrintsRows main es after limit part) rows_same shows)
+    (main, table, rows, found, list, all_rows main rows None whole says, subst (λ (es : List Entry). PrintsRows main es after limit part) rows_same shows)

@@ -6,7 +6,7 @@ use Rattle.gm_name.specs.ModuleVersion.{pair_cmp, pair_total}
 use Rattle.gm_file.specs.Main.{Main}
 use Rattle.gm_graph_select.specs.declared.step.Step.{Step}
 use Rattle.gm_graph_select.specs.declared.step.Edge.{Edge}
-use Rattle.gm_graph_select.specs.BuildList.{Entry, IsBuildList}
+use Rattle.gm_graph_select.specs.BuildList.{Entry, HasEntryFor, IsBuildList, IsRestAfter}
 use Rattle.gm_graph_select.specs.Chains.{IsChain}
 use Rattle.gm_graph_select.specs.Graph.{Edges, among}
 use Rattle.gm_graph_select.specs.StepOrder.{edge_total}
@@ -18,8 +18,9 @@ use Rattle.gm_graph.specs.declared.fault.Fault.{Fault}
 use Rattle.gm_graph.specs.Run.{AreEdges, AreFaults, AreRows, IsEdge, Run}
 use Rattle.gm_graph.proofs.RunLemmas.{Agrees, fault}
 use Rattle.gomod_run.specs.ListingTexts.{chain_text, graph_text, limited, list_text}
-use Rattle.gomod_run.specs.Outcomes.{Prints, PrintsChain, PrintsGraph, PrintsList, PrintsRows, ShowsChain}
-use Rattle.gomod_run.specs.Outcome.{Outcome, printed}
+use Rattle.gomod_run.specs.Outcomes.{Prints, PrintsChain, PrintsGraph, PrintsList, PrintsRows, ShowsChain, no_path, path_listed, path_unlisted}
+use Rattle.gomod_run.specs.Outcome.{Outcome, printed, refused}
+use Rattle.gomod_run.specs.Reports.{not_listed_line}
 use Rattle.gomod_run.proofs.FewOpened.{IsFew, edges_listed}
 
 -- ---- faults and edges
@@ -63,21 +64,44 @@ one_chain_text run few s steps others chain other =
 pub one_rows : (run : Run) (rows others : List Entry) → AreRows run rows → AreRows run others → rows ≡ others
 one_rows run rows others is other = same_build_lists run.main.path run.main.replaces (IsEdge run) rows others is other
 
-one_text : (main : Main) (rows : List Entry) (after : Option (List ℕ)) (limit : Option ℕ) (a b : Outcome) → PrintsRows main rows after limit a → PrintsRows main rows after limit b → a ≡ b
-one_text main rows None limit a b is other = is ∙ sym other
-one_text main rows (Some path) limit a b (inl (rest, (entry, at), says)) (inl (more, (first, begun), tells)) =
-    says ∙ ap (λ (es : List Entry). printed (list_text main.path (limited limit es))) (one_at main.path rows path entry first rest more at begun).1 ∙ sym tells
-one_text main rows (Some path) limit a b (inl (rest, (entry, at), says)) (inr (unlisted, tells)) = absurd (unlisted (entry_listed main.path rows path entry.0 (entry, rest, at, refl)))
-one_text main rows (Some path) limit a b (inr (unlisted, says)) (inl (more, (first, begun), tells)) = absurd (unlisted (entry_listed main.path rows path first.0 (first, more, begun, refl)))
-one_text main rows (Some path) limit a b (inr (unlisted, says)) (inr (other, tells)) = says ∙ sym tells
+one_path : (after : Option (List ℕ)) (path other : List ℕ) → after ≡ Some path → after ≡ Some other → path ≡ other
+one_path after path other is be = let same : Some path ≡ Some other = sym is ∙ be in cc same
+
+some_path : (after : Option (List ℕ)) (path : List ℕ) → after ≡ None → after ≡ Some path → ⊥
+some_path after path none is = let same : None ≡ Some path = sym none ∙ is in cc same
+
+module _ (main : Main) (rows : List Entry) (after : Option (List ℕ)) (limit : Option ℕ) (a b : Outcome) where
+  -- a path that has a row has one list of rows after it
+  one_rest : (path other : List ℕ) (here there : List Entry) → path ≡ other → IsRestAfter main.path rows path here → IsRestAfter main.path rows other there → here ≡ there
+  one_rest path other here there same is be = by_entries (subst (λ (p : List ℕ). IsRestAfter main.path rows p here) same is) be
+    where
+      by_entries : IsRestAfter main.path rows other here → IsRestAfter main.path rows other there → here ≡ there
+      by_entries (entry, at) (first, begun) = (one_at main.path rows other entry first here there at begun).1
+
+  -- and it is listed
+  rest_listed : (path other : List ℕ) (others : List Entry) → path ≡ other → IsRestAfter main.path rows path others → ¬ (HasEntryFor main.path rows other) → ⊥
+  rest_listed path other others same (entry, at) none =
+      none (subst (λ (p : List ℕ). HasEntryFor main.path rows p) same (entry_listed main.path rows path entry.0 (entry, others, at, refl)))
+
+  one_text : PrintsRows main rows after limit a → PrintsRows main rows after limit b → a ≡ b
+  one_text (no_path none says) (no_path nothing tells) = says ∙ sym tells
+  one_text (no_path none says) (path_listed path others is at tells) = absurd (some_path after path none is)
+  one_text (no_path none says) (path_unlisted path is tells) = absurd (some_path after path none is)
+  one_text (path_listed path others is at says) (no_path none tells) = absurd (some_path after path none is)
+  one_text (path_listed path others is at says) (path_listed other more be begun tells) =
+      says ∙ ap (λ (es : List Entry). printed (list_text main.path (limited limit es))) (one_rest path other others more (one_path after path other is be) at begun) ∙ sym tells
+  one_text (path_listed path others is at says) (path_unlisted other be tells) = absurd (rest_listed path other others (one_path after path other is be) at tells.0)
+  one_text (path_unlisted path is says) (no_path none tells) = absurd (some_path after path none is)
+  one_text (path_unlisted path is says) (path_listed other more be begun tells) = absurd (rest_listed other path more (one_path after other path be is) begun says.0)
+  one_text (path_unlisted path is says) (path_unlisted other be tells) = says.1 ∙ ap (λ (p : List ℕ). refused (not_listed_line p)) (one_path after path other is be) ∙ sym tells.1
 
 one_shown : (path : List ℕ) (run : Run) (rows : List Entry) (a b : Outcome) → IsFew run → ShowsChain path run.main (IsEdge run) rows a → ShowsChain path run.main (IsEdge run) rows b → a ≡ b
 one_shown path run rows a b few (inl (s, steps, entry, chain, says)) (inl (t, more, first, other, tells)) =
     let one : IsChain (IsEdge run) t steps = subst (λ (u : Step). IsChain (IsEdge run) u steps) (one_entry run.main.path rows path s t entry first) chain in
     says ∙ ap printed (one_chain_text run few t steps more one other) ∙ sym tells
-one_shown path run rows a b few (inl (s, steps, entry, chain, says)) (inr (unlisted, tells)) = absurd (unlisted (entry_listed run.main.path rows path s entry))
-one_shown path run rows a b few (inr (unlisted, says)) (inl (t, more, first, other, tells)) = absurd (unlisted (entry_listed run.main.path rows path t first))
-one_shown path run rows a b few (inr (unlisted, says)) (inr (other, tells)) = says ∙ sym tells
+one_shown path run rows a b few (inl (s, steps, entry, chain, says)) (inr (none, tells)) = absurd (none (entry_listed run.main.path rows path s entry))
+one_shown path run rows a b few (inr (none, says)) (inl (t, more, first, other, tells)) = absurd (none (entry_listed run.main.path rows path t first))
+one_shown path run rows a b few (inr (none, says)) (inr (other, tells)) = says ∙ sym tells
 
 -- ---- runs with the same main file and the same edges
 
@@ -94,7 +118,7 @@ module _ (r s : Run) (main_is : r.main ≡ s.main) (same : AreSame (IsEdge r) (I
 
 pub shown_by : (path : List ℕ) (main : Main) (E F : Edges) (rows : List Entry) (outcome : Outcome) → AreSame E F → ShowsChain path main E rows outcome → ShowsChain path main F rows outcome
 shown_by path main E F rows outcome same (inl (s, steps, entry, chain, says)) = inl (s, steps, entry, same_chain E F same chain, says)
-shown_by path main E F rows outcome same (inr unlisted) = inr unlisted
+shown_by path main E F rows outcome same (inr none) = inr none
 
 -- ---- what is printed
 

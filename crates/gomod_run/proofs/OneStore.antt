@@ -1,6 +1,6 @@
 -- A command has one outcome over stores that answer alike.
 use Rattle.std.proofs.Common.{◌≡◌, ◌∙◌, ◌∷◌, ℕ, Bool, List, [], Option, Some, None, ap, refl, subst, sym, inl, inr}
-use Rattle.gm_store.specs.Asked.{Name, Reply, absent, answer_in, bytes, too_long}
+use Rattle.gm_store.specs.Asked.{Name, Reply, absent, answer_in, bytes, list_file, mod_file, too_long}
 use Rattle.gomod_run.specs.Editing.{EditEnds}
 use Rattle.gomod_run.specs.ListingLaws.{AnswerAlike}
 use Rattle.gomod_run.specs.Outcomes.{Answers, PrintsChain, PrintsGraph, PrintsList}
@@ -9,7 +9,7 @@ use Rattle.gomod_run.specs.Outcome.{Outcome, failed}
 use Rattle.gomod_run.specs.Reports.{device_line}
 use Rattle.gomod_run.specs.Laws.{OneForStores, OneOutcome}
 use Rattle.gomod_run.specs.Runs.{FmtEnds}
-use Rattle.gomod_run.specs.Versions.{IsOutcomeByList, IsListedOutcome, IsVersionsOutcome, VersionsEnds, answered, device}
+use Rattle.gomod_run.specs.Versions.{IsOutcomeByList, IsVersionsOutcome, VersionsEnds, VersionsNeed, answered, by_latest, by_list, device, unfetchable, unfiltered}
 use Rattle.gomod_run.proofs.OneOutcome.{one_end}
 use Rattle.gomod_run.proofs.OneQueryStore.{itself}
 use Rattle.gomod_run.proofs.OnePrinted.{chain_once, graph_once, list_once}
@@ -19,42 +19,36 @@ use Rattle.gomod_words.specs.declared.usage.Command.TheVariants.{Fmt, Edit, Vers
 
 -- ---- the answers of both stores
 
--- each answer of the one is also an answer of the other
-abbrev Keeps : AnswersByName → AnswersByName → Type 0
-Keeps one other = (name : Name) (reply : Reply) → one name ≡ Some reply → other name ≡ Some reply
-
+-- the first answer, or the second if there is none
 abbrev first_of : Option Reply → Option Reply → Option Reply
 first_of (Some reply) other = Some reply
 first_of None other = other
 
-abbrev both_of : AnswersByName → AnswersByName → AnswersByName
+abbrev pub both_of : AnswersByName → AnswersByName → AnswersByName
 both_of one other name = first_of (one name) (other name)
 
-first_kept : (a b : Option Reply) (reply : Reply) → a ≡ Some reply → first_of a b ≡ Some reply
+pub first_kept : (a b : Option Reply) (reply : Reply) → a ≡ Some reply → first_of a b ≡ Some reply
 first_kept (Some x) b reply e = e
 first_kept None b reply e = cc e
 
-second_kept : (a b : Option Reply) (reply : Reply) → ((x y : Reply) → a ≡ Some x → b ≡ Some y → x ≡ y) → b ≡ Some reply → first_of a b ≡ Some reply
-second_kept (Some x) b reply alike e = ap Some (alike x reply refl e)
-second_kept None b reply alike e = e
+pub second_kept : (a b : Option Reply) (reply : Reply) → ((first : Reply) → a ≡ Some first → reply ≡ first) → b ≡ Some reply → first_of a b ≡ Some reply
+second_kept (Some x) b reply same e = ap Some (sym (same x refl))
+second_kept None b reply same e = e
 
 -- ---- `versions` with more answers
 
-listed_kept : (path : List ℕ) (all : Bool) (one other : AnswersByName) (versions : List (List ℕ)) (outcome : Outcome) → Keeps one other
-    → IsListedOutcome path all one versions outcome → IsListedOutcome path all other versions outcome
-listed_kept path all one other versions outcome keeps (inl is) = inl is
-listed_kept path all one other versions outcome keeps (inr (latest, reply, some, is, told, shows)) = inr (latest, reply, some, is, keeps _ reply told, shows)
-
-list_kept : (path : List ℕ) (all : Bool) (one other : AnswersByName) (reply : Reply) (outcome : Outcome)
-    → Keeps one other
-    → IsOutcomeByList path all one reply outcome → IsOutcomeByList path all other reply outcome
-list_kept path all one other absent outcome keeps is = is
-list_kept path all one other too_long outcome keeps is = is
-list_kept path all one other (bytes list) outcome keeps (versions, listed, is) = (versions, listed, listed_kept path all one other versions outcome keeps is)
-
-versions_kept : (path : List ℕ) (all : Bool) (one other : AnswersByName) (outcome : Outcome) → Keeps one other → IsVersionsOutcome path all one outcome → IsVersionsOutcome path all other outcome
-versions_kept path all one other outcome keeps (inl is) = inl is
-versions_kept path all one other outcome keeps (inr (reply, fetchable, told, is)) = inr (reply, fetchable, keeps _ reply told, list_kept path all one other reply outcome keeps is)
+-- An outcome of `versions` is one by all answers that keep those to the needed files.
+pub kept_outcome : (path : List ℕ) (all : Bool) (told kept : AnswersByName) → ((name : Name) (reply : Reply) → VersionsNeed path all told name → told name ≡ Some reply → kept name ≡ Some reply)
+    → (outcome : Outcome) → IsVersionsOutcome path all told outcome → IsVersionsOutcome path all kept outcome
+kept_outcome path all told kept keeps outcome (unfetchable is) = unfetchable is
+kept_outcome path all told kept keeps outcome (by_list reply may heard is) = by_list reply may (keeps (list_file path) reply (may, inl refl) heard) (by reply heard is)
+  where
+    by : (reply : Reply) → told (list_file path) ≡ Some reply → IsOutcomeByList path all told reply outcome → IsOutcomeByList path all kept reply outcome
+    by absent heard is = is
+    by too_long heard is = is
+    by (bytes list) heard (versions, listed, unfiltered every is) = (versions, listed, unfiltered every is)
+    by (bytes list) heard (versions, listed, by_latest latest reply some greatest said shows) =
+        (versions, listed, by_latest latest reply some greatest (keeps (mod_file path latest) reply (may, inr (list, versions, latest, some, heard, listed, greatest, refl)) said) shows)
 
 -- ---- `versions` over two stores
 
@@ -70,8 +64,8 @@ versions_alike path all told next a b alike failing (answered is none) (answered
     let one = answer_in told.asked in
     let other = answer_in next.asked in
     versions_once path all (both_of one other) a b
-    (versions_kept path all one (both_of one other) a (λ name reply e. first_kept (one name) (other name) reply e) is)
-    (versions_kept path all other (both_of one other) b (λ name reply e. second_kept (one name) (other name) reply (alike name) e) be)
+    (kept_outcome path all one (both_of one other) (λ name reply need e. first_kept (one name) (other name) reply e) a is)
+    (kept_outcome path all other (both_of one other) (λ name reply need e. second_kept (one name) (other name) reply (λ first f. sym (alike name first reply f e)) e) b be)
 versions_alike path all told next a b alike failing (answered is none) (device name need unanswered some tells) = absurd (no_name next.failed name some (sym failing ∙ none))
 versions_alike path all told next a b alike failing (device name need unanswered some says) (answered be nothing) = absurd (no_name told.failed name some (failing ∙ nothing))
 versions_alike path all told next a b alike failing (device name need unanswered some says) (device other needed unheard more tells) =

@@ -21,9 +21,9 @@ use Rattle.gm_graph_select.proofs.Same.{AreSame, same_back, same_build_list}
 use Rattle.gm_graph.specs.Run.{AreRows, IsEdge, IsVertex, Run, run_of}
 use Rattle.gm_graph.proofs.Mapped.{from_mapped, in_mapped}
 use Rattle.gomod_run.specs.ListingLaws.{AreGreatest, ArePrintedPages, ListIsBuildList, PrintedPagesJoin, no_row, one_page}
-use Rattle.gomod_run.specs.Outcomes.{AreFound, Given, ListEnds, Prints, PrintsList, QueryEnds, bad_main, bad_sums, device, faulty, no_fault, too_many}
+use Rattle.gomod_run.specs.Outcomes.{AreFound, Given, ListEnds, Prints, PrintsList, PrintsRows, QueryEnds, bad_main, bad_sums, device, faulty, no_fault, no_path, path_listed, path_unlisted, too_many}
 use Rattle.gomod_run.specs.Outcome.{Outcome, failed, printed, refused}
-use Rattle.gomod_run.specs.ListingTexts.{list_text}
+use Rattle.gomod_run.specs.ListingTexts.{limited, list_text}
 use Rattle.gomod_run.proofs.FewOpened.{IsFew, edges_listed}
 
 -- ---- a run that prints
@@ -44,6 +44,12 @@ printed_run prints run outcome (device main table name are due one says) is = ab
 printed_run prints run outcome (too_many main table are read over none says) is = absurd (not_refused _ outcome says is)
 printed_run prints run outcome (faulty main table first others found says) is = absurd (not_refused _ outcome says is)
 printed_run prints run outcome (no_fault main table found says) is = (main, table, found, says)
+
+-- without a path all rows are printed
+pub all_rows : (main : Main) (rows : List Entry) (limit : Option ℕ) (outcome : Outcome) → PrintsRows main rows None limit outcome → outcome ≡ printed (list_text main.path (limited limit rows))
+all_rows main rows limit outcome (no_path none says) = says
+all_rows main rows limit outcome (path_listed path others is at says) = absurd (cc is)
+all_rows main rows limit outcome (path_unlisted path is says) = absurd (cc is)
 
 -- ---- the build list of edges that are given as a relation
 
@@ -94,7 +100,7 @@ list_is_build_list run outcome is ends =
       list.selected,
       found,
       greatest (run_of main table run.told.asked) found.settled.few rows list,
-      says ∙ ap (λ (es : List Entry). printed (list_text main.path es)) list.entries_are,
+      all_rows main rows None outcome says ∙ ap (λ (es : List Entry). printed (list_text main.path es)) list.entries_are,
     )
 
 -- ---- pages
@@ -145,8 +151,8 @@ module _ (run : Given) (main : Main) (table : Option Sums) (found : AreFound run
   AreLeft (Some path) left = IsRestAfter main.path rows path left
 
   page_printed : (after : Option (List ℕ)) (left : List Entry) → AreLeft after left → ListEnds after (Some n) run (printed (list_text main.path (take n left)))
-  page_printed None left is = no_fault main table found (rows, list, ap (λ (es : List Entry). printed (list_text main.path (take n es))) is)
-  page_printed (Some path) left is = no_fault main table found (rows, list, inl (left, is, refl))
+  page_printed None left is = no_fault main table found (rows, list, no_path refl (ap (λ (es : List Entry). printed (list_text main.path (take n es))) is))
+  page_printed (Some path) left is = no_fault main table found (rows, list, path_listed path left refl is refl)
 
   paged : {left : List Entry} {pages : List (List Entry)} (after : Option (List ℕ)) → AreLeft after left → AreRowPages main.path rows n left pages → ArePrintedPages run main.path n after pages
   paged after is no_more = no_row (subst (λ (es : List Entry). ListEnds after (Some n) run (printed (list_text main.path es))) (take_none n) (page_printed after [] is))
@@ -167,5 +173,5 @@ pages_join run n whole some is ends =
       found,
       subst (λ (es : List Entry). AreRows r es) (sym joins) list,
       paged run main table found rows list n None refl paging,
-      ap (λ (o : Outcome). o.text) says ∙ ap (list_text main.path) (sym joins) ∙ texts_join main.path pages,
+      ap (λ (o : Outcome). o.text) (all_rows main rows None whole says) ∙ ap (list_text main.path) (sym joins) ∙ texts_join main.path pages,
     )

@@ -25,7 +25,7 @@ use Rattle.gomod_run.specs.Needs.{AnswersByName}
 use Rattle.gomod_run.proofs.OneRead.{misread_or_lines, one_place, same_lines}
 use Rattle.gomod_run.specs.Editing.{EditEnds, bad_main, applied, edited_in_turn, edits_outcome, refusals_from}
 use Rattle.gomod_run.specs.Runs.{FmtEnds, bad_syntax, laid_out}
-use Rattle.gomod_run.specs.Versions.{IsOutcomeByList, IsListedOutcome, IsShownOutcome, IsVersionsOutcome, IsShownBy, versions_line}
+use Rattle.gomod_run.specs.Versions.{IsListedOutcome, IsOutcomeByList, IsShownBy, IsShownOutcome, IsVersionsOutcome, by_latest, by_list, unfetchable, unfiltered, versions_line}
 use Rattle.gomod_run.proofs.Uniqueness.{latest_once, listed_once, none_latest}
 
 -- ---- fmt
@@ -106,16 +106,16 @@ not_all all versions latest (inr none) some is = none_latest latest (subst (λ (
 listed_outcome_once : (path : List ℕ) (all : Bool) (answers : AnswersByName) (versions : List (List ℕ))
     (one other : Outcome)
     → IsListedOutcome path all answers versions one → IsListedOutcome path all answers versions other → one ≡ other
-listed_outcome_once path all answers versions one other (inl a) (inl b) = a.1 ∙ sym b.1
-listed_outcome_once path all answers versions one other (inl a) (inr b) = absurd (not_all all versions b.0 a.0 b.2 b.3)
-listed_outcome_once path all answers versions one other (inr a) (inl b) = absurd (not_all all versions a.0 b.0 a.2 a.3)
-listed_outcome_once path all answers versions one other (inr a) (inr b) =
-    let latest : a.0 ≡ b.0 = latest_once versions a.0 b.0 a.3 b.3 in
-    let answered : answers (mod_file path b.0) ≡ Some a.1 = subst (λ (v : List ℕ). answers (mod_file path v) ≡ Some a.1) latest a.4 in
-    let reply : a.1 ≡ b.1 = same_answer (answers (mod_file path b.0)) a.1 b.1 answered b.4 in
-    let P : List ℕ → Type 0 = λ v. IsShownOutcome path versions v a.1 one in
-    let Q : Reply → Type 0 = λ r. IsShownOutcome path versions b.0 r one in
-    shown_once path versions b.0 b.1 one other (subst Q reply (subst P latest a.5)) b.5
+listed_outcome_once path all answers versions one other (unfiltered every says) (unfiltered whole tells) = says ∙ sym tells
+listed_outcome_once path all answers versions one other (unfiltered every says) (by_latest latest reply some is told shows) = absurd (not_all all versions latest every some is)
+listed_outcome_once path all answers versions one other (by_latest latest reply some is told shows) (unfiltered every says) = absurd (not_all all versions latest every some is)
+listed_outcome_once path all answers versions one other (by_latest v r some is told shows) (by_latest w s few be heard prints) =
+    let latest : v ≡ w = latest_once versions v w is be in
+    let answered : answers (mod_file path w) ≡ Some r = subst (λ (v : List ℕ). answers (mod_file path v) ≡ Some r) latest told in
+    let reply : r ≡ s = same_answer (answers (mod_file path w)) r s answered heard in
+    let P : List ℕ → Type 0 = λ v. IsShownOutcome path versions v r one in
+    let Q : Reply → Type 0 = λ r. IsShownOutcome path versions w r one in
+    shown_once path versions w s one other (subst Q reply (subst P latest shows)) prints
 
 list_once : (path : List ℕ) (all : Bool) (answers : AnswersByName) (reply : Reply) (one other : Outcome)
     → IsOutcomeByList path all answers reply one → IsOutcomeByList path all answers reply other → one ≡ other
@@ -127,9 +127,9 @@ list_once path all answers (bytes list) one other a b =
 
 pub versions_once : (path : List ℕ) (all : Bool) (answers : AnswersByName) (one other : Outcome)
     → IsVersionsOutcome path all answers one → IsVersionsOutcome path all answers other → one ≡ other
-versions_once path all answers one other (inl a) (inl b) = a.1 ∙ sym b.1
-versions_once path all answers one other (inl a) (inr b) = let e = sym a.0 ∙ b.1 in absurd (cc)
-versions_once path all answers one other (inr a) (inl b) = let e = sym b.0 ∙ a.1 in absurd (cc)
-versions_once path all answers one other (inr a) (inr b) =
+versions_once path all answers one other (unfetchable (isnt, says)) (unfetchable (not, tells)) = says ∙ sym tells
+versions_once path all answers one other (unfetchable (isnt, says)) (by_list reply may told is) = let e = sym isnt ∙ may in absurd (cc)
+versions_once path all answers one other (by_list reply may told is) (unfetchable (isnt, says)) = let e = sym isnt ∙ may in absurd (cc)
+versions_once path all answers one other (by_list r may told is) (by_list s can heard be) =
     let P : Reply → Type 0 = λ r. IsOutcomeByList path all answers r one in
-    list_once path all answers b.0 one other (subst P (same_answer (answers (list_file path)) a.0 b.0 a.2 b.2) a.3) b.3
+    list_once path all answers s one other (subst P (same_answer (answers (list_file path)) r s told heard) is) be

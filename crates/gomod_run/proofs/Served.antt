@@ -1,6 +1,7 @@
 -- How a command ends that was served with what was read for it.
 use Rattle.std.proofs.Common.{◌≡◌, ◌≢◌, ◌∙◌, ◌∷◌, ℕ, zero, suc, arith, Contains, IfErr, IfOk, List, [], MatchResult, Option, Some, None, Result, Ok, Err, ap, codes, inl, inr, option_map, refl, subst, sym}
 use Rattle.std.proofs.lemmas.Bool.Decides.{eqb_tells}
+use Rattle.std.proofs.lemmas.Str.{IsUtf8-nil}
 use Rattle.std.specs.Global.{Vec}
 use Rattle.std.specs.Result.{IsErr, IsErrAnd}
 use Rattle.std.specs.String.{string_bytes}
@@ -15,14 +16,14 @@ use Rattle.gm_store.specs.declared.fallback.proxy_list.ProxyList.{ProxyList}
 use Rattle.gomod_words.specs.declared.usage.Command.{Command}
 use Rattle.gomod_words.specs.declared.usage.Command.TheVariants.{Fmt, Edit, Versions, Graph, List as Rows, Chain}
 use Rattle.gomod_words.specs.declared.usage.Places.{Places}
-use Rattle.gomod_run.specs.Outcomes.{longest}
+use Rattle.gomod_run.specs.Outcomes.{Answers, longest}
 use Rattle.gomod_run.specs.Outcome.{OrNoMemory, Outcome, code_of, report_outcome}
 use Rattle.gomod_run.specs.declared.reports.report.Report.{Report}
 use Rattle.gomod_run.specs.declared.reports.status.Status.{Status}
 use Rattle.gomod_run.specs.declared.inputs.Inputs.{Inputs}
 use Rattle.gomod_run.specs.Program.{IsInputServed, IsMainServed, IsServed, IsStoreRun, IsSumsServed, IsVersionsServed, MayBeTold, untaken}
 use Rattle.gomod_run.specs.Reads.{AreBothRead, AreInputs, AreSumsInput, AreSumsUnread, HoldsInput, HoldsNothing, IsOneUnread, IsStoreFolder, IsUnreadInput, IsUnreadList, versions_path, with_proxy}
-use Rattle.gomod_run.specs.Runs.{RunEnds, run_between}
+use Rattle.gomod_run.specs.Runs.{RunEnds, run_between, told_between}
 use Rattle.gomod_run.specs.Written.{EndsAsStated, IsWritten}
 use Rattle.gomod_run.proofs.Endings.{ends_weaken, input_weaken, store_weaken}
 
@@ -38,25 +39,25 @@ sums_passed_on may_open places main told (Err passed) none same may is =
 sums_passed_on may_open places main told (Ok inputs) none same may is = absurd (cc none)
 
 -- a query that runs with what was read of the named go.sum
-sums_served : (may_open : List ℕ → Opening → Type 0) (may_answer : Name → Reply → Type 0) (command : Command) (name : Option (List ℕ)) (main : List ℕ) (sums : Option (Vec ℕ)) (outcome : Outcome)
-    → AreSumsInput may_open name sums → IsStoreRun may_answer command main (option_map (λ sums. sums.items) sums) outcome → IsSumsServed may_open may_answer command name main outcome
-sums_served may_open may_answer command None main None outcome read runs = runs
-sums_served may_open may_answer command (Some name) main (Some sums) outcome read runs = (Ok sums, read, runs)
-sums_served may_open may_answer command None main (Some sums) outcome read runs = absurd read
-sums_served may_open may_answer command (Some name) main None outcome read runs = absurd read
+sums_served : (may_open : List ℕ → Opening → Type 0) (may_be_told : Answers → Type 0) (command : Command) (name : Option (List ℕ)) (main : List ℕ) (sums : Option (Vec ℕ)) (outcome : Outcome)
+    → AreSumsInput may_open name sums → IsStoreRun may_be_told command main (option_map (λ sums. sums.items) sums) outcome → IsSumsServed may_open may_be_told command name main outcome
+sums_served may_open may_be_told command None main None outcome read runs = runs
+sums_served may_open may_be_told command (Some name) main (Some sums) outcome read runs = (Ok sums, read, runs)
+sums_served may_open may_be_told command None main (Some sums) outcome read runs = absurd read
+sums_served may_open may_be_told command (Some name) main None outcome read runs = absurd read
 
 -- a query that ends because the named go.sum can't be read
-sums_unserved : (may_open : List ℕ → Opening → Type 0) (may_answer : Name → Reply → Type 0) (command : Command) (name : Option (List ℕ)) (main : List ℕ) (outcome : Outcome)
-    → AreSumsUnread may_open name outcome → IsSumsServed may_open may_answer command name main outcome
-sums_unserved may_open may_answer command None main outcome is = absurd is
-sums_unserved may_open may_answer command (Some name) main outcome (fault, may, is) = (Err fault, may, is)
+sums_unserved : (may_open : List ℕ → Opening → Type 0) (may_be_told : Answers → Type 0) (command : Command) (name : Option (List ℕ)) (main : List ℕ) (outcome : Outcome)
+    → AreSumsUnread may_open name outcome → IsSumsServed may_open may_be_told command name main outcome
+sums_unserved may_open may_be_told command None main outcome is = absurd is
+sums_unserved may_open may_be_told command (Some name) main outcome (fault, may, is) = (Err fault, may, is)
 
 -- a query that ends because one of its files can't be read
-one_unserved : (may_open : List ℕ → Opening → Type 0) (may_answer : Name → Reply → Type 0) (command : Command) (places : Places) (outcome : Outcome)
-    → IsOneUnread may_open places outcome → IsMainServed may_open may_answer command (string_bytes places.main) (option_map string_bytes places.sums) outcome
-one_unserved may_open may_answer command places outcome (inl (fault, may, is)) = (Err fault, may, is)
-one_unserved may_open may_answer command places outcome (inr both) =
-    (Ok both.0, both.1, sums_unserved may_open may_answer command (option_map string_bytes places.sums) both.0.items outcome both.2)
+one_unserved : (may_open : List ℕ → Opening → Type 0) (may_be_told : Answers → Type 0) (command : Command) (places : Places) (outcome : Outcome)
+    → IsOneUnread may_open places outcome → IsMainServed may_open may_be_told command (string_bytes places.main) (option_map string_bytes places.sums) outcome
+one_unserved may_open may_be_told command places outcome (inl (fault, may, is)) = (Err fault, may, is)
+one_unserved may_open may_be_told command places outcome (inr both) =
+    (Ok both.0, both.1, sums_unserved may_open may_be_told command (option_map string_bytes places.sums) both.0.items outcome both.2)
 
 -- ---- the folder of the main file
 
@@ -91,13 +92,13 @@ same_run command inputs main sums old new same_main same_sums outcome runs =
 -- a command over proxy folders
 pub folders_served : (may_open : List ℕ → Opening → Type 0) (command : Command) (places : Places) (folders : ProxyList) (folder : List ℕ) (inputs : Inputs) (old new : StoreState)
     → AreInputs may_open command places inputs → IsStoreFolder command (string_bytes places.main) folder
-    → ((name : Name) (reply : Reply) → Contains new.asked (name, reply) → MayBeTold may_open folder (Some folders) name reply)
+    → MayBeTold may_open folder (Some folders) (told_between old new)
     → (outcome : Outcome) → RunEnds command (run_between inputs.main.items (option_map (λ sums. sums.items) inputs.sums) old new) outcome → IsServed may_open untaken command (with_proxy places (Some folders)) outcome
 folders_served may_open Fmt places folders folder inputs old new read is told outcome runs = (Ok inputs.main, read.0, runs)
 folders_served may_open (Edit operations) places folders folder inputs old new read is told outcome runs = (Ok inputs.main, read.0, runs)
 folders_served may_open (Versions path all) places folders folder inputs old new read is told outcome runs =
     store_weaken (MayBeTold may_open (codes ".") (Some folders)) (Versions path all) [] None old new
-    (λ name reply k. subst (λ (folder : List ℕ). MayBeTold may_open folder (Some folders) name reply) is (told name reply k)) outcome runs
+    (subst (λ (folder : List ℕ). MayBeTold may_open folder (Some folders) (told_between old new)) is told) outcome runs
 folders_served may_open Graph places folders folder inputs old new read is told outcome runs = (
   folder,
   is,
@@ -145,7 +146,7 @@ query_in_memory may_open command places inputs before after read empty allowed f
   read.0,
   sums_served may_open (MayBeTold may_open folder None) command (option_map string_bytes places.sums) inputs.main.items inputs.sums outcome read.1
       (store_weaken (MayBeTold may_open folder None) command inputs.main.items (option_map (λ sums. sums.items) inputs.sums) (memory_files_state before) (memory_files_state after)
-      (empty_told before (pairs_of after) empty allowed) outcome runs),
+      (empty_told before (pairs_of after) empty allowed, refl) outcome runs),
 )
 
 -- a command but `versions`, over an empty store
@@ -288,7 +289,7 @@ stopped_ends may_open may_take command places told out mid out' report between r
     let run' = subst (IsRun may_open may_take command places out mid report between) is run in
     let P : SinkState → Type 0 = λ report. IsWritten (report_outcome told) mid out' report report' status in
     let Q : SinkState → Type 0 = λ out. IsWritten (report_outcome told) out out' report report' status in
-    record { outcome = report_outcome told; as_stated = run'.unread; written = subst Q run'.no_text (subst P run'.no_report written) }
+    record { outcome = report_outcome told; as_stated = run'.unread; utf8 = IsUtf8-nil; written = subst Q run'.no_text (subst P run'.no_report written) }
 
 -- the end of a command that was served
 pub served_ends : (may_open : List ℕ → Opening → Type 0) (may_take : Opening → Type 0) (command : Command) (places : Places) (out mid report between report' : SinkState) (served : Result Status Report) (status : Status)

@@ -25,7 +25,7 @@ use Rattle.gm_store.specs.States.{HasServed, StoreState}
 use Rattle.gomod_run.specs.Needs.{AnswersByName, AskedInTurn, FailsInTurn}
 use Rattle.gomod_run.proofs.InTurn.{IsWanted, none_in_turn}
 use Rattle.gomod_run.specs.Runs.{ComesTo, run_between, told_between}
-use Rattle.gomod_run.specs.Versions.{IsEndByList, IsRefusedList, IsShownBy, IsShownOutcome, IsUnfetchable, IsVersionsOutcome, NeedsFile, VersionsEnds, VersionsNeed, answered, device, versions_line}
+use Rattle.gomod_run.specs.Versions.{IsEndByList, IsRefusedList, IsShownBy, IsShownOutcome, IsUnfetchable, IsVersionsOutcome, NeedsFile, VersionsEnds, VersionsNeed, answered, by_latest, by_list, device, unfetchable, unfiltered, versions_line}
 use Rattle.gomod_words.specs.declared.usage.Command.TheVariants.{Versions}
 use Rattle.gomod_run.proofs.Answering.{file_answer, list_answer}
 use Rattle.gomod_run.proofs.AllAsked.{done_if_memory}
@@ -65,7 +65,7 @@ module _ (path : List ℕ) (all : Bool) where
     sound_end same is = answered is (none_failed old.refused new.refused same)
 
     pub ends_unfetchable : is_fetchable path ≡ false → new.refused ≡ old.refused → output ≡ refused (list_line path (codes "NotFetchable")) → Ends
-    ends_unfetchable not same is = sound_end same (inl (not, is))
+    ends_unfetchable not same is = sound_end same (unfetchable (not, is))
 
     pub ends_device_list : is_fetchable path ≡ true → new.asked ≡ [] → output ≡ failed (device_line (list_file path))
         → new.refused ≡ old.refused ++ list_file path ∷ [] → Ends
@@ -79,16 +79,16 @@ module _ (path : List ℕ) (all : Bool) where
 
     pub ends_missing : is_fetchable path ≡ true → new.asked ≡ (list_file path, absent) ∷ [] → new.refused ≡ old.refused
         → output ≡ refused (list_line path (codes "Missing")) → Ends
-    ends_missing fetchable asked same is = sound_end same (inr (absent, fetchable, list_is absent asked, is))
+    ends_missing fetchable asked same is = sound_end same (by_list absent fetchable (list_is absent asked) is)
 
     pub ends_too_long : is_fetchable path ≡ true → new.asked ≡ (list_file path, too_long) ∷ [] → new.refused ≡ old.refused
         → output ≡ refused (list_line path (codes "TooLong")) → Ends
-    ends_too_long fetchable asked same is = sound_end same (inr (too_long, fetchable, list_is too_long asked, is))
+    ends_too_long fetchable asked same is = sound_end same (by_list too_long fetchable (list_is too_long asked) is)
 
     pub ends_all : (list : List ℕ) (versions : List (List ℕ)) → is_fetchable path ≡ true → AreListed path list versions → (all ≡ true) ⊎ (versions ≡ [])
         → new.asked ≡ (list_file path, bytes list) ∷ [] → new.refused ≡ old.refused → output ≡ printed (versions_line path versions) → Ends
     ends_all list versions fetchable listed every asked same is =
-        sound_end same (inr (bytes list, fetchable, list_is (bytes list) asked, (versions, listed, inl (every, is))))
+        sound_end same (by_list (bytes list) fetchable (list_is (bytes list) asked) (versions, listed, unfiltered every is))
 
     -- the go.mod of the latest version is needed and not answered
     file_wanted : (list : List ℕ) (versions : List (List ℕ)) (latest : List ℕ) → is_fetchable path ≡ true → all ≡ false
@@ -119,12 +119,8 @@ module _ (path : List ℕ) (all : Bool) where
         → new.refused ≡ old.refused → IsShownOutcome path versions latest reply output → Ends
     ends_shown list versions latest reply fetchable some listed latest_is asked same is =
         sound_end same
-        (inr (
-          bytes list,
-          fetchable,
-          both_list list latest reply asked,
-          (versions, listed, inr (latest, reply, some, latest_is, both_file list latest reply asked, is)),
-        ))
+        (by_list (bytes list) fetchable (both_list list latest reply asked)
+        (versions, listed, by_latest latest reply some latest_is (both_file list latest reply asked) is))
 
 -- ---- what the store's device failed on
 
@@ -188,15 +184,15 @@ IsPrinted path all list outcome = (versions : List (List ℕ)) × AreListed path
     × (outcome ≡ printed (versions_line path versions))
 
 -- the outcome if only the list was asked for
-by_list : (path : List ℕ) (all : Bool) (old new : StoreState) (reply : Reply) (outcome : Outcome) → is_fetchable path ≡ true
+by_reply : (path : List ℕ) (all : Bool) (old new : StoreState) (reply : Reply) (outcome : Outcome) → is_fetchable path ≡ true
     → new.asked ≡ (list_file path, reply) ∷ [] → new.refused ≡ old.refused
     → IsEndByList (λ list. OrNoMemory (IsPrinted path all list)) path reply outcome
     → OrNoMemory (VersionsEnds path all (told_between old new)) outcome
-by_list path all old new absent outcome fetchable asked still is = inl (ends_missing path all old new outcome fetchable asked still is)
-by_list path all old new too_long outcome fetchable asked still is = inl (ends_too_long path all old new outcome fetchable asked still is)
-by_list path all old new (bytes list) outcome fetchable asked still (inl (versions, listed, every, is)) =
+by_reply path all old new absent outcome fetchable asked still is = inl (ends_missing path all old new outcome fetchable asked still is)
+by_reply path all old new too_long outcome fetchable asked still is = inl (ends_too_long path all old new outcome fetchable asked still is)
+by_reply path all old new (bytes list) outcome fetchable asked still (inl (versions, listed, every, is)) =
     inl (ends_all path all old new outcome list versions fetchable listed every asked still is)
-by_list path all old new (bytes list) outcome fetchable asked still (inr memory) = inr memory
+by_reply path all old new (bytes list) outcome fetchable asked still (inr memory) = inr memory
 
 -- an end by one kind of outcome of a list is one by another
 ends_wider : (One Other : List ℕ → Outcome → Type 0) (path : List ℕ) (reply : Reply) (outcome : Outcome) → ((list : List ℕ) → One list outcome → Other list outcome)
@@ -249,7 +245,7 @@ module _ (path : List ℕ) (all : Bool) (old : StoreState) (first : old.asked �
     -- nothing else was asked
     listed_run : (outcome : Outcome) → IsEndByList (λ list. OrNoMemory (IsPrinted path all list)) path reply outcome → IsVersionsRun path all old mid outcome
     listed_run outcome is = record {
-      ends = by_list path all old mid reply outcome fetchable only_list heard.1 is;
+      ends = by_reply path all old mid reply outcome fetchable only_list heard.1 is;
       device = unrefused old mid outcome heard.1;
       no_list = refused_as (λ list. OrNoMemory (IsPrinted path all list)) path (answer_in mid.asked) reply outcome fetchable (list_is path all old mid outcome reply only_list) is;
       in_turn = list_in_turn path all mid.asked reply fetchable only_list;

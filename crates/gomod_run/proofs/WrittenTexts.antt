@@ -1,12 +1,16 @@
 -- How a text, a report or a usage error was written.
 use Rattle.std.proofs.Common.{◌≡◌, ℕ, List, MatchResult, Result, Ok, Err, inl, inr, refl, subst}
+use Rattle.std.specs.Str.{IsUtf8}
+use Rattle.std.proofs.lemmas.Str.{IsUtf8-nil, IsUtf8-string_bytes}
 use Rattle.gm_store.specs.Taken.{SinkState}
 use Rattle.gm_store.specs.declared.sinks.WriteFault.{WriteFault}
 use Rattle.gomod_run.proofs.Takings.{took_nothing}
 use Rattle.gomod_run.specs.Outcome.{Outcome, code_of, printed, report_outcome, report_status, report_text}
 use Rattle.gomod_run.specs.Taking.{Took, TookAll, TookPrefix}
 use Rattle.gomod_run.specs.declared.reports.report.Report.{Report}
-use Rattle.gomod_run.specs.Program.{usage_error}
+use Rattle.gomod_run.specs.Program.{usage_error, usage_outcome}
+use Rattle.gomod_words.specs.declared.usage.UsageFault.{UsageFault}
+use Rattle.gomod_words.specs.declared.usage.UsageFault.TheVariants.{NoMemory, Help, Version, Line, BadPath, BadProxy}
 use Rattle.gomod_run.specs.Written.{EndsAsStated, IsWritten}
 
 -- ---- texts and reports
@@ -44,9 +48,17 @@ pub written_as : (one other : Outcome) (out out' report report' : SinkState) (st
 written_as one other out out' report report' status same written =
     subst (λ (outcome : Outcome). IsWritten outcome out out' report report' status) same written
 
--- an end with one outcome
-pub ends_with : (one other : Outcome) (out out' report report' : SinkState) (status : ℕ) → one ≡ other
-    → IsWritten one out out' report report' status
-    → EndsAsStated (λ outcome. outcome ≡ other) out out' report report' status
-ends_with one other out out' report report' status same written =
-    record { outcome = one; as_stated = inl same; written = written }
+usage_utf8 : (fault : UsageFault) → IsUtf8 (usage_outcome fault).text
+usage_utf8 NoMemory = IsUtf8-nil
+usage_utf8 (Help text) = IsUtf8-string_bytes text
+usage_utf8 (Version text) = IsUtf8-string_bytes text
+usage_utf8 (Line text) = IsUtf8-nil
+usage_utf8 (BadPath text) = IsUtf8-nil
+usage_utf8 (BadProxy text) = IsUtf8-nil
+
+-- an end with a usage error, or with help or the version
+pub usage_ends : (fault : UsageFault) (out out' report report' : SinkState) (status : ℕ)
+    → IsWritten (usage_outcome fault) out out' report report' status
+    → EndsAsStated (λ outcome. outcome ≡ usage_outcome fault) out out' report report' status
+usage_ends fault out out' report report' status written =
+    record { outcome = usage_outcome fault; as_stated = inl refl; utf8 = usage_utf8 fault; written = written }

@@ -5,7 +5,7 @@ use Rattle.gm_store.specs.Asked.{Name, Reply, answer_in}
 use Rattle.gm_store.specs.States.{StoreState}
 use Rattle.gm_store_sums.specs.Sums.{Sums}
 use Rattle.gm_file.specs.Main.{Main}
-use Rattle.gm_graph.specs.Run.{IsNeeded, IsRead, Run}
+use Rattle.gm_graph.specs.Run.{IsNeeded, IsRead}
 use Rattle.gomod_run.specs.Outcomes.{FilesReadAs}
 
 -- what a store answered
@@ -39,10 +39,6 @@ FailsInTurn needs old new =
 
 -- ---- what `graph`, `list` and `chain` need
 
--- the run with these answers so far
-abbrev pub run_by : Main → Option Sums → AnswersByName → Run
-run_by main table answers = record { main = main; sums = table; answers = answers }
-
 -- The bytes are those of a valid main module's file, and of a valid go.sum if one is given. The name is that of the
 -- go.mod of a module which these files and the answers so far open, and which may be asked for. If the main file or
 -- the go.sum is invalid, no file is needed.
@@ -50,5 +46,5 @@ pub record GraphNeeds (file : List ℕ) (sums : Option (List ℕ)) (answers : An
   pub main : Main
   pub table : Option Sums
   pub read : FilesReadAs file sums main table
-  pub known : IsRead (run_by main table answers)
-  pub needed : IsNeeded (run_by main table answers) name
+  pub known : IsRead (record { main = main; sums = table; answers = answers })
+  pub needed : IsNeeded (record { main = main; sums = table; answers = answers }) name

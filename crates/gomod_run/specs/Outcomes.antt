@@ -125,13 +125,18 @@ GraphEnds = QueryEnds PrintsGraph
 abbrev pub IsUnlisted : Main → List Entry → List ℕ → Outcome → Type 0
 IsUnlisted main rows path outcome = ¬ (HasEntryFor main.path rows path) × (outcome ≡ refused (not_listed_line path))
 
--- all rows, or only those after the row of a path; and of these the first `limit`, if there is a limit
-abbrev pub PrintsRows : Main → List Entry → Option (List ℕ) → Option ℕ → Outcome → Type 0
-PrintsRows main rows None limit outcome = outcome ≡ printed (list_text main.path (limited limit rows))
-PrintsRows main rows (Some path) limit outcome =
-    ((rest : List Entry) × IsRestAfter main.path rows path rest
-    × (outcome ≡ printed (list_text main.path (limited limit rest))))
-    ⊎ IsUnlisted main rows path outcome
+-- What `list` prints of these rows: of those named, the first `limit`, if there is a limit.
+pub data PrintsRows (main : Main) (rows : List Entry) (after : Option (List ℕ)) (limit : Option ℕ) (outcome : Outcome)
+    : Type 0 where
+  -- no path is given: all rows
+  no_path : after ≡ None → outcome ≡ printed (list_text main.path (limited limit rows))
+      → PrintsRows main rows after limit outcome
+  -- the path has a row: the rows after it
+  path_listed : (path : List ℕ) (others : List Entry) → after ≡ Some path → IsRestAfter main.path rows path others
+      → outcome ≡ printed (list_text main.path (limited limit others)) → PrintsRows main rows after limit outcome
+  -- the path has no row, which is reported
+  path_unlisted : (path : List ℕ) → after ≡ Some path → IsUnlisted main rows path outcome
+      → PrintsRows main rows after limit outcome
 
 -- what `list` prints of the build list
 abbrev pub PrintsList : Option (List ℕ) → Option ℕ → Prints

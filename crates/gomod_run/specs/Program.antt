@@ -57,31 +57,32 @@ abbrev pub IsInputOutcome : Command → List ℕ → List ℕ → Outcome → Ty
 IsInputOutcome command path list outcome = (asked : List (Name × Reply)) × AreOfOneFile (list_file path) list asked
     × RunEnds command (given [] None (answers asked [])) outcome
 
--- In what follows `may_open` says what may come of opening the file at a path. This one is of a file system of which
--- nothing is known.
+-- In what follows `may_open` relates a path to what may come of opening the file there, and `may_take` says what may
+-- come of taking standard input.
+
+-- Anything may come of opening the file at a path.
 abbrev pub anything : List ℕ → Opening → Type 0
 anything path opening = Unit {0}
 
--- In what follows `may_take` says what may come of taking standard input. This one is of one of which nothing is known,
--- and the next of one that is not taken.
+-- Anything may come of taking standard input.
 abbrev pub any_input : Opening → Type 0
 any_input opening = Unit {0}
 
+-- Standard input is not taken.
 abbrev pub untaken : Opening → Type 0
 untaken opening = ⊥
 
--- the answers that proxy folders may give to a name, with this folder of the main file; if there are none, each file
--- is absent
-abbrev pub MayBeTold : (List ℕ → Opening → Type 0) → List ℕ → Option ProxyList → Name → Reply → Type 0
-MayBeTold may_open main None name reply = reply ≡ absent
-MayBeTold may_open main (Some folders) name reply =
-    MayAnswer may_open main (folders_in folders) (marks_in folders) name reply
+-- what proxy folders may answer, with this folder of the main file; their device may have failed. Without proxy folders
+-- each file is absent, and no device fails.
+abbrev pub MayBeTold : (List ℕ → Opening → Type 0) → List ℕ → Option ProxyList → Told → Type 0
+MayBeTold may_open main None told =
+    ((name : Name) (reply : Reply) → Contains told.asked (name, reply) → reply ≡ absent) × (told.failed ≡ [])
+MayBeTold may_open main (Some folders) told = (name : Name) (reply : Reply) → Contains told.asked (name, reply)
+    → MayAnswer may_open main (folders_in folders) (marks_in folders) name reply
 
--- a command over the bytes of the main file, those of a go.sum if one is given, and answers that a store may give to
--- the names that it was asked for; its device may have failed
-abbrev pub IsStoreRun : (Name → Reply → Type 0) → Command → List ℕ → Option (List ℕ) → Outcome → Type 0
-IsStoreRun may_answer command main sums outcome = (told : Told)
-    × ((name : Name) (reply : Reply) → Contains told.asked (name, reply) → may_answer name reply)
+-- a command over the bytes of the main file, those of a go.sum if one is given, and what a store may answer
+abbrev pub IsStoreRun : (Told → Type 0) → Command → List ℕ → Option (List ℕ) → Outcome → Type 0
+IsStoreRun may_be_told command main sums outcome = (told : Told) × may_be_told told
     × RunEnds command (given main sums told) outcome
 
 -- `versions PATH` without proxy folders: standard input is read as the module's list, or can't be
@@ -99,19 +100,19 @@ IsVersionsServed may_open may_take command path (Some folders) outcome =
     IsStoreRun (MayBeTold may_open (codes ".") (Some folders)) command [] None outcome
 
 -- the go.sum is read if one is named
-abbrev pub IsSumsServed : (List ℕ → Opening → Type 0) → (Name → Reply → Type 0) → Command → Option (List ℕ) → List ℕ
+abbrev pub IsSumsServed : (List ℕ → Opening → Type 0) → (Told → Type 0) → Command → Option (List ℕ) → List ℕ
     → Outcome → Type 0
-IsSumsServed may_open may_answer command None main outcome = IsStoreRun may_answer command main None outcome
-IsSumsServed may_open may_answer command (Some name) main outcome = (read : Result (Vec ℕ) InputFault)
+IsSumsServed may_open may_be_told command None main outcome = IsStoreRun may_be_told command main None outcome
+IsSumsServed may_open may_be_told command (Some name) main outcome = (read : Result (Vec ℕ) InputFault)
     × MayRead (may_open name) read
-    × IsReadOutcome name (λ sums outcome. IsStoreRun may_answer command main (Some sums) outcome) read outcome
+    × IsReadOutcome name (λ sums outcome. IsStoreRun may_be_told command main (Some sums) outcome) read outcome
 
 -- the main file is read, then the go.sum
-abbrev pub IsMainServed : (List ℕ → Opening → Type 0) → (Name → Reply → Type 0) → Command → List ℕ
-    → Option (List ℕ) → Outcome → Type 0
-IsMainServed may_open may_answer command name sums outcome = (read : Result (Vec ℕ) InputFault)
+abbrev pub IsMainServed : (List ℕ → Opening → Type 0) → (Told → Type 0) → Command → List ℕ → Option (List ℕ)
+    → Outcome → Type 0
+IsMainServed may_open may_be_told command name sums outcome = (read : Result (Vec ℕ) InputFault)
     × MayRead (may_open name) read
-    × IsReadOutcome name (λ main outcome. IsSumsServed may_open may_answer command sums main outcome) read outcome
+    × IsReadOutcome name (λ main outcome. IsSumsServed may_open may_be_told command sums main outcome) read outcome
 
 -- the same with the answers that the named proxy folders may give
 abbrev pub IsQueryServed : (List ℕ → Opening → Type 0) → Command → Places → Outcome → Type 0

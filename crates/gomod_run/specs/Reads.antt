@@ -71,16 +71,19 @@ IsUnreadInput may_open (Edit operations) places outcome = IsFileUnread may_open 
 IsUnreadInput may_open (Versions path all) places outcome = ⊥
 IsUnreadInput may_open _ places outcome = IsOneUnread may_open places outcome
 
--- the folder that a store on disk takes local folders from: that of the main file with this name. `versions`, which
--- has no main file, names none.
-abbrev pub IsStoreFolder : Command → List ℕ → List ℕ → Type 0
-IsStoreFolder (Versions path all) main folder = folder ≡ codes "."
-IsStoreFolder _ main folder = IsFolderOf main folder
-
 -- the module whose versions a command lists: no other than `versions` lists any
 abbrev pub versions_path : Command → Option (List ℕ)
 versions_path (Versions path all) = Some path
 versions_path _ = None
+
+-- the folder that a store on disk takes local folders from: that of the main file with this name; or the current one,
+-- if the versions of a module are listed, since there is no main file then
+abbrev pub IsFolderFor : Option (List ℕ) → List ℕ → List ℕ → Type 0
+IsFolderFor (Some path) main folder = folder ≡ codes "."
+IsFolderFor None main folder = IsFolderOf main folder
+
+abbrev pub IsStoreFolder : Command → List ℕ → List ℕ → Type 0
+IsStoreFolder command main folder = IsFolderFor (versions_path command) main folder
 
 -- the store has what was read of standard input, as the list of the versions of the module with this path, and nothing
 -- else

@@ -37,13 +37,13 @@ pub record IsShownOutcome (path : List ℕ) (versions : List (List ℕ)) (latest
 
 -- the listed versions: all of them if all are asked for or there are none, otherwise according to the latest one's
 -- go.mod
-abbrev pub IsListedOutcome : List ℕ → Bool → AnswersByName → List (List ℕ) → Outcome → Type 0
-IsListedOutcome path all answers versions outcome =
-    (((all ≡ true) ⊎ (versions ≡ [])) × (outcome ≡ printed (versions_line path versions)))
-    ⊎ ((latest : List ℕ) × (reply : Reply) × (all ≡ false)
-    × IsLatest versions latest
-    × (answers (mod_file path latest) ≡ Some reply)
-    × IsShownOutcome path versions latest reply outcome)
+pub data IsListedOutcome (path : List ℕ) (all : Bool) (answers : AnswersByName) (versions : List (List ℕ))
+    (outcome : Outcome) : Type 0 where
+  unfiltered : (all ≡ true) ⊎ (versions ≡ []) → outcome ≡ printed (versions_line path versions)
+      → IsListedOutcome path all answers versions outcome
+  by_latest : (latest : List ℕ) (reply : Reply) → all ≡ false → IsLatest versions latest
+      → answers (mod_file path latest) ≡ Some reply → IsShownOutcome path versions latest reply outcome
+      → IsListedOutcome path all answers versions outcome
 
 -- a proxy can't have the module, which is reported
 abbrev pub IsUnfetchable : List ℕ → Outcome → Type 0
@@ -70,11 +70,10 @@ IsRefusedList path answers outcome = IsUnfetchable path outcome
     × IsEndByList (λ list outcome. ⊥) path reply outcome)
 
 -- `versions PATH`: the path is checked first, then the list, then the go.mod of the latest version
-abbrev pub IsVersionsOutcome : List ℕ → Bool → AnswersByName → Outcome → Type 0
-IsVersionsOutcome path all answers outcome = IsUnfetchable path outcome
-    ⊎ ((reply : Reply) × (is_fetchable path ≡ true)
-    × (answers (list_file path) ≡ Some reply)
-    × IsOutcomeByList path all answers reply outcome)
+pub data IsVersionsOutcome (path : List ℕ) (all : Bool) (answers : AnswersByName) (outcome : Outcome) : Type 0 where
+  unfetchable : IsUnfetchable path outcome → IsVersionsOutcome path all answers outcome
+  by_list : (reply : Reply) → is_fetchable path ≡ true → answers (list_file path) ≡ Some reply
+      → IsOutcomeByList path all answers reply outcome → IsVersionsOutcome path all answers outcome
 
 -- the go.mod of the latest version is needed: not all versions are asked for, and the list has some
 abbrev pub NeedsFile : List ℕ → Bool → AnswersByName → Name → Type 0

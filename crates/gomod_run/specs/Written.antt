@@ -21,12 +21,9 @@ IsWritten outcome out out' report report' status =
     (WroteBoth outcome.text outcome.report out out' report report' × (status ≡ outcome.status))
     ⊎ (WrotePrefix outcome.text outcome.report out out' report report' × (status ≡ 3))
 
--- such an outcome, whose text is UTF-8
-abbrev pub InUtf8 : (Outcome → Type 0) → Outcome → Type 0
-InUtf8 stated outcome = stated outcome × IsUtf8 outcome.text
-
--- one of the stated outcomes was written in this way, or the report that memory ran out
+-- One of the stated outcomes was written in this way, or the report that memory ran out. Its text is UTF-8.
 pub record EndsAsStated (stated : Outcome → Type 0) (out out' report report' : SinkState) (status : ℕ) : Type 0 where
   pub outcome : Outcome
   pub as_stated : OrNoMemory stated outcome
+  pub utf8 : IsUtf8 outcome.text
   pub written : IsWritten outcome out out' report report' status

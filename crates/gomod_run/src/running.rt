@@ -4,7 +4,7 @@ ghost use Rattle.std.specs.Prelude.{◌≡◌, [], None, false};
 ghost use Rattle.std.specs.Option.{option_map};
 ghost use Rattle.gomod_run.specs.Outcome.{code_of};
 ghost use Rattle.gomod_run.specs.Runs.{HoldsAtAnyEnd, RunEnds, is_query, run_between};
-ghost use Rattle.gomod_run.specs.Written.{EndsAsStated, InUtf8, IsWritten};
+ghost use Rattle.gomod_run.specs.Written.{EndsAsStated, IsWritten};
 
 use crate::outcome::outcome;
 use crate::reports::status::Status;
@@ -70,8 +70,8 @@ pub fn run<F: Asks, O: Sink, R: Sink>(
     requires no_sums { is_query command.now ≡ false → option_map (λ sums. sums.now) sums ≡ None }
     // How a run of each command ends, or memory runs out. All asks and all allocations come before the first byte is
     // written, so a report never follows part of a text.
-    ensures ends { EndsAsStated (InUtf8 (RunEnds command.now
-        (run_between main.now (option_map (λ sums. sums.now) sums.entry) (F.state files.old) (F.state files.new))))
+    ensures ends { EndsAsStated (RunEnds command.now
+        (run_between main.now (option_map (λ sums. sums.now) sums.entry) (F.state files.old) (F.state files.new)))
         (O.state out.old) (O.state out.new) (R.state report.old) (R.state report.new) (code_of result) }
     // However it ends: which files are asked for, that the answers are the store's own, and what is reported whatever the
     // memory. `fmt` and `edit` need no file. `graph`, `list` and `chain` need the go.mod files of the opened modules, and

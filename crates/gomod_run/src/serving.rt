@@ -2,7 +2,6 @@
 //! input for `versions`, and over an empty store for another command.
 
 ghost use Rattle.std.specs.Prelude.{◌≡◌, IfErr, IfOk, None, Some};
-ghost use Rattle.std.specs.Option.{option_map};
 ghost use Rattle.gomod_run.specs.Outcome.{OrNoMemory, code_of, report_outcome};
 ghost use Rattle.gomod_run.specs.Program.{IsInputServed, IsServed, untaken};
 ghost use Rattle.gomod_run.specs.Reads.{versions_path, with_proxy};
@@ -13,7 +12,7 @@ use crate::inputs::read_inputs;
 use crate::reports::report::Report;
 use crate::reports::status::Status;
 use crate::running::run;
-use crate::stores::{folders_of, list_store, store_folder};
+use crate::stores::{folders_of, list_store, store_folder, versions_path};
 use crate::writing::write_report;
 use gm_name::ModPath;
 use gm_store::{FileSystem, MemoryFiles, ProxyList, Sink, StandardInput};
@@ -108,20 +107,6 @@ fn over_input<'a, S: StandardInput + Alloc<A = Global>, O: Sink, R: Sink>(
 {
     let mut files = list_store(rt, path)?;
     Ok(run(rt.alloc(), command, &[], None, &mut files, out, report))
-}
-
-/// The path of the module whose versions a command lists, or `None` if it is not `versions`.
-fn versions_path(command: &Command) -> Option<&ModPath>
-    ensures { option_map (λ path. path.now) result ≡ versions_path command.now }
-{
-    match command {
-        Command::Versions { path, .. } => Some(path),
-        Command::Fmt => None,
-        Command::Edit(_) => None,
-        Command::Graph => None,
-        Command::List { .. } => None,
-        Command::Chain(_) => None,
-    }
 }
 
 /// The status of a command that was run; or, if something could not be read, that of its report, which is written.

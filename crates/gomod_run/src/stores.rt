@@ -1,15 +1,17 @@
 //! The store of a command: proxy folders on disk, or standard input as the list of a module.
 
-ghost use Rattle.std.specs.Prelude.{◌≡◌, IfErr, IfOk, Ok, Some, [], codes};
+ghost use Rattle.std.specs.Prelude.{◌≡◌, IfErr, IfOk, Ok, [], codes};
+ghost use Rattle.std.specs.Option.{option_map};
 ghost use Rattle.std.specs.String.{string_bytes};
 ghost use Rattle.gm_store.specs.Asked.{Name, Reply, list_file};
 ghost use Rattle.gm_store.specs.Memory.{pairs_of};
 ghost use Rattle.gm_store.specs.Views.{asked_by};
+ghost use Rattle.gm_store.specs.DiskAnswers.{MayAnswer};
 ghost use Rattle.gm_store.specs.Openings.{MayRead};
+ghost use Rattle.gm_store.specs.Proxies.{folders_in, marks_in};
 ghost use Rattle.gomod_run.specs.Outcome.{OrNoMemory, report_outcome};
 ghost use Rattle.gomod_run.specs.Held.{HoldsOne};
-ghost use Rattle.gomod_run.specs.Program.{MayBeTold};
-ghost use Rattle.gomod_run.specs.Reads.{HoldsInput, IsStoreFolder, IsUnreadList};
+ghost use Rattle.gomod_run.specs.Reads.{HoldsInput, IsStoreFolder, IsUnreadList, versions_path};
 
 use crate::inputs::unread_report;
 use crate::reports::report::Report;
@@ -21,18 +23,28 @@ use gm_store::{
 use gomod_words::Command;
 use std::alloc::Global;
 
+/// The path of the module whose versions a command lists, or `None` if it is not `versions`.
+pub(crate) fn versions_path(command: &Command) -> Option<&ModPath>
+    ensures { option_map (λ path. path.now) result ≡ versions_path command.now }
+{
+    match command {
+        Command::Versions { path, .. } => Some(path),
+        Command::Fmt => None,
+        Command::Edit(_) => None,
+        Command::Graph => None,
+        Command::List { .. } => None,
+        Command::Chain(_) => None,
+    }
+}
+
 /// The folder that local folders of a store on disk are relative to: that of the main file with this name, or the
 /// current one for `versions`, which has no main file.
 pub(crate) fn store_folder(alloc: Global, command: &Command, main: &str) -> Result<String, NoMemory>
     ensures { IfOk result (λ folder. IsStoreFolder command.now main.now (string_bytes folder)) }
 {
-    match command {
-        Command::Versions { .. } => current_folder(alloc),
-        Command::Fmt => folder_of(alloc, main),
-        Command::Edit(_) => folder_of(alloc, main),
-        Command::Graph => folder_of(alloc, main),
-        Command::List { .. } => folder_of(alloc, main),
-        Command::Chain(_) => folder_of(alloc, main),
+    match versions_path(command) {
+        Some(_) => current_folder(alloc),
+        None => folder_of(alloc, main),
     }
 }
 
@@ -53,7 +65,7 @@ pub(crate) fn folders_of<S: FileSystem + Copy + Drop + Alloc<A = Global>>(
     ensures asked { asked_by result ≡ [] }
     ensures answers { (name : Name) (reply : Reply)
         → ⟦<FolderReader<S> as Asks>⟧.may_answer result name reply
-        → MayBeTold (S.may_open rt.now) (string_bytes main) (Some folders) name reply }
+        → MayAnswer (S.may_open rt.now) (string_bytes main) (folders_in folders) (marks_in folders) name reply }
 {
     FolderReader::new(*rt, rt.alloc(), main, folders)
 }

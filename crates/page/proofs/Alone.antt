@@ -1,5 +1,5 @@
 -- Nothing else is printed: if no opened module has a fault, the whole list is the only outcome.
-use Rattle.std.proofs.Common.{◌≡◌, ◌∙◌, ◌↔◌, ◌≤◌, ℕ, List, [], ◌∷◌, Some, None, Result, Ok, Err, Contains, ap, ap₂, arith, inl, inr, length, map, refl, subst, sym, suc}
+use Rattle.std.proofs.Common.{◌≡◌, ◌∙◌, ◌↔◌, ◌≤◌, ℕ, List, [], ◌∷◌, Option, Some, None, Result, Ok, Err, Contains, ap, ap₂, arith, inl, inr, length, map, refl, subst, sym, suc}
 use Rattle.std.specs.Prelude.{AllPairs}
 use Rattle.std.specs.Cmp.{IsTotalOrder, on_total}
 use Rattle.std.specs.Cmp.Lexicographic.{nat_list_cmp_total}
@@ -14,7 +14,7 @@ use Rattle.page.specs.Main.{Main}
 use Rattle.page.specs.ModuleVersion.{ModuleVersion}
 use Rattle.page.specs.Order.{IsAscending}
 use Rattle.page.specs.Outcome.{Outcome, printed}
-use Rattle.page.specs.Outcomes.{ListEnds, PrintsList, bad_main, bad_sums, device, faulty, no_fault, too_many}
+use Rattle.page.specs.Outcomes.{ListEnds, PrintsList, bad_main, bad_sums, device, faulty, no_fault, no_path, path_listed, path_unlisted, too_many}
 use Rattle.page.specs.Run.{AreFaults, AreRows, AreTooMany, IsOpened, Run, Says, run_of}
 use Rattle.page.specs.Types.{Class, Fault, Misreading}
 use Rattle.page.specs.Worlds.{given_by}
@@ -88,6 +88,9 @@ no_main main place e = cc e
 same_main : (a b : Main) → ◌≡◌ {A = Result Main (ℕ × Misreading)} (Ok a) (Ok b) → a ≡ b
 same_main a b e = cc e
 
+no_path_given : (path : List ℕ) → ◌≡◌ {A = Option (List ℕ)} None (Some path) → ⊥
+no_path_given path e = cc e
+
 no_names : (name : Name) → ◌≡◌ {A = List Name} [] (name ∷ []) → ⊥
 no_names name e = cc e
 
@@ -114,7 +117,9 @@ module _ (content : List ℕ) (main : Main) (asked : List (Name × Reply)) (is_m
     none_faulty first others faults = let is = (faults.each first).0 (member_head first others) in sound first.vertex first.class is.0 is.1
 
     printed_by : (outcome : Outcome) → PrintsList None None run outcome → outcome ≡ printed (list_text main.path rows)
-    printed_by outcome (others, have, is) = is ∙ ap (λ (es : List Entry). printed (list_text main.path es)) (one_list others rows have are)
+    printed_by outcome (others, have, no_path none is) = is ∙ ap (λ (es : List Entry). printed (list_text main.path es)) (one_list others rows have are)
+    printed_by outcome (others, have, path_listed path rest some after is) = absurd (no_path_given path some)
+    printed_by outcome (others, have, path_unlisted path some is) = absurd (no_path_given path some)
 
     pub alone : (outcome : Outcome) → ListEnds None None (given_by content asked) outcome → outcome ≡ printed (list_text main.path rows)
     alone outcome (bad_main place misread unasked is) = absurd (no_main main place (sym is_main ∙ misread))

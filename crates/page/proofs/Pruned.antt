@@ -1,18 +1,20 @@
 -- The list below the pruned main file.
 use Rattle.std.proofs.Common.{◌≡◌, ◌∙◌, true, false, List, [], ◌∷◌, Some, None, Ok, Contains, ap, arith, codes, inl, inr, refl, subst, sym}
 use Rattle.std.specs.List.{AllByRecursion, IsDistinct}
+use Rattle.std.specs.Ordering.{is_gt}
 use Rattle.std.proofs.lemmas.Bool.{false≢true}
 use Rattle.page.specs.Asked.{names_in, same_name}
-use Rattle.page.specs.BuildList.{Entry, HasEntryFor, IsSelected, entry_of, main_entry, path_of}
+use Rattle.page.specs.BuildList.{Entry, HasEntryFor, IsRestAfter, IsSelected, entry_of, main_entry, path_of}
 use Rattle.page.specs.Fields.{Dependency}
 use Rattle.page.specs.Files.{end_file, end_one, folder_says, low_nine, main_file, main_text, mid_file, mid_nine, mid_ten, own_one, top_file, top_one}
 use Rattle.page.specs.Graph.{IsEdgeEnd}
 use Rattle.page.specs.Main.{is_pruned_by, without_excluded}
 use Rattle.page.specs.ModuleVersion.{ModuleVersion}
-use Rattle.page.specs.Outcomes.{AreFound, no_fault}
+use Rattle.page.specs.Outcomes.{AreFound, no_fault, no_path, path_listed, path_unlisted}
 use Rattle.page.specs.Path.{is_fetchable}
 use Rattle.page.specs.Run.{AreRows, IsDeep, IsEdge, IsNeeded, IsOpened, IsSettled, IsTop, Requires, Run, Says, answered, from_deep, from_main, from_top, run_of, sound}
 use Rattle.page.specs.Types.{Main as FromMain, Of}
+use Rattle.page.specs.Version.{version_cmp}
 use Rattle.page.specs.Worlds.{PrunedIsListed, given_by, pruned_answers}
 use Rattle.page.proofs.Alone.{alone}
 use Rattle.page.proofs.Ending.{HasNone, IsNoGreater, found, greatest, sound_if_opened, rows_are, settled}
@@ -233,8 +235,11 @@ top_selected = record {
   );
 }
 
+ten_is_greater : is_gt (version_cmp mid_ten.1 mid_nine.1) ≡ true
+ten_is_greater = refl
+
 nine_is_less : Selects mid_nine → ⊥
-nine_is_less is = false≢true (sym (is.greatest mid_ten (Of top_one, (inl top_is_top, top_requires)) refl))
+nine_is_less is = false≢true (sym (is.greatest mid_ten (Of top_one, (inl top_is_top, top_requires)) refl) ∙ ten_is_greater)
 
 abbrev all_rows : List Entry
 all_rows = main_entry ∷ entry_of main_file.replaces end_one ∷ entry_of main_file.replaces low_nine ∷ entry_of main_file.replaces mid_ten
@@ -251,28 +256,26 @@ not_listed (entry, there, is) = each_member (λ (entry : Entry). path_of (codes 
     ((λ e. differ _ _ refl e), ((λ e. differ _ _ refl e), ((λ e. differ _ _ refl e), ((λ e. differ _ _ refl e), ((λ e. differ _ _ refl e), tt)))))
     entry there is
 
+abbrev before_low : List Entry
+before_low = main_entry ∷ entry_of main_file.replaces end_one ∷ []
+
+rest_after_low : IsRestAfter (codes "m") all_rows (codes "low.org") (entry_of main_file.replaces mid_ten ∷ entry_of main_file.replaces top_one ∷ [])
+rest_after_low = (
+  entry_of main_file.replaces low_nine,
+  record {
+    before = before_low;
+    parts = refl;
+    path_is = refl;
+    others = λ other there. each_member (λ (other : Entry). path_of (codes "m") other.0 ≡ codes "low.org" → ⊥) before_low
+        ((λ e. differ _ _ refl e), ((λ e. differ _ _ refl e), tt)) other there;
+  },
+)
+
 pub pruned_is_listed : PrunedIsListed
 pruned_is_listed = record {
-  whole = no_fault main_file None is_found (_, rows, refl);
+  whole = no_fault main_file None is_found (_, rows, no_path refl refl);
   only = alone main_text main_file pruned_answers refl opened opened_in (omega arith) (sound_if_opened main_file pruned_answers opened opened_in none_faulty) _ rows;
-  limited = no_fault main_file None is_found (_, rows, refl);
-  after = no_fault main_file None is_found (
-    _,
-    rows,
-    inl (
-      _,
-      (
-        _,
-        record {
-          before = main_entry ∷ entry_of main_file.replaces end_one ∷ [];
-          parts = refl;
-          path_is = refl;
-          others = λ other there. each_member (λ (other : Entry). path_of (codes "m") other.0 ≡ codes "low.org" → ⊥) (main_entry ∷ entry_of main_file.replaces end_one ∷ [])
-              ((λ e. differ _ _ refl e), ((λ e. differ _ _ refl e), tt)) other there;
-        },
-      ),
-      refl,
-    ),
-  );
-  unlisted = no_fault main_file None is_found (_, rows, inr (not_listed, refl));
+  limited = no_fault main_file None is_found (_, rows, no_path refl refl);
+  after = no_fault main_file None is_found (_, rows, path_listed (codes "low.org") _ refl rest_after_low refl);
+  unlisted = no_fault main_file None is_found (_, rows, path_unlisted (codes "b.org") refl (not_listed, refl));
 }

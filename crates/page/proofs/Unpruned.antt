@@ -6,7 +6,7 @@ use Rattle.page.specs.BuildList.{IsSelected, entry_of, main_entry}
 use Rattle.page.specs.Files.{low_file, low_nine, short_file, mid_nine, old_file, old_text}
 use Rattle.page.specs.Graph.{IsEdgeEnd}
 use Rattle.page.specs.ModuleVersion.{ModuleVersion}
-use Rattle.page.specs.Outcomes.{AreFound, no_fault}
+use Rattle.page.specs.Outcomes.{AreFound, no_fault, no_path}
 use Rattle.page.specs.Path.{is_fetchable}
 use Rattle.page.specs.Run.{AreRows, IsDeep, IsEdge, IsNeeded, IsOpened, IsSettled, IsTop, Requires, Run, Says, answered, from_deep, from_main, from_top, run_of, sound}
 use Rattle.page.specs.Types.{Main as FromMain, Of}
@@ -131,6 +131,6 @@ rows = rows_are old_file unpruned_answers opened opened_in opened top_in leads_d
 
 pub unpruned_is_listed : UnprunedIsListed
 unpruned_is_listed = record {
-  whole = no_fault old_file None is_found (_, rows, refl);
+  whole = no_fault old_file None is_found (_, rows, no_path refl refl);
   only = alone old_text old_file unpruned_answers refl opened opened_in (omega arith) (sound_if_opened old_file unpruned_answers opened opened_in none_faulty) _ rows;
 }

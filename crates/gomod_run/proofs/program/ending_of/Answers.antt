@@ -1,4 +1,5 @@
 use Rattle.std.proofs.Common.{inr, refl, rules}
+use Rattle.std.proofs.lemmas.Str.{IsUtf8-nil}
 use Rattle.gomod_run.specs.Outcome.{out_of_memory}
 use Rattle.gomod_run.proofs.Endings.{program_ends, unreadable_ends}
 use Rattle.gomod_run.proofs.program.ending_of.Goals as goal
@@ -16,5 +17,6 @@ pub returns : goal.returns
 returns g c = record {
   outcome = out_of_memory;
   as_stated = inr refl;
+  utf8 = IsUtf8-nil;
   written = c.write_report.ensures (g.O.Sink.state c.args.out.now);
 }

@@ -1,8 +1,7 @@
 use Rattle.std.proofs.Common.{map, refl}
 use Rattle.gomod_run.specs.Outcome.{code_of}
-use Rattle.gomod_run.specs.Program.{usage_outcome}
 use Rattle.gomod_run.proofs.Endings.{fault_ends, words_end}
-use Rattle.gomod_run.proofs.WrittenTexts.{ends_with}
+use Rattle.gomod_run.proofs.WrittenTexts.{usage_ends}
 use Rattle.gomod_run.proofs.program.ending_of_words.Goals as goal
 
 pub returns-in-Ok : goal.returns-in-Ok
@@ -14,4 +13,4 @@ pub returns-in-Err : goal.returns-in-Err
 returns-in-Err g c =
     fault_ends (g.S.FileSystem.may_open c.args.rt.now) (g.S.StandardInput.may_take c.args.rt.now) (map (λ word. word.now) c.args.words.now) c.in-Err.fault _ _ _ _ _
     c.in-Err.ensures.fault
-    (ends_with (usage_outcome c.in-Err.fault) (usage_outcome c.in-Err.fault) _ _ _ _ _ refl c.tell.ensures)
+    (usage_ends c.in-Err.fault _ _ _ _ _ c.tell.ensures)

@@ -1,4 +1,4 @@
-use Rattle.std.proofs.Common.{ap, inl, inr}
+use Rattle.std.proofs.Common.{ap}
 use Rattle.std.specs.Option.{option_map}
 use Rattle.std.specs.String.{string_bytes}
 use Rattle.gomod_run.specs.Outcome.{printed, report_outcome}
@@ -14,7 +14,8 @@ returns-in-Ok-clause-ends g c =
     let report = g.R.Sink.state c.args.report.now in
     record {
       outcome = printed (string_bytes c.in-Ok.text);
-      as_stated = elim c.in-Ok.ensures.ends [ inl stated ↦ inl (stated, IsUtf8-string_bytes c.in-Ok.text) | inr memory ↦ inr memory ];
+      as_stated = c.in-Ok.ensures.ends;
+      utf8 = IsUtf8-string_bytes c.in-Ok.text;
       written = written_as (printed c.as_str.result.now) (printed (string_bytes c.in-Ok.text)) _ _ report report _
           (ap printed c.as_str.ensures.value) (c.print_text.ensures report);
     }
@@ -31,7 +32,8 @@ returns-in-Ok-clause-holds g c =
 pub returns-in-Err-clause-ends : goal.returns-in-Err-clause-ends
 returns-in-Err-clause-ends g c = record {
   outcome = report_outcome c.in-Err.told;
-  as_stated = elim c.in-Err.ensures.ends [ inl stated ↦ inl (stated, IsUtf8-nil) | inr memory ↦ inr memory ];
+  as_stated = c.in-Err.ensures.ends;
+  utf8 = IsUtf8-nil;
   written = c.write_report.ensures (g.O.Sink.state c.args.out.now);
 }
 

@@ -26,5 +26,5 @@ returns-clause-ends g c =
     let new = fallback_state c.run.new.files in
     ends_weaken _ _ _ _ _ _ _ (λ outcome runs. folders_served may_open c.args.command.now c.args.places.now c.args.folders folder c.in_ok-read.read old new
     c.in_ok-read.ensures is (λ name reply k. c.folders_of-files.ensures.answers name reply (may_all _ _ old new c.folders_of-files.ensures.asked c.run.ensures.holds.served name reply k)) outcome
-    (same_run c.args.command.now c.in_ok-read.read c.as_slice-main.result.now (option_map (λ sums. sums.now) c.sums.result) old new c.as_slice-main.ensures.value c.sums.ensures outcome runs.0))
+    (same_run c.args.command.now c.in_ok-read.read c.as_slice-main.result.now (option_map (λ sums. sums.now) c.sums.result) old new c.as_slice-main.ensures.value c.sums.ensures outcome runs))
     c.run.ensures.ends

@@ -24,5 +24,5 @@ returns-clause-ends g c =
     let old = memory_files_state c.in_ok-files.files in
     let new = memory_files_state c.run.new.files in
     ends_weaken _ _ _ _ _ _ _ (λ outcome runs. input_served (g.S.StandardInput.may_take c.args.rt.now) c.args.command.now c.args.path.now c.in_ok-files.files c.run.new.files c.requires
-    c.in_ok-files.ensures.held (may_all _ _ old new c.in_ok-files.ensures.asked c.run.ensures.holds.served) outcome runs.0)
+    c.in_ok-files.ensures.held (may_all _ _ old new c.in_ok-files.ensures.asked c.run.ensures.holds.served) outcome runs)
     c.run.ensures.ends

@@ -22,5 +22,5 @@ returns-clause-ends g c =
     let new = memory_files_state c.run.new.files in
     ends_weaken _ _ _ _ _ _ _ (λ outcome runs. memory_served (g.S.FileSystem.may_open c.args.rt.now) c.args.command.now c.args.places.now c.in_ok-read.read c.new-files.result c.run.new.files
     c.requires c.in_ok-read.ensures c.new-files.ensures.empty (may_all _ _ old new c.new-files.ensures.asked c.run.ensures.holds.served) outcome
-    (same_run c.args.command.now c.in_ok-read.read c.as_slice-main.result.now (option_map (λ sums. sums.now) c.sums.result) old new c.as_slice-main.ensures.value c.sums.ensures outcome runs.0))
+    (same_run c.args.command.now c.in_ok-read.read c.as_slice-main.result.now (option_map (λ sums. sums.now) c.sums.result) old new c.as_slice-main.ensures.value c.sums.ensures outcome runs))
     c.run.ensures.ends
