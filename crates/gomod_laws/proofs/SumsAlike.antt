@@ -19,7 +19,7 @@ use Rattle.gomod_run.specs.Needs.{GraphNeeds}
 use Rattle.gomod_run.specs.Outcome.{Outcome, refused}
 use Rattle.gomod_run.specs.Reports.{too_many_line}
 use Rattle.gomod_run.specs.Runs.{is_query}
-use Rattle.gomod_run.proofs.OneRead.{misread_or_main, misread_or_sums, one_main}
+use Rattle.gomod_run.proofs.OneRead.{misread_or_main, misread_or_sums, one_main, one_says}
 use Rattle.gomod_run.proofs.QueryParts.{query_ends}
 use Rattle.gomod_words.specs.declared.usage.Command.{Command}
 use Rattle.gomod_words.specs.declared.usage.Command.TheVariants.{Fmt, Edit, Versions, Graph, List as Rows, Chain}
@@ -42,18 +42,6 @@ says_too : (one other path version hash : List ℕ) (sum : Sum) → HaveSame one
 says_too one other path version hash Unlisted same is = λ h there. is h ((same h).1 there)
 says_too one other path version hash Differs same is = (is.0, (same is.0).0 is.1, is.2)
 says_too one other path version hash Good same is = ((same hash).0 is.0, λ h there. is.1 h ((same h).1 there))
-
--- a text says one thing of a hash
-one_says : (text path version hash : List ℕ) (a b : Sum) → SumSays text path version hash a → SumSays text path version hash b → a ≡ b
-one_says text path version hash Unlisted Unlisted is be = refl
-one_says text path version hash Unlisted Differs is be = absurd (is be.0 be.1)
-one_says text path version hash Unlisted Good is be = absurd (is hash be.0)
-one_says text path version hash Differs Unlisted is be = absurd (be is.0 is.1)
-one_says text path version hash Differs Differs is be = refl
-one_says text path version hash Differs Good is be = absurd (is.2 (be.1 is.0 is.1))
-one_says text path version hash Good Unlisted is be = absurd (be hash is.0)
-one_says text path version hash Good Differs is be = absurd (be.2 (is.1 be.0 be.1))
-one_says text path version hash Good Good is be = refl
 
 -- the same for a file, which has no hash if it comes from no proxy
 abbrev HaveSameFor : List ℕ → List ℕ → Name → Type 0
