@@ -3,6 +3,7 @@ use Rattle.std.proofs.Common.{◌≡◌, ◌∙◌, ◌∷◌, ℕ, true, false,
 use Rattle.std.specs.Ordering.{is_gt}
 use Rattle.std.specs.declared.cmp.Ordering.{Ordering}
 use Rattle.std.proofs.lemmas.Bool.{false≢true}
+use Rattle.std.proofs.lemmas.Option.{same_Some}
 use Rattle.gm_name.specs.Version.{IsVersion}
 use Rattle.gm_file.specs.Directives.{VersionInterval, pair}
 use Rattle.gm_file.specs.Shown.{is_at_most, is_retracted, shown_of}
@@ -70,13 +71,10 @@ module _ (asked : List (Name × Reply)) (one other : Outcome) (law : LeavesOutRe
       line_says_versions (codes "a.b") law.shown known (from_all law.versions law.shown listed_are_versions law.unretracted) are
       (same_text (versions_line (codes "a.b") law.shown) (versions_line (codes "a.b") known) (sym law.one_prints ∙ is))
 
-same_answer : (a b : Reply) → Some a ≡ Some b → a ≡ b
-same_answer a b e = cc e
-
 -- the latest version's file retracts one thing
 retracts_once : (asked : List (Name × Reply)) (path version : List ℕ) (xs ys : List VersionInterval) → Retracts asked path version xs → Retracts asked path version ys → xs ≡ ys
 retracts_once asked path version xs ys (reply, file, answered, finds, are) (other, also, known, says, is) =
-    let same : reply ≡ other = same_answer reply other (sym answered ∙ known) in
+    let same : reply ≡ other = same_Some reply other (sym answered ∙ known) in
     one_retracted other xs ys (subst (λ (r : Reply). AreRetractedBy r xs) same are) is
 
 is_none : {A : Type 0} (x : A) (xs : List A) → x ∷ xs ≡ [] → ⊥

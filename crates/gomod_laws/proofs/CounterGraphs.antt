@@ -22,6 +22,7 @@ use Rattle.gomod_run.specs.ListingTexts.{chain_text, graph_text, list_text}
 use Rattle.gomod_run.proofs.GraphLines.{text_says_edges, text_says_steps}
 use Rattle.gomod_run.proofs.ListLines.{cut_at, path_has_no_feed}
 use Rattle.gomod_run.proofs.OneRead.{one_main}
+use Rattle.gomod_run.proofs.PrintedList.{all_rows}
 use Rattle.gomod_run.proofs.RunNames.{end_name, run_has_names, run_has_proper_edges}
 use Rattle.gomod_run.proofs.ShortestChain.{chain_walk}
 use Rattle.gomod_laws.specs.Counterexamples.{a_one, graph_of_a}
@@ -171,7 +172,7 @@ pub list_is_of_another_graph : ListIsOfAnotherGraph
 list_is_of_another_graph path run chain (main, table, edges, rows, found, exact, one) =
     let here_edges : Edges = IsEdge (run_of main table run.told.asked) in
     let are : AreRows (run_of main table run.told.asked) rows = same_build_list main.path main.replaces (among edges) here_edges rows (λ t y. exact.each (edge t y)) one.build_list in
-    let (own, same) = rows_are run main table rows found are ((Of b_one, None) ∷ []) with_b_proper (sym (same_text (codes "m\nb.c v1.0.0\n") (list_text main.path rows) one.list_is)) in
+    let (own, same) = rows_are run main table rows found are ((Of b_one, None) ∷ []) with_b_proper (sym (same_text (codes "m\nb.c v1.0.0\n") (list_text main.path rows) (all_rows main rows None (printed (codes "m\nb.c v1.0.0\n")) one.list_is))) in
     let there : Contains rows (Of b_one, None) = subst (λ (es : List Entry). Contains es (Of b_one, None)) (sym same) (member_tail main_entry (Of b_one, None) ((Of b_one, None) ∷ []) (member_head (Of b_one, None) [])) in
     let (s, end) = rows_are_ends main.path main.replaces edges rows one.build_list b_one None there in
     b_is_no_end edges s (edges_are run main table edges found exact own one.graph_is) end

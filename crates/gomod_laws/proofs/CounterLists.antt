@@ -1,5 +1,5 @@
 -- What the laws on `list` conclude is false of lists that contradict them.
-use Rattle.std.proofs.Common.{◌≡◌, ◌∙◌, ◌∷◌, ◌++◌, ℕ, false, List, [], Option, Some, None, Contains, ap, append_assoc, append-nil, arith, codes, inl, inr, length, map, refl, subst, sym}
+use Rattle.std.proofs.Common.{◌≡◌, ◌∙◌, ◌∷◌, ◌++◌, ℕ, false, List, [], Option, Some, None, Contains, ap, append-nil, arith, codes, inl, inr, length, map, refl, subst, sym}
 use Rattle.std.specs.Prelude.{nat_lt}
 use Rattle.std.specs.List.{AllByRecursion, flat_map}
 use Rattle.std.specs.Ordering.{is_gt}
@@ -33,7 +33,7 @@ use Rattle.gomod_laws.specs.Counterexamples.{a_one, list_of_a}
 use Rattle.gomod_laws.specs.CounterListings.{IsRequiredBy, MainIsMissing, PageHasAnotherRow, PageIsMissing, PartHasAnotherRow, PartIsTheWhole, PartIsTooLong, PathIsTwice, RequiredHasNoRow, RowIsNotRequired, RowIsTooLow, RowsAreUnordered, a_two, b_one}
 use Rattle.gomod_laws.proofs.Contradicted.{a_is_path, b_is_path, other_name}
 use Rattle.gomod_laws.proofs.KnownVersions.{one_one_is, one_one_is_above, one_zero_is}
-use Rattle.gomod_laws.proofs.PrintedRow.{limited_member, printed_rows}
+use Rattle.gomod_laws.proofs.PrintedRow.{limited_member, printed_rows, spread_main}
 use Rattle.gomod_laws.proofs.ShownTexts.{same_text}
 
 -- ---- lists of rows
@@ -89,9 +89,6 @@ b_is_no_row there = elim (member_cases main_entry (row_at b_one) (row_at a_one �
 
 pub m_lacks : Lacks 10 (codes "m")
 m_lacks = ((λ e. omega (arith, e)), tt)
-
-spread_main : (main rest : List ℕ) → ((main ++ []) ++ codes "\n") ++ rest ≡ main ++ (10 ∷ rest)
-spread_main main rest = append_assoc (main ++ []) (codes "\n") rest ∙ ap (λ (m : List ℕ). m ++ (10 ∷ rest)) (append-nil main)
 
 -- the first line is that of the main module
 own_path : (main rest text : List ℕ) → IsPath main → ((main ++ []) ++ codes "\n") ++ rest ≡ codes "m" ++ (10 ∷ text) → main ≡ codes "m"

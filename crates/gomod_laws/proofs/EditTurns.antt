@@ -28,7 +28,8 @@ use Rattle.gomod_words.specs.Usage.{texts_in}
 use Rattle.gomod_laws.specs.Runs.{IsEdited}
 use Rattle.gomod_laws.proofs.FormattingBlanks.{no_fault_again, same_said}
 use Rattle.gomod_laws.proofs.FormattingProofs.{not_printed}
-use Rattle.gomod_laws.proofs.FormattingRead.{layout_read, read_document}
+use Rattle.gomod_run.proofs.FolderNames.{read_document}
+use Rattle.gomod_laws.proofs.FormattingRead.{layout_read}
 use Rattle.std.proofs.lemmas.Option.{same_Some}
 
 abbrev pub Refusal : Type 0

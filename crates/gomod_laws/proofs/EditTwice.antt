@@ -8,7 +8,7 @@ use Rattle.gm_syntax.specs.Tokens.{Placed}
 use Rattle.gm_file_edit.specs.Edited.{edited}
 use Rattle.gm_file_edit.specs.Edits.{edit_in}
 use Rattle.gm_file_edit.proofs.Twice.{second-operation}
-use Rattle.gomod_run.specs.Outcome.{Outcome, refused}
+use Rattle.gomod_run.specs.Outcome.{Outcome}
 use Rattle.gomod_words.specs.Usage.{texts_in}
 use Rattle.gomod_words.specs.declared.usage.Command.TheVariants.{Edit}
 use Rattle.gomod_run.specs.Editing.{EditEnds, applied, bad_main, edits_outcome, refusal_of, refusals_from}
@@ -18,6 +18,7 @@ use Rattle.gomod_laws.specs.EditTwiceLaws.{LastTwiceIsOnce, RefuseALater, Repeat
 use Rattle.gomod_laws.specs.Runs.{HasPrinted}
 use Rattle.gomod_laws.proofs.Ended.{Ends}
 use Rattle.gomod_laws.proofs.EditTurns.{AreSoundLines, IsTaken, Refusal, first_taken, none_parts, numbered, read_sound, refusals_append, taken_edit, turned, turned_append, turned_first, turned_sound}
+use Rattle.gomod_laws.proofs.VersionRuns.{refusal_prints_nothing}
 
 -- an operation that is given twice leaves what it leaves if it is given once
 turns_same : (earlier : List (List ℕ)) (text : List ℕ) (later : List (List ℕ)) (lines : List (Line Placed)) → refusals_from 1 (earlier ++ text ∷ []) ≡ [] → AreSoundLines lines
@@ -150,12 +151,9 @@ runs_alike once twice file first second repeats one two =
     let same : found.second ≡ second = edit_once (texts_in twice) file found.second second states two in
     subst (AreAlike repeats.earlier repeats.operation repeats.later first) same found.alike
 
-not_both : (outcome : Outcome) (report : List ℕ) → outcome ≡ refused report → HasPrinted outcome → ⊥
-not_both outcome report is prints = let e : 1 ≡ 0 = sym (ap (λ (o : Outcome). o.status) is) ∙ prints in omega (arith, e)
-
 none_refused : (number : ℕ) (first second : Outcome) → RefuseALater number first second → HasPrinted first ⊎ HasPrinted second → ⊥
-none_refused number first second later (inl prints) = not_both first (edit_line later.refusal) later.refused_once prints
-none_refused number first second later (inr prints) = not_both second (edit_line (one_later later.refusal)) later.refused_twice prints
+none_refused number first second later (inl prints) = refusal_prints_nothing first (edit_line later.refusal) later.refused_once prints
+none_refused number first second later (inr prints) = refusal_prints_nothing second (edit_line (one_later later.refusal)) later.refused_twice prints
 
 pub twice_prints_as_once : TwicePrintsAsOnce
 twice_prints_as_once once twice file first second repeats one two prints = elim (runs_alike once twice file first second repeats one.0 two.0) [

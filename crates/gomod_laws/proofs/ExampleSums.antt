@@ -6,21 +6,11 @@ use Rattle.gm_store_sums.specs.Sums.{IsSum, Says}
 use Rattle.gm_store_sums.specs.declared.sum_table.Sum.{Sum}
 use Rattle.gm_store_sums.specs.declared.sum_table.Sum.TheVariants.{Good, Unlisted, Differs}
 use Rattle.gm_graph_select.proofs.Ascending.{member_cases, no_member}
+use Rattle.gomod_run.proofs.OneRead.{one_says}
 use Rattle.gomod_laws.specs.ExampleSums.{SaysOnly, SumsSay, one_sum, two_sums}
 use Rattle.gomod_laws.proofs.KnownVersions.{first_byte}
 
 -- ---- a go.sum says one thing of a hash
-
-one_says : (text path version hash : List ℕ) (a b : Sum) → Says text path version hash a → Says text path version hash b → a ≡ b
-one_says text path version hash Good Good x y = refl
-one_says text path version hash Good Unlisted x y = absurd (y hash x.0)
-one_says text path version hash Good Differs x (other, is, not_hash) = absurd (not_hash (x.1 other is))
-one_says text path version hash Unlisted Good x y = absurd (x hash y.0)
-one_says text path version hash Unlisted Unlisted x y = refl
-one_says text path version hash Unlisted Differs x (other, is, not_hash) = absurd (x other is)
-one_says text path version hash Differs Good (other, is, not_hash) y = absurd (not_hash (y.1 other is))
-one_says text path version hash Differs Unlisted (other, is, not_hash) y = absurd (y other is)
-one_says text path version hash Differs Differs x y = refl
 
 says_only : (text version hash : List ℕ) (sum : Sum) → Says text (codes "a.b") version hash sum → SaysOnly text version hash sum
 says_only text version hash sum is other = (

@@ -432,7 +432,7 @@ list_is_printed = record {
     rows,
     rows_are,
     path_listed (codes "m") (low_row ∷ mid_row ∷ top_row ∷ []) refl
-    (main_entry, record { before = []; parts = refl; path_is = refl; others = λ other there. absurd (no_member other there) }) refl,
+        (main_entry, record { before = []; parts = refl; path_is = refl; others = λ other there. absurd (no_member other there) }) refl,
   );
   unlisted = (rows, rows_are, path_unlisted (codes "b.org") refl (no_row, refl));
 }

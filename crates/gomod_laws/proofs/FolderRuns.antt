@@ -10,7 +10,7 @@ use Rattle.gm_store_sums.specs.Sums.{Sums}
 use Rattle.gm_graph.specs.declared.cache.class.Class.{Class}
 use Rattle.gm_file.specs.Main.{Main}
 use Rattle.gm_graph.specs.Reading.{IsFileReading}
-use Rattle.gm_graph.proofs.Keeping.{answer_stays}
+use Rattle.gm_graph.proofs.Sayings.{answer_stays}
 use Rattle.gm_graph_select.proofs.Ascending.{member_cases, no_member}
 use Rattle.gm_graph.specs.declared.fault.Fault.{Fault}
 use Rattle.gm_graph.specs.Run as graph
@@ -28,6 +28,7 @@ use Rattle.gomod_run.specs.Versions.{by_latest, unfiltered, IsListedOutcome, IsS
 use Rattle.gomod_run.proofs.AllAsked.{done_answers}
 use Rattle.gomod_run.proofs.Answering.{answered_in}
 use Rattle.gomod_run.proofs.OneStore.{one_for_stores}
+use Rattle.gomod_run.proofs.Sameness.{same_answer}
 use Rattle.gomod_run.proofs.Uniqueness.{latest_once, listed_once, none_latest}
 use Rattle.gomod_laws.specs.FolderLaws.{FolderMayAnswer, MoreFoldersChangeNothing}
 use Rattle.gomod_laws.specs.Runs.{HasPrinted}
@@ -63,9 +64,6 @@ pub answered_name : (asked : Pairs) (name : Name) (reply : Reply) → answer_in 
 answered_name asked name reply e =
     let (k, below, at) = answered_in asked name reply e in
     (k, rw length-map below, get_or-map (λ (pair : Name × Reply). pair.0) asked k (name, reply) name below ∙ ap (λ (pair : Name × Reply). pair.0) at)
-
-same_answer : (answer : Option Reply) (one other : Reply) → answer ≡ Some one → answer ≡ Some other → one ≡ other
-same_answer answer one other a b = cc
 
 same_bytes : (one other : List ℕ) → bytes one ≡ bytes other → one ≡ other
 same_bytes one other e = cc e

@@ -1,29 +1,17 @@
 -- The layout of a document that was read is a document that reads as the same lines, but for blank ones.
 use Rattle.std.proofs.Common.{◌≡◌, ◌≤◌, ℕ, List, [], ◌∷◌, length, map, Ok, IsUtf8, refl, sym, ap, subst, ◌∙◌}
-use Rattle.std.specs.List.{AllByRecursion}
-use Rattle.gm_syntax.specs.Document.{Line, Blank, Comment, Open, Close, Entry, AreLines, ReadsLines, Whole, after, map_line, start}
+use Rattle.gm_syntax.specs.Document.{Line, Blank, Comment, Open, Close, Entry, AreLines, ReadsLines, Whole, map_line, start}
 use Rattle.gm_syntax.specs.Layout.{filled_lines, initial_state, layout, layout_lines}
 use Rattle.gm_syntax.specs.LineViews.{plain, plain_lines}
-use Rattle.gm_syntax.specs.Lines.{HasNoLineFeed, lines_of}
+use Rattle.gm_syntax.specs.Lines.{lines_of}
 use Rattle.gm_syntax.specs.Parsed.{IsParsedAs}
 use Rattle.gm_syntax.specs.Tokens.{Placed}
 use Rattle.gm_syntax.specs.Words.{Word}
 use Rattle.gm_syntax.proofs.OneText.{reading_parsed}
 use Rattle.gm_syntax.proofs.Readings.{reading_of}
 use Rattle.gm_syntax.proofs.Stable.{is_stable}
-use Rattle.gm_syntax.proofs.TextPieces.{lines_pieces}
 use Rattle.gm_file_edit.specs.NewWords.{unplaced}
-
--- ---- the lines that a text reads as are a document
-
-read_lines : (at : _) (texts : List (List ℕ)) (lines : List (Line Word)) → AllByRecursion HasNoLineFeed texts → ReadsLines at texts lines Whole → AreLines at lines
-read_lines at [] [] are ends = ends
-read_lines at (text ∷ texts) [] are ends = absurd ends
-read_lines at [] (line ∷ lines) are reads = absurd reads
-read_lines at (text ∷ texts) (line ∷ lines) are (is, more) = ((text, are.0, is), read_lines (after at line) texts lines are.1 more)
-
-pub read_document : (file : List ℕ) (lines : List (Line Word)) → ReadsLines start (lines_of file) lines Whole → AreLines start lines
-read_document file lines reads = read_lines start (lines_of file) lines (lines_pieces file).no_line_feed reads
+use Rattle.gomod_run.proofs.FolderNames.{read_document}
 
 -- ---- lines whose words have no places
 

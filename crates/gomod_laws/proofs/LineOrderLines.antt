@@ -21,6 +21,7 @@ use Rattle.gomod_laws.specs.LineOrderLaws.{HoldTheSame, LinesInAnyOrder}
 use Rattle.gomod_laws.proofs.FormattingBlanks.{main_said}
 use Rattle.gomod_laws.proofs.LineOrderProofs.{queries_move}
 use Rattle.gomod_laws.proofs.LineOrderRuns.{same_outcome}
+use Rattle.gomod_run.proofs.FileNames.{replaces_is}
 use Rattle.gomod_laws.proofs.LineOrderSame.{SayTheSame, same_any}
 
 -- ---- directives that clash
@@ -198,10 +199,6 @@ go_is : (d : Directive) (p : List ℕ) → as_go d ≡ Some p → d ≡ Declares
 go_is (DeclaresGo text) p e = let same : text ≡ p = cc in ap DeclaresGo same
 go_is d p e = absurd cc
 
-replace_is : (d : Directive) (r : Replacing) → as_replacing d ≡ Some r → d ≡ Replaces r
-replace_is (Replaces s) r e = let same : s ≡ r = cc in ap Replaces same
-replace_is d r e = absurd cc
-
 module _ (ds : List Directive) (are : AreApart ds) where
   one_module : (p q : List ℕ) → Contains (filter_map as_module ds) p → Contains (filter_map as_module ds) q → p ≡ q
   one_module p q here there =
@@ -221,8 +218,8 @@ module _ (ds : List Directive) (are : AreApart ds) where
   one_replaced left r s here there is_r is_s =
       let (d, in_d, is_d) = some_part as_replacing ds r here in
       let (e, in_e, is_e) = some_part as_replacing ds s there in
-      let first_in : Contains ds (Replaces r) = subst (Contains ds) (replace_is d r is_d) in_d in
-      let second_in : Contains ds (Replaces s) = subst (Contains ds) (replace_is e s is_e) in_e in
+      let first_in : Contains ds (Replaces r) = subst (Contains ds) (replaces_is d r is_d) in_d in
+      let second_in : Contains ds (Replaces s) = subst (Contains ds) (replaces_is e s is_e) in_e in
       let lefts : r.0 ≡ s.0 = sym (same_left left r.0 is_r) ∙ same_left left s.0 is_s in
       elim (cases_Bool (is_same_right r.1 s.1)) [
         | inl same ↦ same_right r.1 s.1 same

@@ -1,14 +1,18 @@
 -- Two main files that say the same come to the same.
 use Rattle.std.proofs.Common.{◌∷◌, ℕ, List, [], Option, refl, subst, sym}
+use Rattle.gm_store.specs.Asked.{Name}
 use Rattle.gm_store_sums.specs.Sums.{Sums}
 use Rattle.gm_file.specs.Main.{Main, IsMainFile}
 use Rattle.gm_graph.specs.declared.fault.Fault.{Fault}
-use Rattle.gm_graph.specs.Run.{Run, run_of}
+use Rattle.gm_graph.specs.Run.{AreTooMany, IsDue, Run, run_of}
 use Rattle.gomod_run.specs.Outcomes.{Answers, AreFound, FilesReadAs, bad_main, bad_sums, device, faulty, given, no_fault, too_many}
+use Rattle.gomod_run.specs.Outcome.{Outcome}
+use Rattle.gomod_run.specs.Runs.{PrintsOf}
 use Rattle.gomod_run.proofs.OneRead.{misread_or_main, one_main}
+use Rattle.gomod_words.specs.declared.usage.Command.{Command}
 use Rattle.gomod_laws.proofs.LineOrderRuns.{QueriesMove}
 use Rattle.gomod_laws.proofs.LineOrderSame.{SayTheSame}
-use Rattle.gomod_laws.proofs.RunsAlike.{ReadAlike, due_to, faults_to, many_to, prints_to, settled_to}
+use Rattle.gomod_laws.proofs.RunsAlike.{ReadAlike, due_to, found_to, many_to, prints_to}
 
 module _ (file other : List ℕ) (sums : Option (List ℕ)) (m n : Main) (is : IsMainFile file m) (also : IsMainFile other n) (same : SayTheSame m n) where
   -- a run over the one file, as one over the other
@@ -29,23 +33,26 @@ module _ (file other : List ℕ) (sums : Option (List ℕ)) (m n : Main) (is : I
     also_read : FilesReadAs other sums n table
     also_read = record { main_file = also; sums = read.sums }
 
-    found_to : (faults : List Fault) → AreFound (given file sums told) again table faults → AreFound (given other sums told) n table faults
-    found_to faults found = record {
-      read = also_read;
-      settled = settled_to one two alike found.settled.read _ found.settled;
-      faults_are = faults_to one two alike faults found.faults_are;
-      none_failed = found.none_failed;
-    }
+    same_found : (faults : List Fault) → AreFound (given file sums told) again table faults → AreFound (given other sums told) n table faults
+    same_found faults found = found_to file other sums sums told again n table table alike found.settled.read also_read faults found
+
+    same_due : (name : Name) → IsDue one name → IsDue two name
+    same_due name due = due_to one two alike due.read name due
+
+    same_many : AreTooMany one → AreTooMany two
+    same_many many = many_to one two alike many
+
+    same_printed : (command : Command) (outcome : Outcome) → PrintsOf command one outcome → PrintsOf command two outcome
+    same_printed command outcome shows = prints_to one two alike command outcome shows
 
   pub queries_move : QueriesMove file other sums
   queries_move command told outcome (bad_main place misread none says) = absurd (misread_or_main file place m misread is)
   queries_move command told outcome (bad_sums again report read invalid none says) = bad_sums n report also invalid none says
   queries_move command told outcome (device again table name read due failed says) =
-      device n table name (also_read told again table read) (due_to (one told again table read) (two told again table read) (alike told again table read) due.read name due) failed says
+      device n table name (also_read told again table read) (same_due told again table read name due) failed says
   queries_move command told outcome (too_many again table read all many none says) =
-      too_many n table (also_read told again table read) all (many_to (one told again table read) (two told again table read) (alike told again table read) many) none says
+      too_many n table (also_read told again table read) all (same_many told again table read many) none says
   queries_move command told outcome (faulty again table first others found says) =
-      faulty n table first others (found_to told again table found.read (first ∷ others) found) says
+      faulty n table first others (same_found told again table found.read (first ∷ others) found) says
   queries_move command told outcome (no_fault again table found shows) =
-      no_fault n table (found_to told again table found.read [] found)
-      (prints_to (one told again table found.read) (two told again table found.read) (alike told again table found.read) command outcome shows)
+      no_fault n table (same_found told again table found.read [] found) (same_printed told again table found.read command outcome shows)

@@ -7,6 +7,7 @@ use Rattle.gomod_run.specs.Outcome.{Outcome}
 use Rattle.gomod_words.specs.declared.usage.Command.{Command}
 use Rattle.gomod_run.specs.Runs.{PrintsOf, is_query}
 use Rattle.gomod_run.proofs.QueryParts.{query_ends}
+use Rattle.gomod_laws.specs.Shown.{run_over}
 use Rattle.gomod_laws.proofs.Ended.{Ends}
 use Rattle.gomod_laws.proofs.RunsAlike.{one_end}
 
@@ -17,6 +18,6 @@ QueriesMove file other sums = (command : Command) (told : Answers) (outcome : Ou
 pub same_outcome : (command : Command) (file other : List ℕ) (sums : Option (List ℕ)) (asked answered : List (Name × Reply)) (a b : Outcome) → is_query command ≡ true → QueriesMove file other sums → AnswerAlike asked answered
     → Ends command file sums asked a → Ends command other sums answered b → a ≡ b
 same_outcome command file other sums asked answered a b query moves alike one two =
-    one_end command query (given other sums (answers asked [])) (given other sums (answers answered [])) a b (record { file = refl; sums = refl; answers = alike; failed = refl })
-    (moves command (answers asked []) a (query_ends (given file sums (answers asked [])) a command query one))
-    (query_ends (given other sums (answers answered [])) b command query two)
+    one_end command query (run_over other sums asked) (run_over other sums answered) a b (record { file = refl; sums = refl; answers = alike; failed = refl })
+    (moves command (answers asked []) a (query_ends (run_over file sums asked) a command query one))
+    (query_ends (run_over other sums answered) b command query two)

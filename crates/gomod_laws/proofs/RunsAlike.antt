@@ -1,15 +1,16 @@
 -- Runs whose main files say the same, and that read the same of the files which the one needs, have the same module graph.
-use Rattle.std.proofs.Common.{◌≡◌, ◌∙◌, ◌↔◌, ◌∷◌, ℕ, false, true, List, Option, Some, None, Result, Ok, Err, Contains, ap, map, refl, subst, sym, inl, inr}
+use Rattle.std.proofs.Common.{◌≡◌, ◌∙◌, ◌↔◌, ◌∷◌, ℕ, false, true, List, Option, Some, Result, Ok, Err, Contains, ap, map, refl, subst, sym, inl, inr}
 use mathlib.Core.Path.{fun_ext}
 use Rattle.gm_name.specs.ModuleVersion.{ModuleVersion}
 use Rattle.gm_file.specs.Directives.{Right}
 use Rattle.gm_file.specs.Fields.{Dependency}
 use Rattle.gm_file.specs.Main.{Main, is_pruned_by, replacement_in}
-use Rattle.gm_store.specs.Asked.{Name, Reply}
+use Rattle.gm_store.specs.Asked.{Name, Reply, names_in}
+use Rattle.gm_store_sums.specs.Sums.{Sums}
 use Rattle.gm_graph.specs.declared.cache.class.Class.{Class}
 use Rattle.gm_graph.specs.declared.fault.Fault.{Fault}
 use Rattle.gm_graph.specs.Reading.{IsFileReading, file_of, is_askable, is_right_path}
-use Rattle.gm_graph.specs.Run.{AreEdges, AreFaults, AreRows, AreTooMany, FileSays, IsDue, IsEdge, IsNeeded, IsOpened, IsRead, IsSettled, IsTop, Run, Says, answered, faulty, sound, unaskable, wrong_path}
+use Rattle.gm_graph.specs.Run.{AreEdges, AreFaults, AreRows, AreTooMany, FileSays, IsDue, IsEdge, IsNeeded, IsOpened, IsRead, IsSettled, IsTop, Run, Says, answered, faulty, run_of, sound, unaskable, wrong_path}
 use Rattle.gm_graph.proofs.RunLemmas.{RequiresToo, edge_too, many_too, opened_too}
 use Rattle.gm_graph_select.specs.declared.step.Edge.{Edge}
 use Rattle.gm_graph_select.specs.declared.step.Step.TheVariants.{Of}
@@ -17,7 +18,7 @@ use Rattle.gm_graph_select.specs.BuildList.{Entry, HasEntryFor, IsBuildList, IsR
 use Rattle.gm_graph_select.proofs.Same.{AreSame, same_build_list, same_chain}
 use Rattle.gomod_run.specs.ListingTexts.{graph_text, limited, list_text}
 use Rattle.gomod_run.specs.Outcome.{Outcome, printed}
-use Rattle.gomod_run.specs.Outcomes.{Given, PrintsRows, QueryEnds, ShowsChain, no_path, path_listed, path_unlisted}
+use Rattle.gomod_run.specs.Outcomes.{Answers, AreFound, FilesReadAs, Given, PrintsRows, QueryEnds, ShowsChain, given, no_path, path_listed, path_unlisted}
 use Rattle.gomod_run.specs.Runs.{PrintsOf, is_query}
 use Rattle.gomod_run.specs.ListingLaws.{AreAlike}
 use Rattle.gomod_run.proofs.OneStore.{one_for_stores}
@@ -100,7 +101,7 @@ module _ (r s : Run) (alike : ReadAlike r s) where
 
   -- ---- what is opened, asked for and too much
 
-  pub opened_same : (x : ModuleVersion) → IsOpened r x ↔ IsOpened s x
+  opened_same : (x : ModuleVersion) → IsOpened r x ↔ IsOpened s x
   opened_same x = (opened_too r s unpruned_to tops_to requires_to x, opened_too s r unpruned_from tops_from requires_from x)
 
   needed_same : (name : Name) → IsNeeded r name ↔ IsNeeded s name
@@ -115,7 +116,7 @@ module _ (r s : Run) (alike : ReadAlike r s) where
   pub many_to : AreTooMany r → AreTooMany s
   many_to many = many_too r s unpruned_to tops_to requires_to many
 
-  pub settled_to : IsRead s → (names : List Name) → IsSettled r names → IsSettled s names
+  settled_to : IsRead s → (names : List Name) → IsSettled r names → IsSettled s names
   settled_to read names settled = record {
     read = read;
     once = settled.once;
@@ -128,7 +129,7 @@ module _ (r s : Run) (alike : ReadAlike r s) where
 
   -- ---- what is found
 
-  pub faults_to : (faults : List Fault) → AreFaults r faults → AreFaults s faults
+  faults_to : (faults : List Fault) → AreFaults r faults → AreFaults s faults
   faults_to faults are = record {
     ascending = are.ascending;
     each = λ one. (
@@ -193,6 +194,17 @@ module _ (r s : Run) (alike : ReadAlike r s) where
   prints_to Fmt outcome says = says
   prints_to (Edit operations) outcome says = says
   prints_to (Versions path all) outcome says = says
+
+-- What was found over the one main file and go.sum is found over the other, if the two runs are alike.
+pub found_to : (file other : List ℕ) (sums others : Option (List ℕ)) (told : Answers) (m n : Main) (t u : Option Sums)
+    → ReadAlike (run_of m t told.asked) (run_of n u told.asked) → IsRead (run_of n u told.asked) → FilesReadAs other others n u
+    → (faults : List Fault) → AreFound (given file sums told) m t faults → AreFound (given other others told) n u faults
+found_to file other sums others told m n t u alike read files faults found = record {
+  read = files;
+  settled = settled_to (run_of m t told.asked) (run_of n u told.asked) alike read (names_in told.asked) found.settled;
+  faults_are = faults_to (run_of m t told.asked) (run_of n u told.asked) alike faults found.faults_are;
+  none_failed = found.none_failed;
+}
 
 -- ---- how queries end
 

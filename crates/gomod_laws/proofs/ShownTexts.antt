@@ -18,16 +18,12 @@ use Rattle.gomod_run.specs.PrintedLines.{AreProperEdges, AreProperRows, ArePrope
 use Rattle.gomod_run.specs.ListingTexts.{chain_text, graph_text, list_text, step_text}
 use Rattle.gomod_run.specs.ReportTexts.{vertex_text}
 use Rattle.gomod_run.proofs.GraphLines.{text_says_edges, text_says_steps}
-use Rattle.gomod_run.proofs.ListLines.{Lacks, cut_at, has_it, path_has_no_blank, path_has_no_feed, text_says_rows, version_has_no_blank}
+use Rattle.gomod_run.proofs.ListLines.{Lacks, both_lack, cut_at, has_it, path_has_no_blank, path_has_no_feed, text_says_rows, version_has_no_blank}
 use Rattle.gomod_run.proofs.RunNames.{run_has_names, run_has_proper_edges, run_has_proper_rows, run_has_proper_steps}
 use Rattle.gomod_run.proofs.PrintedList.{all_rows}
 use Rattle.gomod_laws.specs.Shown.{ShowsEdges, ShowsRows, ShowsSteps}
 
 -- ---- texts
-
-pub both_lack : (c : ℕ) (a b : List ℕ) → Lacks c a → Lacks c b → Lacks c (a ++ b)
-both_lack c [] b p q = q
-both_lack c (x ∷ a) b p q = (p.0, both_lack c a b p.1 q)
 
 at_is_no_blank : ◌≢◌ {A = ℕ} 64 32
 at_is_no_blank e = omega (arith, e)

@@ -14,22 +14,23 @@ use Rattle.gm_graph.specs.Reading.{IsFileReading, class_of_sum, file_of, is_aska
 use Rattle.gm_graph.specs.Run.{AreTooMany, FileSays, IsNeeded, IsRead, IsSettled, Run, answered, run_of, unaskable}
 use Rattle.gm_graph.proofs.RunLemmas.{RequiresToo, asked_answered, many_too}
 use Rattle.gomod_run.specs.ListingLaws.{AnswerAlike}
-use Rattle.gomod_run.specs.Outcomes.{AreFound, AreSums, answers, bad_main, bad_sums, device, faulty, given, longest, no_fault, too_many}
+use Rattle.gomod_run.specs.Outcomes.{AreFound, AreSums, answers, bad_main, bad_sums, device, faulty, longest, no_fault, too_many}
 use Rattle.gomod_run.specs.Needs.{GraphNeeds}
 use Rattle.gomod_run.specs.Outcome.{Outcome, refused}
 use Rattle.gomod_run.specs.Reports.{too_many_line}
 use Rattle.gomod_run.specs.Runs.{is_query}
-use Rattle.gomod_run.proofs.OneRead.{misread_or_main, misread_or_sums, one_main}
+use Rattle.gomod_run.proofs.OneRead.{misread_or_main, misread_or_sums, one_main, one_says}
 use Rattle.gomod_run.proofs.QueryParts.{query_ends}
 use Rattle.gomod_words.specs.declared.usage.Command.{Command}
 use Rattle.gomod_words.specs.declared.usage.Command.TheVariants.{Fmt, Edit, Versions, Graph, List as Rows, Chain}
 use Rattle.gomod_laws.proofs.Ended.{Ends}
 use Rattle.gomod_laws.specs.SumLaws.{HasNeedlessLines, HasSumLine, NeedlessLinesChangeNothing, SumLinesInAnyOrder}
+use Rattle.gomod_laws.specs.Shown.{run_over}
 use Rattle.gomod_laws.proofs.FolderRuns.{answered_name}
-use Rattle.gomod_laws.proofs.RunsAlike.{ReadAlike, one_end, prints_to, says_by}
+use Rattle.gomod_laws.proofs.RunsAlike.{ReadAlike, found_to, one_end, prints_to, says_by}
 use Rattle.gomod_laws.proofs.SumsGiven.{same_unread}
 use Rattle.gomod_laws.proofs.SumsChecked.{find_alike, read_with}
-use Rattle.gomod_laws.proofs.SumsOutcomes.{RunOver, found_with, sum_table}
+use Rattle.gomod_laws.proofs.SumsOutcomes.{QueryEndsOver, sum_table}
 
 -- ---- what go.sums say
 
@@ -41,18 +42,6 @@ says_too : (one other path version hash : List ℕ) (sum : Sum) → HaveSame one
 says_too one other path version hash Unlisted same is = λ h there. is h ((same h).1 there)
 says_too one other path version hash Differs same is = (is.0, (same is.0).0 is.1, is.2)
 says_too one other path version hash Good same is = ((same hash).0 is.0, λ h there. is.1 h ((same h).1 there))
-
--- a text says one thing of a hash
-one_says : (text path version hash : List ℕ) (a b : Sum) → SumSays text path version hash a → SumSays text path version hash b → a ≡ b
-one_says text path version hash Unlisted Unlisted is be = refl
-one_says text path version hash Unlisted Differs is be = absurd (is be.0 be.1)
-one_says text path version hash Unlisted Good is be = absurd (is hash be.0)
-one_says text path version hash Differs Unlisted is be = absurd (be is.0 is.1)
-one_says text path version hash Differs Differs is be = refl
-one_says text path version hash Differs Good is be = absurd (is.2 (be.1 is.0 is.1))
-one_says text path version hash Good Unlisted is be = absurd (be hash is.0)
-one_says text path version hash Good Differs is be = absurd (be.2 (is.1 be.0 be.1))
-one_says text path version hash Good Good is be = refl
 
 -- the same for a file, which has no hash if it comes from no proxy
 abbrev HaveSameFor : List ℕ → List ℕ → Name → Type 0
@@ -111,10 +100,10 @@ module _ (main one other : List ℕ) (asked others : List (Name × Reply)) (alik
       let needed = (settled.needed name).0 (answered_name asked name reply at) in
       (reading, read_with (Some t) (Some u) name reply reading (λ content same. finds_same settled.read name needed content) is)
 
-  found_too : (faults : List Fault) → AreFound (given main (Some one) (answers asked [])) said (Some t) faults
-      → AreFound (given main (Some other) (answers asked [])) said (Some u) faults
+  found_too : (faults : List Fault) → AreFound (run_over main (Some one) asked) said (Some t) faults
+      → AreFound (run_over main (Some other) asked) said (Some u) faults
   found_too faults found =
-      found_with main (Some one) (Some other) asked said (Some t) (Some u) (alike_with found.settled.read) (read_too found.settled)
+      found_to main main (Some one) (Some other) (answers asked []) said said (Some t) (Some u) (alike_with found.settled.read) (read_too found.settled)
       (record { main_file = is_main; sums = tells }) faults found
 
   -- what the first run opens the second opens, if it has found all
@@ -143,18 +132,18 @@ module _ (main one other : List ℕ) (asked others : List (Name × Reply)) (alik
 -- ---- a query
 
 module _ (command : Command) (query : is_query command ≡ true) (main one other : List ℕ) (asked others : List (Name × Reply)) (a b : Outcome)
-    (alike : AnswerAlike asked others) (are : HaveSameSums main one other asked) (be : RunOver command main (Some other) others b) where
+    (alike : AnswerAlike asked others) (are : HaveSameSums main one other asked) (be : QueryEndsOver command main (Some other) others b) where
   -- if the first run opens too many modules, so does the second
   module _ (said : Main) (t : Sums) (is_main : IsMainFile main said) (reads : AreSums (Some one) (Some t)) (read : IsRead (run_of said (Some t) asked))
       (many : AreTooMany (run_of said (Some t) asked)) (says : a ≡ refused too_many_line) where
-    not_found : (again : Main) (v : Option Sums) (faults : List Fault) → AreFound (given main (Some other) (answers others [])) again v faults → ⊥
+    not_found : (again : Main) (v : Option Sums) (faults : List Fault) → AreFound (run_over main (Some other) others) again v faults → ⊥
     not_found again None faults found = found.read.sums
     not_found again (Some v) faults found =
         not_few main one other asked others alike are said is_main t v reads found.read.sums read
         (subst (λ (m : Main). IsSettled (run_of m (Some v) others) (names_in others)) (one_main main again said found.read.main_file is_main) found.settled)
         many
 
-    many_both : (u : Sums) → AreSums (Some other) (Some u) → RunOver command main (Some other) others b → a ≡ b
+    many_both : (u : Sums) → AreSums (Some other) (Some u) → QueryEndsOver command main (Some other) others b → a ≡ b
     many_both u tells (bad_main place misread none is) = absurd (misread_or_main main place said misread is_main)
     many_both u tells (bad_sums again report file invalid none is) = absurd (misread_or_sums (Some other) report (Some u) invalid tells)
     many_both u tells (device again v name files due failed is) = absurd (let none : [] ≡ name ∷ [] = failed in cc none)
@@ -165,12 +154,12 @@ module _ (command : Command) (query : is_query command ≡ true) (main one other
   table : (said : Main) → IsMainFile main said → (u : Sums) × AreSums (Some other) (Some u)
   table said is_main = sum_table command main other others b said are.other_short are.other_valid is_main be
 
-  finish : RunOver command main (Some other) asked a → a ≡ b
+  finish : QueryEndsOver command main (Some other) asked a → a ≡ b
   finish is =
-      one_end command query (given main (Some other) (answers asked [])) (given main (Some other) (answers others [])) a b
+      one_end command query (run_over main (Some other) asked) (run_over main (Some other) others) a b
       (record { file = refl; sums = refl; answers = alike; failed = refl }) is be
 
-  same_runs : RunOver command main (Some one) asked a → a ≡ b
+  same_runs : QueryEndsOver command main (Some one) asked a → a ≡ b
   same_runs (bad_main place misread none says) = finish (bad_main place misread none says)
   same_runs (bad_sums said report reads (inl long) none says) = absurd (let limit = are.short in omega (arith, long.0, limit))
   same_runs (bad_sums said report reads (inr bad) none says) = absurd (let first = bad.2.0 in let valid = are.valid in omega (arith, first, valid))
@@ -196,8 +185,8 @@ same_query : (command : Command) → is_query command ≡ true → (main one oth
     → HaveSameSums main one other asked → Ends command main (Some one) asked a → Ends command main (Some other) others b → a ≡ b
 same_query command query main one other asked others a b alike are is be =
     same_runs command query main one other asked others a b alike are
-    (query_ends (given main (Some other) (answers others [])) b command query be)
-    (query_ends (given main (Some one) (answers asked [])) a command query is)
+    (query_ends (run_over main (Some other) others) b command query be)
+    (query_ends (run_over main (Some one) asked) a command query is)
 
 same_sums_change_nothing : (command : Command) (main one other : List ℕ) (asked others : List (Name × Reply)) (a b : Outcome) → AnswerAlike asked others → HaveSameSums main one other asked
     → Ends command main (Some one) asked a → Ends command main (Some other) others b → a ≡ b

@@ -4,8 +4,7 @@ use Rattle.gm_file.specs.Fields.{Dependency}
 use Rattle.gm_store.specs.Asked.{Name, Reply, absent, answer_in, bytes, folder_file, list_file, mod_file, names_in, too_long}
 use Rattle.gm_store_sums.specs.Hash.{file_hash}
 use Rattle.gm_store_sums.specs.Sums.{ReadsAs, Says as SumSays, Sums, check_in}
-use Rattle.gm_store_sums.specs.declared.sum_table.Sum.{Sum}
-use Rattle.gm_store_sums.specs.declared.sum_table.Sum.TheVariants.{Differs, Good, Unlisted}
+use Rattle.gm_store_sums.specs.declared.sum_table.Sum.TheVariants.{Good}
 use Rattle.gm_graph.specs.declared.cache.class.Class.{Class}
 use Rattle.gm_graph.specs.declared.fault.Fault.{Fault}
 use Rattle.gm_file.specs.Main.{Main}
@@ -13,6 +12,7 @@ use Rattle.gm_graph.specs.Reading.{IsContentReading, IsFileReading, IsReadUnless
 use Rattle.gm_graph.specs.Run.{AreFaults, FileSays, IsNeeded, IsRead, IsSettled, Run, answered as file_answered, faulty, run_of}
 use Rattle.gm_graph.proofs.OneReading.{one_reading}
 use Rattle.gm_graph_select.proofs.Ascending.{no_member}
+use Rattle.gomod_run.proofs.OneRead.{one_says}
 use Rattle.gomod_laws.proofs.FolderRuns.{answered_name}
 use Rattle.gomod_laws.proofs.LineOrderSame.{says_itself}
 use Rattle.gomod_laws.proofs.RunsAlike.{ReadAlike}
@@ -94,12 +94,6 @@ module _ (main : Main) (table : Option Sums) (asked : List (Name × Reply))
 
 -- ---- with a go.sum that has the right hash of each needed file
 
-good_by : (text path version hash : List ℕ) (sum : Sum) → SumSays text path version hash sum
-    → SumSays text path version hash Good → sum ≡ Good
-good_by text path version hash Unlisted is good = absurd (is hash good.0)
-good_by text path version hash Differs is good = absurd (is.2 (good.1 is.0 is.1))
-good_by text path version hash Good is good = refl
-
 -- the right hash of a file, if it comes from a proxy, and no other
 abbrev pub IsRightFor : List ℕ → Name → List ℕ → Type 0
 IsRightFor text (mod_file path version) content = SumSays text path version (file_hash content) Good
@@ -111,7 +105,7 @@ pub no_sum_fault : (table : Sums) (text : List ℕ) → ReadsAs table text → (
 no_sum_fault table text reads (mod_file path version) content right =
     let hash = file_hash content in
     ap class_of_sum
-    (good_by text path version hash (check_in table path version hash) (reads path version hash) right)
+    (one_says text path version hash (check_in table path version hash) Good (reads path version hash) right)
 no_sum_fault table text reads (folder_file folder) content right = refl
 no_sum_fault table text reads (list_file path) content right = refl
 

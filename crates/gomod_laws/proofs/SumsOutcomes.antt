@@ -1,12 +1,12 @@
 -- The laws of a go.sum hold.
 use Rattle.std.proofs.Common.{◌≡◌, ◌≤◌, ℕ, List, [], ◌∷◌, length, true, Option, Some, None, sym, refl, arith, inl, inr}
-use Rattle.gm_store.specs.Asked.{Name, Reply, answer_in, bytes, folder_file, list_file, mod_file, names_in}
+use Rattle.gm_store.specs.Asked.{Name, Reply, answer_in, bytes, folder_file, list_file, mod_file}
 use Rattle.gm_store_sums.specs.Sums.{HasValidLines, Sums}
 use Rattle.gm_file.specs.Main.{Main, IsMainFile}
 use Rattle.gm_graph.specs.declared.fault.Fault.{Fault}
 use Rattle.gm_graph.specs.Run.{IsRead, Run, run_of}
 use Rattle.gomod_run.specs.ListingLaws.{AnswerAlike}
-use Rattle.gomod_run.specs.Outcomes.{AreFound, AreSums, FilesReadAs, QueryEnds, answers, bad_main, bad_sums, device, faulty, given, longest, no_fault, too_many}
+use Rattle.gomod_run.specs.Outcomes.{AreFound, AreSums, FilesReadAs, QueryEnds, answers, bad_main, bad_sums, device, faulty, longest, no_fault, too_many}
 use Rattle.gomod_run.specs.Needs.{GraphNeeds}
 use Rattle.gomod_run.specs.Outcome.{Outcome}
 use Rattle.gomod_run.specs.Runs.{PrintsOf, is_query}
@@ -18,38 +18,26 @@ use Rattle.gomod_words.specs.declared.usage.Command.{Command}
 use Rattle.gomod_words.specs.declared.usage.Command.TheVariants.{Fmt, Edit, Versions, Graph, List as Rows, Chain}
 use Rattle.gomod_laws.specs.Runs.{HasPrinted}
 use Rattle.gomod_laws.specs.SumLaws.{AreRight, OnlyRefuses, RightSumsChangeNothing}
+use Rattle.gomod_laws.specs.Shown.{run_over}
 use Rattle.gomod_laws.proofs.Ended.{Ends}
-use Rattle.gomod_laws.proofs.RunsAlike.{ReadAlike, faults_to, many_to, one_end, prints_to, settled_to}
+use Rattle.gomod_laws.proofs.RunsAlike.{ReadAlike, found_to, many_to, one_end, prints_to}
 use Rattle.gomod_laws.proofs.SumsGiven.{same_unread}
 use Rattle.gomod_laws.proofs.SumsChecked.{IsRightFor, alike_unchecked, find_alike, no_sum_fault, read_checked, read_unchecked}
 
 -- a run over these files and answers whose device did not fail
-abbrev pub RunOver : Command → List ℕ → Option (List ℕ) → List (Name × Reply) → Outcome → Type 0
-RunOver command main sums asked outcome = QueryEnds (PrintsOf command) (given main sums (answers asked [])) outcome
-
--- what was found with the one go.sum, or none, is found with the other, if the two runs are alike
-pub found_with : (main : List ℕ) (sums others : Option (List ℕ)) (asked : List (Name × Reply)) (said : Main) (one other : Option Sums)
-    → ReadAlike (run_of said one asked) (run_of said other asked) → IsRead (run_of said other asked)
-    → FilesReadAs main others said other → (faults : List Fault)
-    → AreFound (given main sums (answers asked [])) said one faults
-    → AreFound (given main others (answers asked [])) said other faults
-found_with main sums others asked said one other alike read files faults found = record {
-  read = files;
-  settled = settled_to (run_of said one asked) (run_of said other asked) alike read (names_in asked) found.settled;
-  faults_are = faults_to (run_of said one asked) (run_of said other asked) alike faults found.faults_are;
-  none_failed = found.none_failed;
-}
+abbrev pub QueryEndsOver : Command → List ℕ → Option (List ℕ) → List (Name × Reply) → Outcome → Type 0
+QueryEndsOver command main sums asked outcome = QueryEnds (PrintsOf command) (run_over main sums asked) outcome
 
 -- ---- what is printed with a go.sum is printed without one
 
 module _ (command : Command) (query : is_query command ≡ true) (main sums : List ℕ) (asked others : List (Name × Reply))
     (one other : Outcome) where
-  unchecked_outcome : HasPrinted one → RunOver command main (Some sums) asked one → RunOver command main None asked one
+  unchecked_outcome : HasPrinted one → QueryEndsOver command main (Some sums) asked one → QueryEndsOver command main None asked one
   unchecked_outcome prints is =
-      let (said, table, found, shows) = printed_run (PrintsOf command) (given main (Some sums) (answers asked [])) one is prints in
+      let (said, table, found, shows) = printed_run (PrintsOf command) (run_over main (Some sums) asked) one is prints in
       let alike = alike_unchecked said table asked found.settled found.faults_are in
       no_fault said None
-      (found_with main (Some sums) None asked said table None alike
+      (found_to main main (Some sums) None (answers asked []) said said table None alike
       (read_unchecked said table asked found.settled found.faults_are)
       (record { main_file = found.read.main_file; sums = tt }) [] found)
       (prints_to (run_of said table asked) (run_of said None asked) alike command one shows)
@@ -57,10 +45,10 @@ module _ (command : Command) (query : is_query command ≡ true) (main sums : Li
   one_unchecked : AnswerAlike asked others → HasPrinted one → Ends command main (Some sums) asked one
       → Ends command main None others other → other ≡ one
   one_unchecked alike prints is be =
-      sym (one_end command query (given main None (answers asked [])) (given main None (answers others [])) one other
+      sym (one_end command query (run_over main None asked) (run_over main None others) one other
       (record { file = refl; sums = refl; answers = alike; failed = refl })
-      (unchecked_outcome prints (query_ends (given main (Some sums) (answers asked [])) one command query is))
-      (query_ends (given main None (answers others [])) other command query be))
+      (unchecked_outcome prints (query_ends (run_over main (Some sums) asked) one command query is))
+      (query_ends (run_over main None others) other command query be))
 
 pub only_refuses : OnlyRefuses
 only_refuses Fmt main sums asked others one other alike is be ends =
@@ -88,7 +76,7 @@ module _ (command : Command) (main sums : List ℕ) (asked : List (Name × Reply
   table_of again None read = absurd read.sums
   table_of again (Some table) read = (table, read.sums)
 
-  pub sum_table : RunOver command main (Some sums) asked outcome → HasTable
+  pub sum_table : QueryEndsOver command main (Some sums) asked outcome → HasTable
   sum_table (bad_main place misread none says) = absurd (misread_or_main main place said misread is)
   sum_table (bad_sums again report reads (inl long) none says) = absurd (omega (arith, long.0, short))
   sum_table (bad_sums again report reads (inr bad) none says) = absurd (let first = bad.2.0 in omega (arith, first, valid))
@@ -128,16 +116,16 @@ module _ (main sums : List ℕ) (asked : List (Name × Reply)) (right : AreRight
   checked_files : FilesReadAs main (Some sums) said (Some table)
   checked_files = record { main_file = is_main; sums = reads }
 
-  found_checked : (faults : List Fault) → AreFound (given main None (answers asked [])) said None faults
-      → AreFound (given main (Some sums) (answers asked [])) said (Some table) faults
+  found_checked : (faults : List Fault) → AreFound (run_over main None asked) said None faults
+      → AreFound (run_over main (Some sums) asked) said (Some table) faults
   found_checked faults found =
-      found_with main None (Some sums) asked said None (Some table) (alike_checked found.settled.read)
+      found_to main main None (Some sums) (answers asked []) said said None (Some table) (alike_checked found.settled.read)
       (read_checked said table asked found.settled.read) checked_files faults found
 
 module _ (command : Command) (query : is_query command ≡ true) (main sums : List ℕ) (asked others : List (Name × Reply))
     (one other : Outcome) (right : AreRight main sums asked) where
-  module _ (be : RunOver command main (Some sums) others other) where
-    checked_outcome : RunOver command main None asked one → RunOver command main (Some sums) asked one
+  module _ (be : QueryEndsOver command main (Some sums) others other) where
+    checked_outcome : QueryEndsOver command main None asked one → QueryEndsOver command main (Some sums) asked one
     checked_outcome (bad_main place misread none says) = bad_main place misread none says
     checked_outcome (bad_sums said report is invalid none says) = absurd invalid
     checked_outcome (device said table name read due failed says) = absurd (let some : [] ≡ name ∷ [] = failed in cc some)
@@ -161,10 +149,10 @@ module _ (command : Command) (query : is_query command ≡ true) (main sums : Li
   one_checked : AnswerAlike asked others → Ends command main None asked one → Ends command main (Some sums) others other
       → other ≡ one
   one_checked alike is be =
-      let ends = query_ends (given main (Some sums) (answers others [])) other command query be in
-      sym (one_end command query (given main (Some sums) (answers asked [])) (given main (Some sums) (answers others [])) one other
+      let ends = query_ends (run_over main (Some sums) others) other command query be in
+      sym (one_end command query (run_over main (Some sums) asked) (run_over main (Some sums) others) one other
       (record { file = refl; sums = refl; answers = alike; failed = refl })
-      (checked_outcome ends (query_ends (given main None (answers asked [])) one command query is)) ends)
+      (checked_outcome ends (query_ends (run_over main None asked) one command query is)) ends)
 
 pub right_sums_change_nothing : RightSumsChangeNothing
 right_sums_change_nothing Fmt main sums asked others one other alike right is be =

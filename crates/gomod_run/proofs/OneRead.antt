@@ -144,7 +144,7 @@ misread_or_sums (Some text) report (Some table) (inl is) other = omega (arith, i
 misread_or_sums (Some text) report (Some table) (inr is) other = let first = is.2.0 in let good = other.1 in omega (arith, first, good)
 
 -- a text says exactly one thing about a hash
-one_says : (text path version hash : List ℕ) (a b : Sum) → Says text path version hash a → Says text path version hash b → a ≡ b
+pub one_says : (text path version hash : List ℕ) (a b : Sum) → Says text path version hash a → Says text path version hash b → a ≡ b
 one_says text path version hash Unlisted Unlisted is other = refl
 one_says text path version hash Unlisted Differs is other = absurd (is other.0 other.1)
 one_says text path version hash Unlisted Good is other = absurd (is hash other.0)

@@ -85,7 +85,7 @@ edit_once texts file one other (applied lines main says) (applied others again t
 
 -- ---- versions
 
-same_answer : (answer : Option Reply) (one other : Reply) → answer ≡ Some one → answer ≡ Some other → one ≡ other
+pub same_answer : (answer : Option Reply) (one other : Reply) → answer ≡ Some one → answer ≡ Some other → one ≡ other
 same_answer answer one other a b = cc
 
 shown_once : (path : List ℕ) (versions : List (List ℕ)) (latest : List ℕ) (reply : Reply) (one other : Outcome)
