@@ -1,13 +1,15 @@
 #!/usr/bin/env bash
-# Changes a definition in a copy of crates/page, and shows that a world there refutes the change.
+# Changes a definition in a copy of crates/page, and shows that the check refuses the change, and where.
 #
 #   tools/change-page.sh             lists the changes, each with its number, its definition and its file
 #   tools/change-page.sh NUMBER..    tries these, each in a copy of the crate of its own
 #   tools/change-page.sh --all       tries all
 #
-# A change keeps the shape of its definition, so that what a check refuses is its meaning. For each that it tries it
-# prints whether it was refused, the functions that are no longer proved, and the first error. The status is 1 if a change
-# can't be made, since its text isn't there once, or was proved. .ci/run makes the list before the merge gate. It needs
+# A change keeps the shape of its definition. For each that it tries it prints whether it was refused, the functions that
+# are no longer proved, and the first error. If that compares two values (`true` and `false`, or two texts), a world
+# refutes the change. If it is in a lemma that all worlds share (proofs/Members, Saying, Ending, Alone), or compares facts
+# with variables, it says only that the proof rests on what was changed, not that the list would differ. The status is 1
+# if a change can't be made, since its text isn't there once, or was proved. .ci/run makes the list before the merge gate. It needs
 # python3, and to try a change rt, 2 GB of memory, and some 8 s of CPU time.
 set -euo pipefail
 cd "$(dirname "$0")/.."
