@@ -2,6 +2,7 @@
 use Rattle.std.proofs.Common.{◌≡◌, ◌∙◌, ◌≤◌, ℕ, Bool, true, false, List, [], ◌∷◌, ◌++◌, Some, append-nil, ap, arith, drop, length, length-append, refl, subst, sym, take}
 use Rattle.std.proofs.lemmas.List.{take-append-drop, take-append-le, take-map, take_all}
 use Rattle.std.proofs.lemmas.Option.{same_Some}
+use Rattle.std.specs.Prelude.{OnErr, OnOk, Result, Ok, Err}
 use Rattle.gm_name.specs.ModuleVersion.{ModuleVersion, module_at}
 use Rattle.gm_name_table.specs.Listed.{Appends, AreModuleNumbers, BeginsWith, NumberedList, listed, modules_at}
 use Rattle.gm_name_table.proofs.Listed.{same_modules}
@@ -88,6 +89,15 @@ stays_if_known old new start known pair is_known longer pushed unknown =
       still_longer old new start known more.0 longer more.1,
       same_before old new start known more.0 longer more.1,
     )
+
+-- It is so too if one module was put to the end, or memory ran out and nothing was.
+pub stays_if_pushed : {T E : Type 0} (old new : NumberedList) (start known : ℕ) (pair : ModuleVersion) (result : Result T E)
+    → IsLonger old start known → OnOk result (Appends old new (pair ∷ [])) → OnErr result (Appends old new [])
+    → IsLonger new start known × (list_before new start known ≡ list_before old start known)
+stays_if_pushed old new start known pair (Ok value) longer ok err =
+    (still_longer old new start known (pair ∷ []) longer ok, same_before old new start known (pair ∷ []) longer ok)
+stays_if_pushed old new start known pair (Err error) longer ok err =
+    (still_longer old new start known [] longer err, same_before old new start known [] longer err)
 
 -- Nothing was put to the end of a list that was cut to its old length.
 pub cut_appends : (old new cut : NumberedList) (more : List ModuleVersion) → Appends old new more
