@@ -13,14 +13,14 @@ use Rattle.gm_syntax.specs.Parsed.{IsParsedAs}
 use Rattle.gm_syntax.specs.Tokens.{Placed}
 use Rattle.gm_file.specs.Directives.{Strict}
 use Rattle.gm_file.specs.Faults.{fault_of}
-use Rattle.gm_file_edit.specs.Edited.{edited}
+use Rattle.gm_file_edit.specs.Edited.{lines_after}
 use Rattle.gm_file_edit.specs.Edits.{Edit as Operation, edit_in}
 use Rattle.gm_file_edit.specs.Kinds.{is_fit}
 use Rattle.gm_file_edit.specs.Laws.{IsEditOf, directives_of}
 use Rattle.gm_file_edit.proofs.EditedSound.{edited-document}
 use Rattle.gm_file_edit.proofs.Written.{written-sound}
 use Rattle.gomod_run.specs.Editing.{EditEnds, applied, bad_main, edited_in_turn, edits_outcome, refusal_of, refusals_from}
-use Rattle.gomod_run.specs.Outcome.{Outcome, printed}
+use Rattle.gomod_run.specs.Outcome.{Outcome, output_of}
 use Rattle.gm_file.specs.Main.{IsMainOf}
 use Rattle.gomod_run.specs.Outcomes.{longest}
 use Rattle.gomod_run.specs.Reports.{edit_line, main_line}
@@ -98,9 +98,9 @@ none_parts number xs ys none = nil_parts (refusals_from number xs) (refusals_fro
 
 pub turned_append : (front back : List (List ℕ)) (lines : List (Line Placed)) → turned (front ++ back) lines ≡ turned back (turned front lines)
 turned_append front back lines =
-    ap (λ (os : List Operation). edited_in_turn os lines) (filter_map-append edit_in front back) ∙ fold-append (λ (ls : List (Line Placed)) (edit : Operation). edited edit ls) lines (filter_map edit_in front) (filter_map edit_in back)
+    ap (λ (os : List Operation). edited_in_turn os lines) (filter_map-append edit_in front back) ∙ fold-append (λ (ls : List (Line Placed)) (edit : Operation). lines_after edit ls) lines (filter_map edit_in front) (filter_map edit_in back)
 
-pub turned_first : (text : List ℕ) (texts : List (List ℕ)) (lines : List (Line Placed)) (taken : IsTaken text) → turned (text ∷ texts) lines ≡ turned texts (edited taken.operation lines)
+pub turned_first : (text : List ℕ) (texts : List (List ℕ)) (lines : List (Line Placed)) (taken : IsTaken text) → turned (text ∷ texts) lines ≡ turned texts (lines_after taken.operation lines)
 turned_first text texts lines taken =
     let first : filter_map edit_in (text ∷ texts) ≡ taken.operation ∷ filter_map edit_in texts = rw taken.written refl in
     ap (λ (os : List Operation). edited_in_turn os lines) first
@@ -108,7 +108,7 @@ turned_first text texts lines taken =
 pub taken_edit : (text : List ℕ) (lines : List (Line Placed)) (taken : IsTaken text) → AreSoundLines lines → IsEditOf taken.operation lines
 taken_edit text lines taken sound = ((text, taken.written), taken.fit, sound.document, sound.faultless)
 
-pub taken_sound : (text : List ℕ) (lines : List (Line Placed)) (taken : IsTaken text) → AreSoundLines lines → AreSoundLines (edited taken.operation lines)
+pub taken_sound : (text : List ℕ) (lines : List (Line Placed)) (taken : IsTaken text) → AreSoundLines lines → AreSoundLines (lines_after taken.operation lines)
 taken_sound text lines taken sound =
     let after = edited-document taken.operation lines (written-sound text taken.operation taken.written) taken.fit sound.document sound.faultless in
     record { document = after.0; faultless = after.1 }
@@ -117,7 +117,7 @@ pub turned_sound : (number : ℕ) (texts : List (List ℕ)) (lines : List (Line 
 turned_sound number [] lines none sound = sound
 turned_sound number (text ∷ texts) lines none sound =
     let first = first_taken number text texts none in
-    subst AreSoundLines (sym (turned_first text texts lines first.0)) (turned_sound (number + 1) texts (edited first.0.operation lines) first.1 (taken_sound text lines first.0 sound))
+    subst AreSoundLines (sym (turned_first text texts lines first.0)) (turned_sound (number + 1) texts (lines_after first.0.operation lines) first.1 (taken_sound text lines first.0 sound))
 
 -- ---- what `edit` prints
 
@@ -128,11 +128,11 @@ pub record IsEditedFrom (texts : List (List ℕ)) (file text : List ℕ) : Type 
   pub none : refusals_from 1 texts ≡ []
   pub text_is : text ≡ layout (plain_lines (turned texts lines))
 
-edited_by : (texts : List (List ℕ)) (file text : List ℕ) → EditEnds texts file (printed text) → IsEditedFrom texts file text
+edited_by : (texts : List (List ℕ)) (file text : List ℕ) → EditEnds texts file (output_of text) → IsEditedFrom texts file text
 edited_by texts file text (bad_main place malformed says) = absurd (not_printed text (main_line place) says)
 edited_by texts file text (applied lines main says) = by_refusals (refusals_from 1 texts) refl says
   where
-    by_refusals : (found : List Refusal) → refusals_from 1 texts ≡ found → printed text ≡ edits_outcome found (turned texts lines) → IsEditedFrom texts file text
+    by_refusals : (found : List Refusal) → refusals_from 1 texts ≡ found → output_of text ≡ edits_outcome found (turned texts lines) → IsEditedFrom texts file text
     by_refusals [] none is = record { lines = lines; is_main = main; none = none; text_is = ap (λ (o : Outcome). o.text) is }
     by_refusals (first ∷ others) some is = absurd (not_printed text (edit_line first) is)
 

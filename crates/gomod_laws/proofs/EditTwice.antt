@@ -5,7 +5,7 @@ use Rattle.std.specs.Option.{option_map, option_to_list}
 use Rattle.std.specs.Prelude.{String, codes, if◌then◌else◌}
 use Rattle.gm_syntax.specs.Document.{Line}
 use Rattle.gm_syntax.specs.Tokens.{Placed}
-use Rattle.gm_file_edit.specs.Edited.{edited}
+use Rattle.gm_file_edit.specs.Edited.{lines_after}
 use Rattle.gm_file_edit.specs.Edits.{edit_in}
 use Rattle.gm_file_edit.proofs.Twice.{second-operation}
 use Rattle.gomod_run.specs.Outcome.{Outcome}
@@ -27,7 +27,7 @@ turns_same earlier text later lines none sound =
     let parts = none_parts 1 earlier (text ∷ []) none in
     let before : List (Line Placed) = turned earlier lines in
     let taken : IsTaken text = (first_taken (1 + length earlier) text [] parts.1).0 in
-    turned_append earlier (text ∷ text ∷ later) lines ∙ turned_first text (text ∷ later) before taken ∙ turned_first text later (edited taken.operation before) taken
+    turned_append earlier (text ∷ text ∷ later) lines ∙ turned_first text (text ∷ later) before taken ∙ turned_first text later (lines_after taken.operation before) taken
     ∙ ap (turned later) (second-operation taken.operation before (taken_edit text before taken (turned_sound 1 earlier lines parts.0 sound)))
     ∙ sym (turned_first text later before taken) ∙ sym (turned_append earlier (text ∷ later) lines)
 
