@@ -1,5 +1,5 @@
 -- An operation of `edit` that is given twice, directly one after the other.
-use Rattle.std.proofs.Common.{◌≡◌, ◌<◌, ◌∙◌, ◌++◌, ◌+◌, ◌⊎◌, ℕ, List, [], ◌∷◌, length, None, ap, arith, refl, subst, sym, inl, inr}
+use Rattle.std.proofs.Common.{◌≡◌, ◌<◌, ◌∙◌, ◌++◌, ◌+◌, ℕ, List, [], ◌∷◌, length, None, ap, arith, refl, subst, sym, inl, inr}
 use Rattle.std.specs.Global.{Global, Vec}
 use Rattle.std.specs.Prelude.{String}
 use Rattle.gm_syntax.specs.Document.{Line}
@@ -11,41 +11,39 @@ use Rattle.gomod_run.specs.Outcome.{Outcome}
 use Rattle.gomod_run.proofs.Sameness.{edit_once}
 use Rattle.gomod_words.specs.Usage.{texts_in}
 use Rattle.gomod_words.specs.declared.usage.Command.TheVariants.{Edit}
-use Rattle.gomod_laws.specs.EditTwiceLaws.{LastTwiceIsOnce, RefuseALater, RepeatsOne, TwiceIsOnceOrRefused, TwicePrintsAsOnce}
-use Rattle.gomod_laws.specs.Runs.{HasPrinted}
+use Rattle.gomod_laws.specs.EditTwiceLaws.{AreOneOrRefuseALater, LastTwiceIsOnce, RefuseALater, RepeatsOne, TwiceIsOnceOrRefused, TwicePrintsAsOnce}
 use Rattle.gomod_laws.proofs.Ended.{Ends}
 use Rattle.gomod_laws.proofs.VersionRuns.{refusal_prints_nothing}
 use Rattle.gomod_laws.proofs.EditTurns.{AreSoundLines, edit_sound, is_refused, is_taken, outcome_from, read_sound, refused_turn, taken_turn, turn_of}
 
--- the outcomes are one, or one of these operations is refused in both, with a number above this one
+-- the outcomes are one, or a later operation is refused in both; they are one if there is no later operation
 abbrev AreAlike : List (List ℕ) → ℕ → Outcome → Outcome → Type 0
-AreAlike later number first second = (first ≡ second) ⊎ (((later ≡ []) → ⊥) × RefuseALater number first second)
+AreAlike later number first second = ((later ≡ []) → first ≡ second) × AreOneOrRefuseALater number first second
 
 -- outcomes that are the same as others are alike if those are
 alike_as : (later : List (List ℕ)) (number : ℕ) (first second one other : Outcome) → first ≡ one → second ≡ other → AreAlike later number one other → AreAlike later number first second
 alike_as later number first second one other first_is second_is are =
     subst (λ (o : Outcome). AreAlike later number o second) (sym first_is) (subst (AreAlike later number one) (sym second_is) are)
 
-one_more : (text : List ℕ) (later : List (List ℕ)) (number : ℕ) (first second : Outcome) → AreAlike later number first second → AreAlike (text ∷ later) number first second
-one_more text later number first second (inl same) = inl same
-one_more text later number first second (inr other) = inr ((λ nothing. absurd cc), other.1)
-
 -- operations after one more than before
 later_alike : (later : List (List ℕ)) (before number : ℕ) (lines : List (Line Placed)) → before < number → AreAlike later before (outcome_from number later lines) (outcome_from (number + 1) later lines)
-later_alike [] before number lines low = inl refl
+later_alike [] before number lines low = ((λ nothing. refl), inl refl)
 later_alike (text ∷ later) before number lines low = elim (turn_of text) [
   | is_refused kind is ↦
-      inr ((λ nothing. absurd cc), record { refusal = (number, kind); is_later = low; refused_once = refused_turn number kind text later lines is; refused_twice = refused_turn (number + 1) kind text later lines is })
+      let refused : RefuseALater before _ _ = record { refusal = (number, kind); is_later = low; refused_once = refused_turn number kind text later lines is; refused_twice = refused_turn (number + 1) kind text later lines is } in
+      ((λ nothing. absurd cc), inr refused)
   | is_taken operation written fit ↦
       alike_as (text ∷ later) before _ _ _ _ (taken_turn number text later lines operation written fit) (taken_turn (number + 1) text later lines operation written fit)
-      (one_more text later before _ _ (later_alike later before (number + 1) (edited operation lines) (omega (arith, low))))
+      ((λ nothing. absurd cc), (later_alike later before (number + 1) (edited operation lines) (omega (arith, low))).1)
 ]
 
 module _ (text : List ℕ) (later : List (List ℕ)) where
   -- an operation that is taken leaves the second time what it left the first time
   here_alike : (number : ℕ) (lines : List (Line Placed)) → AreSoundLines lines → AreAlike later number (outcome_from number (text ∷ later) lines) (outcome_from number (text ∷ text ∷ later) lines)
   here_alike number lines sound = elim (turn_of text) [
-    | is_refused kind is ↦ inl (refused_turn number kind text later lines is ∙ sym (refused_turn number kind text (text ∷ later) lines is))
+    | is_refused kind is ↦
+        let same = refused_turn number kind text later lines is ∙ sym (refused_turn number kind text (text ∷ later) lines is) in
+        ((λ nothing. same), inl same)
     | is_taken operation written fit ↦
         let after : List (Line Placed) = edited operation lines in
         alike_as later number _ _ _ _ (taken_turn number text later lines operation written fit)
@@ -60,7 +58,9 @@ module _ (text : List ℕ) (later : List (List ℕ)) where
       let here : number ≡ at = omega (arith, is) in
       subst (λ (n : ℕ). AreAlike later n (outcome_from number (text ∷ later) lines) (outcome_from number (text ∷ text ∷ later) lines)) here (here_alike number lines sound)
   all_alike (first ∷ earlier) at number lines is sound = elim (turn_of first) [
-    | is_refused kind why ↦ inl (refused_turn number kind first (earlier ++ text ∷ later) lines why ∙ sym (refused_turn number kind first (earlier ++ text ∷ text ∷ later) lines why))
+    | is_refused kind why ↦
+        let same = refused_turn number kind first (earlier ++ text ∷ later) lines why ∙ sym (refused_turn number kind first (earlier ++ text ∷ text ∷ later) lines why) in
+        ((λ nothing. same), inl same)
     | is_taken operation written fit ↦
         alike_as later at _ _ _ _ (taken_turn number first (earlier ++ text ∷ later) lines operation written fit) (taken_turn number first (earlier ++ text ∷ text ∷ later) lines operation written fit)
         (all_alike earlier at (number + 1) (edited operation lines) (omega (arith, is)) (edit_sound operation lines ((first, written), fit, sound.0, sound.1)))
@@ -71,32 +71,26 @@ module _ (text : List ℕ) (later : List (List ℕ)) where
 runs_alike : (once twice : Vec (String Global)) (file : List ℕ) (first second : Outcome) (repeats : RepeatsOne once twice) → Ends (Edit once) file None [] first → Ends (Edit twice) file None [] second
     → AreAlike repeats.later (length repeats.earlier + 1) first second
 runs_alike once twice file first second repeats one two = elim (subst (λ (ts : List (List ℕ)). EditEnds ts file first) repeats.given_once one) [
-  | bad_main place malformed says ↦ inl (edit_once (texts_in twice) file first second (bad_main place malformed says) two)
+  | bad_main place malformed says ↦
+      let same = edit_once (texts_in twice) file first second (bad_main place malformed says) two in
+      ((λ nothing. same), inl same)
   | applied lines main says ↦
       let again = subst (λ (ts : List (List ℕ)). EditEnds ts file second) repeats.given_twice two in
       alike_as repeats.later (length repeats.earlier + 1) _ _ _ _ says (edit_once _ file second _ again (applied lines main refl))
       (all_alike repeats.operation repeats.later repeats.earlier (length repeats.earlier + 1) 1 lines refl (read_sound file lines main))
 ]
 
--- what prints isn't refused
-none_refused : (number : ℕ) (first second : Outcome) → RefuseALater number first second → HasPrinted first ⊎ HasPrinted second → ⊥
-none_refused number first second later (inl prints) = refusal_prints_nothing first _ later.refused_once prints
-none_refused number first second later (inr prints) = refusal_prints_nothing second _ later.refused_twice prints
-
 pub twice_prints_as_once : TwicePrintsAsOnce
-twice_prints_as_once once twice file first second repeats one two prints = elim (runs_alike once twice file first second repeats one.0 two.0) [
+twice_prints_as_once once twice file first second repeats one two prints = elim (runs_alike once twice file first second repeats one.0 two.0).1 [
   | inl same ↦ same
-  | inr other ↦ absurd (none_refused (length repeats.earlier + 1) first second other.1 prints)
+  | inr later ↦ absurd (elim prints [
+    | inl is ↦ refusal_prints_nothing first _ later.refused_once is
+    | inr is ↦ refusal_prints_nothing second _ later.refused_twice is
+  ])
 ]
 
 pub last_twice_is_once : LastTwiceIsOnce
-last_twice_is_once once twice file first second repeats last one two = elim (runs_alike once twice file first second repeats one.0 two.0) [
-  | inl same ↦ same
-  | inr other ↦ absurd (other.0 last)
-]
+last_twice_is_once once twice file first second repeats last one two = (runs_alike once twice file first second repeats one.0 two.0).0 last
 
 pub twice_is_once_or_refused : TwiceIsOnceOrRefused
-twice_is_once_or_refused once twice file first second repeats one two = elim (runs_alike once twice file first second repeats one.0 two.0) [
-  | inl same ↦ inl same
-  | inr other ↦ inr other.1
-]
+twice_is_once_or_refused once twice file first second repeats one two = (runs_alike once twice file first second repeats one.0 two.0).1
