@@ -62,34 +62,27 @@ undone_is_formatted operations put file edited_to formatted are fit targets one 
 
 -- ---- two operations in either order
 
--- the lines after all operations but the last two, and what the text reads as
-record AreLastTwo (earlier : List (List ℕ)) (one other : Operation) (file text : List ℕ) : Type 0 where
-  lines : List (Line Placed)
-  main : IsMainOf file lines
-  first_edit : IsEditOf one (turned earlier lines)
-  doc : List (Line Placed)
-  reread : IsMainOf text doc
-  said : directives_of doc ≡ directives_of (edited other (edited one (turned earlier lines)))
-
+-- the lines of the file, which all operations but the last two turn, and what the text reads as
 last_two : (operations : Vec (String Global)) (file text : List ℕ) (earlier : List (List ℕ)) (first second : List ℕ) (one other : Operation) → texts_in operations ≡ earlier ++ first ∷ second ∷ [] → edit_in first ≡ Some one → edit_in second ≡ Some other
-    → IsEdited operations file text → length text ≤ longest → AreLastTwo earlier one other file text
+    → IsEdited operations file text → length text ≤ longest
+    → (lines doc : List (Line Placed)) × IsMainOf file lines × IsEditOf one (turned earlier lines) × IsMainOf text doc × (directives_of doc ≡ directives_of (edited other (edited one (turned earlier lines))))
 last_two operations file text earlier first second one other given first_is second_is prints short =
     let (lines, main, from) = edited_from operations earlier (first ∷ second ∷ []) file text given prints in
     let then = next_is first (second ∷ []) text (turned earlier lines) one first_is from in
     let last = next_is second [] text (edited one (turned earlier lines)) other second_is then.2 in
     let (doc, reread, said) = text_lines (edited other (edited one (turned earlier lines))) text last.2 prints.1 short in
-    record { lines = lines; main = main; first_edit = then.1; doc = doc; reread = reread; said = said }
+    (lines, doc, main, then.1, reread, said)
 
 pub either_order_changes_no_build : EitherOrderChangesNoBuild
 either_order_changes_no_build command operations swapped one other file text also sums asked answered before after query swap apart prints too short low alike run rerun =
-    let here = last_two operations file text swap.earlier swap.first swap.second one other swap.given swap.first_is swap.second_is prints short in
-    let there = last_two swapped file also swap.earlier swap.second swap.first other one swap.in_other_order swap.second_is swap.first_is too low in
-    let front : List (Line Placed) = turned swap.earlier here.lines in
-    let beside : List (Line Placed) = turned swap.earlier there.lines in
-    let same : plain_lines beside ≡ plain_lines front = in_turn_same (filter_map edit_in swap.earlier) there.lines here.lines (same_lines file there.lines here.lines there.main.0 here.main.0) in
-    let other_edit : IsEditOf other front = (there.first_edit.0, there.first_edit.1, here.first_edit.2, here.first_edit.3) in
-    let said = there.said ∙ ap (directives Strict) (edited-same one (edited other beside) (edited other front) (edited-same other beside front same)) in
-    let are : IsPermutation (directives_of here.doc) (directives_of there.doc) =
-    subst (λ (ds : List Directive). IsPermutation ds (directives_of there.doc)) (sym here.said) (subst (IsPermutation (directives_of (edited other (edited one front)))) (sym said) (either-order one other front here.first_edit other_edit apart)) in
-    let hold : HoldTheSame (plain_lines here.doc) (plain_lines there.doc) = (λ d. (Contains-permutation _ _ d are, Contains-permutation _ _ d (IsPermutation-sym _ _ are))) in
-    lines_in_any_order command text also here.doc there.doc sums asked answered before after query here.reread there.reread hold alike run rerun
+    let (lines, doc, main, edit, reread, said) = last_two operations file text swap.earlier swap.first swap.second one other swap.given swap.first_is swap.second_is prints short in
+    let (others, again, main_too, edit_too, reread_too, said_too) = last_two swapped file also swap.earlier swap.second swap.first other one swap.in_other_order swap.second_is swap.first_is too low in
+    let front : List (Line Placed) = turned swap.earlier lines in
+    let beside : List (Line Placed) = turned swap.earlier others in
+    let same : plain_lines beside ≡ plain_lines front = in_turn_same (filter_map edit_in swap.earlier) others lines (same_lines file others lines main_too.0 main.0) in
+    let ends = said_too ∙ ap (directives Strict) (edited-same one (edited other beside) (edited other front) (edited-same other beside front same)) in
+    let orders = either-order one other front edit (edit_too.0, edit_too.1, edit.2, edit.3) apart in
+    let are : IsPermutation (directives_of doc) (directives_of again) =
+    subst (λ (ds : List Directive). IsPermutation ds (directives_of again)) (sym said) (subst (IsPermutation (directives_of (edited other (edited one front)))) (sym ends) orders) in
+    let hold : HoldTheSame (plain_lines doc) (plain_lines again) = (λ d. (Contains-permutation _ _ d are, Contains-permutation _ _ d (IsPermutation-sym _ _ are))) in
+    lines_in_any_order command text also doc again sums asked answered before after query reread reread_too hold alike run rerun
