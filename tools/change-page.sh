@@ -185,10 +185,10 @@ BuildList
 pub parts : entries ≡ before ++ entry ∷ rest
 pub parts : entries ≡ before ++ rest
 
-limited: a limit changes nothing
+at_most: a limit changes nothing
 ListingTexts
-limited (Some n) xs = take n xs
-limited (Some n) xs = xs
+at_most (Some n) xs = take n xs
+at_most (Some n) xs = xs
 
 IsNeeded: a file that may not be asked for is needed
 Run
@@ -207,13 +207,13 @@ is_askable name ≡ false → FileSays run name (Err WrongPath)
 
 QueryEnds: faults have the status of a failed device
 Outcomes
-outcome ≡ refused (faults_text (first ∷ others))
-outcome ≡ failed (faults_text (first ∷ others))
+outcome ≡ report_of (faults_text (first ∷ others))
+outcome ≡ failure_of (faults_text (first ∷ others))
 
 QueryEnds: a failed device has the status of faults
 Outcomes
-outcome ≡ failed (device_line name)
-outcome ≡ refused (device_line name)
+outcome ≡ failure_of (device_line name)
+outcome ≡ report_of (device_line name)
 """
 
 

@@ -10,7 +10,7 @@ use Rattle.gm_syntax.specs.declared.line.Line as declared
 use Rattle.gm_file.specs.declared.fault.LineFault.{LineFault}
 use Rattle.gm_file.specs.declared.fault.LineFault.TheVariants as line
 use Rattle.gm_file.specs.declared.fields.Fields.{Fields}
-use Rattle.gm_file.specs.Directives.{Mode, Directive, block_after_lines, block_after_line, directive_in, directives, item_at, said}
+use Rattle.gm_file.specs.Directives.{Mode, Directive, block_after_lines, block_after_line, directive_in, directives, item_at, directive_said}
 use Rattle.gm_file.specs.Faults.{fault_of, faults, item_kinds}
 use Rattle.gm_file.specs.Fields.{first}
 use Rattle.gm_file.specs.Holding.{AreFound, AreReadTo, Holds, IsLineAdded}
@@ -25,7 +25,7 @@ block-snoc block (first ∷ lines) line = block-snoc (block_after_line block fir
 
 pub said-once : (mode : Mode) (lines : List (Line Word)) (line : Line Word)
     → directives mode (lines ++ line ∷ []) ≡ directives mode lines ++ option_to_list (directive_in mode (item_at (block_after_lines None lines, line)))
-said-once mode lines line = directives-snoc mode lines line ∙ ap (λ (ds : List Directive). directives mode lines ++ ds) (by (said mode (block_after_lines None lines, line)))
+said-once mode lines line = directives-snoc mode lines line ∙ ap (λ (ds : List Directive). directives mode lines ++ ds) (by (directive_said mode (block_after_lines None lines, line)))
   where
     by : (o : Option Directive) → filter_map (λ (x : Option Directive). x) (o ∷ []) ≡ option_to_list o
     by None = refl

@@ -2,8 +2,9 @@
 use Rattle.std.proofs.Common.{◌≡◌, ◌∙◌, ◌≤◌, ℕ, Bool, true, false, List, [], ◌∷◌, ◌++◌, Some, append-nil, ap, arith, drop, length, length-append, refl, subst, sym, take}
 use Rattle.std.proofs.lemmas.List.{take-append-drop, take-append-le, take-map, take_all}
 use Rattle.std.proofs.lemmas.Option.{same_Some}
+use Rattle.std.specs.Prelude.{OnErr, OnOk, Result, Ok, Err}
 use Rattle.gm_name.specs.ModuleVersion.{ModuleVersion, module_at}
-use Rattle.gm_name_table.specs.Listed.{Appends, AreModuleNumbers, BeginsWith, NumberedList, listed, modules_at}
+use Rattle.gm_name_table.specs.Listed.{Appends, AreModuleNumbers, BeginsWith, NumberedList, modules_of, modules_at}
 use Rattle.gm_name_table.proofs.Listed.{same_modules}
 use Rattle.gm_file.specs.Requirements.{IsLonger, Requirements, items_in, list_before}
 use Rattle.gm_file.specs.declared.required.Destination.TheVariants as place
@@ -37,15 +38,15 @@ still_longer old new start known more longer appends = record {
 
 -- What came after was put to the end of what the list was before.
 end_appends : (list : NumberedList) (start known : ℕ) → IsLonger list start known
-    → Appends (list_before list start known) list (drop start (listed list))
+    → Appends (list_before list start known) list (drop start (modules_of list))
 end_appends list start known longer =
     let begins : BeginsWith (take known list.modules) list.modules =
     (drop known list.modules, sym (take-append-drop known list.modules)) in
     record {
       numbered = begins;
       kept = (drop start list.numbers, sym (take-append-drop start list.numbers));
-      listed = sym (take-append-drop start (listed list))
-          ∙ ap (λ (before : List ModuleVersion). before ++ drop start (listed list))
+      listed = sym (take-append-drop start (modules_of list))
+          ∙ ap (λ (before : List ModuleVersion). before ++ drop start (modules_of list))
           (take-map (module_at list.modules) start list.numbers
           ∙ same_modules (take known list.modules) list.modules (take start list.numbers) begins longer.below);
     }
@@ -57,9 +58,9 @@ pub given_back : {requirements : Requirements} (list given before : NumberedList
 given_back list given before start known is longer has same =
     subst (λ (r : Requirements). r.before ≡ Some before → Appends before given r.items) is
     (λ there.
-    subst (λ (b : NumberedList). Appends b given (drop start (listed list)))
+    subst (λ (b : NumberedList). Appends b given (drop start (modules_of list)))
     (same_Some (list_before list start known) before there)
-    (subst (λ (l : NumberedList). Appends (list_before list start known) l (drop start (listed list))) (sym same)
+    (subst (λ (l : NumberedList). Appends (list_before list start known) l (drop start (modules_of list))) (sym same)
     (end_appends list start known longer)))
     has
 
@@ -68,7 +69,7 @@ nothing_appends : (list : NumberedList) → Appends list list []
 nothing_appends list = record {
   numbered = ([], sym (append-nil list.modules));
   kept = ([], sym (append-nil list.numbers));
-  listed = sym (append-nil (listed list));
+  listed = sym (append-nil (modules_of list));
 }
 
 -- Either this module was put to the end of a list, or nothing was.
@@ -89,6 +90,15 @@ stays_if_known old new start known pair is_known longer pushed unknown =
       same_before old new start known more.0 longer more.1,
     )
 
+-- It is so too if one module was put to the end, or memory ran out and nothing was.
+pub stays_if_pushed : {T E : Type 0} (old new : NumberedList) (start known : ℕ) (pair : ModuleVersion) (result : Result T E)
+    → IsLonger old start known → OnOk result (Appends old new (pair ∷ [])) → OnErr result (Appends old new [])
+    → IsLonger new start known × (list_before new start known ≡ list_before old start known)
+stays_if_pushed old new start known pair (Ok value) longer ok err =
+    (still_longer old new start known (pair ∷ []) longer ok, same_before old new start known (pair ∷ []) longer ok)
+stays_if_pushed old new start known pair (Err error) longer ok err =
+    (still_longer old new start known [] longer err, same_before old new start known [] longer err)
+
 -- Nothing was put to the end of a list that was cut to its old length.
 pub cut_appends : (old new cut : NumberedList) (more : List ModuleVersion) → Appends old new more
     → AreModuleNumbers old.modules old.numbers → cut.modules ≡ new.modules
@@ -101,5 +111,5 @@ cut_appends old new cut more appends below same cut_numbers =
       numbered = begins;
       kept = ([], numbers ∙ sym (append-nil old.numbers));
       listed = ap (λ (ns : List ℕ). modules_at cut.modules ns) numbers
-          ∙ same_modules old.modules cut.modules old.numbers begins below ∙ sym (append-nil (listed old));
+          ∙ same_modules old.modules cut.modules old.numbers begins below ∙ sym (append-nil (modules_of old));
     }

@@ -14,7 +14,7 @@ use Rattle.gm_syntax.specs.Document.{Line}
 use Rattle.gm_file.specs.declared.fault.DirectiveKind.{DirectiveKind}
 use Rattle.gm_file.specs.declared.fault.DirectiveKind.TheVariants.{BadGo, ConflictingReplace, NoModule, Repeated}
 use Rattle.gm_file.specs.declared.verb.Verb.{Verb}
-use Rattle.gm_file.specs.Directives.{Strict, Left, Right, Folder, Module, Replacing, Directive, DeclaresModule, DeclaresGo, Requires, Excludes, Replaces, Retracts, Kept, LineInBlock, Item, Silent, Opening, Saying, directive_in, directive_of, directives, item_at, said, verb_in, with_blocks}
+use Rattle.gm_file.specs.Directives.{Strict, Left, Right, Folder, Module, Replacing, Directive, DeclaresModule, DeclaresGo, Requires, Excludes, Replaces, Retracts, Kept, LineInBlock, Item, Silent, Opening, Saying, directive_in, directive_of, directives, item_at, directive_said, verb_in, with_blocks}
 use Rattle.gm_file.specs.Faults.{Fault, conflicts, directive_kinds, entry_kinds, fault_of, faults, faults_after, first_of, go_in, is_conflict, is_go, is_module, is_same_left, is_same_right, is_same_version, item_kinds, missing_module, path_kinds, sides_kinds, unless, with_before_from}
 use Rattle.gm_file.specs.Pairwise.{ClashIsMutual, FaultlessIsPairwise, IsRightAlone, do_clash}
 use Rattle.gm_file.proofs.First.{first-none}
@@ -188,33 +188,33 @@ item-whole earlier (Saying verb arguments) alone clear = entry-whole earlier (ve
 -- each line has no fault after the earlier directives and those of the lines before it
 abbrev AreInTurn : List Directive → List (LineInBlock Word) → Type 0
 AreInTurn earlier [] = ⊤
-AreInTurn earlier (line ∷ lines) = (item_kinds Strict earlier (item_at line) ≡ []) × AreInTurn (earlier ++ option_to_list (said Strict line)) lines
+AreInTurn earlier (line ∷ lines) = (item_kinds Strict earlier (item_at line) ≡ []) × AreInTurn (earlier ++ option_to_list (directive_said Strict line)) lines
 
-more-said : (before : List (LineInBlock Word)) (line : LineInBlock Word) → filter_map (said Strict) (before ++ line ∷ []) ≡ filter_map (said Strict) before ++ option_to_list (said Strict line)
-more-said before line = filter_map-append (said Strict) before (line ∷ []) ∙ ap (λ ds. filter_map (said Strict) before ++ ds) (as-list (said Strict line))
+more-said : (before : List (LineInBlock Word)) (line : LineInBlock Word) → filter_map (directive_said Strict) (before ++ line ∷ []) ≡ filter_map (directive_said Strict) before ++ option_to_list (directive_said Strict line)
+more-said before line = filter_map-append (directive_said Strict) before (line ∷ []) ∙ ap (λ ds. filter_map (directive_said Strict) before ++ ds) (as-list (directive_said Strict line))
   where
     as-list : (o : Option Directive) → cons_option o [] ≡ option_to_list o
     as-list None = refl
     as-list (Some d) = refl
 
-in-turn : (before : List (LineInBlock Word)) (earlier : List Directive) (lines : List (LineInBlock Word)) → filter_map (said Strict) before ≡ earlier
+in-turn : (before : List (LineInBlock Word)) (earlier : List Directive) (lines : List (LineInBlock Word)) → filter_map (directive_said Strict) before ≡ earlier
     → flat_map (faults_after Strict) (with_before_from before lines) ≡ [] → AreInTurn earlier lines
 in-turn before earlier [] is none = tt
 in-turn before earlier (line ∷ lines) is none =
     let parts = nil-parts (faults_after Strict (before, line)) (flat_map (faults_after Strict) (with_before_from (before ++ line ∷ []) lines)) none in
-    let kinds = nil-map (λ (kind : DirectiveKind). (length before + 1, kind)) (item_kinds Strict (filter_map (said Strict) before) (item_at line)) parts.0 in (
+    let kinds = nil-map (λ (kind : DirectiveKind). (length before + 1, kind)) (item_kinds Strict (filter_map (directive_said Strict) before) (item_at line)) parts.0 in (
       subst (λ (ds : List Directive). item_kinds Strict ds (item_at line) ≡ []) is kinds,
-      in-turn (before ++ line ∷ []) (earlier ++ option_to_list (said Strict line)) lines (more-said before line ∙ ap (λ (ds : List Directive). ds ++ option_to_list (said Strict line)) is) parts.1,
+      in-turn (before ++ line ∷ []) (earlier ++ option_to_list (directive_said Strict line)) lines (more-said before line ∙ ap (λ (ds : List Directive). ds ++ option_to_list (directive_said Strict line)) is) parts.1,
     )
 
-from-turn : (before : List (LineInBlock Word)) (earlier : List Directive) (lines : List (LineInBlock Word)) → filter_map (said Strict) before ≡ earlier
+from-turn : (before : List (LineInBlock Word)) (earlier : List Directive) (lines : List (LineInBlock Word)) → filter_map (directive_said Strict) before ≡ earlier
     → AreInTurn earlier lines → flat_map (faults_after Strict) (with_before_from before lines) ≡ []
 from-turn before earlier [] is turn = refl
 from-turn before earlier (line ∷ lines) is turn =
-    let kinds : item_kinds Strict (filter_map (said Strict) before) (item_at line) ≡ [] = subst (λ (ds : List Directive). item_kinds Strict ds (item_at line) ≡ []) (sym is) turn.0 in
+    let kinds : item_kinds Strict (filter_map (directive_said Strict) before) (item_at line) ≡ [] = subst (λ (ds : List Directive). item_kinds Strict ds (item_at line) ≡ []) (sym is) turn.0 in
     both-nil (faults_after Strict (before, line)) (flat_map (faults_after Strict) (with_before_from (before ++ line ∷ []) lines))
     (ap (map (λ (kind : DirectiveKind). (length before + 1, kind))) kinds)
-    (from-turn (before ++ line ∷ []) (earlier ++ option_to_list (said Strict line)) lines (more-said before line ∙ ap (λ (ds : List Directive). ds ++ option_to_list (said Strict line)) is) turn.1)
+    (from-turn (before ++ line ∷ []) (earlier ++ option_to_list (directive_said Strict line)) lines (more-said before line ∙ ap (λ (ds : List Directive). ds ++ option_to_list (directive_said Strict line)) is) turn.1)
 
 one-next : (earlier : List Directive) (o : Option Directive) (rest : List Directive) → (earlier ++ option_to_list o) ++ rest ≡ earlier ++ cons_option o rest
 one-next earlier None rest = ap (λ (ds : List Directive). ds ++ rest) (append-nil earlier)
@@ -232,19 +232,19 @@ clear-before earlier (Some d) rest apart =
     (or_parts (list_any (do_clash d) earlier) (list_any (do_clash d) rest) (sym (list_any-append (do_clash d) earlier rest) ∙ (apart-but earlier d rest apart).0)).0
 
 turn-apart : (earlier : List Directive) (lines : List (LineInBlock Word)) → AreApart earlier → AreInTurn earlier lines
-    → AllByRecursion IsRightAlone lines × AreApart (earlier ++ filter_map (said Strict) lines)
+    → AllByRecursion IsRightAlone lines × AreApart (earlier ++ filter_map (directive_said Strict) lines)
 turn-apart earlier [] apart turn = (tt, subst AreApart (sym (append-nil earlier)) apart)
 turn-apart earlier (line ∷ lines) apart turn =
     let parts = item-parts earlier (item_at line) turn.0 in
-    let rest = turn-apart (earlier ++ option_to_list (said Strict line)) lines (apart-more earlier (said Strict line) parts.1 apart) turn.1 in
-    ((parts.0, rest.0), subst AreApart (one-next earlier (said Strict line) (filter_map (said Strict) lines)) rest.1)
+    let rest = turn-apart (earlier ++ option_to_list (directive_said Strict line)) lines (apart-more earlier (directive_said Strict line) parts.1 apart) turn.1 in
+    ((parts.0, rest.0), subst AreApart (one-next earlier (directive_said Strict line) (filter_map (directive_said Strict) lines)) rest.1)
 
-apart-turn : (earlier : List Directive) (lines : List (LineInBlock Word)) → AllByRecursion IsRightAlone lines → AreApart (earlier ++ filter_map (said Strict) lines) → AreInTurn earlier lines
+apart-turn : (earlier : List Directive) (lines : List (LineInBlock Word)) → AllByRecursion IsRightAlone lines → AreApart (earlier ++ filter_map (directive_said Strict) lines) → AreInTurn earlier lines
 apart-turn earlier [] alone apart = tt
 apart-turn earlier (line ∷ lines) alone apart =
-    let rest : List Directive = filter_map (said Strict) lines in (
-      item-whole earlier (item_at line) alone.0 (clear-before earlier (said Strict line) rest apart),
-      apart-turn (earlier ++ option_to_list (said Strict line)) lines alone.1 (subst AreApart (sym (one-next earlier (said Strict line) rest)) apart),
+    let rest : List Directive = filter_map (directive_said Strict) lines in (
+      item-whole earlier (item_at line) alone.0 (clear-before earlier (directive_said Strict line) rest apart),
+      apart-turn (earlier ++ option_to_list (directive_said Strict line)) lines alone.1 (subst AreApart (sym (one-next earlier (directive_said Strict line) rest)) apart),
     )
 
 -- ---- whole files
@@ -260,8 +260,8 @@ none-missing fault false e = absurd cc
 -- the same as `ArePairwiseRight`, by recursion
 pub record AreRightApart (lines : List (LineInBlock Word)) : Type 0 where
   pub alone : AllByRecursion IsRightAlone lines
-  pub apart : AreApart (filter_map (said Strict) lines)
-  pub declared : list_any is_module (filter_map (said Strict) lines) ≡ true
+  pub apart : AreApart (filter_map (directive_said Strict) lines)
+  pub declared : list_any is_module (filter_map (directive_said Strict) lines) ≡ true
 
 pub faultless-apart : (lines : List (Line Word)) → fault_of Strict lines ≡ None → AreRightApart (with_blocks lines)
 unfolding fault_of faults

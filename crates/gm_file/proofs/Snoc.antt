@@ -5,7 +5,7 @@ use Rattle.std.proofs.lemmas.List.Elements.{filter_map-append}
 use Rattle.std.specs.List.{filter_map, flat_map}
 use Rattle.gm_syntax.specs.Words.{Word}
 use Rattle.gm_syntax.specs.Document.{Line}
-use Rattle.gm_file.specs.Directives.{Mode, LineInBlock, block_after_lines, block_after_line, directives, item_at, said, with_blocks, with_blocks_from}
+use Rattle.gm_file.specs.Directives.{Mode, LineInBlock, block_after_lines, block_after_line, directives, item_at, directive_said, with_blocks, with_blocks_from}
 use Rattle.gm_file.specs.Faults.{faults, faults_after, item_kinds, with_before, with_before_from}
 
 pub with_blocks-snoc : {W : Type 0} (block : Option W) (lines more : List (Line W)) → with_blocks_from block (lines ++ more) ≡ with_blocks_from block lines ++ with_blocks_from (block_after_lines block lines) more
@@ -24,9 +24,9 @@ length-with_blocks block (line ∷ lines) = ap suc (length-with_blocks (block_af
 
 -- the directives after one more line
 pub directives-snoc : (mode : Mode) (lines : List (Line Word)) (line : Line Word)
-    → directives mode (lines ++ line ∷ []) ≡ directives mode lines ++ filter_map (said mode) ((block_after_lines None lines, line) ∷ [])
+    → directives mode (lines ++ line ∷ []) ≡ directives mode lines ++ filter_map (directive_said mode) ((block_after_lines None lines, line) ∷ [])
 directives-snoc mode lines line =
-    ap (filter_map (said mode)) (with_blocks-snoc None lines (line ∷ [])) ∙ filter_map-append (said mode) (with_blocks lines) ((block_after_lines None lines, line) ∷ [])
+    ap (filter_map (directive_said mode)) (with_blocks-snoc None lines (line ∷ [])) ∙ filter_map-append (directive_said mode) (with_blocks lines) ((block_after_lines None lines, line) ∷ [])
 
 -- the faults after one more line: those of the lines before it, and then its own
 pub faults-snoc : (mode : Mode) (lines : List (Line Word)) (line : Line Word)

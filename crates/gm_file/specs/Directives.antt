@@ -233,9 +233,9 @@ directive_in mode (Opening verb) = None
 directive_in mode (Saying verb arguments) = directive_of (verb_in mode verb) arguments
 
 -- the directive of a line, if any
-abbrev pub said : Mode → LineInBlock Word → Option Directive
-said mode seat = directive_in mode (item_at seat)
+abbrev pub directive_said : Mode → LineInBlock Word → Option Directive
+directive_said mode seat = directive_in mode (item_at seat)
 
 -- the directives of the lines, in order
 abbrev pub directives : Mode → List (Line Word) → List Directive
-directives mode lines = filter_map (said mode) (with_blocks lines)
+directives mode lines = filter_map (directive_said mode) (with_blocks lines)

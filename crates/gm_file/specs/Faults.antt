@@ -12,7 +12,7 @@ use Rattle.gm_name.specs.ModuleVersion.{ModuleVersion}
 use Rattle.gm_file.specs.GoVersions.{lax_go, strict_go}
 use Rattle.gm_file.specs.declared.verb.Verb.{Verb}
 use Rattle.gm_file.specs.declared.verb.Verb.TheVariants.{Module as ForModule, Go as ForGo, Unknown}
-use Rattle.gm_file.specs.Directives.{is_of_verb, Mode, Strict, Lax, verb_in, VersionInterval, Left, Right, Folder, Module, Replacing, Directive, DeclaresModule, DeclaresGo, Requires, Excludes, Replaces, Retracts, Kept, directive_of, LineInBlock, with_blocks, Item, Silent, Opening, Saying, item_at, said, directives}
+use Rattle.gm_file.specs.Directives.{is_of_verb, Mode, Strict, Lax, verb_in, VersionInterval, Left, Right, Folder, Module, Replacing, Directive, DeclaresModule, DeclaresGo, Requires, Excludes, Replaces, Retracts, Kept, directive_of, LineInBlock, with_blocks, Item, Silent, Opening, Saying, item_at, directive_said, directives}
 
 -- this kind alone, or no kind if the test passes
 abbrev pub unless : Bool → DirectiveKind → List DirectiveKind
@@ -148,7 +148,8 @@ with_before xs = with_before_from [] xs
 -- the faults of a line, which is paired with the lines before it
 abbrev pub faults_after : Mode → List (LineInBlock Word) × LineInBlock Word → List Fault
 faults_after mode place =
-    map (λ kind. (length place.0 + 1, kind)) (item_kinds mode (filter_map (said mode) place.0) (item_at place.1))
+    map (λ kind. (length place.0 + 1, kind))
+    (item_kinds mode (filter_map (directive_said mode) place.0) (item_at place.1))
 
 -- all faults of the lines
 unfoldable pub faults : Mode → List (Line Word) → List Fault
@@ -176,8 +177,8 @@ first_of found = find (λ a. list_all (λ b. not (precedes b a)) found) found
 
 -- the fault of a main file without `module`
 abbrev pub missing_module : Mode → List Directive → Option Fault
-missing_module Strict said = if list_any is_module said then None else Some (0, NoModule)
-missing_module Lax said = None
+missing_module Strict directive_said = if list_any is_module directive_said then None else Some (0, NoModule)
+missing_module Lax directive_said = None
 
 -- the fault that reading the lines reports; NoModule only if there is no other
 unfoldable pub fault_of : Mode → List (Line Word) → Option Fault

@@ -1,7 +1,7 @@
 -- The requirements of a file while it is read.
 use Rattle.std.specs.Prelude.{◌≤◌, ℕ, List, Option, Some, None, drop, length, take, ⊤}
 use Rattle.gm_name.specs.ModuleVersion.{ModuleVersion}
-use Rattle.gm_name_table.specs.Listed.{AreModuleNumbers, NumberedList, listed}
+use Rattle.gm_name_table.specs.Listed.{AreModuleNumbers, NumberedList, modules_of}
 use Rattle.gm_file.specs.declared.required.Destination.{Destination}
 use Rattle.gm_file.specs.declared.required.Destination.TheVariants as place
 
@@ -18,7 +18,7 @@ list_before list start known = record { modules = take known list.modules; numbe
 abbrev pub items_in : Destination → Requirements
 items_in (place.Own pairs) = record { before = None; items = pairs.items }
 items_in (place.End list start known) =
-    record { before = Some (list_before list start known); items = drop start (listed list) }
+    record { before = Some (list_before list start known); items = drop start (modules_of list) }
 
 -- the list of modules is no shorter than it was, and the numbers in it then were those of modules that it had
 pub record IsLonger (list : NumberedList) (start known : ℕ) : Type 0 where

@@ -199,10 +199,11 @@ pub(crate) fn read_all<'a>(
         let Some(line) = reader.next()? else {
             return Ok(());
         };
-        if let Err(fault) = said.read_line(alloc, names, &line) {
+        let read = said.read_line(alloc, names, &line);
+        reader.recycle(line);
+        if let Err(fault) = read {
             return Err(fault_of_all(reader, fault));
         }
-        reader.recycle(line);
     }
 }
 

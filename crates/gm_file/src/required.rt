@@ -73,14 +73,8 @@ impl Required {
         ensures items { OnOk result (self.new.items ≡ self.old.items ++ pair ∷ []) }
     {
         match &mut self.place {
-            Destination::Own(pairs) => {
-                pairs.push(pair)?;
-                Ok(())
-            }
-            Destination::End { list, .. } => {
-                list.push(&pair)?;
-                Ok(())
-            }
+            Destination::Own(pairs) => Ok(pairs.push(pair)?),
+            Destination::End { list, .. } => list.push(&pair),
         }
     }
 

@@ -8,7 +8,7 @@ use Rattle.gm_syntax.specs.Tokens.{Placed}
 use Rattle.gm_syntax.specs.Document.{Line, Blank}
 use Rattle.gm_file.specs.Directives.{Directive, block_after_line, block_after_lines, is_of_verb, main_verb}
 use Rattle.gm_file.specs.Faults.{is_module}
-use Rattle.gm_file_edit.specs.Edited.{added, after_closing, after_first_of, has_verb}
+use Rattle.gm_file_edit.specs.Edited.{with_addition, after_closing, after_first_of, has_verb}
 use Rattle.gm_file_edit.specs.declared.adding.Spot.{Spot}
 use Rattle.gm_file_edit.specs.NewWords.{entry_at, single}
 use Rattle.gm_file_edit.specs.Holding.{directive_at, passes, is_there}
@@ -44,7 +44,7 @@ place-is own lines spot is =
     let before = is.before in
     record { in_range = omega (arith, long, before); adds = adds }
   where
-    adds : (verb : List ℕ) (arguments : List Placed) → main_verb verb ≡ own → insert lines spot.before (entry_at spot.inside verb arguments) ≡ added verb arguments lines
+    adds : (verb : List ℕ) (arguments : List Placed) → main_verb verb ≡ own → insert lines spot.before (entry_at spot.inside verb arguments) ≡ with_addition verb arguments lines
     adds verb arguments named =
         let at = is.last in
         let own_verb : is_of_verb own ≡ has_verb verb = ap is_of_verb (sym named) in
@@ -52,7 +52,7 @@ place-is own lines spot is =
         ∙ ap (λ (n : ℕ). insert (at.front ++ at.line ∷ at.back) n (entry_at spot.inside verb arguments)) is.before
         ∙ insert-behind at.front at.back at.line (entry_at spot.inside verb arguments)
         ∙ ap (λ (b : Bool). at.front ++ at.line ∷ entry_at b verb arguments ∷ at.back) is.inside
-        ∙ sym (ap (added verb arguments) at.parts ∙ added-after-last verb arguments at.front at.back at.line
+        ∙ sym (ap (with_addition verb arguments) at.parts ∙ added-after-last verb arguments at.front at.back at.line
         (subst (λ (test : Directive → Bool). passes test (directive_at (block_after_lines None at.front) at.line) ≡ true) own_verb at.hit)
         (subst (λ (test : Directive → Bool). is_there test (block_after_lines None (at.front ++ at.line ∷ [])) at.back ≡ false) own_verb at.later))
 
@@ -255,7 +255,7 @@ IsOpenTo whole from n = (new : List (Line Placed)) → take n whole ++ after_clo
 -- ---- the lines with new ones
 
 pub add-there : (own : Verb) (text : List ℕ) (arguments : List Placed) (lines : List (Line Placed)) (line : Line Placed) (o : Option Spot) (spot : Spot)
-    → IfSome o (λ s. IsPlaceOf own lines s) → o ≡ Some spot → main_verb text ≡ own → line ≡ entry_at spot.inside text arguments → insert lines spot.before line ≡ added text arguments lines
+    → IfSome o (λ s. IsPlaceOf own lines s) → o ≡ Some spot → main_verb text ≡ own → line ≡ entry_at spot.inside text arguments → insert lines spot.before line ≡ with_addition text arguments lines
 add-there own text arguments lines line o spot place is named so =
     ap (insert lines spot.before) so ∙ (subst (λ (p : Option Spot). IfSome p (λ s. IsPlaceOf own lines s)) is place).adds text arguments named
 
@@ -263,8 +263,8 @@ pub add-in-range : (own : Verb) (lines : List (Line Placed)) (o : Option Spot) (
 add-in-range own lines o spot place is = (subst (λ (p : Option Spot). IfSome p (λ s. IsPlaceOf own lines s)) is place).in_range
 
 pub add-last : (own : Verb) (text : List ℕ) (arguments : List Placed) (lines : List (Line Placed)) (o : Option Spot)
-    → IfNone o (is_there (is_of_verb own) None lines ≡ false) → o ≡ None → main_verb text ≡ own → lines ++ (Blank ∷ single text arguments ∷ []) ≡ added text arguments lines
-unfolding added
+    → IfNone o (is_there (is_of_verb own) None lines ≡ false) → o ≡ None → main_verb text ≡ own → lines ++ (Blank ∷ single text arguments ∷ []) ≡ with_addition text arguments lines
+unfolding with_addition
 add-last own text arguments lines o none is named =
     let absent : is_there (has_verb text) None lines ≡ false =
     ap (λ (v : Verb). is_there (is_of_verb v) None lines) named ∙ subst (λ (p : Option Spot). IfNone p (is_there (is_of_verb own) None lines ≡ false)) is none in

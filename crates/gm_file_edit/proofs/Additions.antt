@@ -6,7 +6,7 @@ use Rattle.gm_syntax.specs.Tokens.{Placed}
 use Rattle.gm_syntax.specs.Document.{Line, Blank, Comment, Open, Close, Entry}
 use Rattle.gm_file_edit.specs.Edits.{Edit, Set, GoIs}
 use Rattle.gm_file_edit.specs.About.{about}
-use Rattle.gm_file_edit.specs.Edited.{added, edited, has_verb, new_entry, put_in, with_entry, after_closing, after_first_of, new_go}
+use Rattle.gm_file_edit.specs.Edited.{with_addition, lines_after, has_verb, new_entry, put_in, with_entry, after_closing, after_first_of, new_go}
 use Rattle.gm_file_edit.specs.EditLaws.{AdditionFollowsItsVerb, AdditionOfANewVerbIsLast}
 use Rattle.gm_file_edit.specs.Laws.{directives_of}
 use Rattle.gm_file_edit.proofs.Insertions.{added-after-last, added-at-end, there-said}
@@ -16,13 +16,13 @@ use Rattle.gm_file.specs.Faults.{is_go, is_module}
 use Rattle.gm_file_edit.specs.Holding.{directive_at, passes, is_there}
 use Rattle.gm_file_edit.specs.GoPlace.{GoFollowsModule, GoFollowsModuleBlock, IsFirstModule, is_loose}
 
-put-added : (edit : Edit) (entry : List ℕ × List Placed) (lines : List (Line Placed)) → new_entry edit ≡ Some entry → put_in edit lines ≡ added entry.0 entry.1 lines
+put-added : (edit : Edit) (entry : List ℕ × List Placed) (lines : List (Line Placed)) → new_entry edit ≡ Some entry → put_in edit lines ≡ with_addition entry.0 entry.1 lines
 unfolding put_in
 put-added (Set (GoIs text)) entry lines is = absurd cc
 put-added edit entry lines is = ap (λ (o : Option (List ℕ × List Placed)). with_entry o lines) is
 
-pub edited-added : (edit : Edit) (entry : List ℕ × List Placed) (lines : List (Line Placed)) → new_entry edit ≡ Some entry → list_any (about edit) (directives_of lines) ≡ false → edited edit lines ≡ added entry.0 entry.1 lines
-edited-added edit entry lines adds none = by-edited (λ after. after ≡ added entry.0 entry.1 lines) edit lines (λ there. absurd (true≢false (sym there ∙ there-said (about edit) lines ∙ none))) (λ absent. put-added edit entry lines adds)
+pub edited-added : (edit : Edit) (entry : List ℕ × List Placed) (lines : List (Line Placed)) → new_entry edit ≡ Some entry → list_any (about edit) (directives_of lines) ≡ false → lines_after edit lines ≡ with_addition entry.0 entry.1 lines
+edited-added edit entry lines adds none = by-edited (λ after. after ≡ with_addition entry.0 entry.1 lines) edit lines (λ there. absurd (true≢false (sym there ∙ there-said (about edit) lines ∙ none))) (λ absent. put-added edit entry lines adds)
 
 pub addition-follows : AdditionFollowsItsVerb
 addition-follows edit verb arguments front back line adds none is =
@@ -53,13 +53,13 @@ to-closing new (Open verb suffix ∷ inner) back last e = absurd cc
 to-closing new (Close suffix ∷ inner) back last e = absurd cc
 to-closing new (Entry words suffix ∷ inner) back last e = ap (λ (ls : List (Line Placed)). Entry words suffix ∷ ls) (to-closing new inner back last e)
 
-edited-go : (text : List ℕ) (lines : List (Line Placed)) → list_any is_go (directives_of lines) ≡ false → edited (Set (GoIs text)) lines ≡ after_first_of is_module (new_go text) None lines
+edited-go : (text : List ℕ) (lines : List (Line Placed)) → list_any is_go (directives_of lines) ≡ false → lines_after (Set (GoIs text)) lines ≡ after_first_of is_module (new_go text) None lines
 unfolding put_in
 edited-go text lines none =
     by-edited (λ after. after ≡ after_first_of is_module (new_go text) None lines) (Set (GoIs text)) lines (λ there. absurd (true≢false (sym there ∙ there-said is_go lines ∙ none))) (λ absent. refl)
 
 go-placed : (text : List ℕ) (front back : List (Line Placed)) (line : Line Placed) → IsFirstModule front line → list_any is_go (directives_of (front ++ line ∷ back)) ≡ false
-    → edited (Set (GoIs text)) (front ++ line ∷ back) ≡ front ++ line ∷ (if is_some (block_after_lines None front) then after_closing (new_go text) back else new_go text ++ back)
+    → lines_after (Set (GoIs text)) (front ++ line ∷ back) ≡ front ++ line ∷ (if is_some (block_after_lines None front) then after_closing (new_go text) back else new_go text ++ back)
 go-placed text front back line first none = edited-go text (front ++ line ∷ back) none ∙ first-behind is_module (new_go text) None front back line first.none_earlier first.is_module_line
 
 pub go-follows : GoFollowsModule

@@ -8,9 +8,9 @@ use Rattle.gm_syntax.specs.Document.{Line, Blank, Comment, Open, Close, Entry}
 use Rattle.gm_file.specs.Directives.{Directive, block_after_line, item_at}
 use Rattle.gm_file_edit.specs.Edits.{Edit, Set, Setting, ModuleIs, GoIs, RequireAt, ReplaceWith, Add, Drop}
 use Rattle.gm_file_edit.specs.About.{about}
-use Rattle.gm_file_edit.specs.Edited.{changed, edited, put_in}
+use Rattle.gm_file_edit.specs.Edited.{with_change, lines_after, put_in}
 use Rattle.gm_file_edit.specs.EditLaws.{is_comment_line}
-use Rattle.gm_file_edit.specs.Fates.{Fate, dropped, dropping_from, is_emptied, kept, remaining, renewed, renewing_from, widened_from}
+use Rattle.gm_file_edit.specs.Fates.{Fate, without_targets, dropping_from, is_emptied, kept_lines, remaining, with_renewal, renewing_from, widened_from}
 use Rattle.gm_file_edit.specs.Holding.{directive_at, passes}
 use Rattle.gm_file_edit.specs.NewWords.{entry_at}
 use Rattle.gm_file_edit.specs.Renewing.{made_new}
@@ -23,7 +23,7 @@ comments lines = filter is_comment_line lines
 
 -- ---- the lines that remain
 
-left-comments : (inside goes : Bool) (fates : List Fate) → comments (kept (widened_from inside goes fates)) ≡ comments (kept fates)
+left-comments : (inside goes : Bool) (fates : List Fate) → comments (kept_lines (widened_from inside goes fates)) ≡ comments (kept_lines fates)
 left-comments inside goes [] = refl
 left-comments inside goes (None ∷ fates) = left-comments inside goes fates
 left-comments inside true (Some Blank ∷ fates) = left-comments inside (inside && true) fates
@@ -39,7 +39,7 @@ left-comments inside goes (Some (Close suffix) ∷ fates) = elim (cases_Bool (in
 ]
 left-comments inside goes (Some (Entry words suffix) ∷ fates) = left-comments inside false fates
 
-remaining-comments : (fates : List Fate) → comments (remaining fates) ≡ comments (kept fates)
+remaining-comments : (fates : List Fate) → comments (remaining fates) ≡ comments (kept_lines fates)
 unfolding remaining
 remaining-comments fates = left-comments false false fates
 
@@ -62,30 +62,30 @@ no-comment test new rewrites block (Entry words suffix) hit = (refl, rewrites bl
 behind-same : (line : Line Placed) (xs ys : List (Line Placed)) → comments xs ≡ comments ys → comments (line ∷ xs) ≡ comments (line ∷ ys)
 behind-same line xs ys e = ap (λ (ls : List (Line Placed)). if is_comment_line line then line ∷ ls else ls) e
 
-dropping-comments : (test : Directive → Bool) (block : Option Placed) (lines : List (Line Placed)) → comments (kept (dropping_from test block lines)) ≡ comments lines
+dropping-comments : (test : Directive → Bool) (block : Option Placed) (lines : List (Line Placed)) → comments (kept_lines (dropping_from test block lines)) ≡ comments lines
 dropping-comments test block [] = refl
 dropping-comments test block (line ∷ lines) =
     let rest = dropping-comments test (block_after_line block line) lines in
     elim (cases_Bool (passes test (directive_at block line))) [
       | inl hit ↦ rw hit (rest ∙ sym (filter-none is_comment_line line lines (no-comment test (λ b l. l) (λ b words suffix. refl) block line hit).0))
-      | inr miss ↦ rw miss (behind-same line (kept (dropping_from test (block_after_line block line) lines)) lines rest)
+      | inr miss ↦ rw miss (behind-same line (kept_lines (dropping_from test (block_after_line block line) lines)) lines rest)
     ]
 
-renewing-comments : (test : Directive → Bool) (new : Option Placed → Line Placed → Line Placed) → RewritesEntries new → (block : Option Placed) (lines : List (Line Placed)) → comments (kept (renewing_from test new block lines)) ≡ comments lines
+renewing-comments : (test : Directive → Bool) (new : Option Placed → Line Placed → Line Placed) → RewritesEntries new → (block : Option Placed) (lines : List (Line Placed)) → comments (kept_lines (renewing_from test new block lines)) ≡ comments lines
 renewing-comments test new rewrites block [] = refl
 renewing-comments test new rewrites block (line ∷ lines) =
     let behind : Option Placed = block_after_line block line in
     elim (cases_Bool (passes test (directive_at block line))) [
       | inl hit ↦
           let none = no-comment test new rewrites block line hit in
-          rw hit (filter-none is_comment_line (new block line) (kept (dropping_from test behind lines)) none.1 ∙ dropping-comments test behind lines ∙ sym (filter-none is_comment_line line lines none.0))
-      | inr miss ↦ rw miss (behind-same line (kept (renewing_from test new behind lines)) lines (renewing-comments test new rewrites behind lines))
+          rw hit (filter-none is_comment_line (new block line) (kept_lines (dropping_from test behind lines)) none.1 ∙ dropping-comments test behind lines ∙ sym (filter-none is_comment_line line lines none.0))
+      | inr miss ↦ rw miss (behind-same line (kept_lines (renewing_from test new behind lines)) lines (renewing-comments test new rewrites behind lines))
     ]
 
-dropped-comments : (test : Directive → Bool) (lines : List (Line Placed)) → comments (dropped test lines) ≡ comments lines
+dropped-comments : (test : Directive → Bool) (lines : List (Line Placed)) → comments (without_targets test lines) ≡ comments lines
 dropped-comments test lines = remaining-comments (dropping_from test None lines) ∙ dropping-comments test None lines
 
-renewed-comments : (test : Directive → Bool) (new : Option Placed → Line Placed → Line Placed) → RewritesEntries new → (lines : List (Line Placed)) → comments (renewed test new lines) ≡ comments lines
+renewed-comments : (test : Directive → Bool) (new : Option Placed → Line Placed → Line Placed) → RewritesEntries new → (lines : List (Line Placed)) → comments (with_renewal test new lines) ≡ comments lines
 renewed-comments test new rewrites lines = remaining-comments (renewing_from test new None lines) ∙ renewing-comments test new rewrites None lines
 
 -- ---- the lines with new entries
@@ -105,8 +105,8 @@ into-comments verb arguments lines after put =
 
 -- ---- the lines after an operation
 
-changed-comments : (edit : Edit) (lines : List (Line Placed)) → comments (changed edit lines) ≡ comments lines
-unfolding changed
+changed-comments : (edit : Edit) (lines : List (Line Placed)) → comments (with_change edit lines) ≡ comments lines
+unfolding with_change
 changed-comments (Set s) lines = renewed-comments (about (Set s)) (made_new (Set s)) (rewritten s) lines
   where
     rewritten : (s : Setting) → RewritesEntries (made_new (Set s))
@@ -120,5 +120,5 @@ changed-comments (Drop t) lines = dropped-comments (about (Drop t)) lines
 put-comments : (edit : Edit) (lines : List (Line Placed)) → comments (put_in edit lines) ≡ comments lines
 put-comments edit lines = by-put (λ other after. comments after ≡ comments lines) lines (λ path. refl) (λ other entry after is put. into-comments entry.0 entry.1 lines after put) (λ t. refl) edit
 
-pub pass-comments : (edit : Edit) (lines : List (Line Placed)) → filter is_comment_line (edited edit lines) ≡ filter is_comment_line lines
+pub pass-comments : (edit : Edit) (lines : List (Line Placed)) → filter is_comment_line (lines_after edit lines) ≡ filter is_comment_line lines
 pass-comments edit lines = by-edited (λ after. comments after ≡ comments lines) edit lines (λ there. changed-comments edit lines) (λ none. put-comments edit lines)

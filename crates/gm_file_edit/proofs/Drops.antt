@@ -10,7 +10,7 @@ use Rattle.gm_file.specs.Directives.{Directive, block_after_line, block_after_li
 use Rattle.gm_file.specs.Faults.{is_module}
 use Rattle.gm_file.specs.Pairwise.{do_clash}
 use Rattle.gm_file.proofs.Pairwise.{AreApart, clash-mutual}
-use Rattle.gm_file_edit.specs.Fates.{Fate, dropped, dropping_from, kept, remaining, renewed, renewing_from}
+use Rattle.gm_file_edit.specs.Fates.{Fate, without_targets, dropping_from, kept_lines, remaining, with_renewal, renewing_from}
 use Rattle.gm_file_edit.specs.Holding.{directive_at, passes, is_there}
 use Rattle.gm_file_edit.proofs.Filters.{fewer-any, filter-any, filter-none, filter-one, none-any, none-filtered, others}
 use Rattle.gm_file_edit.proofs.Insertions.{passing-level}
@@ -25,18 +25,18 @@ use Rattle.gm_file_edit.proofs.Seats.{fewer-all, remaining-left}
 abbrev AreRightTo : Option Placed → List (Line Placed) → Option Placed → Type 0
 AreRightTo block lines last = AreRightFrom block lines × (block_after_lines block lines ≡ last)
 
-dropping-right : (test : Directive → Bool) (block : Option Placed) (lines : List (Line Placed)) → AreRightFrom block lines → AreRightTo block (kept (dropping_from test block lines)) (block_after_lines block lines)
+dropping-right : (test : Directive → Bool) (block : Option Placed) (lines : List (Line Placed)) → AreRightFrom block lines → AreRightTo block (kept_lines (dropping_from test block lines)) (block_after_lines block lines)
 dropping-right test block [] right = (tt, refl)
 dropping-right test block (line ∷ lines) right =
     let behind : Option Placed = block_after_line block line in
     let rest = dropping-right test behind lines right.1 in
     elim (cases_Bool (passes test (directive_at block line))) [
-      | inl hit ↦ rw hit (subst (λ (b : Option Placed). AreRightTo b (kept (dropping_from test behind lines)) (block_after_lines behind lines)) (passing-level test block line hit) rest)
+      | inl hit ↦ rw hit (subst (λ (b : Option Placed). AreRightTo b (kept_lines (dropping_from test behind lines)) (block_after_lines behind lines)) (passing-level test block line hit) rest)
       | inr miss ↦ rw miss ((right.0, rest.0), rest.1)
     ]
 
 renewing-right : (test : Directive → Bool) (said : Directive) (make : Option Placed → Line Placed → Line Placed) → Makes test said make → (block : Option Placed) (lines : List (Line Placed)) → AreRightFrom block lines
-    → AreRightTo block (kept (renewing_from test make block lines)) (block_after_lines block lines)
+    → AreRightTo block (kept_lines (renewing_from test make block lines)) (block_after_lines block lines)
 renewing-right test said make makes block [] right = (tt, refl)
 renewing-right test said make makes block (line ∷ lines) right =
     let behind : Option Placed = block_after_line block line in
@@ -44,13 +44,13 @@ renewing-right test said make makes block (line ∷ lines) right =
       | inl hit ↦
           let h = held-some test (directive_at block line) hit in
           let made = makes block line h.0 h.1 h.2 right.0.0 in
-          let left : List (Line Placed) = kept (dropping_from test behind lines) in
+          let left : List (Line Placed) = kept_lines (dropping_from test behind lines) in
           let rest : AreRightTo block left (block_after_lines behind lines) = subst (λ (b : Option Placed). AreRightTo b left (block_after_lines behind lines)) (passing-level test block line hit) (dropping-right test behind lines right.1) in
           rw hit (subst (λ (l : Line Placed). AreRightTo block (l ∷ left) (block_after_lines behind lines)) (sym made.is_entry) (((made.stands, made.alone), rest.0), rest.1))
       | inr miss ↦ let rest = renewing-right test said make makes behind lines right.1 in rw miss ((right.0, rest.0), rest.1)
     ]
 
-left-right : (fates : List Fate) → AreRightTo None (kept fates) None → AreRightTo None (remaining fates) None
+left-right : (fates : List Fate) → AreRightTo None (kept_lines fates) None → AreRightTo None (remaining fates) None
 left-right fates right = let left = remaining-left fates in (fewer-all IsRightLine left.0 right.0, left.1 right.1)
 
 -- ---- the directives
@@ -117,16 +117,16 @@ module _ (test : Directive → Bool) (lines : List (Line Placed)) (sound : IsSou
   rest-apart : AreApart (filter (others test) ds)
   rest-apart = apart-filter (others test) ds sound.lines_are.apart
 
-  pub dropped-sound : ((d : Directive) → test d ≡ true → is_module d ≡ false) → IsSound (dropped test lines)
+  pub dropped-sound : ((d : Directive) → test d ≡ true → is_module d ≡ false) → IsSound (without_targets test lines)
   dropped-sound other =
-      let held : held_from None (dropped test lines) ≡ filter (others test) ds = dropped-held test lines in
+      let held : held_from None (without_targets test lines) ≡ filter (others test) ds = dropped-held test lines in
       let right = dropping-right test None lines sound.lines_are.right in
-      sound-by (dropped test lines) (left-right (dropping_from test None lines) (right.0, right.1 ∙ sound.closed)) (subst AreApart (sym held) rest-apart)
+      sound-by (without_targets test lines) (left-right (dropping_from test None lines) (right.0, right.1 ∙ sound.closed)) (subst AreApart (sym held) rest-apart)
       (ap (list_any is_module) held ∙ others-declared test other ds sound.lines_are.declared)
 
-  pub renewed-sound : (said : Directive) (make : Option Placed → Line Placed → Line Placed) → IsRenewal test said make → is_there test None lines ≡ true → IsSound (renewed test make lines)
+  pub renewed-sound : (said : Directive) (make : Option Placed → Line Placed → Line Placed) → IsRenewal test said make → is_there test None lines ≡ true → IsSound (with_renewal test make lines)
   renewed-sound said make by there =
-      let after : List Directive = held_from None (renewed test make lines) in
+      let after : List Directive = held_from None (with_renewal test make lines) in
       let rest : filter (others test) after ≡ filter (others test) ds = renewed-others test said make by.wanted.own by.made lines sound in
       let alone : filter test after ≡ said ∷ [] = renewed-alone test said make by.wanted.own by.made lines sound there in
       let right = renewing-right test said make by.made None lines sound.lines_are.right in
@@ -134,6 +134,6 @@ module _ (test : Directive → Bool) (lines : List (Line Placed)) (sound : IsSou
         | inl declares ↦ rw declares refl
         | inr other ↦ rw other (ap (list_any is_module) rest ∙ others-declared test (λ d e. by.other d e ∙ other) ds sound.lines_are.declared)
       ] in
-      sound-by (renewed test make lines) (left-right (renewing_from test make None lines) (right.0, right.1 ∙ sound.closed))
+      sound-by (with_renewal test make lines) (left-right (renewing_from test make None lines) (right.0, right.1 ∙ sound.closed))
       (new-apart test said by.wanted.mild after alone (subst AreApart (sym rest) rest-apart))
       (any-parts test is_module after ∙ ap (λ (es : List Directive). list_any is_module es || list_any is_module (filter (others test) after)) alone ∙ some)

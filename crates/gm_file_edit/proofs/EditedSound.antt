@@ -20,7 +20,7 @@ use Rattle.gm_file.specs.Faults.{fault_of}
 use Rattle.gm_file.specs.Pairwise.{do_clash}
 use Rattle.gm_file_edit.specs.Edits.{has_byte, Edit, Target, Set, ModuleIs, GoIs, RequireAt, Drop, AnyRequire, Add, Exclude, ReplaceWith, Retract}
 use Rattle.gm_file_edit.specs.About.{about}
-use Rattle.gm_file_edit.specs.Edited.{changed, edited, put_in}
+use Rattle.gm_file_edit.specs.Edited.{with_change, lines_after, put_in}
 use Rattle.gm_file_edit.specs.Kinds.{directive_set, is_fit}
 use Rattle.gm_file_edit.specs.Holding.{is_there}
 use Rattle.gm_file_edit.specs.NewWords.{interval_words, pair_words, replace_words, single}
@@ -120,8 +120,8 @@ says edit entry e good = subst (λ (o : Option (List ℕ × List Placed)). IfSom
 
 -- ---- the lines after an operation
 
-changed-sound : (edit : Edit) (lines : List (Line Placed)) → IsSoundEdit edit → is_fit edit ≡ true → is_there (about edit) None lines ≡ true → IsSound lines → IsSound (changed edit lines)
-unfolding changed
+changed-sound : (edit : Edit) (lines : List (Line Placed)) → IsSoundEdit edit → is_fit edit ≡ true → is_there (about edit) None lines ≡ true → IsSound lines → IsSound (with_change edit lines)
+unfolding with_change
 changed-sound (Set s) lines good fit there sound = renewed-sound (about (Set s)) lines sound (directive_set s) (made_new (Set s)) (renewal s good fit) there
 changed-sound (Add a) lines good fit there sound = sound
 changed-sound (Drop t) lines good fit there sound = dropped-sound (about (Drop t)) lines sound (λ d e. about-module (Drop t) d e ∙ no-module t)
@@ -143,9 +143,9 @@ put-sound lines sound = by-put (λ edit after. IsSoundEdit edit → is_fit edit 
     into-sound entry.0 entry.1 by.new lines after by.is (put-new edit by.new lines by.put good fit none) sound put)
     (λ t good fit none. sound)
 
-pub edited-sound : (edit : Edit) (lines : List (Line Placed)) → IsSoundEdit edit → is_fit edit ≡ true → IsSound lines → IsSound (edited edit lines)
+pub edited-sound : (edit : Edit) (lines : List (Line Placed)) → IsSoundEdit edit → is_fit edit ≡ true → IsSound lines → IsSound (lines_after edit lines)
 edited-sound edit lines good fit sound = by-edited IsSound edit lines (λ there. changed-sound edit lines good fit there sound) (λ none. put-sound lines sound edit good fit none)
 
 pub edited-document : (edit : Edit) (lines : List (Line Placed)) → IsSoundEdit edit → is_fit edit ≡ true → IsDocument (plain_lines lines) → fault_of Strict (plain_lines lines) ≡ None
-    → IsDocument (plain_lines (edited edit lines)) × (fault_of Strict (plain_lines (edited edit lines)) ≡ None)
-edited-document edit lines good fit document none = sound-document (edited edit lines) (edited-sound edit lines good fit (document-sound lines document none))
+    → IsDocument (plain_lines (lines_after edit lines)) × (fault_of Strict (plain_lines (lines_after edit lines)) ≡ None)
+edited-document edit lines good fit document none = sound-document (lines_after edit lines) (edited-sound edit lines good fit (document-sound lines document none))

@@ -9,7 +9,7 @@ use Rattle.gm_syntax.specs.Tokens.{Placed}
 use Rattle.gm_syntax.specs.Document.{Line}
 use Rattle.gm_file.specs.Directives.{Directive}
 use Rattle.gm_file_edit.specs.About.{about}
-use Rattle.gm_file_edit.specs.Edited.{edited}
+use Rattle.gm_file_edit.specs.Edited.{lines_after}
 use Rattle.gm_file_edit.specs.Edits.{Edit, Set, Add, Drop}
 use Rattle.gm_file_edit.specs.Laws.{AreApart, EitherOrderLeavesTheSame, IsEditOf, directives_of}
 use Rattle.gm_file_edit.specs.Kinds.{directive_added, directive_set}
@@ -22,7 +22,7 @@ use Rattle.gm_file_edit.proofs.Written.{written-sound}
 
 -- files that say the same of what an operation targets do so after it
 targeted-same : (edit : Edit) (xs ys : List (Line Placed)) → IsEditOf edit xs → IsEditOf edit ys → filter (about edit) (directives_of xs) ≡ filter (about edit) (directives_of ys)
-    → filter (about edit) (directives_of (edited edit xs)) ≡ filter (about edit) (directives_of (edited edit ys))
+    → filter (about edit) (directives_of (lines_after edit xs)) ≡ filter (about edit) (directives_of (lines_after edit ys))
 targeted-same (Set s) xs ys one two same = set-stands-alone (Set s) xs (directive_set s) one refl ∙ sym (set-stands-alone (Set s) ys (directive_set s) two refl)
 targeted-same (Add a) xs ys one two same =
     let test : Directive → Bool = about (Add a) in
@@ -31,10 +31,10 @@ targeted-same (Add a) xs ys one two same =
     ∙ ap (λ (ds : List Directive). if list_any test (directives_of ys) then ds else directive_added a ∷ []) same ∙ sym (added-is-there (Add a) ys (directive_added a) two refl)
 targeted-same (Drop t) xs ys one two same =
     let test : Directive → Bool = about (Drop t) in
-    no-filter test (directives_of (edited (Drop t) xs)) (dropped-is-gone (Drop t) xs refl) ∙ sym (no-filter test (directives_of (edited (Drop t) ys)) (dropped-is-gone (Drop t) ys refl))
+    no-filter test (directives_of (lines_after (Drop t) xs)) (dropped-is-gone (Drop t) xs refl) ∙ sym (no-filter test (directives_of (lines_after (Drop t) ys)) (dropped-is-gone (Drop t) ys refl))
 
 -- an operation on what another left
-edit-after : (edit other : Edit) (lines : List (Line Placed)) → IsEditOf edit lines → IsEditOf other lines → IsEditOf edit (edited other lines)
+edit-after : (edit other : Edit) (lines : List (Line Placed)) → IsEditOf edit lines → IsEditOf other lines → IsEditOf edit (lines_after other lines)
 edit-after edit other lines is also =
     let after = edited-document other lines (written-sound also.0.0 other also.0.1) also.1 also.2 also.3 in
     (is.0, is.1, after.0, after.1)
@@ -42,26 +42,26 @@ edit-after edit other lines is also =
 -- ---- both orders
 
 -- another operation leaves what an operation targets
-kept-by : (edit other : Edit) (lines : List (Line Placed)) → IsEditOf other lines → AreApart edit other → filter (about edit) (directives_of (edited other lines)) ≡ filter (about edit) (directives_of lines)
+kept-by : (edit other : Edit) (lines : List (Line Placed)) → IsEditOf other lines → AreApart edit other → filter (about edit) (directives_of (lines_after other lines)) ≡ filter (about edit) (directives_of lines)
 kept-by edit other lines is apart =
-    sym (among-others (about edit) (about other) apart (directives_of (edited other lines))) ∙ ap (filter (about edit)) (others-stay other lines is) ∙ among-others (about edit) (about other) apart (directives_of lines)
+    sym (among-others (about edit) (about other) apart (directives_of (lines_after other lines))) ∙ ap (filter (about edit)) (others-stay other lines is) ∙ among-others (about edit) (about other) apart (directives_of lines)
 
 -- so what an operation targets is the same in both orders
 first-same : (one other : Edit) (lines : List (Line Placed)) → IsEditOf one lines → IsEditOf other lines → AreApart one other
-    → filter (about one) (directives_of (edited other (edited one lines))) ≡ filter (about one) (directives_of (edited one (edited other lines)))
+    → filter (about one) (directives_of (lines_after other (lines_after one lines))) ≡ filter (about one) (directives_of (lines_after one (lines_after other lines)))
 first-same one other lines is also apart =
-    kept-by one other (edited one lines) (edit-after other one lines also is) apart
-    ∙ targeted-same one lines (edited other lines) is (edit-after one other lines is also) (sym (kept-by one other lines also apart))
+    kept-by one other (lines_after one lines) (edit-after other one lines also is) apart
+    ∙ targeted-same one lines (lines_after other lines) is (edit-after one other lines is also) (sym (kept-by one other lines also apart))
 
 -- and what neither targets
 abbrev neither : Edit → Edit → List Directive → List Directive
 neither one other ds = filter (others (about other)) (filter (others (about one)) ds)
 
-neither-after : (one other : Edit) (lines : List (Line Placed)) → IsEditOf one lines → IsEditOf other lines → neither one other (directives_of (edited other (edited one lines))) ≡ neither one other (directives_of lines)
+neither-after : (one other : Edit) (lines : List (Line Placed)) → IsEditOf one lines → IsEditOf other lines → neither one other (directives_of (lines_after other (lines_after one lines))) ≡ neither one other (directives_of lines)
 neither-after one other lines is also =
-    filters-swap (others (about other)) (others (about one)) (directives_of (edited other (edited one lines)))
-    ∙ ap (filter (others (about one))) (others-stay other (edited one lines) (edit-after other one lines also is))
-    ∙ filters-swap (others (about one)) (others (about other)) (directives_of (edited one lines)) ∙ ap (filter (others (about other))) (others-stay one lines is)
+    filters-swap (others (about other)) (others (about one)) (directives_of (lines_after other (lines_after one lines)))
+    ∙ ap (filter (others (about one))) (others-stay other (lines_after one lines) (edit-after other one lines also is))
+    ∙ filters-swap (others (about one)) (others (about other)) (directives_of (lines_after one lines)) ∙ ap (filter (others (about other))) (others-stay one lines is)
 
 -- the directives in three parts
 abbrev parts_of : Edit → Edit → List Directive → List Directive
@@ -81,8 +81,8 @@ in-parts one other ds apart =
 
 pub either-order : EitherOrderLeavesTheSame
 either-order one other lines is also apart =
-    let xs : List Directive = directives_of (edited other (edited one lines)) in
-    let ys : List Directive = directives_of (edited one (edited other lines)) in
+    let xs : List Directive = directives_of (lines_after other (lines_after one lines)) in
+    let ys : List Directive = directives_of (lines_after one (lines_after other lines)) in
     let here : filter (about one) xs ≡ filter (about one) ys = first-same one other lines is also apart in
     let there : filter (about other) xs ≡ filter (about other) ys = sym (first-same other one lines also is (apart-swap one other apart)) in
     let rest : neither one other xs ≡ neither one other ys =

@@ -10,7 +10,7 @@ use Rattle.gm_syntax.specs.Document.{Line, Blank, Comment, Open, Close, Entry, I
 use Rattle.gm_file.specs.Directives.{Strict, Directive, block_after_line, block_after_lines, item_at, main_verb, verb_in, verb_of_directive, Item, Silent, Opening, Saying, directive_in, directive_of, is_empty_block, with_blocks}
 use Rattle.gm_file.specs.Faults.{is_module, directive_kinds, entry_kinds, item_kinds}
 use Rattle.gm_file.proofs.DirectiveVerbs.{directive-verb, same-verb}
-use Rattle.gm_file_edit.specs.Edited.{added, after_closing, after_first_of, after_last_of, has_verb, new_entry, put_in}
+use Rattle.gm_file_edit.specs.Edited.{with_addition, after_closing, after_first_of, after_last_of, has_verb, new_entry, put_in}
 use Rattle.gm_file_edit.specs.Edits.{Edit, Target, Set, ModuleIs, GoIs, RequireAt, ReplaceWith, Add, Exclude, Retract, Drop}
 use Rattle.gm_file_edit.specs.Holding.{directive_at, passes, is_there, item_of}
 use Rattle.gm_file_edit.specs.Laws.{directives_of}
@@ -110,12 +110,12 @@ after-last-behind test text arguments block (x ∷ front) back line hit none =
 
 pub added-after-last : (verb : List ℕ) (arguments : List Placed) (front back : List (Line Placed)) (line : Line Placed) → passes (has_verb verb) (directive_at (block_after_lines None front) line) ≡ true
     → is_there (has_verb verb) (block_after_lines None (front ++ line ∷ [])) back ≡ false
-    → added verb arguments (front ++ line ∷ back) ≡ front ++ line ∷ entry_at (is_some (block_after_lines None front)) verb arguments ∷ back
-unfolding added
+    → with_addition verb arguments (front ++ line ∷ back) ≡ front ++ line ∷ entry_at (is_some (block_after_lines None front)) verb arguments ∷ back
+unfolding with_addition
 added-after-last verb arguments front back line hit none = rw (there-behind (has_verb verb) None front back line hit) (after-last-behind (has_verb verb) verb arguments None front back line hit none)
 
-pub added-at-end : (verb : List ℕ) (arguments : List Placed) (lines : List (Line Placed)) → is_there (has_verb verb) None lines ≡ false → added verb arguments lines ≡ lines ++ Blank ∷ single verb arguments ∷ []
-unfolding added
+pub added-at-end : (verb : List ℕ) (arguments : List Placed) (lines : List (Line Placed)) → is_there (has_verb verb) None lines ≡ false → with_addition verb arguments lines ≡ lines ++ Blank ∷ single verb arguments ∷ []
+unfolding with_addition
 added-at-end verb arguments lines none = rw none refl
 
 -- ---- lines with an entry put in
@@ -136,7 +136,7 @@ pub record IsPutInto (v : List ℕ) (arguments : List Placed) (lines after : Lis
   pub is : after ≡ front ++ (gap_lines gap ++ entry_at inside v arguments ∷ back)
   pub fits : block_after_lines None lines ≡ None → (is_some (block_after_lines None front) ≡ inside) × IsOfVerb v (block_after_lines None front)
 
-pub added-into : (v : List ℕ) (arguments : List Placed) (lines : List (Line Placed)) → IsPutInto v arguments lines (added v arguments lines)
+pub added-into : (v : List ℕ) (arguments : List Placed) (lines : List (Line Placed)) → IsPutInto v arguments lines (with_addition v arguments lines)
 added-into v arguments lines = elim (cases_Bool (is_there (has_verb v) None lines)) [
   | inl there ↦
       let at = last-one (has_verb v) None lines there in
@@ -149,7 +149,7 @@ added-into v arguments lines = elim (cases_Bool (is_there (has_verb v) None line
         inside = is_some block;
         was = at.parts ∙ sym (append_assoc at.front (at.line ∷ []) at.back);
         is =
-            ap (added v arguments) at.parts ∙ added-after-last v arguments at.front at.back at.line at.hit at.later
+            ap (with_addition v arguments) at.parts ∙ added-after-last v arguments at.front at.back at.line at.hit at.later
             ∙ sym (append_assoc at.front (at.line ∷ []) (entry_at (is_some block) v arguments ∷ at.back));
         fits = λ closed. (ap is_some behind, subst (IsOfVerb v) (sym behind) (passing-verb v block at.line (directive_at block at.line) refl at.hit));
       }

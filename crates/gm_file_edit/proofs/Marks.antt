@@ -6,13 +6,13 @@ use Rattle.std.proofs.lemmas.Bool.{cases_Bool}
 use Rattle.gm_syntax.specs.Tokens.{Placed}
 use Rattle.gm_syntax.specs.Document.{Line, Blank}
 use Rattle.gm_file.specs.Directives.{Directive, block_after_line, block_after_lines}
-use Rattle.gm_file_edit.specs.Fates.{Fate, dropped, dropping_from, fate_by, remaining, renewed, renewing_from}
+use Rattle.gm_file_edit.specs.Fates.{Fate, without_targets, dropping_from, fate_by, remaining, with_renewal, renewing_from}
 use Rattle.gm_file_edit.specs.Holding.{directive_at, passes, is_there}
 use Rattle.gm_file_edit.specs.About.{about}
-use Rattle.gm_file_edit.specs.Edited.{changed, edited, put_in}
+use Rattle.gm_file_edit.specs.Edited.{with_change, lines_after, put_in}
 use Rattle.gm_file_edit.specs.Edits.{Edit}
 use Rattle.gm_file_edit.specs.Renewing.{made_new}
-use Rattle.gm_file_edit.specs.Marks.{line_at, marked, marks_from}
+use Rattle.gm_file_edit.specs.Marks.{line_at, fates_of, marks_from}
 use Rattle.gm_file_edit.specs.declared.keys.Key.{Key}
 use Rattle.gm_file_edit.specs.declared.keys.Scope.{Scope}
 use Rattle.gm_file_edit.specs.declared.keys.Scope.TheVariants as scope
@@ -86,12 +86,12 @@ no-mark test block (line ∷ lines) le = elim (cases_Bool (passes test (directiv
 
 -- ---- lines of which those with a mark are removed
 
-pub dropping-marked : (test : Directive → Bool) (block : Option Placed) (lines : List (Line Placed)) → dropping_from test block lines ≡ marked (marks_from test block lines) lines
+pub dropping-marked : (test : Directive → Bool) (block : Option Placed) (lines : List (Line Placed)) → dropping_from test block lines ≡ fates_of (marks_from test block lines) lines
 dropping-marked test block [] = refl
 dropping-marked test block (line ∷ lines) =
     ap (λ (fs : List Fate). fate_by (passes test (directive_at block line)) line ∷ fs) (dropping-marked test (block_after_line block line) lines)
 
-pub dropped-marked : (test : Directive → Bool) (lines : List (Line Placed)) → dropped test lines ≡ remaining (marked (marks_from test None lines) lines)
+pub dropped-marked : (test : Directive → Bool) (lines : List (Line Placed)) → without_targets test lines ≡ remaining (fates_of (marks_from test None lines) lines)
 dropped-marked test lines = ap (remaining) (dropping-marked test None lines)
 
 -- ---- lines of which the first with a mark is rewritten, and the others are removed
@@ -104,7 +104,7 @@ abbrev pub rewritten : (Option Placed → Line Placed → Line Placed) → Optio
 rewritten new block marks lines = set lines (first_of marks) (new (block_after_lines block (take (first_of marks) lines)) (line_at lines (first_of marks)))
 
 pub renewing-marked : (test : Directive → Bool) (new : Option Placed → Line Placed → Line Placed) (block : Option Placed) (lines : List (Line Placed)) → first_of (marks_from test block lines) < length lines
-    → renewing_from test new block lines ≡ marked (after_first (marks_from test block lines)) (rewritten new block (marks_from test block lines) lines)
+    → renewing_from test new block lines ≡ fates_of (after_first (marks_from test block lines)) (rewritten new block (marks_from test block lines) lines)
 renewing-marked test new block [] lt = absurd (omega (arith, lt))
 renewing-marked test new block (line ∷ lines) lt = elim (cases_Bool (passes test (directive_at block line))) [
   | inl holds ↦ rw holds (ap (λ (fs : List Fate). Some (new block line) ∷ fs) (dropping-marked test (block_after_line block line) lines))
@@ -112,19 +112,19 @@ renewing-marked test new block (line ∷ lines) lt = elim (cases_Bool (passes te
 ]
 
 pub renewed-marked : (test : Directive → Bool) (new : Option Placed → Line Placed → Line Placed) (lines : List (Line Placed)) → first_of (marks_from test None lines) < length lines
-    → renewed test new lines ≡ remaining (marked (after_first (marks_from test None lines)) (rewritten new None (marks_from test None lines) lines))
+    → with_renewal test new lines ≡ remaining (fates_of (after_first (marks_from test None lines)) (rewritten new None (marks_from test None lines) lines))
 renewed-marked test new lines lt = ap (remaining) (renewing-marked test new None lines lt)
 
 -- ---- the lines after an operation
 
-pub edited-there : (edit : Edit) (lines : List (Line Placed)) (marks : List Bool) (first : ℕ) → marks ≡ marks_from (about edit) None lines → first ≡ length (take_while (λ mark. not mark) marks) → first < length lines → edited edit lines ≡ changed edit lines
-unfolding edited
+pub edited-there : (edit : Edit) (lines : List (Line Placed)) (marks : List Bool) (first : ℕ) → marks ≡ marks_from (about edit) None lines → first ≡ length (take_while (λ mark. not mark) marks) → first < length lines → lines_after edit lines ≡ with_change edit lines
+unfolding lines_after
 edited-there edit lines marks first marks_are first_is lt =
     let at = first_is ∙ first-is marks ∙ ap first_of marks_are in
     rw (some-mark (about edit) None lines (omega (arith, at, lt))) refl
 
-pub edited-new : (edit : Edit) (lines : List (Line Placed)) (marks : List Bool) (first : ℕ) → marks ≡ marks_from (about edit) None lines → first ≡ length (take_while (λ mark. not mark) marks) → length lines ≤ first → edited edit lines ≡ put_in edit lines
-unfolding edited
+pub edited-new : (edit : Edit) (lines : List (Line Placed)) (marks : List Bool) (first : ℕ) → marks ≡ marks_from (about edit) None lines → first ≡ length (take_while (λ mark. not mark) marks) → length lines ≤ first → lines_after edit lines ≡ put_in edit lines
+unfolding lines_after
 edited-new edit lines marks first marks_are first_is le =
     let at = first_is ∙ first-is marks ∙ ap first_of marks_are in
     rw (no-mark (about edit) None lines (omega (arith, at, le))) refl
@@ -133,12 +133,12 @@ edited-new edit lines marks first marks_are first_is le =
 pub renew-is : (edit : Edit) (lines new : List (Line Placed)) (marks others : List Bool) (first : ℕ) (line : Line Placed)
     → marks ≡ marks_from (about edit) None lines → first ≡ length (take_while (λ mark. not mark) marks) → first < length lines
     → line ≡ made_new edit (block_after_lines None (take first lines)) (line_at lines first) → new ≡ set lines first line → others ≡ set marks first false
-    → remaining (marked others new) ≡ renewed (about edit) (made_new edit) lines
+    → remaining (fates_of others new) ≡ with_renewal (about edit) (made_new edit) lines
 renew-is edit lines new marks others first line marks_are first_is lt line_is new_is others_are =
     let all : List Bool = marks_from (about edit) None lines in
     let f : first ≡ first_of all = first_is ∙ first-is marks ∙ ap first_of marks_are in
     let others_so : others ≡ after_first all = others_are ∙ ap (λ (ms : List Bool). set ms first false) marks_are ∙ ap (λ (n : ℕ). set all n false) f in
     let new_so : new ≡ rewritten (made_new edit) None all lines =
     new_is ∙ ap (set lines first) line_is ∙ ap (λ (n : ℕ). set lines n (made_new edit (block_after_lines None (take n lines)) (line_at lines n))) f in
-    ap (λ (ms : List Bool). remaining (marked ms new)) others_so ∙ ap (λ (ls : List (Line Placed)). remaining (marked (after_first all) ls)) new_so
+    ap (λ (ms : List Bool). remaining (fates_of ms new)) others_so ∙ ap (λ (ls : List (Line Placed)). remaining (fates_of (after_first all) ls)) new_so
     ∙ sym (renewed-marked (about edit) (made_new edit) lines (omega (arith, lt, f)))

@@ -6,8 +6,8 @@ use Rattle.std.proofs.lemmas.List.Edits.{swap_is}
 use Rattle.std.proofs.lemmas.List.{drop-drop, drop-set-lt, get_or_default, length-drop, length-set, length-take-le, take_all, take_more, take_more_set, take-set-le}
 use Rattle.gm_syntax.specs.Tokens.{Placed}
 use Rattle.gm_syntax.specs.Document.{Line, Blank, Comment, Open, Close, Entry}
-use Rattle.gm_file_edit.specs.Fates.{Fate, empties, fate_by, kept, remaining, widened_from}
-use Rattle.gm_file_edit.specs.Marks.{is_blank_source_line, line_at, marked}
+use Rattle.gm_file_edit.specs.Fates.{Fate, empties, fate_by, kept_lines, remaining, widened_from}
+use Rattle.gm_file_edit.specs.Marks.{is_blank_source_line, line_at, fates_of}
 use Rattle.gm_file_edit.proofs.Untouched.{all-lines-stay, all_stay}
 use Rattle.gm_file_edit.proofs.Walking.{drop-next, line-here}
 
@@ -43,12 +43,12 @@ pub record IsKeptTo (marks : List Bool) (whole : List (Line Placed)) (n count : 
   pub len : length lines ≡ length whole
   pub bound : count ≤ n
   pub rest : drop n lines ≡ drop n whole
-  pub left : take count lines ++ kept (marked (drop n marks) (drop n whole)) ≡ kept (marked marks whole)
+  pub left : take count lines ++ kept_lines (fates_of (drop n marks) (drop n whole)) ≡ kept_lines (fates_of marks whole)
 
 -- a line that stays is kept, and one that goes is passed over
-left-more : (mark : Bool) (front new : List (Line Placed)) (line : Line Placed) (fates : List Fate) → (mark ≡ true → new ≡ front) → (mark ≡ false → new ≡ front ++ line ∷ []) → new ++ kept fates ≡ front ++ kept (fate_by mark line ∷ fates)
-left-more true front new line fates gone stays = ap (λ (ls : List (Line Placed)). ls ++ kept fates) (gone refl)
-left-more false front new line fates gone stays = ap (λ (ls : List (Line Placed)). ls ++ kept fates) (stays refl) ∙ append_assoc front (line ∷ []) (kept fates)
+left-more : (mark : Bool) (front new : List (Line Placed)) (line : Line Placed) (fates : List Fate) → (mark ≡ true → new ≡ front) → (mark ≡ false → new ≡ front ++ line ∷ []) → new ++ kept_lines fates ≡ front ++ kept_lines (fate_by mark line ∷ fates)
+left-more true front new line fates gone stays = ap (λ (ls : List (Line Placed)). ls ++ kept_lines fates) (gone refl)
+left-more false front new line fates gone stays = ap (λ (ls : List (Line Placed)). ls ++ kept_lines fates) (stays refl) ∙ append_assoc front (line ∷ []) (kept_lines fates)
 
 pub keep-more : (marks : List Bool) (whole : List (Line Placed)) (n count next : ℕ) (lines new : List (Line Placed)) (mark : Bool)
     → n < length marks → length marks ≡ length whole → mark ≡ get_or marks n mark → length new ≡ length lines → next ≤ n + 1 → drop (n + 1) new ≡ drop (n + 1) lines
@@ -63,8 +63,8 @@ keep-more marks whole n count next lines new mark lt even is len bound same gone
       bound = bound;
       rest = same ∙ next-rest lines whole n so.rest;
       left =
-          left-more mark (take count lines) (take next new) (line_at lines n) (marked (drop (n + 1) marks) (drop (n + 1) whole)) gone stays
-          ∙ ap (λ (fs : List Fate). take count lines ++ kept fs) (sym (ap (λ (ms : List Bool). marked ms (drop n whole)) marks_here ∙ ap (marked (mark ∷ drop (n + 1) marks)) there))
+          left-more mark (take count lines) (take next new) (line_at lines n) (fates_of (drop (n + 1) marks) (drop (n + 1) whole)) gone stays
+          ∙ ap (λ (fs : List Fate). take count lines ++ kept_lines fs) (sym (ap (λ (ms : List Bool). fates_of ms (drop n whole)) marks_here ∙ ap (fates_of (mark ∷ drop (n + 1) marks)) there))
           ∙ so.left;
     }
 
@@ -74,9 +74,9 @@ keep-more marks whole n count next lines new mark lt even is len bound same gone
 pub record IsWidenedTo (whole : List (Line Placed)) (old : List Bool) (n : ℕ) (inside goes : Bool) (marks : List Bool) : Type 0 where
   pub size : length marks ≡ length old
   pub rest : drop n marks ≡ drop n old
-  pub left : marked (take n marks) (take n whole) ++ widened_from inside goes (marked (drop n old) (drop n whole)) ≡ widened_from false false (marked old whole)
+  pub left : fates_of (take n marks) (take n whole) ++ widened_from inside goes (fates_of (drop n old) (drop n whole)) ≡ widened_from false false (fates_of old whole)
 
-marked-more : (front : List Bool) (lines : List (Line Placed)) (mark : Bool) (line : Line Placed) → length front ≡ length lines → marked (front ++ mark ∷ []) (lines ++ line ∷ []) ≡ marked front lines ++ fate_by mark line ∷ []
+marked-more : (front : List Bool) (lines : List (Line Placed)) (mark : Bool) (line : Line Placed) → length front ≡ length lines → fates_of (front ++ mark ∷ []) (lines ++ line ∷ []) ≡ fates_of front lines ++ fate_by mark line ∷ []
 marked-more [] [] mark line even = refl
 marked-more [] (l ∷ lines) mark line even = absurd (omega (arith, even))
 marked-more (m ∷ front) [] mark line even = absurd (omega (arith, even))
@@ -85,12 +85,12 @@ marked-more (m ∷ front) (l ∷ lines) mark line even = ap (λ (fs : List Fate)
 -- one more line
 widen-more : (whole : List (Line Placed)) (old : List Bool) (n : ℕ) (inside goes next_inside next_goes mark next_mark : Bool) (marks next : List Bool)
     → length old ≡ length whole → n < length whole → mark ≡ get_or marks n mark → length next ≡ length marks → drop (n + 1) next ≡ drop (n + 1) marks → take (n + 1) next ≡ take n marks ++ next_mark ∷ []
-    → widened_from inside goes (fate_by mark (line_at whole n) ∷ marked (drop (n + 1) old) (drop (n + 1) whole)) ≡ fate_by next_mark (line_at whole n) ∷ widened_from next_inside next_goes (marked (drop (n + 1) old) (drop (n + 1) whole))
+    → widened_from inside goes (fate_by mark (line_at whole n) ∷ fates_of (drop (n + 1) old) (drop (n + 1) whole)) ≡ fate_by next_mark (line_at whole n) ∷ widened_from next_inside next_goes (fates_of (drop (n + 1) old) (drop (n + 1) whole))
     → IsWidenedTo whole old n inside goes marks → IsWidenedTo whole old (n + 1) next_inside next_goes next
 widen-more whole old n inside goes next_inside next_goes mark next_mark marks next even lt is same_size same_rest put step so =
     let line : Line Placed = line_at whole n in
-    let front : List Fate = marked (take n marks) (take n whole) in
-    let after : List Fate = widened_from next_inside next_goes (marked (drop (n + 1) old) (drop (n + 1) whole)) in
+    let front : List Fate = fates_of (take n marks) (take n whole) in
+    let after : List Fate = widened_from next_inside next_goes (fates_of (drop (n + 1) old) (drop (n + 1) whole)) in
     let size = so.size in
     let rest : drop (n + 1) marks ≡ drop (n + 1) old = next-rest marks old n so.rest in
     let mark_here : drop n old ≡ mark ∷ drop (n + 1) old = sym so.rest ∙ drop-next marks n mark (omega (arith, size, even, lt)) is ∙ ap (λ (ms : List Bool). mark ∷ ms) rest in
@@ -99,10 +99,10 @@ widen-more whole old n inside goes next_inside next_goes mark next_mark marks ne
       size = same_size ∙ size;
       rest = same_rest ∙ rest;
       left =
-          ap (λ (ms : List Bool). marked ms (take (n + 1) whole) ++ after) put ∙ ap (λ (ls : List (Line Placed)). marked (take n marks ++ next_mark ∷ []) ls ++ after) (take_more whole n Blank lt)
+          ap (λ (ms : List Bool). fates_of ms (take (n + 1) whole) ++ after) put ∙ ap (λ (ls : List (Line Placed)). fates_of (take n marks ++ next_mark ∷ []) ls ++ after) (take_more whole n Blank lt)
           ∙ ap (λ (fs : List Fate). fs ++ after) (marked-more (take n marks) (take n whole) next_mark line taken)
           ∙ append_assoc front (fate_by next_mark line ∷ []) after ∙ ap (λ (fs : List Fate). front ++ fs) (sym step)
-          ∙ ap (λ (fs : List Fate). front ++ widened_from inside goes fs) (sym (ap (λ (ms : List Bool). marked ms (drop n whole)) mark_here ∙ ap (marked (mark ∷ drop (n + 1) old)) (line-here whole n lt)))
+          ∙ ap (λ (fs : List Fate). front ++ widened_from inside goes fs) (sym (ap (λ (ms : List Bool). fates_of ms (drop n whole)) mark_here ∙ ap (fates_of (mark ∷ drop (n + 1) old)) (line-here whole n lt)))
           ∙ so.left;
     }
 
@@ -112,14 +112,14 @@ rest-of xs n = let rest = length-drop n xs in take_all (length xs - n) (drop n x
 -- a line without a mark
 pub widen-line : (whole : List (Line Placed)) (old : List Bool) (n : ℕ) (inside goes next_inside next_goes seen next_mark : Bool) (marks slice : List Bool)
     → length old ≡ length whole → n < length whole → seen ≡ get_or marks n seen → seen ≡ false → slice ≡ marks
-    → widened_from inside goes (Some (line_at whole n) ∷ marked (drop (n + 1) slice) (drop (n + 1) whole)) ≡ fate_by next_mark (line_at whole n) ∷ widened_from next_inside next_goes (marked (drop (n + 1) slice) (drop (n + 1) whole))
+    → widened_from inside goes (Some (line_at whole n) ∷ fates_of (drop (n + 1) slice) (drop (n + 1) whole)) ≡ fate_by next_mark (line_at whole n) ∷ widened_from next_inside next_goes (fates_of (drop (n + 1) slice) (drop (n + 1) whole))
     → IsWidenedTo whole old n inside goes marks → IsWidenedTo whole old (n + 1) next_inside next_goes (set marks n next_mark)
 widen-line whole old n inside goes next_inside next_goes seen next_mark marks slice even lt seen_is unmarked same step so =
     let size = so.size in
     let rest : drop (n + 1) slice ≡ drop (n + 1) old = ap (drop (n + 1)) same ∙ next-rest marks old n so.rest in
     widen-more whole old n inside goes next_inside next_goes false next_mark marks (set marks n next_mark) even lt (sym unmarked ∙ seen_is ∙ ap (get_or marks n) unmarked) (length-set marks n next_mark)
     (drop-set-lt (n + 1) marks n next_mark (omega arith)) (take_more_set marks n next_mark (omega (arith, size, even, lt)))
-    (subst (λ (ms : List Bool). widened_from inside goes (Some (line_at whole n) ∷ marked ms (drop (n + 1) whole)) ≡ fate_by next_mark (line_at whole n) ∷ widened_from next_inside next_goes (marked ms (drop (n + 1) whole))) rest step) so
+    (subst (λ (ms : List Bool). widened_from inside goes (Some (line_at whole n) ∷ fates_of ms (drop (n + 1) whole)) ≡ fate_by next_mark (line_at whole n) ∷ widened_from next_inside next_goes (fates_of ms (drop (n + 1) whole))) rest step) so
 
 -- a line with a mark
 pub widen-marked : (whole : List (Line Placed)) (old : List Bool) (n : ℕ) (inside goes seen : Bool) (marks : List Bool)
@@ -140,34 +140,34 @@ empties-blank lost (Entry words suffix) fates is = absurd cc
 
 -- the fates from an index on begin with that of the line there
 fates-here : (marks : List Bool) (lines : List (Line Placed)) (n : ℕ) (mark : Bool) → length marks ≡ length lines → n < length lines → get_or marks n false ≡ mark
-    → marked (drop n marks) (drop n lines) ≡ fate_by mark (line_at lines n) ∷ marked (drop (n + 1) marks) (drop (n + 1) lines)
+    → fates_of (drop n marks) (drop n lines) ≡ fate_by mark (line_at lines n) ∷ fates_of (drop (n + 1) marks) (drop (n + 1) lines)
 fates-here marks lines n mark even lt is =
     let in_marks : n < length marks = omega (arith, even, lt) in
-    ap (λ (ms : List Bool). marked ms (drop n lines)) (drop-next marks n mark in_marks (sym is ∙ get_or_default marks n false mark in_marks))
-    ∙ ap (marked (mark ∷ drop (n + 1) marks)) (line-here lines n lt)
+    ap (λ (ms : List Bool). fates_of ms (drop n lines)) (drop-next marks n mark in_marks (sym is ∙ get_or_default marks n false mark in_marks))
+    ∙ ap (fates_of (mark ∷ drop (n + 1) marks)) (line-here lines n lt)
 
 pub look-marked : (marks : List Bool) (lines : List (Line Placed)) (n : ℕ) (lost : Bool) → length marks ≡ length lines → n < length lines → get_or marks n false ≡ true
-    → empties lost (marked (drop n marks) (drop n lines)) ≡ empties true (marked (drop (n + 1) marks) (drop (n + 1) lines))
+    → empties lost (fates_of (drop n marks) (drop n lines)) ≡ empties true (fates_of (drop (n + 1) marks) (drop (n + 1) lines))
 look-marked marks lines n lost even lt is = ap (empties lost) (fates-here marks lines n true even lt is)
 
 pub look-blank : (marks : List Bool) (lines : List (Line Placed)) (n : ℕ) (lost : Bool) → length marks ≡ length lines → n < length lines → get_or marks n false ≡ false
-    → is_blank_source_line (line_at lines n) ≡ true → empties lost (marked (drop n marks) (drop n lines)) ≡ empties lost (marked (drop (n + 1) marks) (drop (n + 1) lines))
-look-blank marks lines n lost even lt is blank = ap (empties lost) (fates-here marks lines n false even lt is) ∙ empties-blank lost (line_at lines n) (marked (drop (n + 1) marks) (drop (n + 1) lines)) blank
+    → is_blank_source_line (line_at lines n) ≡ true → empties lost (fates_of (drop n marks) (drop n lines)) ≡ empties lost (fates_of (drop (n + 1) marks) (drop (n + 1) lines))
+look-blank marks lines n lost even lt is blank = ap (empties lost) (fates-here marks lines n false even lt is) ∙ empties-blank lost (line_at lines n) (fates_of (drop (n + 1) marks) (drop (n + 1) lines)) blank
 
 -- ---- no line with a mark
 
-none-marked : (marks : List Bool) (lines : List (Line Placed)) → length marks ≡ length lines → list_any (λ mark. mark) marks ≡ false → marked marks lines ≡ all_stay lines
+none-marked : (marks : List Bool) (lines : List (Line Placed)) → length marks ≡ length lines → list_any (λ mark. mark) marks ≡ false → fates_of marks lines ≡ all_stay lines
 none-marked [] [] even none = refl
 none-marked [] (line ∷ lines) even none = absurd (omega (arith, even))
 none-marked (mark ∷ marks) [] even none = absurd (omega (arith, even))
 none-marked (true ∷ marks) (line ∷ lines) even none = absurd cc
 none-marked (false ∷ marks) (line ∷ lines) even none = ap (λ (fs : List Fate). Some line ∷ fs) (none-marked marks lines (omega (arith, even)) none)
 
-kept-all : (lines : List (Line Placed)) → kept (all_stay lines) ≡ lines
+kept-all : (lines : List (Line Placed)) → kept_lines (all_stay lines) ≡ lines
 kept-all [] = refl
 kept-all (line ∷ lines) = ap (λ (ls : List (Line Placed)). line ∷ ls) (kept-all lines)
 
-pub all-kept : (marks : List Bool) (lines : List (Line Placed)) → length marks ≡ length lines → list_any (λ mark. mark) marks ≡ false → lines ≡ remaining (marked marks lines)
+pub all-kept : (marks : List Bool) (lines : List (Line Placed)) → length marks ≡ length lines → list_any (λ mark. mark) marks ≡ false → lines ≡ remaining (fates_of marks lines)
 all-kept marks lines even none = sym (ap remaining (none-marked marks lines even none) ∙ all-lines-stay lines)
 
 -- ---- one line with a mark
@@ -187,15 +187,15 @@ first-is (false ∷ marks) =
 
 -- if no line after the first with a mark has one, that line alone goes
 pub one-removed : (marks : List Bool) (lines : List (Line Placed)) → length marks ≡ length lines → first_of marks < length marks → list_any (λ mark. mark) (drop (suc (first_of marks)) marks) ≡ false
-    → take (first_of marks) lines ++ drop (suc (first_of marks)) lines ≡ kept (marked marks lines)
+    → take (first_of marks) lines ++ drop (suc (first_of marks)) lines ≡ kept_lines (fates_of marks lines)
 one-removed [] lines even lt none = absurd (omega (arith, lt))
 one-removed (mark ∷ marks) [] even lt none = absurd (omega (arith, even))
-one-removed (true ∷ marks) (line ∷ lines) even lt none = sym (ap kept (none-marked marks lines (omega (arith, even)) none) ∙ kept-all lines)
+one-removed (true ∷ marks) (line ∷ lines) even lt none = sym (ap kept_lines (none-marked marks lines (omega (arith, even)) none) ∙ kept-all lines)
 one-removed (false ∷ marks) (line ∷ lines) even lt none =
     ap (λ (ls : List (Line Placed)). line ∷ ls) (one-removed marks lines (omega (arith, even)) (omega (arith, lt)) none)
 
 pub removed-is : (marks : List Bool) (lines : List (Line Placed)) (n : ℕ) → length marks ≡ length lines → n ≡ length (take_while (λ mark. not mark) marks) → n < length marks
-    → list_any (λ mark. mark) (take (length marks - (n + 1)) (drop (n + 1) marks)) ≡ false → take n lines ++ drop (n + 1) lines ≡ kept (marked marks lines)
+    → list_any (λ mark. mark) (take (length marks - (n + 1)) (drop (n + 1) marks)) ≡ false → take n lines ++ drop (n + 1) lines ≡ kept_lines (fates_of marks lines)
 removed-is marks lines n even is lt none =
     let first : n ≡ first_of marks = is ∙ first-is marks in
     let next : n + 1 ≡ suc (first_of marks) = omega (arith, first) in
@@ -204,6 +204,6 @@ removed-is marks lines n even is lt none =
 
 -- ---- all of it
 
-pub pack-is : (marks widened slice : List Bool) (lines : List (Line Placed)) → slice ≡ widened → marked widened lines ≡ widened_from false false (marked marks lines) → kept (marked slice lines) ≡ remaining (marked marks lines)
+pub pack-is : (marks widened slice : List Bool) (lines : List (Line Placed)) → slice ≡ widened → fates_of widened lines ≡ widened_from false false (fates_of marks lines) → kept_lines (fates_of slice lines) ≡ remaining (fates_of marks lines)
 unfolding remaining
-pack-is marks widened slice lines same are = ap (λ (ms : List Bool). kept (marked ms lines)) same ∙ ap kept are
+pack-is marks widened slice lines same are = ap (λ (ms : List Bool). kept_lines (fates_of ms lines)) same ∙ ap kept_lines are

@@ -9,7 +9,7 @@ use Rattle.gm_syntax.specs.Tokens.{Placed}
 use Rattle.gm_syntax.specs.Document.{Line, Blank, Comment, Open, Close, Entry, IsValidLine, IsDocument, inside_after, inside_after_all, start}
 use Rattle.gm_syntax.specs.LineViews.{plain, plain_lines}
 use Rattle.gm_syntax.proofs.Changes.{AreValidFrom, lines_stand, standing_lines}
-use Rattle.gm_file.specs.Directives.{Strict, Directive, LineInBlock, block_after_line, block_after_lines, directives, said, with_blocks, with_blocks_from}
+use Rattle.gm_file.specs.Directives.{Strict, Directive, LineInBlock, block_after_line, block_after_lines, directives, directive_said, with_blocks, with_blocks_from}
 use Rattle.gm_file.specs.Faults.{fault_of, is_module, item_kinds}
 use Rattle.gm_file.specs.Pairwise.{IsRightAlone}
 use Rattle.gm_file.proofs.Pairwise.{AreApart, AreRightApart, IsClear, apart-faultless, apart-with, faultless-apart}
@@ -79,10 +79,10 @@ no-block (Some t) e = absurd cc
 abbrev AreAlone : Option Word → List (Line Word) → Type 0
 AreAlone block lines = AllByRecursion IsRightAlone (with_blocks_from block lines)
 
-plain-held : (block : Option Placed) (lines : List (Line Placed)) → filter_map (said Strict) (with_blocks_from (option_map word_of block) (plain_lines lines)) ≡ held_in (with_blocks_from block lines)
+plain-held : (block : Option Placed) (lines : List (Line Placed)) → filter_map (directive_said Strict) (with_blocks_from (option_map word_of block) (plain_lines lines)) ≡ held_in (with_blocks_from block lines)
 plain-held block [] = refl
 plain-held block (line ∷ lines) =
-    ap (λ (b : Option Word). cons_option (directive_at block line) (filter_map (said Strict) (with_blocks_from b (plain_lines lines)))) (block-plain block line)
+    ap (λ (b : Option Word). cons_option (directive_at block line) (filter_map (directive_said Strict) (with_blocks_from b (plain_lines lines)))) (block-plain block line)
     ∙ ap (cons_option (directive_at block line)) (plain-held (block_after_line block line) lines)
 
 -- the directives of a file

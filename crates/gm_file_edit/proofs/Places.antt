@@ -13,19 +13,19 @@ use Rattle.gm_syntax.specs.LineViews.{plain, plain_lines}
 use Rattle.gm_file.specs.Directives.{Strict, Directive, VersionInterval, Right, Folder, Module, Replacing, block_after_line, directive_in, item_at}
 use Rattle.gm_file.specs.Faults.{is_go, is_module}
 use Rattle.gm_file_edit.specs.Edits.{Edit, Set, ModuleIs, GoIs, RequireAt, Drop, Add, Exclude, ReplaceWith, Retract}
-use Rattle.gm_file_edit.specs.NewWords.{entry_at, interval_words, left_words, made_mark, made_word, pair_words, replace_words, right_words, single, unplaced}
-use Rattle.gm_file_edit.specs.Fates.{Fate, dropped, dropping_from, empties, fate_by, is_emptied, kept, remaining, renewed, renewing_from, widened_from}
+use Rattle.gm_file_edit.specs.NewWords.{entry_at, interval_words, left_words, made_mark, made_word, pair_words, replace_words, right_words, single, unplaced_word}
+use Rattle.gm_file_edit.specs.Fates.{Fate, without_targets, dropping_from, empties, fate_by, is_emptied, kept_lines, remaining, with_renewal, renewing_from, widened_from}
 use Rattle.gm_file_edit.specs.Holding.{directive_at, passes, is_there}
 use Rattle.gm_file_edit.proofs.Pairs.{word_of}
 use Rattle.gm_file_edit.specs.Renewing.{with_arguments, with_last}
 use Rattle.gm_file_edit.specs.About.{about, is_replaced_by, requires_path}
-use Rattle.gm_file_edit.specs.Edited.{added, after_closing, after_first_of, after_last_of, changed, edited, has_verb, new_go, put_in}
+use Rattle.gm_file_edit.specs.Edited.{with_addition, after_closing, after_first_of, after_last_of, with_change, lines_after, has_verb, new_go, put_in}
 
 -- ---- lines without source positions
 
 -- the word without its source position
 abbrev loose : Placed → Placed
-loose t = unplaced t.word
+loose t = unplaced_word t.word
 
 abbrev loose_block : Option Placed → Option Placed
 loose_block block = option_map loose block
@@ -58,24 +58,24 @@ plain_lines-loose [] = refl
 plain_lines-loose (line ∷ lines) = ap (λ (l : Line Word). l ∷ plain_lines (loose_lines lines)) (plain-loose line) ∙ ap (λ (ls : List (Line Word)). plain line ∷ ls) (plain_lines-loose lines)
 
 -- removing positions is the same as placing the bare words anew, without a position
-words-again : (words : List Placed) → map loose words ≡ map unplaced (map (λ (t : Placed). t.word) words)
+words-again : (words : List Placed) → map loose words ≡ map unplaced_word (map (λ (t : Placed). t.word) words)
 words-again [] = refl
 words-again (t ∷ words) = ap (λ (ts : List Placed). loose t ∷ ts) (words-again words)
 
-line-again : (line : Line Placed) → loose_line line ≡ map_line unplaced (plain line)
+line-again : (line : Line Placed) → loose_line line ≡ map_line unplaced_word (plain line)
 line-again Blank = refl
 line-again (Comment text) = refl
 line-again (Open verb suffix) = refl
 line-again (Close suffix) = refl
 line-again (Entry words suffix) = ap (λ (ts : List Placed). Entry ts suffix) (words-again words)
 
-lines-again : (lines : List (Line Placed)) → loose_lines lines ≡ map (λ (l : Line Word). map_line unplaced l) (plain_lines lines)
+lines-again : (lines : List (Line Placed)) → loose_lines lines ≡ map (λ (l : Line Word). map_line unplaced_word l) (plain_lines lines)
 lines-again [] = refl
 lines-again (line ∷ lines) =
-    ap (λ (l : Line Placed). l ∷ loose_lines lines) (line-again line) ∙ ap (λ (ls : List (Line Placed)). map_line unplaced (plain line) ∷ ls) (lines-again lines)
+    ap (λ (l : Line Placed). l ∷ loose_lines lines) (line-again line) ∙ ap (λ (ls : List (Line Placed)). map_line unplaced_word (plain line) ∷ ls) (lines-again lines)
 
 same-loose : (lines others : List (Line Placed)) → plain_lines lines ≡ plain_lines others → loose_lines lines ≡ loose_lines others
-same-loose lines others e = lines-again lines ∙ ap (λ (ls : List (Line Word)). map (λ (l : Line Word). map_line unplaced l) ls) e ∙ sym (lines-again others)
+same-loose lines others e = lines-again lines ∙ ap (λ (ls : List (Line Word)). map (λ (l : Line Word). map_line unplaced_word l) ls) e ∙ sym (lines-again others)
 
 -- ---- what a line holds
 
@@ -166,19 +166,19 @@ widened-loose inside goes (Some (Close suffix) ∷ fates) = elim (cases_Bool (in
 ]
 widened-loose inside goes (Some (Entry words suffix) ∷ fates) = ap (λ (fs : List Fate). Some (Entry (map loose words) suffix) ∷ fs) (widened-loose inside false fates)
 
-kept-loose : (fates : List Fate) → kept (loose_fates fates) ≡ loose_lines (kept fates)
+kept-loose : (fates : List Fate) → kept_lines (loose_fates fates) ≡ loose_lines (kept_lines fates)
 kept-loose [] = refl
 kept-loose (None ∷ fates) = kept-loose fates
 kept-loose (Some line ∷ fates) = ap (λ (ls : List (Line Placed)). loose_line line ∷ ls) (kept-loose fates)
 
 remaining-loose : (fates : List Fate) → remaining (loose_fates fates) ≡ loose_lines (remaining fates)
 unfolding remaining
-remaining-loose fates = ap kept (widened-loose false false fates) ∙ kept-loose (widened_from false false fates)
+remaining-loose fates = ap kept_lines (widened-loose false false fates) ∙ kept-loose (widened_from false false fates)
 
-dropped-loose : (test : Directive → Bool) (lines : List (Line Placed)) → dropped test (loose_lines lines) ≡ loose_lines (dropped test lines)
+dropped-loose : (test : Directive → Bool) (lines : List (Line Placed)) → without_targets test (loose_lines lines) ≡ loose_lines (without_targets test lines)
 dropped-loose test lines = ap remaining (dropping-loose test None lines) ∙ remaining-loose (dropping_from test None lines)
 
-renewed-loose : (test : Directive → Bool) (new : Option Placed → Line Placed → Line Placed) → IsBlind new → (lines : List (Line Placed)) → renewed test new (loose_lines lines) ≡ loose_lines (renewed test new lines)
+renewed-loose : (test : Directive → Bool) (new : Option Placed → Line Placed → Line Placed) → IsBlind new → (lines : List (Line Placed)) → with_renewal test new (loose_lines lines) ≡ loose_lines (with_renewal test new lines)
 renewed-loose test new blind lines = ap remaining (renewing-loose test new blind None lines) ∙ remaining-loose (renewing_from test new None lines)
 
 -- ---- rewritten entries
@@ -252,8 +252,8 @@ after-last-loose test verb arguments are block (line ∷ lines) =
     (ap (λ (l : Line Placed). if last then loose_line line ∷ l ∷ loose_lines lines else loose_line line ∷ loose_lines later) (sym (entry-loose (is_some block) verb arguments are))
     ∙ pushed loose_lines last (line ∷ entry_at (is_some block) verb arguments ∷ lines) (line ∷ later))
 
-added-loose : (verb : List ℕ) (arguments : List Placed) → AreLoose arguments → (lines : List (Line Placed)) → added verb arguments (loose_lines lines) ≡ loose_lines (added verb arguments lines)
-unfolding added
+added-loose : (verb : List ℕ) (arguments : List Placed) → AreLoose arguments → (lines : List (Line Placed)) → with_addition verb arguments (loose_lines lines) ≡ loose_lines (with_addition verb arguments lines)
+unfolding with_addition
 added-loose verb arguments are lines =
     chosen loose_lines (is_there (has_verb verb) None (loose_lines lines)) (is_there (has_verb verb) None lines) (after_last_of (has_verb verb) verb arguments None (loose_lines lines)) (loose_lines lines ++ Blank ∷ single verb arguments ∷ [])
     (after_last_of (has_verb verb) verb arguments None lines) (lines ++ Blank ∷ single verb arguments ∷ []) (there-loose (has_verb verb) None lines) (after-last-loose (has_verb verb) verb arguments are None lines)
@@ -286,8 +286,8 @@ behind-first-loose test new lines are = first-of-loose test new are None lines
 
 -- ---- the lines after an operation
 
-changed-loose : (edit : Edit) (lines : List (Line Placed)) → changed edit (loose_lines lines) ≡ loose_lines (changed edit lines)
-unfolding changed
+changed-loose : (edit : Edit) (lines : List (Line Placed)) → with_change edit (loose_lines lines) ≡ loose_lines (with_change edit lines)
+unfolding with_change
 changed-loose (Set (ModuleIs path)) lines = renewed-loose is_module (with_last path) (last-blind path) lines
 changed-loose (Set (GoIs text)) lines = renewed-loose is_go (with_last text) (last-blind text) lines
 changed-loose (Set (RequireAt p)) lines = renewed-loose (requires_path p.0) (with_last p.1) (last-blind p.1) lines
@@ -305,15 +305,15 @@ put-in-loose (Add (Exclude p)) lines = added-loose (codes "exclude") (pair_words
 put-in-loose (Add (Retract ends)) lines = added-loose (codes "retract") (interval_words ends) (interval-are ends) lines
 put-in-loose (Drop t) lines = refl
 
-pass-loose : (edit : Edit) (lines : List (Line Placed)) → edited edit (loose_lines lines) ≡ loose_lines (edited edit lines)
-unfolding edited
+pass-loose : (edit : Edit) (lines : List (Line Placed)) → lines_after edit (loose_lines lines) ≡ loose_lines (lines_after edit lines)
+unfolding lines_after
 pass-loose edit lines =
-    chosen loose_lines (is_there (about edit) None (loose_lines lines)) (is_there (about edit) None lines) (changed edit (loose_lines lines)) (put_in edit (loose_lines lines)) (changed edit lines) (put_in edit lines)
+    chosen loose_lines (is_there (about edit) None (loose_lines lines)) (is_there (about edit) None lines) (with_change edit (loose_lines lines)) (put_in edit (loose_lines lines)) (with_change edit lines) (put_in edit lines)
     (there-loose (about edit) None lines) (changed-loose edit lines) (put-in-loose edit lines)
 
 -- an operation gives the same result for lines that differ only in source positions
-pub edited-same : (edit : Edit) (lines others : List (Line Placed)) → plain_lines lines ≡ plain_lines others → plain_lines (edited edit lines) ≡ plain_lines (edited edit others)
+pub edited-same : (edit : Edit) (lines others : List (Line Placed)) → plain_lines lines ≡ plain_lines others → plain_lines (lines_after edit lines) ≡ plain_lines (lines_after edit others)
 edited-same edit lines others e =
-    sym (plain_lines-loose (edited edit lines)) ∙ ap plain_lines (sym (pass-loose edit lines))
-    ∙ ap (λ (ls : List (Line Placed)). plain_lines (edited edit ls)) (same-loose lines others e)
-    ∙ ap plain_lines (pass-loose edit others) ∙ plain_lines-loose (edited edit others)
+    sym (plain_lines-loose (lines_after edit lines)) ∙ ap plain_lines (sym (pass-loose edit lines))
+    ∙ ap (λ (ls : List (Line Placed)). plain_lines (lines_after edit ls)) (same-loose lines others e)
+    ∙ ap plain_lines (pass-loose edit others) ∙ plain_lines-loose (lines_after edit others)

@@ -10,7 +10,7 @@ use Rattle.gm_syntax.specs.LineViews.{plain}
 use Rattle.gm_file.specs.Directives.{Directive, block_after_lines, block_after_line, item_at}
 use Rattle.gm_file.proofs.Pairwise.{nil-parts}
 use Rattle.gm_file_edit.specs.NewWords.{entry_at}
-use Rattle.gm_file_edit.specs.Fates.{Fate, dropped, dropping_from, kept, remaining, renewed, renewing_from}
+use Rattle.gm_file_edit.specs.Fates.{Fate, without_targets, dropping_from, kept_lines, remaining, with_renewal, renewing_from}
 use Rattle.gm_file_edit.specs.Holding.{directive_at, passes, is_there}
 use Rattle.gm_file_edit.proofs.Insertions.{Fits, IsAddition, into-fits, IsPutInto, gap_lines, passing-level}
 use Rattle.gm_file_edit.proofs.Filters.{filter-none, filter-one, no-filter, none-of-others, others, others-twice}
@@ -34,24 +34,24 @@ past-held test (Some d) rest e = filter-none test d rest e
 
 -- ---- the remaining lines say what the lines that stay say
 
-pub left-held : (fates : List Fate) → held_from None (remaining fates) ≡ held_from None (kept fates)
+pub left-held : (fates : List Fate) → held_from None (remaining fates) ≡ held_from None (kept_lines fates)
 left-held fates = fewer-held (remaining-left fates).0
 
 -- ---- what is said after entries are removed
 
-dropping-held : (test : Directive → Bool) (block : Option Placed) (lines : List (Line Placed)) → held_from block (kept (dropping_from test block lines)) ≡ filter (others test) (held_from block lines)
+dropping-held : (test : Directive → Bool) (block : Option Placed) (lines : List (Line Placed)) → held_from block (kept_lines (dropping_from test block lines)) ≡ filter (others test) (held_from block lines)
 dropping-held test block [] = refl
 dropping-held test block (line ∷ lines) =
     let behind : Option Placed = block_after_line block line in
     let rest : List Directive = held_from behind lines in
     elim (cases_Bool (passes test (directive_at block line))) [
       | inl holds ↦
-          rw holds (ap (λ (b : Option Placed). held_from b (kept (dropping_from test behind lines))) (sym (passing-level test block line holds)) ∙ dropping-held test behind lines ∙ sym (gone-held test (directive_at block line) rest holds))
+          rw holds (ap (λ (b : Option Placed). held_from b (kept_lines (dropping_from test behind lines))) (sym (passing-level test block line holds)) ∙ dropping-held test behind lines ∙ sym (gone-held test (directive_at block line) rest holds))
       | inr fails ↦ rw fails (ap (cons_option (directive_at block line)) (dropping-held test behind lines) ∙ sym (stay-held test (directive_at block line) rest fails))
     ]
 
 -- a drop leaves exactly the other directives
-pub dropped-held : (test : Directive → Bool) (lines : List (Line Placed)) → held_from None (dropped test lines) ≡ filter (others test) (held_from None lines)
+pub dropped-held : (test : Directive → Bool) (lines : List (Line Placed)) → held_from None (without_targets test lines) ≡ filter (others test) (held_from None lines)
 dropped-held test lines = left-held (dropping_from test None lines) ∙ dropping-held test None lines
 
 -- ---- what is said after an entry is rewritten
@@ -67,17 +67,17 @@ made-held said block next back made =
 -- the first matching entry is rewritten, and the later ones are removed
 first-held : (test : Directive → Bool) (said : Directive) (make : Option Placed → Line Placed → Line Placed) → Makes test said make → (block : Option Placed) (line : Line Placed) (lines : List (Line Placed))
     → passes test (directive_at block line) ≡ true → IsValidLine (is_some block) (plain line)
-    → held_from block (make block line ∷ kept (dropping_from test (block_after_line block line) lines)) ≡ said ∷ filter (others test) (held_from (block_after_line block line) lines)
+    → held_from block (make block line ∷ kept_lines (dropping_from test (block_after_line block line) lines)) ≡ said ∷ filter (others test) (held_from (block_after_line block line) lines)
 first-held test said make makes block line lines holds stands =
     let h = held-some test (directive_at block line) holds in
     let behind : Option Placed = block_after_line block line in
-    made-held said block (make block line) (kept (dropping_from test behind lines)) (makes block line h.0 h.1 h.2 stands)
-    ∙ ap (λ (b : Option Placed). said ∷ held_from b (kept (dropping_from test behind lines))) (sym (passing-level test block line holds))
+    made-held said block (make block line) (kept_lines (dropping_from test behind lines)) (makes block line h.0 h.1 h.2 stands)
+    ∙ ap (λ (b : Option Placed). said ∷ held_from b (kept_lines (dropping_from test behind lines))) (sym (passing-level test block line holds))
     ∙ ap (λ (ds : List Directive). said ∷ ds) (dropping-held test behind lines)
 
 module _ (test : Directive → Bool) (said : Directive) (make : Option Placed → Line Placed → Line Placed) (own : test said ≡ true) (makes : Makes test said make) where
   renewing-others : (block : Option Placed) (lines : List (Line Placed)) → AreRightFrom block lines
-      → filter (others test) (held_from block (kept (renewing_from test make block lines))) ≡ filter (others test) (held_from block lines)
+      → filter (others test) (held_from block (kept_lines (renewing_from test make block lines))) ≡ filter (others test) (held_from block lines)
   renewing-others block [] right = refl
   renewing-others block (line ∷ lines) right =
       let behind : Option Placed = block_after_line block line in
@@ -88,12 +88,12 @@ module _ (test : Directive → Bool) (said : Directive) (make : Option Placed �
             rw holds (ap (filter (others test)) (first-held test said make makes block line lines holds right.0.0) ∙ filter-none (others test) said (filter (others test) rest) (ap not own)
             ∙ others-twice test rest ∙ sym (gone-held test held rest holds))
         | inr fails ↦
-            rw fails (stay-held test held (held_from behind (kept (renewing_from test make behind lines))) fails
+            rw fails (stay-held test held (held_from behind (kept_lines (renewing_from test make behind lines))) fails
             ∙ ap (cons_option held) (renewing-others behind lines right.1) ∙ sym (stay-held test held rest fails))
       ]
 
   renewing-alone : (block : Option Placed) (lines : List (Line Placed)) → AreRightFrom block lines → is_there test block lines ≡ true
-      → filter test (held_from block (kept (renewing_from test make block lines))) ≡ said ∷ []
+      → filter test (held_from block (kept_lines (renewing_from test make block lines))) ≡ said ∷ []
   renewing-alone block [] right there = absurd cc
   renewing-alone block (line ∷ lines) right there =
       let behind : Option Placed = block_after_line block line in
@@ -102,14 +102,14 @@ module _ (test : Directive → Bool) (said : Directive) (make : Option Placed �
         | inl holds ↦
             rw holds (ap (filter test) (first-held test said make makes block line lines holds right.0.0) ∙ filter-one test said (filter (others test) rest) own ∙ ap (λ (ds : List Directive). said ∷ ds) (none-of-others test rest))
         | inr fails ↦
-            rw fails (past-held test (directive_at block line) (held_from behind (kept (renewing_from test make behind lines))) fails
+            rw fails (past-held test (directive_at block line) (held_from behind (kept_lines (renewing_from test make behind lines))) fails
             ∙ renewing-alone behind lines right.1 (ap (λ (b : Bool). b || is_there test behind lines) (sym fails) ∙ there))
       ]
 
-  pub renewed-others : (lines : List (Line Placed)) → IsSound lines → filter (others test) (held_from None (renewed test make lines)) ≡ filter (others test) (held_from None lines)
+  pub renewed-others : (lines : List (Line Placed)) → IsSound lines → filter (others test) (held_from None (with_renewal test make lines)) ≡ filter (others test) (held_from None lines)
   renewed-others lines sound = ap (filter (others test)) (left-held (renewing_from test make None lines)) ∙ renewing-others None lines sound.lines_are.right
 
-  pub renewed-alone : (lines : List (Line Placed)) → IsSound lines → is_there test None lines ≡ true → filter test (held_from None (renewed test make lines)) ≡ said ∷ []
+  pub renewed-alone : (lines : List (Line Placed)) → IsSound lines → is_there test None lines ≡ true → filter test (held_from None (with_renewal test make lines)) ≡ said ∷ []
   renewed-alone lines sound there = ap (filter test) (left-held (renewing_from test make None lines)) ∙ renewing-alone None lines sound.lines_are.right there
 
 -- ---- what is said after an entry is put in

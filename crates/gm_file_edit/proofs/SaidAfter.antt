@@ -9,7 +9,7 @@ use Rattle.gm_file.specs.Directives.{Directive}
 use Rattle.gm_file.specs.Faults.{is_module}
 use Rattle.gm_file_edit.specs.Edits.{Edit, Set, Drop, Add}
 use Rattle.gm_file_edit.specs.About.{about}
-use Rattle.gm_file_edit.specs.Edited.{changed, edited, put_in}
+use Rattle.gm_file_edit.specs.Edited.{with_change, lines_after, put_in}
 use Rattle.gm_file_edit.specs.Kinds.{added_by, directive_added, directive_set, is_fit, set_by}
 use Rattle.gm_file_edit.specs.Holding.{is_there}
 use Rattle.gm_file_edit.specs.Laws.{AddedIsThere, DroppedIsGone, IsEditOf, OthersStay, SetStandsAlone, directives_of}
@@ -49,8 +49,8 @@ drop-others : (test : Directive → Bool) (lines : List (Line Placed)) (after : 
 drop-others test lines after is = ap (filter (others test)) is ∙ others-twice test (held_from None lines)
 
 changed-others : (edit : Edit) (lines : List (Line Placed)) → IsSoundEdit edit → is_fit edit ≡ true → IsSound lines
-    → filter (others (about edit)) (held_from None (changed edit lines)) ≡ filter (others (about edit)) (held_from None lines)
-unfolding changed
+    → filter (others (about edit)) (held_from None (with_change edit lines)) ≡ filter (others (about edit)) (held_from None lines)
+unfolding with_change
 changed-others (Set s) lines good fit sound = let by = renewal s good fit in renewed-others (about (Set s)) (directive_set s) (made_new (Set s)) by.wanted.own by.made lines sound
 changed-others (Add a) lines good fit sound = refl
 changed-others (Drop t) lines good fit sound = drop-others (about (Drop t)) lines _ (dropped-held (about (Drop t)) lines)
@@ -63,15 +63,15 @@ put-in-others (Set s) lines good fit sound none = put-others (about (Set s)) (di
 put-in-others (Add a) lines good fit sound none = put-others (about (Add a)) (directive_added a) (held_from None lines) _ (wanted (Add a) _ refl good fit).own (puts lines sound (Add a) _ refl good none)
 
 others-after : (edit : Edit) (lines : List (Line Placed)) → IsSoundEdit edit → is_fit edit ≡ true → IsSound lines
-    → filter (others (about edit)) (held_from None (edited edit lines)) ≡ filter (others (about edit)) (held_from None lines)
+    → filter (others (about edit)) (held_from None (lines_after edit lines)) ≡ filter (others (about edit)) (held_from None lines)
 others-after edit lines good fit sound = by-edited (λ after. filter (others (about edit)) (held_from None after) ≡ filter (others (about edit)) (held_from None lines)) edit lines
     (λ there. changed-others edit lines good fit sound) (λ none. put-in-others edit lines good fit sound none)
 
 -- ---- what an operation sets
 
 changed-alone : (edit : Edit) (lines : List (Line Placed)) (d : Directive) → IsSoundEdit edit → is_fit edit ≡ true → IsSound lines → is_there (about edit) None lines ≡ true → set_by edit ≡ Some d
-    → filter (about edit) (held_from None (changed edit lines)) ≡ d ∷ []
-unfolding changed
+    → filter (about edit) (held_from None (with_change edit lines)) ≡ d ∷ []
+unfolding with_change
 changed-alone (Set s) lines d good fit sound there e =
     let by = renewal s good fit in
     renewed-alone (about (Set s)) (directive_set s) (made_new (Set s)) by.wanted.own by.made lines sound there ∙ ap (λ (x : Directive). x ∷ []) (same_Some _ _ e)
@@ -95,14 +95,14 @@ added-put-by (Set s) d e = absurd cc
 added-put-by (Drop t) d e = absurd cc
 
 alone-after : (edit : Edit) (lines : List (Line Placed)) (d : Directive) → IsSoundEdit edit → is_fit edit ≡ true → IsSound lines → set_by edit ≡ Some d
-    → filter (about edit) (held_from None (edited edit lines)) ≡ d ∷ []
+    → filter (about edit) (held_from None (lines_after edit lines)) ≡ d ∷ []
 alone-after edit lines d good fit sound e = by-edited (λ after. filter (about edit) (held_from None after) ≡ d ∷ []) edit lines
     (λ there. changed-alone edit lines d good fit sound there e) (λ none. put-in-once edit lines d good fit sound none (set-put edit d e))
 
 -- ---- what an operation adds
 
-pub addition-changes-nothing : (edit : Edit) (lines : List (Line Placed)) (d : Directive) → added_by edit ≡ Some d → changed edit lines ≡ lines
-unfolding changed
+pub addition-changes-nothing : (edit : Edit) (lines : List (Line Placed)) (d : Directive) → added_by edit ≡ Some d → with_change edit lines ≡ lines
+unfolding with_change
 addition-changes-nothing (Add a) lines d e = refl
 addition-changes-nothing (Set s) lines d e = absurd cc
 addition-changes-nothing (Drop t) lines d e = absurd cc
@@ -111,7 +111,7 @@ abbrev once_or_as_before : Edit → Directive → List Directive → List Direct
 once_or_as_before edit d said = if list_any (about edit) said then filter (about edit) said else d ∷ []
 
 added-after : (edit : Edit) (lines : List (Line Placed)) (d : Directive) → IsSoundEdit edit → is_fit edit ≡ true → IsSound lines → added_by edit ≡ Some d
-    → filter (about edit) (held_from None (edited edit lines)) ≡ once_or_as_before edit d (held_from None lines)
+    → filter (about edit) (held_from None (lines_after edit lines)) ≡ once_or_as_before edit d (held_from None lines)
 added-after edit lines d good fit sound e = by-edited (λ after. filter (about edit) (held_from None after) ≡ once_or_as_before edit d (held_from None lines)) edit lines
     (λ there.
     let any : list_any (about edit) (held_from None lines) ≡ true = sym (there-is (about edit) None lines) ∙ there in
@@ -127,22 +127,22 @@ sound-of edit lines is = (written-sound is.0.0 edit is.0.1, document-sound lines
 
 pub dropped-is-gone : DroppedIsGone
 dropped-is-gone = λ edit lines e.
-    ap (list_any (about edit)) (file-held (edited edit lines) ∙ ap (held_from None) (edited-drop edit lines e) ∙ dropped-held (about edit) lines) ∙ others-none (about edit) (held_from None lines)
+    ap (list_any (about edit)) (file-held (lines_after edit lines) ∙ ap (held_from None) (edited-drop edit lines e) ∙ dropped-held (about edit) lines) ∙ others-none (about edit) (held_from None lines)
 
 pub set-stands-alone : SetStandsAlone
 set-stands-alone = λ edit lines d is e.
     let sound = sound-of edit lines is in
-    ap (filter (about edit)) (file-held (edited edit lines)) ∙ alone-after edit lines d sound.0 is.1 sound.1 e
+    ap (filter (about edit)) (file-held (lines_after edit lines)) ∙ alone-after edit lines d sound.0 is.1 sound.1 e
 
 pub added-is-there : AddedIsThere
 added-is-there = λ edit lines d is e.
     let sound = sound-of edit lines is in
-    ap (filter (about edit)) (file-held (edited edit lines)) ∙ added-after edit lines d sound.0 is.1 sound.1 e ∙ ap (once_or_as_before edit d) (sym (file-held lines))
+    ap (filter (about edit)) (file-held (lines_after edit lines)) ∙ added-after edit lines d sound.0 is.1 sound.1 e ∙ ap (once_or_as_before edit d) (sym (file-held lines))
 
 pub others-stay : OthersStay
 others-stay = λ edit lines is.
     let sound = sound-of edit lines is in
-    ap (filter (others (about edit))) (file-held (edited edit lines)) ∙ others-after edit lines sound.0 is.1 sound.1 ∙ ap (filter (others (about edit))) (sym (file-held lines))
+    ap (filter (others (about edit))) (file-held (lines_after edit lines)) ∙ others-after edit lines sound.0 is.1 sound.1 ∙ ap (filter (others (about edit))) (sym (file-held lines))
 
 -- ---- operations with nothing to do
 
@@ -154,12 +154,12 @@ idle-addition edit lines d adds some = by-edited (λ after. after ≡ lines) edi
     (λ absent. absurd (true≢false (sym some ∙ sym (there-said (about edit) lines) ∙ absent)))
 
 pub second-drop : SecondDropChangesNothing
-second-drop edit lines drop = idle-drop edit (edited edit lines) drop (dropped-is-gone edit lines drop)
+second-drop edit lines drop = idle-drop edit (lines_after edit lines) drop (dropped-is-gone edit lines drop)
 
 pub second-addition : SecondAdditionChangesNothing
 second-addition edit lines d is adds =
-    idle-addition edit (edited edit lines) d adds
+    idle-addition edit (lines_after edit lines) d adds
     (elim (cases_Bool (list_any (about edit) (directives_of lines))) [
       | inl some ↦ ap (λ (ls : List (Line Placed)). list_any (about edit) (directives_of ls)) (idle-addition edit lines d adds some) ∙ some
-      | inr none ↦ any-filled (about edit) (directives_of (edited edit lines)) ∙ ap is_filled (added-is-there edit lines d is adds ∙ ap (λ (b : Bool). if b then filter (about edit) (directives_of lines) else d ∷ []) none)
+      | inr none ↦ any-filled (about edit) (directives_of (lines_after edit lines)) ∙ ap is_filled (added-is-there edit lines d is adds ∙ ap (λ (b : Bool). if b then filter (about edit) (directives_of lines) else d ∷ []) none)
     ])

@@ -7,7 +7,7 @@ use Rattle.gm_name.proofs.NameTests.{and_both}
 use Rattle.gm_syntax.specs.Tokens.{Placed}
 use Rattle.gm_syntax.specs.Document.{Line, Blank, Comment, Open, Close, Entry}
 use Rattle.gm_file.specs.Directives.{Directive, block_after_line, block_after_lines, item_at, with_blocks_from}
-use Rattle.gm_file_edit.specs.Fates.{Fate, empties, is_emptied, kept, remaining, widened_from}
+use Rattle.gm_file_edit.specs.Fates.{Fate, empties, is_emptied, kept_lines, remaining, widened_from}
 use Rattle.gm_file_edit.proofs.Pairs.{Seat, held_at, held_in}
 
 -- of the other lines, each in its block, some are left out, which hold no directive
@@ -54,7 +54,7 @@ going-opened : (suffix : Option (List ℕ)) (fates : List Fate) → is_emptied f
 going-opened suffix fates e = (false, (and_both (is_none suffix) (empties false fates) e).1)
 
 left-lines : (block : Option Placed) (gone : Bool) (fates : List Fate) → Going (is_some block && gone) fates
-    → AreLeft (left_block (is_some block && gone) block) (kept (widened_from (is_some block) gone fates)) block (kept fates)
+    → AreLeft (left_block (is_some block && gone) block) (kept_lines (widened_from (is_some block) gone fates)) block (kept_lines fates)
 unfolding item_at
 left-lines None gone [] is = (nothing, λ e. e)
 left-lines (Some verb) false [] is = (nothing, λ e. e)
@@ -81,6 +81,6 @@ left-lines (Some verb) false (Some (Entry words suffix) ∷ fates) is = same-fir
 left-lines (Some verb) true (Some (Entry words suffix) ∷ fates) is = absurd cc
 
 -- of the lines without a mark, widening leaves out some that hold no directive
-pub remaining-left : (fates : List Fate) → AreFewer (with_blocks_from None (remaining fates)) (with_blocks_from None (kept fates)) × (block_after_lines None (kept fates) ≡ None → block_after_lines None (remaining fates) ≡ None)
+pub remaining-left : (fates : List Fate) → AreFewer (with_blocks_from None (remaining fates)) (with_blocks_from None (kept_lines fates)) × (block_after_lines None (kept_lines fates) ≡ None → block_after_lines None (remaining fates) ≡ None)
 unfolding remaining
 remaining-left fates = left-lines None false fates tt

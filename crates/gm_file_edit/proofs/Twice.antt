@@ -9,8 +9,8 @@ use Rattle.gm_file.specs.Directives.{Directive, LineInBlock, block_after_line, b
 use Rattle.gm_file.specs.Faults.{is_module}
 use Rattle.gm_file_edit.specs.Edits.{Edit, Set, Setting, ModuleIs, GoIs, RequireAt, Drop, Add, ReplaceWith, Exclude, Retract}
 use Rattle.gm_file_edit.specs.About.{about}
-use Rattle.gm_file_edit.specs.Edited.{changed, edited, put_in}
-use Rattle.gm_file_edit.specs.Fates.{Fate, dropping_from, kept, remaining, renewing_from}
+use Rattle.gm_file_edit.specs.Edited.{with_change, lines_after, put_in}
+use Rattle.gm_file_edit.specs.Fates.{Fate, dropping_from, kept_lines, remaining, renewing_from}
 use Rattle.gm_file_edit.specs.Holding.{directive_at, passes, is_there}
 use Rattle.gm_file_edit.specs.Laws.{directives_of}
 use Rattle.gm_file_edit.specs.Kinds.{directive_added, directive_set, set_by}
@@ -75,23 +75,23 @@ hit-sets test new sets block (Open verb suffix) hit = absurd cc
 hit-sets test new sets block (Close suffix) hit = absurd cc
 hit-sets test new sets block (Entry words suffix) hit = (sets.level block words suffix, sets.again block words suffix hit)
 
-dropping-set : (test : Directive → Bool) (new : Rewriting) (block : Option Placed) (lines : List (Line Placed)) → LinesAreSet test new block (kept (dropping_from test block lines))
+dropping-set : (test : Directive → Bool) (new : Rewriting) (block : Option Placed) (lines : List (Line Placed)) → LinesAreSet test new block (kept_lines (dropping_from test block lines))
 dropping-set test new block [] = tt
 dropping-set test new block (line ∷ lines) =
     let rest = dropping-set test new (block_after_line block line) lines in
     elim (cases_Bool (passes test (directive_at block line))) [
-      | inl hit ↦ rw hit (subst (λ (b : Option Placed). LinesAreSet test new b (kept (dropping_from test (block_after_line block line) lines))) (passing-level test block line hit) rest)
+      | inl hit ↦ rw hit (subst (λ (b : Option Placed). LinesAreSet test new b (kept_lines (dropping_from test (block_after_line block line) lines))) (passing-level test block line hit) rest)
       | inr miss ↦ rw miss (missed test new block line miss, rest)
     ]
 
-renewing-set : (test : Directive → Bool) (new : Rewriting) → IsSetting test new → (block : Option Placed) (lines : List (Line Placed)) → LinesAreSet test new block (kept (renewing_from test new block lines))
+renewing-set : (test : Directive → Bool) (new : Rewriting) → IsSetting test new → (block : Option Placed) (lines : List (Line Placed)) → LinesAreSet test new block (kept_lines (renewing_from test new block lines))
 renewing-set test new sets block [] = tt
 renewing-set test new sets block (line ∷ lines) =
     let behind : Option Placed = block_after_line block line in
     elim (cases_Bool (passes test (directive_at block line))) [
       | inl hit ↦
           let set = hit-sets test new sets block line hit in
-          rw hit ((λ e. set.1), subst (λ (b : Option Placed). LinesAreSet test new b (kept (dropping_from test behind lines))) (sym set.0) (dropping-set test new behind lines))
+          rw hit ((λ e. set.1), subst (λ (b : Option Placed). LinesAreSet test new b (kept_lines (dropping_from test behind lines))) (sym set.0) (dropping-set test new behind lines))
       | inr miss ↦ rw miss (missed test new block line miss, renewing-set test new sets behind lines)
     ]
 
@@ -119,8 +119,8 @@ setting-sets (ReplaceWith r) = record { level = λ block words suffix. refl; aga
 remaining-set : (test : Directive → Bool) (new : Rewriting) → IsSetting test new → (lines : List (Line Placed)) → LinesAreSet test new None (remaining (renewing_from test new None lines))
 remaining-set test new sets lines = fewer-all (IsSet test new) (remaining-left (renewing_from test new None lines)).0 (renewing-set test new sets None lines)
 
-changed-set : (edit : Edit) (lines : List (Line Placed)) (d : Directive) → set_by edit ≡ Some d → LinesAreSet (about edit) (made_new edit) None (changed edit lines)
-unfolding changed
+changed-set : (edit : Edit) (lines : List (Line Placed)) (d : Directive) → set_by edit ≡ Some d → LinesAreSet (about edit) (made_new edit) None (with_change edit lines)
+unfolding with_change
 changed-set (Set s) lines d sets = remaining-set (about (Set s)) (made_new (Set s)) (setting-sets s) lines
 changed-set (Drop t) lines d sets = absurd cc
 changed-set (Add a) lines d sets = absurd cc
@@ -185,7 +185,7 @@ put-set lines sound = by-put (λ edit after. is_there (about edit) None lines �
     (λ edit entry after is put none. into-set (about edit) (made_new edit) entry.0 entry.1 lines after (entry-set edit entry is) sound none put)
     (λ t none. none-set (about (Drop t)) (made_new (Drop t)) None lines none)
 
-edited-set : (edit : Edit) (lines : List (Line Placed)) (d : Directive) → set_by edit ≡ Some d → IsSound lines → LinesAreSet (about edit) (made_new edit) None (edited edit lines)
+edited-set : (edit : Edit) (lines : List (Line Placed)) (d : Directive) → set_by edit ≡ Some d → IsSound lines → LinesAreSet (about edit) (made_new edit) None (lines_after edit lines)
 edited-set edit lines d sets sound = by-edited (LinesAreSet (about edit) (made_new edit) None) edit lines (λ there. changed-set edit lines d sets) (λ none. put-set lines sound edit none)
 
 -- ---- such lines stay, if only one of them is targeted
@@ -211,8 +211,8 @@ stays : (test : Directive → Bool) (new : Rewriting) (d : Directive) (lines : L
     → remaining (renewing_from test new None lines) ≡ lines
 stays test new d lines are alone = ap (remaining) (renewing-stays test new d None lines are alone) ∙ all-lines-stay lines
 
-again-changes : (edit : Edit) (lines : List (Line Placed)) (d : Directive) → set_by edit ≡ Some d → LinesAreSet (about edit) (made_new edit) None lines → filter (about edit) (held_from None lines) ≡ d ∷ [] → changed edit lines ≡ lines
-unfolding changed
+again-changes : (edit : Edit) (lines : List (Line Placed)) (d : Directive) → set_by edit ≡ Some d → LinesAreSet (about edit) (made_new edit) None lines → filter (about edit) (held_from None lines) ≡ d ∷ [] → with_change edit lines ≡ lines
+unfolding with_change
 again-changes (Set s) lines d sets are alone = stays (about (Set s)) (made_new (Set s)) d lines are alone
 again-changes (Drop t) lines d sets are alone = absurd cc
 again-changes (Add a) lines d sets are alone = absurd cc
@@ -221,10 +221,10 @@ again-changes (Add a) lines d sets are alone = absurd cc
 
 pub second-setting : SecondSettingChangesNothing
 second-setting edit lines d is sets =
-    let after : List (Line Placed) = edited edit lines in
+    let after : List (Line Placed) = lines_after edit lines in
     let alone : filter (about edit) (directives_of after) ≡ d ∷ [] = set-stands-alone edit lines d is sets in
     let there : is_there (about edit) None after ≡ true = there-said (about edit) after ∙ any-filled (about edit) (directives_of after) ∙ ap is_filled alone in
-    by-edited (λ ls. ls ≡ changed edit after) edit after (λ e. refl) (λ none. absurd (false≢true (sym none ∙ there)))
+    by-edited (λ ls. ls ≡ with_change edit after) edit after (λ e. refl) (λ none. absurd (false≢true (sym none ∙ there)))
     ∙ again-changes edit after d sets (edited-set edit lines d sets (document-sound lines is.2 is.3)) (ap (filter (about edit)) (sym (file-held after)) ∙ alone)
 
 pub second-operation : SecondOperationChangesNothing

@@ -14,8 +14,8 @@ use Rattle.gm_file.specs.Faults.{is_same_left}
 use Rattle.gm_file_edit.specs.Edits.{Edit, Set, ModuleIs, GoIs, RequireAt, ReplaceWith, Add, Exclude, Retract, Drop}
 use Rattle.gm_file_edit.specs.Kinds.{is_drop}
 use Rattle.gm_file_edit.specs.About.{about, excludes_pair, is_covered_by, is_replaced_by, replaces_left, requires_path, retracts_ends}
-use Rattle.gm_file_edit.specs.Edited.{added, edited, has_verb, new_entry}
-use Rattle.gm_file_edit.specs.Fates.{Fate, dropped, dropping_from, kept, remaining, widened_from}
+use Rattle.gm_file_edit.specs.Edited.{with_addition, lines_after, has_verb, new_entry}
+use Rattle.gm_file_edit.specs.Fates.{Fate, without_targets, dropping_from, kept_lines, remaining, widened_from}
 use Rattle.gm_file_edit.specs.Holding.{directive_at, passes, is_there}
 use Rattle.gm_file_edit.specs.Laws.{directives_of}
 use Rattle.gm_file_edit.specs.NewWords.{entry_at, single}
@@ -47,7 +47,7 @@ one-gone test block (line ∷ front) back entry none hit =
 
 -- an entry stays, and the line after it is removed
 next-gone : (words : List Placed) (suffix : Option (List ℕ)) (back : List (Line Placed)) (inside : Bool)
-    → kept (widened_from inside false (Some (Entry words suffix) ∷ None ∷ all_stay back)) ≡ Entry words suffix ∷ back
+    → kept_lines (widened_from inside false (Some (Entry words suffix) ∷ None ∷ all_stay back)) ≡ Entry words suffix ∷ back
 next-gone words suffix back inside = ap (λ (ls : List (Line Placed)). Entry words suffix ∷ ls) (all-lines-left inside back)
 
 gone-behind : (words : List Placed) (suffix : Option (List ℕ)) (front back : List (Line Placed))
@@ -74,7 +74,7 @@ holds-entry test block (Entry words suffix) e = (words, suffix, refl)
 -- what is put in behind an entry of its verb and dropped
 behind-entry : (test : Directive → Bool) (v : List ℕ) (arguments : List Placed) (new : Directive) (front back : List (Line Placed)) (line : Line Placed) → IsAddition v arguments new → test new ≡ true
     → is_there test None (front ++ line ∷ back) ≡ false → passes (has_verb v) (directive_at (block_after_lines None front) line) ≡ true
-    → dropped test (front ++ line ∷ entry_at (is_some (block_after_lines None front)) v arguments ∷ back) ≡ front ++ line ∷ back
+    → without_targets test (front ++ line ∷ entry_at (is_some (block_after_lines None front)) v arguments ∷ back) ≡ front ++ line ∷ back
 behind-entry test v arguments new front back line so own none hit =
     let block : Option Placed = block_after_lines None front in
     let entry : Line Placed = entry_at (is_some block) v arguments in
@@ -85,7 +85,7 @@ behind-entry test v arguments new front back line so own none hit =
     let fates : dropping_from test None ((front ++ line ∷ []) ++ entry ∷ back) ≡ all_stay (front ++ line ∷ []) ++ None ∷ all_stay back =
     one-gone test None (front ++ line ∷ []) back entry (ap (is_there test None) whole ∙ none) (ap (λ (b : Option Placed). passes test (directive_at b entry)) behind ∙ passed) in
     let is = holds-entry (has_verb v) block line hit in
-    ap (dropped test) (sym (append_assoc front (line ∷ []) (entry ∷ back))) ∙ ap (remaining) (fates ∙ split) ∙ left is.0 is.1 is.2
+    ap (without_targets test) (sym (append_assoc front (line ∷ []) (entry ∷ back))) ∙ ap (remaining) (fates ∙ split) ∙ left is.0 is.1 is.2
   where
     split : all_stay (front ++ line ∷ []) ++ None ∷ all_stay back ≡ all_stay front ++ Some line ∷ None ∷ all_stay back
     split = ap (λ (fs : List Fate). fs ++ None ∷ all_stay back) (map-append (λ (l : Line Placed). Some l) front (line ∷ [])) ∙ append_assoc (all_stay front) (Some line ∷ []) (None ∷ all_stay back)
@@ -100,7 +100,7 @@ blank-none test lines none = there-append test None lines (Blank ∷ []) ∙ ap 
 
 -- what is put in at the end and dropped
 at-end : (test : Directive → Bool) (v : List ℕ) (arguments : List Placed) (new : Directive) (lines : List (Line Placed)) → IsAddition v arguments new → test new ≡ true
-    → is_there test None lines ≡ false → IsSound lines → dropped test (lines ++ Blank ∷ single v arguments ∷ []) ≡ lines ++ Blank ∷ []
+    → is_there test None lines ≡ false → IsSound lines → without_targets test (lines ++ Blank ∷ single v arguments ∷ []) ≡ lines ++ Blank ∷ []
 at-end test v arguments new lines so own none sound =
     let front : List (Line Placed) = lines ++ Blank ∷ [] in
     let entry : Line Placed = single v arguments in
@@ -108,20 +108,20 @@ at-end test v arguments new lines so own none sound =
     let outside : block_after_lines None front ≡ None = block-append None lines (Blank ∷ []) ∙ sound.closed in
     let passed : passes test (directive_at (block_after_lines None front) entry) ≡ true = ap (λ (b : Option Placed). passes test (directive_at b entry)) outside ∙ ap (passes test) fits.holds ∙ own in
     let absent : is_there test None (front ++ []) ≡ false = ap (is_there test None) (append-nil front) ∙ blank-none test lines none in
-    ap (dropped test) (sym (append_assoc lines (Blank ∷ []) (entry ∷ []))) ∙ ap (remaining) (one-gone test None front [] entry absent passed)
+    ap (without_targets test) (sym (append_assoc lines (Blank ∷ []) (entry ∷ []))) ∙ ap (remaining) (one-gone test None front [] entry absent passed)
     ∙ last-gone front
 
 added-undone : (test : Directive → Bool) (v : List ℕ) (arguments : List Placed) (new : Directive) (lines : List (Line Placed)) → IsAddition v arguments new → test new ≡ true → is_there test None lines ≡ false → IsSound lines
-    → dropped test (added v arguments lines) ≡ (if is_there (has_verb v) None lines then lines else lines ++ Blank ∷ [])
+    → without_targets test (with_addition v arguments lines) ≡ (if is_there (has_verb v) None lines then lines else lines ++ Blank ∷ [])
 added-undone test v arguments new lines so own none sound = elim (cases_Bool (is_there (has_verb v) None lines)) [
   | inl there ↦
       let is = last-one (has_verb v) None lines there in
       let still : is_there test None (is.front ++ is.line ∷ is.back) ≡ false = ap (is_there test None) (sym is.parts) ∙ none in
       rw there
-      (ap (λ (ls : List (Line Placed)). dropped test (added v arguments ls)) is.parts
-      ∙ ap (dropped test) (added-after-last v arguments is.front is.back is.line is.hit is.later)
+      (ap (λ (ls : List (Line Placed)). without_targets test (with_addition v arguments ls)) is.parts
+      ∙ ap (without_targets test) (added-after-last v arguments is.front is.back is.line is.hit is.later)
       ∙ behind-entry test v arguments new is.front is.back is.line so own still is.hit ∙ sym is.parts)
-  | inr without ↦ rw without (ap (dropped test) (added-at-end v arguments lines without) ∙ at-end test v arguments new lines so own none sound)
+  | inr without ↦ rw without (ap (without_targets test) (added-at-end v arguments lines without) ∙ at-end test v arguments new lines so own none sound)
 ]
 
 -- ---- the operations
@@ -164,7 +164,7 @@ drop-undoes edit undo verb arguments lines is adds undoes none =
     let by = says edit (verb, arguments) (new-put edit (verb, arguments) adds) sound.0 in
     let u = undoing edit undo undoes in
     let absent : is_there (about undo) None lines ≡ false = there-said (about undo) lines ∙ fewer-any (about edit) (about undo) u.fewer (directives_of lines) none in
-    edited-drop undo (edited edit lines) u.drops ∙ ap (dropped (about undo)) (edited-added edit (verb, arguments) lines adds none)
+    edited-drop undo (lines_after edit lines) u.drops ∙ ap (without_targets (about undo)) (edited-added edit (verb, arguments) lines adds none)
     ∙ added-undone (about undo) verb arguments by.new lines by.is (u.own by.new by.put) absent sound.1 ∙ ap (λ (b : Bool). if b then lines else lines ++ Blank ∷ []) (there-said (has_verb verb) lines)
 
 -- ---- the layout

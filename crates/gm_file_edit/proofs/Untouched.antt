@@ -4,10 +4,10 @@ use Rattle.gm_syntax.specs.Tokens.{Placed}
 use Rattle.gm_syntax.specs.Document.{Line, Blank, Comment, Open, Close, Entry}
 use Rattle.gm_file.specs.Directives.{Directive, block_after_line}
 use Rattle.gm_file_edit.specs.About.{about}
-use Rattle.gm_file_edit.specs.Edited.{changed, edited, put_in}
+use Rattle.gm_file_edit.specs.Edited.{with_change, lines_after, put_in}
 use Rattle.gm_file_edit.specs.Edits.{Edit, Set, Add, Drop}
 use Rattle.gm_file_edit.specs.Kinds.{is_drop}
-use Rattle.gm_file_edit.specs.Fates.{Fate, dropped, dropping_from, empties, is_emptied, kept, remaining, widened_from}
+use Rattle.gm_file_edit.specs.Fates.{Fate, without_targets, dropping_from, empties, is_emptied, kept_lines, remaining, widened_from}
 use Rattle.gm_file_edit.specs.Holding.{directive_at, passes, is_there}
 use Rattle.std.proofs.lemmas.Bool.{and_right, cases_Bool, or_parts}
 
@@ -30,8 +30,8 @@ empties-none fates none (Close suffix ∷ lines) = refl
 empties-none fates none (Entry words suffix ∷ lines) = refl
 
 -- lines that stay, before fates that empty no block and leave these lines
-pub stay-before : (fates : List Fate) (rest : List (Line Placed)) → empties false fates ≡ false → ((inside : Bool) → kept (widened_from inside false fates) ≡ rest)
-    → (inside : Bool) (lines : List (Line Placed)) → kept (widened_from inside false (all_stay lines ++ fates)) ≡ lines ++ rest
+pub stay-before : (fates : List Fate) (rest : List (Line Placed)) → empties false fates ≡ false → ((inside : Bool) → kept_lines (widened_from inside false fates) ≡ rest)
+    → (inside : Bool) (lines : List (Line Placed)) → kept_lines (widened_from inside false (all_stay lines ++ fates)) ≡ lines ++ rest
 stay-before fates rest none is inside [] = is inside
 stay-before fates rest none is false (Blank ∷ lines) = ap (λ (ls : List (Line Placed)). Blank ∷ ls) (stay-before fates rest none is false lines)
 stay-before fates rest none is true (Blank ∷ lines) = ap (λ (ls : List (Line Placed)). Blank ∷ ls) (stay-before fates rest none is true lines)
@@ -43,30 +43,30 @@ stay-before fates rest none is false (Close suffix ∷ lines) = ap (λ (ls : Lis
 stay-before fates rest none is true (Close suffix ∷ lines) = ap (λ (ls : List (Line Placed)). Close suffix ∷ ls) (stay-before fates rest none is false lines)
 stay-before fates rest none is inside (Entry words suffix ∷ lines) = ap (λ (ls : List (Line Placed)). Entry words suffix ∷ ls) (stay-before fates rest none is inside lines)
 
-pub all-lines-left : (inside : Bool) (lines : List (Line Placed)) → kept (widened_from inside false (all_stay lines)) ≡ lines
+pub all-lines-left : (inside : Bool) (lines : List (Line Placed)) → kept_lines (widened_from inside false (all_stay lines)) ≡ lines
 all-lines-left inside lines =
-    ap (λ (fs : List Fate). kept (widened_from inside false fs)) (sym (append-nil (all_stay lines))) ∙ stay-before [] [] refl (λ within. refl) inside lines ∙ append-nil lines
+    ap (λ (fs : List Fate). kept_lines (widened_from inside false fs)) (sym (append-nil (all_stay lines))) ∙ stay-before [] [] refl (λ within. refl) inside lines ∙ append-nil lines
 
 pub all-lines-stay : (lines : List (Line Placed)) → remaining (all_stay lines) ≡ lines
 unfolding remaining
 all-lines-stay lines = all-lines-left false lines
 
-pub none-dropped : (test : Directive → Bool) (lines : List (Line Placed)) → is_there test None lines ≡ false → dropped test lines ≡ lines
+pub none-dropped : (test : Directive → Bool) (lines : List (Line Placed)) → is_there test None lines ≡ false → without_targets test lines ≡ lines
 none-dropped test lines e = ap remaining (none-dropped-from test None lines e) ∙ all-lines-stay lines
 
 -- ---- the lines after an operation
 
 -- what holds whether an operation targets a directive or none
-pub by-edited : (P : List (Line Placed) → Type 0) (edit : Edit) (lines : List (Line Placed)) → (is_there (about edit) None lines ≡ true → P (changed edit lines)) → (is_there (about edit) None lines ≡ false → P (put_in edit lines)) → P (edited edit lines)
-unfolding edited
+pub by-edited : (P : List (Line Placed) → Type 0) (edit : Edit) (lines : List (Line Placed)) → (is_there (about edit) None lines ≡ true → P (with_change edit lines)) → (is_there (about edit) None lines ≡ false → P (put_in edit lines)) → P (lines_after edit lines)
+unfolding lines_after
 by-edited P edit lines there none = elim (cases_Bool (is_there (about edit) None lines)) [
   | inl is ↦ rw is (there is)
   | inr not_there ↦ rw not_there (none not_there)
 ]
 
 -- a drop
-pub edited-drop : (edit : Edit) (lines : List (Line Placed)) → is_drop edit ≡ true → edited edit lines ≡ dropped (about edit) lines
-unfolding changed put_in
-edited-drop (Drop t) lines e = by-edited (λ ls. ls ≡ dropped (about (Drop t)) lines) (Drop t) lines (λ there. refl) (λ none. sym (none-dropped (about (Drop t)) lines none))
+pub edited-drop : (edit : Edit) (lines : List (Line Placed)) → is_drop edit ≡ true → lines_after edit lines ≡ without_targets (about edit) lines
+unfolding with_change put_in
+edited-drop (Drop t) lines e = by-edited (λ ls. ls ≡ without_targets (about (Drop t)) lines) (Drop t) lines (λ there. refl) (λ none. sym (none-dropped (about (Drop t)) lines none))
 edited-drop (Set s) lines e = absurd cc
 edited-drop (Add a) lines e = absurd cc

@@ -9,7 +9,7 @@ use Rattle.gm_name.specs.ModuleVersion.{ModuleVersion}
 use Rattle.gm_file.specs.Values.{both, is_folder_path}
 use Rattle.gm_file.specs.GoVersions.{strict_go}
 use Rattle.gm_file.specs.Directives.{VersionInterval, pair, Left, left_with, left_without, Right, Folder, Module, Replacing, replacing}
-use Rattle.gm_file_edit.specs.Edits.{Edit, Set, ModuleIs, GoIs, RequireAt, Drop, AnyRequire, Add, Exclude, AnyExclude, ReplaceWith, AnyReplace, Retract, AnyRetract, split_at_byte, edit_in, go_text_in, has_byte, inside_brackets, interval_in, is_bracketed, left_in, named, pair_in, path_in, replacing_in, right_in, trimmed, version_in}
+use Rattle.gm_file_edit.specs.Edits.{Edit, Set, ModuleIs, GoIs, RequireAt, Drop, AnyRequire, Add, Exclude, AnyExclude, ReplaceWith, AnyReplace, Retract, AnyRetract, split_at_byte, edit_in, go_text_in, has_byte, inside_brackets, interval_in, is_bracketed, left_in, edit_named, pair_in, path_in, replacing_in, right_in, trim, version_in}
 use Rattle.gm_file_edit.specs.Sound.{AreVersions, IsPairOfNames, IsSoundEdit, IsSoundLeft, IsSoundRight}
 use Rattle.std.proofs.lemmas.Option.{same_Some}
 use Rattle.gm_file_edit.proofs.Feeds.{if-some, if-other, both-are, map-some, then-some}
@@ -70,9 +70,9 @@ ends-sound : (text : List ℕ) (ends : VersionInterval) → interval_in text ≡
 unfolding interval_in
 ends-sound text ends e = elim (cases_Bool (is_bracketed text)) [
   | inl two ↦
-      let cut = then-some (λ (parts : List ℕ × List ℕ). both pair (version_in (trimmed parts.0)) (version_in (trimmed parts.1))) (split_at_byte 44 (inside_brackets text)) ends (rw two at e) in
-      let parts = both-are pair (version_in (trimmed cut.0.0)) (version_in (trimmed cut.0.1)) ends cut.2 in
-      subst AreVersions parts.4 (version-sound (trimmed cut.0.0) parts.0 parts.2, version-sound (trimmed cut.0.1) parts.1 parts.3)
+      let cut = then-some (λ (parts : List ℕ × List ℕ). both pair (version_in (trim parts.0)) (version_in (trim parts.1))) (split_at_byte 44 (inside_brackets text)) ends (rw two at e) in
+      let parts = both-are pair (version_in (trim cut.0.0)) (version_in (trim cut.0.1)) ends cut.2 in
+      subst AreVersions parts.4 (version-sound (trim cut.0.0) parts.0 parts.2, version-sound (trim cut.0.1) parts.1 parts.3)
   | inr one ↦
       let m = map-some (λ (v : List ℕ). pair v v) (version_in text) ends (rw one at e) in
       let v = version-sound text m.0 m.1 in
@@ -85,8 +85,8 @@ one-named : {X : Type 0} (P : Edit → Type 0) (named_so : Bool) (make : X → E
 one-named P true make part rest edit here other e = let m = map-some make part edit e in subst P m.2 (here m.0 m.1)
 one-named P false make part rest edit here other e = other e
 
-pub named-sound : (name text : List ℕ) (edit : Edit) → named name text ≡ Some edit → IsSoundEdit edit
-unfolding named
+pub named-sound : (name text : List ℕ) (edit : Edit) → edit_named name text ≡ Some edit → IsSoundEdit edit
+unfolding edit_named
 named-sound name text edit =
     one-named IsSoundEdit (bytes_eq name (codes "module")) (λ path. Set (ModuleIs path)) (path_in text) _ edit (path-sound text)
     (one-named IsSoundEdit (bytes_eq name (codes "go")) (λ version. Set (GoIs version)) (go_text_in text) _ edit (go-sound text)
@@ -103,5 +103,5 @@ named-sound name text edit =
 pub written-sound : (text : List ℕ) (edit : Edit) → edit_in text ≡ Some edit → IsSoundEdit edit
 unfolding edit_in
 written-sound text edit e =
-    let cut = then-some (λ (parts : List ℕ × List ℕ). named parts.0 parts.1) (split_at_byte 61 text) edit e in
+    let cut = then-some (λ (parts : List ℕ × List ℕ). edit_named parts.0 parts.1) (split_at_byte 61 text) edit e in
     named-sound cut.0.0 cut.0.1 edit cut.2

@@ -5,7 +5,7 @@ use Rattle.gm_syntax.specs.Tokens.{Placed}
 use Rattle.gm_syntax.specs.Document.{Line, Blank, Comment, Open, Close, Entry}
 use Rattle.gm_file.specs.Directives.{Directive, block_after_lines}
 use Rattle.gm_file_edit.specs.About.{about}
-use Rattle.gm_file_edit.specs.Edited.{edited, has_verb, new_entry}
+use Rattle.gm_file_edit.specs.Edited.{lines_after, has_verb, new_entry}
 use Rattle.gm_file_edit.specs.Edits.{Edit}
 use Rattle.gm_file_edit.specs.Holding.{directive_at, passes, is_there}
 use Rattle.gm_file_edit.specs.Laws.{directives_of, IsEditOf}
@@ -17,32 +17,32 @@ use Rattle.gm_file_edit.specs.NewWords.{entry_at, single}
 -- if no directive is one that an operation drops, the operation leaves the lines as they are
 abbrev pub IdleDropChangesNothing : Type 0
 IdleDropChangesNothing = (edit : Edit) (lines : List (Line Placed)) → is_drop edit ≡ true
-    → list_any (about edit) (directives_of lines) ≡ false → edited edit lines ≡ lines
+    → list_any (about edit) (directives_of lines) ≡ false → lines_after edit lines ≡ lines
 
 -- if some directive is what an operation adds, the operation leaves the lines as they are
 abbrev pub IdleAdditionChangesNothing : Type 0
 IdleAdditionChangesNothing = (edit : Edit) (lines : List (Line Placed)) (d : Directive) → added_by edit ≡ Some d
-    → list_any (about edit) (directives_of lines) ≡ true → edited edit lines ≡ lines
+    → list_any (about edit) (directives_of lines) ≡ true → lines_after edit lines ≡ lines
 
 -- a drop that follows the same drop changes nothing
 abbrev pub SecondDropChangesNothing : Type 0
 SecondDropChangesNothing = (edit : Edit) (lines : List (Line Placed)) → is_drop edit ≡ true
-    → edited edit (edited edit lines) ≡ edited edit lines
+    → lines_after edit (lines_after edit lines) ≡ lines_after edit lines
 
 -- an addition that follows the same addition changes nothing
 abbrev pub SecondAdditionChangesNothing : Type 0
 SecondAdditionChangesNothing = (edit : Edit) (lines : List (Line Placed)) (d : Directive) → IsEditOf edit lines
-    → added_by edit ≡ Some d → edited edit (edited edit lines) ≡ edited edit lines
+    → added_by edit ≡ Some d → lines_after edit (lines_after edit lines) ≡ lines_after edit lines
 
 -- a setting that follows the same setting changes nothing
 abbrev pub SecondSettingChangesNothing : Type 0
 SecondSettingChangesNothing = (edit : Edit) (lines : List (Line Placed)) (d : Directive) → IsEditOf edit lines
-    → set_by edit ≡ Some d → edited edit (edited edit lines) ≡ edited edit lines
+    → set_by edit ≡ Some d → lines_after edit (lines_after edit lines) ≡ lines_after edit lines
 
 -- so does every operation: given twice, it leaves what it leaves if it is given once
 abbrev pub SecondOperationChangesNothing : Type 0
 SecondOperationChangesNothing = (edit : Edit) (lines : List (Line Placed)) → IsEditOf edit lines
-    → edited edit (edited edit lines) ≡ edited edit lines
+    → lines_after edit (lines_after edit lines) ≡ lines_after edit lines
 
 -- ---- comments
 
@@ -57,7 +57,7 @@ is_comment_line (Entry words suffix) = false
 -- an operation leaves every comment line, in order, and adds none
 abbrev pub CommentLinesStay : Type 0
 CommentLinesStay = (edit : Edit) (lines : List (Line Placed))
-    → filter is_comment_line (edited edit lines) ≡ filter is_comment_line lines
+    → filter is_comment_line (lines_after edit lines) ≡ filter is_comment_line lines
 
 -- ---- where an addition goes
 
@@ -74,7 +74,7 @@ abbrev pub AdditionFollowsItsVerb : Type 0
 AdditionFollowsItsVerb = (edit : Edit) (verb : List ℕ) (arguments : List Placed) (front back : List (Line Placed))
     (line : Line Placed) → new_entry edit ≡ Some (verb, arguments)
     → list_any (about edit) (directives_of (front ++ line ∷ back)) ≡ false → IsLastOfVerb verb front line back
-    → edited edit (front ++ line ∷ back)
+    → lines_after edit (front ++ line ∷ back)
     ≡ front ++ line ∷ entry_at (is_some (block_after_lines None front)) verb arguments ∷ back
 
 -- If an operation targets no directive and the file has no directive of its verb, the new entry goes to the end,
@@ -84,4 +84,4 @@ AdditionOfANewVerbIsLast = (edit : Edit) (verb : List ℕ) (arguments : List Pla
     → new_entry edit ≡ Some (verb, arguments)
     → list_any (about edit) (directives_of lines) ≡ false
     → list_any (has_verb verb) (directives_of lines) ≡ false
-    → edited edit lines ≡ lines ++ Blank ∷ single verb arguments ∷ []
+    → lines_after edit lines ≡ lines ++ Blank ∷ single verb arguments ∷ []

@@ -6,7 +6,7 @@ use Rattle.gm_file.specs.Directives.{Directive, block_after_line, is_of_verb, ma
 use Rattle.gm_file.specs.Faults.{is_module}
 use Rattle.gm_file_edit.specs.About.{about}
 use Rattle.gm_file_edit.specs.Edits.{Edit, Set, Add, Drop, GoIs, RequireAt, ReplaceWith, Exclude, Retract}
-use Rattle.gm_file_edit.specs.Fates.{dropped, renewed}
+use Rattle.gm_file_edit.specs.Fates.{without_targets, with_renewal}
 use Rattle.gm_file_edit.specs.Holding.{directive_at, is_there, passes}
 use Rattle.gm_file_edit.specs.NewWords.{entry_at, interval_words, made_word, pair_words, replace_words, single}
 use Rattle.gm_file_edit.specs.Renewing.{made_new}
@@ -29,8 +29,8 @@ after_last_of test verb arguments block (line ∷ lines) =
 
 -- The lines with a new entry after the last one that holds a directive of its verb. If there is none, the entry goes to
 -- the end, after a blank line.
-unfoldable pub added : List ℕ → List Placed → List (Line Placed) → List (Line Placed)
-added verb arguments lines =
+unfoldable pub with_addition : List ℕ → List Placed → List (Line Placed) → List (Line Placed)
+with_addition verb arguments lines =
     if is_there (has_verb verb) None lines then after_last_of (has_verb verb) verb arguments None lines
     else lines ++ Blank ∷ single verb arguments ∷ []
 
@@ -58,10 +58,10 @@ new_go text = Blank ∷ single (codes "go") (made_word text ∷ []) ∷ []
 
 -- the lines after an operation that targets a directive: a setting sets it, an addition finds it there, and a drop
 -- drops it
-unfoldable pub changed : Edit → List (Line Placed) → List (Line Placed)
-changed (Set s) lines = renewed (about (Set s)) (made_new (Set s)) lines
-changed (Add a) lines = lines
-changed (Drop t) lines = dropped (about (Drop t)) lines
+unfoldable pub with_change : Edit → List (Line Placed) → List (Line Placed)
+with_change (Set s) lines = with_renewal (about (Set s)) (made_new (Set s)) lines
+with_change (Add a) lines = lines
+with_change (Drop t) lines = without_targets (about (Drop t)) lines
 
 -- the verb and the arguments of the entry that an operation puts in next to those of its verb, if it does
 abbrev pub new_entry : Edit → Option (List ℕ × List Placed)
@@ -74,7 +74,7 @@ new_entry _ = None
 -- the lines with this entry, if any
 abbrev pub with_entry : Option (List ℕ × List Placed) → List (Line Placed) → List (Line Placed)
 with_entry None lines = lines
-with_entry (Some entry) lines = added entry.0 entry.1 lines
+with_entry (Some entry) lines = with_addition entry.0 entry.1 lines
 
 -- The lines after an operation that targets none: its entry is put in, after the last one of its verb, but a go
 -- directive after the module directive or its block. No module directive is put in.
@@ -83,5 +83,5 @@ put_in (Set (GoIs text)) lines = after_first_of is_module (new_go text) None lin
 put_in edit lines = with_entry (new_entry edit) lines
 
 -- the lines after the operation
-unfoldable pub edited : Edit → List (Line Placed) → List (Line Placed)
-edited edit lines = if is_there (about edit) None lines then changed edit lines else put_in edit lines
+unfoldable pub lines_after : Edit → List (Line Placed) → List (Line Placed)
+lines_after edit lines = if is_there (about edit) None lines then with_change edit lines else put_in edit lines

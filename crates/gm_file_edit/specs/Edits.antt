@@ -94,8 +94,8 @@ abbrev pub without_trailing : List ℕ → List ℕ
 without_trailing text = take (length text - suffix_len is_space_or_tab text) text
 
 -- the text without the spaces and tabs at its start and its end
-unfoldable pub trimmed : List ℕ → List ℕ
-trimmed text = without_trailing (without_leading text)
+unfoldable pub trim : List ℕ → List ℕ
+trim text = without_trailing (without_leading text)
 
 -- whether the text starts with `[` and ends with another byte, `]`
 abbrev pub is_bracketed : List ℕ → Bool
@@ -112,7 +112,7 @@ one_version_in text = option_map (λ v. pair v v) (version_in text)
 -- two versions separated by a comma; spaces and tabs are allowed around each
 abbrev pub two_versions_in : List ℕ → Option VersionInterval
 two_versions_in text =
-    option_and_then (λ parts. both pair (version_in (trimmed parts.0)) (version_in (trimmed parts.1)))
+    option_and_then (λ parts. both pair (version_in (trim parts.0)) (version_in (trim parts.1)))
     (split_at_byte 44 text)
 
 -- a version, which is both ends, or two in brackets
@@ -120,8 +120,8 @@ unfoldable pub interval_in : List ℕ → Option VersionInterval
 interval_in text = if is_bracketed text then two_versions_in (inside_brackets text) else one_version_in text
 
 -- the operation with this name and this argument
-unfoldable pub named : List ℕ → List ℕ → Option Edit
-named name text =
+unfoldable pub edit_named : List ℕ → List ℕ → Option Edit
+edit_named name text =
     if bytes_eq name (codes "module") then option_map (λ path. Set (ModuleIs path)) (path_in text)
     else (if bytes_eq name (codes "go") then option_map (λ version. Set (GoIs version)) (go_text_in text)
     else (if bytes_eq name (codes "require") then option_map (λ p. Set (RequireAt p)) (pair_in text)
@@ -136,4 +136,4 @@ named name text =
 
 -- the operation that a text spells
 unfoldable pub edit_in : List ℕ → Option Edit
-edit_in text = option_and_then (λ parts. named parts.0 parts.1) (split_at_byte 61 text)
+edit_in text = option_and_then (λ parts. edit_named parts.0 parts.1) (split_at_byte 61 text)

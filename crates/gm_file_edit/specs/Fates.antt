@@ -66,18 +66,18 @@ widened_from inside goes (Some line ∷ fates) = Some line ∷ widened_from insi
 -- ---- the lines that are kept
 
 -- the lines without a mark
-abbrev pub kept : List Fate → List (Line Placed)
-kept fates = filter_map (λ fate. fate) fates
+abbrev pub kept_lines : List Fate → List (Line Placed)
+kept_lines fates = filter_map (λ fate. fate) fates
 
 -- the lines without a mark, and without the blocks that are emptied
 unfoldable pub remaining : List Fate → List (Line Placed)
-remaining fates = kept (widened_from false false fates)
+remaining fates = kept_lines (widened_from false false fates)
 
 -- the lines without those that hold a directive that passes the test
-abbrev pub dropped : (Directive → Bool) → List (Line Placed) → List (Line Placed)
-dropped test lines = remaining (dropping_from test None lines)
+abbrev pub without_targets : (Directive → Bool) → List (Line Placed) → List (Line Placed)
+without_targets test lines = remaining (dropping_from test None lines)
 
 -- the lines with the first such line rewritten, and without the later ones
-abbrev pub renewed : (Directive → Bool) → (Option Placed → Line Placed → Line Placed) → List (Line Placed)
+abbrev pub with_renewal : (Directive → Bool) → (Option Placed → Line Placed → Line Placed) → List (Line Placed)
     → List (Line Placed)
-renewed test new lines = remaining (renewing_from test new None lines)
+with_renewal test new lines = remaining (renewing_from test new None lines)

@@ -6,7 +6,7 @@ use Rattle.gm_syntax.specs.Document.{Line, Close, is_level}
 use Rattle.gm_syntax.specs.LineViews.{plain}
 use Rattle.gm_file.specs.Directives.{block_after_lines}
 use Rattle.gm_file.specs.Faults.{is_go, is_module}
-use Rattle.gm_file_edit.specs.Edited.{edited, new_go}
+use Rattle.gm_file_edit.specs.Edited.{lines_after, new_go}
 use Rattle.gm_file_edit.specs.Edits.{Set, GoIs}
 use Rattle.gm_file_edit.specs.Holding.{directive_at, passes, is_there}
 use Rattle.gm_file_edit.specs.Laws.{directives_of}
@@ -25,7 +25,7 @@ abbrev pub GoFollowsModule : Type 0
 GoFollowsModule = (text : List ℕ) (front back : List (Line Placed)) (line : Line Placed) → IsFirstModule front line
     → list_any is_go (directives_of (front ++ line ∷ back)) ≡ false
     → is_some (block_after_lines None front) ≡ false
-    → edited (Set (GoIs text)) (front ++ line ∷ back) ≡ front ++ line ∷ (new_go text ++ back)
+    → lines_after (Set (GoIs text)) (front ++ line ∷ back) ≡ front ++ line ∷ (new_go text ++ back)
 
 -- a new go directive goes after the block of the first module directive, if that one is in a block
 abbrev pub GoFollowsModuleBlock : Type 0
@@ -33,5 +33,5 @@ GoFollowsModuleBlock = (text : List ℕ) (front inner back : List (Line Placed))
     (last : Option (List ℕ)) → IsFirstModule front line
     → list_any is_go (directives_of (front ++ line ∷ (inner ++ Close last ∷ back))) ≡ false
     → is_some (block_after_lines None front) ≡ true → list_all is_loose inner ≡ true
-    → edited (Set (GoIs text)) (front ++ line ∷ (inner ++ Close last ∷ back))
+    → lines_after (Set (GoIs text)) (front ++ line ∷ (inner ++ Close last ∷ back))
     ≡ front ++ line ∷ (inner ++ Close last ∷ (new_go text ++ back))

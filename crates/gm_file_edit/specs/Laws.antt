@@ -8,7 +8,7 @@ use Rattle.gm_syntax.specs.LineViews.{plain_lines}
 use Rattle.gm_file.specs.Directives.{Strict, Directive, directives}
 use Rattle.gm_file.specs.Faults.{fault_of}
 use Rattle.gm_file_edit.specs.About.{about}
-use Rattle.gm_file_edit.specs.Edited.{edited}
+use Rattle.gm_file_edit.specs.Edited.{lines_after}
 use Rattle.gm_file_edit.specs.Kinds.{added_by, is_drop, is_fit, set_by}
 use Rattle.gm_file_edit.specs.Edits.{Edit, edit_in}
 
@@ -24,24 +24,24 @@ IsEditOf edit lines = ((text : List ℕ) × (edit_in text ≡ Some edit)) × (is
 -- after a drop no directive is left that it targets
 abbrev pub DroppedIsGone : Type 0
 DroppedIsGone = (edit : Edit) (lines : List (Line Placed)) → is_drop edit ≡ true
-    → list_any (about edit) (directives_of (edited edit lines)) ≡ false
+    → list_any (about edit) (directives_of (lines_after edit lines)) ≡ false
 
 -- what an operation sets is there once, and no other directive that it targets
 abbrev pub SetStandsAlone : Type 0
 SetStandsAlone = (edit : Edit) (lines : List (Line Placed)) (d : Directive) → IsEditOf edit lines
-    → set_by edit ≡ Some d → filter (about edit) (directives_of (edited edit lines)) ≡ d ∷ []
+    → set_by edit ≡ Some d → filter (about edit) (directives_of (lines_after edit lines)) ≡ d ∷ []
 
 -- what an operation adds is there once if nothing was targeted, and otherwise the targeted directives are as before
 abbrev pub AddedIsThere : Type 0
 AddedIsThere = (edit : Edit) (lines : List (Line Placed)) (d : Directive) → IsEditOf edit lines
     → added_by edit ≡ Some d
-    → filter (about edit) (directives_of (edited edit lines))
+    → filter (about edit) (directives_of (lines_after edit lines))
     ≡ (if list_any (about edit) (directives_of lines) then filter (about edit) (directives_of lines) else d ∷ [])
 
 -- the directives that an operation doesn't target are the same list before and after it
 abbrev pub OthersStay : Type 0
 OthersStay = (edit : Edit) (lines : List (Line Placed)) → IsEditOf edit lines
-    → filter (λ d. not (about edit d)) (directives_of (edited edit lines))
+    → filter (λ d. not (about edit d)) (directives_of (lines_after edit lines))
     ≡ filter (λ d. not (about edit d)) (directives_of lines)
 
 -- ---- two operations in either order
@@ -54,4 +54,5 @@ AreApart one other = (d : Directive) → (about one d && about other d) ≡ fals
 abbrev pub EitherOrderLeavesTheSame : Type 0
 EitherOrderLeavesTheSame = (one other : Edit) (lines : List (Line Placed)) → IsEditOf one lines → IsEditOf other lines
     → AreApart one other
-    → IsPermutation (directives_of (edited other (edited one lines))) (directives_of (edited one (edited other lines)))
+    → IsPermutation (directives_of (lines_after other (lines_after one lines)))
+    (directives_of (lines_after one (lines_after other lines)))

@@ -5,7 +5,7 @@ use Rattle.gm_syntax.specs.Document.{Line, Blank, Comment, Open, Close, Entry}
 use Rattle.gm_file.specs.declared.verb.Verb.{Verb}
 use Rattle.gm_file.specs.Directives.{Directive, block_after_line, main_verb}
 use Rattle.gm_file_edit.specs.declared.adding.Spot.{Spot}
-use Rattle.gm_file_edit.specs.Edited.{added}
+use Rattle.gm_file_edit.specs.Edited.{with_addition}
 use Rattle.gm_file_edit.specs.Fates.{Fate, fate_by}
 use Rattle.gm_file_edit.specs.Holding.{directive_at, passes}
 use Rattle.gm_file_edit.specs.NewWords.{entry_at}
@@ -42,13 +42,13 @@ marks_from test block (line ∷ lines) =
     passes test (directive_at block line) ∷ marks_from test (block_after_line block line) lines
 
 -- the fates of lines, each with its mark
-abbrev pub marked : List Bool → List (Line Placed) → List Fate
-marked [] lines = []
-marked (mark ∷ marks) [] = []
-marked (mark ∷ marks) (line ∷ lines) = fate_by mark line ∷ marked marks lines
+abbrev pub fates_of : List Bool → List (Line Placed) → List Fate
+fates_of [] lines = []
+fates_of (mark ∷ marks) [] = []
+fates_of (mark ∷ marks) (line ∷ lines) = fate_by mark line ∷ fates_of marks lines
 
 -- a position is where an entry with this verb is added next to others
 pub record IsPlaceOf (own : Verb) (lines : List (Line Placed)) (spot : Spot) : Type 0 where
   pub in_range : spot.before ≤ length lines
   pub adds : (verb : List ℕ) (arguments : List Placed) → main_verb verb ≡ own
-      → insert lines spot.before (entry_at spot.inside verb arguments) ≡ added verb arguments lines
+      → insert lines spot.before (entry_at spot.inside verb arguments) ≡ with_addition verb arguments lines

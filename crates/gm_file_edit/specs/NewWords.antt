@@ -12,16 +12,16 @@ use Rattle.gm_syntax.specs.Document.{Line, Entry}
 use Rattle.gm_file.specs.Directives.{VersionInterval, Right, Folder, Module, Replacing}
 
 -- a word with no source position
-abbrev pub unplaced : Word → Placed
-unplaced word = record { word = word; line = 0; span = None }
+abbrev pub unplaced_word : Word → Placed
+unplaced_word word = record { word = word; line = 0; span = None }
 
 -- the word with this value: bare if possible, and quoted otherwise
 abbrev pub made_word : List ℕ → Placed
-made_word value = unplaced (new_word value)
+made_word value = unplaced_word (new_word value)
 
 -- a punctuation mark
 abbrev pub made_mark : Punct → Placed
-made_mark punct = unplaced (record { kind = Mark; spelling = mark_text punct })
+made_mark punct = unplaced_word (record { kind = Mark; spelling = mark_text punct })
 
 -- a path and a version
 abbrev pub pair_words : ModuleVersion → List Placed

@@ -6,7 +6,7 @@ use Rattle.gm_syntax.specs.LineViews.{plain_lines}
 use Rattle.gm_syntax.specs.Tokens.{Placed}
 use Rattle.gm_syntax.specs.Document.{Line, Blank}
 use Rattle.gm_file_edit.specs.About.{about}
-use Rattle.gm_file_edit.specs.Edited.{edited, has_verb, new_entry}
+use Rattle.gm_file_edit.specs.Edited.{lines_after, has_verb, new_entry}
 use Rattle.gm_file_edit.specs.Edits.{Edit, Set, ModuleIs, GoIs, RequireAt, ReplaceWith, Add, Exclude, Retract, Drop, AnyRequire, AnyExclude, AnyReplace, AnyRetract}
 use Rattle.gm_file_edit.specs.Laws.{directives_of, IsEditOf}
 
@@ -26,11 +26,11 @@ abbrev pub DropUndoes : Type 0
 DropUndoes = (edit undo : Edit) (verb : List ℕ) (arguments : List Placed) (lines : List (Line Placed))
     → IsEditOf edit lines → new_entry edit ≡ Some (verb, arguments) → undone_by edit ≡ Some undo
     → list_any (about edit) (directives_of lines) ≡ false
-    → edited undo (edited edit lines)
+    → lines_after undo (lines_after edit lines)
     ≡ (if list_any (has_verb verb) (directives_of lines) then lines else lines ++ Blank ∷ [])
 
 -- so both operations leave what formatting alone leaves
 abbrev pub DropUndoesForLayout : Type 0
 DropUndoesForLayout = (edit undo : Edit) (lines : List (Line Placed)) → IsEditOf edit lines
     → undone_by edit ≡ Some undo → list_any (about edit) (directives_of lines) ≡ false
-    → layout (plain_lines (edited undo (edited edit lines))) ≡ layout (plain_lines lines)
+    → layout (plain_lines (lines_after undo (lines_after edit lines))) ≡ layout (plain_lines lines)

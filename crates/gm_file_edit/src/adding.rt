@@ -9,7 +9,7 @@ ghost use Rattle.gm_syntax.specs.LineViews.{line_of, plain_lines};
 ghost use Rattle.gm_file.specs.Directives.{Strict, is_of_verb, main_verb, verb_eq};
 ghost use Rattle.gm_file.specs.declared.verb.Verb.TheVariants.{Unknown};
 ghost use Rattle.gm_file.specs.Faults.{fault_of, is_module};
-ghost use Rattle.gm_file_edit.specs.Edited.{added, after_closing, after_first_of};
+ghost use Rattle.gm_file_edit.specs.Edited.{with_addition, after_closing, after_first_of};
 ghost use Rattle.gm_syntax.specs.Lines.{HasNoLineFeed};
 ghost use Rattle.gm_file_edit.specs.NewWords.{entry_at, made_word, single};
 ghost use Rattle.gm_file_edit.specs.Keys.{is_inside};
@@ -156,7 +156,7 @@ pub(crate) fn add<'a>(
     requires known { verb_eq (main_verb verb.now) Unknown ≡ false }
     requires document { IsDocument (plain_lines lines.old) }
     requires sound { fault_of Strict (plain_lines lines.old) ≡ None }
-    ensures ok { OnOk result (lines.new ≡ added verb.now arguments.entry.items lines.old) }
+    ensures ok { OnOk result (lines.new ≡ with_addition verb.now arguments.entry.items lines.old) }
     ensures err { OnErr result (lines.new ≡ lines.old) }
 {
     match added_spot(main_verb(verb), lines) {

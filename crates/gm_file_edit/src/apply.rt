@@ -13,7 +13,7 @@ pub trait Apply {
     ghost use Rattle.std.specs.Prelude.{◌≡◌, ◌↔◌, List, IsErrOf, OnErr, OnOk, false};
     ghost use Rattle.gm_syntax.specs.Tokens.{Placed};
     ghost use Rattle.gm_syntax.specs.Document.{Line};
-    ghost use Rattle.gm_file_edit.specs.Edited.{edited};
+    ghost use Rattle.gm_file_edit.specs.Edited.{lines_after};
     ghost use Rattle.gm_file_edit.specs.Kinds.{is_fit};
 
     /// The lines of the file.
@@ -30,7 +30,7 @@ pub trait Apply {
     ///
     /// The whole file is read again. For more than one operation an `Editor` reads nothing between them.
     fn apply(&mut self, alloc: Global, op: &Op) -> Result<(), EditFault>
-        ensures ok { OnOk result (lines self.new ≡ edited op.now (lines self.old)) }
+        ensures ok { OnOk result (lines self.new ≡ lines_after op.now (lines self.old)) }
         ensures err { OnErr result (lines self.new ≡ lines self.old) }
         ensures misfit { IsErrOf result EditFault.Misfit ↔ is_fit op.now ≡ false };
 }

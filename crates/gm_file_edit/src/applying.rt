@@ -12,7 +12,7 @@ ghost use Rattle.gm_file.specs.Faults.{fault_of};
 ghost use Rattle.gm_name.specs.Names.{does_fit};
 ghost use Rattle.gm_file_edit.specs.About.{about};
 ghost use Rattle.gm_file_edit.specs.Edits.{Add, Set};
-ghost use Rattle.gm_file_edit.specs.Edited.{added, changed, edited, put_in};
+ghost use Rattle.gm_file_edit.specs.Edited.{with_addition, with_change, lines_after, put_in};
 ghost use Rattle.gm_file_edit.specs.Kinds.{is_fit};
 ghost use Rattle.gm_file_edit.specs.Marks.{marks_from};
 ghost use Rattle.gm_file_edit.specs.NewWords.{pair_words};
@@ -62,7 +62,7 @@ fn change_lines<'a>(
     requires marked { marks.items ≡ marks_from (about (edit_of change.now)) None lines.old }
     requires first { first ≡ length (take_while (λ mark. not mark) marks.items) }
     requires in_range { first < length lines.old }
-    ensures ok { OnOk result (lines.new ≡ changed (edit_of change.now) lines.old) }
+    ensures ok { OnOk result (lines.new ≡ with_change (edit_of change.now) lines.old) }
     ensures err { OnErr result (lines.new ≡ lines.old) }
 {
     match change {
@@ -91,7 +91,7 @@ fn add_pair<'a>(
     requires known { verb_eq (main_verb verb.now) Unknown ≡ false }
     requires document { IsDocument (plain_lines lines.old) }
     requires sound { fault_of Strict (plain_lines lines.old) ≡ None }
-    ensures ok { OnOk result (lines.new ≡ added verb.now (pair_words (path.now, version.now)) lines.old) }
+    ensures ok { OnOk result (lines.new ≡ with_addition verb.now (pair_words (path.now, version.now)) lines.old) }
     ensures err { OnErr result (lines.new ≡ lines.old) }
 {
     let words = pair_words(alloc, path, version)?;
@@ -169,7 +169,7 @@ pub(crate) fn edit_lines<'a>(
     requires written { IsSoundEdit (edit_of change.now) }
     requires document { IsDocument (plain_lines lines.old) }
     requires sound { fault_of Strict (plain_lines lines.old) ≡ None }
-    ensures ok { OnOk result (lines.new ≡ edited (edit_of change.now) lines.old) }
+    ensures ok { OnOk result (lines.new ≡ lines_after (edit_of change.now) lines.old) }
     ensures err { OnErr result (lines.new ≡ lines.old) }
 {
     let marks = marks(alloc, change, lines)?;

@@ -6,7 +6,7 @@ ghost use Rattle.std.specs.Prelude.{◌≡◌, ◌↔◌, IfOk, IsErrOf, OnErr, 
 ghost use Rattle.gm_syntax.specs.LineViews.{plain_lines};
 ghost use Rattle.gm_file.specs.Directives.{Strict};
 ghost use Rattle.gm_file.specs.Faults.{fault_of};
-ghost use Rattle.gm_file_edit.specs.Edited.{edited};
+ghost use Rattle.gm_file_edit.specs.Edited.{lines_after};
 ghost use Rattle.gm_file_edit.specs.Kinds.{is_fit};
 
 use crate::applying::{edit_lines, is_fit};
@@ -68,7 +68,7 @@ impl<'a> Editor<'a> {
     ///
     /// Fails with `NoMemory` if memory runs out. On any failure the lines are unchanged.
     pub fn apply(&mut self, op: &Op) -> Result<(), EditFault>
-        ensures ok { OnOk result (self.new ≡ edited op.now self.old) }
+        ensures ok { OnOk result (self.new ≡ lines_after op.now self.old) }
         ensures err { OnErr result (self.new ≡ self.old) }
         ensures misfit { IsErrOf result EditFault.Misfit ↔ is_fit op.now ≡ false }
     {

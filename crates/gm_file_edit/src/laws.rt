@@ -10,7 +10,7 @@ ghost use Rattle.gm_syntax.specs.Document.{IsDocument, Line};
 ghost use Rattle.gm_syntax.specs.LineViews.{plain_lines};
 ghost use Rattle.gm_file.specs.Directives.{Strict};
 ghost use Rattle.gm_file.specs.Faults.{fault_of};
-ghost use Rattle.gm_file_edit.specs.Edited.{edited};
+ghost use Rattle.gm_file_edit.specs.Edited.{lines_after};
 ghost use Rattle.gm_file_edit.specs.Kinds.{is_fit};
 ghost use Rattle.gm_file_edit.specs.EditLaws.{AdditionFollowsItsVerb, AdditionOfANewVerbIsLast, CommentLinesStay, IdleAdditionChangesNothing, IdleDropChangesNothing, SecondAdditionChangesNothing, SecondDropChangesNothing, SecondOperationChangesNothing, SecondSettingChangesNothing};
 ghost use Rattle.gm_file_edit.specs.Edits.{Edit, edit_in};
@@ -24,14 +24,14 @@ ghost use Rattle.gm_file_edit.specs.Undone.{DropUndoes, DropUndoesForLayout};
 pub fn edited_lines_are_read()
     ensures { (text : List ℕ) (edit : Edit) (lines : List (Line Placed)) → edit_in text ≡ Some edit → is_fit edit ≡ true
         → IsDocument (plain_lines lines) → fault_of Strict (plain_lines lines) ≡ None
-        → IsDocument (plain_lines (edited edit lines)) × (fault_of Strict (plain_lines (edited edit lines)) ≡ None) }
+        → IsDocument (plain_lines (lines_after edit lines)) × (fault_of Strict (plain_lines (lines_after edit lines)) ≡ None) }
 {}
 
 /// The result of an operation doesn't depend on the source positions of words: lists of lines that differ only in
 /// positions give results that differ only in positions.
 pub fn places_are_not_looked_at()
     ensures { (edit : Edit) (lines others : List (Line Placed)) → plain_lines lines ≡ plain_lines others
-        → plain_lines (edited edit lines) ≡ plain_lines (edited edit others) }
+        → plain_lines (lines_after edit lines) ≡ plain_lines (lines_after edit others) }
 {}
 
 /// Nothing is left of what an operation drops: after `droprequire=P` no directive requires P. The same holds for the

@@ -3,7 +3,7 @@
 //! Parsing needs no file, so whether a text is an operation never depends on what a file says.
 
 ghost use Rattle.std.specs.Prelude.{◌≡◌, IfOk, IsErrOf, None, Some};
-ghost use Rattle.gm_file_edit.specs.Edits.{edit_in, named};
+ghost use Rattle.gm_file_edit.specs.Edits.{edit_in, edit_named};
 ghost use Rattle.gm_file_edit.specs.Sound.{IsParsedPart, edit_of};
 
 use crate::fault::OpFault;
@@ -83,9 +83,9 @@ impl Model for Op {
 }
 
 /// Parses the argument of the operation with this name. Any other name is refused with `Spelling`.
-#[tactic(auto, unfolding(crate::specs::Edits::named))]
+#[tactic(auto, unfolding(crate::specs::Edits::edit_named))]
 fn read_named(alloc: Global, name: &str, text: &str) -> Result<Change, OpFault>
-    ensures { IsParsedPart edit_of (named name.now text.now) result }
+    ensures { IsParsedPart edit_of (edit_named name.now text.now) result }
 {
     match name {
         "module" => Ok(Change::Set(Setting::Module(read_path(alloc, text)?))),

@@ -8,8 +8,8 @@ ghost use Rattle.std.specs.Prelude.{◌≡◌, ◌+◌, ◌∷◌, ◌++◌, ◌
 ghost use Rattle.std.specs.List.{list_any};
 ghost use Rattle.std.specs.Option.{option_map};
 ghost use Rattle.gm_syntax.specs.LineViews.{line_of};
-ghost use Rattle.gm_file_edit.specs.Fates.{empties, fate_by, kept, remaining, widened_from};
-ghost use Rattle.gm_file_edit.specs.Marks.{closes_bare, is_blank_source_line, line_at, marked, opens_bare};
+ghost use Rattle.gm_file_edit.specs.Fates.{empties, fate_by, kept_lines, remaining, widened_from};
+ghost use Rattle.gm_file_edit.specs.Marks.{closes_bare, is_blank_source_line, line_at, fates_of, opens_bare};
 
 use crate::keyed_lines::KeyedLines;
 use crate::keys::Key;
@@ -53,7 +53,7 @@ fn opens_bare(line: &Line) -> bool
 /// and a line has a mark.
 fn empties(lines: &KeyedLines, marks: &[bool], from: usize) -> bool
     requires { length marks.now ≡ length lines.now }
-    ensures { result ≡ empties false (marked (drop from marks.now) (drop from lines.now)) }
+    ensures { result ≡ empties false (fates_of (drop from marks.now) (drop from lines.now)) }
 {
     let mut lost = false;
     for n in from..lines.len() {
@@ -71,9 +71,9 @@ fn after_line(before: Widening, lines: &KeyedLines, marks: &[bool], n: usize) ->
     requires len { length marks.now ≡ length lines.now }
     requires in_range { n < length lines.now }
     ensures { widened_from before.inside before.goes
-        (Some (line_at lines.now n) ∷ marked (drop (n + 1) marks.now) (drop (n + 1) lines.now))
+        (Some (line_at lines.now n) ∷ fates_of (drop (n + 1) marks.now) (drop (n + 1) lines.now))
         ≡ fate_by result.mark (line_at lines.now n)
-        ∷ widened_from result.inside result.goes (marked (drop (n + 1) marks.now) (drop (n + 1) lines.now)) }
+        ∷ widened_from result.inside result.goes (fates_of (drop (n + 1) marks.now) (drop (n + 1) lines.now)) }
 {
     let Widening {
         mark: _,
@@ -112,7 +112,7 @@ fn after_line(before: Widening, lines: &KeyedLines, marks: &[bool], n: usize) ->
 fn widen(lines: &KeyedLines, marks: &mut Vec<bool>)
     requires { length marks.old.items ≡ length lines.now }
     ensures len { length marks.new.items ≡ length lines.now }
-    ensures marks { marked marks.new.items lines.now ≡ widened_from false false (marked marks.old.items lines.now) }
+    ensures marks { fates_of marks.new.items lines.now ≡ widened_from false false (fates_of marks.old.items lines.now) }
 {
     let mut state = Widening {
         mark: false,
@@ -128,23 +128,23 @@ fn widen(lines: &KeyedLines, marks: &mut Vec<bool>)
 }
 
 /// Keeps a line, directly after those that are kept so far.
-fn keep(lines: &mut KeyedLines, kept: usize, n: usize)
-    requires ordered { kept ≤ n }
+fn keep(lines: &mut KeyedLines, kept_lines: usize, n: usize)
+    requires ordered { kept_lines ≤ n }
     requires in_range { n < length lines.old }
-    ensures front { take (kept + 1) lines.new
-        ≡ take kept lines.old ++ line_at lines.old n ∷ [] }
+    ensures front { take (kept_lines + 1) lines.new
+        ≡ take kept_lines lines.old ++ line_at lines.old n ∷ [] }
     ensures rest { drop (n + 1) lines.new ≡ drop (n + 1) lines.old }
     ensures len { length lines.new ≡ length lines.old }
 {
-    if kept < n {
-        lines.swap(kept, n);
+    if kept_lines < n {
+        lines.swap(kept_lines, n);
     }
 }
 
 /// Keeps the lines that have no mark.
 fn keep_unmarked(lines: &mut KeyedLines, marks: &[bool])
     requires { length marks.now ≡ length lines.old }
-    ensures { lines.new ≡ kept (marked marks.now lines.old) }
+    ensures { lines.new ≡ kept_lines (fates_of marks.now lines.old) }
 {
     let mut count = 0;
     for (n, goes) in marks.iter().enumerate() {
@@ -166,7 +166,7 @@ fn has_mark(marks: &[bool]) -> bool
 /// Removes the lines that have a mark. If there is one alone, the lines after it move at once.
 fn remove_marked(lines: &mut KeyedLines, marks: &[bool])
     requires { length marks.now ≡ length lines.old }
-    ensures { lines.new ≡ kept (marked marks.now lines.old) }
+    ensures { lines.new ≡ kept_lines (fates_of marks.now lines.old) }
 {
     let first = first_mark(marks);
     if first < marks.len() && !has_mark(&marks[first + 1..]) {
@@ -179,7 +179,7 @@ fn remove_marked(lines: &mut KeyedLines, marks: &[bool])
 /// Removes the lines that have a mark, and the blocks that this empties. Takes no memory.
 pub(crate) fn pack(lines: &mut KeyedLines, marks: Vec<bool>)
     requires { length marks.items ≡ length lines.old }
-    ensures { lines.new ≡ remaining (marked marks.items lines.old) }
+    ensures { lines.new ≡ remaining (fates_of marks.items lines.old) }
 {
     if !has_mark(marks.as_slice()) {
         return;

@@ -7,7 +7,7 @@ ghost use Rattle.std.specs.Prelude.{◌≡◌, true, length, take_while};
 ghost use Rattle.std.specs.List.{suffix_len};
 ghost use Rattle.std.specs.String.{string_bytes};
 ghost use Rattle.gm_file.specs.Views.{interval_view, replace_view, right_view};
-ghost use Rattle.gm_file_edit.specs.Edits.{split_at_byte, has_byte, inside_brackets, interval_in, is_bracketed, is_space_or_tab, go_text_in, left_in, pair_in, path_in, replacing_in, right_in, trimmed, two_versions_in, version_in, without_trailing, without_leading};
+ghost use Rattle.gm_file_edit.specs.Edits.{split_at_byte, has_byte, inside_brackets, interval_in, is_bracketed, is_space_or_tab, go_text_in, left_in, pair_in, path_in, replacing_in, right_in, trim, two_versions_in, version_in, without_trailing, without_leading};
 ghost use Rattle.gm_file_edit.specs.Sound.{IsParsedPart, split_seen, left_seen};
 
 use crate::fault::OpFault;
@@ -198,9 +198,9 @@ fn without_trailing(text: &str) -> &str
 }
 
 /// The text without the spaces and tabs at its start and its end.
-#[tactic(auto, unfolding(crate::specs::Edits::trimmed))]
-fn trimmed(text: &str) -> &str
-    ensures { result.now ≡ trimmed text.now }
+#[tactic(auto, unfolding(crate::specs::Edits::trim))]
+fn trim(text: &str) -> &str
+    ensures { result.now ≡ trim text.now }
 {
     without_trailing(without_leading(text))
 }
@@ -229,8 +229,8 @@ fn read_two_versions(alloc: Global, text: &str) -> Result<Interval, OpFault>
     let Some((low, high)) = split_at_comma(text) else {
         return Err(OpFault::Spelling);
     };
-    let low = read_version(alloc, trimmed(low))?;
-    let high = read_version(alloc, trimmed(high))?;
+    let low = read_version(alloc, trim(low))?;
+    let high = read_version(alloc, trim(high))?;
     Ok(Interval { low, high })
 }
 

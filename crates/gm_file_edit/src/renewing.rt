@@ -13,7 +13,7 @@ ghost use Rattle.gm_file_edit.specs.Edits.{Set};
 ghost use Rattle.gm_file_edit.specs.Fates.{remaining};
 ghost use Rattle.gm_file_edit.specs.Renewing.{made_new, with_arguments, with_last};
 ghost use Rattle.gm_file_edit.specs.NewWords.{replace_words};
-ghost use Rattle.gm_file_edit.specs.Marks.{line_at, marked};
+ghost use Rattle.gm_file_edit.specs.Marks.{line_at, fates_of};
 ghost use Rattle.gm_file_edit.specs.Sound.{IsSoundEdit, IsSoundRight, setting_of};
 
 use crate::keyed_lines::KeyedLines;
@@ -123,7 +123,7 @@ pub(crate) fn renew<'a>(lines: &mut KeyedLines<'a>, marks: Vec<bool>, first: usi
     requires marks { length marks.items ≡ length lines.old }
     requires in_range { first < length lines.old }
     ensures { lines.new ≡ remaining
-        (marked (slice_set marks.items first false) (slice_set lines.old first (line_of line.entry))) }
+        (fates_of (slice_set marks.items first false) (slice_set lines.old first (line_of line.entry))) }
 {
     lines.put(first, line);
     let mut others = marks;

@@ -18,7 +18,7 @@ use Rattle.gm_graph.specs.declared.cache.class.Class.{Class}
 use Rattle.gm_graph.specs.declared.cache.depth.Depth.{Depth}
 use Rattle.gm_graph.specs.declared.cache.depth.Depth.TheVariants.{Top, Deep}
 use Rattle.gm_graph.specs.declared.cache.depth.Turn.{Turn}
-use Rattle.gm_graph.specs.Building.{AreGathered, Faults, Gathers, IsGathered, fault, fault_in, gathers, noted}
+use Rattle.gm_graph.specs.Building.{AreGathered, Faults, Gathers, IsGathered, fault, fault_in, gathers, faults_with}
 use Rattle.gm_graph.specs.CacheVisits.{KeepsSayings}
 use Rattle.gm_graph.specs.Run.{IsEdge, IsFault, Requires, Run, Says, TakesTurn, run_of}
 use Rattle.gm_graph.specs.Turns.{same_turn, turn}
@@ -43,14 +43,14 @@ noted_some : (b : Bool) (c class : Class) (old : Option Class) → (if b then So
 noted_some true c class old e = inl (refl, e)
 noted_some false c class old e = inr e
 
-noted_from : (o : Option Class) (x z : ModuleVersion) (before : Faults) (class : Class) → noted o x before z ≡ Some class → (before z ≡ Some class) ⊎ ((o ≡ Some class) × (x ≡ z))
+noted_from : (o : Option Class) (x z : ModuleVersion) (before : Faults) (class : Class) → faults_with o x before z ≡ Some class → (before z ≡ Some class) ⊎ ((o ≡ Some class) × (x ≡ z))
 noted_from None x z before class e = inl e
 noted_from (Some c) x z before class e = elim (noted_some (pair_eq x z) c class (before z) e) [
   | inl here ↦ inr (here.1, pair-same x z here.0)
   | inr there ↦ inl there
 ]
 
-noted_here : (o : Option Class) (x : ModuleVersion) (before : Faults) (class : Class) → o ≡ Some class → noted o x before x ≡ Some class
+noted_here : (o : Option Class) (x : ModuleVersion) (before : Faults) (class : Class) → o ≡ Some class → faults_with o x before x ≡ Some class
 noted_here None x before class e = cc
 noted_here (Some c) x before class e = ap (λ (b : Bool). if b then Some c else before x) (pairs-equivalence.refl x) ∙ e
 
@@ -58,7 +58,7 @@ noted_if : (b : Bool) (c class : Class) (old : Option Class) → old ≡ Some cl
 noted_if true c class old e f = f refl
 noted_if false c class old e f = e
 
-noted_stays : (o : Option Class) (x z : ModuleVersion) (before : Faults) (class : Class) → before z ≡ Some class → (x ≡ z → o ≡ Some class) → noted o x before z ≡ Some class
+noted_stays : (o : Option Class) (x z : ModuleVersion) (before : Faults) (class : Class) → before z ≡ Some class → (x ≡ z → o ≡ Some class) → faults_with o x before z ≡ Some class
 noted_stays None x z before class e f = e
 noted_stays (Some c) x z before class e f = noted_if (pair_eq x z) c class (before z) e (λ is. f (pair-same x z is))
 

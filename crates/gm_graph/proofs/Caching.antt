@@ -8,7 +8,7 @@ use Rattle.gm_graph.specs.declared.cache.Cache.{Cache}
 use Rattle.gm_graph.specs.declared.cache.depth.Depth.{Depth}
 use Rattle.gm_graph.specs.declared.cache.depth.Turn.{Turn}
 use Rattle.gm_graph.specs.declared.cache.visit.Visit.{Visit}
-use Rattle.gm_graph.specs.Cached.{HoldsSame, KeepsSound, Knows, LentSame, file_count, modules_in, numbered, run_in, turns_in}
+use Rattle.gm_graph.specs.Cached.{HoldsSame, KeepsSound, Knows, LentSame, file_count, modules_in, module_numbered, run_in, turns_in}
 use Rattle.gm_file.specs.Main.{main_of}
 use Rattle.gm_graph.specs.CacheVisits.{Continues, HasVisited, IsVisit, KeepsSayings}
 use Rattle.gm_graph.specs.Run.{Run}
@@ -38,10 +38,10 @@ module _ (old mid new : Cache) (lent : LentSame old mid) (numbered_by : BeginsWi
     pub has_visited : (number : ℕ) (d : Depth) (got : Visit) → number < length (modules_in old) → Knows mid pairs
         → KeepsSayings (run_in old earlier) (run_in mid pairs) → KeepsSound old (run_in old earlier) mid (run_in mid pairs)
         → file_count mid ≤ file_count old + 1 → file_count new ≡ file_count mid
-        → turns_in new ≡ turns_in mid ++ turn (numbered mid number) d ∷ [] → IsDistinct pair_eq (modules_in new)
-        → IsVisit new (run_in new pairs) (numbered mid number) d got → HasVisited old earlier new pairs number d got
+        → turns_in new ≡ turns_in mid ++ turn (module_numbered mid number) d ∷ [] → IsDistinct pair_eq (modules_in new)
+        → IsVisit new (run_in new pairs) (module_numbered mid number) d got → HasVisited old earlier new pairs number d got
     has_visited number d got below knows stays keeps count files turns distinct is =
-        let same : numbered mid number ≡ numbered old number = number_stays (modules_in old) (modules_in mid) number numbered_by below in
+        let same : module_numbered mid number ≡ module_numbered old number = number_stays (modules_in old) (modules_in mid) number numbered_by below in
         record {
           knows = knows_still mid new pairs holds knows;
           continues = continues_both;
@@ -49,7 +49,7 @@ module _ (old mid new : Cache) (lent : LentSame old mid) (numbered_by : BeginsWi
           distinct = distinct;
           sound = sound_both keeps;
           count = omega (arith, files, count);
-          turns = turns ∙ ap (λ (ts : List Turn). ts ++ turn (numbered mid number) d ∷ []) lent.turns
+          turns = turns ∙ ap (λ (ts : List Turn). ts ++ turn (module_numbered mid number) d ∷ []) lent.turns
               ∙ ap (λ (v : ModuleVersion). turns_in old ++ turn v d ∷ []) same;
           visit_is = subst (λ (v : ModuleVersion). IsVisit new (run_in new pairs) v d got) same is;
         }

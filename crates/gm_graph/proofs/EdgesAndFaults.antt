@@ -9,13 +9,13 @@ use Rattle.gm_graph_select.specs.declared.step.Edge.{Edge}
 use Rattle.gm_graph_select.specs.declared.step.Step.{Step}
 use Rattle.gm_graph_select.specs.Adjacency.{StepEdges, edges_from, edges_of, left_by}
 use Rattle.gm_graph_select.specs.Graph.{edge}
-use Rattle.gm_graph.specs.Building.{noted}
+use Rattle.gm_graph.specs.Building.{faults_with}
 
 -- A fault was put into the map.
 pub fault_put : (old new : tree.BTreeMap ModuleVersion Class) (x v : ModuleVersion) (class : Class) → v ≡ x
     → ((q : ModuleVersion) → tree.get pair_cmp new q
     ≡ cond (is_eq (pair_cmp v q)) (Some class) (tree.get pair_cmp old q))
-    → (q : ModuleVersion) → tree.get pair_cmp new q ≡ noted (Some class) x (λ y. tree.get pair_cmp old y) q
+    → (q : ModuleVersion) → tree.get pair_cmp new q ≡ faults_with (Some class) x (λ y. tree.get pair_cmp old y) q
 fault_put old new x v class f puts q =
     puts q
     ∙ ap (λ (b : Bool). cond b (Some class) (tree.get pair_cmp old q)) (sym (pair_ties v q))

@@ -20,7 +20,7 @@ use Rattle.gm_graph_select.specs.Graph.{edge}
 use Rattle.gm_graph.specs.declared.graph_builder.GraphBuilder.{GraphBuilder}
 use Rattle.gm_graph.specs.declared.graph_builder.NumberedTurn.{NumberedTurn}
 use Rattle.gm_graph.specs.declared.marks.Marks.{Marks}
-use Rattle.gm_graph.specs.Builder.{marks_at, AreMarks, Built, IsBuilder, built, edges_in, faults_by_vertex, sources_in, turn_of, turns_of}
+use Rattle.gm_graph.specs.Builder.{marks_at, AreMarks, Built, IsBuilder, graph_of, edges_in, faults_by_vertex, sources_in, turn_of, turns_of}
 use Rattle.gm_graph.specs.EdgeLists.{steps_in}
 use Rattle.gm_graph.specs.Marks.{is_marked}
 
@@ -158,7 +158,7 @@ module _ (old new : List ModuleVersion) (builder : GraphBuilder) (is : IsBuilder
       ∙ sources_stay old begins.0 (steps_in builder.edges) is.numbered
 
   -- It is the same graph.
-  pub built_over : built new builder ≡ built old builder
+  pub built_over : graph_of new builder ≡ graph_of old builder
   built_over =
       ap (λ (turns : List Turn). let b : Built = record {
         turns = turns;

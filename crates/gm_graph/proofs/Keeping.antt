@@ -10,7 +10,7 @@ use Rattle.gm_store.specs.declared.files.AskFault.TheVariants as ask
 use Rattle.gm_store.specs.declared.files.FileName.{FileName}
 use Rattle.gm_store_sums.specs.Sums.{Sums}
 use Rattle.gm_name.specs.ModuleVersion.{ModuleVersion}
-use Rattle.gm_name_table.specs.Listed.{BeginsWith, NumberedList, listed}
+use Rattle.gm_name_table.specs.Listed.{BeginsWith, NumberedList, modules_of}
 use Rattle.gm_graph.specs.declared.cache.Cache.{Cache}
 use Rattle.gm_graph.specs.declared.cache.file_table.FileTable.{FileTable}
 use Rattle.gm_graph.specs.declared.cache.summary.Kept.{Kept}
@@ -103,16 +103,16 @@ holds_grown old new main sums files grows lends =
     λ name. ap (λ (kept : FileTable). kept_at (modules_in new) kept name) files
     ∙ ap (λ (modules : List ModuleVersion). kept_at modules old.files name) grows.1.numbered.1
     ∙ sym (kept_if_more (modules_in old) grows.1.numbered.0 old.files name old.own_within) in
-    let begins : BeginsWith (listed old.modules) (listed new.modules) = (grows.0, grows.1.listed) in
+    let begins : BeginsWith (modules_of old.modules) (modules_of new.modules) = (grows.0, grows.1.listed) in
     let held : (name : Name) → held_of new name ≡ held_of old name =
-    λ name. ap (option_map (summary_reading (listed new.modules))) (found name)
-    ∙ readings_still (main_in old) (listed old.modules) (listed new.modules) (summary_at old name) begins (lends name) in
+    λ name. ap (option_map (summary_reading (modules_of new.modules))) (found name)
+    ∙ readings_still (main_in old) (modules_of old.modules) (modules_of new.modules) (summary_at old name) begins (lends name) in
     record {
       main = main;
       sums = sums;
       held = held;
-      lends = λ _ name one e. subst (λ (m : Main). IsKept m (listed new.modules) one) (ap main_of (sym main))
-          (kept_still (main_in old) (listed old.modules) (listed new.modules) one begins (lends name one (sym (found name) ∙ e)));
+      lends = λ _ name one e. subst (λ (m : Main). IsKept m (modules_of new.modules) one) (ap main_of (sym main))
+          (kept_still (main_in old) (modules_of old.modules) (modules_of new.modules) one begins (lends name one (sym (found name) ∙ e)));
       numbered = grows.1.numbered;
       sound = λ run. sound_still old new run run main ([], ap (λ (kept : FileTable). kept.files.items) files ∙ sym (append-nil old.files.files.items))
           (λ name one e. found name ∙ e) (λ x said says. says);
@@ -126,16 +126,16 @@ holds_listed old new main sums keeps files modules =
     let found : (name : Name) → summary_at new name ≡ summary_at old name =
     λ name. ap (λ (list : NumberedList). kept_at list.modules new.files name) modules ∙ keeps name in
     let held : (name : Name) → held_of new name ≡ held_of old name =
-    λ name. ap (λ (list : NumberedList). option_map (summary_reading (listed list)) (summary_at new name)) modules
-    ∙ ap (option_map (summary_reading (listed old.modules))) (found name) in
+    λ name. ap (λ (list : NumberedList). option_map (summary_reading (modules_of list)) (summary_at new name)) modules
+    ∙ ap (option_map (summary_reading (modules_of old.modules))) (found name) in
     record {
       main = main;
       sums = sums;
       held = held;
       numbered = ([], ap (λ (list : NumberedList). list.modules) modules ∙ sym (append-nil (modules_in old)));
       sound = λ run. sound_still old new run run main files (λ name one e. found name ∙ e) (λ x said says. says);
-      lends = λ lends name one e. subst (λ (m : Main). IsKept m (listed new.modules) one) (ap main_of (sym main))
-          (subst (λ (list : NumberedList). IsKept (main_in old) (listed list) one) (sym modules) (lends name one (sym (found name) ∙ e)));
+      lends = λ lends name one e. subst (λ (m : Main). IsKept m (modules_of new.modules) one) (ap main_of (sym main))
+          (subst (λ (list : NumberedList). IsKept (main_in old) (modules_of list) one) (sym modules) (lends name one (sym (found name) ∙ e)));
     }
 
 -- The same cache holds the same.

@@ -4,7 +4,7 @@ use Rattle.std.specs.Prelude.{IfSome, slice_get}
 use Rattle.std.specs.List.{IsDistinct}
 use Rattle.std.specs.Option.{option_and_then, option_map}
 use Rattle.gm_name.specs.ModuleVersion.{ModuleVersion, pair_eq}
-use Rattle.gm_name_table.specs.Listed.{BeginsWith, listed}
+use Rattle.gm_name_table.specs.Listed.{BeginsWith, modules_of}
 use Rattle.gm_file.specs.Fields.{Dependency}
 use Rattle.gm_file.specs.Listed.{with_requirements}
 use Rattle.gm_store.specs.Asked.{Name, Reply}
@@ -28,10 +28,10 @@ use Rattle.gm_graph.proofs.Spans.{span_within}
 
 -- What is kept at the place of a vertex's file is what the file says.
 pub kept_says : (cache : Cache) (pairs : List (Name × Reply)) (x : ModuleVersion) (place : ℕ) (one : Kept) → Knows cache pairs → HasFileAt cache x place
-    → kept_file cache place ≡ Some one → FileSays (run_in cache pairs) (file_of (main_in cache) x) (summary_reading (listed cache.modules) one)
+    → kept_file cache place ≡ Some one → FileSays (run_in cache pairs) (file_of (main_in cache) x) (summary_reading (modules_of cache.modules) one)
 kept_says cache pairs x place one knows at there =
-    held_says cache pairs knows (file_of (main_in cache) x) (summary_reading (listed cache.modules) one) at.askable
-    (ap (option_map (summary_reading (listed cache.modules))) (sym at.kept ∙ there))
+    held_says cache pairs knows (file_of (main_in cache) x) (summary_reading (modules_of cache.modules) one) at.askable
+    (ap (option_map (summary_reading (modules_of cache.modules))) (sym at.kept ∙ there))
 
 lent_one : (main : Main) (modules : List ModuleVersion) (o : Option Kept) (file : Dependency) → ((one : Kept) → o ≡ Some one → IsKept main modules one)
     → option_map (summary_reading modules) o ≡ Some (Ok file) → at_span modules (span_found o) ≡ without_excluded main file.requirements
@@ -44,9 +44,9 @@ lent_one main modules (Some (Valid summary)) file is e =
 -- If a vertex has no fault, what its file says is held of the file at its place.
 held_there : (cache : Cache) (pairs : List (Name × Reply)) (x : ModuleVersion) (place : ℕ) (file : Dependency) → Knows cache pairs
     → IsSound cache (run_in cache pairs) x place → Says (run_in cache pairs) x (Ok file)
-    → option_map (summary_reading (listed cache.modules)) (kept_file cache place) ≡ Some (Ok file)
+    → option_map (summary_reading (modules_of cache.modules)) (kept_file cache place) ≡ Some (Ok file)
 held_there cache pairs x place file knows at says =
-    ap (option_map (summary_reading (listed cache.modules))) at.kept ∙ held_sound cache pairs knows x file says
+    ap (option_map (summary_reading (modules_of cache.modules))) at.kept ∙ held_sound cache pairs knows x file says
 
 abbrev span_at : Cache → Option ℕ → ListSpan
 span_at cache place = span_found (option_and_then (slice_get cache.files.files.items) place)
@@ -55,20 +55,20 @@ span_at cache place = span_found (option_and_then (slice_get cache.files.files.i
 -- requirements.
 pub lent_kept : (cache : Cache) (pairs : List (Name × Reply)) (x : ModuleVersion) (place : Option ℕ) → Knows cache pairs
     → IsLender cache (run_in cache pairs) x place
-    → AreRequirements (run_in cache pairs) x (at_span (listed cache.modules) (span_at cache place))
+    → AreRequirements (run_in cache pairs) x (at_span (modules_of cache.modules) (span_at cache place))
 lent_kept cache pairs x None knows lender = no_requirements lender.1
 lent_kept cache pairs x (Some place) knows lender =
     subst (λ (xs : List ModuleVersion). AreRequirements (run_in cache pairs) x xs)
-    (sym (lent_one (main_in cache) (listed cache.modules) (kept_file cache place) lender.file
+    (sym (lent_one (main_in cache) (modules_of cache.modules) (kept_file cache place) lender.file
     (λ one e. knows.lends (file_of (main_in cache) x) one (sym lender.kept ∙ e)) (held_there cache pairs x place lender.file knows lender lender.says)))
     (its_requirements lender.says)
 
 -- So they are by a cache that holds the same.
 pub lent_named : (old cache : Cache) (pairs : List (Name × Reply)) (x y : ModuleVersion) (place : Option ℕ) (xs : List ModuleVersion)
     → HoldsSame old cache → x ≡ y → Knows cache pairs → IsLender cache (run_in cache pairs) x place
-    → xs ≡ at_span (listed cache.modules) (span_at cache place) → AreRequirements (run_in old pairs) y xs
+    → xs ≡ at_span (modules_of cache.modules) (span_at cache place) → AreRequirements (run_in old pairs) y xs
 lent_named old cache pairs x y place xs same is knows lender e =
-    let lent = at_span (listed cache.modules) (span_at cache place) in
+    let lent = at_span (modules_of cache.modules) (span_at cache place) in
     subst (λ (ms : List ModuleVersion). AreRequirements (run_in old pairs) y ms) (sym e)
     (subst (λ (v : ModuleVersion). AreRequirements (run_in old pairs) v lent) is
     (subst (λ (r : Run). AreRequirements r x lent) (same_run old cache pairs same.main same.sums)
@@ -76,10 +76,10 @@ lent_named old cache pairs x y place xs same is knows lender e =
 
 -- Where these requirements are is within the list of modules.
 pub lent_within : (cache : Cache) (run : Run) (x : ModuleVersion) (place : Option ℕ) → LendsKept cache → IsLender cache run x place
-    → IsWithinList (listed cache.modules) (span_at cache place)
-lent_within cache run x None lends lender = span_within (main_in cache) (listed cache.modules) None (λ one e. absurd (cc e))
+    → IsWithinList (modules_of cache.modules) (span_at cache place)
+lent_within cache run x None lends lender = span_within (main_in cache) (modules_of cache.modules) None (λ one e. absurd (cc e))
 lent_within cache run x (Some place) lends lender =
-    span_within (main_in cache) (listed cache.modules) (kept_file cache place) (λ one e. lends (file_of (main_in cache) x) one (sym lender.kept ∙ e))
+    span_within (main_in cache) (modules_of cache.modules) (kept_file cache place) (λ one e. lends (file_of (main_in cache) x) one (sym lender.kept ∙ e))
 
 -- A place is that of a file.
 pub lender_within : (cache : Cache) (run : Run) (x : ModuleVersion) (place : Option ℕ) → IsLender cache run x place

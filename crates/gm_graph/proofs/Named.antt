@@ -2,7 +2,7 @@
 use Rattle.std.proofs.Common.{◌≡◌, ◌∙◌, ℕ, List, Option, None, Some, Ok, Err, ap, refl, subst, sym}
 use Rattle.std.specs.Option.{option_map}
 use Rattle.gm_name.specs.ModuleVersion.{ModuleVersion}
-use Rattle.gm_name_table.specs.Listed.{listed}
+use Rattle.gm_name_table.specs.Listed.{modules_of}
 use Rattle.gm_store.specs.Asked.{Name, Reply}
 use Rattle.gm_store.specs.States.{StoreState}
 use Rattle.gm_graph.specs.declared.cache.Cache.{Cache}
@@ -25,7 +25,7 @@ module _ (cache : Cache) (pairs : List (Name × Reply)) (x : ModuleVersion) (nam
   named_kept : summary_at cache name ≡ None → ⊥
   named_kept none =
       let held : held_of cache (file_of (main_in cache) x) ≡ Some (Ok is.file) = held_sound cache pairs knows x is.file is.says in
-      let empty : held_of cache name ≡ None = ap (option_map (summary_reading (listed cache.modules))) none in
+      let empty : held_of cache name ≡ None = ap (option_map (summary_reading (modules_of cache.modules))) none in
       let here : held_of cache name ≡ Some (Ok is.file) = ap (held_of cache) is.name_is ∙ held in
       cc (sym empty ∙ here)
 

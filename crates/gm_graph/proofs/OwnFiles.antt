@@ -12,35 +12,35 @@ use Rattle.gm_store.specs.declared.files.FileName.{FileName}
 use Rattle.gm_graph.specs.declared.cache.file_table.FileTable.{FileTable}
 use Rattle.gm_graph.specs.declared.cache.summary.Kept.{Kept}
 use Rattle.gm_graph.specs.declared.cache.Cache.{Cache}
-use Rattle.gm_graph.specs.Cached.{HasFileAt, kept_file, main_in, modules_in, numbered, summary_at}
+use Rattle.gm_graph.specs.Cached.{HasFileAt, kept_file, main_in, modules_in, module_numbered, summary_at}
 use Rattle.gm_graph.specs.FileTable.{PutsFile, IsFileOf, kept_at, replacing_place}
 use Rattle.gm_file.specs.Main.{replacement_in}
 use Rattle.gm_graph.specs.Reading.{file_named, file_of, is_askable}
 
 -- The file of a module is that of a replacement, or its own.
 pub is_file_of : (cache : Cache) (number : ℕ) (name : Name) → IsDistinct pair_eq (modules_in cache)
-    → number < length (modules_in cache) → name ≡ file_of (main_in cache) (numbered cache number)
+    → number < length (modules_in cache) → name ≡ file_of (main_in cache) (module_numbered cache number)
     → IsFileOf (modules_in cache) cache.files number name
 is_file_of cache number name distinct within is = record {
   distinct = distinct;
   within = within;
-  own = λ none. is ∙ own_named (replacement_in (main_in cache) (numbered cache number))
-      (λ some. apart none (cache.has_replacing (numbered cache number) some));
+  own = λ none. is ∙ own_named (replacement_in (main_in cache) (module_numbered cache number))
+      (λ some. apart none (cache.has_replacing (module_numbered cache number) some));
 }
   where
     apart : replacing_place cache.files name ≡ None
-        → IsSome (replacing_place cache.files (file_of (main_in cache) (numbered cache number))) → ⊥
+        → IsSome (replacing_place cache.files (file_of (main_in cache) (module_numbered cache number))) → ⊥
     apart none some =
         let never = subst (λ (o : Option OptionalPlace). IsSome o) (ap (replacing_place cache.files) (sym is) ∙ none) some in cc
 
     own_named : (o : Option Right) → (IsSome o → ⊥)
-        → file_named (numbered cache number) o ≡ mod_file (numbered cache number).0 (numbered cache number).1
+        → file_named (module_numbered cache number) o ≡ mod_file (module_numbered cache number).0 (module_numbered cache number).1
     own_named None never = refl
     own_named (Some right) never = absurd (never refl)
 
 -- The same of the name that was made of the module.
 pub file_is : (cache : Cache) (number : ℕ) (name : FileName) (x : ModuleVersion) → IsDistinct pair_eq (modules_in cache)
-    → number < length (modules_in cache) → name_of name ≡ file_of (main_in cache) x → x ≡ numbered cache number
+    → number < length (modules_in cache) → name_of name ≡ file_of (main_in cache) x → x ≡ module_numbered cache number
     → IsFileOf (modules_in cache) cache.files number (name_of name)
 file_is cache number name x distinct within named is =
     is_file_of cache number (name_of name) distinct within (named ∙ ap (file_of (main_in cache)) is)

@@ -12,7 +12,7 @@ use Rattle.gm_graph.specs.declared.cache.depth.Depth.TheVariants.{Top}
 use Rattle.gm_graph.specs.declared.cache.depth.Turn.{Turn}
 use Rattle.gm_graph.specs.declared.graph_builder.GraphBuilder.{GraphBuilder}
 use Rattle.gm_graph.specs.declared.graph_builder.NumberedTurn.{NumberedTurn}
-use Rattle.gm_graph.specs.Builder.{Built, IsBuilder, built, turn_of, turns_of}
+use Rattle.gm_graph.specs.Builder.{Built, IsBuilder, graph_of, turn_of, turns_of}
 use Rattle.gm_graph.specs.Cached.{Knows, main_in, modules_in, run_in, sums_in, turns_in}
 use Rattle.gm_graph.specs.CacheVisits.{Continues}
 use Rattle.gm_graph.specs.Run.{AsksInTurn, IsOpened, IsRead, Run, run_of}
@@ -46,7 +46,7 @@ module _ (modules : List ModuleVersion) (builder : GraphBuilder) (at : ℕ) wher
 
 -- the graph under construction, by the numbers of a cache's modules
 abbrev pub built_by : Cache → GraphBuilder → Built
-built_by cache builder = built (modules_in cache) builder
+built_by cache builder = graph_of (modules_in cache) builder
 
 -- The turns before this position were visited.
 pub record IsAt (main : Main) (sums : Option Sums) (cache : Cache) (pairs : List (Name × Reply)) (builder : GraphBuilder) (at : ℕ) : Type 0 where

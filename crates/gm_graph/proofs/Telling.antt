@@ -7,7 +7,7 @@ use Rattle.gm_file.specs.Fields.{Dependency}
 use Rattle.gm_store.specs.Asked.{Name, Reply, answer_in, same_name}
 use Rattle.gm_store_sums.specs.Sums.{Sums}
 use Rattle.gm_store.proofs.NameOrder.{names_equal, name_itself}
-use Rattle.gm_name_table.specs.Listed.{BeginsWith, NumberedList, listed}
+use Rattle.gm_name_table.specs.Listed.{BeginsWith, NumberedList, modules_of}
 use Rattle.gm_graph.specs.declared.cache.class.Class.{Class}
 use Rattle.gm_graph.specs.declared.cache.summary.Kept.{Kept}
 use Rattle.gm_graph.specs.declared.cache.Cache.{Cache}
@@ -45,7 +45,7 @@ said_none modules o e = ap (option_map (summary_reading modules)) e
 -- A name without an entry was not asked for.
 pub not_asked : (cache : Cache) (pairs : List (Name × Reply)) (name : Name) → Knows cache pairs → summary_at cache name ≡ None → answer_in pairs name ≡ None
 not_asked cache pairs name knows e = none_told (sums_in cache) name (answer_in pairs name) (held_of cache name) (known_of cache pairs knows name)
-    (said_none (listed cache.modules) (summary_at cache name) e)
+    (said_none (modules_of cache.modules) (summary_at cache name) e)
 
 -- ---- one more answer
 
@@ -95,11 +95,11 @@ map_cond f false v r = refl
 -- ---- a cache with one more file
 
 held_with : (old new : Cache) (name : Name) (one : Kept) → new.modules ≡ old.modules → PutsFile (modules_in old) old.files new.files name one
-    → (other : Name) → held_of new other ≡ cond (same_name other name) (Some (summary_reading (listed old.modules) one)) (held_of old other)
+    → (other : Name) → held_of new other ≡ cond (same_name other name) (Some (summary_reading (modules_of old.modules) one)) (held_of old other)
 held_with old new name one modules keeps other =
-    ap (λ (list : NumberedList). option_map (summary_reading (listed list)) (kept_at list.modules new.files other)) modules
-    ∙ ap (option_map (summary_reading (listed old.modules))) (keeps other)
-    ∙ map_cond (summary_reading (listed old.modules)) (same_name other name) one (summary_at old other)
+    ap (λ (list : NumberedList). option_map (summary_reading (modules_of list)) (kept_at list.modules new.files other)) modules
+    ∙ ap (option_map (summary_reading (modules_of old.modules))) (keeps other)
+    ∙ map_cond (summary_reading (modules_of old.modules)) (same_name other name) one (summary_at old other)
 
 kept_with : (b : Bool) (main : Main) (modules : List ModuleVersion) (o : Option Kept) (one some : Kept) → ((any : Kept) → o ≡ Some any → IsKept main modules any) → IsKept main modules one
     → cond b (Some one) o ≡ Some some → IsKept main modules some
@@ -109,13 +109,13 @@ kept_with false main modules o one some were is e = were some e
 -- The cache knows the pairs and one more.
 pub knows_more : (old new : Cache) (pairs : List (Name × Reply)) (name : Name) (reply : Reply) (one : Kept)
     → Knows old pairs → answer_in pairs name ≡ None → new.main.now ≡ old.main.now → sums_in new ≡ sums_in old → new.modules ≡ old.modules
-    → PutsFile (modules_in old) old.files new.files name one → IsFileReading (sums_in old) name reply (summary_reading (listed old.modules) one) → IsKept (main_in old) (listed old.modules) one
+    → PutsFile (modules_in old) old.files new.files name one → IsFileReading (sums_in old) name reply (summary_reading (modules_of old.modules) one) → IsKept (main_in old) (modules_of old.modules) one
     → Knows new (pairs ++ (name, reply) ∷ [])
 knows_more old new pairs name reply one knows none same_main same_sums modules keeps reads is =
     let all : List (Name × Reply) = pairs ++ (name, reply) ∷ [] in
     let run : run_in new all ≡ run_in old all = same_run old new all same_main same_sums in
     let answers : (other : Name) → IsAnswerOf (sums_in old) other (answer_in all other) (held_of new other) =
-    λ other. answer_with (same_name other name) old pairs (held_of new other) name reply (summary_reading (listed old.modules) one) other refl knows none reads
+    λ other. answer_with (same_name other name) old pairs (held_of new other) name reply (summary_reading (modules_of old.modules) one) other refl knows none reads
     (held_with old new name one modules keeps other) in
     record {
       read = subst (λ (r : Run). IsRead r) (sym run) (λ other. (answers other).read);
@@ -123,21 +123,21 @@ knows_more old new pairs name reply one knows none same_main same_sums modules k
         (λ e. subst (λ (r : Run). AnswerSays r other said) (sym run) (((answers other).kept said).0 e)),
         (λ says. ((answers other).kept said).1 (subst (λ (r : Run). AnswerSays r other said) run says)),
       );
-      lends = λ other some e. subst (λ (m : Main). IsKept m (listed new.modules) some) (ap main_of (sym same_main))
-          (subst (λ (list : NumberedList). IsKept (main_in old) (listed list) some) (sym modules)
-          (kept_with (same_name other name) (main_in old) (listed old.modules) (summary_at old other) one some (λ any f. knows.lends other any f) is
+      lends = λ other some e. subst (λ (m : Main). IsKept m (modules_of new.modules) some) (ap main_of (sym same_main))
+          (subst (λ (list : NumberedList). IsKept (main_in old) (modules_of list) some) (sym modules)
+          (kept_with (same_name other name) (main_in old) (modules_of old.modules) (summary_at old other) one some (λ any f. knows.lends other any f) is
           (sym (ap (λ (list : NumberedList). kept_at list.modules new.files other) modules ∙ keeps other) ∙ e)));
     }
 
 -- A cache that adds what was read of one more file knows all answers.
 pub knows_read : (old mid new : Cache) (pairs all : List (Name × Reply)) (name : Name) (reply : Reply) (one : Kept)
     → Knows old pairs → HoldsSame old mid → LentSame mid new → new.modules ≡ mid.modules → summary_at old name ≡ None → PutsFile (modules_in mid) mid.files new.files name one
-    → all ≡ pairs ++ (name, reply) ∷ [] → IsFileReading (sums_in old) name reply (summary_reading (listed mid.modules) one) → IsKept (main_in old) (listed mid.modules) one → Knows new all
+    → all ≡ pairs ++ (name, reply) ∷ [] → IsFileReading (sums_in old) name reply (summary_reading (modules_of mid.modules) one) → IsKept (main_in old) (modules_of mid.modules) one → Knows new all
 knows_read old mid new pairs all name reply one knows same lent modules none adds e reads is =
     subst (λ (ps : List (Name × Reply)). Knows new ps) (sym e)
     (knows_more mid new pairs name reply one (knows_still old mid pairs same knows) (not_asked old pairs name knows none) lent.main lent.sums modules adds
-    (subst (λ (s : Option Sums). IsFileReading s name reply (summary_reading (listed mid.modules) one)) (sym same.sums) reads)
-    (subst (λ (m : Main). IsKept m (listed mid.modules) one) (sym (main_same old mid same)) is))
+    (subst (λ (s : Option Sums). IsFileReading s name reply (summary_reading (modules_of mid.modules) one)) (sym same.sums) reads)
+    (subst (λ (m : Main). IsKept m (modules_of mid.modules) one) (sym (main_same old mid same)) is))
 
 stays : {R : Type 0} (b : Bool) (v r : R) (old new : Option R) → new ≡ cond b (Some v) old → (b ≡ true → old ≡ None) → old ≡ Some r → new ≡ Some r
 stays true v r old new is none e = let never = sym (none refl) ∙ e in absurd (cc never)
@@ -150,7 +150,7 @@ none_kept modules (Some one) e = absurd cc
 -- A cache that holds the same keeps no file of which nothing was kept.
 none_still : (old mid : Cache) (name : Name) → HoldsSame old mid → summary_at old name ≡ None → summary_at mid name ≡ None
 none_still old mid name same none =
-    none_kept (listed mid.modules) (summary_at mid name) (same.held name ∙ said_none (listed old.modules) (summary_at old name) none)
+    none_kept (modules_of mid.modules) (summary_at mid name) (same.held name ∙ said_none (modules_of old.modules) (summary_at old name) none)
 
 -- What was found at a place is found there still after what was read of one more file was added, if the files begin with
 -- those that were kept.

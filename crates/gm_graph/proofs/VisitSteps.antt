@@ -10,8 +10,8 @@ use Rattle.gm_graph.specs.declared.cache.visit.Required.{Required}
 use Rattle.gm_graph.specs.declared.cache.visit.Visit.TheVariants as visit
 use Rattle.gm_graph.specs.declared.graph_builder.GraphBuilder.{GraphBuilder}
 use Rattle.gm_graph.specs.declared.graph_builder.NumberedTurn.{NumberedTurn}
-use Rattle.gm_graph.specs.Builder.{Built, IsBuilder, built, turns_of}
-use Rattle.gm_graph.specs.Cached.{main_in, modules_in, numbered, run_in, sums_in}
+use Rattle.gm_graph.specs.Builder.{Built, IsBuilder, graph_of, turns_of}
+use Rattle.gm_graph.specs.Cached.{main_in, modules_in, module_numbered, run_in, sums_in}
 use Rattle.gm_graph.specs.CacheVisits.{Continues, HasVisited, required_by, table_of}
 use Rattle.gm_graph.specs.Run.{Run}
 use Rattle.gm_graph.specs.Turns.{OverflowsWith}
@@ -29,7 +29,7 @@ on_ok_two (Err e) f p q = tt
 
 -- A vertex has its number still.
 pub same_module : (old new : Cache) (number : ℕ) → Continues old new → number < length (modules_in old)
-    → numbered old number ≡ numbered new number
+    → module_numbered old number ≡ module_numbered new number
 same_module old new number continues below = sym (number_stays (modules_in old) (modules_in new) number continues.numbered below)
 
 -- The modules that a visit adds have numbers that the builder doesn't use.
@@ -37,19 +37,19 @@ module _ (old new : Cache) (builder : GraphBuilder) (one : NumberedTurn) (contin
     (is : IsBuilder (modules_in old) builder) where
   -- what it did
   pub visited_by : (run : Run) (after : GraphBuilder)
-      → IsVisited run (built (modules_in new) builder) (built (modules_in new) after) (numbered old one.number) one.depth
-      → IsVisited run (built (modules_in old) builder) (built (modules_in new) after) (numbered old one.number) one.depth
+      → IsVisited run (graph_of (modules_in new) builder) (graph_of (modules_in new) after) (module_numbered old one.number) one.depth
+      → IsVisited run (graph_of (modules_in old) builder) (graph_of (modules_in new) after) (module_numbered old one.number) one.depth
   visited_by run after visited =
-      subst (λ (b : Built). IsVisited run b (built (modules_in new) after) (numbered old one.number) one.depth)
+      subst (λ (b : Built). IsVisited run b (graph_of (modules_in new) after) (module_numbered old one.number) one.depth)
       (built_over (modules_in old) (modules_in new) builder is continues.numbered) visited
 
   -- too many vertices
   pub overflows_at : (earlier pairs : List (Name × Reply)) (required : Required)
       → HasVisited old earlier new pairs one.number one.depth (visit.Required required) → required.leads ≡ true
       → OverflowsWith (turns_of (table_of required) builder) (required_by required)
-      → OverflowsAt (run_in old pairs) (turns_of (modules_in old) builder) (numbered old one.number) one.depth
+      → OverflowsAt (run_in old pairs) (turns_of (modules_in old) builder) (module_numbered old one.number) one.depth
   overflows_at earlier pairs required has leads over =
-      let x = numbered old one.number in
+      let x = module_numbered old one.number in
       let says = has.visit_is.1 in
       let turns = turns_of (modules_in old) builder in
       let run = run_in new pairs in

@@ -22,7 +22,7 @@ use Rattle.gm_graph.specs.EdgeLists.{steps_in}
 use Rattle.gm_graph.specs.declared.edge_lists.EdgeLists.{EdgeLists}
 use Rattle.gm_graph.specs.declared.graph_builder.GraphBuilder.{GraphBuilder}
 use Rattle.gm_graph.specs.declared.graph_builder.NumberedTurn.{NumberedTurn}
-use Rattle.gm_graph.specs.Builder.{Built, KeepsGraph, KeepsTurns, built, turn_of, turns_of}
+use Rattle.gm_graph.specs.Builder.{Built, KeepsGraph, KeepsTurns, graph_of, turn_of, turns_of}
 use Rattle.gm_graph.specs.Building.{AddsFault, AddsSource, Gathers, fault_in, gathers, noted as with_fault}
 use Rattle.gm_graph.specs.Visiting.{IsVisited}
 use Rattle.gm_graph.proofs.Deepening.{faulty_stops, follows_adds, follows_nothing, stops_there}
@@ -95,20 +95,20 @@ module _ (modules : List ModuleVersion) (old new : GraphBuilder) where
   same_turns : KeepsTurns old new → turns_of modules new ≡ turns_of modules old
   same_turns keeps = ap (λ (ts : List NumberedTurn). map (turn_of modules) ts) keeps
 
-  same_edges : new.edges ≡ old.edges → (built modules new).edges ≡ (built modules old).edges
+  same_edges : new.edges ≡ old.edges → (graph_of modules new).edges ≡ (graph_of modules old).edges
   same_edges keeps = ap (λ (edges : EdgeLists). edges_of modules (steps_in edges)) keeps
 
-  same_sources : new.edges ≡ old.edges → (built modules new).sources ≡ (built modules old).sources
+  same_sources : new.edges ≡ old.edges → (graph_of modules new).sources ≡ (graph_of modules old).sources
   same_sources keeps = ap (λ (edges : EdgeLists). sources_of modules (steps_in edges)) keeps
 
-  same_faults : new.faults ≡ old.faults → (y : ModuleVersion) → (built modules new).faults y ≡ (built modules old).faults y
+  same_faults : new.faults ≡ old.faults → (y : ModuleVersion) → (graph_of modules new).faults y ≡ (graph_of modules old).faults y
   same_faults keeps y = ap (λ (faults : tree.BTreeMap ModuleVersion Class). tree.get pair_cmp faults y) keeps
 
-  pub notes_fault : (x : ModuleVersion) (o : Option Class) → KeepsTurns old new → new.edges ≡ old.edges → ((y : ModuleVersion) → (built modules new).faults y ≡ with_fault o x (built modules old).faults y)
-      → Notes (built modules old) (built modules new) x o
+  pub notes_fault : (x : ModuleVersion) (o : Option Class) → KeepsTurns old new → new.edges ≡ old.edges → ((y : ModuleVersion) → (graph_of modules new).faults y ≡ with_fault o x (graph_of modules old).faults y)
+      → Notes (graph_of modules old) (graph_of modules new) x o
   notes_fault x o turns kept faults = record { turns = same_turns turns; edges = same_edges kept; sources = same_sources kept; faults = faults }
 
-  pub adds_nothing : (adds : Bool) (x : ModuleVersion) (ys : List ModuleVersion) → adds ≡ false → new ≡ old → AddsIf adds (built modules old) (built modules new) x ys
+  pub adds_nothing : (adds : Bool) (x : ModuleVersion) (ys : List ModuleVersion) → adds ≡ false → new ≡ old → AddsIf adds (graph_of modules old) (graph_of modules new) x ys
   adds_nothing adds x ys not_so same =
       let kept = ap (λ (b : GraphBuilder). b.edges) same in
       record {
@@ -118,8 +118,8 @@ module _ (modules : List ModuleVersion) (old new : GraphBuilder) where
         faults = same_faults (ap (λ (b : GraphBuilder). b.faults) same);
       }
 
-  pub adds_them : (adds : Bool) (x : ModuleVersion) (ys : List ModuleVersion) → adds ≡ true → (built modules new).edges ≡ (built modules old).edges ++ map (edge (Of x)) ys → (built modules new).sources ≡ (built modules old).sources ++ Of x ∷ [] → KeepsTurns old new
-      → new.faults ≡ old.faults → AddsIf adds (built modules old) (built modules new) x ys
+  pub adds_them : (adds : Bool) (x : ModuleVersion) (ys : List ModuleVersion) → adds ≡ true → (graph_of modules new).edges ≡ (graph_of modules old).edges ++ map (edge (Of x)) ys → (graph_of modules new).sources ≡ (graph_of modules old).sources ++ Of x ∷ [] → KeepsTurns old new
+      → new.faults ≡ old.faults → AddsIf adds (graph_of modules old) (graph_of modules new) x ys
   adds_them adds x ys does edges source turns faults = record {
     edges = ((λ _. edges), (λ not_so. absurd (false≢true (sym not_so ∙ does))));
     source = adds_source adds _ _ x does source;
@@ -128,18 +128,18 @@ module _ (modules : List ModuleVersion) (old new : GraphBuilder) where
   }
 
   module _ (run : Run) (x : ModuleVersion) (d : Depth) where
-    opens_by : KeepsGraph old new → Visits run (turns_of modules old) (turns_of modules new) (turn x d) → Opens run (built modules old) (built modules new) x d
+    opens_by : KeepsGraph old new → Visits run (turns_of modules old) (turns_of modules new) (turn x d) → Opens run (graph_of modules old) (graph_of modules new) x d
     opens_by kept follows = record { follows = follows; edges = same_edges kept.edges; sources = same_sources kept.edges; faults = same_faults kept.faults }
 
     -- a turn that leads on
     pub opens_all : (file : Dependency) → Says run x (Ok file) → leads_on file d ≡ true → KeepsGraph old new
         → AddsAll (turns_of modules old) (turns_of modules new) (without_excluded run.main file.requirements) Deep
-        → Opens run (built modules old) (built modules new) x d
+        → Opens run (graph_of modules old) (graph_of modules new) x d
     opens_all file says leads kept adds = opens_by kept (follows_adds run (turns_of modules old) (turns_of modules new) x d file says leads adds)
 
     -- a turn that leads no further
     pub opens_none : (file : Dependency) → Says run x (Ok file) → leads_on file d ≡ false → new ≡ old
-        → Opens run (built modules old) (built modules new) x d
+        → Opens run (graph_of modules old) (graph_of modules new) x d
     opens_none file says stops same =
         opens_by (record { edges = ap (λ (b : GraphBuilder). b.edges) same; faults = ap (λ (b : GraphBuilder). b.faults) same })
         (subst (λ (b : GraphBuilder). Visits run (turns_of modules old) (turns_of modules b) (turn x d)) (sym same)
@@ -147,7 +147,7 @@ module _ (modules : List ModuleVersion) (old new : GraphBuilder) where
 
     -- a turn of a vertex with a fault
     pub opens_leaf : (class : Class) → Says run x (Err class) → KeepsGraph old new → KeepsTurns old new
-        → Opens run (built modules old) (built modules new) x d
+        → Opens run (graph_of modules old) (graph_of modules new) x d
     opens_leaf class says kept turns = opens_by kept
         (subst (λ (ts : List Turn). Visits run (turns_of modules old) ts (turn x d)) (sym (same_turns turns))
         (follows_nothing run (turns_of modules old) x d (Err class) says (faulty_stops run x d class says)))

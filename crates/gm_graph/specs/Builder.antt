@@ -45,8 +45,8 @@ pub record Built : Type 0 where
   pub sources : List Step
   pub faults : Faults
 
-abbrev pub built : List ModuleVersion → GraphBuilder → Built
-built modules builder = record {
+abbrev pub graph_of : List ModuleVersion → GraphBuilder → Built
+graph_of modules builder = record {
   turns = turns_of modules builder;
   edges = edges_in modules builder;
   sources = sources_in modules builder;

@@ -30,9 +30,9 @@ fault_in (Ok file) = None
 fault_in (Err class) = Some class
 
 -- the faults, and that of one more vertex if it has one
-abbrev pub noted : Option Class → ModuleVersion → Faults → Faults
-noted None x faults y = faults y
-noted (Some class) x faults y = if pair_eq x y then Some class else faults y
+abbrev pub faults_with : Option Class → ModuleVersion → Faults → Faults
+faults_with None x faults y = faults y
+faults_with (Some class) x faults y = if pair_eq x y then Some class else faults y
 
 -- Whether a vertex's edges are added in a visit to this depth: if it is visited at both depths, at the top only.
 abbrev pub gathers_at : Depth → Bool → Bool
@@ -46,7 +46,7 @@ gathers turns one = gathers_at one.depth (list_any (same_turn (turn one.vertex T
 pub record AddsFault (run : Run) (before after : Faults) (x : ModuleVersion) : Type 0 where
   pub said : Result Dependency Class
   pub says : Says run x said
-  pub noting : (y : ModuleVersion) → after y ≡ noted (fault_in said) x before y
+  pub noting : (y : ModuleVersion) → after y ≡ faults_with (fault_in said) x before y
 
 -- The edges and the fault of a turn were added, and nothing else.
 pub record Gathers (run : Run) (turns : List Turn) (old new : List Edge) (before after : Faults) (one : Turn)

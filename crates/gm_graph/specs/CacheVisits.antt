@@ -19,7 +19,7 @@ use Rattle.gm_graph.specs.declared.cache.visit.Required.{Required}
 use Rattle.gm_graph.specs.declared.cache.visit.Visit.{Visit}
 use Rattle.gm_graph.specs.declared.cache.visit.Visit.TheVariants as visit
 use Rattle.gm_graph.specs.Asking.{FailsFor}
-use Rattle.gm_graph.specs.Cached.{IsSound, KeepsSound, Knows, file_count, main_in, modules_in, numbered, run_in, sums_in, turns_in}
+use Rattle.gm_graph.specs.Cached.{IsSound, KeepsSound, Knows, file_count, main_in, modules_in, module_numbered, run_in, sums_in, turns_in}
 use Rattle.gm_graph.specs.Lent.{lent_modules, lent_table}
 use Rattle.gm_graph.specs.Reading.{leads_on}
 use Rattle.gm_graph.specs.Run.{Run, Says}
@@ -84,8 +84,8 @@ pub record HasVisited (old : Cache) (earlier : List (Name × Reply)) (new : Cach
   pub distinct : IsDistinct pair_eq (modules_in new)
   pub sound : KeepsSound old (run_in old earlier) new (run_in new pairs)
   pub count : file_count new ≤ file_count old + 1
-  pub turns : turns_in new ≡ turns_in old ++ turn (numbered old number) d ∷ []
-  pub visit_is : IsVisit new (run_in new pairs) (numbered old number) d visit
+  pub turns : turns_in new ≡ turns_in old ++ turn (module_numbered old number) d ∷ []
+  pub visit_is : IsVisit new (run_in new pairs) (module_numbered old number) d visit
 
 -- Once the borrow of what a visit got ends, the cache has visited the vertex. After a refusal its list of turns is the
 -- same, and if the device failed, it has the name of the file.
@@ -93,4 +93,4 @@ abbrev pub Visits : MutBor Cache → StoreState → StoreState → ℕ → Depth
 Visits cache before after number d result = Rests (the_row (record { mir = named 1; lft = [] })) cache
     (λ end. MatchResult result (λ visit. HasVisited cache.now before.asked end after.asked number d visit)
     (λ fault. (turns_in end ≡ turns_in cache.now)
-    × (fault ≡ Device → FailsFor (main_in cache.now) before after (numbered cache.now number) end.failed)))
+    × (fault ≡ Device → FailsFor (main_in cache.now) before after (module_numbered cache.now number) end.failed)))

@@ -4,7 +4,7 @@ use Rattle.std.specs.Option.{option_copied, option_map}
 use Rattle.std.specs.Borrow.{Fml, MutBor}
 use Rattle.std.specs.Io.BufRead.{Rests}
 use Rattle.gm_name.specs.ModuleVersion.{ModuleVersion, module_at}
-use Rattle.gm_name_table.specs.Listed.{BeginsWith, listed}
+use Rattle.gm_name_table.specs.Listed.{BeginsWith, modules_of}
 use Rattle.gm_file.specs.Fields.{Dependency}
 use Rattle.gm_store.specs.Asked.{Name, Reply, name_of}
 use Rattle.gm_store_sums.specs.Sums.{Sums}
@@ -39,8 +39,8 @@ abbrev pub modules_in : Cache → List ModuleVersion
 modules_in cache = cache.modules.modules
 
 -- the module with a number
-abbrev pub numbered : Cache → ℕ → ModuleVersion
-numbered cache number = module_at (modules_in cache) number
+abbrev pub module_numbered : Cache → ℕ → ModuleVersion
+module_numbered cache number = module_at (modules_in cache) number
 
 -- what is kept of the file of a name
 abbrev pub summary_at : Cache → Name → Option Kept
@@ -55,7 +55,7 @@ kept_file cache place = slice_get cache.files.files.items place
 
 -- what is held of the file of a name: its contents or its fault
 abbrev pub held_of : Cache → Name → Option (Result Dependency Class)
-held_of cache name = option_map (summary_reading (listed cache.modules)) (summary_at cache name)
+held_of cache name = option_map (summary_reading (modules_of cache.modules)) (summary_at cache name)
 
 -- The run of a cache whose store gave these answers.
 abbrev pub run_in : Cache → List (Name × Reply) → Run
@@ -64,7 +64,7 @@ run_in cache pairs = run_of (main_in cache) (sums_in cache) pairs
 -- Each summary has the requirements of its file, without the excluded ones, and the list of modules has both.
 abbrev pub LendsKept : Cache → Type 0
 LendsKept cache = (name : Name) (one : Kept) → summary_at cache name ≡ Some one
-    → IsKept (main_in cache) (listed cache.modules) one
+    → IsKept (main_in cache) (modules_of cache.modules) one
 
 -- The answer to a name says this.
 abbrev pub AnswerSays : Run → Name → Result Dependency Class → Type 0

@@ -27,7 +27,7 @@ pub(crate) mod visit;
 ghost use Rattle.std.specs.Prelude.{◌≡◌, ◌≤◌, ◌<◌, ◌+◌, ◌++◌, ◌∷◌, [], List, IfOk, OnOk, OnErr, IsSome, None, Some, Err, length, take, true};
 ghost use Rattle.std.specs.Option.{option_copied};
 ghost use Rattle.gm_name.specs.ModuleVersion.{ModuleVersion};
-ghost use Rattle.gm_name_table.specs.Listed.{listed};
+ghost use Rattle.gm_name_table.specs.Listed.{modules_of};
 ghost use Rattle.gm_store.specs.Asked.{IsWithinLimit, Name, Reply, answer_in, name_of, reply_of};
 ghost use Rattle.gm_store.specs.Requests.{refused_for};
 ghost use Rattle.gm_store.specs.States.{AddsAnswer, HasServed};
@@ -83,7 +83,7 @@ pub struct Cache<'a> {
     /// The name of the file of the last request that was refused.
     failed: Option<FileName>,
     ghost first_within: { first ≤ length modules.numbers },
-    ghost first_are: { take first (listed modules)
+    ghost first_are: { take first (modules_of modules)
         ≡ without_excluded (main_of main.now) (main_of main.now).requirements },
     ghost own_within: { length files.own.items ≤ length modules.modules },
     ghost has_replacing: { HasReplacing (main_of main.now) files },
@@ -100,7 +100,7 @@ fn names_for(alloc: Global, main: &MainFile) -> Result<KnownNames, NoMemory> {
 
 /// The modules that the main file requires, without the excluded ones.
 fn first_modules(alloc: Global, main: &MainFile) -> Result<ModuleList, NoMemory>
-    ensures { IfOk result (λ modules. listed modules
+    ensures { IfOk result (λ modules. modules_of modules
         ≡ without_excluded (main_of main.now) (main_of main.now).requirements) }
 {
     let mut modules = ModuleList::new(alloc);
@@ -132,8 +132,8 @@ fn summarize(
 ) -> Result<Kept, NoMemory>
     ensures reading { IfOk result (λ kept. IsWithinLimit (reply_of answer.now)
         → IsFileReading (option_copied sums.entry) (name_of name.now) (reply_of answer.now)
-        (summary_reading (listed modules.new) kept)) }
-    ensures kept { IfOk result (IsKept (main_of main.now) (listed modules.new)) }
+        (summary_reading (modules_of modules.new) kept)) }
+    ensures kept { IfOk result (IsKept (main_of main.now) (modules_of modules.new)) }
     ensures grows { Grows modules.old modules.new }
 {
     expect_path(names, name)?;
@@ -169,7 +169,7 @@ impl<'a> Cache<'a> {
     ghost use Rattle.std.specs.List.{IsDistinct};
     ghost use Rattle.gm_name.specs.ModuleVersion.{pair_eq};
     ghost use Rattle.gm_name_table.specs.Listed.{BeginsWith};
-    ghost use Rattle.gm_graph.specs.Cached.{HasFileAt, HoldsSame, IsPlaceFor, KeepsSound, Knows, LendsKept, LentSame, file_count, main_in, modules_in, numbered, run_in, sums_in, turns_in};
+    ghost use Rattle.gm_graph.specs.Cached.{HasFileAt, HoldsSame, IsPlaceFor, KeepsSound, Knows, LendsKept, LentSame, file_count, main_in, modules_in, module_numbered, run_in, sums_in, turns_in};
     ghost use Rattle.gm_graph.specs.Lent.{lent_table};
     ghost use Rattle.gm_graph.specs.declared.cache.Cache.{Cache};
     ghost use Rattle.gm_graph.specs.CacheVisits.{Continues, IsVisit, KeepsSayings, LendsOver, Visits};
@@ -213,8 +213,8 @@ impl<'a> Cache<'a> {
         ensures reading { IfOk result (λ kept. (reply : Reply)
             × AddsAnswer (F.state files.old) (F.state files.new) (name_of name.now) reply
             × IsFileReading (sums_in self.old) (name_of name.now) reply
-            (summary_reading (listed self.new.modules) kept)) }
-        ensures kept { IfOk result (IsKept (main_in self.old) (listed self.new.modules)) }
+            (summary_reading (modules_of self.new.modules) kept)) }
+        ensures kept { IfOk result (IsKept (main_in self.old) (modules_of self.new.modules)) }
         ensures holds { HoldsSame self.old self.new }
         ensures lent { LentSame self.old self.new }
         ensures files { self.new.files ≡ self.old.files }
@@ -243,7 +243,7 @@ impl<'a> Cache<'a> {
     /// The only refusal is `NoMemory`, which leaves the cache unchanged.
     fn keep(&mut self, number: u32, name: &FileName, kept: Kept) -> Result<u32, NoMemory>
         requires vertex { number < length (modules_in self.old) }
-        requires file { name_of name.now ≡ file_of (main_in self.old) (numbered self.old number) }
+        requires file { name_of name.now ≡ file_of (main_in self.old) (module_numbered self.old number) }
         requires askable { may_be_asked (name_of name.now) ≡ true }
         requires few { file_count self.old < 4294967295 }
         ensures count { file_count self.new ≤ file_count self.old + 1 }
@@ -251,7 +251,7 @@ impl<'a> Cache<'a> {
             (PutsFile (modules_in self.old) self.old.files self.new.files (name_of name.now) kept) }
         ensures modules { self.new.modules ≡ self.old.modules }
         ensures files { BeginsWith self.old.files.files.items self.new.files.files.items }
-        ensures place { IfOk result (HasFileAt self.new (numbered self.old number)) }
+        ensures place { IfOk result (HasFileAt self.new (module_numbered self.old number)) }
         ensures lent { LentSame self.old self.new }
         ensures err { OnErr result (HoldsSame self.old self.new) }
     {
@@ -285,17 +285,17 @@ impl<'a> Cache<'a> {
         requires few { file_count self.old < 4294967295 }
         ensures count { file_count self.new ≤ file_count self.old + 1 }
         ensures knows { OnOk result (Knows self.new (F.state files.new).asked) }
-        ensures place { IfOk result (IsPlaceFor self.new (numbered self.old number)) }
+        ensures place { IfOk result (IsPlaceFor self.new (module_numbered self.old number)) }
         ensures lent { LentSame self.old self.new }
         ensures numbered { BeginsWith (modules_in self.old) (modules_in self.new) }
         ensures sound { OnOk result (KeepsSound self.old (run_in self.old (F.state files.old).asked)
             self.new (run_in self.new (F.state files.new).asked)) }
         ensures err { OnErr result (HoldsSame self.old self.new) }
-        ensures asks { AsksFor (main_in self.old) (F.state files.old) (F.state files.new) (numbered self.old number) }
+        ensures asks { AsksFor (main_in self.old) (F.state files.old) (F.state files.new) (module_numbered self.old number) }
         ensures device { result ≡ Err AskFault.Device → FailsFor (main_in self.old) (F.state files.old)
-            (F.state files.new) (numbered self.old number) self.new.failed }
+            (F.state files.new) (module_numbered self.old number) self.new.failed }
         ensures refused { (F.state files.new).refused ≡ (F.state files.old).refused
-            ++ refused_for (file_of (main_in self.old) (numbered self.old number)) result }
+            ++ refused_for (file_of (main_in self.old) (module_numbered self.old number)) result }
         ensures served { HasServed (F.may_answer files.old) (F.may_answer files.new)
             (F.state files.old) (F.state files.new) }
     {
@@ -317,11 +317,11 @@ impl<'a> Cache<'a> {
 
     /// What a visit to this depth gets of a vertex without a fault, whose valid file is kept at this place.
     fn required(&self, place: u32, summary: &Summary, depth: Depth) -> Required<'_>
-        requires within { IsWithinList (listed self.now.modules) summary.now.kept }
+        requires within { IsWithinList (modules_of self.now.modules) summary.now.kept }
         ensures file { result.file ≡ place }
         ensures leads { (requirements : List ModuleVersion)
             → result.leads ≡ leads_on (with_requirements summary.now.file requirements) depth }
-        ensures modules { lent_modules result.list ≡ at_span (listed self.now.modules) summary.now.kept }
+        ensures modules { lent_modules result.list ≡ at_span (modules_of self.now.modules) summary.now.kept }
         ensures table { lent_table result.list ≡ modules_in self.now }
     {
         Required {
@@ -335,10 +335,10 @@ impl<'a> Cache<'a> {
     /// if the file comes from a proxy and its path isn't fetchable.
     fn said(&self, number: u32, depth: Depth, place: Option<u32>) -> Visit<'_>
         requires vertex { number < length (modules_in self.now) }
-        requires place { IsPlaceFor self.now (numbered self.now number) place }
+        requires place { IsPlaceFor self.now (module_numbered self.now number) place }
         requires lends { LendsKept self.now }
         ensures visit { (pairs : List (Name × Reply)) → Knows self.now pairs
-            → IsVisit self.now (run_in self.now pairs) (numbered self.now number) depth result }
+            → IsVisit self.now (run_in self.now pairs) (module_numbered self.now number) depth result }
         ensures lends { (old : Cache) (earlier pairs : List (Name × Reply)) → Knows self.now pairs
             → Continues old self.now → KeepsSayings (run_in old earlier) (run_in self.now pairs)
             → KeepsSound old (run_in old earlier) self.now (run_in self.now pairs)
@@ -378,9 +378,9 @@ impl<'a> Cache<'a> {
         requires vertex { number < length (modules_in self.old) }
         requires few { file_count self.old < 4294967295 }
         ensures lends { IfOk result (LendsOver self.old (run_in self.old (F.state files.old).asked)) }
-        ensures asks { AsksFor (main_in self.old) (F.state files.old) (F.state files.new) (numbered self.old number) }
+        ensures asks { AsksFor (main_in self.old) (F.state files.old) (F.state files.new) (module_numbered self.old number) }
         ensures refused { (F.state files.new).refused ≡ (F.state files.old).refused
-            ++ refused_for (file_of (main_in self.old) (numbered self.old number)) result }
+            ++ refused_for (file_of (main_in self.old) (module_numbered self.old number)) result }
         ensures served { HasServed (F.may_answer files.old) (F.may_answer files.new)
             (F.state files.old) (F.state files.new) }
         ensures* after { sem 𝓛 (Visits self.entry (F.state files.old) (F.state files.new) number depth result) }

@@ -12,7 +12,7 @@ ghost use Rattle.gm_name.specs.ModuleVersion.{ModuleVersion, pair_cmp, pair_eq};
 ghost use Rattle.gm_graph.specs.Lent.{lent_modules, lent_table};
 ghost use Rattle.gm_graph_select.specs.Adjacency.{IsBelow, step_with};
 ghost use Rattle.gm_graph_select.specs.Graph.{edge};
-ghost use Rattle.gm_graph.specs.Building.{fault, noted};
+ghost use Rattle.gm_graph.specs.Building.{fault, faults_with};
 
 use crate::cache::class::Class;
 use crate::cache::depth::Depth;
@@ -84,7 +84,7 @@ impl GraphBuilder {
         ensures builder { (modules : List ModuleVersion) → IsBuilder modules self.old
             → OnOk result (IsBuilder modules self.new) }
         ensures faults { OnOk result ((x : ModuleVersion) → faults_by_vertex self.new x
-            ≡ noted (Some class) vertex.now (faults_by_vertex self.old) x) }
+            ≡ faults_with (Some class) vertex.now (faults_by_vertex self.old) x) }
         ensures turns { OnOk result (KeepsTurns self.old self.new) }
         ensures edges { OnOk result (self.new.edges ≡ self.old.edges) }
     {

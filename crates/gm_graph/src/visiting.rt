@@ -6,10 +6,10 @@ ghost use Rattle.gm_store.specs.Asked.{name_of};
 ghost use Rattle.gm_store.specs.States.{HasServed};
 ghost use Rattle.gm_store.specs.declared.files.FileName.{FileName};
 ghost use Rattle.gm_graph.specs.Asking.{AsksFor, StillLacks};
-ghost use Rattle.gm_graph.specs.Cached.{Knows, file_count, main_in, modules_in, numbered, run_in, turns_in};
+ghost use Rattle.gm_graph.specs.Cached.{Knows, file_count, main_in, modules_in, module_numbered, run_in, turns_in};
 ghost use Rattle.gm_graph.specs.CacheVisits.{Continues, SaysRequired, required_by, table_of};
 ghost use Rattle.gm_graph.specs.Refusals.{refused_in};
-ghost use Rattle.gm_graph.specs.Builder.{IsBuilder, KeepsTurns, built, turn_of, turns_of};
+ghost use Rattle.gm_graph.specs.Builder.{IsBuilder, KeepsTurns, graph_of, turn_of, turns_of};
 ghost use Rattle.gm_graph.specs.EdgeLists.{AreLists, KeepsLists};
 ghost use Rattle.gm_graph.specs.FileLists.{AddsFileList, HasNumbersOf, HaveFiles};
 ghost use Rattle.gm_graph.specs.Followed.{AreFollowedIn, FollowsFile, followed_at};
@@ -39,7 +39,7 @@ fn add_fault(
         → OnOk result (IsBuilder modules builder.new) }
     ensures visited { (modules : List ModuleVersion) (run : Run) → IsBuilder modules builder.old
         → one.number < length modules → vertex.now ≡ module_at modules one.number → Says run vertex.now (Err class)
-        → OnOk result (IsVisited run (built modules builder.old) (built modules builder.new) vertex.now one.depth) }
+        → OnOk result (IsVisited run (graph_of modules builder.old) (graph_of modules builder.new) vertex.now one.depth) }
     ensures turns { OnOk result (KeepsTurns builder.old builder.new) }
     ensures files { OnOk result (KeepsLists builder.old.edges builder.new.edges None []) }
     ensures not_refused { refused_in result ≡ [] }
@@ -69,7 +69,7 @@ fn add_requirements(
     ensures builder { OnOk result (IsBuilder (table_of required.entry) builder.new) }
     ensures visited { (run : Run) (x : ModuleVersion) → x ≡ module_at (table_of required.entry) one.number
         → SaysRequired run x one.depth required.entry → OnOk result (IsVisited run
-        (built (table_of required.entry) builder.old) (built (table_of required.entry) builder.new) x one.depth) }
+        (graph_of (table_of required.entry) builder.old) (graph_of (table_of required.entry) builder.new) x one.depth) }
     ensures files { OnOk result (AddsFileList builder.old.edges builder.new.edges (Some required.entry.file)
         (table_of required.entry) (required_by required.entry)) }
     ensures followed { OnOk result (FollowsFile followed.old followed.new required.entry.file
@@ -119,15 +119,15 @@ pub(crate) fn visit<F: Asks>(
     ensures followed { OnOk result (AreFollowedIn cache.new (run_in cache.new (F.state files.new).asked)
         (turns_of (modules_in cache.new) builder.new) followed.new) }
     ensures visited { OnOk result (IsVisited (run_in cache.new (F.state files.new).asked)
-        (built (modules_in cache.old) builder.old) (built (modules_in cache.new) builder.new)
-        (numbered cache.old one.number) one.depth) }
+        (graph_of (modules_in cache.old) builder.old) (graph_of (modules_in cache.new) builder.new)
+        (module_numbered cache.old one.number) one.depth) }
     ensures too_many { result ≡ Err LoadFault.TooMany → OverflowsAt (run_in cache.old (F.state files.new).asked)
-        (turns_of (modules_in cache.old) builder.old) (numbered cache.old one.number) one.depth }
+        (turns_of (modules_in cache.old) builder.old) (module_numbered cache.old one.number) one.depth }
     ensures asks { AsksFor (main_in cache.old) (F.state files.old) (F.state files.new)
-        (numbered cache.old one.number) }
+        (module_numbered cache.old one.number) }
     ensures device { (name : FileName) → result ≡ Err (LoadFault.Device name)
         → StillLacks (main_in cache.old) (F.state files.old) (F.state files.new)
-        (numbered cache.old one.number) (name_of name) }
+        (module_numbered cache.old one.number) (name_of name) }
     ensures refused { (F.state files.new).refused ≡ (F.state files.old).refused ++ refused_in result }
     ensures served { HasServed (F.may_answer files.old) (F.may_answer files.new)
         (F.state files.old) (F.state files.new) }

@@ -5,7 +5,7 @@ use Rattle.std.proofs.lemmas.List.{drop-map, get_or_append_left, length-append, 
 use Rattle.std.proofs.lemmas.List.Elements.{All-head, All-push, All-tail, All-weaker}
 use Rattle.std.proofs.lemmas.Option.{get_or_from_slice_get, slice_get_within}
 use Rattle.gm_name.specs.ModuleVersion.{ModuleVersion, module_at}
-use Rattle.gm_name_table.specs.Listed.{Appends, AreModuleNumbers, BeginsWith, NumberedList, listed, modules_at, part}
+use Rattle.gm_name_table.specs.Listed.{Appends, AreModuleNumbers, BeginsWith, NumberedList, modules_of, modules_at, part}
 use Rattle.gm_name_table.specs.Lists.{IsOneMoreAtMost}
 
 -- A table that has one module more at most begins as it was.
@@ -64,7 +64,7 @@ not_pushed {was} new pair numbers is_old only are same =
       kept = ([], same ∙ sym (append-nil was.numbers));
       listed = ap (λ (ns : List ℕ). modules_at new ns) same
           ∙ same_modules was.modules new was.numbers (begins_as was.modules new pair only) are
-          ∙ sym (append-nil (listed was));
+          ∙ sym (append-nil (modules_of was));
     })
 
 pub pushed_numbers : (modules : List ModuleVersion) (pair : ModuleVersion) (numbers : List ℕ) (number : ℕ)

@@ -13,8 +13,8 @@ abbrev pub modules_at : List ModuleVersion → List ℕ → List ModuleVersion
 modules_at modules numbers = map (module_at modules) numbers
 
 -- the modules of the list
-abbrev pub listed : NumberedList → List ModuleVersion
-listed list = modules_at list.modules list.numbers
+abbrev pub modules_of : NumberedList → List ModuleVersion
+modules_of list = modules_at list.modules list.numbers
 
 -- Each of the numbers is that of a module.
 abbrev pub AreModuleNumbers : List ModuleVersion → List ℕ → Type 0
@@ -28,7 +28,7 @@ BeginsWith {T} old new = (more : List T) × (new ≡ old ++ more)
 pub record Appends (old new : NumberedList) (more : List ModuleVersion) : Type 0 where
   pub numbered : BeginsWith old.modules new.modules
   pub kept : BeginsWith old.numbers new.numbers
-  pub listed : listed new ≡ listed old ++ more
+  pub listed : modules_of new ≡ modules_of old ++ more
 
 -- the part of a list from one place to another
 abbrev pub part : {T : Type 0} → ℕ → ℕ → List T → List T

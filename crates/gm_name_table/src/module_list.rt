@@ -5,7 +5,7 @@ ghost use Rattle.std.specs.Iterator.{YieldsFirstRef, item_count};
 ghost use Rattle.std.specs.List.{IsDistinct};
 ghost use Rattle.gm_name.specs.ModuleVersion.{module_at, pair_eq};
 ghost use Rattle.gm_name.specs.Readings.{PairReading};
-ghost use Rattle.gm_name_table.specs.Listed.{Appends, AreModuleNumbers, listed, modules_at, part};
+ghost use Rattle.gm_name_table.specs.Listed.{Appends, AreModuleNumbers, modules_of, modules_at, part};
 ghost use Rattle.gm_name_table.specs.Lists.{IsOneMoreAtMost};
 
 use crate::module_table::ModuleTable;
@@ -126,7 +126,7 @@ impl ModuleList {
         requires within { end ≤ length self.now.numbers }
         ensures numbers { result.now ≡ part start end self.now.numbers }
         ensures below { AreModuleNumbers self.now.modules result.now }
-        ensures modules { modules_at self.now.modules result.now ≡ part start end (listed self.now) }
+        ensures modules { modules_at self.now.modules result.now ≡ part start end (modules_of self.now) }
     {
         &self.numbers[start..end]
     }
@@ -135,7 +135,7 @@ impl ModuleList {
     pub fn part(&self, start: usize, end: usize) -> Modules<'_>
         requires order { start ≤ end }
         requires within { end ≤ length self.now.numbers }
-        ensures { result ≡ part start end (listed self.now) }
+        ensures { result ≡ part start end (modules_of self.now) }
     {
         Modules {
             modules: self.table.modules(),

@@ -12,7 +12,7 @@ use Rattle.gm_syntax.specs.Tokens.{Placed}
 use Rattle.gm_syntax.specs.Words.{Word}
 use Rattle.gm_file.specs.Directives.{Directive, Strict, directives}
 use Rattle.gm_file_edit.specs.About.{about}
-use Rattle.gm_file_edit.specs.Edited.{edited}
+use Rattle.gm_file_edit.specs.Edited.{lines_after}
 use Rattle.gm_file_edit.specs.Edits.{Edit as Operation, Set, ModuleIs, GoIs, RequireAt, ReplaceWith, Add, Exclude, Retract, Drop, edit_in}
 use Rattle.gm_file_edit.specs.Kinds.{is_fit}
 use Rattle.gm_file_edit.specs.Laws.{IsEditOf, directives_of}
@@ -22,7 +22,7 @@ use Rattle.gm_file_edit.proofs.Places.{edited-same}
 use Rattle.gm_file_edit.proofs.Undone.{drop-undoes-layout}
 use Rattle.gm_file.specs.Main.{IsMainOf}
 use Rattle.gomod_run.specs.Outcomes.{longest}
-use Rattle.gomod_run.specs.Outcome.{printed}
+use Rattle.gomod_run.specs.Outcome.{output_of}
 use Rattle.gomod_run.proofs.OneRead.{misread_or_lines, same_lines}
 use Rattle.gomod_run.specs.Editing.{EditEnds, applied, bad_main}
 use Rattle.gomod_run.proofs.Sameness.{in_turn_same}
@@ -54,9 +54,9 @@ undone_is_formatted operations put file edited_to formatted are fit targets one 
       let absent : list_any (about put) (directives_of lines) ≡ false =
       ap (λ (ls : List (Line Word)). list_any (about put) (directives Strict ls)) (same_lines file lines targets.lines main.0 targets.is_main.0) ∙ targets.none in
       let undo_fits = subst (λ (o : Option Operation). IfSome o (λ undo. is_fit undo ≡ true)) are.undoes (drop_fits put) in
-      let states : edited_to ≡ printed (layout (plain_lines lines)) =
-      says ∙ taken_turn 1 are.first (are.second ∷ []) lines put are.puts fit ∙ taken_turn 2 are.second [] (edited put lines) are.undo are.drops undo_fits
-      ∙ ap printed (drop-undoes-layout put are.undo lines ((are.first, are.puts), fit, sound.0, sound.1) are.undoes absent) in
+      let states : edited_to ≡ output_of (layout (plain_lines lines)) =
+      says ∙ taken_turn 1 are.first (are.second ∷ []) lines put are.puts fit ∙ taken_turn 2 are.second [] (lines_after put lines) are.undo are.drops undo_fits
+      ∙ ap output_of (drop-undoes-layout put are.undo lines ((are.first, are.puts), fit, sound.0, sound.1) are.undoes absent) in
       (states ∙ fmt_is file lines formatted main.0 other.0, layout (plain_lines lines), states)
 ]
 
@@ -65,12 +65,12 @@ undone_is_formatted operations put file edited_to formatted are fit targets one 
 -- the lines of the file, which all operations but the last two turn, and what the text reads as
 last_two : (operations : Vec (String Global)) (file text : List ℕ) (earlier : List (List ℕ)) (first second : List ℕ) (one other : Operation) → texts_in operations ≡ earlier ++ first ∷ second ∷ [] → edit_in first ≡ Some one → edit_in second ≡ Some other
     → IsEdited operations file text → length text ≤ longest
-    → (lines doc : List (Line Placed)) × IsMainOf file lines × IsEditOf one (turned earlier lines) × IsMainOf text doc × (directives_of doc ≡ directives_of (edited other (edited one (turned earlier lines))))
+    → (lines doc : List (Line Placed)) × IsMainOf file lines × IsEditOf one (turned earlier lines) × IsMainOf text doc × (directives_of doc ≡ directives_of (lines_after other (lines_after one (turned earlier lines))))
 last_two operations file text earlier first second one other given first_is second_is prints short =
     let (lines, main, from) = edited_from operations earlier (first ∷ second ∷ []) file text given prints in
     let then = next_is first (second ∷ []) text (turned earlier lines) one first_is from in
-    let last = next_is second [] text (edited one (turned earlier lines)) other second_is then.2 in
-    let (doc, reread, said) = text_lines (edited other (edited one (turned earlier lines))) text last.2 prints.1 short in
+    let last = next_is second [] text (lines_after one (turned earlier lines)) other second_is then.2 in
+    let (doc, reread, said) = text_lines (lines_after other (lines_after one (turned earlier lines))) text last.2 prints.1 short in
     (lines, doc, main, then.1, reread, said)
 
 pub either_order_changes_no_build : EitherOrderChangesNoBuild
@@ -80,9 +80,9 @@ either_order_changes_no_build command operations swapped one other file text als
     let front : List (Line Placed) = turned swap.earlier lines in
     let beside : List (Line Placed) = turned swap.earlier others in
     let same : plain_lines beside ≡ plain_lines front = in_turn_same (filter_map edit_in swap.earlier) others lines (same_lines file others lines main_too.0 main.0) in
-    let ends = said_too ∙ ap (directives Strict) (edited-same one (edited other beside) (edited other front) (edited-same other beside front same)) in
+    let ends = said_too ∙ ap (directives Strict) (edited-same one (lines_after other beside) (lines_after other front) (edited-same other beside front same)) in
     let orders = either-order one other front edit (edit_too.0, edit_too.1, edit.2, edit.3) apart in
     let are : IsPermutation (directives_of doc) (directives_of again) =
-    subst (λ (ds : List Directive). IsPermutation ds (directives_of again)) (sym said) (subst (IsPermutation (directives_of (edited other (edited one front)))) (sym ends) orders) in
+    subst (λ (ds : List Directive). IsPermutation ds (directives_of again)) (sym said) (subst (IsPermutation (directives_of (lines_after other (lines_after one front)))) (sym ends) orders) in
     let hold : HoldTheSame (plain_lines doc) (plain_lines again) = (λ d. (Contains-permutation _ _ d are, Contains-permutation _ _ d (IsPermutation-sym _ _ are))) in
     lines_in_any_order command text also doc again sums asked answered before after query reread reread_too hold alike run rerun

@@ -14,14 +14,14 @@ use Rattle.gm_syntax.specs.Tokens.{Placed}
 use Rattle.gm_file.specs.Directives.{Strict}
 use Rattle.gm_file.specs.Faults.{fault_of}
 use Rattle.gm_file.specs.Main.{IsMainOf}
-use Rattle.gm_file_edit.specs.Edited.{edited}
+use Rattle.gm_file_edit.specs.Edited.{lines_after}
 use Rattle.gm_file_edit.specs.Edits.{Edit as Operation, edit_in}
 use Rattle.gm_file_edit.specs.Kinds.{is_fit}
 use Rattle.gm_file_edit.specs.Laws.{IsEditOf, directives_of}
 use Rattle.gm_file_edit.proofs.EditedSound.{edited-document}
 use Rattle.gm_file_edit.proofs.Written.{written-sound}
 use Rattle.gomod_run.specs.Editing.{EditEnds, applied, bad_main, edited_in_turn, edits_outcome, refusal_of, refusals_from}
-use Rattle.gomod_run.specs.Outcome.{Outcome, printed, refused}
+use Rattle.gomod_run.specs.Outcome.{Outcome, output_of, report_of}
 use Rattle.gomod_run.specs.Outcomes.{longest}
 use Rattle.gomod_run.specs.Reports.{edit_line, main_line}
 use Rattle.gomod_run.proofs.FolderNames.{read_document}
@@ -47,7 +47,7 @@ AreSoundLines lines = IsDocument (plain_lines lines) × (fault_of Strict (plain_
 pub read_sound : (file : List ℕ) (lines : List (Line Placed)) → IsMainOf file lines → AreSoundLines lines
 read_sound file lines (parsed, faultless) = (read_document file (plain_lines lines) parsed.1.reads, faultless)
 
-pub edit_sound : (edit : Operation) (lines : List (Line Placed)) → IsEditOf edit lines → AreSoundLines (edited edit lines)
+pub edit_sound : (edit : Operation) (lines : List (Line Placed)) → IsEditOf edit lines → AreSoundLines (lines_after edit lines)
 edit_sound edit lines is = edited-document edit lines (written-sound is.0.0 edit is.0.1) is.1 is.2 is.3
 
 -- ---- one operation
@@ -67,12 +67,12 @@ turn_of text = by_operation (edit_in text) refl
       | inr misfit ↦ is_refused (codes "Misfit") (rw (written, misfit) refl)
     ]
 
-pub refused_turn : (number : ℕ) (kind text : List ℕ) (texts : List (List ℕ)) (lines : List (Line Placed)) → refusal_of (edit_in text) ≡ Some kind → outcome_from number (text ∷ texts) lines ≡ refused (edit_line (number, kind))
+pub refused_turn : (number : ℕ) (kind text : List ℕ) (texts : List (List ℕ)) (lines : List (Line Placed)) → refusal_of (edit_in text) ≡ Some kind → outcome_from number (text ∷ texts) lines ≡ report_of (edit_line (number, kind))
 refused_turn number kind text texts lines is =
     ap (λ (k : Option (List ℕ)). edits_outcome (option_to_list (option_map (λ (why : List ℕ). (number, why)) k) ++ refusals_from (number + 1) texts) (turned (text ∷ texts) lines)) is
 
 pub taken_turn : (number : ℕ) (text : List ℕ) (texts : List (List ℕ)) (lines : List (Line Placed)) (operation : Operation) → edit_in text ≡ Some operation → is_fit operation ≡ true
-    → outcome_from number (text ∷ texts) lines ≡ outcome_from (number + 1) texts (edited operation lines)
+    → outcome_from number (text ∷ texts) lines ≡ outcome_from (number + 1) texts (lines_after operation lines)
 taken_turn number text texts lines operation written fit = rw (written, fit) refl
 
 -- ---- operations of which none is refused
@@ -81,11 +81,11 @@ taken_turn number text texts lines operation written fit = rw (written, fit) ref
 pub record PrintsFrom (texts : List (List ℕ)) (text : List ℕ) (lines : List (Line Placed)) : Type 0 where
   pub sound : AreSoundLines lines
   pub number : ℕ
-  pub prints : outcome_from number texts lines ≡ printed text
+  pub prints : outcome_from number texts lines ≡ output_of text
 
 -- the first operation is taken
 abbrev IsNext : List ℕ → List (List ℕ) → List ℕ → List (Line Placed) → Operation → Type 0
-IsNext first texts text lines operation = (edit_in first ≡ Some operation) × IsEditOf operation lines × PrintsFrom texts text (edited operation lines)
+IsNext first texts text lines operation = (edit_in first ≡ Some operation) × IsEditOf operation lines × PrintsFrom texts text (lines_after operation lines)
 
 next : (first : List ℕ) (texts : List (List ℕ)) (text : List ℕ) (lines : List (Line Placed)) → PrintsFrom (first ∷ texts) text lines → (operation : Operation) × IsNext first texts text lines operation
 next first texts text lines from = elim (turn_of first) [
@@ -105,15 +105,15 @@ after_all : (earlier rest : List (List ℕ)) (text : List ℕ) (lines : List (Li
 after_all [] rest text lines from = from
 after_all (first ∷ earlier) rest text lines from =
     let (operation, is) = next first (earlier ++ rest) text lines from in
-    let turn : turned (first ∷ earlier) lines ≡ turned earlier (edited operation lines) = rw is.0 refl in
-    subst (PrintsFrom rest text) (sym turn) (after_all earlier rest text (edited operation lines) is.2)
+    let turn : turned (first ∷ earlier) lines ≡ turned earlier (lines_after operation lines) = rw is.0 refl in
+    subst (PrintsFrom rest text) (sym turn) (after_all earlier rest text (lines_after operation lines) is.2)
 
 -- ---- what `edit` prints
 
 -- the lines of the file, and what is left to do after the first operations
 pub edited_from : (operations : Vec (String Global)) (earlier rest : List (List ℕ)) (file text : List ℕ) → texts_in operations ≡ earlier ++ rest → IsEdited operations file text
     → (lines : List (Line Placed)) × IsMainOf file lines × PrintsFrom rest text (turned earlier lines)
-edited_from operations earlier rest file text given prints = elim (subst (λ (ts : List (List ℕ)). EditEnds ts file (printed text)) given prints.0) [
+edited_from operations earlier rest file text given prints = elim (subst (λ (ts : List (List ℕ)). EditEnds ts file (output_of text)) given prints.0) [
   | bad_main place malformed says ↦ absurd (not_printed text (main_line place) says)
   | applied lines main says ↦ (lines, main, after_all earlier rest text lines (record { sound = read_sound file lines main; number = 1; prints = sym says }))
 ]

@@ -4,7 +4,7 @@ use Rattle.std.specs.Global.{Global, Vec}
 use Rattle.std.specs.Prelude.{String}
 use Rattle.gm_syntax.specs.Document.{Line}
 use Rattle.gm_syntax.specs.Tokens.{Placed}
-use Rattle.gm_file_edit.specs.Edited.{edited}
+use Rattle.gm_file_edit.specs.Edited.{lines_after}
 use Rattle.gm_file_edit.proofs.Twice.{second-operation}
 use Rattle.gomod_run.specs.Editing.{EditEnds, applied, bad_main}
 use Rattle.gomod_run.specs.Outcome.{Outcome}
@@ -34,7 +34,7 @@ later_alike (text ∷ later) before number lines low = elim (turn_of text) [
       ((λ nothing. absurd cc), inr refused)
   | is_taken operation written fit ↦
       alike_as (text ∷ later) before _ _ _ _ (taken_turn number text later lines operation written fit) (taken_turn (number + 1) text later lines operation written fit)
-      ((λ nothing. absurd cc), (later_alike later before (number + 1) (edited operation lines) (omega (arith, low))).1)
+      ((λ nothing. absurd cc), (later_alike later before (number + 1) (lines_after operation lines) (omega (arith, low))).1)
 ]
 
 module _ (text : List ℕ) (later : List (List ℕ)) where
@@ -45,7 +45,7 @@ module _ (text : List ℕ) (later : List (List ℕ)) where
         let same = refused_turn number kind text later lines is ∙ sym (refused_turn number kind text (text ∷ later) lines is) in
         ((λ nothing. same), inl same)
     | is_taken operation written fit ↦
-        let after : List (Line Placed) = edited operation lines in
+        let after : List (Line Placed) = lines_after operation lines in
         alike_as later number _ _ _ _ (taken_turn number text later lines operation written fit)
         (taken_turn number text (text ∷ later) lines operation written fit ∙ taken_turn (number + 1) text later after operation written fit
         ∙ ap (outcome_from ((number + 1) + 1) later) (second-operation operation lines ((text, written), fit, sound.0, sound.1)))
@@ -63,7 +63,7 @@ module _ (text : List ℕ) (later : List (List ℕ)) where
         ((λ nothing. same), inl same)
     | is_taken operation written fit ↦
         alike_as later at _ _ _ _ (taken_turn number first (earlier ++ text ∷ later) lines operation written fit) (taken_turn number first (earlier ++ text ∷ text ∷ later) lines operation written fit)
-        (all_alike earlier at (number + 1) (edited operation lines) (omega (arith, is)) (edit_sound operation lines ((first, written), fit, sound.0, sound.1)))
+        (all_alike earlier at (number + 1) (lines_after operation lines) (omega (arith, is)) (edit_sound operation lines ((first, written), fit, sound.0, sound.1)))
   ]
 
 -- ---- the laws

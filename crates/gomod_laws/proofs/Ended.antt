@@ -2,10 +2,10 @@
 use Rattle.std.proofs.Common.{ℕ, List, [], Option}
 use Rattle.gm_store.specs.Asked.{Name, Reply}
 use Rattle.gomod_run.specs.Outcome.{Outcome}
-use Rattle.gomod_run.specs.Outcomes.{answers, given}
+use Rattle.gomod_run.specs.Outcomes.{answers_of, given_of}
 use Rattle.gomod_run.specs.Runs.{RunEnds}
 use Rattle.gomod_words.specs.declared.usage.Command.{Command}
 
 -- what `HasOutcome` says of an outcome, but for its text's being UTF-8
 abbrev pub Ends : Command → List ℕ → Option (List ℕ) → List (Name × Reply) → Outcome → Type 0
-Ends command main sums asked outcome = RunEnds command (given main sums (answers asked [])) outcome
+Ends command main sums asked outcome = RunEnds command (given_of main sums (answers_of asked [])) outcome

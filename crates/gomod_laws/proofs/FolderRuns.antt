@@ -17,7 +17,7 @@ use Rattle.gm_graph.specs.Run as graph
 use Rattle.gm_graph.specs.Run.{FileSays, IsNeeded, run_of}
 use Rattle.gm_graph.proofs.RunLemmas.{needed}
 use Rattle.gomod_run.specs.ListingLaws.{AnswerAlike}
-use Rattle.gomod_run.specs.Outcomes.{AreFound, answers, given}
+use Rattle.gomod_run.specs.Outcomes.{AreFound, answers_of, given_of}
 use Rattle.gomod_run.specs.Needs.{AnsweredAll, AnswersByName, AskedAfter, AskedInTurn}
 use Rattle.gomod_run.specs.Outcome.{Outcome}
 use Rattle.gomod_run.proofs.OneQueryStore.{alike_back, stores_agree}
@@ -159,11 +159,11 @@ names_into file sums asked told main again t u alike found also name there =
 pub same_outcome : (command : Command) (main : List ℕ) (sums : Option (List ℕ)) (asked told : Pairs) (a b : Outcome) → AnswerAlike asked told
     → Ends command main sums asked a → Ends command main sums told b → a ≡ b
 same_outcome command main sums asked told a b alike run again =
-    one_for_stores command (given main sums (answers asked [])) (given main sums (answers told [])) a b (record { file = refl; sums = refl; answers = alike; failed = refl }) run again
+    one_for_stores command (given_of main sums (answers_of asked [])) (given_of main sums (answers_of told [])) a b (record { file = refl; sums = refl; answers = alike; failed = refl }) run again
 
 all_answered : (command : Command) (main : List ℕ) (sums : Option (List ℕ)) (asked : Pairs) (outcome : Outcome) → Ends command main sums asked outcome → HasPrinted outcome
     → AnsweredAll (Needs command main sums) (answer_in asked)
-all_answered command main sums asked outcome run prints = done_answers command (given main sums (answers asked [])) outcome run prints
+all_answered command main sums asked outcome run prints = done_answers command (given_of main sums (answers_of asked [])) outcome run prints
 
 module _ (main : List ℕ) (sums : Option (List ℕ)) where
   -- what a query asked for is what it needed, and was read

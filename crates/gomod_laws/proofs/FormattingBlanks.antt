@@ -6,7 +6,7 @@ use Rattle.std.specs.Prelude.{Some, option_and_then, unwrap_or}
 use Rattle.gm_syntax.specs.Words.{Word}
 use Rattle.gm_syntax.specs.Document.{Line, Blank, Comment, Open, Close, Entry}
 use Rattle.gm_syntax.specs.Layout.{filled_lines}
-use Rattle.gm_file.specs.Directives.{Strict, Directive, directives, item_at, said, with_blocks_from}
+use Rattle.gm_file.specs.Directives.{Strict, Directive, directives, item_at, directive_said, with_blocks_from}
 use Rattle.gm_file.specs.Faults.{fault_of, go_in, is_module}
 use Rattle.gm_file.specs.Fields.{as_exclusion, as_go, as_module, as_replacing, as_requirement, first}
 use Rattle.gm_file.specs.Pairwise.{IsRightAlone}
@@ -35,14 +35,14 @@ filled_alone block (Open verb suffix ∷ lines) are = (are.0, filled_alone (Some
 filled_alone block (Close suffix ∷ lines) are = (are.0, filled_alone None lines are.1)
 filled_alone block (Entry words suffix ∷ lines) are = (are.0, filled_alone block lines are.1)
 
-said_filled : (block : Option Word) (lines : List (Line Word)) → filter_map (said Strict) (with_blocks_from block (filled_lines lines)) ≡ filter_map (said Strict) (with_blocks_from block lines)
+said_filled : (block : Option Word) (lines : List (Line Word)) → filter_map (directive_said Strict) (with_blocks_from block (filled_lines lines)) ≡ filter_map (directive_said Strict) (with_blocks_from block lines)
 unfolding filled_lines item_at
 said_filled block [] = refl
 said_filled block (Blank ∷ lines) = said_filled block lines
 said_filled block (Comment text ∷ lines) = said_filled block lines
 said_filled block (Open verb suffix ∷ lines) = said_filled (Some verb) lines
 said_filled block (Close suffix ∷ lines) = said_filled None lines
-said_filled block (Entry words suffix ∷ lines) = ap (cons_option (said Strict (block, Entry words suffix))) (said_filled block lines)
+said_filled block (Entry words suffix ∷ lines) = ap (cons_option (directive_said Strict (block, Entry words suffix))) (said_filled block lines)
 
 -- what these directives say as those of a main file
 abbrev pub main_said : List Directive → Main
@@ -58,7 +58,7 @@ main_said ds = record {
 
 module _ (lines again : List (Line Word)) (same : filled_lines again ≡ filled_lines lines) where
   pub same_said : directives Strict again ≡ directives Strict lines
-  same_said = sym (said_filled None again) ∙ ap (λ (ls : List (Line Word)). filter_map (said Strict) (with_blocks_from None ls)) same ∙ said_filled None lines
+  same_said = sym (said_filled None again) ∙ ap (λ (ls : List (Line Word)). filter_map (directive_said Strict) (with_blocks_from None ls)) same ∙ said_filled None lines
 
   pub no_fault_again : fault_of Strict lines ≡ None → fault_of Strict again ≡ None
   no_fault_again none =

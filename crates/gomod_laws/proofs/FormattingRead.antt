@@ -10,16 +10,16 @@ use Rattle.gm_syntax.specs.Words.{Word}
 use Rattle.gm_syntax.proofs.OneText.{reading_parsed}
 use Rattle.gm_syntax.proofs.Readings.{reading_of}
 use Rattle.gm_syntax.proofs.Stable.{is_stable}
-use Rattle.gm_file_edit.specs.NewWords.{unplaced}
+use Rattle.gm_file_edit.specs.NewWords.{unplaced_word}
 use Rattle.gomod_run.proofs.FolderNames.{read_document}
 
 -- ---- lines whose words have no places
 
-plain_words : (words : List Word) → map (λ (t : Placed). t.word) (map unplaced words) ≡ words
+plain_words : (words : List Word) → map (λ (t : Placed). t.word) (map unplaced_word words) ≡ words
 plain_words [] = refl
 plain_words (w ∷ words) = ap (λ (ws : List Word). w ∷ ws) (plain_words words)
 
-plain_line : (line : Line Word) → plain (map_line unplaced line) ≡ line
+plain_line : (line : Line Word) → plain (map_line unplaced_word line) ≡ line
 plain_line Blank = refl
 plain_line (Comment text) = refl
 plain_line (Open verb suffix) = refl
@@ -27,7 +27,7 @@ plain_line (Close suffix) = refl
 plain_line (Entry words suffix) = ap (λ (ws : List Word). Entry ws suffix) (plain_words words)
 
 abbrev pub placeless : List (Line Word) → List (Line Placed)
-placeless lines = map (λ (line : Line Word). map_line unplaced line) lines
+placeless lines = map (λ (line : Line Word). map_line unplaced_word line) lines
 
 pub plain_placeless : (lines : List (Line Word)) → plain_lines (placeless lines) ≡ lines
 plain_placeless [] = refl

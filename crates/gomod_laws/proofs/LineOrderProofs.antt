@@ -5,7 +5,7 @@ use Rattle.gm_store_sums.specs.Sums.{Sums}
 use Rattle.gm_file.specs.Main.{Main, IsMainFile}
 use Rattle.gm_graph.specs.declared.fault.Fault.{Fault}
 use Rattle.gm_graph.specs.Run.{AreTooMany, IsDue, Run, run_of}
-use Rattle.gomod_run.specs.Outcomes.{Answers, AreFound, FilesReadAs, bad_main, bad_sums, device, faulty, given, no_fault, too_many}
+use Rattle.gomod_run.specs.Outcomes.{Answers, AreFound, FilesReadAs, bad_main, bad_sums, device, faulty, given_of, no_fault, too_many}
 use Rattle.gomod_run.specs.Outcome.{Outcome}
 use Rattle.gomod_run.specs.Runs.{PrintsOf}
 use Rattle.gomod_run.proofs.OneRead.{misread_or_main, one_main}
@@ -33,7 +33,7 @@ module _ (file other : List ℕ) (sums : Option (List ℕ)) (m n : Main) (is : I
     also_read : FilesReadAs other sums n table
     also_read = record { main_file = also; sums = read.sums }
 
-    same_found : (faults : List Fault) → AreFound (given file sums told) again table faults → AreFound (given other sums told) n table faults
+    same_found : (faults : List Fault) → AreFound (given_of file sums told) again table faults → AreFound (given_of other sums told) n table faults
     same_found faults found = found_to file other sums sums told again n table table alike found.settled.read also_read faults found
 
     same_due : (name : Name) → IsDue one name → IsDue two name

@@ -2,7 +2,7 @@
 use Rattle.std.proofs.Common.{◌≡◌, ℕ, List, [], true, Option, refl}
 use Rattle.gm_store.specs.Asked.{Name, Reply}
 use Rattle.gomod_run.specs.ListingLaws.{AnswerAlike}
-use Rattle.gomod_run.specs.Outcomes.{Answers, QueryEnds, answers, given}
+use Rattle.gomod_run.specs.Outcomes.{Answers, QueryEnds, answers_of, given_of}
 use Rattle.gomod_run.specs.Outcome.{Outcome}
 use Rattle.gomod_words.specs.declared.usage.Command.{Command}
 use Rattle.gomod_run.specs.Runs.{PrintsOf, is_query}
@@ -13,11 +13,11 @@ use Rattle.gomod_laws.proofs.RunsAlike.{one_end}
 
 -- each outcome of a query over the one file is also one over the other
 abbrev pub QueriesMove : List ℕ → List ℕ → Option (List ℕ) → Type 0
-QueriesMove file other sums = (command : Command) (told : Answers) (outcome : Outcome) → QueryEnds (PrintsOf command) (given file sums told) outcome → QueryEnds (PrintsOf command) (given other sums told) outcome
+QueriesMove file other sums = (command : Command) (told : Answers) (outcome : Outcome) → QueryEnds (PrintsOf command) (given_of file sums told) outcome → QueryEnds (PrintsOf command) (given_of other sums told) outcome
 
 pub same_outcome : (command : Command) (file other : List ℕ) (sums : Option (List ℕ)) (asked answered : List (Name × Reply)) (a b : Outcome) → is_query command ≡ true → QueriesMove file other sums → AnswerAlike asked answered
     → Ends command file sums asked a → Ends command other sums answered b → a ≡ b
 same_outcome command file other sums asked answered a b query moves alike one two =
     one_end command query (run_over other sums asked) (run_over other sums answered) a b (record { file = refl; sums = refl; answers = alike; failed = refl })
-    (moves command (answers asked []) a (query_ends (run_over file sums asked) a command query one))
+    (moves command (answers_of asked []) a (query_ends (run_over file sums asked) a command query one))
     (query_ends (run_over other sums answered) b command query two)

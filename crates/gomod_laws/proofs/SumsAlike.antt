@@ -14,9 +14,9 @@ use Rattle.gm_graph.specs.Reading.{IsFileReading, class_of_sum, file_of, is_aska
 use Rattle.gm_graph.specs.Run.{AreTooMany, FileSays, IsNeeded, IsRead, IsSettled, Run, answered, run_of, unaskable}
 use Rattle.gm_graph.proofs.RunLemmas.{RequiresToo, asked_answered, many_too}
 use Rattle.gomod_run.specs.ListingLaws.{AnswerAlike}
-use Rattle.gomod_run.specs.Outcomes.{AreFound, AreSums, answers, bad_main, bad_sums, device, faulty, longest, no_fault, too_many}
+use Rattle.gomod_run.specs.Outcomes.{AreFound, AreSums, answers_of, bad_main, bad_sums, device, faulty, longest, no_fault, too_many}
 use Rattle.gomod_run.specs.Needs.{GraphNeeds}
-use Rattle.gomod_run.specs.Outcome.{Outcome, refused}
+use Rattle.gomod_run.specs.Outcome.{Outcome, report_of}
 use Rattle.gomod_run.specs.Reports.{too_many_line}
 use Rattle.gomod_run.specs.Runs.{is_query}
 use Rattle.gomod_run.proofs.OneRead.{misread_or_main, misread_or_sums, one_main, one_says}
@@ -103,7 +103,7 @@ module _ (main one other : List ℕ) (asked others : List (Name × Reply)) (alik
   found_too : (faults : List Fault) → AreFound (run_over main (Some one) asked) said (Some t) faults
       → AreFound (run_over main (Some other) asked) said (Some u) faults
   found_too faults found =
-      found_to main main (Some one) (Some other) (answers asked []) said said (Some t) (Some u) (alike_with found.settled.read) (read_too found.settled)
+      found_to main main (Some one) (Some other) (answers_of asked []) said said (Some t) (Some u) (alike_with found.settled.read) (read_too found.settled)
       (record { main_file = is_main; sums = tells }) faults found
 
   -- what the first run opens the second opens, if it has found all
@@ -135,7 +135,7 @@ module _ (command : Command) (query : is_query command ≡ true) (main one other
     (alike : AnswerAlike asked others) (are : HaveSameSums main one other asked) (be : QueryEndsOver command main (Some other) others b) where
   -- if the first run opens too many modules, so does the second
   module _ (said : Main) (t : Sums) (is_main : IsMainFile main said) (reads : AreSums (Some one) (Some t)) (read : IsRead (run_of said (Some t) asked))
-      (many : AreTooMany (run_of said (Some t) asked)) (says : a ≡ refused too_many_line) where
+      (many : AreTooMany (run_of said (Some t) asked)) (says : a ≡ report_of too_many_line) where
     not_found : (again : Main) (v : Option Sums) (faults : List Fault) → AreFound (run_over main (Some other) others) again v faults → ⊥
     not_found again None faults found = found.read.sums
     not_found again (Some v) faults found =

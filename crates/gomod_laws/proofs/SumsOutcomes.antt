@@ -6,7 +6,7 @@ use Rattle.gm_file.specs.Main.{Main, IsMainFile}
 use Rattle.gm_graph.specs.declared.fault.Fault.{Fault}
 use Rattle.gm_graph.specs.Run.{IsRead, Run, run_of}
 use Rattle.gomod_run.specs.ListingLaws.{AnswerAlike}
-use Rattle.gomod_run.specs.Outcomes.{AreFound, AreSums, FilesReadAs, QueryEnds, answers, bad_main, bad_sums, device, faulty, longest, no_fault, too_many}
+use Rattle.gomod_run.specs.Outcomes.{AreFound, AreSums, FilesReadAs, QueryEnds, answers_of, bad_main, bad_sums, device, faulty, longest, no_fault, too_many}
 use Rattle.gomod_run.specs.Needs.{GraphNeeds}
 use Rattle.gomod_run.specs.Outcome.{Outcome}
 use Rattle.gomod_run.specs.Runs.{PrintsOf, is_query}
@@ -37,7 +37,7 @@ module _ (command : Command) (query : is_query command ≡ true) (main sums : Li
       let (said, table, found, shows) = printed_run (PrintsOf command) (run_over main (Some sums) asked) one is prints in
       let alike = alike_unchecked said table asked found.settled found.faults_are in
       no_fault said None
-      (found_to main main (Some sums) None (answers asked []) said said table None alike
+      (found_to main main (Some sums) None (answers_of asked []) said said table None alike
       (read_unchecked said table asked found.settled found.faults_are)
       (record { main_file = found.read.main_file; sums = tt }) [] found)
       (prints_to (run_of said table asked) (run_of said None asked) alike command one shows)
@@ -119,7 +119,7 @@ module _ (main sums : List ℕ) (asked : List (Name × Reply)) (right : AreRight
   found_checked : (faults : List Fault) → AreFound (run_over main None asked) said None faults
       → AreFound (run_over main (Some sums) asked) said (Some table) faults
   found_checked faults found =
-      found_to main main None (Some sums) (answers asked []) said said None (Some table) (alike_checked found.settled.read)
+      found_to main main None (Some sums) (answers_of asked []) said said None (Some table) (alike_checked found.settled.read)
       (read_checked said table asked found.settled.read) checked_files faults found
 
 module _ (command : Command) (query : is_query command ≡ true) (main sums : List ℕ) (asked others : List (Name × Reply))

@@ -4,8 +4,8 @@ use Rattle.gm_name.specs.ModuleVersion.{ModuleVersion}
 use Rattle.gm_store.specs.Asked.{Name, Reply, mod_file, absent, bytes}
 use Rattle.gm_file.specs.Main.{Main, IsMainFile}
 use Rattle.gm_graph.specs.Reading.{IsFileReading}
-use Rattle.gomod_run.specs.Outcomes.{Given, ListEnds, answers, given}
-use Rattle.gomod_run.specs.Outcome.{Outcome, failed, printed, refused}
+use Rattle.gomod_run.specs.Outcomes.{Given, ListEnds, answers_of, given_of}
+use Rattle.gomod_run.specs.Outcome.{Outcome, failure_of, output_of, report_of}
 use Rattle.gomod_laws.specs.ExampleWorld.{saying, top_one}
 
 abbrev pub alone : List ℕ
@@ -22,7 +22,7 @@ low_name = mod_file (codes "low.org") (codes "v1.0.0")
 
 -- a run over these bytes without a go.sum
 abbrev pub run_of : List ℕ → List (Name × Reply) → List Name → Given
-run_of file asked refusals = given file None (answers asked refusals)
+run_of file asked refusals = given_of file None (answers_of asked refusals)
 
 -- a main module m without a go version that requires these modules
 abbrev pub main_requiring : List ModuleVersion → Main
@@ -38,23 +38,23 @@ pub record FilesAreRead : Type 0 where
 
 -- A module that requires nothing is listed alone, and nothing else is an outcome.
 pub record IsListedAlone : Type 0 where
-  pub listed : ListEnds None None (run_of alone [] []) (printed (codes "m\n"))
+  pub listed : ListEnds None None (run_of alone [] []) (output_of (codes "m\n"))
   pub only : (outcome : Outcome) → ListEnds None None (run_of alone [] []) outcome
-      → outcome ≡ printed (codes "m\n")
+      → outcome ≡ output_of (codes "m\n")
 
 -- The empty file declares no module.
 abbrev pub EmptyIsRefused : Type 0
-EmptyIsRefused = ListEnds None None (run_of [] [] []) (refused (codes "go.mod:0: NoModule\n"))
+EmptyIsRefused = ListEnds None None (run_of [] [] []) (report_of (codes "go.mod:0: NoModule\n"))
 
 -- a run over `alone` and a go.sum with a line of two fields
 abbrev pub run_with_bad_sum : Given
-run_with_bad_sum = given alone (Some (codes "a b\n")) (answers [] [])
+run_with_bad_sum = given_of alone (Some (codes "a b\n")) (answers_of [] [])
 
 -- The line is reported, and nothing else is an outcome: a bad go.sum is refused, though no file needs it.
 pub record BadSumIsRefused : Type 0 where
-  pub reported : ListEnds None None run_with_bad_sum (refused (codes "go.sum:1: BadSum\n"))
+  pub reported : ListEnds None None run_with_bad_sum (report_of (codes "go.sum:1: BadSum\n"))
   pub only : (outcome : Outcome) → ListEnds None None run_with_bad_sum outcome
-      → outcome ≡ refused (codes "go.sum:1: BadSum\n")
+      → outcome ≡ report_of (codes "go.sum:1: BadSum\n")
 
 -- given these answers, `list` on the two lines has no outcome
 abbrev pub HasNoOutcome : List (Name × Reply) → List Name → Type 0
@@ -64,9 +64,9 @@ HasNoOutcome asked refusals = (outcome : Outcome) → ¬ (ListEnds None None (ru
 -- there is no outcome.
 pub record RequiredIsAsked : Type 0 where
   pub missing : ListEnds None None (run_of requiring ((top_name, absent) ∷ []) [])
-      (refused (codes "top.org@v1.0.0: Missing\n"))
+      (report_of (codes "top.org@v1.0.0: Missing\n"))
   pub device : ListEnds None None (run_of requiring [] (top_name ∷ []))
-      (failed (codes "gomod: device at top.org@v1.0.0\n"))
+      (failure_of (codes "gomod: device at top.org@v1.0.0\n"))
   pub unasked : HasNoOutcome [] []
   -- nor if the device failed on a file that no opened module has, or on one that was answered: `IsDue` asks for both
   pub undue : HasNoOutcome [] (low_name ∷ [])

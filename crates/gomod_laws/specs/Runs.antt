@@ -2,10 +2,10 @@
 use Rattle.std.specs.Prelude.{◌≡◌, ℕ, List, [], Option, None, String}
 use Rattle.std.specs.Global.{Global, Vec}
 use Rattle.gm_store.specs.Asked.{Name, Reply}
-use Rattle.gomod_run.specs.Outcome.{Outcome, printed}
+use Rattle.gomod_run.specs.Outcome.{Outcome, output_of}
 use Rattle.gomod_words.specs.declared.usage.Command.{Command}
 use Rattle.gomod_words.specs.declared.usage.Command.TheVariants.{Edit}
-use Rattle.gomod_run.specs.Outcomes.{answers, given}
+use Rattle.gomod_run.specs.Outcomes.{answers_of, given_of}
 use Rattle.gomod_run.specs.Runs.{RunEnds}
 use Rattle.std.specs.Str.{IsUtf8}
 
@@ -13,7 +13,7 @@ use Rattle.std.specs.Str.{IsUtf8}
 -- answers and whose device did not fail, has this outcome, as the clause `ends` of `run` states it: its text is UTF-8.
 abbrev pub HasOutcome : Command → List ℕ → Option (List ℕ) → List (Name × Reply) → Outcome → Type 0
 HasOutcome command main sums asked outcome =
-    RunEnds command (given main sums (answers asked [])) outcome × IsUtf8 outcome.text
+    RunEnds command (given_of main sums (answers_of asked [])) outcome × IsUtf8 outcome.text
 
 -- the command prints: its status is 0, and nothing is reported
 abbrev pub HasPrinted : Outcome → Type 0
@@ -21,4 +21,4 @@ HasPrinted outcome = outcome.status ≡ 0
 
 -- `edit` with these operations prints this text of a file with these bytes
 abbrev pub IsEdited : Vec (String Global) → List ℕ → List ℕ → Type 0
-IsEdited operations file text = HasOutcome (Edit operations) file None [] (printed text)
+IsEdited operations file text = HasOutcome (Edit operations) file None [] (output_of text)

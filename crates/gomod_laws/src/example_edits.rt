@@ -19,7 +19,7 @@ pub fn setting_rewrites_the_first()
     ensures { SettingRewritesTheFirst }
 {}
 
-/// `added`: a new exclusion stands after the last one, in its block; a first requirement after a blank line at the
+/// `with_addition`: a new exclusion stands after the last one, in its block; a first requirement after a blank line at the
 /// end.
 pub fn additions_have_a_place()
     ensures block { AdditionGoesIntoTheBlock }

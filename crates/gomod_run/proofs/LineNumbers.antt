@@ -14,7 +14,7 @@ use Rattle.gm_syntax.specs.Parsed.{IsParsedAs}
 use Rattle.gm_syntax.specs.Tokens.{Placed}
 use Rattle.gm_syntax.proofs.Lines.{lines_cut, lines_more, lines_nil}
 use Rattle.gm_file.specs.declared.fault.DirectiveKind.{DirectiveKind}
-use Rattle.gm_file.specs.Directives.{Lax, LineInBlock, Mode, item_at, said, with_blocks}
+use Rattle.gm_file.specs.Directives.{Lax, LineInBlock, Mode, item_at, directive_said, with_blocks}
 use Rattle.gm_file.specs.Faults.{Fault, fault_of, faults, faults_after, first_of, item_kinds, precedes, with_before_from}
 use Rattle.gm_file.proofs.Snoc.{length-with_blocks}
 use Rattle.gm_graph.proofs.Mapped.{from_mapped}
@@ -70,7 +70,7 @@ placed_few mode before (seat ∷ seats) one there =
     let next = before ++ seat ∷ [] in
     let size : length next ≡ length before + 1 = length-append before (seat ∷ []) in
     elim (Contains-append_cases (faults_after mode (before, seat)) (flat_map (faults_after mode) (with_before_from next seats)) one there) [
-      | inl here ↦ (let (kind, inside, is) = from_mapped (λ (kind : DirectiveKind). (length before + 1, kind)) (item_kinds mode (filter_map (said mode) before) (item_at seat)) one here in
+      | inl here ↦ (let (kind, inside, is) = from_mapped (λ (kind : DirectiveKind). (length before + 1, kind)) (item_kinds mode (filter_map (directive_said mode) before) (item_at seat)) one here in
           let number : length before + 1 ≡ one.0 = ap (λ (f : Fault). f.0) is in
           omega (arith, number))
       | inr later ↦ (let rest = placed_few mode next seats one later in omega (arith, size, rest))

@@ -17,8 +17,8 @@ use Rattle.gomod_words.specs.declared.usage.Command.TheVariants.{Fmt, Edit, Vers
 use Rattle.gomod_words.specs.declared.usage.Places.{Places}
 use Rattle.gomod_words.specs.declared.usage.UsageFault.{UsageFault}
 use Rattle.gomod_words.specs.declared.usage.UsageFault.TheVariants as usage
-use Rattle.gomod_run.specs.Outcomes.{Answers as Told, answers, given, longest}
-use Rattle.gomod_run.specs.Outcome.{Outcome, code_of, failed, out_of_memory, printed}
+use Rattle.gomod_run.specs.Outcomes.{Answers as Told, answers_of, given_of, longest}
+use Rattle.gomod_run.specs.Outcome.{Outcome, code_of, failure_of, out_of_memory, output_of}
 use Rattle.gomod_run.specs.Reports.{cannot_read_line}
 use Rattle.gomod_run.specs.declared.ending.Ending.{Ending}
 use Rattle.gomod_run.specs.declared.ending.Ending.TheVariants.{Run, Usage}
@@ -31,8 +31,8 @@ usage_error text = record { text = []; report = text; status = 2 }
 -- a usage error, or a request for help or the version
 abbrev pub usage_outcome : UsageFault → Outcome
 usage_outcome usage.NoMemory = out_of_memory
-usage_outcome (usage.Help text) = printed (string_bytes text)
-usage_outcome (usage.Version text) = printed (string_bytes text)
+usage_outcome (usage.Help text) = output_of (string_bytes text)
+usage_outcome (usage.Version text) = output_of (string_bytes text)
 usage_outcome (usage.Line text) = usage_error (string_bytes text)
 usage_outcome (usage.BadPath text) = usage_error (codes "gomod: bad path " ++ string_bytes text ++ codes "\n")
 usage_outcome (usage.BadProxy text) = usage_error (codes "gomod: bad proxy " ++ string_bytes text ++ codes "\n")
@@ -40,7 +40,7 @@ usage_outcome (usage.BadProxy text) = usage_error (codes "gomod: bad proxy " ++ 
 -- the file or device with this name could not be read
 abbrev pub unread_outcome : List ℕ → InputFault → Outcome
 unread_outcome name reading.NoMemory = out_of_memory
-unread_outcome name reading.Device = failed (cannot_read_line name)
+unread_outcome name reading.Device = failure_of (cannot_read_line name)
 
 -- the result of reading the file or device with this name: the outcome over its bytes, or the report
 abbrev pub IsReadOutcome : List ℕ → (List ℕ → Outcome → Type 0) → Result (Vec ℕ) InputFault → Outcome → Type 0
@@ -55,7 +55,7 @@ AreOfOneFile file content asked = (name : Name) (reply : Reply) → Contains ask
 -- `versions PATH` without proxy folders: over the list that was read from standard input
 abbrev pub IsInputOutcome : Command → List ℕ → List ℕ → Outcome → Type 0
 IsInputOutcome command path list outcome = (asked : List (Name × Reply)) × AreOfOneFile (list_file path) list asked
-    × RunEnds command (given [] None (answers asked [])) outcome
+    × RunEnds command (given_of [] None (answers_of asked [])) outcome
 
 -- In what follows `may_open` relates a path to what may come of opening the file there, and `may_take` says what may
 -- come of taking standard input.
@@ -83,7 +83,7 @@ MayBeTold may_open main (Some folders) told = (name : Name) (reply : Reply) → 
 -- a command over the bytes of the main file, those of a go.sum if one is given, and what a store may answer
 abbrev pub IsStoreRun : (Told → Type 0) → Command → List ℕ → Option (List ℕ) → Outcome → Type 0
 IsStoreRun may_be_told command main sums outcome = (told : Told) × may_be_told told
-    × RunEnds command (given main sums told) outcome
+    × RunEnds command (given_of main sums told) outcome
 
 -- `versions PATH` without proxy folders: standard input is read as the module's list, or can't be
 abbrev pub IsInputServed : (Opening → Type 0) → Command → List ℕ → Outcome → Type 0
@@ -124,7 +124,7 @@ IsQueryServed may_open command places outcome = (folder : List ℕ) × IsFolderO
 abbrev pub IsFileServed : (List ℕ → Opening → Type 0) → Command → List ℕ → Outcome → Type 0
 IsFileServed may_open command name outcome = (read : Result (Vec ℕ) InputFault)
     × MayRead (may_open name) read
-    × IsReadOutcome name (λ main outcome. RunEnds command (given main None (answers [] [])) outcome) read outcome
+    × IsReadOutcome name (λ main outcome. RunEnds command (given_of main None (answers_of [] [])) outcome) read outcome
 
 -- a command over the files that the words name, or over standard input
 abbrev pub IsServed : (List ℕ → Opening → Type 0) → (Opening → Type 0) → Command → Places → Outcome → Type 0
@@ -156,7 +156,7 @@ IsOutcomeUnless may_open may_take words (Some unreadable) outcome =
 -- are known.
 abbrev pub IsProgramOutcome : (List ℕ → Opening → Type 0) → (Opening → Type 0) → Option (List (List ℕ)) → Outcome
     → Type 0
-IsProgramOutcome may_open may_take given outcome = (words : List (List ℕ)) × AreGiven given words
+IsProgramOutcome may_open may_take given_of outcome = (words : List (List ℕ)) × AreGiven given_of words
     × IsOutcomeUnless may_open may_take words (first_unreadable words) outcome
 
 -- the exit status of an ending
@@ -166,6 +166,6 @@ ending_code Usage = 2
 
 -- the exit status: that of the program's outcome, or 3 if memory runs out or an output fails
 abbrev pub IsProgramStatus : (List ℕ → Opening → Type 0) → (Opening → Type 0) → Option (List (List ℕ)) → ℕ → Type 0
-IsProgramStatus may_open may_take given status =
-    ((outcome : Outcome) × IsProgramOutcome may_open may_take given outcome × (status ≡ outcome.status))
+IsProgramStatus may_open may_take given_of status =
+    ((outcome : Outcome) × IsProgramOutcome may_open may_take given_of outcome × (status ≡ outcome.status))
     ⊎ (status ≡ 3)

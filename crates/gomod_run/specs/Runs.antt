@@ -11,8 +11,8 @@ use Rattle.gm_syntax.specs.Parsed.{IsParsedAs}
 use Rattle.gm_syntax.specs.Tokens.{Placed}
 use Rattle.gomod_run.specs.declared.listing.query.Query.{Query}
 use Rattle.gomod_run.specs.declared.listing.query.Query.TheVariants as query
-use Rattle.gomod_run.specs.Outcome.{OrNoMemory, Outcome, failed, printed, refused}
-use Rattle.gomod_run.specs.Outcomes.{Answers, ChainEnds, Given, GraphEnds, ListEnds, Prints, PrintsChain, PrintsGraph, PrintsList, answers, given}
+use Rattle.gomod_run.specs.Outcome.{OrNoMemory, Outcome, failure_of, output_of, report_of}
+use Rattle.gomod_run.specs.Outcomes.{Answers, ChainEnds, Given, GraphEnds, ListEnds, Prints, PrintsChain, PrintsGraph, PrintsList, answers_of, given_of}
 use Rattle.gomod_run.specs.Reports.{FaultPlace, device_line, main_line, syntax_place}
 use Rattle.gomod_run.specs.Needs.{AnsweredAll, AnswersByName, AskedInTurn, FailsInTurn, GraphNeeds}
 use Rattle.gomod_words.specs.Usage.{texts_in}
@@ -49,9 +49,9 @@ command_of (query.Chain path) = Chain path.now
 -- layout of the document is printed.
 pub data FmtEnds (file : List ℕ) (outcome : Outcome) : Type 0 where
   bad_syntax : (fault : SyntaxFault) (place : FaultPlace) → IsParsedAs file (Err fault)
-      → syntax_place fault ≡ Some place → outcome ≡ refused (main_line place) → FmtEnds file outcome
+      → syntax_place fault ≡ Some place → outcome ≡ report_of (main_line place) → FmtEnds file outcome
   laid_out : (lines : List (Line Placed)) → IsParsedAs file (Ok lines)
-      → outcome ≡ printed (layout (plain_lines lines)) → FmtEnds file outcome
+      → outcome ≡ output_of (layout (plain_lines lines)) → FmtEnds file outcome
 
 -- how a run of a command ends, if memory doesn't run out
 abbrev pub RunEnds : Command → Given → Outcome → Type 0
@@ -64,20 +64,20 @@ RunEnds (Chain path) run outcome = ChainEnds path run outcome
 
 -- what a store that had not been asked before was asked in a run, with its answers, and where its device failed
 abbrev pub told_between : StoreState → StoreState → Answers
-told_between old new = answers new.asked (drop (length old.refused) new.refused)
+told_between old new = answers_of new.asked (drop (length old.refused) new.refused)
 
 -- the run over these bytes and such a store
 abbrev pub run_between : List ℕ → Option (List ℕ) → StoreState → StoreState → Given
-run_between main sums old new = given main sums (told_between old new)
+run_between main sums old new = given_of main sums (told_between old new)
 
 -- ---- however a run ends
 
 -- the files that a command needs, given the answers so far
 abbrev pub Needs : Command → List ℕ → Option (List ℕ) → AnswersByName → Name → Type 0
-Needs Fmt main sums answers name = ⊥
-Needs (Edit operations) main sums answers name = ⊥
-Needs (Versions path all) main sums answers name = VersionsNeed path all answers name
-Needs _ main sums answers name = GraphNeeds main sums answers name
+Needs Fmt main sums answers_of name = ⊥
+Needs (Edit operations) main sums answers_of name = ⊥
+Needs (Versions path all) main sums answers_of name = VersionsNeed path all answers_of name
+Needs _ main sums answers_of name = GraphNeeds main sums answers_of name
 
 -- What holds however a run of a command ends, with this status and these reports. `before` says which answers its store
 -- might give before the run, `after` which ones it may give after it.
@@ -94,7 +94,7 @@ pub record HoldsAtAnyEnd (command : Command) (main : List ℕ) (sums : Option (L
   -- its failures rises in this run, or stood at its maximum before it; the count never falls.
   pub served : HasServed before after old new
   -- If the device failed at a file, that is reported, whatever the memory.
-  pub device : (name : Name) → new.refused ≡ old.refused ++ name ∷ [] → reports (failed (device_line name))
+  pub device : (name : Name) → new.refused ≡ old.refused ++ name ∷ [] → reports (failure_of (device_line name))
   -- If `versions` can't have a list, has none, or one that is too long, that is reported, whatever the memory.
   pub no_list : (path : List ℕ) (all : Bool) (outcome : Outcome) → command ≡ Versions path all
       → IsRefusedList path (answer_in new.asked) outcome → reports outcome

@@ -49,14 +49,14 @@ fn number_of(modules: &mut ModuleList, x: &ModVer) -> Result<u32, NoMemory>
 impl<'a> Cache<'a> {
     ghost use Rattle.std.specs.Borrow.{sem};
     ghost use Rattle.std.specs.Prelude.{IfSome};
-    ghost use Rattle.gm_graph.specs.Cached.{AreRequirements, HoldsSame, IsKnownAs, IsLender, IsPlaceFor, Knows, KnowsLender, LendsKept, LendsNamed, LentSame, file_count, main_in, modules_in, numbered, run_in};
+    ghost use Rattle.gm_graph.specs.Cached.{AreRequirements, HoldsSame, IsKnownAs, IsLender, IsPlaceFor, Knows, KnowsLender, LendsKept, LendsNamed, LentSame, file_count, main_in, modules_in, module_numbered, run_in};
     ghost use Rattle.gm_graph.specs.CacheVisits.{KeepsSayings};
 
     /// The number of a module, which gets one if it has none. The only refusal is `NoMemory`.
     fn number(&mut self, x: &ModVer) -> Result<u32, NoMemory>
         requires { LendsKept self.old }
         ensures number { IfOk result (λ number. number < length (modules_in self.new)) }
-        ensures module { IfOk result (λ number. numbered self.new number ≡ x.now) }
+        ensures module { IfOk result (λ number. module_numbered self.new number ≡ x.now) }
         ensures holds { HoldsSame self.old self.new }
         ensures lent { LentSame self.old self.new }
         ensures files { file_count self.new ≡ file_count self.old }
@@ -101,11 +101,11 @@ impl<'a> Cache<'a> {
     /// if the file comes from a proxy and its path isn't fetchable.
     fn known_by(&self, number: u32, place: Option<u32>, name: FileName) -> Known
         requires vertex { number < length (modules_in self.now) }
-        requires place { IsPlaceFor self.now (numbered self.now number) place }
+        requires place { IsPlaceFor self.now (module_numbered self.now number) place }
         requires lends { LendsKept self.now }
-        requires name { name_of name ≡ file_of (main_in self.now) (numbered self.now number) }
+        requires name { name_of name ≡ file_of (main_in self.now) (module_numbered self.now number) }
         ensures { (pairs : List (Name × Reply)) → Knows self.now pairs
-            → IsKnownAs (run_in self.now pairs) (numbered self.now number) result }
+            → IsKnownAs (run_in self.now pairs) (module_numbered self.now number) result }
     {
         match self.said(number, Depth::Deep, place) {
             Visit::Fault(_, class) => Known::Fault(class),
@@ -117,9 +117,9 @@ impl<'a> Cache<'a> {
     /// fault.
     fn lender(&self, number: u32, name: Option<&FileName>) -> Option<u32>
         requires vertex { number < length (modules_in self.now) }
-        requires named { KnowsLender self.now (numbered self.now number) (option_map (λ n. name_of n.now) name) }
+        requires named { KnowsLender self.now (module_numbered self.now number) (option_map (λ n. name_of n.now) name) }
         ensures { (pairs : List (Name × Reply)) → Knows self.now pairs
-            → IsLender self.now (run_in self.now pairs) (numbered self.now number) result }
+            → IsLender self.now (run_in self.now pairs) (module_numbered self.now number) result }
     {
         match name {
             None => None,

@@ -1,6 +1,6 @@
 //! The requirements that a cache returns.
 
-ghost use Rattle.gm_name_table.specs.Listed.{listed};
+ghost use Rattle.gm_name_table.specs.Listed.{modules_of};
 ghost use Rattle.gm_graph.specs.Summaries.{IsWithinList};
 
 use crate::cache::summary::ListSpan;
@@ -13,7 +13,7 @@ pub struct Lent<'a> {
     modules: &'a ModuleList,
     /// Where the requirements are in it.
     span: ListSpan,
-    ghost within: { IsWithinList (listed modules.now) span },
+    ghost within: { IsWithinList (modules_of modules.now) span },
 }
 
 impl<'a> Lent<'a> {
@@ -26,8 +26,8 @@ impl<'a> Lent<'a> {
 
     /// The part of a list of modules at a span.
     pub(crate) fn at(modules: &'a ModuleList, span: ListSpan) -> Lent<'a>
-        requires { IsWithinList (listed modules.now) span }
-        ensures modules { lent_modules result ≡ at_span (listed modules.now) span }
+        requires { IsWithinList (modules_of modules.now) span }
+        ensures modules { lent_modules result ≡ at_span (modules_of modules.now) span }
         ensures table { lent_table result ≡ modules.now.modules }
     {
         Lent { modules, span }

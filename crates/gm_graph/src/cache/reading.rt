@@ -1,7 +1,7 @@
 //! From a store's answer to the contents of a dependency's file.
 
 ghost use Rattle.std.specs.Prelude.{◌≡◌, ◌≤◌, ◌<◌, ℕ, List, drop, length, Err, IfOk};
-ghost use Rattle.gm_name_table.specs.Listed.{listed};
+ghost use Rattle.gm_name_table.specs.Listed.{modules_of};
 ghost use Rattle.gm_file.specs.Directives.{Lax};
 ghost use Rattle.gm_file.specs.Misreading.{IsBytesFault};
 ghost use Rattle.std.specs.Option.{option_copied};
@@ -103,7 +103,7 @@ pub(crate) fn read_answer(
 ) -> Result<ListedReading, NoMemory>
     ensures reading { IfOk result (λ read. IsWithinLimit (reply_of answer.now)
         → IsFileReading (option_copied sums.entry) (name_of name.now) (reply_of answer.now)
-        (listed_reading (drop (length modules.old.numbers) (listed modules.new)) read)) }
+        (listed_reading (drop (length modules.old.numbers) (modules_of modules.new)) read)) }
     ensures grows { Grows modules.old modules.new }
 {
     match answer {

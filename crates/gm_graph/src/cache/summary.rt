@@ -6,7 +6,7 @@
 ghost use Rattle.std.specs.Prelude.{◌≡◌, ◌≤◌, List, IfOk, OnOk, Some, drop, length};
 ghost use Rattle.std.specs.List.{list_any};
 ghost use Rattle.gm_name.specs.ModuleVersion.{ModuleVersion};
-ghost use Rattle.gm_name_table.specs.Listed.{Appends, listed};
+ghost use Rattle.gm_name_table.specs.Listed.{Appends, modules_of};
 ghost use Rattle.gm_file.specs.Listed.{with_requirements};
 ghost use Rattle.gm_file.specs.Main.{is_excluded, without_excluded, main_of};
 ghost use Rattle.gm_graph.specs.Reading.{leads_on};
@@ -100,8 +100,8 @@ pub(crate) fn summary_of(
 ) -> Result<Summary, NoMemory>
     requires { start ≤ length modules.old.numbers }
     ensures file { IfOk result (λ summary. summary.file ≡ file) }
-    ensures all { IfOk result (λ summary. at_span (listed modules.new) summary.all ≡ drop start (listed modules.old)) }
-    ensures kept { IfOk result (IsSummary (main_of main.now) (listed modules.new)) }
+    ensures all { IfOk result (λ summary. at_span (modules_of modules.new) summary.all ≡ drop start (modules_of modules.old)) }
+    ensures kept { IfOk result (IsSummary (main_of main.now) (modules_of modules.new)) }
     ensures grows { Grows modules.old modules.new }
 {
     let end = modules.len();

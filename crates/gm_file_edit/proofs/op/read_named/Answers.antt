@@ -2,7 +2,7 @@ use Rattle.std.proofs.Common.{◌≡◌, ℕ, List, codes, false, inl, inr, refl
 use Rattle.std.specs.Cmp.Lexicographic.{same_text}
 use Rattle.std.specs.Str.{bytes_eq}
 use Rattle.std.proofs.lemmas.Bool.{cases_Bool}
-use Rattle.gm_file_edit.specs.Edits.{named}
+use Rattle.gm_file_edit.specs.Edits.{edit_named}
 use Rattle.gm_file_edit.proofs.op.read_named.Goals as goal
 
 other-text : (text other : List ℕ) → (text ≡ other → ⊥) → bytes_eq text other ≡ false
@@ -12,7 +12,7 @@ other-text text other differ = elim (cases_Bool (bytes_eq text other)) [
 ]
 
 pub returns-in_default : goal.returns-in_default
-unfolding named
+unfolding edit_named
 returns-in_default c =
     let other = c.in_default in
     let name = c.args.name.now in

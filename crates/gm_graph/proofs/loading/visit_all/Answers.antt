@@ -3,7 +3,7 @@ use Rattle.gm_file.specs.Main.{Main}
 use Rattle.gm_store.specs.Asked.{Name, Reply}
 use Rattle.gm_store.proofs.Serving.{nothing_served, served_both}
 use Rattle.gm_graph.specs.Builder.{turns_of}
-use Rattle.gm_graph.specs.Cached.{main_in, modules_in, numbered, run_in, sums_in}
+use Rattle.gm_graph.specs.Cached.{main_in, modules_in, module_numbered, run_in, sums_in}
 use Rattle.gm_graph.specs.FileLists.{HaveFiles}
 use Rattle.gm_graph.specs.Reading.{file_of}
 use Rattle.gm_graph.specs.Refusals.{refused_names}
@@ -36,7 +36,7 @@ pub turns-preserved : goal.turns-preserved
 turns-preserved g c =
     let one = c.index-one.result.now in
     let modules = modules_in c.turns.cache in
-    let x = numbered c.turns.cache one.number in
+    let x = module_numbered c.turns.cache one.number in
     let below = turn_below modules c.turns.builder c.turns.at (omega arith) in
     let here = turn_here modules c.turns.builder c.turns.at one (omega arith) c.index-one.ensures in
     record {
@@ -77,7 +77,7 @@ returns-in_err-visit-clause-asks g c =
     let pairs = (g.F.Asks.state c.turns.files).asked in
     let longer = (g.F.Asks.state c.visit.new.files).asked in
     let modules = modules_in c.turns.cache in
-    let x = numbered c.turns.cache one.number in
+    let x = module_numbered c.turns.cache one.number in
     let below = turn_below modules c.turns.builder c.turns.at (omega arith) in
     let here = turn_here modules c.turns.builder c.turns.at one (omega arith) c.index-one.ensures in
     let state = c.turns.invariant.state in
@@ -91,7 +91,7 @@ returns-in_err-visit-clause-too_many g c = λ e.
     let pairs = (g.F.Asks.state c.turns.files).asked in
     let sums = sums_in c.args.cache.now in
     let longer = (g.F.Asks.state c.visit.new.files).asked in
-    let x = numbered c.turns.cache one.number in
+    let x = module_numbered c.turns.cache one.number in
     let modules = modules_in c.turns.cache in
     let below = turn_below modules c.turns.builder c.turns.at (omega arith) in
     let here = turn_here modules c.turns.builder c.turns.at one (omega arith) c.index-one.ensures in
@@ -105,7 +105,7 @@ returns-in_err-visit-clause-too_many g c = λ e.
 pub returns-in_err-visit-clause-device : goal.returns-in_err-visit-clause-device
 returns-in_err-visit-clause-device g c = λ name e.
     let one = c.index-one.result.now in
-    let x = numbered c.turns.cache one.number in
+    let x = module_numbered c.turns.cache one.number in
     let main = main_in c.args.cache.now in
     let sums = sums_in c.args.cache.now in
     let pairs = (g.F.Asks.state c.turns.files).asked in

@@ -2,7 +2,7 @@ use Rattle.std.proofs.Common.{◌≡◌, ◌++◌, ◌∷◌, ◌∙◌, [], Non
 use Rattle.gm_name.specs.ModuleVersion.{ModuleVersion}
 use Rattle.gm_graph.specs.declared.edge_lists.EdgeLists.{EdgeLists}
 use Rattle.gm_graph.specs.declared.graph_builder.GraphBuilder.{GraphBuilder}
-use Rattle.gm_graph.specs.Builder.{IsBuilder, KeepsTurns, built, edges_in, sources_in, turns_of}
+use Rattle.gm_graph.specs.Builder.{IsBuilder, KeepsTurns, graph_of, edges_in, sources_in, turns_of}
 use Rattle.gm_graph.specs.Building.{gathers}
 use Rattle.gm_graph.specs.EdgeLists.{KeepsLists}
 use Rattle.gm_graph.specs.Turns.{turn}
@@ -49,10 +49,10 @@ returns-clause-visited c = λ modules run is below at says.
     c.gathers-gathers.ensures modules is below ∙ ap (λ (v : ModuleVersion). gathers (turns_of modules old) (turn v d)) (sym at) in
     let notes = notes_fault modules old noted x (Some class) c.in_ok-note.ensures.turns c.in_ok-note.ensures.edges c.in_ok-note.ensures.faults in
     let opens = opens_leaf modules noted noted run x d class says (record { edges = refl; faults = refl }) refl in
-    let adds : AddsIf does (built modules noted) (built modules new) x [] = elim c.if-gathers.branch [
+    let adds : AddsIf does (graph_of modules noted) (graph_of modules new) x [] = elim c.if-gathers.branch [
       | then-gathers+in_ok-add_leaf w ↦
           let after = w.add_leaf.new.self in
-          subst (λ (b : GraphBuilder). AddsIf does (built modules noted) (built modules b) x []) (sym w.builder-is)
+          subst (λ (b : GraphBuilder). AddsIf does (graph_of modules noted) (graph_of modules b) x []) (sym w.builder-is)
           (adds_them modules noted after does x [] (sym adds_edges ∙ w.if-gathers.true)
           (w.in_ok-add_leaf.ensures.edges modules ∙ sym (append-nil (edges_in modules noted)))
           (w.in_ok-add_leaf.ensures.sources modules ∙ ap (λ (v : ModuleVersion). sources_in modules noted ++ Of v ∷ []) (sym at))
@@ -60,4 +60,4 @@ returns-clause-visited c = λ modules run is below at says.
       | else-gathers w ↦ adds_nothing modules noted new does x [] (sym adds_edges ∙ w.if-gathers.false) w.builder-is
     ] in
     visited run x d (Err class) says [] (requires_none run x class says)
-    (built modules old) (built modules noted) (built modules noted) (built modules new) notes opens adds
+    (graph_of modules old) (graph_of modules noted) (graph_of modules noted) (graph_of modules new) notes opens adds

@@ -7,7 +7,7 @@ use Rattle.gm_graph.specs.declared.edge_lists.EdgeLists.{EdgeLists}
 use Rattle.gm_graph.specs.declared.followed.Followed.{Followed}
 use Rattle.gm_graph.specs.declared.graph_builder.GraphBuilder.{GraphBuilder}
 use Rattle.gm_graph.specs.declared.graph_builder.NumberedTurn.{NumberedTurn}
-use Rattle.gm_graph.specs.Builder.{IsBuilder, built, edges_in, sources_in, turn_of, turns_of}
+use Rattle.gm_graph.specs.Builder.{IsBuilder, graph_of, edges_in, sources_in, turn_of, turns_of}
 use Rattle.gm_graph.specs.Building.{gathers}
 use Rattle.gm_graph.specs.EdgeLists.{numbers_of}
 use Rattle.gm_graph.specs.FileLists.{AddsFileList, HasNumbersOf}
@@ -113,19 +113,19 @@ returns-clause-visited c = λ run x at says.
     let adds_edges : c.gathers-gathers.result ≡ does =
     c.gathers-gathers.ensures table c.requires.builder c.requires.below
     ∙ ap (λ (v : ModuleVersion). gathers (turns_of table old) (turn v d)) (sym at) in
-    let opens : Opens run (built table old) (built table turned) x d = elim c.if-leads.branch [
+    let opens : Opens run (graph_of table old) (graph_of table turned) x d = elim c.if-leads.branch [
       | then-leads+in_ok-follow w ↦
           let after = w.follow.new.builder in
-          subst (λ (b : GraphBuilder). Opens run (built table old) (built table b) x d) (sym w.builder-is)
+          subst (λ (b : GraphBuilder). Opens run (graph_of table old) (graph_of table b) x d) (sym w.builder-is)
           (opens_all table old after run x d file says.says (sym leads ∙ w.if-leads.true) w.in_ok-follow.ensures.graph
           (subst (λ (zs : List ModuleVersion). AddsAll (turns_of table old) (turns_of table after) zs Deep) says.modules w.in_ok-follow.ensures.adds))
       | else-leads w ↦ opens_none table old turned run x d file says.says (sym leads ∙ w.if-leads.false) w.builder-is
     ] in
-    let adds : AddsIf does (built table turned) (built table new) x ys = elim c.if-gathers.branch [
+    let adds : AddsIf does (graph_of table turned) (graph_of table new) x ys = elim c.if-gathers.branch [
       | then-gathers+in_ok-add_edges w ↦
           let more = w.in_ok-add_edges.ensures in
           let after = w.add_edges.new.self in
-          subst (λ (b : GraphBuilder). AddsIf does (built table turned) (built table b) x ys) (sym w.builder-is)
+          subst (λ (b : GraphBuilder). AddsIf does (graph_of table turned) (graph_of table b) x ys) (sym w.builder-is)
           (adds_them table turned after does x ys (sym adds_edges ∙ w.if-gathers.true)
           (more.edges ∙ ap (λ (zs : List ModuleVersion). edges_in table turned ++ map (edge (Of (module_at table number))) zs) says.modules
           ∙ ap (λ (v : ModuleVersion). edges_in table turned ++ map (edge (Of v)) ys) (sym at))
@@ -134,4 +134,4 @@ returns-clause-visited c = λ run x at says.
       | else-gathers w ↦ adds_nothing table turned new does x ys (sym adds_edges ∙ w.if-gathers.false) w.builder-is
     ] in
     visited run x d (Ok file) says.says ys (required_of run x file says.says)
-    (built table old) (built table old) (built table turned) (built table new) (notes_none (built table old) x) opens adds
+    (graph_of table old) (graph_of table old) (graph_of table turned) (graph_of table new) (notes_none (graph_of table old) x) opens adds

@@ -8,8 +8,8 @@ use Rattle.gm_graph.specs.declared.cache.load_fault.LoadFault.TheVariants as loa
 use Rattle.gm_graph.specs.declared.cache.depth.Turn.{Turn}
 use Rattle.gm_graph.specs.declared.cache.visit.Visit.{Visit}
 use Rattle.gm_graph.specs.declared.graph_builder.NumberedTurn.{NumberedTurn}
-use Rattle.gm_graph.specs.Builder.{IsBuilder, built, turn_of, turns_of}
-use Rattle.gm_graph.specs.Cached.{main_in, modules_in, numbered, run_in, turns_in}
+use Rattle.gm_graph.specs.Builder.{IsBuilder, graph_of, turn_of, turns_of}
+use Rattle.gm_graph.specs.Cached.{main_in, modules_in, module_numbered, run_in, turns_in}
 use Rattle.gm_graph.specs.Followed.{AreFollowedIn}
 use Rattle.gm_graph.specs.Run.{Says}
 use Rattle.gm_graph.specs.CacheVisits.{HasVisited, LendsOver, table_of}
@@ -163,7 +163,7 @@ returns-in-Ok-Required-clause-files g c =
     let seen : HasVisited old earlier new pairs one.number one.depth c.in-Ok-Required.field-0 = rw c.in-Ok-Required.is at c.visit.follows.holds-at-none in
     let has = subst (λ (v : Visit). HasVisited old earlier new pairs one.number one.depth v) c.in-Ok-Required.field-0-is seen in
     on_ok_weaker c.add_requirements.result
-    (λ adds. have_files_more new (run_in new pairs) c.args.builder.now.edges c.add_requirements.new.builder.edges (numbered old one.number) one.depth c.in-Ok-Required.required has.visit_is
+    (λ adds. have_files_more new (run_in new pairs) c.args.builder.now.edges c.add_requirements.new.builder.edges (module_numbered old one.number) one.depth c.in-Ok-Required.required has.visit_is
     (have_files_known old new (run_in old earlier) (run_in new pairs) c.args.builder.now.edges has.continues has.continues.main has.stays has.sound c.requires.files) adds)
     c.add_requirements.ensures.files
 
@@ -177,10 +177,10 @@ returns-in-Ok-Required-clause-visited g c =
     let seen : HasVisited old earlier new pairs one.number one.depth c.in-Ok-Required.field-0 = rw c.in-Ok-Required.is at c.visit.follows.holds-at-none in
     let has = subst (λ (v : Visit). HasVisited old earlier new pairs one.number one.depth v) c.in-Ok-Required.field-0-is seen in
     let after = c.add_requirements.new.builder in
-    let x = numbered old one.number in
+    let x = module_numbered old one.number in
     on_ok_weaker c.add_requirements.result
     (λ visited. visited_by old new c.args.builder.now one has.continues c.requires.builder (run_in new pairs) after
-    (subst (λ (ms : List ModuleVersion). IsVisited (run_in new pairs) (built ms c.args.builder.now) (built ms after) x one.depth) has.visit_is.2 visited))
+    (subst (λ (ms : List ModuleVersion). IsVisited (run_in new pairs) (graph_of ms c.args.builder.now) (graph_of ms after) x one.depth) has.visit_is.2 visited))
     (c.add_requirements.ensures.visited (run_in new pairs) x
     (same_module old new one.number has.continues c.requires.below ∙ ap (λ (ms : List ModuleVersion). module_at ms one.number) (sym has.visit_is.2))
     has.visit_is.1)
@@ -194,7 +194,7 @@ returns-in-Ok-Required-clause-followed g c =
     let one = c.args.one in
     let seen : HasVisited old earlier new pairs one.number one.depth c.in-Ok-Required.field-0 = rw c.in-Ok-Required.is at c.visit.follows.holds-at-none in
     let has = subst (λ (v : Visit). HasVisited old earlier new pairs one.number one.depth v) c.in-Ok-Required.field-0-is seen in
-    let x = numbered old one.number in
+    let x = module_numbered old one.number in
     let required = c.in-Ok-Required.required in
     let table = table_of required in
     let before = c.args.builder.now in
@@ -280,7 +280,7 @@ returns-in-Ok-Fault-clause-visited g c =
     let is = has.visit_is.0 in
     on_ok_weaker c.add_fault.result
     (λ visited. visited_by old new before one has.continues c.requires.builder (run_in new pairs) after
-    (subst (λ (x : ModuleVersion). IsVisited (run_in new pairs) (built ms before) (built ms after) x one.depth) is visited))
+    (subst (λ (x : ModuleVersion). IsVisited (run_in new pairs) (graph_of ms before) (graph_of ms after) x one.depth) is visited))
     (c.add_fault.ensures.visited ms (run_in new pairs)
     (builder_over (modules_in old) ms before c.requires.builder has.continues.numbered has.distinct)
     (number_below (modules_in old) ms one.number has.continues.numbered c.requires.below)
@@ -297,7 +297,7 @@ load_fault-requires g c = λ is.
     let main = main_in c.args.cache.now in
     let before = g.F.Asks.state c.args.files.now in
     let after = g.F.Asks.state c.visit.new.files in
-    let x = numbered c.args.cache.now c.args.one.number in
+    let x = module_numbered c.args.cache.now c.args.one.number in
     let failed = c.visit.follows.lender-at-none.failed in
     let ended : (turns_in c.visit.follows.lender-at-none ≡ turns_in c.args.cache.now) × (c.in-Err.fault ≡ ask.Device → FailsFor main before after x failed) =
     rw c.in-Err.is at c.visit.follows.holds-at-none in
@@ -313,7 +313,7 @@ returns-in-Err-clause-device g c = λ name e.
     let main = main_in c.args.cache.now in
     let before = g.F.Asks.state c.args.files.now in
     let after = g.F.Asks.state c.visit.new.files in
-    let x = numbered c.args.cache.now c.args.one.number in
+    let x = module_numbered c.args.cache.now c.args.one.number in
     let failed = c.visit.follows.lender-at-none.failed in
     let ended : (turns_in c.visit.follows.lender-at-none ≡ turns_in c.args.cache.now) × (c.in-Err.fault ≡ ask.Device → FailsFor main before after x failed) =
     rw c.in-Err.is at c.visit.follows.holds-at-none in
@@ -325,7 +325,7 @@ returns-in-Err-clause-refused g c =
     let main = main_in c.args.cache.now in
     let before = g.F.Asks.state c.args.files.now in
     let after = g.F.Asks.state c.visit.new.files in
-    let x = numbered c.args.cache.now c.args.one.number in
+    let x = module_numbered c.args.cache.now c.args.one.number in
     let failed = c.visit.follows.lender-at-none.failed in
     let ended : (turns_in c.visit.follows.lender-at-none ≡ turns_in c.args.cache.now) × (c.in-Err.fault ≡ ask.Device → FailsFor main before after x failed) =
     rw c.in-Err.is at c.visit.follows.holds-at-none in

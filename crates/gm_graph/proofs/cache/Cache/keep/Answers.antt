@@ -1,6 +1,6 @@
 use Rattle.std.proofs.Common.{length, refl}
 use Rattle.gm_store.specs.Asked.{name_of}
-use Rattle.gm_graph.specs.Cached.{main_in, modules_in, numbered}
+use Rattle.gm_graph.specs.Cached.{main_in, modules_in, module_numbered}
 use Rattle.gm_graph.proofs.OwnFiles.{added_there, has_file, if_ok_both, is_file_of, on_err_weaker}
 use Rattle.gm_graph.proofs.Keeping.{holds_listed}
 use Rattle.gm_graph.proofs.cache.Cache.keep.Goals as goal
@@ -28,7 +28,7 @@ returns-clause-place c =
     let cache = c.args.self.now in
     let name = name_of c.args.name.now in
     if_ok_both c.add.result
-    (λ place there puts. has_file _ (numbered cache c.args.number) name c.args.kept place c.requires.file c.requires.askable there
+    (λ place there puts. has_file _ (module_numbered cache c.args.number) name c.args.kept place c.requires.file c.requires.askable there
     (added_there (modules_in cache) cache.files c.add.new.self name c.args.kept puts))
     c.add.ensures.place
     (c.add.ensures.adds (modules_in cache) (is_file_of cache c.args.number name c.module.ensures.distinct c.requires.vertex c.requires.file))

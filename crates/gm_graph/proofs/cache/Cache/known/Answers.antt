@@ -3,7 +3,7 @@ use Rattle.gm_name.specs.ModuleVersion.{ModuleVersion}
 use Rattle.gm_store.specs.Asked.{Name, name_of}
 use Rattle.gm_graph.specs.declared.cache.load_fault.LoadFault.TheVariants as load
 use Rattle.gm_graph.specs.Asking.{StillLacks}
-use Rattle.gm_graph.specs.Cached.{IsKnownAs, IsPlaceFor, main_in, modules_in, numbered, run_in}
+use Rattle.gm_graph.specs.Cached.{IsKnownAs, IsPlaceFor, main_in, modules_in, module_numbered, run_in}
 use Rattle.gm_file.specs.Main.{Main, main_of}
 use Rattle.gm_graph.specs.Reading.{file_of}
 use Rattle.gm_graph.proofs.Growing.{number_below, number_stays}
@@ -17,12 +17,12 @@ known_at-requires-clause-knows g c = knows_still c.args.self.now c.number.new.se
 pub returns-in-Ok-clause-asks : goal.returns-in-Ok-clause-asks
 returns-in-Ok-clause-asks g c =
     asks_named c.args.self.now c.number.new.self (g.F.Asks.state c.args.files.now) (g.F.Asks.state c.known_at.new.files) c.args.vertex.now
-    (numbered c.number.new.self c.in_ok-number.number) c.number.ensures.holds.main c.in_ok-number.ensures.module c.known_at.ensures.asks
+    (module_numbered c.number.new.self c.in_ok-number.number) c.number.ensures.holds.main c.in_ok-number.ensures.module c.known_at.ensures.asks
 
 pub returns-in-Err-clause-asks : goal.returns-in-Err-clause-asks
 returns-in-Err-clause-asks g c =
     asks_named c.args.self.now c.number.new.self (g.F.Asks.state c.args.files.now) (g.F.Asks.state c.known_at.new.files) c.args.vertex.now
-    (numbered c.number.new.self c.in_ok-number.number) c.number.ensures.holds.main c.in_ok-number.ensures.module c.known_at.ensures.asks
+    (module_numbered c.number.new.self c.in_ok-number.number) c.number.ensures.holds.main c.in_ok-number.ensures.module c.known_at.ensures.asks
 
 pub returns-in-Err-clause-lent : goal.returns-in-Err-clause-lent
 returns-in-Err-clause-lent g c =
@@ -67,7 +67,7 @@ known_by-requires-clause-name g c =
     c.in_ok-name.ensures
     ∙ ap (λ (v : ModuleVersion). file_of (main_in c.args.self.now) v) (sym (number_stays (modules_in c.number.new.self) (modules_in new) number c.known_at.ensures.numbered c.in_ok-number.ensures.number
     ∙ c.in_ok-number.ensures.module))
-    ∙ ap (λ m. file_of (main_of m) (numbered new number)) (sym (c.known_at.ensures.lent.main ∙ c.number.ensures.lent.main))
+    ∙ ap (λ m. file_of (main_of m) (module_numbered new number)) (sym (c.known_at.ensures.lent.main ∙ c.number.ensures.lent.main))
 
 pub known_by-requires-clause-vertex : goal.known_by-requires-clause-vertex
 known_by-requires-clause-vertex g c =
@@ -82,7 +82,7 @@ known_by-requires-clause-place g c =
 pub load_fault-requires : goal.load_fault-requires
 load_fault-requires g c = λ is.
     failed_there (main_in c.number.new.self) (g.F.Asks.state c.args.files.now) (g.F.Asks.state c.known_at.new.files)
-    (numbered c.number.new.self c.in_ok-number.number) c.known_at.new.self.failed (c.in-Err.ensures.device (ap Err is))
+    (module_numbered c.number.new.self c.in_ok-number.number) c.known_at.new.self.failed (c.in-Err.ensures.device (ap Err is))
 
 pub returns-in-Err-clause-not_too_many : goal.returns-in-Err-clause-not_too_many
 returns-in-Err-clause-not_too_many g c = λ e.
@@ -94,7 +94,7 @@ returns-in-Err-clause-device g c = λ name e.
     let mid = c.number.new.self in
     let before = g.F.Asks.state c.args.files.now in
     let after = g.F.Asks.state c.known_at.new.files in
-    let x = numbered mid c.in_ok-number.number in
+    let x = module_numbered mid c.in_ok-number.number in
     let same : c.load_fault.result ≡ load.Device name = cc e in
     subst (λ (m : Main). StillLacks m before after c.args.vertex.now (name_of name)) (ap main_of c.number.ensures.holds.main)
     (subst (λ (v : ModuleVersion). StillLacks (main_in mid) before after v (name_of name)) c.in_ok-number.ensures.module
@@ -108,5 +108,5 @@ returns-in-Err-clause-refused g c =
     let after = g.F.Asks.state c.known_at.new.files in
     c.in-Err.ensures.refused
     ∙ ap (λ (ns : List Name). before.refused ++ ns)
-    (refused_failed (main_in mid) before after (numbered mid c.in_ok-number.number) (Option ℕ) c.in-Err.fault c.known_at.new.self.failed c.load_fault.result
+    (refused_failed (main_in mid) before after (module_numbered mid c.in_ok-number.number) (Option ℕ) c.in-Err.fault c.known_at.new.self.failed c.load_fault.result
     (λ is. c.in-Err.ensures.device (ap Err is)) c.load_fault.ensures.fault)

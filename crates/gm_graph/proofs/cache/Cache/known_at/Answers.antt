@@ -2,7 +2,7 @@ use Rattle.std.proofs.Common.{◌≡◌, ◌∙◌, Err, sym, ap, append-nil, re
 use Rattle.gm_name.specs.ModuleVersion.{ModuleVersion}
 use Rattle.gm_store.specs.Asked.{name_of}
 use Rattle.gm_store.specs.declared.files.AskFault.TheVariants as ask
-use Rattle.gm_graph.specs.Cached.{HasFileAt, main_in, modules_in, numbered, summary_at}
+use Rattle.gm_graph.specs.Cached.{HasFileAt, main_in, modules_in, module_numbered, summary_at}
 use Rattle.gm_graph.specs.Reading.{file_of, is_askable}
 use Rattle.gm_graph.proofs.AskedFile.{asks_file}
 use Rattle.gm_graph.proofs.Growing.{number_stays}
@@ -24,12 +24,12 @@ returns-in_ok-keep-in-Ok-clause-knows g c =
 
 pub returns-in_ok-keep-in-Ok-clause-asks : goal.returns-in_ok-keep-in-Ok-clause-asks
 returns-in_ok-keep-in-Ok-clause-asks g c =
-    asks_file (main_in c.args.self.now) (g.F.Asks.state c.args.files.now) (g.F.Asks.state c.read_file.new.files) (numbered c.args.self.now c.args.number) (name_of c.in_ok-name.name)
+    asks_file (main_in c.args.self.now) (g.F.Asks.state c.args.files.now) (g.F.Asks.state c.read_file.new.files) (module_numbered c.args.self.now c.args.number) (name_of c.in_ok-name.name)
     (c.in_ok-name.ensures ∙ ap (file_of (main_in c.args.self.now)) c.module.ensures.module) (sym c.is_askable.ensures ∙ c.if-not-is_askable.false) c.read_file.ensures.asks
 
 pub returns-in_err-keep-in-Ok-clause-asks : goal.returns-in_err-keep-in-Ok-clause-asks
 returns-in_err-keep-in-Ok-clause-asks g c =
-    asks_file (main_in c.args.self.now) (g.F.Asks.state c.args.files.now) (g.F.Asks.state c.read_file.new.files) (numbered c.args.self.now c.args.number) (name_of c.in_ok-name.name)
+    asks_file (main_in c.args.self.now) (g.F.Asks.state c.args.files.now) (g.F.Asks.state c.read_file.new.files) (module_numbered c.args.self.now c.args.number) (name_of c.in_ok-name.name)
     (c.in_ok-name.ensures ∙ ap (file_of (main_in c.args.self.now)) c.module.ensures.module) (sym c.is_askable.ensures ∙ c.if-not-is_askable.false) c.read_file.ensures.asks
 
 -- ---- memory ran out before anything was asked for

@@ -1,8 +1,8 @@
 use Rattle.std.proofs.Common.{◌∙◌, ◌++◌, ◌∷◌, [], List, ap, append-nil, refl, subst, sym}
-use Rattle.gm_name_table.specs.Listed.{listed}
+use Rattle.gm_name_table.specs.Listed.{modules_of}
 use Rattle.gm_graph.specs.declared.cache.summary.ListSpan.{ListSpan}
 use Rattle.gm_graph.specs.Summaries.{IsWithinList, at_span}
-use Rattle.gm_graph.specs.Cached.{numbered, run_in}
+use Rattle.gm_graph.specs.Cached.{module_numbered, run_in}
 use Rattle.gm_graph.specs.Turns.{turn}
 use Rattle.gm_graph.specs.declared.cache.depth.Turn.{Turn}
 use Rattle.gm_graph.proofs.Keeping.{holds_after, holds_listed, knows_still}
@@ -12,7 +12,7 @@ use Rattle.gm_graph.proofs.cache.Cache.lend.Goals as goal
 
 pub lender-place-requires-clause-named : goal.lender-place-requires-clause-named
 lender-place-requires-clause-named c =
-    named_still c.args.self.now c.number.new.self c.args.vertex.now (numbered c.number.new.self c.in_ok-number.number) _ c.number.ensures.holds
+    named_still c.args.self.now c.number.new.self c.args.vertex.now (module_numbered c.number.new.self c.in_ok-number.number) _ c.number.ensures.holds
     (sym c.in_ok-number.ensures.module) c.requires
 
 pub number-requires : goal.number-requires
@@ -22,7 +22,7 @@ pub span_of-span-requires : goal.span_of-span-requires
 span_of-span-requires c =
     let cache = c.number.new.self in
     let pairs = c.requires.pairs in
-    lender_within cache (run_in cache pairs) (numbered cache c.in_ok-number.number) c.lender-place.result
+    lender_within cache (run_in cache pairs) (module_numbered cache c.in_ok-number.number) c.lender-place.result
     (c.lender-place.ensures pairs (knows_still c.args.self.now cache pairs c.number.ensures.holds c.requires.knows))
 
 pub at-requires : goal.at-requires
@@ -30,14 +30,14 @@ at-requires c =
     let cache = c.number.new.self in
     let pairs = c.requires.pairs in
     let knows = knows_still c.args.self.now cache pairs c.number.ensures.holds c.requires.knows in
-    subst (λ (span : ListSpan). IsWithinList (listed cache.modules) span) (sym c.span_of-span.ensures)
-    (lent_within cache (run_in cache pairs) (numbered cache c.in_ok-number.number) c.lender-place.result knows.lends (c.lender-place.ensures pairs knows))
+    subst (λ (span : ListSpan). IsWithinList (modules_of cache.modules) span) (sym c.span_of-span.ensures)
+    (lent_within cache (run_in cache pairs) (module_numbered cache c.in_ok-number.number) c.lender-place.result knows.lends (c.lender-place.ensures pairs knows))
 
 pub returns : goal.returns
 returns c =
     let old = c.args.self.now in
     let cache = c.number.new.self in
-    let x = numbered cache c.in_ok-number.number in (
+    let x = module_numbered cache c.in_ok-number.number in (
       (
         refl,
         λ _. tt,
@@ -52,7 +52,7 @@ returns c =
             let still = knows_still old cache pairs c.number.ensures.holds knows in
             lent_named old cache pairs x c.args.vertex.now c.lender-place.result _ c.number.ensures.holds c.in_ok-number.ensures.module still
             (c.lender-place.ensures pairs still)
-            (c.at.ensures.modules ∙ ap (λ (span : ListSpan). at_span (listed cache.modules) span) c.span_of-span.ensures);
+            (c.at.ensures.modules ∙ ap (λ (span : ListSpan). at_span (modules_of cache.modules) span) c.span_of-span.ensures);
         after = tt;
       },
     )

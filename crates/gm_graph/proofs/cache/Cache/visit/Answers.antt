@@ -1,6 +1,6 @@
 use Rattle.std.proofs.Common.{◌≡◌, ◌++◌, ◌∷◌, [], append-nil, refl, subst, sym}
 use Rattle.gm_name.specs.ModuleVersion.{ModuleVersion}
-use Rattle.gm_graph.specs.Cached.{numbered}
+use Rattle.gm_graph.specs.Cached.{module_numbered}
 use Rattle.gm_graph.specs.Turns.{turn}
 use Rattle.gm_graph.proofs.Caching.{has_visited, known_both}
 use Rattle.gm_graph.proofs.Keeping.{holds_listed, knows_still, says_still}
@@ -13,7 +13,7 @@ returns g c =
     let known = c.known_at.ensures in
     let before = g.F.Asks.state c.args.files.now in
     let after = g.F.Asks.state c.known_at.new.files in
-    let stays = says_still old mid before after (numbered old c.args.number) known.lent known.asks in (
+    let stays = says_still old mid before after (module_numbered old c.args.number) known.lent known.asks in (
       (
         refl,
         λ _. tt,

@@ -3,6 +3,7 @@ use Rattle.std.specs.Prelude.{slice_get}
 use Rattle.std.specs.Option.{option_and_then}
 use Rattle.gm_name.specs.TagIndex.{place_under}
 use Rattle.gm_name.proofs.KeptPlaces.{put_value}
+use Rattle.std.proofs.lemmas.Result.{err_from_is_err_and}
 use Rattle.gm_name.proofs.kept_names.KeptNames.keep_new.Goals as goal
 
 pub returns-clause-keeps : goal.returns-clause-keeps
@@ -16,3 +17,20 @@ returns-clause-keeps g c = λ t.
     ap (λ (vs : List T). option_and_then (λ place. slice_get vs place) (place_under c.put.new.self t)) grown
     ∙ ap (λ (o : Option ℕ). option_and_then (λ place. slice_get (old.names.items ++ c.args.name ∷ []) place) o) puts
     ∙ put_value old.names.items c.args.name (nat_eq c.args.tag t) (place_under old.places t) (λ place is. old.placed.below t place is)
+
+pub returns-in_err-reserve-clause-err : goal.returns-in_err-reserve-clause-err
+returns-in_err-reserve-clause-err g c =
+    let T = g.row.T.Denot in
+    let old = c.args.self.now in
+    let p = err_from_is_err_and c.from_residual.result c.from_residual.ensures.1 in
+    rw p.1 (λ t.
+    ap (λ (vs : List T). option_and_then (λ place. slice_get vs place) (place_under old.places t)) c.in_err-reserve.ensures.items)
+
+pub returns-in_err-put-clause-err : goal.returns-in_err-put-clause-err
+returns-in_err-put-clause-err g c =
+    let T = g.row.T.Denot in
+    let old = c.args.self.now in
+    let p = err_from_is_err_and c.from_residual-in_err-put.result c.from_residual-in_err-put.ensures.1 in
+    rw p.1 (λ t.
+    ap (λ (vs : List T). option_and_then (λ place. slice_get vs place) (place_under c.put.new.self t)) c.in_ok-reserve.ensures.items
+    ∙ ap (λ (o : Option ℕ). option_and_then (λ place. slice_get old.names.items place) o) (c.in_err-put.ensures.err t))
