@@ -1,11 +1,11 @@
 -- What `edit` makes of the lines of a file, operation by operation, and what its text reads as.
-use Rattle.std.proofs.Common.{◌≡◌, ◌≤◌, ◌∙◌, ◌++◌, ◌+◌, ℕ, Bool, true, false, List, [], ◌∷◌, length, Option, None, Some, Ok, IsUtf8, ap, append_assoc, arith, refl, subst, sym}
+use Rattle.std.proofs.Common.{◌≡◌, ◌≤◌, ◌∙◌, ◌++◌, ◌+◌, ℕ, true, List, [], ◌∷◌, length, Option, None, Some, Ok, IsUtf8, ap, inl, inr, refl, subst, sym}
 use Rattle.std.specs.Global.{Global, Vec}
 use Rattle.std.specs.List.{filter_map}
 use Rattle.std.specs.Option.{option_map, option_to_list}
-use Rattle.std.specs.Prelude.{String, codes, if◌then◌else◌}
-use Rattle.std.proofs.lemmas.List.Elements.{filter_map-append}
-use Rattle.std.proofs.lemmas.List.Sums.{fold-append}
+use Rattle.std.specs.Prelude.{String, codes}
+use Rattle.std.proofs.lemmas.Bool.{cases_Bool}
+use Rattle.std.proofs.lemmas.Option.{same_Some}
 use Rattle.gm_syntax.specs.Document.{IsDocument, Line}
 use Rattle.gm_syntax.specs.Layout.{layout}
 use Rattle.gm_syntax.specs.LineViews.{plain_lines}
@@ -13,6 +13,7 @@ use Rattle.gm_syntax.specs.Parsed.{IsParsedAs}
 use Rattle.gm_syntax.specs.Tokens.{Placed}
 use Rattle.gm_file.specs.Directives.{Strict}
 use Rattle.gm_file.specs.Faults.{fault_of}
+use Rattle.gm_file.specs.Main.{IsMainOf}
 use Rattle.gm_file_edit.specs.Edited.{lines_after}
 use Rattle.gm_file_edit.specs.Edits.{Edit as Operation, edit_in}
 use Rattle.gm_file_edit.specs.Kinds.{is_fit}
@@ -20,129 +21,108 @@ use Rattle.gm_file_edit.specs.Laws.{IsEditOf, directives_of}
 use Rattle.gm_file_edit.proofs.EditedSound.{edited-document}
 use Rattle.gm_file_edit.proofs.Written.{written-sound}
 use Rattle.gomod_run.specs.Editing.{EditEnds, applied, bad_main, edited_in_turn, edits_outcome, refusal_of, refusals_from}
-use Rattle.gomod_run.specs.Outcome.{Outcome, output_of}
-use Rattle.gm_file.specs.Main.{IsMainOf}
+use Rattle.gomod_run.specs.Outcome.{Outcome, output_of, report_of}
 use Rattle.gomod_run.specs.Outcomes.{longest}
 use Rattle.gomod_run.specs.Reports.{edit_line, main_line}
+use Rattle.gomod_run.proofs.FolderNames.{read_document}
 use Rattle.gomod_words.specs.Usage.{texts_in}
 use Rattle.gomod_laws.specs.Runs.{IsEdited}
 use Rattle.gomod_laws.proofs.FormattingBlanks.{no_fault_again, same_said}
 use Rattle.gomod_laws.proofs.FormattingProofs.{not_printed}
-use Rattle.gomod_run.proofs.FolderNames.{read_document}
 use Rattle.gomod_laws.proofs.FormattingRead.{layout_read}
-use Rattle.std.proofs.lemmas.Option.{same_Some}
-
-abbrev pub Refusal : Type 0
-Refusal = ℕ × List ℕ
-
-abbrev pub numbered : ℕ → List ℕ → Refusal
-numbered number kind = (number, kind)
 
 -- the lines that operations leave
 abbrev pub turned : List (List ℕ) → List (Line Placed) → List (Line Placed)
 turned texts lines = edited_in_turn (filter_map edit_in texts) lines
 
+-- what `edit` does with operations, the first of which has this number, if those before them leave these lines
+abbrev pub outcome_from : ℕ → List (List ℕ) → List (Line Placed) → Outcome
+outcome_from number texts lines = edits_outcome (refusals_from number texts) (turned texts lines)
+
 -- what is known of lines between two operations
-pub record AreSoundLines (lines : List (Line Placed)) : Type 0 where
-  pub document : IsDocument (plain_lines lines)
-  pub faultless : fault_of Strict (plain_lines lines) ≡ None
+abbrev pub AreSoundLines : List (Line Placed) → Type 0
+AreSoundLines lines = IsDocument (plain_lines lines) × (fault_of Strict (plain_lines lines) ≡ None)
 
 -- the lines of a main file
 pub read_sound : (file : List ℕ) (lines : List (Line Placed)) → IsMainOf file lines → AreSoundLines lines
-read_sound file lines (parsed, faultless) = record { document = read_document file (plain_lines lines) parsed.1.reads; faultless = faultless }
+read_sound file lines (parsed, faultless) = (read_document file (plain_lines lines) parsed.1.reads, faultless)
+
+pub edit_sound : (edit : Operation) (lines : List (Line Placed)) → IsEditOf edit lines → AreSoundLines (lines_after edit lines)
+edit_sound edit lines is = edited-document edit lines (written-sound is.0.0 edit is.0.1) is.1 is.2 is.3
+
+-- ---- one operation
+
+-- an operation is refused, or it is taken
+pub data IsTurn (text : List ℕ) : Type 0 where
+  is_refused : (kind : List ℕ) → refusal_of (edit_in text) ≡ Some kind → IsTurn text
+  is_taken : (operation : Operation) → edit_in text ≡ Some operation → is_fit operation ≡ true → IsTurn text
+
+pub turn_of : (text : List ℕ) → IsTurn text
+turn_of text = by_operation (edit_in text) refl
+  where
+    by_operation : (read : Option Operation) → edit_in text ≡ read → IsTurn text
+    by_operation None written = is_refused (codes "Spelling") (ap refusal_of written)
+    by_operation (Some operation) written = elim (cases_Bool (is_fit operation)) [
+      | inl fit ↦ is_taken operation written fit
+      | inr misfit ↦ is_refused (codes "Misfit") (rw (written, misfit) refl)
+    ]
+
+pub refused_turn : (number : ℕ) (kind text : List ℕ) (texts : List (List ℕ)) (lines : List (Line Placed)) → refusal_of (edit_in text) ≡ Some kind → outcome_from number (text ∷ texts) lines ≡ report_of (edit_line (number, kind))
+refused_turn number kind text texts lines is =
+    ap (λ (k : Option (List ℕ)). edits_outcome (option_to_list (option_map (λ (why : List ℕ). (number, why)) k) ++ refusals_from (number + 1) texts) (turned (text ∷ texts) lines)) is
+
+pub taken_turn : (number : ℕ) (text : List ℕ) (texts : List (List ℕ)) (lines : List (Line Placed)) (operation : Operation) → edit_in text ≡ Some operation → is_fit operation ≡ true
+    → outcome_from number (text ∷ texts) lines ≡ outcome_from (number + 1) texts (lines_after operation lines)
+taken_turn number text texts lines operation written fit = rw (written, fit) refl
 
 -- ---- operations of which none is refused
 
--- an operation that isn't refused
-pub record IsTaken (text : List ℕ) : Type 0 where
-  pub operation : Operation
-  pub written : edit_in text ≡ Some operation
-  pub fit : is_fit operation ≡ true
+-- these lines are left by the operations so far, and `edit` prints the text with the others
+pub record PrintsFrom (texts : List (List ℕ)) (text : List ℕ) (lines : List (Line Placed)) : Type 0 where
+  pub sound : AreSoundLines lines
+  pub number : ℕ
+  pub prints : outcome_from number texts lines ≡ output_of text
 
-taken_by : (text : List ℕ) (o : Option Operation) → edit_in text ≡ o → refusal_of o ≡ None → IsTaken text
-taken_by text None written none = absurd cc
-taken_by text (Some operation) written none = record { operation = operation; written = written; fit = by_fit (is_fit operation) none }
-  where
-    by_fit : (fit : Bool) → (if fit then None else Some (codes "Misfit")) ≡ None → fit ≡ true
-    by_fit true e = refl
-    by_fit false e = absurd cc
+-- the first operation is taken
+abbrev IsNext : List ℕ → List (List ℕ) → List ℕ → List (Line Placed) → Operation → Type 0
+IsNext first texts text lines operation = (edit_in first ≡ Some operation) × IsEditOf operation lines × PrintsFrom texts text (lines_after operation lines)
 
-pub fit_of : (text : List ℕ) (operation : Operation) → edit_in text ≡ Some operation → IsTaken text → is_fit operation ≡ true
-fit_of text operation is taken = subst (λ (o : Operation). is_fit o ≡ true) (same_Some _ _ (sym taken.written ∙ is)) taken.fit
+next : (first : List ℕ) (texts : List (List ℕ)) (text : List ℕ) (lines : List (Line Placed)) → PrintsFrom (first ∷ texts) text lines → (operation : Operation) × IsNext first texts text lines operation
+next first texts text lines from = elim (turn_of first) [
+  | is_refused kind is ↦ absurd (not_printed text (edit_line (from.number, kind)) (sym from.prints ∙ refused_turn from.number kind first texts lines is))
+  | is_taken operation written fit ↦
+      let edit : IsEditOf operation lines = ((first, written), fit, from.sound.0, from.sound.1) in
+      let prints = sym (taken_turn from.number first texts lines operation written fit) ∙ from.prints in
+      (operation, (written, edit, record { sound = edit_sound operation lines edit; number = from.number + 1; prints = prints }))
+]
 
-none_first : (number : ℕ) (kind : Option (List ℕ)) (rest : List Refusal) → option_to_list (option_map (numbered number) kind) ++ rest ≡ [] → (kind ≡ None) × (rest ≡ [])
-none_first number None rest none = (refl, none)
-none_first number (Some kind) rest none = absurd cc
+pub next_is : (first : List ℕ) (texts : List (List ℕ)) (text : List ℕ) (lines : List (Line Placed)) (operation : Operation) → edit_in first ≡ Some operation → PrintsFrom (first ∷ texts) text lines → IsNext first texts text lines operation
+next_is first texts text lines operation written from =
+    let (other, is) = next first texts text lines from in
+    subst (IsNext first texts text lines) (same_Some _ _ (sym is.0 ∙ written)) is
 
-pub first_taken : (number : ℕ) (text : List ℕ) (texts : List (List ℕ)) → refusals_from number (text ∷ texts) ≡ [] → IsTaken text × (refusals_from (number + 1) texts ≡ [])
-first_taken number text texts none =
-    let parts = none_first number (refusal_of (edit_in text)) (refusals_from (number + 1) texts) none in
-    (taken_by text (edit_in text) refl parts.0, parts.1)
-
-pub refusals_append : (number : ℕ) (xs ys : List (List ℕ)) → refusals_from number (xs ++ ys) ≡ refusals_from number xs ++ refusals_from (number + length xs) ys
-refusals_append number [] ys = let same : number ≡ number + 0 = omega arith in ap (λ (n : ℕ). refusals_from n ys) same
-refusals_append number (x ∷ xs) ys =
-    let first : List Refusal = option_to_list (option_map (numbered number) (refusal_of (edit_in x))) in
-    let same : (number + 1) + length xs ≡ number + length (x ∷ xs) = omega arith in
-    ap (λ (rs : List Refusal). first ++ rs) (refusals_append (number + 1) xs ys ∙ ap (λ (n : ℕ). refusals_from (number + 1) xs ++ refusals_from n ys) same)
-    ∙ sym (append_assoc first (refusals_from (number + 1) xs) (refusals_from (number + length (x ∷ xs)) ys))
-
-nil_parts : (xs ys : List Refusal) → xs ++ ys ≡ [] → (xs ≡ []) × (ys ≡ [])
-nil_parts [] ys e = (refl, e)
-nil_parts (x ∷ xs) ys e = absurd cc
-
-pub none_parts : (number : ℕ) (xs ys : List (List ℕ)) → refusals_from number (xs ++ ys) ≡ [] → (refusals_from number xs ≡ []) × (refusals_from (number + length xs) ys ≡ [])
-none_parts number xs ys none = nil_parts (refusals_from number xs) (refusals_from (number + length xs) ys) (sym (refusals_append number xs ys) ∙ none)
-
--- ---- what they leave
-
-pub turned_append : (front back : List (List ℕ)) (lines : List (Line Placed)) → turned (front ++ back) lines ≡ turned back (turned front lines)
-turned_append front back lines =
-    ap (λ (os : List Operation). edited_in_turn os lines) (filter_map-append edit_in front back) ∙ fold-append (λ (ls : List (Line Placed)) (edit : Operation). lines_after edit ls) lines (filter_map edit_in front) (filter_map edit_in back)
-
-pub turned_first : (text : List ℕ) (texts : List (List ℕ)) (lines : List (Line Placed)) (taken : IsTaken text) → turned (text ∷ texts) lines ≡ turned texts (lines_after taken.operation lines)
-turned_first text texts lines taken =
-    let first : filter_map edit_in (text ∷ texts) ≡ taken.operation ∷ filter_map edit_in texts = rw taken.written refl in
-    ap (λ (os : List Operation). edited_in_turn os lines) first
-
-pub taken_edit : (text : List ℕ) (lines : List (Line Placed)) (taken : IsTaken text) → AreSoundLines lines → IsEditOf taken.operation lines
-taken_edit text lines taken sound = ((text, taken.written), taken.fit, sound.document, sound.faultless)
-
-pub taken_sound : (text : List ℕ) (lines : List (Line Placed)) (taken : IsTaken text) → AreSoundLines lines → AreSoundLines (lines_after taken.operation lines)
-taken_sound text lines taken sound =
-    let after = edited-document taken.operation lines (written-sound text taken.operation taken.written) taken.fit sound.document sound.faultless in
-    record { document = after.0; faultless = after.1 }
-
-pub turned_sound : (number : ℕ) (texts : List (List ℕ)) (lines : List (Line Placed)) → refusals_from number texts ≡ [] → AreSoundLines lines → AreSoundLines (turned texts lines)
-turned_sound number [] lines none sound = sound
-turned_sound number (text ∷ texts) lines none sound =
-    let first = first_taken number text texts none in
-    subst AreSoundLines (sym (turned_first text texts lines first.0)) (turned_sound (number + 1) texts (lines_after first.0.operation lines) first.1 (taken_sound text lines first.0 sound))
+after_all : (earlier rest : List (List ℕ)) (text : List ℕ) (lines : List (Line Placed)) → PrintsFrom (earlier ++ rest) text lines → PrintsFrom rest text (turned earlier lines)
+after_all [] rest text lines from = from
+after_all (first ∷ earlier) rest text lines from =
+    let (operation, is) = next first (earlier ++ rest) text lines from in
+    let turn : turned (first ∷ earlier) lines ≡ turned earlier (lines_after operation lines) = rw is.0 refl in
+    subst (PrintsFrom rest text) (sym turn) (after_all earlier rest text (lines_after operation lines) is.2)
 
 -- ---- what `edit` prints
 
--- the lines of the file, and what the operations make of them
-pub record IsEditedFrom (texts : List (List ℕ)) (file text : List ℕ) : Type 0 where
-  pub lines : List (Line Placed)
-  pub is_main : IsMainOf file lines
-  pub none : refusals_from 1 texts ≡ []
-  pub text_is : text ≡ layout (plain_lines (turned texts lines))
-
-edited_by : (texts : List (List ℕ)) (file text : List ℕ) → EditEnds texts file (output_of text) → IsEditedFrom texts file text
-edited_by texts file text (bad_main place malformed says) = absurd (not_printed text (main_line place) says)
-edited_by texts file text (applied lines main says) = by_refusals (refusals_from 1 texts) refl says
-  where
-    by_refusals : (found : List Refusal) → refusals_from 1 texts ≡ found → output_of text ≡ edits_outcome found (turned texts lines) → IsEditedFrom texts file text
-    by_refusals [] none is = record { lines = lines; is_main = main; none = none; text_is = ap (λ (o : Outcome). o.text) is }
-    by_refusals (first ∷ others) some is = absurd (not_printed text (edit_line first) is)
-
-pub edited_from : (operations : Vec (String Global)) (file text : List ℕ) → IsEdited operations file text → IsEditedFrom (texts_in operations) file text
-edited_from operations file text prints = edited_by (texts_in operations) file text prints.0
+-- the lines of the file, and what is left to do after the first operations
+pub edited_from : (operations : Vec (String Global)) (earlier rest : List (List ℕ)) (file text : List ℕ) → texts_in operations ≡ earlier ++ rest → IsEdited operations file text
+    → (lines : List (Line Placed)) × IsMainOf file lines × PrintsFrom rest text (turned earlier lines)
+edited_from operations earlier rest file text given prints = elim (subst (λ (ts : List (List ℕ)). EditEnds ts file (output_of text)) given prints.0) [
+  | bad_main place malformed says ↦ absurd (not_printed text (main_line place) says)
+  | applied lines main says ↦ (lines, main, after_all earlier rest text lines (record { sound = read_sound file lines main; number = 1; prints = sym says }))
+]
 
 -- a text that is the layout of sound lines reads as lines that hold the same directives
-pub text_lines : (lines : List (Line Placed)) (text : List ℕ) → AreSoundLines lines → text ≡ layout (plain_lines lines) → IsUtf8 text → length text ≤ longest
+pub text_lines : (lines : List (Line Placed)) (text : List ℕ) → PrintsFrom [] text lines → IsUtf8 text → length text ≤ longest
     → (doc : List (Line Placed)) × IsMainOf text doc × (directives_of doc ≡ directives_of lines)
-text_lines lines text sound is utf8 short =
-    let read = layout_read (plain_lines lines) sound.document (subst IsUtf8 is utf8) (subst (λ (t : List ℕ). length t ≤ longest) is short) in
-    let parsed : IsParsedAs text (Ok read.doc) = subst (λ (t : List ℕ). IsParsedAs t (Ok read.doc)) (sym is) read.parsed in
-    (read.doc, (parsed, no_fault_again (plain_lines lines) (plain_lines read.doc) read.same_filled sound.faultless), same_said (plain_lines lines) (plain_lines read.doc) read.same_filled)
+text_lines lines text from utf8 short =
+    let is : layout (plain_lines lines) ≡ text = ap (λ (o : Outcome). o.text) from.prints in
+    let read = layout_read (plain_lines lines) from.sound.0 (subst IsUtf8 (sym is) utf8) (subst (λ (t : List ℕ). length t ≤ longest) (sym is) short) in
+    let parsed : IsParsedAs text (Ok read.doc) = subst (λ (t : List ℕ). IsParsedAs t (Ok read.doc)) is read.parsed in
+    (read.doc, (parsed, no_fault_again (plain_lines lines) (plain_lines read.doc) read.same_filled from.sound.1), same_said (plain_lines lines) (plain_lines read.doc) read.same_filled)

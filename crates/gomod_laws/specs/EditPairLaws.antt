@@ -6,9 +6,8 @@ use Rattle.gm_syntax.specs.Document.{Line}
 use Rattle.gm_syntax.specs.Tokens.{Placed}
 use Rattle.gm_file_edit.specs.About.{about}
 use Rattle.gm_file_edit.specs.Edits.{Edit as Operation, edit_in}
-use Rattle.gm_file_edit.specs.Laws.{AreApart}
 use Rattle.gm_file_edit.specs.Kinds.{is_fit}
-use Rattle.gm_file_edit.specs.Laws.{directives_of}
+use Rattle.gm_file_edit.specs.Laws.{AreApart, directives_of}
 use Rattle.gm_file_edit.specs.Undone.{undone_by}
 use Rattle.gm_store.specs.Asked.{Name, Reply}
 use Rattle.gomod_run.specs.ListingLaws.{AnswerAlike}
