@@ -14,7 +14,7 @@ use Rattle.gm_graph.specs.Cached.{Knows}
 use Rattle.gm_graph.specs.CacheVisits.{KeepsSayings}
 use Rattle.gm_graph.specs.Reading.{file_of, is_askable}
 use Rattle.gm_graph.specs.Refusals.{refused_names, refused_in}
-use Rattle.gm_graph.specs.Run.{AreTooMany, AsksInTurn, IsDue, IsRead, Says, more, nothing, run_of}
+use Rattle.gm_graph.specs.Run.{AreTooMany, AskedInTurn, CallsFor, IsDue, IsRead, LoadingNeeds, Says, more, nothing, run_of}
 use Rattle.gm_graph.specs.Turns.{turn}
 use Rattle.gm_graph.specs.VisitedTurns.{AllValidTurns}
 use Rattle.gm_graph.specs.Visiting.{OverflowsAt}
@@ -22,8 +22,9 @@ use Rattle.gm_graph.proofs.Queueing.{many_followed}
 use Rattle.gm_graph.proofs.Rounds.{opened_from}
 use Rattle.gm_graph.proofs.Sayings.{says_more}
 
-pub asks_nothing : (main : Main) (sums : Option Sums) (pairs : List (Name × Reply)) → pairs ≡ [] → AsksInTurn main sums pairs
-asks_nothing main sums pairs e = subst (λ (ps : List (Name × Reply)). AsksInTurn main sums ps) (sym e) nothing
+-- Nothing was asked for.
+pub none_in_turn : (needs : (Name → Option Reply) → Name → Type 0) (pairs : List (Name × Reply)) → pairs ≡ [] → AskedInTurn needs pairs
+none_in_turn needs pairs e = subst (λ (ps : List (Name × Reply)). AskedInTurn needs ps) (sym e) nothing
 
 pub knows_nothing : (cache : Cache) (pairs : List (Name × Reply)) → pairs ≡ [] → Knows cache [] → Knows cache pairs
 knows_nothing cache pairs e knows = subst (λ (ps : List (Name × Reply)). Knows cache ps) (sym e) knows
@@ -47,21 +48,22 @@ says_still main sums old new x (inr asked) = λ y said says.
 module _ (main : Main) (sums : Option Sums) (old : List (Name × Reply)) (read : IsRead (run_of main sums old)) (turns : List Turn) (at : ℕ)
     (x : ModuleVersion) (depth : Depth) (valid : AllValidTurns (run_of main sums old) turns) (below : at < length turns)
     (here : get_or turns at (turn x depth) ≡ turn x depth) where
-  due : (name : Name) → file_of main x ≡ name → is_askable name ≡ true → answer_in old name ≡ None → IsDue (run_of main sums old) name
-  due name is askable fresh = record {
+  called : (name : Name) → file_of main x ≡ name → is_askable name ≡ true → CallsFor (run_of main sums old) name
+  called name is askable = record {
     read = read;
     needed = (x, opened_from (run_of main sums old) x depth (valid (turn x depth) (at, below, here)), is, askable);
-    unasked = fresh;
   }
 
-  pub asks_more : (new : List (Name × Reply)) → AsksInTurn main sums old → AddsFile main old new x → AsksInTurn main sums new
-  asks_more new asks (inl e) = subst (λ (ps : List (Name × Reply)). AsksInTurn main sums ps) (sym e) asks
-  asks_more new asks (inr asked) = subst (λ (ps : List (Name × Reply)). AsksInTurn main sums ps) (sym asked.2.1) (more asked.2.0 asks (due (file_of main x) refl asked.0 asked.1))
+  pub asks_more : (new : List (Name × Reply)) → AskedInTurn (LoadingNeeds main sums) old → AddsFile main old new x → AskedInTurn (LoadingNeeds main sums) new
+  asks_more new asks (inl e) = subst (λ (ps : List (Name × Reply)). AskedInTurn (LoadingNeeds main sums) ps) (sym e) asks
+  asks_more new asks (inr asked) =
+      subst (λ (ps : List (Name × Reply)). AskedInTurn (LoadingNeeds main sums) ps) (sym asked.2.1)
+      (more asked.2.0 asks (called (file_of main x) refl asked.0) asked.1)
 
   pub due_here : (new : List (Name × Reply)) (name : Name) → new ≡ old → name ≡ file_of main x → is_askable name ≡ true → answer_in old name ≡ None
       → IsDue (run_of main sums new) name
   due_here new name same is askable none =
-      subst (λ (ps : List (Name × Reply)). IsDue (run_of main sums ps) name) (sym same) (due name (sym is) askable none)
+      subst (λ (ps : List (Name × Reply)). IsDue (run_of main sums ps) name) (sym same) (record { called = called name (sym is) askable; unasked = none })
 
   pub many_here : (new : List (Name × Reply)) → AddsFile main old new x → OverflowsAt (run_of main sums new) turns x depth
       → IsRead (run_of main sums new) × AreTooMany (run_of main sums new)

@@ -19,7 +19,7 @@ use Rattle.gm_graph.specs.declared.cache.depth.Turn.{Turn}
 use Rattle.gm_graph.specs.declared.cache.depth.Depth.{Depth}
 use Rattle.gm_graph.specs.declared.cache.depth.Depth.TheVariants.{Top, Deep}
 use Rattle.gm_graph.specs.Reading.{file_of, is_askable}
-use Rattle.gm_graph.specs.Run.{AreOpened, AreTurns, AsksInTurn, FileSays, IsNeeded, IsOpened, IsRead, IsSettled, Run, Says, answered, faulty, from_main, more, nothing, run_of, sound, unaskable, wrong_path}
+use Rattle.gm_graph.specs.Run.{AreOpened, AreTurns, AskedInTurn, FileSays, IsNeeded, IsOpened, IsRead, IsSettled, LoadingNeeds, Run, Says, answered, faulty, from_main, more, nothing, run_of, sound, unaskable, wrong_path}
 use Rattle.gm_graph.specs.Turns.{turn, AreTurnsOf}
 use Rattle.gm_graph.proofs.Deepening.{opened_kept}
 use Rattle.gm_graph.proofs.Sameness.{same_bytes, first_true, second_true, equivalence_from_exact}
@@ -44,7 +44,7 @@ exact_name (list_file p) (list_file q) h = ap list_file (same_bytes _ _ h)
 names_equivalence : IsEquivalence same_name
 names_equivalence = equivalence_from_exact same_name same_name-refl exact_name
 
-names_push : (pairs : List (Name × Reply)) (n : Name) (r : Reply) → names_in (pairs ++ (n, r) ∷ []) ≡ names_in pairs ++ n ∷ []
+pub names_push : (pairs : List (Name × Reply)) (n : Name) (r : Reply) → names_in (pairs ++ (n, r) ∷ []) ≡ names_in pairs ++ n ∷ []
 names_push [] n r = refl
 names_push (pair ∷ pairs) n r = ap (λ (ns : List Name). pair.0 ∷ ns) (names_push pairs n r)
 
@@ -66,12 +66,12 @@ some_named : (pairs : List (Name × Reply)) (n : Name) → IsSome (answer_in pai
 some_named [] n h = absurd (false≢true h)
 some_named (pair ∷ pairs) n h = named_if (same_name n pair.0) pair (names_in pairs) n (answer_in pairs n) refl h (λ s. some_named pairs n s)
 
-asked_once : (main : Main) (sums : Option Sums) {pairs : List (Name × Reply)} → AsksInTurn main sums pairs → IsDistinct same_name (names_in pairs)
+asked_once : (needs : (Name → Option Reply) → Name → Type 0) {pairs : List (Name × Reply)} → AskedInTurn needs pairs → IsDistinct same_name (names_in pairs)
 unfolding IsDistinct
-asked_once main sums nothing = tt
-asked_once main sums (more {pairs} {name} reply asks due) =
+asked_once needs nothing = tt
+asked_once needs (more {pairs} {name} reply asks needed unasked) =
     subst (λ (ns : List Name). IsDistinct same_name ns) (sym (names_push pairs name reply))
-    (IsDistinct-push names_equivalence (names_in pairs) name (asked_once main sums asks) (none_named pairs name due.unasked))
+    (IsDistinct-push names_equivalence (names_in pairs) name (asked_once needs asks) (none_named pairs name unasked))
 
 -- What was needed is needed when more was asked for.
 needed_kept : (main : Main) (sums : Option Sums) (pairs : List (Name × Reply)) (one : Name × Reply) (n : Name)
@@ -79,13 +79,13 @@ needed_kept : (main : Main) (sums : Option Sums) (pairs : List (Name × Reply)) 
 needed_kept main sums pairs one n (x, opened, is, askable) =
     (x, opened_kept main sums pairs (pairs ++ one ∷ []) (says_more main sums pairs (one ∷ [])) x opened, is, askable)
 
-asked_only : (main : Main) (sums : Option Sums) {pairs : List (Name × Reply)} → AsksInTurn main sums pairs → (n : Name) → Contains (names_in pairs) n
+asked_only : (main : Main) (sums : Option Sums) {pairs : List (Name × Reply)} → AskedInTurn (LoadingNeeds main sums) pairs → (n : Name) → Contains (names_in pairs) n
     → IsNeeded (run_of main sums pairs) n
 asked_only main sums nothing n h = absurd (omega (arith, h.1))
-asked_only main sums (more {pairs} {name} reply asks due) n h =
+asked_only main sums (more {pairs} {name} reply asks called unasked) n h =
     needed_kept main sums pairs (name, reply) n (elim (Contains-push_cases (names_in pairs) name n (subst (λ (ns : List Name). Contains ns n) (names_push pairs name reply) h)) [
       | inl there ↦ asked_only main sums asks n there
-      | inr same ↦ subst (λ (m : Name). IsNeeded (run_of main sums pairs) m) same due.needed
+      | inr same ↦ subst (λ (m : Name). IsNeeded (run_of main sums pairs) m) same called.needed
     ])
 
 -- A module's file was answered if it says something and may be asked for.
@@ -99,7 +99,7 @@ module_answered (faulty is) may = file_answered is may
 module_answered (wrong_path file is wrong) may = file_answered is may
 module_answered (sound is right) may = file_answered is may
 
-module _ (main : Main) (sums : Option Sums) (pairs : List (Name × Reply)) (asks : AsksInTurn main sums pairs)
+module _ (main : Main) (sums : Option Sums) (pairs : List (Name × Reply)) (asks : AskedInTurn (LoadingNeeds main sums) pairs)
     (known : (x : ModuleVersion) → IsOpened (run_of main sums pairs) x → (said : Result Dependency Class) × Says (run_of main sums pairs) x said) where
   needed_asked : (n : Name) → IsNeeded (run_of main sums pairs) n → Contains (names_in pairs) n
   needed_asked n (x, opened, is, askable) =
@@ -112,7 +112,7 @@ module _ (main : Main) (sums : Option Sums) (pairs : List (Name × Reply)) (asks
       → IsSettled (run_of main sums pairs) (names_in pairs)
   settled read few = record {
     read = read;
-    once = asked_once main sums asks;
+    once = asked_once (LoadingNeeds main sums) asks;
     needed = λ n. ((λ h. asked_only main sums asks n h), (λ is. needed_asked n is));
     few = few;
   }

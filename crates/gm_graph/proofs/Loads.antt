@@ -13,7 +13,7 @@ use Rattle.gm_graph.specs.Builder.{edges_in, sources_in, turns_of}
 use Rattle.gm_graph.specs.Building.{fault}
 use Rattle.gm_graph.specs.Cached.{modules_in, turns_in}
 use Rattle.gm_graph.specs.Outcome.{IsLoaded, LoadedGraph}
-use Rattle.gm_graph.specs.Run.{AreFaults, AreTooMany, AreTurns, AsksInTurn, IsEdge, IsRead, Run, run_of}
+use Rattle.gm_graph.specs.Run.{AreFaults, AreTooMany, AreTurns, AskedInTurn, IsEdge, IsRead, LoadingNeeds, Run, run_of}
 use Rattle.gm_graph.specs.Turns.{OverflowsWith}
 use Rattle.gm_graph.specs.Visiting.{IsOpenedIn}
 use Rattle.gm_graph_select.specs.declared.step.Edge.{Edge}
@@ -53,7 +53,7 @@ module _ (run : Run) (cache : Cache) (builder : GraphBuilder) (opened : IsOpened
 
 -- The run is that of a main file, a go.sum and answers.
 pub loads : (main : Main) (sums : Option Sums) (pairs : List (Name × Reply)) (cache : Cache) (builder : GraphBuilder)
-    → IsOpenedIn (run_of main sums pairs) cache builder → AsksInTurn main sums pairs → (loaded : LoadedGraph) → loaded.main ≡ main.path
+    → IsOpenedIn (run_of main sums pairs) cache builder → AskedInTurn (LoadingNeeds main sums) pairs → (loaded : LoadedGraph) → loaded.main ≡ main.path
     → loaded.faults ≡ map (λ e. fault e.0 e.1) builder.faults.entries → tree.IsOrdered pair_cmp builder.faults
     → IsAscending edge_cmp loaded.edges → HaveSame (edges_in (modules_in cache) builder) loaded.edges
     → IsBuildList main.path main.replaces (among loaded.edges) loaded.rows → loaded.turns ≡ turns_in cache

@@ -15,12 +15,12 @@ use Rattle.gm_graph.specs.declared.graph_builder.NumberedTurn.{NumberedTurn}
 use Rattle.gm_graph.specs.Builder.{Built, IsBuilder, graph_of, turn_of, turns_of}
 use Rattle.gm_graph.specs.Cached.{Knows, main_in, modules_in, run_in, sums_in, turns_in}
 use Rattle.gm_graph.specs.CacheVisits.{Continues}
-use Rattle.gm_graph.specs.Run.{AsksInTurn, IsOpened, IsRead, Run, run_of}
+use Rattle.gm_graph.specs.Run.{AskedInTurn, IsOpened, IsRead, LoadingNeeds, Run, run_of}
 use Rattle.gm_graph.specs.Turns.{turn}
 use Rattle.gm_graph.specs.Visiting.{IsFirstGraph, IsOpenedIn, IsVisited}
 use Rattle.gm_graph.proofs.BuiltEdges.{IsGatheredTo, edges_exactly, faults_exactly, gathered_more}
 use Rattle.gm_graph.proofs.Deepening.{IsValidTurn-kept}
-use Rattle.gm_graph.proofs.Dues.{AddsFile, asks_more, asks_nothing, knows_nothing, lent_more, says_still}
+use Rattle.gm_graph.proofs.Dues.{AddsFile, asks_more, none_in_turn, knows_nothing, lent_more, says_still}
 use Rattle.gm_graph.proofs.Queueing.{IsQueue, queue_all, queue_more, queue_none}
 use Rattle.gm_graph.proofs.Rounds.{are_turns, opened_from, opened_known}
 use Rattle.gm_graph.proofs.Sources.{AreSources, front_turn, not_before, sources_more, sources_none}
@@ -59,7 +59,7 @@ pub record IsAt (main : Main) (sums : Option Sums) (cache : Cache) (pairs : List
   pub queue : IsQueue (run_of main sums pairs) (built_by cache builder).turns at
   pub harvest : IsGatheredTo (run_of main sums pairs) (built_by cache builder).turns (built_by cache builder).edges (built_by cache builder).faults at
   pub sources : AreSources (built_by cache builder).turns (turns_in cache) (built_by cache builder).sources
-  pub asks : AsksInTurn main sums pairs
+  pub asks : AskedInTurn (LoadingNeeds main sums) pairs
 
 -- What a cache's run is, if its main file and its go.sum are these.
 pub read_by : (main : Main) (sums : Option Sums) (cache : Cache) (pairs : List (Name × Reply)) → sums_in cache ≡ sums → Knows cache pairs
@@ -73,8 +73,9 @@ by_run P main sums cache pairs main_is sums_are holds =
     (subst (λ (s : Option Sums). P (run_of (main_in cache) s pairs)) sums_are holds)
 
 pub asks_by : (main : Main) (sums : Option Sums) (cache : Cache) (pairs : List (Name × Reply)) → main_in cache ≡ main → sums_in cache ≡ sums
-    → AsksInTurn (main_in cache) (sums_in cache) pairs → AsksInTurn main sums pairs
-asks_by main sums cache pairs main_is sums_are asks = by_run (λ (run : Run). AsksInTurn run.main run.sums pairs) main sums cache pairs main_is sums_are asks
+    → AskedInTurn (LoadingNeeds (main_in cache) (sums_in cache)) pairs → AskedInTurn (LoadingNeeds main sums) pairs
+asks_by main sums cache pairs main_is sums_are asks =
+    by_run (λ (run : Run). AskedInTurn (LoadingNeeds run.main run.sums) pairs) main sums cache pairs main_is sums_are asks
 
 pub first_step : (cache : Cache) (pairs : List (Name × Reply)) (builder : GraphBuilder) → pairs ≡ [] → Knows cache [] → turns_in cache ≡ []
     → IsFirstGraph (run_in cache []) (modules_in cache) builder → IsAt (main_in cache) (sums_in cache) cache pairs builder 0
@@ -92,7 +93,7 @@ first_step cache pairs builder none knows lent nothing =
       queue = queue_none (run_in cache pairs) made.turns first.turns;
       harvest = record { are = first.gathered; each = λ k d h. absurd (omega arith) };
       sources = subst (λ (ts : List Turn). AreSources made.turns ts made.sources) (sym lent) (sources_none made.turns made.sources first.sources);
-      asks = asks_nothing _ _ _ none;
+      asks = none_in_turn (LoadingNeeds (main_in cache) (sums_in cache)) pairs none;
     }
 
 pub step : (main : Main) (sums : Option Sums) (old new : Cache) (pairs longer : List (Name × Reply)) (before after : GraphBuilder) (at : ℕ) (x : ModuleVersion) (depth : Depth)

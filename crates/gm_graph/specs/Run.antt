@@ -132,17 +132,25 @@ abbrev pub IsRead : Run → Type 0
 IsRead run = (name : Name) (reply : Reply) → run.answers name ≡ Some reply
     → (said : Result Dependency Class) × IsFileReading run.sums name reply said
 
--- By these answers the name is needed, and it is not among them.
-pub record IsDue (run : Run) (name : Name) : Type 0 where
+-- Each answer says something, and by these answers the name is needed.
+pub record CallsFor (run : Run) (name : Name) : Type 0 where
   pub read : IsRead run
   pub needed : IsNeeded run name
+
+-- By these answers the name is needed, and it is not among them.
+pub record IsDue (run : Run) (name : Name) : Type 0 where
+  pub called : CallsFor run name
   pub unasked : run.answers name ≡ None
 
--- Each name was due by the answers before it.
-pub data AsksInTurn (main : Main) (sums : Option Sums) : List (Name × Reply) → Type 0 where
-  nothing : AsksInTurn main sums []
-  more : {pairs : List (Name × Reply)} {name : Name} (reply : Reply) → AsksInTurn main sums pairs
-      → IsDue (run_of main sums pairs) name → AsksInTurn main sums (pairs ++ (name, reply) ∷ [])
+-- The names that answers call for, if this is the main file and this the go.sum.
+abbrev pub LoadingNeeds : Main → Option Sums → (Name → Option Reply) → Name → Type 0
+LoadingNeeds main sums answers name = CallsFor (record { main = main; sums = sums; answers = answers }) name
+
+-- Each name was needed by the answers before it, and was not among them.
+pub data AskedInTurn (needs : (Name → Option Reply) → Name → Type 0) : List (Name × Reply) → Type 0 where
+  nothing : AskedInTurn needs []
+  more : {pairs : List (Name × Reply)} {name : Name} (reply : Reply) → AskedInTurn needs pairs
+      → needs (answer_in pairs) name → answer_in pairs name ≡ None → AskedInTurn needs (pairs ++ (name, reply) ∷ [])
 
 -- Exactly the needed files were asked for, each once, and at most 65,536 modules are opened.
 pub record IsSettled (run : Run) (asked : List Name) : Type 0 where

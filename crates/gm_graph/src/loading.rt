@@ -20,7 +20,7 @@ ghost use Rattle.std.specs.List.{IsDistinct};
 ghost use Rattle.gm_graph.specs.Builder.{IsBuilder, edges_in, sources_in};
 ghost use Rattle.gm_graph.specs.Building.{fault};
 ghost use Rattle.gm_graph.specs.FileLists.{HaveFiles};
-ghost use Rattle.gm_graph.specs.Run.{AreTooMany, AsksInTurn, IsDue, IsRead, run_of};
+ghost use Rattle.gm_graph.specs.Run.{AreTooMany, AskedInTurn, IsDue, IsRead, LoadingNeeds, run_of};
 ghost use Rattle.gm_graph.specs.Outcome.{IsLoaded};
 ghost use Rattle.gm_graph.specs.Visiting.{IsFirstGraph, IsOpenedIn};
 
@@ -55,7 +55,7 @@ fn visit_all<F: Asks>(
     ensures opened { OnOk result (IsOpenedIn (run_in cache.old (F.state files.new).asked) cache.new builder.new) }
     ensures too_many { result ≡ Err LoadFault.TooMany → IsRead (run_in cache.old (F.state files.new).asked)
         × AreTooMany (run_in cache.old (F.state files.new).asked) }
-    ensures asks { AsksInTurn (main_in cache.old) (sums_in cache.old) (F.state files.new).asked }
+    ensures asks { AskedInTurn (LoadingNeeds (main_in cache.old) (sums_in cache.old)) (F.state files.new).asked }
     ensures device { (name : FileName) → result ≡ Err (LoadFault.Device name)
         → IsDue (run_in cache.old (F.state files.new).asked) (name_of name) }
     ensures refused { (F.state files.new).refused ≡ (F.state files.old).refused ++ refused_in result }
@@ -128,7 +128,8 @@ pub fn load<F: Asks>(
     ensures too_many { result ≡ Err LoadFault.TooMany
         → IsRead (run_of (main_of main.now) (option_copied sums.entry) (F.state files.new).asked)
         × AreTooMany (run_of (main_of main.now) (option_copied sums.entry) (F.state files.new).asked) }
-    ensures asks { AsksInTurn (main_of main.now) (option_copied sums.entry) (F.state files.new).asked }
+    ensures asks { AskedInTurn (LoadingNeeds (main_of main.now) (option_copied sums.entry))
+        (F.state files.new).asked }
     ensures device { (name : FileName) → result ≡ Err (LoadFault.Device name)
         → IsDue (run_of (main_of main.now) (option_copied sums.entry) (F.state files.new).asked) (name_of name) }
     ensures refused { (F.state files.new).refused ≡ (F.state files.old).refused ++ refused_in result }

@@ -1,7 +1,8 @@
 -- Runs over folders in memory, with one more folder and without it.
-use Rattle.std.proofs.Common.{◌≡◌, ◌∙◌, ◌++◌, ◌∷◌, ℕ, Bool, List, [], Option, Some, None, Result, Ok, Err, Contains, ap, append_assoc, false, inl, inr, refl, subst, sym, true}
+use Rattle.std.proofs.Common.{◌≡◌, ◌∙◌, ◌++◌, ◌∷◌, ℕ, Bool, List, [], Option, Some, None, Result, Ok, Err, Contains, ap, false, inl, inr, refl, subst, sym, true}
 use Rattle.std.proofs.lemmas.Bool.{false≢true}
 use Rattle.std.proofs.lemmas.List.{get_or-map, length-map}
+use Rattle.std.proofs.lemmas.List.Elements.{Contains-push_cases}
 use Rattle.gm_file.specs.Fields.{Dependency}
 use Rattle.gm_store.specs.Asked.{Name, Reply, absent, answer_in, bytes, list_file, mod_file, names_in, too_long}
 use Rattle.gm_store.specs.Latest.{IsLatest}
@@ -11,14 +12,15 @@ use Rattle.gm_graph.specs.declared.cache.class.Class.{Class}
 use Rattle.gm_file.specs.Main.{Main}
 use Rattle.gm_graph.specs.Reading.{IsFileReading}
 use Rattle.gm_graph.proofs.Sayings.{answer_stays}
-use Rattle.gm_graph_select.proofs.Ascending.{member_cases, no_member}
+use Rattle.gm_graph_select.proofs.Ascending.{no_member}
 use Rattle.gm_graph.specs.declared.fault.Fault.{Fault}
 use Rattle.gm_graph.specs.Run as graph
-use Rattle.gm_graph.specs.Run.{FileSays, IsNeeded, run_of}
+use Rattle.gm_graph.specs.Run.{AskedInTurn, FileSays, IsNeeded, run_of}
+use Rattle.gm_graph.proofs.Exactly.{names_push}
 use Rattle.gm_graph.proofs.RunLemmas.{needed}
 use Rattle.gomod_run.specs.ListingLaws.{AnswerAlike}
 use Rattle.gomod_run.specs.Outcomes.{AreFound, answers_of, given_of}
-use Rattle.gomod_run.specs.Needs.{AnsweredAll, AnswersByName, AskedAfter, AskedInTurn}
+use Rattle.gomod_run.specs.Needs.{AnsweredAll, AnswersByName}
 use Rattle.gomod_run.specs.Outcome.{Outcome}
 use Rattle.gomod_run.proofs.OneQueryStore.{alike_back, stores_agree}
 use Rattle.gomod_words.specs.declared.usage.Command.{Command}
@@ -48,16 +50,15 @@ abbrev pub Grows : (AnswersByName → Name → Type 0) → Type 0
 Grows needs = (one other : AnswersByName) → Keeps one other → (name : Name) → needs one name → needs other name
 
 -- each file that was asked for is needed by all answers
-pub needed_after : (needs : AnswersByName → Name → Type 0) → Grows needs → (before later : Pairs) → AskedAfter needs before later → (name : Name) → Contains (names_in later) name
-    → needs (answer_in (before ++ later)) name
-needed_after needs grows before [] after name there = absurd (no_member name there)
-needed_after needs grows before (pair ∷ later) after name there =
-    let here = grows (answer_in before) (answer_in (before ++ pair ∷ later)) (λ n r e. answer_stays before (pair ∷ later) n r e) pair.0 after.0 in
-    let further : Contains (names_in later) name → needs (answer_in (before ++ pair ∷ later)) name =
-    λ inside. subst (λ (pairs : Pairs). needs (answer_in pairs) name) (append_assoc before (pair ∷ []) later) (needed_after needs grows (before ++ pair ∷ []) later after.2 name inside) in
-    elim (member_cases pair.0 name (names_in later) there) [
-      | inl same ↦ subst (needs (answer_in (before ++ pair ∷ later))) same here
-      | inr inside ↦ further inside
+pub needed_in_turn : (needs : AnswersByName → Name → Type 0) → Grows needs → {asked : Pairs} → AskedInTurn needs asked → (name : Name) → Contains (names_in asked) name
+    → needs (answer_in asked) name
+needed_in_turn needs grows graph.nothing one there = absurd (no_member one there)
+needed_in_turn needs grows (graph.more {pairs} {name} reply asks need unasked) one there =
+    let longer : Pairs = pairs ++ (name, reply) ∷ [] in
+    let still : (n : Name) → needs (answer_in pairs) n → needs (answer_in longer) n = grows (answer_in pairs) (answer_in longer) (λ n r e. answer_stays pairs ((name, reply) ∷ []) n r e) in
+    elim (Contains-push_cases (names_in pairs) name one (subst (λ (names : List Name). Contains names one) (names_push pairs name reply) there)) [
+      | inl before ↦ still one (needed_in_turn needs grows asks one before)
+      | inr same ↦ subst (needs (answer_in longer)) same (still name need)
     ]
 
 pub answered_name : (asked : Pairs) (name : Name) (reply : Reply) → answer_in asked name ≡ Some reply → Contains (names_in asked) name
@@ -176,12 +177,12 @@ module _ (main : List ℕ) (sums : Option (List ℕ)) where
   -- a run that prints was answered with a file wherever it asked
   pub each_is_file : (command : Command) (asked : Pairs) (outcome : Outcome) → Ends command main sums asked outcome → AskedInTurn (Needs command main sums) asked → HasPrinted outcome
       → (name : Name) (reply : Reply) → answer_in asked name ≡ Some reply → IsFile reply
-  each_is_file Fmt asked outcome run turn prints name reply e = absurd (needed_after (Needs Fmt main sums) (λ one other keeps n need. need) [] asked turn name (answered_name asked name reply e))
+  each_is_file Fmt asked outcome run turn prints name reply e = absurd (needed_in_turn (Needs Fmt main sums) (λ one other keeps n need. need) turn name (answered_name asked name reply e))
   each_is_file (Edit operations) asked outcome run turn prints name reply e =
-      absurd (needed_after (Needs (Edit operations) main sums) (λ one other keeps n need. need) [] asked turn name (answered_name asked name reply e))
+      absurd (needed_in_turn (Needs (Edit operations) main sums) (λ one other keeps n need. need) turn name (answered_name asked name reply e))
   each_is_file (Versions path all) asked outcome run turn prints name reply e =
       needed_is_file path all (answer_in asked) outcome prints name reply (by_answers path all main sums asked outcome run)
-      (needed_after (VersionsNeed path all) (versions_grow path all) [] asked turn name (answered_name asked name reply e)) e
+      (needed_in_turn (VersionsNeed path all) (versions_grow path all) turn name (answered_name asked name reply e)) e
   each_is_file Graph asked outcome run turn prints name reply e = query_is_file Graph asked outcome refl run prints name reply e
   each_is_file (Rows after limit) asked outcome run turn prints name reply e = query_is_file (Rows after limit) asked outcome refl run prints name reply e
   each_is_file (Chain path) asked outcome run turn prints name reply e = query_is_file (Chain path) asked outcome refl run prints name reply e
@@ -196,11 +197,11 @@ module _ (main : List ℕ) (sums : Option (List ℕ)) where
   -- a file that one run asked for is one that the other asked for
   pub names_in_other : (command : Command) (asked told : Pairs) (a b : Outcome) → AnswerAlike asked told → AskedInTurn (Needs command main sums) asked → Ends command main sums asked a → HasPrinted a
       → Ends command main sums told b → HasPrinted b → (name : Name) → Contains (names_in asked) name → Contains (names_in told) name
-  names_in_other Fmt asked told a b alike turn run prints again also name there = absurd (needed_after (Needs Fmt main sums) (λ one other keeps n need. need) [] asked turn name there)
+  names_in_other Fmt asked told a b alike turn run prints again also name there = absurd (needed_in_turn (Needs Fmt main sums) (λ one other keeps n need. need) turn name there)
   names_in_other (Edit operations) asked told a b alike turn run prints again also name there =
-      absurd (needed_after (Needs (Edit operations) main sums) (λ one other keeps n need. need) [] asked turn name there)
+      absurd (needed_in_turn (Needs (Edit operations) main sums) (λ one other keeps n need. need) turn name there)
   names_in_other (Versions path all) asked told a b alike turn run prints again also name there =
-      let need : VersionsNeed path all (answer_in asked) name = needed_after (VersionsNeed path all) (versions_grow path all) [] asked turn name there in
+      let need : VersionsNeed path all (answer_in asked) name = needed_in_turn (VersionsNeed path all) (versions_grow path all) turn name there in
       let too : VersionsNeed path all (answer_in told) name =
       needed_again path all (answer_in told) b also (answer_in asked) name (by_answers path all main sums told b again) (alike (list_file path)) need in
       let (reply, answered) = all_answered (Versions path all) main sums told b again also name too in

@@ -111,7 +111,10 @@ module _ (r s : Run) (alike : ReadAlike r s) where
   )
 
   pub due_to : IsRead s → (name : Name) → IsDue r name → IsDue s name
-  due_to read name due = record { read = read; needed = (needed_same name).0 due.needed; unasked = sym (alike.answers name) ∙ due.unasked }
+  due_to read name due = record {
+    called = record { read = read; needed = (needed_same name).0 due.called.needed };
+    unasked = sym (alike.answers name) ∙ due.unasked;
+  }
 
   pub many_to : AreTooMany r → AreTooMany s
   many_to many = many_too r s unpruned_to tops_to requires_to many

@@ -2,7 +2,7 @@
 use Rattle.std.specs.Prelude.{◌≡◌, ◌⊎◌, ℕ, List, Option, Some}
 use Rattle.gm_store.specs.Asked.{Name, Reply, absent, answer_in}
 use Rattle.gomod_run.specs.Outcome.{Outcome}
-use Rattle.gomod_run.specs.Needs.{AskedInTurn}
+use Rattle.gm_graph.specs.Run.{AskedInTurn}
 use Rattle.gomod_words.specs.declared.usage.Command.{Command}
 use Rattle.gomod_run.specs.Runs.{Needs}
 use Rattle.gomod_laws.specs.FolderLaws.{AskForTheSame}

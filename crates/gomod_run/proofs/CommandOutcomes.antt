@@ -20,7 +20,7 @@ use Rattle.gm_graph_select.specs.BuildList.{Entry, IsRestAfter}
 use Rattle.gm_graph_select.specs.Graph.{among, edge}
 use Rattle.gm_graph_select.proofs.Same.{same_chain}
 use Rattle.gm_graph.specs.declared.fault.Fault.{Fault}
-use Rattle.gm_graph.specs.Run.{AreFaults, AreTooMany, IsDue, IsEdge, IsRead, Run, run_of}
+use Rattle.gm_graph.specs.Run.{AreFaults, AreTooMany, AskedInTurn, IsDue, IsEdge, IsRead, Run, run_of}
 use Rattle.gm_graph.specs.Outcome.{IsLoaded, LoadedGraph as Loaded}
 use Rattle.gomod_run.specs.declared.reports.report.Report.{Report}
 use Rattle.gomod_run.specs.FromFaults.{report_by_bytes, report_by_load}
@@ -31,11 +31,11 @@ use Rattle.gomod_run.specs.declared.listing.query.Query.{Query}
 use Rattle.gomod_run.specs.declared.listing.query.Query.TheVariants.{Graph, List as Rows, Chain}
 use Rattle.gomod_run.specs.ListingTexts.{at_most, list_text}
 use Rattle.gomod_run.specs.Outcomes.{AreInvalidSums, AreSums, FilesReadAs, Given, PrintsRows, QueryEnds, answers_of, bad_main, bad_sums, device, faulty, given_of, no_fault, path_listed, too_many}
-use Rattle.gomod_run.specs.Needs.{AnswersByName, AskedInTurn, FailsInTurn, GraphNeeds}
+use Rattle.gomod_run.specs.Needs.{AnswersByName, FailsInTurn, GraphNeeds}
 use Rattle.gomod_run.specs.Refusals.{IsRefusedRead}
 use Rattle.gomod_run.specs.Runs.{ComesTo, Needs, PrintsOf, RunEnds, command_of, run_between}
 use Rattle.gomod_run.proofs.AllAsked.{done_if_memory}
-use Rattle.gomod_run.proofs.InTurn.{none_in_turn}
+use Rattle.gm_graph.proofs.Dues.{none_in_turn}
 use Rattle.gomod_words.specs.declared.usage.Command.{Command}
 use Rattle.gomod_words.specs.declared.usage.Command.TheVariants.{Versions}
 use Rattle.gomod_run.specs.Found.{IsOutcomeOfFound, PrintsFound, ReportsFaultsOr}

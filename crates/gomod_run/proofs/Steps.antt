@@ -22,8 +22,10 @@ use Rattle.gomod_run.specs.Reports.{device_line, list_line}
 use Rattle.gomod_run.specs.Asking.{IsAnsweredAsk, IsAsked, IsLatestAsked, IsRefusedAt, IsUnanswered}
 use Rattle.gomod_run.specs.Listing.{IsAllOutcome, IsListAsked, IsShownAsked}
 use Rattle.gm_store.specs.States.{HasServed, StoreState}
-use Rattle.gomod_run.specs.Needs.{AnswersByName, AskedInTurn, FailsInTurn}
-use Rattle.gomod_run.proofs.InTurn.{IsWanted, none_in_turn}
+use Rattle.gm_graph.specs.Run.{AskedInTurn, more, nothing}
+use Rattle.gm_graph.proofs.Dues.{none_in_turn}
+use Rattle.gomod_run.specs.Needs.{AnswersByName, FailsInTurn}
+use Rattle.gomod_run.proofs.InTurn.{IsWanted}
 use Rattle.gomod_run.specs.Runs.{ComesTo, run_between, told_between}
 use Rattle.gomod_run.specs.Versions.{IsEndByList, IsRefusedList, IsShownBy, IsShownOutcome, IsUnfetchable, IsVersionsOutcome, NeedsFile, VersionsEnds, VersionsNeed, answered, by_latest, by_list, device, unfetchable, unfiltered, versions_line}
 use Rattle.gomod_words.specs.declared.usage.Command.TheVariants.{Versions}
@@ -36,12 +38,10 @@ abbrev pub Pairs : Type 0
 Pairs = List (Name × Reply)
 
 module _ (path : List ℕ) (all : Bool) where
-  Needed : Pairs → Type 0
-  Needed asked = AskedInTurn (VersionsNeed path all) asked
-
   pub list_in_turn : (asked : Pairs) (reply : Reply) → is_fetchable path ≡ true → asked ≡ (list_file path, reply) ∷ [] → AskedInTurn (VersionsNeed path all) asked
   list_in_turn asked reply fetchable is =
-      subst (λ (a : Pairs). AskedInTurn (VersionsNeed path all) a) (sym is) ((fetchable, inl refl), refl, tt)
+      subst (λ (a : Pairs). AskedInTurn (VersionsNeed path all) a) (sym is)
+      (more {pairs = []} {name = list_file path} reply nothing (fetchable, inl refl) refl)
 
   file_needed : (list : List ℕ) (versions : List (List ℕ)) (latest : List ℕ) (rest : Pairs) → all ≡ false → AreListed path list versions
       → IsLatest versions latest → NeedsFile path all (answer_in ((list_file path, bytes list) ∷ rest)) (mod_file path latest)
@@ -52,7 +52,8 @@ module _ (path : List ℕ) (all : Bool) where
       → AskedInTurn (VersionsNeed path all) asked
   both_in_turn asked list versions latest reply fetchable some listed latest_is is =
       subst (λ (a : Pairs). AskedInTurn (VersionsNeed path all) a) (sym is)
-      ((fetchable, inl refl), refl, ((fetchable, inr (file_needed list versions latest [] some listed latest_is)), refl, tt))
+      (more {pairs = (list_file path, bytes list) ∷ []} {name = mod_file path latest} reply (list_in_turn _ (bytes list) fetchable refl)
+      (fetchable, inr (file_needed list versions latest [] some listed latest_is)) refl)
 
   -- ---- endings
 
@@ -131,13 +132,13 @@ none_more names name e = let rest : [] ≡ name ∷ [] = append_cancel_left name
 -- the device failed on no file
 unrefused : (old new : StoreState) (outcome : Outcome) → new.refused ≡ old.refused
     → (name : Name) → new.refused ≡ old.refused ++ name ∷ [] → outcome ≡ failure_of (device_line name)
-unrefused old new outcome same name more = absurd (none_more old.refused name (sym same ∙ more))
+unrefused old new outcome same name grown = absurd (none_more old.refused name (sym same ∙ grown))
 
 -- it failed on one file, which is reported
 refused_on : (old new : StoreState) (outcome : Outcome) (one : Name) → outcome ≡ failure_of (device_line one) → new.refused ≡ old.refused ++ one ∷ []
     → (name : Name) → new.refused ≡ old.refused ++ name ∷ [] → outcome ≡ failure_of (device_line name)
-refused_on old new outcome one is grown name more =
-    let tail : one ∷ [] ≡ name ∷ [] = append_cancel_left old.refused (one ∷ []) (name ∷ []) (sym grown ∙ more) in
+refused_on old new outcome one is grown name also =
+    let tail : one ∷ [] ≡ name ∷ [] = append_cancel_left old.refused (one ∷ []) (name ∷ []) (sym grown ∙ also) in
     let same : one ≡ name = cc tail in is ∙ ap (λ (name : Name). failure_of (device_line name)) same
 
 -- ---- the clauses of a run
@@ -283,15 +284,15 @@ module _ (path : List ℕ) (all : Bool) (old mid new : StoreState) (first : old.
       }
   latest_run versions latest outcome listed greatest (inr (inl (is, asked, grown))) =
       let alone : new.asked ≡ (list_file path, bytes list) ∷ [] = asked ∙ list_alone in
-      let more : new.refused ≡ old.refused ++ mod_file path latest ∷ [] = grown ∙ ap (λ (names : List Name). names ++ mod_file path latest ∷ []) heard.1 in
+      let refuses : new.refused ≡ old.refused ++ mod_file path latest ∷ [] = grown ∙ ap (λ (names : List Name). names ++ mod_file path latest ∷ []) heard.1 in
       let wanted : IsWanted (VersionsNeed path all) (mod_file path latest) new.asked =
       file_wanted path all old new outcome list versions latest fetchable some listed greatest alone in
       record {
-        ends = inl (ends_device_file path all old new outcome list versions latest fetchable some listed greatest alone is more);
-        device = refused_on old new outcome (mod_file path latest) is more;
+        ends = inl (ends_device_file path all old new outcome list versions latest fetchable some listed greatest alone is refuses);
+        device = refused_on old new outcome (mod_file path latest) is refuses;
         no_list = refused_as (λ list outcome. ⊤) path (answer_in new.asked) (bytes list) outcome fetchable (list_is path all old new outcome (bytes list) alone) tt;
         in_turn = list_in_turn path all new.asked (bytes list) fetchable alone;
-        fails = inr (mod_file path latest, wanted.0, wanted.1, more);
+        fails = inr (mod_file path latest, wanted.0, wanted.1, refuses);
       }
   latest_run versions latest outcome listed greatest (inr (inr unasked)) = unasked_run outcome unasked
 

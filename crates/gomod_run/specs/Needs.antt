@@ -5,7 +5,7 @@ use Rattle.gm_store.specs.Asked.{Name, Reply, answer_in}
 use Rattle.gm_store.specs.States.{StoreState}
 use Rattle.gm_store_sums.specs.Sums.{Sums}
 use Rattle.gm_file.specs.Main.{Main}
-use Rattle.gm_graph.specs.Run.{IsNeeded, IsRead}
+use Rattle.gm_graph.specs.Run.{CallsFor}
 use Rattle.gomod_run.specs.Outcomes.{FilesReadAs}
 
 -- what a store answered
@@ -13,16 +13,6 @@ abbrev pub AnswersByName : Type 0
 AnswersByName = Name → Option Reply
 
 -- ---- what a store was asked in a run
-
--- each of the later files was needed by the answers before it, and had not been asked for before
-abbrev pub AskedAfter : (AnswersByName → Name → Type 0) → List (Name × Reply) → List (Name × Reply) → Type 0
-AskedAfter needs before [] = Unit {0}
-AskedAfter needs before (pair ∷ later) =
-    needs (answer_in before) pair.0 × (answer_in before pair.0 ≡ None) × AskedAfter needs (before ++ pair ∷ []) later
-
--- each file was needed by the answers before it, and asked for once
-abbrev pub AskedInTurn : (AnswersByName → Name → Type 0) → List (Name × Reply) → Type 0
-AskedInTurn needs asked = AskedAfter needs [] asked
 
 -- each file that the answers call for is answered
 abbrev pub AnsweredAll : (AnswersByName → Name → Type 0) → AnswersByName → Type 0
@@ -46,5 +36,4 @@ pub record GraphNeeds (file : List ℕ) (sums : Option (List ℕ)) (answers : An
   pub main : Main
   pub table : Option Sums
   pub read : FilesReadAs file sums main table
-  pub known : IsRead (record { main = main; sums = table; answers = answers })
-  pub needed : IsNeeded (record { main = main; sums = table; answers = answers }) name
+  pub called : CallsFor (record { main = main; sums = table; answers = answers }) name

@@ -3,6 +3,7 @@ use Rattle.std.specs.Prelude.{◌≡◌, ◌++◌, ◌∷◌, ℕ, Bool, List, [
 use Rattle.std.specs.Option.{option_copied}
 use Rattle.gm_store.specs.States.{HasServed, StoreState}
 use Rattle.gm_store.specs.Asked.{Name, Reply, answer_in}
+use Rattle.gm_graph.specs.Run.{AskedInTurn}
 use Rattle.gm_syntax.specs.declared.fault.SyntaxFault.{SyntaxFault}
 use Rattle.gm_syntax.specs.Document.{Line}
 use Rattle.gm_syntax.specs.Layout.{layout}
@@ -14,7 +15,7 @@ use Rattle.gomod_run.specs.declared.listing.query.Query.TheVariants as query
 use Rattle.gomod_run.specs.Outcome.{OrNoMemory, Outcome, failure_of, output_of, report_of}
 use Rattle.gomod_run.specs.Outcomes.{Answers, ChainEnds, Given, GraphEnds, ListEnds, Prints, PrintsChain, PrintsGraph, PrintsList, answers_of, given_of}
 use Rattle.gomod_run.specs.Reports.{FaultPlace, device_line, main_line, syntax_place}
-use Rattle.gomod_run.specs.Needs.{AnsweredAll, AnswersByName, AskedInTurn, FailsInTurn, GraphNeeds}
+use Rattle.gomod_run.specs.Needs.{AnsweredAll, AnswersByName, FailsInTurn, GraphNeeds}
 use Rattle.gomod_words.specs.Usage.{texts_in}
 use Rattle.gomod_words.specs.declared.usage.Command.{Command}
 use Rattle.gomod_words.specs.declared.usage.Command.TheVariants.{Fmt, Edit, Versions, Graph, List as Rows, Chain}

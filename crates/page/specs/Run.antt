@@ -90,10 +90,14 @@ abbrev pub IsRead : Run → Type 0
 IsRead run = (name : Name) (reply : Reply) → run.answers name ≡ Some reply
     → (said : Result Dependency Class) × IsFileReading run.sums name reply said
 
--- By these answers the name is needed, and it is not among them.
-pub record IsDue (run : Run) (name : Name) : Type 0 where
+-- Each answer says something, and by these answers the name is needed.
+pub record CallsFor (run : Run) (name : Name) : Type 0 where
   pub read : IsRead run
   pub needed : IsNeeded run name
+
+-- By these answers the name is needed, and it is not among them.
+pub record IsDue (run : Run) (name : Name) : Type 0 where
+  pub called : CallsFor run name
   pub unasked : run.answers name ≡ None
 
 -- Exactly the needed files were asked for, each once, and at most 65,536 modules are opened.

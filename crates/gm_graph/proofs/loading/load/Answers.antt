@@ -6,20 +6,20 @@ use Rattle.gm_file.specs.Main.{main_of}
 use Rattle.gm_store.specs.Asked.{Name, name_of}
 use Rattle.gm_store.proofs.Serving.{nothing_served}
 use Rattle.gm_graph.specs.Builder.{IsBuilder, edges_in, sources_in}
-use Rattle.gm_graph.specs.Run.{AreTooMany, IsDue, IsRead, Run}
+use Rattle.gm_graph.specs.Run.{AreTooMany, IsDue, IsRead, LoadingNeeds, Run}
 use Rattle.gm_graph.specs.Visiting.{IsOpenedIn}
 use Rattle.gm_graph_select.specs.declared.step.Step.TheVariants.{Of}
 use Rattle.gm_graph_select.specs.Chains.{IsRooted}
 use Rattle.gm_graph_select.specs.Graph.{IsEdgeEnd, among}
 use Rattle.gm_graph_select.specs.Order.{HaveSame}
 use Rattle.gm_graph_select.specs.StepOrder.{step_eq}
-use Rattle.gm_graph.proofs.Dues.{asks_nothing, refused_same}
+use Rattle.gm_graph.proofs.Dues.{none_in_turn, refused_same}
 use Rattle.gm_graph.proofs.Loads.{gathered_ends, gathered_rooted, loads, too_many_first}
 use Rattle.gm_graph.proofs.Stepping.{asks_by, by_run}
 use Rattle.gm_graph.proofs.loading.load.Goals as goal
 
 pub returns-in_err-builder-clause-asks : goal.returns-in_err-builder-clause-asks
-returns-in_err-builder-clause-asks g c = asks_nothing _ _ _ c.requires
+returns-in_err-builder-clause-asks g c = none_in_turn (LoadingNeeds (main_of c.args.main.now) (option_copied c.args.sums)) _ c.requires
 
 pub returns-in_err-builder-clause-refused : goal.returns-in_err-builder-clause-refused
 returns-in_err-builder-clause-refused g c =
@@ -28,7 +28,7 @@ returns-in_err-builder-clause-refused g c =
     sym (append-nil refused) ∙ ap (λ (ns : List Name). refused ++ ns) (sym (same ∙ c.in_err-builder.ensures.not_refused))
 
 pub returns-in_err-cache-clause-asks : goal.returns-in_err-cache-clause-asks
-returns-in_err-cache-clause-asks g c = asks_nothing _ _ _ c.requires
+returns-in_err-cache-clause-asks g c = none_in_turn (LoadingNeeds (main_of c.args.main.now) (option_copied c.args.sums)) _ c.requires
 
 pub returns-in_err-visit_all-clause-asks : goal.returns-in_err-visit_all-clause-asks
 returns-in_err-visit_all-clause-asks g c =

@@ -6,7 +6,8 @@ use Rattle.gm_file.specs.Main.{main_of}
 use Rattle.gomod_run.specs.Needs.{GraphNeeds}
 use Rattle.gomod_run.specs.Outcome.{outcome_view}
 use Rattle.gomod_run.proofs.CommandOutcomes.{answered, both_ok, broken, not_broken, not_loaded, query_comes, refused_read, unasked}
-use Rattle.gomod_run.proofs.InTurn.{due_in_turn, load_fails, none_in_turn}
+use Rattle.gm_graph.proofs.Dues.{none_in_turn}
+use Rattle.gomod_run.proofs.InTurn.{load_fails, loading_in_turn}
 use Rattle.gomod_run.proofs.listing.answering.answer.Goals as goal
 
 pub returns-in_err-read : goal.returns-in_err-read
@@ -34,7 +35,7 @@ returns-in_err-loaded g c =
     rw (p.1, p.2)
     (query_comes c.args.query file sums _ _ old new _
     (not_loaded c.args.query file sums main table old new c.load.result c.in_err-loaded.field-0.0 c.in_err-loaded.was both load.too_many load.device load.refused)
-    (due_in_turn file sums main table both load.asks) (load_fails file sums main table both old new c.load.result load.refused load.device) load.served
+    (loading_in_turn file sums main table both load.asks) (load_fails file sums main table both old new c.load.result load.refused load.device) load.served
     (λ name grown. broken old new c.load.result c.in_err-loaded.field-0.0 name c.in_err-loaded.was load.refused grown))
 
 pub returns : goal.returns
@@ -49,6 +50,6 @@ returns g c =
     query_comes args.query args.file.now sums _ _ old new (outcome_view c.tell.result)
     (answered args.query args.file.now sums (main_of read.main) read.table old new c.load.result c.in_ok-loaded.loaded (outcome_view c.tell.result) c.in_ok-loaded.was both
     load.loaded load.refused c.tell.ensures)
-    (due_in_turn args.file.now sums (main_of read.main) read.table both load.asks)
+    (loading_in_turn args.file.now sums (main_of read.main) read.table both load.asks)
     (load_fails args.file.now sums (main_of read.main) read.table both old new c.load.result load.refused load.device) load.served
     (λ name grown. not_broken old new c.load.result c.in_ok-loaded.loaded name c.in_ok-loaded.was load.refused grown)
