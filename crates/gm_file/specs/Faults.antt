@@ -177,8 +177,8 @@ first_of found = find (λ a. list_all (λ b. not (precedes b a)) found) found
 
 -- the fault of a main file without `module`
 abbrev pub missing_module : Mode → List Directive → Option Fault
-missing_module Strict directive_said = if list_any is_module directive_said then None else Some (0, NoModule)
-missing_module Lax directive_said = None
+missing_module Strict said = if list_any is_module said then None else Some (0, NoModule)
+missing_module Lax said = None
 
 -- the fault that reading the lines reports; NoModule only if there is no other
 unfoldable pub fault_of : Mode → List (Line Word) → Option Fault

@@ -225,7 +225,7 @@ query_comes query file sums before after old new outcome ends turn fails served 
 
 -- a run of `fmt` or `edit`, which needs no file
 pub bytes_come : (command : Command) (file : List ℕ) (sums : Option (List ℕ)) (may : Name → Reply → Type 0) (state : StoreState) (outcome : Outcome)
-    → ((answers_of : AnswersByName) (name : Name) → Needs command file sums answers_of name → ⊥) → ((path : List ℕ) (all : Bool) → command ≡ Versions path all → ⊥)
+    → ((answers : AnswersByName) (name : Name) → Needs command file sums answers name → ⊥) → ((path : List ℕ) (all : Bool) → command ≡ Versions path all → ⊥)
     → state.asked ≡ [] → OrNoMemory (RunEnds command (run_between file sums state state)) outcome → ComesTo command file sums may may state state outcome
 bytes_come command file sums may state outcome needless other none ends = record {
   ends = ends;

@@ -56,12 +56,12 @@ readable_outcome may_open may_take words outcome stated =
     subst (λ (unreadable : Option (List ℕ)). IsOutcomeUnless may_open may_take (map string_bytes words) unreadable outcome) (sym (all_readable words)) stated
 
 -- an end of the program's name and the given words, as a slice of texts, is an end of the program
-pub program_ends : (may_open : List ℕ → Opening → Type 0) (may_take : Opening → Type 0) (given_of : Option (List (List ℕ))) (texts slice : List (Bor (List ℕ))) (words lent : List (String Global)) (out out' report report' : SinkState) (status : ℕ)
-    → AreGiven given_of (map string_bytes words) → map (λ text. text.now) texts ≡ codes "gomod" ∷ map string_bytes lent
+pub program_ends : (may_open : List ℕ → Opening → Type 0) (may_take : Opening → Type 0) (given : Option (List (List ℕ))) (texts slice : List (Bor (List ℕ))) (words lent : List (String Global)) (out out' report report' : SinkState) (status : ℕ)
+    → AreGiven given (map string_bytes words) → map (λ text. text.now) texts ≡ codes "gomod" ∷ map string_bytes lent
     → EndsAsStated (IsWordsOutcome may_open may_take (map (λ text. text.now) slice)) out out' report report' status → lent ≡ words → slice ≡ texts
-    → EndsAsStated (IsProgramOutcome may_open may_take given_of) out out' report report' status
-program_ends may_open may_take given_of texts slice words lent out out' report report' status are is ends whole same =
-    ends_weaken (IsWordsOutcome may_open may_take (map (λ text. text.now) slice)) (IsProgramOutcome may_open may_take given_of) out out' report report' status
+    → EndsAsStated (IsProgramOutcome may_open may_take given) out out' report report' status
+program_ends may_open may_take given texts slice words lent out out' report report' status are is ends whole same =
+    ends_weaken (IsWordsOutcome may_open may_take (map (λ text. text.now) slice)) (IsProgramOutcome may_open may_take given) out out' report report' status
     (λ outcome stated. (
       map string_bytes words,
       are,
@@ -71,27 +71,27 @@ program_ends may_open may_take given_of texts slice words lent out out' report r
     )) ends
 
 -- an end that reports the first word which is not UTF-8 is an end of the program
-pub unreadable_ends : (may_open : List ℕ → Opening → Type 0) (may_take : Opening → Type 0) (given_of : Option (List (List ℕ))) (fault : UsageFault) (out out' report report' : SinkState) (status : ℕ) → IsUnreadableWords given_of fault
-    → IsWritten (usage_outcome fault) out out' report report' status → EndsAsStated (IsProgramOutcome may_open may_take given_of) out out' report report' status
-unreadable_ends may_open may_take given_of NoMemory out out' report report' status is written = record { outcome = out_of_memory; as_stated = inr refl; utf8 = IsUtf8-nil; written = written }
-unreadable_ends may_open may_take given_of (Line text) out out' report report' status (word, first, shown) written =
+pub unreadable_ends : (may_open : List ℕ → Opening → Type 0) (may_take : Opening → Type 0) (given : Option (List (List ℕ))) (fault : UsageFault) (out out' report report' : SinkState) (status : ℕ) → IsUnreadableWords given fault
+    → IsWritten (usage_outcome fault) out out' report report' status → EndsAsStated (IsProgramOutcome may_open may_take given) out out' report report' status
+unreadable_ends may_open may_take given NoMemory out out' report report' status is written = record { outcome = out_of_memory; as_stated = inr refl; utf8 = IsUtf8-nil; written = written }
+unreadable_ends may_open may_take given (Line text) out out' report report' status (word, first, shown) written =
     let (words, are, unreadable) = first in
     let outcome : Outcome = usage_error (string_bytes text) in
-    let stated : IsProgramOutcome may_open may_take given_of outcome = (
+    let stated : IsProgramOutcome may_open may_take given outcome = (
       words,
       are,
       subst (λ (found : Option (List ℕ)). IsOutcomeUnless may_open may_take words found outcome) (sym unreadable) (ap usage_error shown),
     ) in
     record { outcome = outcome; as_stated = inl stated; utf8 = IsUtf8-nil; written = written }
-unreadable_ends may_open may_take given_of (Help text) out out' report report' status is written = absurd is
-unreadable_ends may_open may_take given_of (Version text) out out' report report' status is written = absurd is
-unreadable_ends may_open may_take given_of (BadPath text) out out' report report' status is written = absurd is
-unreadable_ends may_open may_take given_of (BadProxy text) out out' report report' status is written = absurd is
+unreadable_ends may_open may_take given (Help text) out out' report report' status is written = absurd is
+unreadable_ends may_open may_take given (Version text) out out' report report' status is written = absurd is
+unreadable_ends may_open may_take given (BadPath text) out out' report report' status is written = absurd is
+unreadable_ends may_open may_take given (BadProxy text) out out' report report' status is written = absurd is
 
 -- the exit status is that of the program's end
-pub program_status : (may_open : List ℕ → Opening → Type 0) (may_take : Opening → Type 0) (given_of : Option (List (List ℕ))) (out out' report report' : SinkState) (status : ℕ) → EndsAsStated (IsProgramOutcome may_open may_take given_of) out out' report report' status
-    → IsProgramStatus may_open may_take given_of status
-program_status may_open may_take given_of out out' report report' status ends = elim ends.written [
+pub program_status : (may_open : List ℕ → Opening → Type 0) (may_take : Opening → Type 0) (given : Option (List (List ℕ))) (out out' report report' : SinkState) (status : ℕ) → EndsAsStated (IsProgramOutcome may_open may_take given) out out' report report' status
+    → IsProgramStatus may_open may_take given status
+program_status may_open may_take given out out' report report' status ends = elim ends.written [
   | inl whole ↦ elim ends.as_stated [
     | inl stated ↦ inl (ends.outcome, stated, whole.1)
     | inr memory ↦ inr (whole.1 ∙ ap (λ (outcome : Outcome). outcome.status) memory)

@@ -26,7 +26,7 @@ pub record Answers : Type 0 where
 
 -- the record of these two lists
 abbrev pub answers_of : List (Name × Reply) → List Name → Answers
-answers_of asked report_of = record { asked = asked; failed = report_of }
+answers_of asked failed = record { asked = asked; failed = failed }
 
 -- What a run depends on: the bytes of the main module's file, those of the go.sum if one is given, and what
 -- the store answered.

@@ -156,7 +156,7 @@ IsOutcomeUnless may_open may_take words (Some unreadable) outcome =
 -- are known.
 abbrev pub IsProgramOutcome : (List ℕ → Opening → Type 0) → (Opening → Type 0) → Option (List (List ℕ)) → Outcome
     → Type 0
-IsProgramOutcome may_open may_take given_of outcome = (words : List (List ℕ)) × AreGiven given_of words
+IsProgramOutcome may_open may_take given outcome = (words : List (List ℕ)) × AreGiven given words
     × IsOutcomeUnless may_open may_take words (first_unreadable words) outcome
 
 -- the exit status of an ending
@@ -166,6 +166,6 @@ ending_code Usage = 2
 
 -- the exit status: that of the program's outcome, or 3 if memory runs out or an output fails
 abbrev pub IsProgramStatus : (List ℕ → Opening → Type 0) → (Opening → Type 0) → Option (List (List ℕ)) → ℕ → Type 0
-IsProgramStatus may_open may_take given_of status =
-    ((outcome : Outcome) × IsProgramOutcome may_open may_take given_of outcome × (status ≡ outcome.status))
+IsProgramStatus may_open may_take given status =
+    ((outcome : Outcome) × IsProgramOutcome may_open may_take given outcome × (status ≡ outcome.status))
     ⊎ (status ≡ 3)

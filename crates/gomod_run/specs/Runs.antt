@@ -75,10 +75,10 @@ run_between main sums old new = given_of main sums (told_between old new)
 
 -- the files that a command needs, given the answers so far
 abbrev pub Needs : Command → List ℕ → Option (List ℕ) → AnswersByName → Name → Type 0
-Needs Fmt main sums answers_of name = ⊥
-Needs (Edit operations) main sums answers_of name = ⊥
-Needs (Versions path all) main sums answers_of name = VersionsNeed path all answers_of name
-Needs _ main sums answers_of name = GraphNeeds main sums answers_of name
+Needs Fmt main sums answers name = ⊥
+Needs (Edit operations) main sums answers name = ⊥
+Needs (Versions path all) main sums answers name = VersionsNeed path all answers name
+Needs _ main sums answers name = GraphNeeds main sums answers name
 
 -- What holds however a run of a command ends, with this status and these reports. `before` says which answers its store
 -- might give before the run, `after` which ones it may give after it.
