@@ -1,6 +1,6 @@
 //! Copies of the definitions behind what `list` prints, tried on a few worlds.
 //!
-//! Change one in specs/ and check: it is refused (docs/proof/HEADLINE.md, "Change a definition"). The world of
+//! Change one in specs/ and check (docs/proof/HEADLINE.md, "Change a definition"). The world of
 //! `pruned_is_listed` is followed there to the last byte that is printed.
 #![tactic(auto)]
 
