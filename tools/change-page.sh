@@ -185,10 +185,10 @@ BuildList
 pub parts : entries ≡ before ++ entry ∷ rest
 pub parts : entries ≡ before ++ rest
 
-at_most: a limit changes nothing
+up_to: a limit changes nothing
 ListingTexts
-at_most (Some n) xs = take n xs
-at_most (Some n) xs = xs
+up_to (Some n) xs = take n xs
+up_to (Some n) xs = xs
 
 IsNeeded: a file that may not be asked for is needed
 Run
@@ -207,13 +207,13 @@ is_askable name ≡ false → FileSays run name (Err WrongPath)
 
 QueryEnds: faults have the status of a failed device
 Outcomes
-outcome ≡ report_of (faults_text (first ∷ others))
-outcome ≡ failure_of (faults_text (first ∷ others))
+outcome ≡ refusal_outcome (faults_text (first ∷ others))
+outcome ≡ failure_outcome (faults_text (first ∷ others))
 
 QueryEnds: a failed device has the status of faults
 Outcomes
-outcome ≡ failure_of (device_line name)
-outcome ≡ report_of (device_line name)
+outcome ≡ failure_outcome (device_line name)
+outcome ≡ refusal_outcome (device_line name)
 """
 
 

@@ -1,4 +1,4 @@
--- The directive that a line of a file holds, and whether a line holds one that an operation targets.
+-- The directive that a line of a file holds, and whether a line holds one that passes a test.
 use Rattle.std.specs.Prelude.{◌≡◌, ◌||◌, Bool, false, List, [], ◌∷◌, Option, Some, None}
 use Rattle.std.specs.Option.{option_map}
 use Rattle.gm_syntax.specs.Tokens.{Placed}

@@ -1,4 +1,5 @@
--- How contracts see a parsed operation, and what is known of its arguments. No public contract cites it.
+-- How contracts see a parsed operation, and what is known of its arguments. Of this file public contracts name none but
+-- `edit_of`, the view of `Op`.
 use Rattle.std.specs.Prelude.{◌≡◌, ℕ, List, Option, Some, None, Result, Ok, Err, string_bytes, ⊤, true, false, is_some}
 use Rattle.std.specs.Option.{option_map}
 use Rattle.std.specs.Borrow.{Bor}

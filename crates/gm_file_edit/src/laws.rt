@@ -24,7 +24,8 @@ ghost use Rattle.gm_file_edit.specs.Undone.{DropUndoes, DropUndoesForLayout};
 pub fn edited_lines_are_read()
     ensures { (text : List ℕ) (edit : Edit) (lines : List (Line Placed)) → edit_in text ≡ Some edit → is_fit edit ≡ true
         → IsDocument (plain_lines lines) → fault_of Strict (plain_lines lines) ≡ None
-        → IsDocument (plain_lines (lines_after edit lines)) × (fault_of Strict (plain_lines (lines_after edit lines)) ≡ None) }
+        → IsDocument (plain_lines (lines_after edit lines))
+        × (fault_of Strict (plain_lines (lines_after edit lines)) ≡ None) }
 {}
 
 /// The result of an operation doesn't depend on the source positions of words: lists of lines that differ only in

@@ -128,16 +128,16 @@ fn widen(lines: &KeyedLines, marks: &mut Vec<bool>)
 }
 
 /// Keeps a line, directly after those that are kept so far.
-fn keep(lines: &mut KeyedLines, kept_lines: usize, n: usize)
-    requires ordered { kept_lines ≤ n }
+fn keep(lines: &mut KeyedLines, kept: usize, n: usize)
+    requires ordered { kept ≤ n }
     requires in_range { n < length lines.old }
-    ensures front { take (kept_lines + 1) lines.new
-        ≡ take kept_lines lines.old ++ line_at lines.old n ∷ [] }
+    ensures front { take (kept + 1) lines.new
+        ≡ take kept lines.old ++ line_at lines.old n ∷ [] }
     ensures rest { drop (n + 1) lines.new ≡ drop (n + 1) lines.old }
     ensures len { length lines.new ≡ length lines.old }
 {
-    if kept_lines < n {
-        lines.swap(kept_lines, n);
+    if kept < n {
+        lines.swap(kept, n);
     }
 }
 

@@ -23,7 +23,7 @@ use Rattle.gm_graph.specs.declared.edge_lists.EdgeLists.{EdgeLists}
 use Rattle.gm_graph.specs.declared.graph_builder.GraphBuilder.{GraphBuilder}
 use Rattle.gm_graph.specs.declared.graph_builder.NumberedTurn.{NumberedTurn}
 use Rattle.gm_graph.specs.Builder.{Built, KeepsGraph, KeepsTurns, graph_of, turn_of, turns_of}
-use Rattle.gm_graph.specs.Building.{AddsFault, AddsSource, Gathers, fault_in, gathers, noted as with_fault}
+use Rattle.gm_graph.specs.Building.{AddsFault, AddsSource, Gathers, fault_in, gathers, faults_with as with_fault}
 use Rattle.gm_graph.specs.Visiting.{IsVisited}
 use Rattle.gm_graph.proofs.Deepening.{faulty_stops, follows_adds, follows_nothing, stops_there}
 use Rattle.gm_graph.proofs.Sayings.{file_same, not_both}

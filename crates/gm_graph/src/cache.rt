@@ -291,7 +291,8 @@ impl<'a> Cache<'a> {
         ensures sound { OnOk result (KeepsSound self.old (run_in self.old (F.state files.old).asked)
             self.new (run_in self.new (F.state files.new).asked)) }
         ensures err { OnErr result (HoldsSame self.old self.new) }
-        ensures asks { AsksFor (main_in self.old) (F.state files.old) (F.state files.new) (module_numbered self.old number) }
+        ensures asks { AsksFor (main_in self.old) (F.state files.old) (F.state files.new)
+            (module_numbered self.old number) }
         ensures device { result ≡ Err AskFault.Device → FailsFor (main_in self.old) (F.state files.old)
             (F.state files.new) (module_numbered self.old number) self.new.failed }
         ensures refused { (F.state files.new).refused ≡ (F.state files.old).refused
@@ -378,7 +379,8 @@ impl<'a> Cache<'a> {
         requires vertex { number < length (modules_in self.old) }
         requires few { file_count self.old < 4294967295 }
         ensures lends { IfOk result (LendsOver self.old (run_in self.old (F.state files.old).asked)) }
-        ensures asks { AsksFor (main_in self.old) (F.state files.old) (F.state files.new) (module_numbered self.old number) }
+        ensures asks { AsksFor (main_in self.old) (F.state files.old) (F.state files.new)
+            (module_numbered self.old number) }
         ensures refused { (F.state files.new).refused ≡ (F.state files.old).refused
             ++ refused_for (file_of (main_in self.old) (module_numbered self.old number)) result }
         ensures served { HasServed (F.may_answer files.old) (F.may_answer files.new)

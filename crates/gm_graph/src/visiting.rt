@@ -39,7 +39,8 @@ fn add_fault(
         → OnOk result (IsBuilder modules builder.new) }
     ensures visited { (modules : List ModuleVersion) (run : Run) → IsBuilder modules builder.old
         → one.number < length modules → vertex.now ≡ module_at modules one.number → Says run vertex.now (Err class)
-        → OnOk result (IsVisited run (graph_of modules builder.old) (graph_of modules builder.new) vertex.now one.depth) }
+        → OnOk result (IsVisited run (graph_of modules builder.old) (graph_of modules builder.new)
+        vertex.now one.depth) }
     ensures turns { OnOk result (KeepsTurns builder.old builder.new) }
     ensures files { OnOk result (KeepsLists builder.old.edges builder.new.edges None []) }
     ensures not_refused { refused_in result ≡ [] }

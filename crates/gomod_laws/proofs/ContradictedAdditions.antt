@@ -12,7 +12,7 @@ use Rattle.gm_graph_select.specs.declared.step.Step.TheVariants.{Main as FromMai
 use Rattle.gm_graph_select.specs.BuildList.{Entry, HasEntryFor, path_of}
 use Rattle.gm_graph_select.proofs.Ascending.{member_cases, member_head, no_member}
 use Rattle.gomod_run.specs.Outcomes.{Given}
-use Rattle.gomod_run.specs.Outcome.{Outcome, output_of}
+use Rattle.gomod_run.specs.Outcome.{Outcome, text_outcome}
 use Rattle.gomod_run.specs.ListingTexts.{edge_text}
 use Rattle.gomod_laws.specs.CounterAdditions.{ChainIsByNoLine, ChainIsToAnother, LineIsLost, RowIsLower, ShowA, UnlistedIsShown, chain_by_b, chain_to_b}
 use Rattle.gomod_laws.specs.Counterexamples.{a_one}
@@ -90,7 +90,7 @@ module _ (rows : List Entry) (edges : List Edge) (main : Main) (list_run graph_r
     (show : ShowA rows edges main list_run graph_run) where
   -- a chain for a.b is the only way
   chain_is : (chain : Outcome) → IsExplained main.path rows (map (edge_text main.path) edges) (codes "a.b") chain
-      → chain ≡ output_of (codes "m\na.b@v1.0.0\n")
+      → chain ≡ text_outcome (codes "m\na.b@v1.0.0\n")
   chain_is chain law =
       let (its, there) = row_there list_run main one_zero one_zero_is rows show.in_list in
       let own : main.path ≡ codes "m" = list_main list_run main one_zero rows show.in_list in
@@ -100,7 +100,7 @@ module _ (rows : List Entry) (edges : List Edge) (main : Main) (list_run graph_r
       subst (λ (es : List Edge). LeadsTo (map (edge_text main.path) es) main.path (codes "a.b@v1.0.0") lines) are leads in
       let by_line : Ways (codes "a.b@v1.0.0") lines =
       subst (λ (m : List ℕ). LeadsTo (map (edge_text m) (edge_to one_zero ∷ [])) m (codes "a.b@v1.0.0") lines) own way in
-      says ∙ ap (λ (ls : List (List ℕ)). output_of (text_of ls)) (way_to_a (codes "a.b@v1.0.0") lines by_line refl)
+      says ∙ ap (λ (ls : List (List ℕ)). text_outcome (text_of ls)) (way_to_a (codes "a.b@v1.0.0") lines by_line refl)
 
   no_row_of_b : (row : Entry) → Contains rows row → path_of main.path row.0 ≡ codes "b.c" → ⊥
   no_row_of_b (FromMain, right) there is =

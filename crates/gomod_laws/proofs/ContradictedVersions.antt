@@ -12,7 +12,7 @@ use Rattle.gm_store.specs.Listed.{IsListed}
 use Rattle.gm_graph.specs.Reading.{AreRetractedBy}
 use Rattle.gm_graph.proofs.OneReading.{one_retracted}
 use Rattle.gm_graph_select.proofs.Ascending.{member_cases, member_head, no_member}
-use Rattle.gomod_run.specs.Outcome.{Outcome, output_of}
+use Rattle.gomod_run.specs.Outcome.{Outcome, text_outcome}
 use Rattle.gomod_run.specs.Versions.{versions_line}
 use Rattle.gomod_run.proofs.Uniqueness.{latest_once}
 use Rattle.gomod_laws.specs.CounterVersions.{ListedIsMissing, RetractedIsShown, UnretractedIsLeftOut, both_of_a}
@@ -55,7 +55,7 @@ module _ (asked : List (Name × Reply)) (one other : Outcome) (law : LeavesOutRe
   listed_are_versions : AreVersions law.versions
   listed_are_versions version there = ((law.listed.are.members version).0 there).listable.canonical
 
-  all_are : (known : List (List ℕ)) → AreVersions known → other ≡ output_of (versions_line (codes "a.b") known) → law.versions ≡ known
+  all_are : (known : List (List ℕ)) → AreVersions known → other ≡ text_outcome (versions_line (codes "a.b") known) → law.versions ≡ known
   all_are known are is =
       line_says_versions (codes "a.b") law.versions known listed_are_versions are
       (same_text (versions_line (codes "a.b") law.versions) (versions_line (codes "a.b") known) (sym law.other_prints ∙ is))
@@ -66,7 +66,7 @@ module _ (asked : List (Name × Reply)) (one other : Outcome) (law : LeavesOutRe
       subst AreVersions (sym is)
       (λ version there. are version (from_filtered (λ v. not (is_retracted intervals v)) versions version there).0)
 
-  rest_are : (known : List (List ℕ)) → AreVersions known → one ≡ output_of (versions_line (codes "a.b") known) → law.shown ≡ known
+  rest_are : (known : List (List ℕ)) → AreVersions known → one ≡ text_outcome (versions_line (codes "a.b") known) → law.shown ≡ known
   rest_are known are is =
       line_says_versions (codes "a.b") law.shown known (from_all law.versions law.shown listed_are_versions law.unretracted) are
       (same_text (versions_line (codes "a.b") law.shown) (versions_line (codes "a.b") known) (sym law.one_prints ∙ is))
@@ -110,7 +110,7 @@ retracted_is_shown asked retracts law =
 pub unretracted_is_left_out : UnretractedIsLeftOut
 unretracted_is_left_out asked retracts law =
     let none : List VersionInterval = [] in
-    let first = output_of (codes "a.b v1.1.0\n") in
+    let first = text_outcome (codes "a.b v1.1.0\n") in
     let all = all_are asked first both_of_a law both both_known refl in
     let rest = rest_are asked first both_of_a law (one_one ∷ []) (one_known one_one one_one_is) refl in
     let shown : law.shown ≡ shown_of none both =
@@ -124,7 +124,7 @@ unretracted_is_left_out asked retracts law =
 
 pub listed_is_missing : ListedIsMissing
 listed_is_missing asked one answered law =
-    let other = output_of (codes "a.b v1.1.0\n") in
+    let other = text_outcome (codes "a.b v1.1.0\n") in
     let all = all_are asked one other law (one_one ∷ []) (one_known one_one one_one_is) refl in
     let list : law.listed.list ≡ both_listed = same_bytes law.listed.list both_listed (sym law.listed.answered ∙ answered) in
     let named : IsListed (codes "a.b") law.listed.list one_zero = subst (λ (text : List ℕ). IsListed (codes "a.b") text one_zero) (sym list) one_zero_listed in

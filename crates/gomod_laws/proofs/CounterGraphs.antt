@@ -15,7 +15,7 @@ use Rattle.gm_graph_select.proofs.Lawful.{rows_are_ends}
 use Rattle.gm_graph_select.proofs.Same.{AreSame, same_build_list, same_chain}
 use Rattle.gomod_run.specs.ListingLaws.{IsWalk, further, here}
 use Rattle.gomod_run.specs.Outcomes.{AreFound, Given}
-use Rattle.gomod_run.specs.Outcome.{output_of}
+use Rattle.gomod_run.specs.Outcome.{text_outcome}
 use Rattle.gomod_run.specs.PrintedLines.{AreProperRows, AreProperSteps, IsProperRow, IsProperStep}
 use Rattle.gomod_run.specs.Reports.{not_listed_line}
 use Rattle.gomod_run.specs.ListingTexts.{chain_text, graph_text, list_text}
@@ -150,7 +150,7 @@ chain_is_too_long run file is top (main, table, rows, s, steps, found, are, row,
 -- ---- one graph
 
 edges_are : (run : Given) (main : Main) (table : Option Sums) (edges : List Edge) → AreFound run main table [] → AreEdges (run_of main table run.told.asked) edges → main.path ≡ codes "m"
-    → graph_of_a ≡ output_of (graph_text main.path edges) → edges ≡ edge_to one_zero ∷ []
+    → graph_of_a ≡ text_outcome (graph_text main.path edges) → edges ≡ edge_to one_zero ∷ []
 edges_are run main table edges found exact own says =
     text_says_edges main.path edges (edge_to one_zero ∷ []) (run_has_names run main table found.read).0 (run_has_proper_edges run main table edges found.read exact) (edge_proper one_zero one_zero_is)
     (sym (same_text (codes "m a.b@v1.0.0\n") (graph_text main.path edges) says) ∙ ap (λ (m : List ℕ). graph_text m (edge_to one_zero ∷ [])) (sym own))
@@ -172,7 +172,7 @@ pub list_is_of_another_graph : ListIsOfAnotherGraph
 list_is_of_another_graph path run chain (main, table, edges, rows, found, exact, one) =
     let here_edges : Edges = IsEdge (run_of main table run.told.asked) in
     let are : AreRows (run_of main table run.told.asked) rows = same_build_list main.path main.replaces (among edges) here_edges rows (λ t y. exact.each (edge t y)) one.build_list in
-    let (own, same) = rows_are run main table rows found are ((Of b_one, None) ∷ []) with_b_proper (sym (same_text (codes "m\nb.c v1.0.0\n") (list_text main.path rows) (all_rows main rows None (output_of (codes "m\nb.c v1.0.0\n")) one.list_is))) in
+    let (own, same) = rows_are run main table rows found are ((Of b_one, None) ∷ []) with_b_proper (sym (same_text (codes "m\nb.c v1.0.0\n") (list_text main.path rows) (all_rows main rows None (text_outcome (codes "m\nb.c v1.0.0\n")) one.list_is))) in
     let there : Contains rows (Of b_one, None) = subst (λ (es : List Entry). Contains es (Of b_one, None)) (sym same) (member_tail main_entry (Of b_one, None) ((Of b_one, None) ∷ []) (member_head (Of b_one, None) [])) in
     let (s, end) = rows_are_ends main.path main.replaces edges rows one.build_list b_one None there in
     b_is_no_end edges s (edges_are run main table edges found exact own one.graph_is) end

@@ -18,10 +18,10 @@ use Rattle.gm_graph_select.specs.Laws.{entries_of_pages}
 use Rattle.gm_graph_select.proofs.Ascending.{member_cases, member_head, member_tail, no_member}
 use Rattle.gomod_run.specs.ListingLaws.{AreGreatest, ArePrintedPages, ShowsBuildList, no_row, one_page}
 use Rattle.gomod_run.specs.Outcomes.{AreFound, Given, ListEnds, no_path, path_listed, path_unlisted}
-use Rattle.gomod_run.specs.Outcome.{Outcome, output_of, report_of}
+use Rattle.gomod_run.specs.Outcome.{Outcome, text_outcome, refusal_outcome}
 use Rattle.gomod_run.specs.PrintedLines.{AreProperRows, IsProperRow}
 use Rattle.gomod_run.specs.Reports.{not_listed_line}
-use Rattle.gomod_run.specs.ListingTexts.{at_most, list_text}
+use Rattle.gomod_run.specs.ListingTexts.{up_to, list_text}
 use Rattle.gomod_run.proofs.GreatestRows.{as_build_list}
 use Rattle.gomod_run.proofs.ListLines.{Lacks, cut_at, lacks, path_has_no_blank, path_has_no_feed, text_says_rows}
 use Rattle.gomod_run.proofs.OneRead.{one_main}
@@ -152,7 +152,7 @@ record Selects (run : Given) (known : List ModuleVersion) : Type 0 where
   greatest : AreGreatest (run_of main table run.told.asked) known
 
 selects : (run : Given) (text : List ℕ) (known : List ModuleVersion) → AllByRecursion IsName known → text ≡ list_text (codes "m") (main_entry ∷ map row_at known)
-    → ShowsBuildList run (output_of text) → Selects run known
+    → ShowsBuildList run (text_outcome text) → Selects run known
 selects run text known names is (main, table, selected, found, greatest, says) =
     let r : Run = run_of main table run.told.asked in
     let rows : List Entry = main_entry ∷ map (entry_of main.replaces) selected in
@@ -244,14 +244,14 @@ row_is_not_required run main is nothing shows =
 -- ---- parts
 
 whole_is : (run : Given) (main : Main) (table : Option Sums) (rows : List Entry) → AreFound run main table [] → AreRows (run_of main table run.told.asked) rows
-    → list_of_a ≡ output_of (list_text main.path rows) → (main.path ≡ codes "m") × (rows ≡ rows_with_a)
+    → list_of_a ≡ text_outcome (list_text main.path rows) → (main.path ≡ codes "m") × (rows ≡ rows_with_a)
 whole_is run main table rows found are says =
     rows_are run main table rows found are (row_at a_one ∷ []) with_a_proper (sym (same_text (codes "m\na.b v1.0.0\n") (list_text main.path rows) says))
 
 pub part_has_another_row : PartHasAnotherRow
 part_has_another_row after limit run (main, table, rows, found, are, says, prints) =
     let (own, same) = whole_is run main table rows found are says in
-    let (shown, text, inside) = printed_rows main rows after limit (output_of (codes "b.c v1.0.0\n")) refl prints in
+    let (shown, text, inside) = printed_rows main rows after limit (text_outcome (codes "b.c v1.0.0\n")) refl prints in
     let is : shown ≡ row_at b_one ∷ [] = some_are run main table rows found are shown (row_at b_one ∷ []) inside (each_of IsProperRow (row_at b_one ∷ []) (b_proper, tt)) (sym text) in
     let there : Contains shown (row_at b_one) = subst (λ (es : List Entry). Contains es (row_at b_one)) (sym is) (member_head (row_at b_one) []) in
     b_is_no_row (subst (λ (es : List Entry). Contains es (row_at b_one)) same (inside (row_at b_one) there))
@@ -259,8 +259,8 @@ part_has_another_row after limit run (main, table, rows, found, are, says, print
 pub part_is_too_long : PartIsTooLong
 part_is_too_long run (main, table, rows, found, are, says, prints) =
     let (own, same) = whole_is run main table rows found are says in
-    let one : list_of_a ≡ output_of (list_text (codes "m") (at_most (Some 1) rows_with_a)) =
-    all_rows main rows (Some 1) list_of_a prints ∙ ap (λ (m : List ℕ). output_of (list_text m (at_most (Some 1) rows))) own ∙ ap (λ (es : List Entry). output_of (list_text (codes "m") (at_most (Some 1) es))) same in
+    let one : list_of_a ≡ text_outcome (list_text (codes "m") (up_to (Some 1) rows_with_a)) =
+    all_rows main rows (Some 1) list_of_a prints ∙ ap (λ (m : List ℕ). text_outcome (list_text m (up_to (Some 1) rows))) own ∙ ap (λ (es : List Entry). text_outcome (list_text (codes "m") (up_to (Some 1) es))) same in
     let size : ◌≡◌ {A = ℕ} 13 2 = ap (λ (o : Outcome). length o.text) one in
     omega (arith, size)
 
@@ -276,7 +276,7 @@ main_is_not_later there = elim (member_cases (row_at a_one) main_entry [] there)
   | inr none ↦ no_member main_entry none
 ]
 
-pub not_refused : (text report : List ℕ) → output_of text ≡ report_of report → ⊥
+pub not_refused : (text report : List ℕ) → text_outcome text ≡ refusal_outcome report → ⊥
 not_refused text report e = let status : ◌≡◌ {A = ℕ} 0 1 = ap (λ (o : Outcome). o.status) e in omega (arith, status)
 
 pub part_is_the_whole : PartIsTheWhole
@@ -284,12 +284,12 @@ part_is_the_whole path limit run (main, table, rows, found, are, says, no_path n
 part_is_the_whole path limit run (main, table, rows, found, are, says, path_unlisted other is (none, tells)) = not_refused (codes "m\na.b v1.0.0\n") (not_listed_line other) tells
 part_is_the_whole path limit run (main, table, rows, found, are, says, path_listed other rest at_path (entry, at) tells) =
     let (own, same) = whole_is run main table rows found are says in
-    let inside : (row : Entry) → Contains (at_most limit rest) row → Contains rows row =
+    let inside : (row : Entry) → Contains (up_to limit rest) row → Contains rows row =
     λ row there. subst (λ (es : List Entry). Contains es row) (sym at.parts) (Contains-append_right at.before (entry ∷ rest) row (member_tail entry row rest (limited_member limit rest row there))) in
-    let text : list_text main.path (at_most limit rest) ≡ list_text main.path rows_with_a =
-    sym (same_text (codes "m\na.b v1.0.0\n") (list_text main.path (at_most limit rest)) tells) ∙ ap (λ (m : List ℕ). list_text m rows_with_a) (sym own) in
-    let is : at_most limit rest ≡ rows_with_a = some_are run main table rows found are (at_most limit rest) rows_with_a inside with_a_proper text in
-    let there : Contains (at_most limit rest) main_entry = subst (λ (es : List Entry). Contains es main_entry) (sym is) (member_head main_entry (row_at a_one ∷ [])) in
+    let text : list_text main.path (up_to limit rest) ≡ list_text main.path rows_with_a =
+    sym (same_text (codes "m\na.b v1.0.0\n") (list_text main.path (up_to limit rest)) tells) ∙ ap (λ (m : List ℕ). list_text m rows_with_a) (sym own) in
+    let is : up_to limit rest ≡ rows_with_a = some_are run main table rows found are (up_to limit rest) rows_with_a inside with_a_proper text in
+    let there : Contains (up_to limit rest) main_entry = subst (λ (es : List Entry). Contains es main_entry) (sym is) (member_head main_entry (row_at a_one ∷ [])) in
     main_is_not_later (later_rows at.before rest entry main_entry main_entry (row_at a_one ∷ []) (sym at.parts ∙ same) (limited_member limit rest main_entry there))
 
 -- ---- pages
@@ -300,11 +300,11 @@ data PageCase (run : Given) (main text : List ℕ) : List (List Entry) → Type 
   some_left : {pages : List (List Entry)} (front : List Entry) (last : Entry) → list_text main (front ++ last ∷ []) ≡ text
       → ArePrintedPages run main 1 (Some (path_of main last.0)) pages → PageCase run main text ((front ++ last ∷ []) ∷ pages)
 
-page_case : (run : Given) (main text : List ℕ) {after : Option (List ℕ)} {pages : List (List Entry)} → ListEnds after (Some 1) run (output_of text)
+page_case : (run : Given) (main text : List ℕ) {after : Option (List ℕ)} {pages : List (List Entry)} → ListEnds after (Some 1) run (text_outcome text)
     → ArePrintedPages run main 1 after pages → PageCase run main text pages
-page_case run main text is (no_row {after} says) = none_left (same_text text [] (one_outcome (Rows after (Some 1)) run (output_of text) (output_of []) is says))
+page_case run main text is (no_row {after} says) = none_left (same_text text [] (one_outcome (Rows after (Some 1)) run (text_outcome text) (text_outcome []) is says))
 page_case run main text is (one_page {after} {pages} front last says more) =
-    some_left front last (same_text (list_text main (front ++ last ∷ [])) text (one_outcome (Rows after (Some 1)) run (output_of (list_text main (front ++ last ∷ []))) (output_of text) says is)) more
+    some_left front last (same_text (list_text main (front ++ last ∷ [])) text (one_outcome (Rows after (Some 1)) run (text_outcome (list_text main (front ++ last ∷ []))) (text_outcome text) says is)) more
 
 last_of : (front : List Entry) (last one : Entry) → front ++ last ∷ [] ≡ one ∷ [] → last ≡ one
 last_of [] last one e = cc e
@@ -332,7 +332,7 @@ module _ (run : Given) (main : Main) (table : Option Sums) (found : AreFound run
   IsText pages = list_of_a.text ≡ flat_map (list_text main.path) pages
 
   joined_are : (pages : List (List Entry)) → AreJoined pages → IsText pages → (main.path ≡ codes "m") × (entries_of_pages pages ≡ rows_with_a)
-  joined_are pages are text = whole_is run main table (entries_of_pages pages) found are (ap output_of (text ∙ sym (texts_join main.path pages)))
+  joined_are pages are text = whole_is run main table (entries_of_pages pages) found are (ap text_outcome (text ∙ sym (texts_join main.path pages)))
 
   -- the first page is that of the main module
   first_is : (page : List Entry) (pages : List (List Entry)) → AreJoined (page ∷ pages) → IsText (page ∷ pages) → list_text main.path page ≡ only_m → page ≡ main_entry ∷ []
@@ -343,7 +343,7 @@ module _ (run : Given) (main : Main) (table : Option Sums) (found : AreFound run
 
   -- what the second is, if this is the text of the second page
   second_case : (front : List Entry) (last : Entry) (pages : List (List Entry)) (text : List ℕ) → main.path ≡ codes "m" → front ++ last ∷ [] ≡ main_entry ∷ []
-      → ListEnds (Some (codes "m")) (Some 1) run (output_of text) → ArePrintedPages run main.path 1 (Some (path_of main.path last.0)) pages → PageCase run main.path text pages
+      → ListEnds (Some (codes "m")) (Some 1) run (text_outcome text) → ArePrintedPages run main.path 1 (Some (path_of main.path last.0)) pages → PageCase run main.path text pages
   second_case front last pages text own page is more =
       let path : path_of main.path last.0 ≡ codes "m" = ap (λ (row : Entry). path_of main.path row.0) (last_of front last main_entry page) ∙ own in
       page_case run main.path text is (subst (λ (p : List ℕ). ArePrintedPages run main.path 1 (Some p) pages) path more)
@@ -368,14 +368,14 @@ module _ (run : Given) (main : Main) (table : Option Sums) (found : AreFound run
         let there : Contains second (row_at b_one) = subst (λ (es : List Entry). Contains es (row_at b_one)) (sym is) (member_head (row_at b_one) []) in
         b_is_no_row (subst (λ (es : List Entry). Contains es (row_at b_one)) (joined_are (page ∷ second ∷ pages) are text).1 (in_second second pages (row_at b_one) there))
 
-  missing_first : {pages : List (List Entry)} → AreJoined pages → IsText pages → ListEnds (Some (codes "m")) (Some 1) run (output_of []) → PageCase run main.path only_m pages → ⊥
+  missing_first : {pages : List (List Entry)} → AreJoined pages → IsText pages → ListEnds (Some (codes "m")) (Some 1) run (text_outcome []) → PageCase run main.path only_m pages → ⊥
   missing_first are text is (none_left none) = cc none
   missing_first are text is (some_left {pages} front last says more) =
       let page : List Entry = front ++ last ∷ [] in
       let first = first_is page pages are text says in
       missing_second page first are text (second_case front last pages [] (joined_are (page ∷ pages) are text).0 first is more)
 
-  other_first : {pages : List (List Entry)} → AreJoined pages → IsText pages → ListEnds (Some (codes "m")) (Some 1) run (output_of (codes "b.c v1.0.0\n")) → PageCase run main.path only_m pages → ⊥
+  other_first : {pages : List (List Entry)} → AreJoined pages → IsText pages → ListEnds (Some (codes "m")) (Some 1) run (text_outcome (codes "b.c v1.0.0\n")) → PageCase run main.path only_m pages → ⊥
   other_first are text is (none_left none) = cc none
   other_first are text is (some_left {pages} front last says more) =
       let page : List Entry = front ++ last ∷ [] in

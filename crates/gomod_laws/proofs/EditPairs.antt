@@ -22,7 +22,7 @@ use Rattle.gm_file_edit.proofs.Places.{edited-same}
 use Rattle.gm_file_edit.proofs.Undone.{drop-undoes-layout}
 use Rattle.gm_file.specs.Main.{IsMainOf}
 use Rattle.gomod_run.specs.Outcomes.{longest}
-use Rattle.gomod_run.specs.Outcome.{output_of}
+use Rattle.gomod_run.specs.Outcome.{text_outcome}
 use Rattle.gomod_run.proofs.OneRead.{misread_or_lines, same_lines}
 use Rattle.gomod_run.specs.Editing.{EditEnds, applied, bad_main}
 use Rattle.gomod_run.proofs.Sameness.{in_turn_same}
@@ -54,9 +54,9 @@ undone_is_formatted operations put file edited_to formatted are fit targets one 
       let absent : list_any (about put) (directives_of lines) ≡ false =
       ap (λ (ls : List (Line Word)). list_any (about put) (directives Strict ls)) (same_lines file lines targets.lines main.0 targets.is_main.0) ∙ targets.none in
       let undo_fits = subst (λ (o : Option Operation). IfSome o (λ undo. is_fit undo ≡ true)) are.undoes (drop_fits put) in
-      let states : edited_to ≡ output_of (layout (plain_lines lines)) =
+      let states : edited_to ≡ text_outcome (layout (plain_lines lines)) =
       says ∙ taken_turn 1 are.first (are.second ∷ []) lines put are.puts fit ∙ taken_turn 2 are.second [] (lines_after put lines) are.undo are.drops undo_fits
-      ∙ ap output_of (drop-undoes-layout put are.undo lines ((are.first, are.puts), fit, sound.0, sound.1) are.undoes absent) in
+      ∙ ap text_outcome (drop-undoes-layout put are.undo lines ((are.first, are.puts), fit, sound.0, sound.1) are.undoes absent) in
       (states ∙ fmt_is file lines formatted main.0 other.0, layout (plain_lines lines), states)
 ]
 

@@ -21,7 +21,7 @@ use Rattle.gm_file_edit.specs.Laws.{IsEditOf, directives_of}
 use Rattle.gm_file_edit.proofs.EditedSound.{edited-document}
 use Rattle.gm_file_edit.proofs.Written.{written-sound}
 use Rattle.gomod_run.specs.Editing.{EditEnds, applied, bad_main, edited_in_turn, edits_outcome, refusal_of, refusals_from}
-use Rattle.gomod_run.specs.Outcome.{Outcome, output_of, report_of}
+use Rattle.gomod_run.specs.Outcome.{Outcome, text_outcome, refusal_outcome}
 use Rattle.gomod_run.specs.Outcomes.{longest}
 use Rattle.gomod_run.specs.Reports.{edit_line, main_line}
 use Rattle.gomod_run.proofs.FolderNames.{read_document}
@@ -67,7 +67,7 @@ turn_of text = by_operation (edit_in text) refl
       | inr misfit ↦ is_refused (codes "Misfit") (rw (written, misfit) refl)
     ]
 
-pub refused_turn : (number : ℕ) (kind text : List ℕ) (texts : List (List ℕ)) (lines : List (Line Placed)) → refusal_of (edit_in text) ≡ Some kind → outcome_from number (text ∷ texts) lines ≡ report_of (edit_line (number, kind))
+pub refused_turn : (number : ℕ) (kind text : List ℕ) (texts : List (List ℕ)) (lines : List (Line Placed)) → refusal_of (edit_in text) ≡ Some kind → outcome_from number (text ∷ texts) lines ≡ refusal_outcome (edit_line (number, kind))
 refused_turn number kind text texts lines is =
     ap (λ (k : Option (List ℕ)). edits_outcome (option_to_list (option_map (λ (why : List ℕ). (number, why)) k) ++ refusals_from (number + 1) texts) (turned (text ∷ texts) lines)) is
 
@@ -81,7 +81,7 @@ taken_turn number text texts lines operation written fit = rw (written, fit) ref
 pub record PrintsFrom (texts : List (List ℕ)) (text : List ℕ) (lines : List (Line Placed)) : Type 0 where
   pub sound : AreSoundLines lines
   pub number : ℕ
-  pub prints : outcome_from number texts lines ≡ output_of text
+  pub prints : outcome_from number texts lines ≡ text_outcome text
 
 -- the first operation is taken
 abbrev IsNext : List ℕ → List (List ℕ) → List ℕ → List (Line Placed) → Operation → Type 0
@@ -113,7 +113,7 @@ after_all (first ∷ earlier) rest text lines from =
 -- the lines of the file, and what is left to do after the first operations
 pub edited_from : (operations : Vec (String Global)) (earlier rest : List (List ℕ)) (file text : List ℕ) → texts_in operations ≡ earlier ++ rest → IsEdited operations file text
     → (lines : List (Line Placed)) × IsMainOf file lines × PrintsFrom rest text (turned earlier lines)
-edited_from operations earlier rest file text given prints = elim (subst (λ (ts : List (List ℕ)). EditEnds ts file (output_of text)) given prints.0) [
+edited_from operations earlier rest file text given prints = elim (subst (λ (ts : List (List ℕ)). EditEnds ts file (text_outcome text)) given prints.0) [
   | bad_main place malformed says ↦ absurd (not_printed text (main_line place) says)
   | applied lines main says ↦ (lines, main, after_all earlier rest text lines (record { sound = read_sound file lines main; number = 1; prints = sym says }))
 ]

@@ -24,7 +24,7 @@ use Rattle.gm_graph_select.proofs.Ascending.{member_cases, member_head, no_membe
 use Rattle.gm_graph.specs.Run.{AreFaults, AreOpened, AreRows, AreTooMany, FileSays, IsDue, IsFault, IsNeeded, IsOpened, IsSettled, IsTop, IsVertex, Run, Says, answered, faulty as says_fault, from_deep, from_main, from_top, run_of, sound, unaskable, wrong_path}
 use Rattle.gm_graph.specs.declared.fault.Fault.{Fault}
 use Rattle.gomod_run.specs.Outcomes.{AreFound, FilesReadAs, ListEnds, bad_main, bad_sums, device, faulty, no_fault, no_path, too_many}
-use Rattle.gomod_run.specs.Outcome.{output_of, report_of}
+use Rattle.gomod_run.specs.Outcome.{text_outcome, refusal_outcome}
 use Rattle.gomod_run.proofs.OneRead.{misread_or_main, one_main}
 use Rattle.gomod_run.proofs.OneStore.{one_outcome}
 use Rattle.gomod_words.specs.declared.usage.Command.TheVariants.{List as Rows}
@@ -81,7 +81,7 @@ none_settled = record {
   few = none_few;
 }
 
-alone_listed : ListEnds None None (example.run_of alone [] []) (output_of (codes "m\n"))
+alone_listed : ListEnds None None (example.run_of alone [] []) (text_outcome (codes "m\n"))
 alone_listed =
     no_fault (main_requiring []) None
     (record { read = record { main_file = files_are_read.one; sums = tt }; settled = none_settled; faults_are = none_faulty; none_failed = refl })
@@ -90,19 +90,19 @@ alone_listed =
 pub is_listed_alone : IsListedAlone
 is_listed_alone = record {
   listed = alone_listed;
-  only = λ outcome is. one_outcome (Rows None None) (example.run_of alone [] []) outcome (output_of (codes "m\n")) is alone_listed;
+  only = λ outcome is. one_outcome (Rows None None) (example.run_of alone [] []) outcome (text_outcome (codes "m\n")) is alone_listed;
 }
 
 -- ---- a go.sum with a line of two fields
 
-bad_sum_reported : ListEnds None None run_with_bad_sum (report_of (codes "go.sum:1: BadSum\n"))
+bad_sum_reported : ListEnds None None run_with_bad_sum (refusal_outcome (codes "go.sum:1: BadSum\n"))
 bad_sum_reported =
     bad_sums (main_requiring []) (codes "go.sum:1: BadSum\n") files_are_read.one (inr (omega arith, 1, (omega arith, refl), rw (decimal_digit 1 (lit< tt)) refl)) (refl, refl) refl
 
 pub bad_sum_is_refused : BadSumIsRefused
 bad_sum_is_refused = record {
   reported = bad_sum_reported;
-  only = λ outcome is. one_outcome (Rows None None) run_with_bad_sum outcome (report_of (codes "go.sum:1: BadSum\n")) is bad_sum_reported;
+  only = λ outcome is. one_outcome (Rows None None) run_with_bad_sum outcome (refusal_outcome (codes "go.sum:1: BadSum\n")) is bad_sum_reported;
 }
 
 -- ---- the empty file

@@ -11,7 +11,7 @@ use Rattle.gm_store.specs.Taken.{SinkState}
 use Rattle.gm_store.specs.declared.files.memory.MemoryFiles.{MemoryFiles}
 use Rattle.gm_store.specs.declared.reading.InputFault.{InputFault}
 use Rattle.gm_store.specs.declared.reading.InputFault.TheVariants.{Device, NoMemory}
-use Rattle.gomod_run.specs.Outcome.{Outcome, failure_of, out_of_memory, output_of}
+use Rattle.gomod_run.specs.Outcome.{Outcome, failure_outcome, out_of_memory, text_outcome}
 use Rattle.gomod_run.proofs.Answered.{nothing_is_printed, version_is_printed}
 use Rattle.gomod_run.specs.Program.{IsOutcomeUnless, any_input, anything, usage_error}
 use Rattle.gomod_run.specs.Reads.{HoldsInput, IsUnreadList}
@@ -27,14 +27,14 @@ use Rattle.gomod_laws.specs.ExampleOutputs.{EndIsStated, EndsBy, FileIsRead, Inp
 
 module _ (out report : SinkState) (status : ℕ) where
   -- a run that writes neither the one outcome nor the report that memory ran out does not end as stated
-  not_ended : ¬ (IsWritten (output_of text) empty out empty report status) → ¬ (IsWritten out_of_memory empty out empty report status)
+  not_ended : ¬ (IsWritten (text_outcome text) empty out empty report status) → ¬ (IsWritten out_of_memory empty out empty report status)
       → EndsAsStated PrintsText empty out empty report status → ⊥
   not_ended not_printed not_memory ends = elim ends.as_stated [
     | inl same ↦ not_printed (subst (λ (o : Outcome). IsWritten o empty out empty report status) same ends.written)
     | inr same ↦ not_memory (subst (λ (o : Outcome). IsWritten o empty out empty report status) same ends.written)
   ]
 
-prints : IsWritten (output_of text) empty with_text empty empty 0
+prints : IsWritten (text_outcome text) empty with_text empty empty 0
 prints = search rules
 
 tells : IsWritten out_of_memory empty empty empty with_no_memory 3
@@ -42,7 +42,7 @@ tells = search rules
 
 pub end_is_stated : EndIsStated
 end_is_stated = record {
-  prints = record { outcome = output_of text; as_stated = inl refl; utf8 = IsUtf8-from_ascii text (ascii text (all_below text refl)); written = prints };
+  prints = record { outcome = text_outcome text; as_stated = inl refl; utf8 = IsUtf8-from_ascii text (ascii text (all_below text refl)); written = prints };
   no_memory = record { outcome = out_of_memory; as_stated = inr refl; utf8 = IsUtf8-nil; written = tells };
   other_text = λ status. not_ended with_other empty status (search rules) (search rules);
   reports = λ status. not_ended empty with_bad_line status (search rules) (search rules);
@@ -87,7 +87,7 @@ file_is_read = record {
 
 -- ---- standard input
 
-no_such_line : (line : List ℕ) → ¬ (line ≡ codes "gomod: cannot read -\n") → ¬ (line ≡ codes "gomod: no memory\n") → ¬ (IsUnreadList (IsInput true) (failure_of line))
+no_such_line : (line : List ℕ) → ¬ (line ≡ codes "gomod: cannot read -\n") → ¬ (line ≡ codes "gomod: no memory\n") → ¬ (IsUnreadList (IsInput true) (failure_outcome line))
 no_such_line line no_device memory (Device, may, is) = no_device (ap (λ (o : Outcome). o.report) is)
 no_such_line line no_device memory (NoMemory, may, is) = memory (ap (λ (o : Outcome). o.report) is)
 
@@ -99,10 +99,10 @@ unread_status outcome (NoMemory, may, is) = ap (λ (o : Outcome). o.status) is
 read_of : (may_fail : Bool) (read : Result (Vec ℕ) InputFault) → MayRead (IsInput may_fail) read → IsReadFrom (opened (Some text) may_fail) read
 read_of may_fail read (opening, is, comes) = subst (λ (o : Opening). IsReadFrom o read) is comes
 
-no_device_line : ¬ (out_of_memory ≡ failure_of (codes "gomod: cannot read -\n"))
+no_device_line : ¬ (out_of_memory ≡ failure_outcome (codes "gomod: cannot read -\n"))
 no_device_line same = search rules
 
-unfailing : ¬ (IsUnreadList (IsInput false) (failure_of (codes "gomod: cannot read -\n")))
+unfailing : ¬ (IsUnreadList (IsInput false) (failure_outcome (codes "gomod: cannot read -\n")))
 unfailing (Device, may, is) = let wrong : false ≡ true = read_of false (Err Device) may in cc wrong
 unfailing (NoMemory, may, is) = no_device_line (sym is)
 
@@ -152,7 +152,7 @@ byte_unreadable words = refl
 ends_by : (words : List (List ℕ)) (outcome : Outcome) → EndsBy words outcome → IsOutcomeUnless anything any_input words (first_unreadable words) outcome
 ends_by words outcome (given, same, ends) = subst (λ (ws : List (List ℕ)). IsOutcomeUnless anything any_input ws (first_unreadable ws) outcome) same ends
 
-version_ends : (outcome : Outcome) → EndsBy (version_flag ∷ []) outcome → (outcome ≡ output_of version_line) ⊎ (outcome ≡ out_of_memory)
+version_ends : (outcome : Outcome) → EndsBy (version_flag ∷ []) outcome → (outcome ≡ text_outcome version_line) ⊎ (outcome ≡ out_of_memory)
 version_ends outcome ends = version_is_printed (codes "gomod") version_flag outcome (inl refl)
     (subst (λ (found : Option (List ℕ)). IsOutcomeUnless anything any_input (version_flag ∷ []) found outcome) version_readable (ends_by (version_flag ∷ []) outcome ends))
 
@@ -162,8 +162,8 @@ not_dropped outcome usage ends = elim (version_ends outcome ends) [
   | inr is ↦ let wrong : 2 ≡ 3 = sym usage ∙ ap (λ (o : Outcome). o.status) is in omega (arith, wrong)
 ]
 
-not_made_up : (line : List ℕ) → ¬ (line ≡ []) → ¬ (EndsBy [] (output_of line))
-not_made_up line some ends = elim (nothing_is_printed (codes "gomod") (output_of line) (ends_by [] (output_of line) ends)) [
+not_made_up : (line : List ℕ) → ¬ (line ≡ []) → ¬ (EndsBy [] (text_outcome line))
+not_made_up line some ends = elim (nothing_is_printed (codes "gomod") (text_outcome line) (ends_by [] (text_outcome line) ends)) [
   | inl none ↦ some none.0
   | inr is ↦ let wrong : 0 ≡ 3 = ap (λ (o : Outcome). o.status) is in omega (arith, wrong)
 ]
@@ -171,9 +171,9 @@ not_made_up line some ends = elim (nothing_is_printed (codes "gomod") (output_of
 shown_status : (words : List (List ℕ)) (word : List ℕ) (outcome : Outcome) → first_unreadable words ≡ Some word → EndsBy words outcome → outcome ≡ usage_error (unreadable_text word)
 shown_status words word outcome first ends = subst (λ (found : Option (List ℕ)). IsOutcomeUnless anything any_input words found outcome) first (ends_by words outcome ends)
 
-not_passed_over : ¬ (EndsBy (unreadable ∷ version_flag ∷ []) (output_of version_line))
+not_passed_over : ¬ (EndsBy (unreadable ∷ version_flag ∷ []) (text_outcome version_line))
 not_passed_over ends =
-    let wrong : 0 ≡ 2 = ap (λ (o : Outcome). o.status) (shown_status (unreadable ∷ version_flag ∷ []) unreadable (output_of version_line) (byte_unreadable (version_flag ∷ [])) ends) in omega (arith, wrong)
+    let wrong : 0 ≡ 2 = ap (λ (o : Outcome). o.status) (shown_status (unreadable ∷ version_flag ∷ []) unreadable (text_outcome version_line) (byte_unreadable (version_flag ∷ [])) ends) in omega (arith, wrong)
 
 unreadable_shown : IsOutcomeUnless anything any_input (unreadable ∷ version_flag ∷ []) (first_unreadable (unreadable ∷ version_flag ∷ [])) (usage_error (unreadable_text unreadable))
 unreadable_shown = rw (byte_unreadable (version_flag ∷ [])) refl

@@ -25,8 +25,8 @@ use Rattle.gm_graph_select.proofs.Ascending.{member_cases, member_head, member_t
 use Rattle.gm_graph_select.proofs.Lawful.{same_build_lists}
 use Rattle.gm_graph.specs.Run.{AreEdges, AreRows, IsDeep, IsEdge, IsFault, IsOpened, IsTop, Requires, Run, Says, from_deep, from_main, from_top, run_of}
 use Rattle.gm_graph.specs.declared.fault.Fault.{Fault}
-use Rattle.gomod_run.specs.Outcome.{output_of}
-use Rattle.gomod_run.specs.ListingTexts.{at_most, list_text}
+use Rattle.gomod_run.specs.Outcome.{text_outcome}
+use Rattle.gomod_run.specs.ListingTexts.{up_to, list_text}
 use Rattle.gomod_run.specs.Outcomes.{no_path, path_listed, path_unlisted}
 use Rattle.gomod_run.proofs.PrintedList.{all_rows}
 use Rattle.gomod_laws.specs.ExampleWorld.{FilesHaveNames, FourEdgesLead, ListIsPrinted, OneFaultIsReported, OnlyListIsPrinted, PrunedFrom17, ReplacementsApply, RowsAreFour, ThreeAreOpened, all_idle, all_there, all_unpruned, answers_with, edges, fault_of_mid, folder_requiring, folder_says, folder_text, low_one, low_two, mid_file, mid_nine, mid_text, mid_ten, one_missing, opened_three, rows, top_file, top_one, world}
@@ -439,7 +439,7 @@ list_is_printed = record {
 
 pub only_list_is_printed : OnlyListIsPrinted
 only_list_is_printed outcome (others, are, is) =
-    all_rows world others None outcome is ∙ ap (λ (entries : List Entry). output_of (list_text (codes "m") (at_most None entries))) (only_rows others are)
+    all_rows world others None outcome is ∙ ap (λ (entries : List Entry). text_outcome (list_text (codes "m") (up_to None entries))) (only_rows others are)
 
 -- ---- faults
 

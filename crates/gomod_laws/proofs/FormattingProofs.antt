@@ -11,7 +11,7 @@ use Rattle.gm_file.specs.Faults.{fault_of}
 use Rattle.gm_file.specs.Fields.{first}
 use Rattle.gm_file.specs.Main.{Main, IsMainFile}
 use Rattle.gomod_run.specs.Outcomes.{longest}
-use Rattle.gomod_run.specs.Outcome.{Outcome, output_of, report_of}
+use Rattle.gomod_run.specs.Outcome.{Outcome, text_outcome, refusal_outcome}
 use Rattle.gomod_run.specs.Reports.{main_line}
 use Rattle.gomod_run.proofs.OneRead.{same_lines}
 use Rattle.gomod_words.specs.declared.usage.Command.TheVariants.{Fmt}
@@ -45,10 +45,10 @@ pub record IsLayoutOf (file text : List ℕ) : Type 0 where
   pub parsed : IsParsedAs file (Ok lines)
   pub text_is : text ≡ layout (plain_lines lines)
 
-pub not_printed : (text report : List ℕ) → output_of text ≡ report_of report → ⊥
+pub not_printed : (text report : List ℕ) → text_outcome text ≡ refusal_outcome report → ⊥
 not_printed text report same = let e : 0 ≡ 1 = ap (λ (o : Outcome). o.status) same in omega (arith, e)
 
-laid : (file text : List ℕ) → FmtEnds file (output_of text) → IsLayoutOf file text
+laid : (file text : List ℕ) → FmtEnds file (text_outcome text) → IsLayoutOf file text
 laid file text (laid_out lines parsed says) = record { lines = lines; parsed = parsed; text_is = ap (λ (o : Outcome). o.text) says }
 laid file text (bad_syntax fault place parsed named says) = absurd (not_printed text (main_line place) says)
 
@@ -63,8 +63,8 @@ formatting_changes_no_build command file text main sums asked answered before af
     same_outcome command file text sums asked answered before after query (queries_move file text sums main main is also (says_itself main)) alike one.0 two.0
 
 -- the only outcome of `fmt` is the layout of the lines
-pub fmt_is : (file : List ℕ) (lines : List (Line Placed)) (outcome : Outcome) → IsParsedAs file (Ok lines) → Ends Fmt file None [] outcome → output_of (layout (plain_lines lines)) ≡ outcome
-fmt_is file lines outcome parsed has = fmt_once file (output_of (layout (plain_lines lines))) outcome (laid_out lines parsed refl) has
+pub fmt_is : (file : List ℕ) (lines : List (Line Placed)) (outcome : Outcome) → IsParsedAs file (Ok lines) → Ends Fmt file None [] outcome → text_outcome (layout (plain_lines lines)) ≡ outcome
+fmt_is file lines outcome parsed has = fmt_once file (text_outcome (layout (plain_lines lines))) outcome (laid_out lines parsed refl) has
 
 pub layouts_are_formatted : LayoutsAreFormatted
 layouts_are_formatted file text formatted first short again =
@@ -72,4 +72,4 @@ layouts_are_formatted file text formatted first short again =
     let low : length (layout (plain_lines found.lines)) ≤ longest = subst (λ (t : List ℕ). length t ≤ longest) found.text_is short in
     let read = parsed_layout file found.lines found.parsed (subst IsUtf8 found.text_is first.1) low in
     let parsed : IsParsedAs text (Ok read.doc) = subst (λ (t : List ℕ). IsParsedAs t (Ok read.doc)) (sym found.text_is) read.parsed in
-    sym (fmt_is text read.doc formatted parsed again.0) ∙ ap output_of (read.same_layout ∙ sym found.text_is)
+    sym (fmt_is text read.doc formatted parsed again.0) ∙ ap text_outcome (read.same_layout ∙ sym found.text_is)

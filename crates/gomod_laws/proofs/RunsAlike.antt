@@ -16,8 +16,8 @@ use Rattle.gm_graph_select.specs.declared.step.Edge.{Edge}
 use Rattle.gm_graph_select.specs.declared.step.Step.TheVariants.{Of}
 use Rattle.gm_graph_select.specs.BuildList.{Entry, HasEntryFor, IsBuildList, IsRestAfter, entry_of, main_entry}
 use Rattle.gm_graph_select.proofs.Same.{AreSame, same_build_list, same_chain}
-use Rattle.gomod_run.specs.ListingTexts.{graph_text, at_most, list_text}
-use Rattle.gomod_run.specs.Outcome.{Outcome, output_of}
+use Rattle.gomod_run.specs.ListingTexts.{graph_text, up_to, list_text}
+use Rattle.gomod_run.specs.Outcome.{Outcome, text_outcome}
 use Rattle.gomod_run.specs.Outcomes.{Answers, AreFound, FilesReadAs, Given, PrintsRows, QueryEnds, ShowsChain, given_of, no_path, path_listed, path_unlisted}
 use Rattle.gomod_run.specs.Runs.{PrintsOf, is_query}
 use Rattle.gomod_run.specs.ListingLaws.{AreAlike}
@@ -171,14 +171,14 @@ module _ (r s : Run) (alike : ReadAlike r s) where
 
   -- ---- what is printed
 
-  same_text : (shown : List Entry) (outcome : Outcome) → outcome ≡ output_of (list_text r.main.path shown) → outcome ≡ output_of (list_text s.main.path shown)
-  same_text shown outcome says = subst (λ (path : List ℕ). outcome ≡ output_of (list_text path shown)) mains.path says
+  same_text : (shown : List Entry) (outcome : Outcome) → outcome ≡ text_outcome (list_text r.main.path shown) → outcome ≡ text_outcome (list_text s.main.path shown)
+  same_text shown outcome says = subst (λ (path : List ℕ). outcome ≡ text_outcome (list_text path shown)) mains.path says
 
   rows_printed : (rows : List Entry) (after : Option (List ℕ)) (limit : Option ℕ) (outcome : Outcome)
       → PrintsRows r.main rows after limit outcome → PrintsRows s.main rows after limit outcome
-  rows_printed rows after limit outcome (no_path none says) = no_path none (same_text (at_most limit rows) outcome says)
+  rows_printed rows after limit outcome (no_path none says) = no_path none (same_text (up_to limit rows) outcome says)
   rows_printed rows after limit outcome (path_listed path others is at says) =
-      path_listed path others is (subst (λ (own : List ℕ). IsRestAfter own rows path others) mains.path at) (same_text (at_most limit others) outcome says)
+      path_listed path others is (subst (λ (own : List ℕ). IsRestAfter own rows path others) mains.path at) (same_text (up_to limit others) outcome says)
   rows_printed rows after limit outcome (path_unlisted path is (none, says)) =
       path_unlisted path is (subst (λ (own : List ℕ). HasEntryFor own rows path → ⊥) mains.path none, says)
 
@@ -191,7 +191,7 @@ module _ (r s : Run) (alike : ReadAlike r s) where
 
   -- what a query prints of the one run, it prints of the other
   pub prints_to : (command : Command) (outcome : Outcome) → PrintsOf command r outcome → PrintsOf command s outcome
-  prints_to Graph outcome (edges, are, says) = (edges, edges_to edges are, subst (λ (path : List ℕ). outcome ≡ output_of (graph_text path edges)) mains.path says)
+  prints_to Graph outcome (edges, are, says) = (edges, edges_to edges are, subst (λ (path : List ℕ). outcome ≡ text_outcome (graph_text path edges)) mains.path says)
   prints_to (Rows after limit) outcome (rows, are, says) = (rows, rows_to rows are, rows_printed rows after limit outcome says)
   prints_to (Chain path) outcome (rows, are, shows) = (rows, rows_to rows are, chain_shown path rows outcome shows)
   prints_to Fmt outcome says = says

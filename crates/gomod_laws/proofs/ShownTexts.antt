@@ -13,7 +13,7 @@ use Rattle.gm_graph_select.specs.Chains.{IsChain, begins, goes_on}
 use Rattle.gm_graph_select.proofs.Ascending.{member_head}
 use Rattle.gm_store_sums.specs.Sums.{Sums}
 use Rattle.gomod_run.specs.Outcomes.{AreFound, Given}
-use Rattle.gomod_run.specs.Outcome.{Outcome, output_of}
+use Rattle.gomod_run.specs.Outcome.{Outcome, text_outcome}
 use Rattle.gomod_run.specs.PrintedLines.{AreProperEdges, AreProperRows, AreProperSteps, IsProperStep}
 use Rattle.gomod_run.specs.ListingTexts.{chain_text, graph_text, list_text, step_text}
 use Rattle.gomod_run.specs.ReportTexts.{vertex_text}
@@ -71,7 +71,7 @@ chain_begins begins = ([], refl)
 chain_begins (goes_on {s} {y} {steps} chain before) =
     let (rest, is) = chain_begins chain in (rest ++ Of y ∷ [], ap (λ (ss : List Step). ss ++ Of y ∷ []) is)
 
-pub same_text : (a b : List ℕ) → output_of a ≡ output_of b → a ≡ b
+pub same_text : (a b : List ℕ) → text_outcome a ≡ text_outcome b → a ≡ b
 same_text a b is = ap (λ (o : Outcome). o.text) is
 
 -- ---- a run
@@ -83,9 +83,9 @@ module _ (run : Given) (main : Main) where
   -- ---- rows
 
   module _ (path : List ℕ) (rows shown : List Entry)
-      (shows : ShowsRows run main None None rows (output_of (list_text path shown))) where
+      (shows : ShowsRows run main None None rows (text_outcome (list_text path shown))) where
     rows_text : list_text path shown ≡ list_text main.path rows
-    rows_text = same_text (list_text path shown) (list_text main.path rows) (all_rows main rows None (output_of (list_text path shown)) shows.prints)
+    rows_text = same_text (list_text path shown) (list_text main.path rows) (all_rows main rows None (text_outcome (list_text path shown)) shows.prints)
 
     pub main_of_list : (more : List Entry) → shown ≡ main_entry ∷ more → Lacks 10 path → main.path ≡ path
     main_of_list more is none =
@@ -102,7 +102,7 @@ module _ (run : Given) (main : Main) where
   -- ---- edges
 
   module _ (path : List ℕ) (edges shown : List Edge)
-      (shows : ShowsEdges run main edges (output_of (graph_text path shown))) where
+      (shows : ShowsEdges run main edges (text_outcome (graph_text path shown))) where
     graph_is : graph_text path shown ≡ graph_text main.path edges
     graph_is = same_text (graph_text path shown) (graph_text main.path edges) shows.prints
 
@@ -126,7 +126,7 @@ module _ (run : Given) (main : Main) where
   -- ---- steps
 
   module _ (target path : List ℕ) (steps shown : List Step)
-      (shows : ShowsSteps run main target steps (output_of (chain_text path shown))) where
+      (shows : ShowsSteps run main target steps (text_outcome (chain_text path shown))) where
     chain_is : chain_text path shown ≡ chain_text main.path steps
     chain_is = same_text (chain_text path shown) (chain_text main.path steps) shows.prints
 

@@ -16,7 +16,7 @@ use Rattle.gm_graph.proofs.RunLemmas.{RequiresToo, asked_answered, many_too}
 use Rattle.gomod_run.specs.ListingLaws.{AnswerAlike}
 use Rattle.gomod_run.specs.Outcomes.{AreFound, AreSums, answers_of, bad_main, bad_sums, device, faulty, longest, no_fault, too_many}
 use Rattle.gomod_run.specs.Needs.{GraphNeeds}
-use Rattle.gomod_run.specs.Outcome.{Outcome, report_of}
+use Rattle.gomod_run.specs.Outcome.{Outcome, refusal_outcome}
 use Rattle.gomod_run.specs.Reports.{too_many_line}
 use Rattle.gomod_run.specs.Runs.{is_query}
 use Rattle.gomod_run.proofs.OneRead.{misread_or_main, misread_or_sums, one_main, one_says}
@@ -135,7 +135,7 @@ module _ (command : Command) (query : is_query command ≡ true) (main one other
     (alike : AnswerAlike asked others) (are : HaveSameSums main one other asked) (be : QueryEndsOver command main (Some other) others b) where
   -- if the first run opens too many modules, so does the second
   module _ (said : Main) (t : Sums) (is_main : IsMainFile main said) (reads : AreSums (Some one) (Some t)) (read : IsRead (run_of said (Some t) asked))
-      (many : AreTooMany (run_of said (Some t) asked)) (says : a ≡ report_of too_many_line) where
+      (many : AreTooMany (run_of said (Some t) asked)) (says : a ≡ refusal_outcome too_many_line) where
     not_found : (again : Main) (v : Option Sums) (faults : List Fault) → AreFound (run_over main (Some other) others) again v faults → ⊥
     not_found again None faults found = found.read.sums
     not_found again (Some v) faults found =

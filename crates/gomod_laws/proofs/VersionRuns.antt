@@ -8,7 +8,7 @@ use Rattle.gm_store.specs.Asked.{Name, Reply, absent, answer_in, bytes, list_fil
 use Rattle.gm_store.specs.Listed.{AreListed}
 use Rattle.gm_graph.specs.declared.cache.class.Class.{Class}
 use Rattle.gm_graph.specs.Reading.{IsFileReading}
-use Rattle.gomod_run.specs.Outcome.{Outcome, output_of, report_of}
+use Rattle.gomod_run.specs.Outcome.{Outcome, text_outcome, refusal_outcome}
 use Rattle.gomod_run.specs.Needs.{AnswersByName}
 use Rattle.gomod_words.specs.declared.usage.Command.TheVariants.{Versions}
 use Rattle.gomod_run.specs.Versions.{answered as heard, by_latest, by_list, device, unfetchable, unfiltered, IsListedOutcome, IsOutcomeByList, IsShownBy, IsVersionsOutcome, versions_line}
@@ -23,7 +23,7 @@ Pairs = List (Name × Reply)
 -- ---- a run
 
 -- a refusal prints nothing
-pub refusal_prints_nothing : (outcome : Outcome) (report : List ℕ) → outcome ≡ report_of report → HasPrinted outcome → ⊥
+pub refusal_prints_nothing : (outcome : Outcome) (report : List ℕ) → outcome ≡ refusal_outcome report → HasPrinted outcome → ⊥
 refusal_prints_nothing outcome report is prints = let one : 1 ≡ 0 = sym (ap {B = ℕ} (λ (o : Outcome). o.status) is) ∙ prints in cc one
 
 -- the outcome of `versions`, by the answers of the run
@@ -55,32 +55,32 @@ list_answered path all answers outcome prints (by_list reply fetchable answered 
 
 -- without `--retracted`, those that are not retracted are printed
 shown_printed : (path : List ℕ) (asked : Pairs) (versions : List (List ℕ)) (outcome : Outcome) → HasPrinted outcome → IsListedOutcome path false (answer_in asked) versions outcome
-    → (shown : List (List ℕ)) × AreUnretracted asked path versions shown × (outcome ≡ output_of (versions_line path shown))
+    → (shown : List (List ℕ)) × AreUnretracted asked path versions shown × (outcome ≡ text_outcome (versions_line path shown))
 shown_printed path asked versions outcome prints (unfiltered (inl every) says) = absurd (false≢true every)
 shown_printed path asked versions outcome prints (unfiltered (inr none) says) = (versions, inl (none, none), says)
 shown_printed path asked versions outcome prints (by_latest latest reply some is answered shows) = by shows.reading shows.says shows.shows
   where
     by : (reading : Result Dependency Class) → IsFileReading None (mod_file path latest) reply reading → IsShownBy path versions latest reply reading outcome
-        → (shown : List (List ℕ)) × AreUnretracted asked path versions shown × (outcome ≡ output_of (versions_line path shown))
+        → (shown : List (List ℕ)) × AreUnretracted asked path versions shown × (outcome ≡ text_outcome (versions_line path shown))
     by (Ok file) says (intervals, are, outcome_is) =
         (shown_of intervals versions, inr (latest, intervals, is, (reply, file, answered, says, are), refl), outcome_is)
     by (Err class) says outcome_is = absurd (refusal_prints_nothing outcome _ outcome_is prints)
 
 -- with `--retracted`, each listed version is printed
 all_listed : (path : List ℕ) (answers : AnswersByName) (versions : List (List ℕ)) (outcome : Outcome) → IsListedOutcome path true answers versions outcome
-    → outcome ≡ output_of (versions_line path versions)
+    → outcome ≡ text_outcome (versions_line path versions)
 all_listed path answers versions outcome (unfiltered every says) = says
 all_listed path answers versions outcome (by_latest latest reply some is answered shows) = absurd (false≢true (sym some))
 
 all_by_list : (path : List ℕ) (answers : AnswersByName) (list : List ℕ) (versions : List (List ℕ)) (reply : Reply) (outcome : Outcome) → AreListed path list versions → reply ≡ bytes list
-    → IsOutcomeByList path true answers reply outcome → outcome ≡ output_of (versions_line path versions)
+    → IsOutcomeByList path true answers reply outcome → outcome ≡ text_outcome (versions_line path versions)
 all_by_list path answers list versions reply outcome listed same is =
     let (others, named, follows) = subst (λ (r : Reply). IsOutcomeByList path true answers r outcome) same is in
     all_listed path answers versions outcome (subst (λ (vs : List (List ℕ)). IsListedOutcome path true answers vs outcome) (listed_once path list others versions named listed) follows)
 
 all_printed : (path : List ℕ) (answers : AnswersByName) (list : List ℕ) (versions : List (List ℕ)) (outcome : Outcome) → is_fetchable path ≡ true → AreListed path list versions
     → ((reply : Reply) → answers (list_file path) ≡ Some reply → reply ≡ bytes list) → IsVersionsOutcome path true answers outcome
-    → outcome ≡ output_of (versions_line path versions)
+    → outcome ≡ text_outcome (versions_line path versions)
 all_printed path answers list versions outcome fetchable listed same (unfetchable (isnt, says)) = absurd (false≢true (sym isnt ∙ fetchable))
 all_printed path answers list versions outcome fetchable listed same (by_list reply may answered is) = all_by_list path answers list versions reply outcome listed (same reply answered) is
 

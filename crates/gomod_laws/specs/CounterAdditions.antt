@@ -4,7 +4,7 @@ use Rattle.gm_file.specs.Main.{Main}
 use Rattle.gm_graph_select.specs.declared.step.Edge.{Edge}
 use Rattle.gm_graph_select.specs.BuildList.{Entry}
 use Rattle.gomod_run.specs.Outcomes.{Given}
-use Rattle.gomod_run.specs.Outcome.{Outcome, output_of}
+use Rattle.gomod_run.specs.Outcome.{Outcome, text_outcome}
 use Rattle.gomod_run.specs.ListingTexts.{edge_text}
 use Rattle.gomod_laws.specs.AdditionLaws.{KeepsLines, LowersNothing}
 use Rattle.gomod_laws.specs.Counterexamples.{graph_of_a, list_of_a}
@@ -13,10 +13,10 @@ use Rattle.gomod_laws.specs.Shown.{ShowsEdges, ShowsRows}
 
 -- a list and a graph that show a.b v1.1.0
 abbrev pub higher_list : Outcome
-higher_list = output_of (codes "m\na.b v1.1.0\n")
+higher_list = text_outcome (codes "m\na.b v1.1.0\n")
 
 abbrev pub other_graph : Outcome
-other_graph = output_of (codes "m a.b@v1.1.0\n")
+other_graph = text_outcome (codes "m a.b@v1.1.0\n")
 
 -- `ListLowersNothing`, if `list` shows a.b v1.1.0 first and then a.b v1.0.0
 abbrev pub RowIsLower : Type 0
@@ -28,10 +28,10 @@ LineIsLost = (run later : Given) (first second : Main) → ¬ (KeepsLines run la
 
 -- a chain to a.b v1.0.0 by b.c v1.0.0, and one to b.c v1.0.0
 abbrev pub chain_by_b : Outcome
-chain_by_b = output_of (codes "m\nb.c@v1.0.0\na.b@v1.0.0\n")
+chain_by_b = text_outcome (codes "m\nb.c@v1.0.0\na.b@v1.0.0\n")
 
 abbrev pub chain_to_b : Outcome
-chain_to_b = output_of (codes "m\nb.c@v1.0.0\n")
+chain_to_b = text_outcome (codes "m\nb.c@v1.0.0\n")
 
 -- `list` shows a.b v1.0.0, and `graph` shows that m requires it.
 pub record ShowA (rows : List Entry) (edges : List Edge) (main : Main) (list_run graph_run : Given) : Type 0 where

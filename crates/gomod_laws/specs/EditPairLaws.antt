@@ -13,7 +13,7 @@ use Rattle.gm_store.specs.Asked.{Name, Reply}
 use Rattle.gomod_run.specs.ListingLaws.{AnswerAlike}
 use Rattle.gomod_run.specs.Outcomes.{longest}
 use Rattle.gm_file.specs.Main.{IsMainOf}
-use Rattle.gomod_run.specs.Outcome.{Outcome, output_of}
+use Rattle.gomod_run.specs.Outcome.{Outcome, text_outcome}
 use Rattle.gomod_words.specs.Usage.{texts_in}
 use Rattle.gomod_words.specs.declared.usage.Command.{Command}
 use Rattle.gomod_words.specs.declared.usage.Command.TheVariants.{Fmt, Edit}
@@ -40,7 +40,7 @@ pub record TargetsNone (operation : Operation) (file : List ℕ) : Type 0 where
 
 -- both print, and the same
 abbrev pub PrintTheSame : Outcome → Outcome → Type 0
-PrintTheSame one other = (one ≡ other) × (text : List ℕ) × (one ≡ output_of text)
+PrintTheSame one other = (one ≡ other) × (text : List ℕ) × (one ≡ text_outcome text)
 
 -- With two such operations, of which the first targets nothing in the file, `edit` prints what `fmt` prints, if the
 -- versions that the first puts in fit their paths.

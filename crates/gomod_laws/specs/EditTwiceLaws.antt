@@ -1,7 +1,7 @@
 -- An operation of `edit` that is given twice: go help mod edit.
 use Rattle.std.specs.Prelude.{◌≡◌, ◌⊎◌, ◌++◌, ◌+◌, ◌∷◌, ◌<◌, ℕ, List, [], None, String, length}
 use Rattle.std.specs.Global.{Global, Vec}
-use Rattle.gomod_run.specs.Outcome.{Outcome, report_of}
+use Rattle.gomod_run.specs.Outcome.{Outcome, refusal_outcome}
 use Rattle.gomod_words.specs.Usage.{texts_in}
 use Rattle.gomod_words.specs.declared.usage.Command.TheVariants.{Edit}
 use Rattle.gomod_run.specs.Reports.{edit_line}
@@ -34,8 +34,8 @@ LastTwiceIsOnce = (once twice : Vec (String Global)) (file : List ℕ) (first se
 pub record RefuseALater (number : ℕ) (first second : Outcome) : Type 0 where
   pub refusal : ℕ × List ℕ
   pub is_later : number < refusal.0
-  pub refused_once : first ≡ report_of (edit_line refusal)
-  pub refused_twice : second ≡ report_of (edit_line (refusal.0 + 1, refusal.1))
+  pub refused_once : first ≡ refusal_outcome (edit_line refusal)
+  pub refused_twice : second ≡ refusal_outcome (edit_line (refusal.0 + 1, refusal.1))
 
 -- Both outcomes are the same, or both refuse a later operation.
 abbrev pub AreOneOrRefuseALater : ℕ → Outcome → Outcome → Type 0

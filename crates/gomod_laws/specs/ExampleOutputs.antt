@@ -11,7 +11,7 @@ use Rattle.gm_store.specs.Openings.{IsReadFrom, Opening, opened, refused as unop
 use Rattle.gm_store.specs.Taken.{SinkState}
 use Rattle.gm_store.specs.declared.files.memory.MemoryFiles.{MemoryFiles}
 use Rattle.gm_store.specs.declared.reading.InputFault.TheVariants.{Device, NoMemory}
-use Rattle.gomod_run.specs.Outcome.{Outcome, failure_of, out_of_memory, output_of, report_of}
+use Rattle.gomod_run.specs.Outcome.{Outcome, failure_outcome, out_of_memory, text_outcome, refusal_outcome}
 use Rattle.gomod_run.specs.Program.{IsProgramOutcome, any_input, anything, usage_error}
 use Rattle.gomod_run.specs.Taking.{TookAll, TookPrefix}
 use Rattle.gomod_run.specs.Held.{HoldsOne}
@@ -130,27 +130,27 @@ pub record PrefixIsWritten : Type 0 where
 
 -- An outcome is written with its status, or cut with status 3.
 pub record OutcomeIsWritten : Type 0 where
-  pub prints : IsWritten (output_of text) empty with_text empty empty 0
-  pub reports : IsWritten (report_of bad_line) empty empty empty with_bad_line 1
-  pub output_failed : IsWritten (output_of text) small small_after empty empty 3
-  pub report_failed : IsWritten (report_of bad_line) empty empty small small_reported 3
+  pub prints : IsWritten (text_outcome text) empty with_text empty empty 0
+  pub reports : IsWritten (refusal_outcome bad_line) empty empty empty with_bad_line 1
+  pub output_failed : IsWritten (text_outcome text) small small_after empty empty 3
+  pub report_failed : IsWritten (refusal_outcome bad_line) empty empty small small_reported 3
   -- the status: another one, that of the outcome after a sink failed, or 3 though none did
-  pub other_status : ¬ (IsWritten (output_of text) empty with_text empty empty 1)
-  pub done_after_failure : ¬ (IsWritten (output_of text) small small_after empty empty 0)
-  pub refused_after_failure : ¬ (IsWritten (report_of bad_line) empty empty small small_reported 1)
-  pub device_unfailed : ¬ (IsWritten (output_of text) empty with_text empty empty 3)
+  pub other_status : ¬ (IsWritten (text_outcome text) empty with_text empty empty 1)
+  pub done_after_failure : ¬ (IsWritten (text_outcome text) small small_after empty empty 0)
+  pub refused_after_failure : ¬ (IsWritten (refusal_outcome bad_line) empty empty small small_reported 1)
+  pub device_unfailed : ¬ (IsWritten (text_outcome text) empty with_text empty empty 3)
   -- whatever the status: nothing is printed, or another text; the report goes to the output, or to both; or there is
   -- one beside a text
-  pub nothing : (status : ℕ) → ¬ (IsWritten (output_of text) empty empty empty empty status)
-  pub other_text : (status : ℕ) → ¬ (IsWritten (output_of text) empty with_other empty empty status)
-  pub not_reported : (status : ℕ) → ¬ (IsWritten (report_of bad_line) empty empty empty empty status)
-  pub to_output : (status : ℕ) → ¬ (IsWritten (report_of bad_line) empty with_bad_line empty empty status)
-  pub to_both : (status : ℕ) → ¬ (IsWritten (report_of bad_line) empty with_bad_line empty with_bad_line status)
-  pub beside_text : (status : ℕ) → ¬ (IsWritten (output_of text) empty with_text empty with_bad_line status)
+  pub nothing : (status : ℕ) → ¬ (IsWritten (text_outcome text) empty empty empty empty status)
+  pub other_text : (status : ℕ) → ¬ (IsWritten (text_outcome text) empty with_other empty empty status)
+  pub not_reported : (status : ℕ) → ¬ (IsWritten (refusal_outcome bad_line) empty empty empty empty status)
+  pub to_output : (status : ℕ) → ¬ (IsWritten (refusal_outcome bad_line) empty with_bad_line empty empty status)
+  pub to_both : (status : ℕ) → ¬ (IsWritten (refusal_outcome bad_line) empty with_bad_line empty with_bad_line status)
+  pub beside_text : (status : ℕ) → ¬ (IsWritten (text_outcome text) empty with_text empty with_bad_line status)
 
 -- the runs whose one outcome is that the text is printed
 abbrev pub PrintsText : Outcome → Type 0
-PrintsText outcome = outcome ≡ output_of text
+PrintsText outcome = outcome ≡ text_outcome text
 
 -- the report that memory ran out, on a sink
 abbrev pub with_no_memory : SinkState
@@ -197,12 +197,12 @@ path = codes "m"
 
 -- It can't be read: that is reported under the name `-`, or memory ran out. It can be read if no read of it fails.
 pub record InputIsUnread : Type 0 where
-  pub device : IsUnreadList (IsInput true) (failure_of (codes "gomod: cannot read -\n"))
+  pub device : IsUnreadList (IsInput true) (failure_outcome (codes "gomod: cannot read -\n"))
   pub no_memory : IsUnreadList (IsInput false) out_of_memory
-  pub unfailing : ¬ (IsUnreadList (IsInput false) (failure_of (codes "gomod: cannot read -\n")))
-  pub other_name : ¬ (IsUnreadList (IsInput true) (failure_of (codes "gomod: cannot read m\n")))
-  pub other_status : ¬ (IsUnreadList (IsInput true) (report_of (codes "gomod: cannot read -\n")))
-  pub prints : ¬ (IsUnreadList (IsInput true) (output_of text))
+  pub unfailing : ¬ (IsUnreadList (IsInput false) (failure_outcome (codes "gomod: cannot read -\n")))
+  pub other_name : ¬ (IsUnreadList (IsInput true) (failure_outcome (codes "gomod: cannot read m\n")))
+  pub other_status : ¬ (IsUnreadList (IsInput true) (refusal_outcome (codes "gomod: cannot read -\n")))
+  pub prints : ¬ (IsUnreadList (IsInput true) (text_outcome text))
 
 -- A store has it if it has its bytes as the list of the module, and nothing else. An empty store has no list.
 pub record InputIsHeld : Type 0 where
@@ -240,9 +240,9 @@ EndsBy words outcome = IsProgramOutcome anything any_input (Some words) outcome
 -- A word that was given counts, and so does the first that is not UTF-8. Without a word nothing is printed.
 pub record WordsAreGiven : Type 0 where
   pub version : (outcome : Outcome) → EndsBy (version_flag ∷ []) outcome
-      → (outcome ≡ output_of version_line) ⊎ (outcome ≡ out_of_memory)
+      → (outcome ≡ text_outcome version_line) ⊎ (outcome ≡ out_of_memory)
   pub dropped : (outcome : Outcome) → outcome.status ≡ 2 → ¬ (EndsBy (version_flag ∷ []) outcome)
-  pub made_up : (line : List ℕ) → ¬ (line ≡ []) → ¬ (EndsBy [] (output_of line))
+  pub made_up : (line : List ℕ) → ¬ (line ≡ []) → ¬ (EndsBy [] (text_outcome line))
   pub shown : EndsBy (unreadable ∷ version_flag ∷ []) (usage_error (unreadable_text unreadable))
-  pub passed_over : ¬ (EndsBy (unreadable ∷ version_flag ∷ []) (output_of version_line))
+  pub passed_over : ¬ (EndsBy (unreadable ∷ version_flag ∷ []) (text_outcome version_line))
   pub not_last : ¬ (EndsBy (unreadable ∷ also_unreadable ∷ []) (usage_error (unreadable_text also_unreadable)))

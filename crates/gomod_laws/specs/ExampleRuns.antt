@@ -5,7 +5,7 @@ use Rattle.gm_store.specs.Asked.{Name, Reply, mod_file, absent, bytes}
 use Rattle.gm_file.specs.Main.{Main, IsMainFile}
 use Rattle.gm_graph.specs.Reading.{IsFileReading}
 use Rattle.gomod_run.specs.Outcomes.{Given, ListEnds, answers_of, given_of}
-use Rattle.gomod_run.specs.Outcome.{Outcome, failure_of, output_of, report_of}
+use Rattle.gomod_run.specs.Outcome.{Outcome, failure_outcome, text_outcome, refusal_outcome}
 use Rattle.gomod_laws.specs.ExampleWorld.{saying, top_one}
 
 abbrev pub alone : List ℕ
@@ -38,13 +38,13 @@ pub record FilesAreRead : Type 0 where
 
 -- A module that requires nothing is listed alone, and nothing else is an outcome.
 pub record IsListedAlone : Type 0 where
-  pub listed : ListEnds None None (run_of alone [] []) (output_of (codes "m\n"))
+  pub listed : ListEnds None None (run_of alone [] []) (text_outcome (codes "m\n"))
   pub only : (outcome : Outcome) → ListEnds None None (run_of alone [] []) outcome
-      → outcome ≡ output_of (codes "m\n")
+      → outcome ≡ text_outcome (codes "m\n")
 
 -- The empty file declares no module.
 abbrev pub EmptyIsRefused : Type 0
-EmptyIsRefused = ListEnds None None (run_of [] [] []) (report_of (codes "go.mod:0: NoModule\n"))
+EmptyIsRefused = ListEnds None None (run_of [] [] []) (refusal_outcome (codes "go.mod:0: NoModule\n"))
 
 -- a run over `alone` and a go.sum with a line of two fields
 abbrev pub run_with_bad_sum : Given
@@ -52,9 +52,9 @@ run_with_bad_sum = given_of alone (Some (codes "a b\n")) (answers_of [] [])
 
 -- The line is reported, and nothing else is an outcome: a bad go.sum is refused, though no file needs it.
 pub record BadSumIsRefused : Type 0 where
-  pub reported : ListEnds None None run_with_bad_sum (report_of (codes "go.sum:1: BadSum\n"))
+  pub reported : ListEnds None None run_with_bad_sum (refusal_outcome (codes "go.sum:1: BadSum\n"))
   pub only : (outcome : Outcome) → ListEnds None None run_with_bad_sum outcome
-      → outcome ≡ report_of (codes "go.sum:1: BadSum\n")
+      → outcome ≡ refusal_outcome (codes "go.sum:1: BadSum\n")
 
 -- given these answers, `list` on the two lines has no outcome
 abbrev pub HasNoOutcome : List (Name × Reply) → List Name → Type 0
@@ -64,9 +64,9 @@ HasNoOutcome asked refusals = (outcome : Outcome) → ¬ (ListEnds None None (ru
 -- there is no outcome.
 pub record RequiredIsAsked : Type 0 where
   pub missing : ListEnds None None (run_of requiring ((top_name, absent) ∷ []) [])
-      (report_of (codes "top.org@v1.0.0: Missing\n"))
+      (refusal_outcome (codes "top.org@v1.0.0: Missing\n"))
   pub device : ListEnds None None (run_of requiring [] (top_name ∷ []))
-      (failure_of (codes "gomod: device at top.org@v1.0.0\n"))
+      (failure_outcome (codes "gomod: device at top.org@v1.0.0\n"))
   pub unasked : HasNoOutcome [] []
   -- nor if the device failed on a file that no opened module has, or on one that was answered: `IsDue` asks for both
   pub undue : HasNoOutcome [] (low_name ∷ [])

@@ -20,7 +20,7 @@ use Rattle.gm_graph.specs.Run.{AreEdges, AreFaults, AreRows, FileSays, IsDeep, I
 use Rattle.gm_graph.specs.declared.fault.Fault.{Fault}
 use Rattle.gomod_run.specs.Outcomes.{PrintsList}
 use Rattle.gomod_run.specs.ListingTexts.{list_text, replacement_text}
-use Rattle.gomod_run.specs.Outcome.{Outcome, output_of, report_of}
+use Rattle.gomod_run.specs.Outcome.{Outcome, text_outcome, refusal_outcome}
 use Rattle.gomod_run.specs.Reports.{faults_text}
 
 -- ---- the world
@@ -120,8 +120,8 @@ abbrev pub whole_path : Replacing
 whole_path = replacing (left_without (codes "mid.org")) fork
 
 -- the main module with that replacement in front of its own, and after it
-abbrev pub forked_main : Main
-forked_main = record world { replaces = whole_path ∷ world.replaces }
+abbrev pub forked_first : Main
+forked_first = record world { replaces = whole_path ∷ world.replaces }
 
 abbrev pub forked_last : Main
 forked_last = record world { replaces = world.replaces ++ whole_path ∷ [] }
@@ -140,13 +140,13 @@ pub record FilesHaveNames : Type 0 where
 -- A replacement of this version has precedence over one of the whole path, wherever it stands. That of the whole path
 -- applies to every other version, and to no other path.
 pub record ReplacementsApply : Type 0 where
-  pub version : replacement_in forked_main mid_ten ≡ Some (Folder (codes "./mid"))
+  pub version : replacement_in forked_first mid_ten ≡ Some (Folder (codes "./mid"))
   pub version_last : replacement_in forked_last mid_ten ≡ Some (Folder (codes "./mid"))
-  pub whole : replacement_in forked_main mid_nine ≡ Some fork
+  pub whole : replacement_in forked_first mid_nine ≡ Some fork
   pub whole_last : replacement_in forked_last mid_nine ≡ Some fork
-  pub other_path : replacement_in forked_main top_one ≡ None
+  pub other_path : replacement_in forked_first top_one ≡ None
   -- The file is that of the replacing module at its own version.
-  pub file : file_of forked_main mid_nine ≡ mod_file (codes "fork.org") (codes "v1.2.0")
+  pub file : file_of forked_first mid_nine ≡ mod_file (codes "fork.org") (codes "v1.2.0")
   -- It may declare either path, but no other, and it must declare one.
   pub own_path : is_right_path mid_nine (Some fork) (Some (codes "mid.org")) ≡ true
   pub fork_path : is_right_path mid_nine (Some fork) (Some (codes "fork.org")) ≡ true
@@ -154,7 +154,7 @@ pub record ReplacementsApply : Type 0 where
   pub undeclared : is_right_path mid_nine (Some fork) None ≡ false
   -- Its row keeps path and version, followed by an arrow and the replacing module.
   pub text : replacement_text fork ≡ codes "fork.org v1.2.0"
-  pub row : list_text (codes "m") (entry_of forked_main.replaces mid_nine ∷ [])
+  pub row : list_text (codes "m") (entry_of forked_first.replaces mid_nine ∷ [])
       ≡ codes "mid.org v1.9.0 => fork.org v1.2.0\n"
 
 -- the run in which the only answer is that the folder has no go.mod
@@ -261,18 +261,18 @@ pub record RowsAreFour : Type 0 where
 -- The text of the list, of its first two rows, and of what follows mid.org; a path that has no row is reported.
 pub record ListIsPrinted : Type 0 where
   pub whole : PrintsList None None all_there
-      (output_of (codes "m\nlow.org v1.0.0\nmid.org v1.10.0 => ./mid\ntop.org v1.0.0\n"))
-  pub limited : PrintsList None (Some 2) all_there (output_of (codes "m\nlow.org v1.0.0\n"))
-  pub after : PrintsList (Some (codes "mid.org")) None all_there (output_of (codes "top.org v1.0.0\n"))
+      (text_outcome (codes "m\nlow.org v1.0.0\nmid.org v1.10.0 => ./mid\ntop.org v1.0.0\n"))
+  pub limited : PrintsList None (Some 2) all_there (text_outcome (codes "m\nlow.org v1.0.0\n"))
+  pub after : PrintsList (Some (codes "mid.org")) None all_there (text_outcome (codes "top.org v1.0.0\n"))
   -- The main module's row counts as one of its path.
   pub after_main : PrintsList (Some (codes "m")) None all_there
-      (output_of (codes "low.org v1.0.0\nmid.org v1.10.0 => ./mid\ntop.org v1.0.0\n"))
-  pub unlisted : PrintsList (Some (codes "b.org")) None all_there (report_of (codes "b.org: NotListed\n"))
+      (text_outcome (codes "low.org v1.0.0\nmid.org v1.10.0 => ./mid\ntop.org v1.0.0\n"))
+  pub unlisted : PrintsList (Some (codes "b.org")) None all_there (refusal_outcome (codes "b.org: NotListed\n"))
 
 -- Nothing else is printed.
 abbrev pub OnlyListIsPrinted : Type 0
 OnlyListIsPrinted = (outcome : Outcome) → PrintsList None None all_there outcome
-    → outcome ≡ output_of (codes "m\nlow.org v1.0.0\nmid.org v1.10.0 => ./mid\ntop.org v1.0.0\n")
+    → outcome ≡ text_outcome (codes "m\nlow.org v1.0.0\nmid.org v1.10.0 => ./mid\ntop.org v1.0.0\n")
 
 abbrev pub fault_of_mid : Fault
 fault_of_mid = record { vertex = mid_ten; class = Missing }

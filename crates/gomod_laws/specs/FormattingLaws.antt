@@ -4,7 +4,7 @@ use Rattle.gm_store.specs.Asked.{Name, Reply}
 use Rattle.gm_file.specs.Main.{Main, IsMainFile}
 use Rattle.gomod_run.specs.ListingLaws.{AnswerAlike}
 use Rattle.gomod_run.specs.Outcomes.{longest}
-use Rattle.gomod_run.specs.Outcome.{Outcome, output_of}
+use Rattle.gomod_run.specs.Outcome.{Outcome, text_outcome}
 use Rattle.gomod_words.specs.declared.usage.Command.{Command}
 use Rattle.gomod_words.specs.declared.usage.Command.TheVariants.{Fmt}
 use Rattle.gomod_run.specs.Runs.{is_query}
@@ -12,7 +12,7 @@ use Rattle.gomod_laws.specs.Runs.{HasOutcome}
 
 -- `fmt` prints this text of a file with these bytes
 abbrev pub IsFormatted : List ℕ → List ℕ → Type 0
-IsFormatted file text = HasOutcome Fmt file None [] (output_of text)
+IsFormatted file text = HasOutcome Fmt file None [] (text_outcome text)
 
 -- `list`, `graph` and `chain` come to the same over a valid main file and over what `fmt` prints of it, if that has at
 -- most 16,777,216 bytes. More can't be read, and a layout can have more bytes than its file.
@@ -28,4 +28,4 @@ FormattingChangesNoBuild = (command : Command) (file text : List ℕ) (main : Ma
 abbrev pub LayoutsAreFormatted : Type 0
 LayoutsAreFormatted = (file text : List ℕ) (formatted : Outcome)
     → IsFormatted file text → length text ≤ longest → HasOutcome Fmt text None [] formatted
-    → formatted ≡ output_of text
+    → formatted ≡ text_outcome text

@@ -6,7 +6,7 @@ use Rattle.gm_file.specs.Main.{Main}
 use Rattle.gm_graph_select.specs.declared.step.Edge.{Edge}
 use Rattle.gm_graph_select.specs.BuildList.{Entry, HasEntryFor, path_of}
 use Rattle.gomod_run.specs.ListingLaws.{AnswerAlike}
-use Rattle.gomod_run.specs.Outcome.{Outcome, output_of, report_of}
+use Rattle.gomod_run.specs.Outcome.{Outcome, text_outcome, refusal_outcome}
 use Rattle.gomod_run.specs.Reports.{not_listed_line}
 use Rattle.gomod_run.specs.ListingTexts.{edge_text, step_text}
 use Rattle.gomod_run.specs.ReportTexts.{line}
@@ -30,9 +30,9 @@ pub record IsExplained (main : List ℕ) (rows : List Entry) (edges : List (List
   -- for the path of a row: lines that lead from the main module to that row's module at its version
   pub row : (entry : Entry) → Contains rows entry → path_of main entry.0 ≡ path
       → (lines : List (List ℕ)) × LeadsTo edges main (step_text main entry.0) lines
-      × (chain ≡ output_of (text_of lines))
+      × (chain ≡ text_outcome (text_of lines))
   -- for another path: nothing, and it is reported
-  pub unlisted : ¬ (HasEntryFor main rows path) → chain ≡ report_of (not_listed_line path)
+  pub unlisted : ¬ (HasEntryFor main rows path) → chain ≡ refusal_outcome (not_listed_line path)
 
 -- `list` shows these rows of its run, all or a part of them, `graph` shows these edges of its run, and `chain` over a
 -- store that answers no file differently explains each row by them.

@@ -2,7 +2,7 @@
 use Rattle.std.specs.Prelude.{◌≡◌, ℕ, List, [], Option, None, String}
 use Rattle.std.specs.Global.{Global, Vec}
 use Rattle.gm_store.specs.Asked.{Name, Reply}
-use Rattle.gomod_run.specs.Outcome.{Outcome, output_of}
+use Rattle.gomod_run.specs.Outcome.{Outcome, text_outcome}
 use Rattle.gomod_words.specs.declared.usage.Command.{Command}
 use Rattle.gomod_words.specs.declared.usage.Command.TheVariants.{Edit}
 use Rattle.gomod_run.specs.Outcomes.{answers_of, given_of}
@@ -21,4 +21,4 @@ HasPrinted outcome = outcome.status ≡ 0
 
 -- `edit` with these operations prints this text of a file with these bytes
 abbrev pub IsEdited : Vec (String Global) → List ℕ → List ℕ → Type 0
-IsEdited operations file text = HasOutcome (Edit operations) file None [] (output_of text)
+IsEdited operations file text = HasOutcome (Edit operations) file None [] (text_outcome text)

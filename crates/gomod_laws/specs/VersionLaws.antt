@@ -10,7 +10,7 @@ use Rattle.gm_store.specs.Latest.{IsLatest}
 use Rattle.gm_store.specs.Listed.{AreListed}
 use Rattle.gm_graph.specs.Reading.{AreRetractedBy, IsFileReading}
 use Rattle.gomod_run.specs.ListingLaws.{AnswerAlike}
-use Rattle.gomod_run.specs.Outcome.{Outcome, output_of}
+use Rattle.gomod_run.specs.Outcome.{Outcome, text_outcome}
 use Rattle.gomod_words.specs.declared.usage.Command.TheVariants.{Versions}
 use Rattle.gomod_run.specs.Versions.{versions_line}
 use Rattle.gomod_laws.specs.Runs.{HasOutcome, HasPrinted}
@@ -54,8 +54,8 @@ pub record LeavesOutRetracted (asked : List (Name × Reply)) (path : List ℕ) (
   pub shown : List (List ℕ)
   pub listed : HasList asked path versions
   pub unretracted : AreUnretracted asked path versions shown
-  pub one_prints : one ≡ output_of (versions_line path shown)
-  pub other_prints : other ≡ output_of (versions_line path versions)
+  pub one_prints : one ≡ text_outcome (versions_line path shown)
+  pub other_prints : other ≡ text_outcome (versions_line path versions)
 
 -- If `versions` prints without `--retracted`, it prints with it, over a store that answers no file differently. With it
 -- it prints all listed versions, and without it those of them that are not retracted.

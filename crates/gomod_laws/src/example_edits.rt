@@ -19,8 +19,8 @@ pub fn setting_rewrites_the_first()
     ensures { SettingRewritesTheFirst }
 {}
 
-/// `with_addition`: a new exclusion stands after the last one, in its block; a first requirement after a blank line at the
-/// end.
+/// `with_addition`: a new exclusion stands after the last one, in its block; a first requirement after a blank line at
+/// the end.
 pub fn additions_have_a_place()
     ensures block { AdditionGoesIntoTheBlock }
     ensures end { FirstRequirementIsLast }

@@ -10,7 +10,7 @@ use Rattle.gm_graph.specs.Run.{Run, run_of}
 use Rattle.gm_graph.proofs.RunLemmas.{Agrees, needed, settled_answers}
 use Rattle.gomod_run.specs.Outcomes.{Answers, AreFound, Given, Prints, PrintsChain, PrintsGraph, PrintsList, QueryEnds}
 use Rattle.gomod_run.specs.Needs.{AnsweredAll, AnswersByName, GraphNeeds}
-use Rattle.gomod_run.specs.Outcome.{OrNoMemory, Outcome, failure_of}
+use Rattle.gomod_run.specs.Outcome.{OrNoMemory, Outcome, failure_outcome}
 use Rattle.gomod_run.specs.Reports.{device_line}
 use Rattle.gomod_run.proofs.OneQueryStore.{itself, stores_agree}
 use Rattle.gomod_run.proofs.PrintedList.{printed_run}
@@ -103,6 +103,6 @@ held_written command main sums before after old new outcome out out' report repo
   all_answered = λ done. holds.all_answered (written_done outcome out out' report report' status written done);
   fails = holds.fails;
   served = holds.served;
-  device = λ name refused. written_as outcome (failure_of (device_line name)) out out' report report' status (holds.device name refused) written;
+  device = λ name refused. written_as outcome (failure_outcome (device_line name)) out out' report report' status (holds.device name refused) written;
   no_list = λ path all other is refusal. written_as outcome other out out' report report' status (holds.no_list path all other is refusal) written;
 }

@@ -1,6 +1,6 @@
 -- What the program says to single words.
 use Rattle.std.proofs.Common.{◌≡◌, ◌⊎◌, ◌∷◌, ◌∙◌, ℕ, List, [], ap, codes, inl, inr, subst, true}
-use Rattle.gomod_run.specs.Outcome.{Outcome, output_of, out_of_memory}
+use Rattle.gomod_run.specs.Outcome.{Outcome, text_outcome, out_of_memory}
 use Rattle.gomod_words.specs.Laws.{AreUsageError, AskForVersion}
 use Rattle.gomod_words.specs.Usage.{IsVersionLine, is_line_or_memory, version_line}
 use Rattle.gomod_words.specs.declared.usage.UsageFault.{UsageFault}
@@ -9,9 +9,9 @@ use Rattle.gomod_words.proofs.Asked.{error_without_words, version_by_long, versi
 use Rattle.gomod_run.specs.Program.{IsWordsOutcome, any_input, anything, usage_outcome}
 
 version_outcome : (fault : UsageFault) (outcome : Outcome) → IsVersionLine fault → outcome ≡ usage_outcome fault
-    → (outcome ≡ output_of version_line) ⊎ (outcome ≡ out_of_memory)
+    → (outcome ≡ text_outcome version_line) ⊎ (outcome ≡ out_of_memory)
 version_outcome NoMemory outcome known is = inr is
-version_outcome (Version text) outcome known is = inl (is ∙ ap output_of known)
+version_outcome (Version text) outcome known is = inl (is ∙ ap text_outcome known)
 version_outcome (Help text) outcome known is = absurd known
 version_outcome (Line text) outcome known is = absurd known
 version_outcome (BadPath text) outcome known is = absurd known
@@ -27,7 +27,7 @@ error_outcome (BadPath text) outcome known is = cc known
 error_outcome (BadProxy text) outcome known is = cc known
 
 asked_version : (words : List (List ℕ)) (outcome : Outcome) → AskForVersion words → IsWordsOutcome anything any_input words outcome
-    → (outcome ≡ output_of version_line) ⊎ (outcome ≡ out_of_memory)
+    → (outcome ≡ text_outcome version_line) ⊎ (outcome ≡ out_of_memory)
 asked_version words outcome asked (inl told) = version_outcome told.0 outcome (asked.1 told.0 told.1) told.2
 asked_version words outcome asked (inr served) = absurd (asked.0 served.0 served.1 served.2)
 
@@ -37,7 +37,7 @@ asked_nothing words outcome asked (inl told) = error_outcome told.0 outcome (ask
 asked_nothing words outcome asked (inr served) = absurd (asked.0 served.0 served.1 served.2)
 
 pub version_is_printed : (program flag : List ℕ) (outcome : Outcome) → (flag ≡ codes "--version") ⊎ (flag ≡ codes "-V")
-    → IsWordsOutcome anything any_input (program ∷ flag ∷ []) outcome → (outcome ≡ output_of version_line) ⊎ (outcome ≡ out_of_memory)
+    → IsWordsOutcome anything any_input (program ∷ flag ∷ []) outcome → (outcome ≡ text_outcome version_line) ⊎ (outcome ≡ out_of_memory)
 version_is_printed program flag outcome (inl long) words =
     asked_version (program ∷ codes "--version" ∷ []) outcome (version_by_long program)
     (subst (λ (f : List ℕ). IsWordsOutcome anything any_input (program ∷ f ∷ []) outcome) long words)

@@ -24,12 +24,12 @@ use Rattle.gm_graph.specs.Run.{AreFaults, AreTooMany, AskedInTurn, IsDue, IsEdge
 use Rattle.gm_graph.specs.Outcome.{IsLoaded, LoadedGraph as Loaded}
 use Rattle.gomod_run.specs.declared.reports.report.Report.{Report}
 use Rattle.gomod_run.specs.FromFaults.{report_by_bytes, report_by_load}
-use Rattle.gomod_run.specs.Outcome.{OrNoMemory, Outcome, failure_of, output_of, report_of, report_outcome}
+use Rattle.gomod_run.specs.Outcome.{OrNoMemory, Outcome, failure_outcome, text_outcome, refusal_outcome, report_outcome}
 use Rattle.gomod_run.specs.Reports.{device_line}
 use Rattle.gomod_run.specs.declared.listing.answering.Read.{Read}
 use Rattle.gomod_run.specs.declared.listing.query.Query.{Query}
 use Rattle.gomod_run.specs.declared.listing.query.Query.TheVariants.{Graph, List as Rows, Chain}
-use Rattle.gomod_run.specs.ListingTexts.{at_most, list_text}
+use Rattle.gomod_run.specs.ListingTexts.{up_to, list_text}
 use Rattle.gomod_run.specs.Outcomes.{AreInvalidSums, AreSums, FilesReadAs, Given, PrintsRows, QueryEnds, answers_of, bad_main, bad_sums, device, faulty, given_of, no_fault, path_listed, too_many}
 use Rattle.gomod_run.specs.Needs.{AnswersByName, FailsInTurn, GraphNeeds}
 use Rattle.gomod_run.specs.Refusals.{IsRefusedRead}
@@ -45,7 +45,7 @@ use Rattle.gomod_run.proofs.MainMisreading.{IsMalformed, main_refused}
 
 -- the case where the rows after a path are printed
 pub rest_printed : (main : Main) (rows others : List Entry) (path : List ℕ) (limit : Option ℕ) (outcome : Outcome) → IsRestAfter main.path rows path others
-    → OrNoMemory (λ outcome. outcome ≡ output_of (list_text main.path (at_most limit others))) outcome → OrNoMemory (PrintsRows main rows (Some path) limit) outcome
+    → OrNoMemory (λ outcome. outcome ≡ text_outcome (list_text main.path (up_to limit others))) outcome → OrNoMemory (PrintsRows main rows (Some path) limit) outcome
 rest_printed main rows others path limit outcome is (inl says) = inl (path_listed path others refl is says)
 rest_printed main rows others path limit outcome is (inr none) = inr none
 
@@ -82,7 +82,7 @@ main_told file sums fault is = refused_main (main_refused file fault is)
 
 -- the go.sum is reported
 abbrev pub AreReported : Option (List ℕ) → Outcome → Type 0
-AreReported sums outcome = (report : List ℕ) × AreInvalidSums sums report × (outcome ≡ report_of report)
+AreReported sums outcome = (report : List ℕ) × AreInvalidSums sums report × (outcome ≡ refusal_outcome report)
 
 abbrev pub AreSumsRead : Option (List ℕ) → Result (Option Sums) Report → Type 0
 AreSumsRead sums r = MatchResult r (λ table. AreSums sums table) (λ told. OrNoMemory (AreReported sums) (report_outcome told))
@@ -183,16 +183,16 @@ not_broken old new result loaded name ok grown same =
 
 -- the file at which the device failed is the one that is reported
 pub broken : (old new : StoreState) (result : Result Loaded LoadFault) (fault : LoadFault) (name : Name) → result ≡ Err fault
-    → new.refused ≡ old.refused ++ refused_in result → new.refused ≡ old.refused ++ name ∷ [] → report_outcome (report_by_load fault) ≡ failure_of (device_line name)
+    → new.refused ≡ old.refused ++ refused_in result → new.refused ≡ old.refused ++ name ∷ [] → report_outcome (report_by_load fault) ≡ failure_outcome (device_line name)
 broken old new result fault name stops grown same = by_fault fault (sym (subst (λ r. new.refused ≡ old.refused ++ refused_in r) stops grown) ∙ same)
   where
-    by_fault : (fault : LoadFault) → old.refused ++ refused_names fault ≡ old.refused ++ name ∷ [] → report_outcome (report_by_load fault) ≡ failure_of (device_line name)
+    by_fault : (fault : LoadFault) → old.refused ++ refused_names fault ≡ old.refused ++ name ∷ [] → report_outcome (report_by_load fault) ≡ failure_outcome (device_line name)
     by_fault load.NoMemory is = absurd (no_more old.refused name is)
     by_fault load.TooMany is = absurd (no_more old.refused name is)
     by_fault (load.Device file) is =
         let ends : name_of file ∷ [] ≡ name ∷ [] = append_cancel_left old.refused (name_of file ∷ []) (name ∷ []) is in
         let names : name_of file ≡ name = cc ends in
-        ap (λ n. failure_of (device_line n)) names
+        ap (λ n. failure_outcome (device_line n)) names
 
 -- ---- what a run comes to
 
@@ -209,7 +209,7 @@ no_versions (Chain named) path all is = cc is
 
 pub query_comes : (query : Query) (file : List ℕ) (sums : Option (List ℕ)) (before after : Name → Reply → Type 0) (old new : StoreState) (outcome : Outcome)
     → OrNoMemory (RunEnds (command_of query) (run_between file sums old new)) outcome → AskedInTurn (GraphNeeds file sums) new.asked → FailsInTurn (GraphNeeds file sums) old new
-    → HasServed before after old new → ((name : Name) → new.refused ≡ old.refused ++ name ∷ [] → outcome ≡ failure_of (device_line name))
+    → HasServed before after old new → ((name : Name) → new.refused ≡ old.refused ++ name ∷ [] → outcome ≡ failure_outcome (device_line name))
     → ComesTo (command_of query) file sums before after old new outcome
 query_comes query file sums before after old new outcome ends turn fails served reported = record {
   ends = ends;

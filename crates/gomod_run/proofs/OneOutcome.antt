@@ -11,7 +11,7 @@ use Rattle.gomod_run.specs.ListingLaws.{AreAlike}
 use Rattle.gomod_run.specs.Outcomes.{AreFound, FilesReadAs, Given, Prints, QueryEnds}
 use Rattle.gomod_run.specs.Refusals.{IsRefusedRead}
 use Rattle.gomod_run.proofs.QueryParts.{LoadingEnd, Parts, are_read, is_broken, is_known, is_many, parts, unread}
-use Rattle.gomod_run.specs.Outcome.{Outcome, failure_of, report_of}
+use Rattle.gomod_run.specs.Outcome.{Outcome, failure_outcome, refusal_outcome}
 use Rattle.gomod_run.specs.Reports.{FaultPlace, device_line, main_line}
 use Rattle.gomod_run.proofs.OnePrinted.{PrintsOnce, one_faults}
 use Rattle.gomod_run.proofs.OneRead.{misread_or_main, misread_or_sums, one_misreport, one_place}
@@ -62,7 +62,7 @@ module _ (prints : Prints) (once : PrintsOnce prints) (one other : Given) (main 
   one_loading_end (is_many seen over none says) (is_known faults finds tells) = absurd (not_many one other main again table next faults alike read over finds)
   one_loading_end (is_broken name due some says) (is_many sees over none tells) = absurd (not_broken one.told.failed name some (alike.failed ∙ none))
   one_loading_end (is_broken name due some says) (is_broken late dues more tells) =
-      says ∙ ap (λ (n : Name). failure_of (device_line n)) (one_failure one.told.failed name late some (alike.failed ∙ more)) ∙ sym tells
+      says ∙ ap (λ (n : Name). failure_outcome (device_line n)) (one_failure one.told.failed name late some (alike.failed ∙ more)) ∙ sym tells
   one_loading_end (is_broken name due some says) (is_known faults finds tells) = absurd (not_broken one.told.failed name some (alike.failed ∙ finds.none_failed))
   one_loading_end (is_known faults found says) (is_many sees over none tells) = absurd (not_many other one again main next table faults back reads over found)
   one_loading_end (is_known faults found says) (is_broken name due some tells) = absurd (not_broken other.told.failed name some (sym alike.failed ∙ found.none_failed))
@@ -71,10 +71,10 @@ module _ (prints : Prints) (once : PrintsOnce prints) (one other : Given) (main 
 -- ---- when a file is invalid
 
 one_refusal : (file : List ℕ) (sums : Option (List ℕ)) (a b : Outcome) → IsRefusedRead file sums a → IsRefusedRead file sums b → a ≡ b
-one_refusal file sums a b (inl (here, misread, says)) (inl (there, other, tells)) = says ∙ ap (λ (place : FaultPlace). report_of (main_line place)) (one_place file here there misread other) ∙ sym tells
+one_refusal file sums a b (inl (here, misread, says)) (inl (there, other, tells)) = says ∙ ap (λ (place : FaultPlace). refusal_outcome (main_line place)) (one_place file here there misread other) ∙ sym tells
 one_refusal file sums a b (inl (here, misread, says)) (inr (main, report, is, other, tells)) = absurd (misread_or_main file here main misread is)
 one_refusal file sums a b (inr (main, report, is, misread, says)) (inl (there, other, tells)) = absurd (misread_or_main file there main other is)
-one_refusal file sums a b (inr (main, report, is, misread, says)) (inr (again, line, be, other, tells)) = says ∙ ap report_of (one_misreport sums report line misread other) ∙ sym tells
+one_refusal file sums a b (inr (main, report, is, misread, says)) (inr (again, line, be, other, tells)) = says ∙ ap refusal_outcome (one_misreport sums report line misread other) ∙ sym tells
 
 not_refused : (run : Given) (outcome : Outcome) (main : Main) (table : Option Sums) → IsRefusedRead run.file run.sums outcome → FilesReadAs run.file run.sums main table → ⊥
 not_refused run outcome main table (inl (place, misread, says)) are = misread_or_main run.file place main misread are.main_file

@@ -17,9 +17,9 @@ use Rattle.gm_graph_select.proofs.Same.{AreSame, same_back, same_build_list, sam
 use Rattle.gm_graph.specs.declared.fault.Fault.{Fault}
 use Rattle.gm_graph.specs.Run.{AreEdges, AreFaults, AreRows, IsEdge, Run}
 use Rattle.gm_graph.proofs.RunLemmas.{Agrees, fault}
-use Rattle.gomod_run.specs.ListingTexts.{chain_text, graph_text, at_most, list_text}
+use Rattle.gomod_run.specs.ListingTexts.{chain_text, graph_text, up_to, list_text}
 use Rattle.gomod_run.specs.Outcomes.{Prints, PrintsChain, PrintsGraph, PrintsList, PrintsRows, ShowsChain, no_path, path_listed, path_unlisted}
-use Rattle.gomod_run.specs.Outcome.{Outcome, output_of, report_of}
+use Rattle.gomod_run.specs.Outcome.{Outcome, text_outcome, refusal_outcome}
 use Rattle.gomod_run.specs.Reports.{not_listed_line}
 use Rattle.gomod_run.proofs.FewOpened.{IsFew, edges_listed}
 
@@ -89,16 +89,16 @@ module _ (main : Main) (rows : List Entry) (after : Option (List ℕ)) (limit : 
   one_text (no_path none says) (path_unlisted path is tells) = absurd (some_path after path none is)
   one_text (path_listed path others is at says) (no_path none tells) = absurd (some_path after path none is)
   one_text (path_listed path others is at says) (path_listed other more be begun tells) =
-      says ∙ ap (λ (es : List Entry). output_of (list_text main.path (at_most limit es))) (one_rest path other others more (one_path after path other is be) at begun) ∙ sym tells
+      says ∙ ap (λ (es : List Entry). text_outcome (list_text main.path (up_to limit es))) (one_rest path other others more (one_path after path other is be) at begun) ∙ sym tells
   one_text (path_listed path others is at says) (path_unlisted other be tells) = absurd (rest_listed path other others (one_path after path other is be) at tells.0)
   one_text (path_unlisted path is says) (no_path none tells) = absurd (some_path after path none is)
   one_text (path_unlisted path is says) (path_listed other more be begun tells) = absurd (rest_listed other path more (one_path after other path be is) begun says.0)
-  one_text (path_unlisted path is says) (path_unlisted other be tells) = says.1 ∙ ap (λ (p : List ℕ). report_of (not_listed_line p)) (one_path after path other is be) ∙ sym tells.1
+  one_text (path_unlisted path is says) (path_unlisted other be tells) = says.1 ∙ ap (λ (p : List ℕ). refusal_outcome (not_listed_line p)) (one_path after path other is be) ∙ sym tells.1
 
 one_shown : (path : List ℕ) (run : Run) (rows : List Entry) (a b : Outcome) → IsFew run → ShowsChain path run.main (IsEdge run) rows a → ShowsChain path run.main (IsEdge run) rows b → a ≡ b
 one_shown path run rows a b few (inl (s, steps, entry, chain, says)) (inl (t, more, first, other, tells)) =
     let one : IsChain (IsEdge run) t steps = subst (λ (u : Step). IsChain (IsEdge run) u steps) (one_entry run.main.path rows path s t entry first) chain in
-    says ∙ ap output_of (one_chain_text run few t steps more one other) ∙ sym tells
+    says ∙ ap text_outcome (one_chain_text run few t steps more one other) ∙ sym tells
 one_shown path run rows a b few (inl (s, steps, entry, chain, says)) (inr (none, tells)) = absurd (none (entry_listed run.main.path rows path s entry))
 one_shown path run rows a b few (inr (none, says)) (inl (t, more, first, other, tells)) = absurd (none (entry_listed run.main.path rows path t first))
 one_shown path run rows a b few (inr (none, says)) (inr (other, tells)) = says ∙ sym tells
@@ -132,11 +132,11 @@ graph_once = record { once = one; alike = other }
   where
     one : (run : Run) (a b : Outcome) → IsFew run → PrintsGraph run a → PrintsGraph run b → a ≡ b
     one run a b few (edges, are, says) (others, be, tells) =
-        says ∙ ap (λ (es : List Edge). output_of (graph_text run.main.path es)) (one_edges run edges others are be) ∙ sym tells
+        says ∙ ap (λ (es : List Edge). text_outcome (graph_text run.main.path es)) (one_edges run edges others are be) ∙ sym tells
 
     other : (r s : Run) (a : Outcome) → r.main ≡ s.main → AreSame (IsEdge r) (IsEdge s) → PrintsGraph r a → PrintsGraph s a
     other r s a main_is same (edges, are, says) =
-        (edges, edges_alike r s main_is same edges are, subst (λ (m : Main). a ≡ output_of (graph_text m.path edges)) main_is says)
+        (edges, edges_alike r s main_is same edges are, subst (λ (m : Main). a ≡ text_outcome (graph_text m.path edges)) main_is says)
 
 pub list_once : (after : Option (List ℕ)) (limit : Option ℕ) → PrintsOnce (PrintsList after limit)
 list_once after limit = record { once = one; alike = other }

@@ -5,7 +5,7 @@ use Rattle.gomod_run.specs.Editing.{EditEnds}
 use Rattle.gomod_run.specs.ListingLaws.{AnswerAlike}
 use Rattle.gomod_run.specs.Outcomes.{Answers, PrintsChain, PrintsGraph, PrintsList}
 use Rattle.gomod_run.specs.Needs.{AnswersByName}
-use Rattle.gomod_run.specs.Outcome.{Outcome, failure_of}
+use Rattle.gomod_run.specs.Outcome.{Outcome, failure_outcome}
 use Rattle.gomod_run.specs.Reports.{device_line}
 use Rattle.gomod_run.specs.Laws.{OneForStores, OneOutcome}
 use Rattle.gomod_run.specs.Runs.{FmtEnds}
@@ -69,7 +69,7 @@ versions_alike path all told next a b alike failing (answered is none) (answered
 versions_alike path all told next a b alike failing (answered is none) (device name need unanswered some tells) = absurd (no_name next.failed name some (sym failing ∙ none))
 versions_alike path all told next a b alike failing (device name need unanswered some says) (answered be nothing) = absurd (no_name told.failed name some (failing ∙ nothing))
 versions_alike path all told next a b alike failing (device name need unanswered some says) (device other needed unheard more tells) =
-    says ∙ ap (λ (n : Name). failure_of (device_line n)) (one_name told.failed name other some (failing ∙ more)) ∙ sym tells
+    says ∙ ap (λ (n : Name). failure_outcome (device_line n)) (one_name told.failed name other some (failing ∙ more)) ∙ sym tells
 
 -- ---- a command
 

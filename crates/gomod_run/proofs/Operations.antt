@@ -10,7 +10,7 @@ use Rattle.gm_file_edit.specs.Edits.{Edit, edit_in}
 use Rattle.gm_file_edit.specs.Kinds.{is_fit}
 use Rattle.gm_file_edit.specs.declared.fault.EditFault.{EditFault}
 use Rattle.gm_file_edit.specs.declared.fault.EditFault.TheVariants.{NoMemory, Misfit}
-use Rattle.gomod_run.specs.Outcome.{OrNoMemory, Outcome, output_of, report_of, report_outcome}
+use Rattle.gomod_run.specs.Outcome.{OrNoMemory, Outcome, text_outcome, refusal_outcome, report_outcome}
 use Rattle.gm_file.specs.Main.{IsMainOf}
 use Rattle.gm_file.specs.Misreading.{IsMisread}
 use Rattle.gm_file.specs.Directives.{Strict}
@@ -30,7 +30,7 @@ not_applied number text edit Misfit told parsed misfit is =
 -- ---- how `edit` ends
 
 -- the first fault of the file is reported
-pub bad_file : (texts : List (List ℕ)) (file : List ℕ) (outcome : Outcome) → OrNoMemory (λ outcome. (place : FaultPlace) × IsMisread Strict file place.0 place.1 × (outcome ≡ report_of (main_line place))) outcome
+pub bad_file : (texts : List (List ℕ)) (file : List ℕ) (outcome : Outcome) → OrNoMemory (λ outcome. (place : FaultPlace) × IsMisread Strict file place.0 place.1 × (outcome ≡ refusal_outcome (main_line place))) outcome
     → OrNoMemory (EditEnds texts file) outcome
 bad_file texts file outcome (inl (place, misread, says)) = inl (bad_main place misread says)
 bad_file texts file outcome (inr memory) = inr memory
@@ -45,8 +45,8 @@ one_refused texts file lines number text later outcome main same (inr memory) = 
 
 -- no operation is refused, and the layout of what they leave is printed
 pub all_applied : (texts : List (List ℕ)) (file : List ℕ) (lines last : List (Line Placed)) (text : List ℕ) → IsMainOf file lines → refusals_from 1 texts ≡ []
-    → edited_in_turn (filter_map edit_in texts) lines ≡ last → text ≡ layout (plain_lines last) → EditEnds texts file (output_of text)
+    → edited_in_turn (filter_map edit_in texts) lines ≡ last → text ≡ layout (plain_lines last) → EditEnds texts file (text_outcome text)
 all_applied texts file lines last text main none same is =
     applied lines main
-    (ap output_of (is ∙ ap (λ (ls : List (Line Placed)). layout (plain_lines ls)) (sym same))
+    (ap text_outcome (is ∙ ap (λ (ls : List (Line Placed)). layout (plain_lines ls)) (sym same))
     ∙ sym (ap (λ (rs : List (ℕ × List ℕ)). edits_outcome rs (edited_in_turn (filter_map edit_in texts) lines)) none))

@@ -22,8 +22,8 @@ use Rattle.gm_graph.specs.Run.{AreRows, IsEdge, IsVertex, Run, run_of}
 use Rattle.gm_graph.proofs.Mapped.{from_mapped, in_mapped}
 use Rattle.gomod_run.specs.ListingLaws.{AreGreatest, ArePrintedPages, ListIsBuildList, PrintedPagesJoin, no_row, one_page}
 use Rattle.gomod_run.specs.Outcomes.{AreFound, Given, ListEnds, Prints, PrintsList, PrintsRows, QueryEnds, bad_main, bad_sums, device, faulty, no_fault, no_path, path_listed, path_unlisted, too_many}
-use Rattle.gomod_run.specs.Outcome.{Outcome, failure_of, output_of, report_of}
-use Rattle.gomod_run.specs.ListingTexts.{at_most, list_text}
+use Rattle.gomod_run.specs.Outcome.{Outcome, failure_outcome, text_outcome, refusal_outcome}
+use Rattle.gomod_run.specs.ListingTexts.{up_to, list_text}
 use Rattle.gomod_run.proofs.FewOpened.{IsFew, edges_listed}
 
 -- ---- a run that prints
@@ -31,10 +31,10 @@ use Rattle.gomod_run.proofs.FewOpened.{IsFew, edges_listed}
 abbrev pub Printed : Prints → Given → Outcome → Type 0
 Printed prints run outcome = (main : Main) × (table : Option Sums) × AreFound run main table [] × prints (run_of main table run.told.asked) outcome
 
-pub not_refused : (report : List ℕ) (outcome : Outcome) → outcome ≡ report_of report → outcome.status ≡ 0 → ⊥
+pub not_refused : (report : List ℕ) (outcome : Outcome) → outcome ≡ refusal_outcome report → outcome.status ≡ 0 → ⊥
 not_refused report outcome same is = let code = ap (λ (o : Outcome). o.status) same in omega (arith, code, is)
 
-not_failed : (report : List ℕ) (outcome : Outcome) → outcome ≡ failure_of report → outcome.status ≡ 0 → ⊥
+not_failed : (report : List ℕ) (outcome : Outcome) → outcome ≡ failure_outcome report → outcome.status ≡ 0 → ⊥
 not_failed report outcome same is = let code = ap (λ (o : Outcome). o.status) same in omega (arith, code, is)
 
 pub printed_run : (prints : Prints) (run : Given) (outcome : Outcome) → QueryEnds prints run outcome → outcome.status ≡ 0 → Printed prints run outcome
@@ -46,7 +46,7 @@ printed_run prints run outcome (faulty main table first others found says) is = 
 printed_run prints run outcome (no_fault main table found says) is = (main, table, found, says)
 
 -- without a path all rows are printed
-pub all_rows : (main : Main) (rows : List Entry) (limit : Option ℕ) (outcome : Outcome) → PrintsRows main rows None limit outcome → outcome ≡ output_of (list_text main.path (at_most limit rows))
+pub all_rows : (main : Main) (rows : List Entry) (limit : Option ℕ) (outcome : Outcome) → PrintsRows main rows None limit outcome → outcome ≡ text_outcome (list_text main.path (up_to limit rows))
 all_rows main rows limit outcome (no_path none says) = says
 all_rows main rows limit outcome (path_listed path others is at says) = absurd (cc is)
 all_rows main rows limit outcome (path_unlisted path is says) = absurd (cc is)
@@ -100,7 +100,7 @@ list_is_build_list run outcome is ends =
       list.selected,
       found,
       greatest (run_of main table run.told.asked) found.settled.few rows list,
-      all_rows main rows None outcome says ∙ ap (λ (es : List Entry). output_of (list_text main.path es)) list.entries_are,
+      all_rows main rows None outcome says ∙ ap (λ (es : List Entry). text_outcome (list_text main.path es)) list.entries_are,
     )
 
 -- ---- pages
@@ -150,16 +150,16 @@ module _ (run : Given) (main : Main) (table : Option Sums) (found : AreFound run
   AreLeft None left = left ≡ rows
   AreLeft (Some path) left = IsRestAfter main.path rows path left
 
-  page_printed : (after : Option (List ℕ)) (left : List Entry) → AreLeft after left → ListEnds after (Some n) run (output_of (list_text main.path (take n left)))
-  page_printed None left is = no_fault main table found (rows, list, no_path refl (ap (λ (es : List Entry). output_of (list_text main.path (take n es))) is))
+  page_printed : (after : Option (List ℕ)) (left : List Entry) → AreLeft after left → ListEnds after (Some n) run (text_outcome (list_text main.path (take n left)))
+  page_printed None left is = no_fault main table found (rows, list, no_path refl (ap (λ (es : List Entry). text_outcome (list_text main.path (take n es))) is))
   page_printed (Some path) left is = no_fault main table found (rows, list, path_listed path left refl is refl)
 
   paged : {left : List Entry} {pages : List (List Entry)} (after : Option (List ℕ)) → AreLeft after left → AreRowPages main.path rows n left pages → ArePrintedPages run main.path n after pages
-  paged after is no_more = no_row (subst (λ (es : List Entry). ListEnds after (Some n) run (output_of (list_text main.path es))) (take_none n) (page_printed after [] is))
+  paged after is no_more = no_row (subst (λ (es : List Entry). ListEnds after (Some n) run (text_outcome (list_text main.path es))) (take_none n) (page_printed after [] is))
   paged after is (one_more {left} {rest} {pages} front last page behind more) =
       subst (λ (es : List Entry). ArePrintedPages run main.path n after (es ∷ pages)) (sym page)
       (one_page front last
-      (subst (λ (es : List Entry). ListEnds after (Some n) run (output_of (list_text main.path es))) page (page_printed after left is))
+      (subst (λ (es : List Entry). ListEnds after (Some n) run (text_outcome (list_text main.path es))) page (page_printed after left is))
       (paged (Some (path_of main.path last.0)) behind more))
 
 pub pages_join : PrintedPagesJoin

@@ -8,7 +8,7 @@ use Rattle.gm_graph.specs.declared.fault.Fault.{Fault}
 use Rattle.gm_graph.specs.Run.{AreTooMany, IsDue, IsRead, run_of}
 use Rattle.gomod_run.specs.Found.{ReportsFaultsOr}
 use Rattle.gomod_run.specs.Outcomes.{AreFound, FilesReadAs, Given, IsUnasked, Prints, QueryEnds, bad_main, bad_sums, device, faulty, no_fault, too_many}
-use Rattle.gomod_run.specs.Outcome.{Outcome, failure_of, report_of}
+use Rattle.gomod_run.specs.Outcome.{Outcome, failure_outcome, refusal_outcome}
 use Rattle.gomod_run.specs.Refusals.{IsRefusedRead}
 use Rattle.gomod_run.specs.Reports.{device_line, too_many_line}
 use Rattle.gomod_run.specs.Runs.{PrintsOf, RunEnds, is_query}
@@ -17,8 +17,8 @@ use Rattle.gomod_words.specs.declared.usage.Command.TheVariants.{Fmt, Edit, Vers
 
 -- loading finds too many modules, or its store's device fails, or all needed files are answered
 pub data LoadingEnd (prints : Prints) (run : Given) (main : Main) (table : Option Sums) (outcome : Outcome) : Type 0 where
-  is_many : IsRead (run_of main table run.told.asked) → AreTooMany (run_of main table run.told.asked) → run.told.failed ≡ [] → outcome ≡ report_of too_many_line → LoadingEnd prints run main table outcome
-  is_broken : (name : Name) → IsDue (run_of main table run.told.asked) name → run.told.failed ≡ name ∷ [] → outcome ≡ failure_of (device_line name) → LoadingEnd prints run main table outcome
+  is_many : IsRead (run_of main table run.told.asked) → AreTooMany (run_of main table run.told.asked) → run.told.failed ≡ [] → outcome ≡ refusal_outcome too_many_line → LoadingEnd prints run main table outcome
+  is_broken : (name : Name) → IsDue (run_of main table run.told.asked) name → run.told.failed ≡ name ∷ [] → outcome ≡ failure_outcome (device_line name) → LoadingEnd prints run main table outcome
   is_known : (faults : List Fault) → AreFound run main table faults → ReportsFaultsOr faults (prints (run_of main table run.told.asked) outcome) outcome → LoadingEnd prints run main table outcome
 
 -- one of the two files is invalid, or both are valid, and loading ends

@@ -19,7 +19,7 @@ use Rattle.gm_file_edit.proofs.Places.{edited-same}
 use Rattle.gm_store.specs.Asked.{Reply, absent, bytes, list_file, mod_file, too_long}
 use Rattle.gm_store.specs.Latest.{IsLatest}
 use Rattle.gm_graph.proofs.OneReading.{one_reading, one_retracted}
-use Rattle.gomod_run.specs.Outcome.{Outcome, output_of, report_of}
+use Rattle.gomod_run.specs.Outcome.{Outcome, text_outcome, refusal_outcome}
 use Rattle.gomod_run.specs.Reports.{FaultPlace, main_line, syntax_place}
 use Rattle.gomod_run.specs.Needs.{AnswersByName}
 use Rattle.gomod_run.proofs.OneRead.{misread_or_lines, one_place, same_lines}
@@ -56,11 +56,11 @@ same_place file (faults.Syntax line kind) (faults.Syntax row sort) here there a 
 
 pub fmt_once : (file : List ℕ) (one other : Outcome) → FmtEnds file one → FmtEnds file other → one ≡ other
 fmt_once file one other (laid_out lines parsed says) (laid_out others read tells) =
-    let same = (read.1.only (plain_lines lines) Whole parsed.1.reads).0 in says ∙ ap (λ t. output_of (layout t)) same ∙ sym tells
+    let same = (read.1.only (plain_lines lines) Whole parsed.1.reads).0 in says ∙ ap (λ t. text_outcome (layout t)) same ∙ sym tells
 fmt_once file one other (laid_out lines parsed says) (bad_syntax fault place read named tells) = absurd (no_fault file lines fault place parsed read named)
 fmt_once file one other (bad_syntax fault place parsed named says) (laid_out lines read tells) = absurd (no_fault file lines fault place read parsed named)
 fmt_once file one other (bad_syntax fault place parsed named says) (bad_syntax next there read called tells) =
-    says ∙ ap (λ (place : FaultPlace). report_of (main_line place)) (same_place file fault next place there parsed read named called) ∙ sym tells
+    says ∙ ap (λ (place : FaultPlace). refusal_outcome (main_line place)) (same_place file fault next place there parsed read named called) ∙ sym tells
 
 -- ---- edit
 
@@ -70,12 +70,12 @@ in_turn_same [] one other same = same
 in_turn_same (edit ∷ edits) one other same = in_turn_same edits (lines_after edit one) (lines_after edit other) (edited-same edit one other same)
 
 printed_same : (refusals : List (ℕ × List ℕ)) (one other : List (Line Placed)) → plain_lines one ≡ plain_lines other → edits_outcome refusals one ≡ edits_outcome refusals other
-printed_same [] one other same = ap (λ (ls : List (Line Word)). output_of (layout ls)) same
+printed_same [] one other same = ap (λ (ls : List (Line Word)). text_outcome (layout ls)) same
 printed_same (refusal ∷ later) one other same = refl
 
 pub edit_once : (texts : List (List ℕ)) (file : List ℕ) (one other : Outcome) → EditEnds texts file one → EditEnds texts file other → one ≡ other
 edit_once texts file one other (bad_main here misread says) (bad_main there read tells) =
-    says ∙ ap (λ (place : FaultPlace). report_of (main_line place)) (one_place file here there misread read) ∙ sym tells
+    says ∙ ap (λ (place : FaultPlace). refusal_outcome (main_line place)) (one_place file here there misread read) ∙ sym tells
 edit_once texts file one other (bad_main here misread says) (applied lines main tells) = absurd (misread_or_lines file here lines misread main)
 edit_once texts file one other (applied lines main says) (bad_main there read tells) = absurd (misread_or_lines file there lines read main)
 edit_once texts file one other (applied lines main says) (applied others again tells) =
@@ -96,7 +96,7 @@ shown_once path versions latest reply one other a b =
   where
     by : (reading : Result Dependency Class) → IsShownBy path versions latest reply reading one → IsShownBy path versions latest reply reading other → one ≡ other
     by (Ok file) x y =
-        x.2 ∙ ap (λ (intervals : List VersionInterval). output_of (versions_line path (shown_of intervals versions))) (one_retracted reply x.0 y.0 x.1 y.1) ∙ sym y.2
+        x.2 ∙ ap (λ (intervals : List VersionInterval). text_outcome (versions_line path (shown_of intervals versions))) (one_retracted reply x.0 y.0 x.1 y.1) ∙ sym y.2
     by (Err class) x y = x ∙ sym y
 
 not_all : (all : Bool) (versions : List (List ℕ)) (latest : List ℕ) → (all ≡ true) ⊎ (versions ≡ []) → all ≡ false → IsLatest versions latest → ⊥

@@ -15,7 +15,7 @@ use Rattle.gm_graph.specs.declared.cache.class.Class.{Class}
 use Rattle.gm_graph.specs.declared.cache.reading.FileReading.{FileReading}
 use Rattle.gm_graph.specs.Reading.{IsContentReading, IsFileReading}
 use Rattle.gm_graph.specs.Summaries.{RetractsBy, reading_of}
-use Rattle.gomod_run.specs.Outcome.{OrNoMemory, Outcome, failure_of, out_of_memory, outcome_view, output_of, report_of, report_outcome}
+use Rattle.gomod_run.specs.Outcome.{OrNoMemory, Outcome, failure_outcome, out_of_memory, outcome_view, text_outcome, refusal_outcome, report_outcome}
 use Rattle.gomod_run.specs.declared.reports.report.Report.{Report}
 use Rattle.gomod_run.specs.declared.reports.report.Report.TheVariants as report
 use Rattle.gomod_run.specs.Reports.{device_line, list_line}
@@ -65,10 +65,10 @@ module _ (path : List ℕ) (all : Bool) where
     sound_end : new.refused ≡ old.refused → IsVersionsOutcome path all (answer_in new.asked) output → Ends
     sound_end same is = answered is (none_failed old.refused new.refused same)
 
-    pub ends_unfetchable : is_fetchable path ≡ false → new.refused ≡ old.refused → output ≡ report_of (list_line path (codes "NotFetchable")) → Ends
+    pub ends_unfetchable : is_fetchable path ≡ false → new.refused ≡ old.refused → output ≡ refusal_outcome (list_line path (codes "NotFetchable")) → Ends
     ends_unfetchable not same is = sound_end same (unfetchable (not, is))
 
-    pub ends_device_list : is_fetchable path ≡ true → new.asked ≡ [] → output ≡ failure_of (device_line (list_file path))
+    pub ends_device_list : is_fetchable path ≡ true → new.asked ≡ [] → output ≡ failure_outcome (device_line (list_file path))
         → new.refused ≡ old.refused ++ list_file path ∷ [] → Ends
     ends_device_list fetchable none is grown =
         device (list_file path) (fetchable, inl refl) (ap (λ (a : Pairs). answer_in a (list_file path)) none)
@@ -79,15 +79,15 @@ module _ (path : List ℕ) (all : Bool) where
     list_is reply asked = ap (λ (a : Pairs). answer_in a (list_file path)) asked ∙ list_answer path reply []
 
     pub ends_missing : is_fetchable path ≡ true → new.asked ≡ (list_file path, absent) ∷ [] → new.refused ≡ old.refused
-        → output ≡ report_of (list_line path (codes "Missing")) → Ends
+        → output ≡ refusal_outcome (list_line path (codes "Missing")) → Ends
     ends_missing fetchable asked same is = sound_end same (by_list absent fetchable (list_is absent asked) is)
 
     pub ends_too_long : is_fetchable path ≡ true → new.asked ≡ (list_file path, too_long) ∷ [] → new.refused ≡ old.refused
-        → output ≡ report_of (list_line path (codes "TooLong")) → Ends
+        → output ≡ refusal_outcome (list_line path (codes "TooLong")) → Ends
     ends_too_long fetchable asked same is = sound_end same (by_list too_long fetchable (list_is too_long asked) is)
 
     pub ends_all : (list : List ℕ) (versions : List (List ℕ)) → is_fetchable path ≡ true → AreListed path list versions → (all ≡ true) ⊎ (versions ≡ [])
-        → new.asked ≡ (list_file path, bytes list) ∷ [] → new.refused ≡ old.refused → output ≡ output_of (versions_line path versions) → Ends
+        → new.asked ≡ (list_file path, bytes list) ∷ [] → new.refused ≡ old.refused → output ≡ text_outcome (versions_line path versions) → Ends
     ends_all list versions fetchable listed every asked same is =
         sound_end same (by_list (bytes list) fetchable (list_is (bytes list) asked) (versions, listed, unfiltered every is))
 
@@ -102,7 +102,7 @@ module _ (path : List ℕ) (all : Bool) where
 
     pub ends_device_file : (list : List ℕ) (versions : List (List ℕ)) (latest : List ℕ) → is_fetchable path ≡ true → all ≡ false
         → AreListed path list versions → IsLatest versions latest → new.asked ≡ (list_file path, bytes list) ∷ []
-        → output ≡ failure_of (device_line (mod_file path latest)) → new.refused ≡ old.refused ++ mod_file path latest ∷ [] → Ends
+        → output ≡ failure_outcome (device_line (mod_file path latest)) → new.refused ≡ old.refused ++ mod_file path latest ∷ [] → Ends
     ends_device_file list versions latest fetchable some listed latest_is asked is grown =
         let wanted : IsWanted (VersionsNeed path all) (mod_file path latest) new.asked = file_wanted list versions latest fetchable some listed latest_is asked in
         device (mod_file path latest) wanted.0 wanted.1 (failed_in old.refused new.refused (mod_file path latest ∷ []) grown) is
@@ -131,22 +131,22 @@ none_more names name e = let rest : [] ≡ name ∷ [] = append_cancel_left name
 
 -- the device failed on no file
 unrefused : (old new : StoreState) (outcome : Outcome) → new.refused ≡ old.refused
-    → (name : Name) → new.refused ≡ old.refused ++ name ∷ [] → outcome ≡ failure_of (device_line name)
+    → (name : Name) → new.refused ≡ old.refused ++ name ∷ [] → outcome ≡ failure_outcome (device_line name)
 unrefused old new outcome same name grown = absurd (none_more old.refused name (sym same ∙ grown))
 
 -- it failed on one file, which is reported
-refused_on : (old new : StoreState) (outcome : Outcome) (one : Name) → outcome ≡ failure_of (device_line one) → new.refused ≡ old.refused ++ one ∷ []
-    → (name : Name) → new.refused ≡ old.refused ++ name ∷ [] → outcome ≡ failure_of (device_line name)
+refused_on : (old new : StoreState) (outcome : Outcome) (one : Name) → outcome ≡ failure_outcome (device_line one) → new.refused ≡ old.refused ++ one ∷ []
+    → (name : Name) → new.refused ≡ old.refused ++ name ∷ [] → outcome ≡ failure_outcome (device_line name)
 refused_on old new outcome one is grown name also =
     let tail : one ∷ [] ≡ name ∷ [] = append_cancel_left old.refused (one ∷ []) (name ∷ []) (sym grown ∙ also) in
-    let same : one ≡ name = cc tail in is ∙ ap (λ (name : Name). failure_of (device_line name)) same
+    let same : one ≡ name = cc tail in is ∙ ap (λ (name : Name). failure_outcome (device_line name)) same
 
 -- ---- the clauses of a run
 
 -- what the contract of `versions_outcome` says of a run, but for its answers
 pub record IsVersionsRun (path : List ℕ) (all : Bool) (old new : StoreState) (outcome : Outcome) : Type 0 where
   pub ends : OrNoMemory (VersionsEnds path all (told_between old new)) outcome
-  pub device : (name : Name) → new.refused ≡ old.refused ++ name ∷ [] → outcome ≡ failure_of (device_line name)
+  pub device : (name : Name) → new.refused ≡ old.refused ++ name ∷ [] → outcome ≡ failure_outcome (device_line name)
   pub no_list : (other : Outcome) → IsRefusedList path (answer_in new.asked) other → outcome ≡ other
   pub in_turn : AskedInTurn (VersionsNeed path all) new.asked
   pub fails : FailsInTurn (VersionsNeed path all) old new
@@ -182,7 +182,7 @@ none_refused path asked outcome fetchable none other is =
 -- the versions of the list are printed, since all are asked for or there are none
 abbrev IsPrinted : List ℕ → Bool → List ℕ → Outcome → Type 0
 IsPrinted path all list outcome = (versions : List (List ℕ)) × AreListed path list versions × ((all ≡ true) ⊎ (versions ≡ []))
-    × (outcome ≡ output_of (versions_line path versions))
+    × (outcome ≡ text_outcome (versions_line path versions))
 
 -- the outcome if only the list was asked for
 by_reply : (path : List ℕ) (all : Bool) (old new : StoreState) (reply : Reply) (outcome : Outcome) → is_fetchable path ≡ true

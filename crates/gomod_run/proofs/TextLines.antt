@@ -7,7 +7,7 @@ use Rattle.std.specs.Option.{option_map, option_eq}
 use Rattle.std.specs.Prelude.{nat_eq}
 use Rattle.std.proofs.lemmas.Bool.{eqb-true, false≢true}
 use Rattle.gm_graph_select.specs.BuildList.{Entry}
-use Rattle.gomod_run.specs.ListingTexts.{entry_line, at_most, list_text}
+use Rattle.gomod_run.specs.ListingTexts.{entry_line, up_to, list_text}
 
 -- the lines so far, and the next
 pub lines_more : {X : Type 0} (f : X → List ℕ) (xs : List X) (i : ℕ) (x : X) (old new : List ℕ) → i < length xs → x ≡ slice_index_or xs i x
@@ -18,7 +18,7 @@ lines_more f xs i x old new within item known pushed =
 
 -- the limit is used up
 pub none_more : (main : List ℕ) (left : Option ℕ) (rest : List Entry) (text whole : List ℕ) → option_eq nat_eq left (Some 0) ≡ true
-    → text ++ list_text main (at_most left rest) ≡ whole → text ≡ whole
+    → text ++ list_text main (up_to left rest) ≡ whole → text ≡ whole
 none_more main None rest text whole at_end known = absurd (false≢true at_end)
 none_more main (Some zero) rest text whole at_end known = sym (append-nil text) ∙ known
 none_more main (Some (suc n)) rest text whole at_end known = absurd (omega (arith, eqb-true (suc n) 0 at_end))
@@ -26,7 +26,7 @@ none_more main (Some (suc n)) rest text whole at_end known = absurd (omega (arit
 -- one more entry
 pub entry_more : (main : List ℕ) (left : Option ℕ) (old rest : List Entry) (entry : Entry) (text new whole : List ℕ) → option_eq nat_eq left (Some 0) ≡ false
     → old ≡ entry ∷ rest → new ≡ text ++ entry_line main entry
-    → text ++ list_text main (at_most left old) ≡ whole → new ++ list_text main (at_most (option_map (λ n. n - 1) left) rest) ≡ whole
+    → text ++ list_text main (up_to left old) ≡ whole → new ++ list_text main (up_to (option_map (λ n. n - 1) left) rest) ≡ whole
 entry_more main None old rest entry text new whole goes_on steps pushed known =
     ap (λ (t : List ℕ). t ++ list_text main rest) pushed ∙ append_assoc text (entry_line main entry) (list_text main rest)
     ∙ ap (λ (es : List Entry). text ++ list_text main es) (sym steps) ∙ known
@@ -36,7 +36,7 @@ entry_more main (Some (suc n)) old rest entry text new whole goes_on steps pushe
     ∙ ap (λ (es : List Entry). text ++ list_text main (take (suc n) es)) (sym steps) ∙ known
 
 -- no entry is left
-pub ended : (main : List ℕ) (left : Option ℕ) (rest : List Entry) (text whole : List ℕ) → rest ≡ [] → text ++ list_text main (at_most left rest) ≡ whole → text ≡ whole
+pub ended : (main : List ℕ) (left : Option ℕ) (rest : List Entry) (text whole : List ℕ) → rest ≡ [] → text ++ list_text main (up_to left rest) ≡ whole → text ≡ whole
 ended main None rest text whole empty known = sym (append-nil text) ∙ ap (λ (es : List Entry). text ++ list_text main es) (sym empty) ∙ known
 ended main (Some zero) rest text whole empty known = sym (append-nil text) ∙ known
 ended main (Some (suc n)) rest text whole empty known = sym (append-nil text) ∙ ap (λ (es : List Entry). text ++ list_text main (take (suc n) es)) (sym empty) ∙ known

@@ -5,7 +5,7 @@ use Rattle.std.proofs.lemmas.Str.{IsUtf8-nil, IsUtf8-string_bytes}
 use Rattle.gm_store.specs.Taken.{SinkState}
 use Rattle.gm_store.specs.declared.sinks.WriteFault.{WriteFault}
 use Rattle.gomod_run.proofs.Takings.{took_nothing}
-use Rattle.gomod_run.specs.Outcome.{Outcome, code_of, output_of, report_outcome, report_status, report_text}
+use Rattle.gomod_run.specs.Outcome.{Outcome, code_of, text_outcome, report_outcome, report_status, report_text}
 use Rattle.gomod_run.specs.Taking.{Took, TookAll, TookPrefix}
 use Rattle.gomod_run.specs.declared.reports.report.Report.{Report}
 use Rattle.gomod_run.specs.Program.{usage_error, usage_outcome}
@@ -17,11 +17,11 @@ use Rattle.gomod_run.specs.Written.{EndsAsStated, IsWritten}
 
 -- a text, if it was written, or a prefix of it
 pub text_written : (out out' report : SinkState) (text : List ℕ) → TookAll out out' text
-    → IsWritten (output_of text) out out' report report 0
+    → IsWritten (text_outcome text) out out' report report 0
 text_written out out' report text took = inl ((took, took_nothing report), refl)
 
 pub text_cut : (out out' report : SinkState) (text : List ℕ) → TookPrefix out out' text
-    → IsWritten (output_of text) out out' report report 3
+    → IsWritten (text_outcome text) out out' report report 3
 text_cut out out' report text part = inr (inl (part, refl), refl)
 
 -- a report, if it was written, or a prefix of it

@@ -2,7 +2,7 @@
 use Rattle.std.specs.Prelude.{◌≡◌, ◌⊎◌, ◌++◌, ◌∷◌, ℕ, List, [], Result, Ok, Err}
 use Rattle.gm_store.specs.Asked.{Name, Reply, mod_file}
 use Rattle.gm_store.specs.States.{StoreState}
-use Rattle.gomod_run.specs.Outcome.{OrNoMemory, Outcome, failure_of, out_of_memory, report_outcome}
+use Rattle.gomod_run.specs.Outcome.{OrNoMemory, Outcome, failure_outcome, out_of_memory, report_outcome}
 use Rattle.gomod_run.specs.Reports.{device_line}
 use Rattle.gomod_run.specs.declared.reports.report.Report.{Report}
 use Rattle.gomod_run.specs.Versions.{IsShownOutcome}
@@ -15,7 +15,7 @@ IsAnsweredAsk name old new reply =
 -- the device failed at the file, and this is reported
 abbrev pub IsRefusedAt : Name → StoreState → StoreState → Outcome → Type 0
 IsRefusedAt name old new outcome =
-    (outcome ≡ failure_of (device_line name))
+    (outcome ≡ failure_outcome (device_line name))
     × (new.asked ≡ old.asked)
     × (new.refused ≡ old.refused ++ name ∷ [])
 

@@ -13,7 +13,7 @@ use Rattle.gm_file_edit.specs.Edits.{Edit, edit_in}
 use Rattle.gm_file.specs.Main.{IsMainOf}
 use Rattle.gm_file.specs.Misreading.{IsMisread}
 use Rattle.gm_file.specs.Directives.{Strict}
-use Rattle.gomod_run.specs.Outcome.{Outcome, output_of, report_of}
+use Rattle.gomod_run.specs.Outcome.{Outcome, text_outcome, refusal_outcome}
 use Rattle.gomod_run.specs.Reports.{FaultPlace, main_line, edit_line}
 
 -- why a parsed operation is refused, if it is
@@ -24,7 +24,7 @@ refusal_of (Some edit) = if is_fit edit then None else Some (codes "Misfit")
 -- the operation of this number is refused, and this is reported
 abbrev pub IsRefusedOperation : ℕ → Option Edit → Outcome → Type 0
 IsRefusedOperation number operation outcome =
-    (kind : List ℕ) × (refusal_of operation ≡ Some kind) × (outcome ≡ report_of (edit_line (number, kind)))
+    (kind : List ℕ) × (refusal_of operation ≡ Some kind) × (outcome ≡ refusal_outcome (edit_line (number, kind)))
 
 -- the refused operations with their numbers; the first operation has this number
 abbrev pub refusals_from : ℕ → List (List ℕ) → List (ℕ × List ℕ)
@@ -39,13 +39,13 @@ edited_in_turn edits lines = fold (λ lines edit. lines_after edit lines) lines 
 
 -- the first refusal is reported; without one the layout is printed
 abbrev pub edits_outcome : List (ℕ × List ℕ) → List (Line Placed) → Outcome
-edits_outcome [] lines = output_of (layout (plain_lines lines))
-edits_outcome (refusal ∷ later) lines = report_of (edit_line refusal)
+edits_outcome [] lines = text_outcome (layout (plain_lines lines))
+edits_outcome (refusal ∷ later) lines = refusal_outcome (edit_line refusal)
 
 -- How `edit FILE OP..` ends over the bytes of the file, if memory doesn't run out: the file is read strictly, then each
 -- operation is parsed and applied.
 pub data EditEnds (texts : List (List ℕ)) (file : List ℕ) (outcome : Outcome) : Type 0 where
-  bad_main : (place : FaultPlace) → IsMisread Strict file place.0 place.1 → outcome ≡ report_of (main_line place)
+  bad_main : (place : FaultPlace) → IsMisread Strict file place.0 place.1 → outcome ≡ refusal_outcome (main_line place)
       → EditEnds texts file outcome
   applied : (lines : List (Line Placed)) → IsMainOf file lines
       → outcome ≡ edits_outcome (refusals_from 1 texts) (edited_in_turn (filter_map edit_in texts) lines)

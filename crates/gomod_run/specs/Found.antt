@@ -10,11 +10,11 @@ use Rattle.gomod_run.specs.declared.listing.query.Query.TheVariants.{Graph, List
 use Rattle.gomod_run.specs.ListingTexts.{graph_text}
 use Rattle.gomod_run.specs.Reports.{faults_text}
 use Rattle.gomod_run.specs.Outcomes.{PrintsRows, ShowsChain}
-use Rattle.gomod_run.specs.Outcome.{Outcome, output_of, report_of}
+use Rattle.gomod_run.specs.Outcome.{Outcome, text_outcome, refusal_outcome}
 
 -- `graph` prints the edges that were found
 abbrev pub PrintsEdges : Main → Found → Outcome → Type 0
-PrintsEdges main found outcome = outcome ≡ output_of (graph_text main.path found.edges)
+PrintsEdges main found outcome = outcome ≡ text_outcome (graph_text main.path found.edges)
 
 -- `chain` prints the chain over the edges that were found, or reports that the path is not listed
 abbrev pub PrintsSteps : List ℕ → Main → Found → Outcome → Type 0
@@ -29,7 +29,7 @@ PrintsFound (Chain path) main found outcome = PrintsSteps path.now main found ou
 -- the faults are reported if there are any; otherwise this is what the command prints
 abbrev pub ReportsFaultsOr : List Fault → Type 0 → Outcome → Type 0
 ReportsFaultsOr [] prints outcome = prints
-ReportsFaultsOr (first ∷ others) prints outcome = outcome ≡ report_of (faults_text (first ∷ others))
+ReportsFaultsOr (first ∷ others) prints outcome = outcome ≡ refusal_outcome (faults_text (first ∷ others))
 
 -- the outcome of a command over what was found
 abbrev pub IsOutcomeOfFound : Query → Main → Found → Outcome → Type 0

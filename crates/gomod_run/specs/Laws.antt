@@ -1,7 +1,7 @@
 -- Laws of runs, which follow from the definitions alone.
 use Rattle.std.specs.Prelude.{◌≡◌, ◌⊎◌, ◌∷◌, ℕ, List, [], codes}
 use Rattle.gomod_run.specs.ListingLaws.{AreAlike}
-use Rattle.gomod_run.specs.Outcome.{Outcome, output_of, out_of_memory}
+use Rattle.gomod_run.specs.Outcome.{Outcome, text_outcome, out_of_memory}
 use Rattle.gomod_run.specs.Outcomes.{Given}
 use Rattle.gomod_words.specs.Usage.{version_line}
 use Rattle.gomod_words.specs.declared.usage.Command.{Command}
@@ -25,7 +25,7 @@ OneForStores = (command : Command) (run next : Given) (one other : Outcome)
 abbrev pub VersionIsPrinted : Type 0
 VersionIsPrinted = (program flag : List ℕ) (outcome : Outcome)
     → (flag ≡ codes "--version") ⊎ (flag ≡ codes "-V") → IsWordsOutcome anything any_input (program ∷ flag ∷ []) outcome
-    → (outcome ≡ output_of version_line) ⊎ (outcome ≡ out_of_memory)
+    → (outcome ≡ text_outcome version_line) ⊎ (outcome ≡ out_of_memory)
 
 -- `gomod` without words prints nothing and ends with the status of a usage error, or memory runs out, whatever comes
 -- of opening files and of taking standard input

@@ -5,7 +5,7 @@ use Rattle.gm_store.specs.Asked.{Reply, list_file}
 use Rattle.gm_store.specs.Latest.{IsLatest}
 use Rattle.gm_store.specs.Listed.{AreListed}
 use Rattle.gm_store.specs.States.{StoreState}
-use Rattle.gomod_run.specs.Outcome.{Outcome, output_of, report_outcome}
+use Rattle.gomod_run.specs.Outcome.{Outcome, text_outcome, report_outcome}
 use Rattle.gomod_run.specs.declared.reports.report.Report.{Report}
 use Rattle.gomod_run.specs.Asking.{IsAnsweredAsk, IsLatestAsked, IsRefusedAt, IsUnanswered}
 use Rattle.gomod_run.specs.Versions.{IsUnfetchable, versions_line}
@@ -22,12 +22,12 @@ IsListAsked path old new (Err told) = (IsUnfetchable path (report_outcome told) 
 -- all versions of the list are printed
 abbrev pub IsAllOutcome : List ℕ → List ℕ → Outcome → Type 0
 IsAllOutcome path list outcome = (versions : List (List ℕ)) × AreListed path list versions
-    × (outcome ≡ output_of (versions_line path versions))
+    × (outcome ≡ text_outcome (versions_line path versions))
 
 -- the list has no versions, which is printed, and nothing more was asked
 abbrev pub IsEmptyList : List ℕ → List ℕ → StoreState → StoreState → Outcome → Type 0
 IsEmptyList path list old new outcome =
-    AreListed path list [] × (outcome ≡ output_of (versions_line path [])) × (new ≡ old)
+    AreListed path list [] × (outcome ≡ text_outcome (versions_line path [])) × (new ≡ old)
 
 -- the list has versions, and the go.mod of the latest one was asked for
 abbrev pub IsFullList : List ℕ → List ℕ → StoreState → StoreState → Outcome → Type 0

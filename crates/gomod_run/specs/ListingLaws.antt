@@ -20,7 +20,7 @@ use Rattle.gm_graph.specs.Run.{AreEdges, AreRows, IsEdge, IsVertex, Run, run_of}
 use Rattle.gomod_run.specs.declared.reports.status.Status.TheVariants.{Done}
 use Rattle.gomod_run.specs.ListingTexts.{chain_text, graph_text, list_text}
 use Rattle.gomod_run.specs.Outcomes.{AreFound, Given, ChainEnds, GraphEnds, ListEnds, PrintsRows, ShowsChain}
-use Rattle.gomod_run.specs.Outcome.{Outcome, code_of, output_of}
+use Rattle.gomod_run.specs.Outcome.{Outcome, code_of, text_outcome}
 
 -- ---- runs that are alike
 
@@ -57,7 +57,7 @@ abbrev pub ShowsBuildList : Given → Outcome → Type 0
 ShowsBuildList run outcome =
     (main : Main) × (table : Option Sums) × (selected : List ModuleVersion) × AreFound run main table []
     × AreGreatest (run_of main table run.told.asked) selected
-    × (outcome ≡ output_of (list_text main.path (main_entry ∷ map (entry_of main.replaces) selected)))
+    × (outcome ≡ text_outcome (list_text main.path (main_entry ∷ map (entry_of main.replaces) selected)))
 
 -- this holds when `list` prints
 abbrev pub ListIsBuildList : Type 0
@@ -69,7 +69,7 @@ abbrev pub BuildListIsListed : Type 0
 BuildListIsListed = (run : Given) (main : Main) (table : Option Sums) (selected : List ModuleVersion)
     → AreFound run main table [] → AreGreatest (run_of main table run.told.asked) selected
     → ListEnds None None run
-    (output_of (list_text main.path (main_entry ∷ map (entry_of main.replaces) selected)))
+    (text_outcome (list_text main.path (main_entry ∷ map (entry_of main.replaces) selected)))
 
 -- ---- parts of the list
 
@@ -79,7 +79,7 @@ abbrev pub ShowsPart : Option (List ℕ) → Option ℕ → Given → Outcome �
 ShowsPart after limit run whole part =
     (main : Main) × (table : Option Sums) × (rows : List Entry) × AreFound run main table []
     × AreRows (run_of main table run.told.asked) rows
-    × (whole ≡ output_of (list_text main.path rows)) × PrintsRows main rows after limit part
+    × (whole ≡ text_outcome (list_text main.path rows)) × PrintsRows main rows after limit part
 
 -- this holds for any path and limit when `list` prints
 abbrev pub PartsOfOneList : Type 0
@@ -92,10 +92,10 @@ PartsOfOneList = (after : Option (List ℕ)) (limit : Option ℕ) (run : Given) 
 -- The pages of n rows: `list` prints the first from the beginning, and each further one after the last row of
 -- the page before it. After the last page it prints nothing.
 pub data ArePrintedPages (run : Given) (main : List ℕ) (n : ℕ) : Option (List ℕ) → List (List Entry) → Type 0 where
-  no_row : {after : Option (List ℕ)} → ListEnds after (Some n) run (output_of [])
+  no_row : {after : Option (List ℕ)} → ListEnds after (Some n) run (text_outcome [])
       → ArePrintedPages run main n after []
   one_page : {after : Option (List ℕ)} {pages : List (List Entry)} (front : List Entry) (last : Entry)
-      → ListEnds after (Some n) run (output_of (list_text main (front ++ last ∷ [])))
+      → ListEnds after (Some n) run (text_outcome (list_text main (front ++ last ∷ [])))
       → ArePrintedPages run main n (Some (path_of main last.0)) pages
       → ArePrintedPages run main n after ((front ++ last ∷ []) ∷ pages)
 
@@ -124,7 +124,7 @@ abbrev pub ShowsShortestWalk : List ℕ → Given → Outcome → Type 0
 ShowsShortestWalk path run outcome =
     (main : Main) × (table : Option Sums) × (rows : List Entry) × (s : Step) × (steps : List Step)
     × AreFound run main table [] × AreRows (run_of main table run.told.asked) rows × IsEntryOf main.path rows path s
-    × (outcome ≡ output_of (chain_text main.path steps))
+    × (outcome ≡ text_outcome (chain_text main.path steps))
     × IsWalk (IsEdge (run_of main table run.told.asked)) s steps
     × ((others : List Step) → IsWalk (IsEdge (run_of main table run.told.asked)) s others
     → length steps ≤ length others)
@@ -141,7 +141,7 @@ PrintedChainIsShortest = (path : List ℕ) (run : Given) (outcome : Outcome) →
 pub record AreOfOneGraph (main : Main) (edges : List Edge) (rows : List Entry)
     (after : Option (List ℕ)) (limit : Option ℕ) (path : List ℕ) (graph list chain : Outcome) : Type 0 where
   pub build_list : IsBuildList main.path main.replaces (among edges) rows
-  pub graph_is : graph ≡ output_of (graph_text main.path edges)
+  pub graph_is : graph ≡ text_outcome (graph_text main.path edges)
   pub list_is : PrintsRows main rows after limit list
   pub chain_is : ShowsChain path main (among edges) rows chain
 

@@ -66,6 +66,6 @@ abbrev pub list_text : List ℕ → List Entry → List ℕ
 list_text main entries = flat_map (entry_line main) entries
 
 -- the first `n` elements, or all if there is no limit
-abbrev pub at_most : {X : Type 0} → Option ℕ → List X → List X
-at_most None xs = xs
-at_most (Some n) xs = take n xs
+abbrev pub up_to : {X : Type 0} → Option ℕ → List X → List X
+up_to None xs = xs
+up_to (Some n) xs = take n xs

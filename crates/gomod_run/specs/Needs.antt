@@ -5,7 +5,7 @@ use Rattle.gm_store.specs.Asked.{Name, Reply, answer_in}
 use Rattle.gm_store.specs.States.{StoreState}
 use Rattle.gm_store_sums.specs.Sums.{Sums}
 use Rattle.gm_file.specs.Main.{Main}
-use Rattle.gm_graph.specs.Run.{CallsFor}
+use Rattle.gm_graph.specs.Run.{LoadingNeeds}
 use Rattle.gomod_run.specs.Outcomes.{FilesReadAs}
 
 -- what a store answered
@@ -36,4 +36,4 @@ pub record GraphNeeds (file : List ℕ) (sums : Option (List ℕ)) (answers : An
   pub main : Main
   pub table : Option Sums
   pub read : FilesReadAs file sums main table
-  pub called : CallsFor (record { main = main; sums = table; answers = answers }) name
+  pub called : LoadingNeeds main table answers name

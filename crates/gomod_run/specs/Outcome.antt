@@ -17,20 +17,20 @@ pub record Outcome : Type 0 where
   pub status : ℕ
 
 -- a text, and nothing to report
-abbrev pub output_of : List ℕ → Outcome
-output_of text = record { text = text; report = []; status = 0 }
+abbrev pub text_outcome : List ℕ → Outcome
+text_outcome text = record { text = text; report = []; status = 0 }
 
 -- nothing printed, and what is wrong with what was read
-abbrev pub report_of : List ℕ → Outcome
-report_of report = record { text = []; report = report; status = 1 }
+abbrev pub refusal_outcome : List ℕ → Outcome
+refusal_outcome report = record { text = []; report = report; status = 1 }
 
 -- nothing printed, and what failed
-abbrev pub failure_of : List ℕ → Outcome
-failure_of report = record { text = []; report = report; status = 3 }
+abbrev pub failure_outcome : List ℕ → Outcome
+failure_outcome report = record { text = []; report = report; status = 3 }
 
 -- the report that memory ran out
 abbrev pub out_of_memory : Outcome
-out_of_memory = failure_of no_memory_line
+out_of_memory = failure_outcome no_memory_line
 
 -- such an outcome, or the report that memory ran out
 abbrev pub OrNoMemory : (Outcome → Type 0) → Outcome → Type 0
@@ -70,5 +70,5 @@ report_outcome told = record { text = []; report = report_text told; status = co
 
 -- the outcome that a result of the library stands for: a text to print, or a report
 abbrev pub outcome_view : Result (String Global) Report → Outcome
-outcome_view (Ok text) = output_of (string_bytes text)
+outcome_view (Ok text) = text_outcome (string_bytes text)
 outcome_view (Err told) = report_outcome told

@@ -14,8 +14,8 @@ use Rattle.gm_graph_select.specs.Chains.{IsChain}
 use Rattle.gm_graph_select.specs.Graph.{Edges}
 use Rattle.gm_graph.specs.declared.fault.Fault.{Fault}
 use Rattle.gm_graph.specs.Run.{AreEdges, AreFaults, AreRows, AreTooMany, IsDue, IsEdge, IsRead, IsSettled, Run, run_of}
-use Rattle.gomod_run.specs.ListingTexts.{chain_text, graph_text, at_most, list_text}
-use Rattle.gomod_run.specs.Outcome.{Outcome, failure_of, output_of, report_of}
+use Rattle.gomod_run.specs.ListingTexts.{chain_text, graph_text, up_to, list_text}
+use Rattle.gomod_run.specs.Outcome.{Outcome, failure_outcome, text_outcome, refusal_outcome}
 use Rattle.gomod_run.specs.Reports.{FaultPlace, bad_sum_line, device_line, faults_text, long_sums_line, main_line, not_listed_line, too_many_line}
 
 -- What a store answered: the names that it was asked for with its answers, and the names on which its device
@@ -88,22 +88,22 @@ Prints = Run → Outcome → Type 0
 pub data QueryEnds (prints : Prints) (run : Given) (outcome : Outcome) : Type 0 where
   -- the main file is invalid, which is reported, and no file is asked for
   bad_main : (place : FaultPlace) → IsMisread Strict run.file place.0 place.1 → IsUnasked run.told
-      → outcome ≡ report_of (main_line place) → QueryEnds prints run outcome
+      → outcome ≡ refusal_outcome (main_line place) → QueryEnds prints run outcome
   -- the main file is valid and the go.sum is not, likewise
   bad_sums : (main : Main) (report : List ℕ) → IsMainFile run.file main → AreInvalidSums run.sums report
-      → IsUnasked run.told → outcome ≡ report_of report → QueryEnds prints run outcome
+      → IsUnasked run.told → outcome ≡ refusal_outcome report → QueryEnds prints run outcome
   -- the store's device failed on the file of an opened module
   device : (main : Main) (table : Option Sums) (name : Name) → FilesReadAs run.file run.sums main table
       → IsDue (run_of main table run.told.asked) name → run.told.failed ≡ name ∷ []
-      → outcome ≡ failure_of (device_line name) → QueryEnds prints run outcome
+      → outcome ≡ failure_outcome (device_line name) → QueryEnds prints run outcome
   -- more than 65,536 modules are opened
   too_many : (main : Main) (table : Option Sums) → FilesReadAs run.file run.sums main table
       → IsRead (run_of main table run.told.asked) → AreTooMany (run_of main table run.told.asked)
-      → run.told.failed ≡ [] → outcome ≡ report_of too_many_line → QueryEnds prints run outcome
+      → run.told.failed ≡ [] → outcome ≡ refusal_outcome too_many_line → QueryEnds prints run outcome
   -- some of the opened modules have faults: these are reported, and no others
   faulty : (main : Main) (table : Option Sums) (first : Fault) (others : List Fault)
       → AreFound run main table (first ∷ others)
-      → outcome ≡ report_of (faults_text (first ∷ others)) → QueryEnds prints run outcome
+      → outcome ≡ refusal_outcome (faults_text (first ∷ others)) → QueryEnds prints run outcome
   -- no opened module has a fault, and the command prints
   no_fault : (main : Main) (table : Option Sums) → AreFound run main table []
       → prints (run_of main table run.told.asked) outcome → QueryEnds prints run outcome
@@ -113,7 +113,7 @@ pub data QueryEnds (prints : Prints) (run : Given) (outcome : Outcome) : Type 0 
 -- each edge of the module graph once, in ascending order
 abbrev pub PrintsGraph : Prints
 PrintsGraph run outcome =
-    (edges : List Edge) × AreEdges run edges × (outcome ≡ output_of (graph_text run.main.path edges))
+    (edges : List Edge) × AreEdges run edges × (outcome ≡ text_outcome (graph_text run.main.path edges))
 
 -- how `graph` ends
 abbrev pub GraphEnds : Given → Outcome → Type 0
@@ -123,17 +123,18 @@ GraphEnds = QueryEnds PrintsGraph
 
 -- the path is not in the build list, and this is reported
 abbrev pub IsUnlisted : Main → List Entry → List ℕ → Outcome → Type 0
-IsUnlisted main rows path outcome = ¬ (HasEntryFor main.path rows path) × (outcome ≡ report_of (not_listed_line path))
+IsUnlisted main rows path outcome =
+    ¬ (HasEntryFor main.path rows path) × (outcome ≡ refusal_outcome (not_listed_line path))
 
--- What `list` prints of these rows: of those named, the first `limit`, if there is a limit.
+-- What `list` prints of these rows: those that a rule names, and of them the first `limit`, if there is a limit.
 pub data PrintsRows (main : Main) (rows : List Entry) (after : Option (List ℕ)) (limit : Option ℕ) (outcome : Outcome)
     : Type 0 where
   -- no path is given: all rows
-  no_path : after ≡ None → outcome ≡ output_of (list_text main.path (at_most limit rows))
+  no_path : after ≡ None → outcome ≡ text_outcome (list_text main.path (up_to limit rows))
       → PrintsRows main rows after limit outcome
   -- the path has a row: the rows after it
   path_listed : (path : List ℕ) (others : List Entry) → after ≡ Some path → IsRestAfter main.path rows path others
-      → outcome ≡ output_of (list_text main.path (at_most limit others)) → PrintsRows main rows after limit outcome
+      → outcome ≡ text_outcome (list_text main.path (up_to limit others)) → PrintsRows main rows after limit outcome
   -- the path has no row, which is reported
   path_unlisted : (path : List ℕ) → after ≡ Some path → IsUnlisted main rows path outcome
       → PrintsRows main rows after limit outcome
@@ -154,7 +155,7 @@ ListEnds after limit = QueryEnds (PrintsList after limit)
 abbrev pub ShowsChain : List ℕ → Main → Edges → List Entry → Outcome → Type 0
 ShowsChain path main edges rows outcome =
     ((s : Step) × (steps : List Step) × IsEntryOf main.path rows path s × IsChain edges s steps
-    × (outcome ≡ output_of (chain_text main.path steps)))
+    × (outcome ≡ text_outcome (chain_text main.path steps)))
     ⊎ IsUnlisted main rows path outcome
 
 -- what `chain` prints over the module graph and the build list

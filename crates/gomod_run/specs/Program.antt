@@ -18,7 +18,7 @@ use Rattle.gomod_words.specs.declared.usage.Places.{Places}
 use Rattle.gomod_words.specs.declared.usage.UsageFault.{UsageFault}
 use Rattle.gomod_words.specs.declared.usage.UsageFault.TheVariants as usage
 use Rattle.gomod_run.specs.Outcomes.{Answers as Told, answers_of, given_of, longest}
-use Rattle.gomod_run.specs.Outcome.{Outcome, code_of, failure_of, out_of_memory, output_of}
+use Rattle.gomod_run.specs.Outcome.{Outcome, code_of, failure_outcome, out_of_memory, text_outcome}
 use Rattle.gomod_run.specs.Reports.{cannot_read_line}
 use Rattle.gomod_run.specs.declared.ending.Ending.{Ending}
 use Rattle.gomod_run.specs.declared.ending.Ending.TheVariants.{Run, Usage}
@@ -31,8 +31,8 @@ usage_error text = record { text = []; report = text; status = 2 }
 -- a usage error, or a request for help or the version
 abbrev pub usage_outcome : UsageFault → Outcome
 usage_outcome usage.NoMemory = out_of_memory
-usage_outcome (usage.Help text) = output_of (string_bytes text)
-usage_outcome (usage.Version text) = output_of (string_bytes text)
+usage_outcome (usage.Help text) = text_outcome (string_bytes text)
+usage_outcome (usage.Version text) = text_outcome (string_bytes text)
 usage_outcome (usage.Line text) = usage_error (string_bytes text)
 usage_outcome (usage.BadPath text) = usage_error (codes "gomod: bad path " ++ string_bytes text ++ codes "\n")
 usage_outcome (usage.BadProxy text) = usage_error (codes "gomod: bad proxy " ++ string_bytes text ++ codes "\n")
@@ -40,7 +40,7 @@ usage_outcome (usage.BadProxy text) = usage_error (codes "gomod: bad proxy " ++ 
 -- the file or device with this name could not be read
 abbrev pub unread_outcome : List ℕ → InputFault → Outcome
 unread_outcome name reading.NoMemory = out_of_memory
-unread_outcome name reading.Device = failure_of (cannot_read_line name)
+unread_outcome name reading.Device = failure_outcome (cannot_read_line name)
 
 -- the result of reading the file or device with this name: the outcome over its bytes, or the report
 abbrev pub IsReadOutcome : List ℕ → (List ℕ → Outcome → Type 0) → Result (Vec ℕ) InputFault → Outcome → Type 0

@@ -8,7 +8,7 @@ use Rattle.gm_file_edit.specs.declared.fault.OpFault.TheVariants as op
 use Rattle.gomod_run.specs.declared.reports.report.Refusal.TheVariants as refusal
 use Rattle.gomod_run.specs.declared.reports.report.Report.{Report}
 use Rattle.gomod_run.specs.declared.reports.report.Report.TheVariants as report
-use Rattle.gomod_run.specs.Outcome.{Outcome, report_of}
+use Rattle.gomod_run.specs.Outcome.{Outcome, refusal_outcome}
 use Rattle.gomod_run.specs.Outcomes.{AreInvalidSums}
 use Rattle.gm_file.specs.Misreading.{IsMisread}
 use Rattle.gm_file.specs.Directives.{Strict}
@@ -27,6 +27,6 @@ report_by_edit number edit.Misfit = report.Operation number refusal.Misfit
 -- the main module's file is invalid, or it is valid and the go.sum is not
 abbrev pub IsRefusedRead : List ℕ → Option (List ℕ) → Outcome → Type 0
 IsRefusedRead file sums outcome =
-    ((place : FaultPlace) × IsMisread Strict file place.0 place.1 × (outcome ≡ report_of (main_line place)))
+    ((place : FaultPlace) × IsMisread Strict file place.0 place.1 × (outcome ≡ refusal_outcome (main_line place)))
     ⊎ ((main : Main) × (report : List ℕ) × IsMainFile file main × AreInvalidSums sums report
-    × (outcome ≡ report_of report))
+    × (outcome ≡ refusal_outcome report))

@@ -12,7 +12,7 @@ use Rattle.gm_syntax.specs.Parsed.{IsParsedAs}
 use Rattle.gm_syntax.specs.Tokens.{Placed}
 use Rattle.gomod_run.specs.declared.listing.query.Query.{Query}
 use Rattle.gomod_run.specs.declared.listing.query.Query.TheVariants as query
-use Rattle.gomod_run.specs.Outcome.{OrNoMemory, Outcome, failure_of, output_of, report_of}
+use Rattle.gomod_run.specs.Outcome.{OrNoMemory, Outcome, failure_outcome, text_outcome, refusal_outcome}
 use Rattle.gomod_run.specs.Outcomes.{Answers, ChainEnds, Given, GraphEnds, ListEnds, Prints, PrintsChain, PrintsGraph, PrintsList, answers_of, given_of}
 use Rattle.gomod_run.specs.Reports.{FaultPlace, device_line, main_line, syntax_place}
 use Rattle.gomod_run.specs.Needs.{AnsweredAll, AnswersByName, FailsInTurn, GraphNeeds}
@@ -50,9 +50,9 @@ command_of (query.Chain path) = Chain path.now
 -- layout of the document is printed.
 pub data FmtEnds (file : List ℕ) (outcome : Outcome) : Type 0 where
   bad_syntax : (fault : SyntaxFault) (place : FaultPlace) → IsParsedAs file (Err fault)
-      → syntax_place fault ≡ Some place → outcome ≡ report_of (main_line place) → FmtEnds file outcome
+      → syntax_place fault ≡ Some place → outcome ≡ refusal_outcome (main_line place) → FmtEnds file outcome
   laid_out : (lines : List (Line Placed)) → IsParsedAs file (Ok lines)
-      → outcome ≡ output_of (layout (plain_lines lines)) → FmtEnds file outcome
+      → outcome ≡ text_outcome (layout (plain_lines lines)) → FmtEnds file outcome
 
 -- how a run of a command ends, if memory doesn't run out
 abbrev pub RunEnds : Command → Given → Outcome → Type 0
@@ -95,7 +95,7 @@ pub record HoldsAtAnyEnd (command : Command) (main : List ℕ) (sums : Option (L
   -- its failures rises in this run, or stood at its maximum before it; the count never falls.
   pub served : HasServed before after old new
   -- If the device failed at a file, that is reported, whatever the memory.
-  pub device : (name : Name) → new.refused ≡ old.refused ++ name ∷ [] → reports (failure_of (device_line name))
+  pub device : (name : Name) → new.refused ≡ old.refused ++ name ∷ [] → reports (failure_outcome (device_line name))
   -- If `versions` can't have a list, has none, or one that is too long, that is reported, whatever the memory.
   pub no_list : (path : List ℕ) (all : Bool) (outcome : Outcome) → command ≡ Versions path all
       → IsRefusedList path (answer_in new.asked) outcome → reports outcome

@@ -11,7 +11,7 @@ use Rattle.gm_file.specs.Fields.{Dependency}
 use Rattle.gm_file.specs.Shown.{shown_of}
 use Rattle.gm_graph.specs.declared.cache.class.Class.{Class}
 use Rattle.gm_graph.specs.Reading.{AreRetractedBy, IsFileReading}
-use Rattle.gomod_run.specs.Outcome.{Outcome, failure_of, output_of, report_of}
+use Rattle.gomod_run.specs.Outcome.{Outcome, failure_outcome, text_outcome, refusal_outcome}
 use Rattle.gomod_run.specs.Outcomes.{Answers}
 use Rattle.gomod_run.specs.Reports.{device_line, fault_line, list_line}
 use Rattle.gomod_run.specs.Needs.{AnswersByName}
@@ -25,8 +25,8 @@ versions_line path versions = join_with_byte 32 (path ∷ versions) ++ codes "\n
 abbrev pub IsShownBy : List ℕ → List (List ℕ) → List ℕ → Reply → Result Dependency Class → Outcome → Type 0
 IsShownBy path versions latest reply (Ok dependency) outcome = (intervals : List VersionInterval)
     × AreRetractedBy reply intervals
-    × (outcome ≡ output_of (versions_line path (shown_of intervals versions)))
-IsShownBy path versions latest reply (Err class) outcome = outcome ≡ report_of (fault_line (path, latest) class)
+    × (outcome ≡ text_outcome (versions_line path (shown_of intervals versions)))
+IsShownBy path versions latest reply (Err class) outcome = outcome ≡ refusal_outcome (fault_line (path, latest) class)
 
 -- the listed versions, given the answer for the go.mod of the latest one. No hash is checked.
 pub record IsShownOutcome (path : List ℕ) (versions : List (List ℕ)) (latest : List ℕ) (reply : Reply)
@@ -39,7 +39,7 @@ pub record IsShownOutcome (path : List ℕ) (versions : List (List ℕ)) (latest
 -- go.mod
 pub data IsListedOutcome (path : List ℕ) (all : Bool) (answers : AnswersByName) (versions : List (List ℕ))
     (outcome : Outcome) : Type 0 where
-  unfiltered : (all ≡ true) ⊎ (versions ≡ []) → outcome ≡ output_of (versions_line path versions)
+  unfiltered : (all ≡ true) ⊎ (versions ≡ []) → outcome ≡ text_outcome (versions_line path versions)
       → IsListedOutcome path all answers versions outcome
   by_latest : (latest : List ℕ) (reply : Reply) → all ≡ false → IsLatest versions latest
       → answers (mod_file path latest) ≡ Some reply → IsShownOutcome path versions latest reply outcome
@@ -48,12 +48,12 @@ pub data IsListedOutcome (path : List ℕ) (all : Bool) (answers : AnswersByName
 -- a proxy can't have the module, which is reported
 abbrev pub IsUnfetchable : List ℕ → Outcome → Type 0
 IsUnfetchable path outcome =
-    (is_fetchable path ≡ false) × (outcome ≡ report_of (list_line path (codes "NotFetchable")))
+    (is_fetchable path ≡ false) × (outcome ≡ refusal_outcome (list_line path (codes "NotFetchable")))
 
 -- the report that there is no list, or that it is too long; if there is a list, an outcome that it leads to
 abbrev pub IsEndByList : (List ℕ → Outcome → Type 0) → List ℕ → Reply → Outcome → Type 0
-IsEndByList Leads path absent outcome = outcome ≡ report_of (list_line path (codes "Missing"))
-IsEndByList Leads path too_long outcome = outcome ≡ report_of (list_line path (codes "TooLong"))
+IsEndByList Leads path absent outcome = outcome ≡ refusal_outcome (list_line path (codes "Missing"))
+IsEndByList Leads path too_long outcome = outcome ≡ refusal_outcome (list_line path (codes "TooLong"))
 IsEndByList Leads path (bytes list) outcome = Leads list outcome
 
 -- the outcome given the answer for the list
@@ -94,7 +94,7 @@ VersionsNeed path all answers name =
 pub data VersionsEnds (path : List ℕ) (all : Bool) (told : Answers) (outcome : Outcome) : Type 0 where
   -- the store's device failed at a file that is needed
   device : (name : Name) → VersionsNeed path all (answer_in told.asked) name → answer_in told.asked name ≡ None
-      → told.failed ≡ name ∷ [] → outcome ≡ failure_of (device_line name) → VersionsEnds path all told outcome
+      → told.failed ≡ name ∷ [] → outcome ≡ failure_outcome (device_line name) → VersionsEnds path all told outcome
   -- all that is needed was answered
   answered : IsVersionsOutcome path all (answer_in told.asked) outcome → told.failed ≡ []
       → VersionsEnds path all told outcome

@@ -8,7 +8,7 @@ ghost use Rattle.gm_file_edit.specs.Edits.{edit_in};
 ghost use Rattle.gm_file.specs.Main.{IsMainOf};
 ghost use Rattle.gm_file.specs.Misreading.{IsMisread};
 ghost use Rattle.gm_file.specs.Directives.{Strict};
-ghost use Rattle.gomod_run.specs.Outcome.{OrNoMemory, outcome_view, report_of, report_outcome};
+ghost use Rattle.gomod_run.specs.Outcome.{OrNoMemory, outcome_view, refusal_outcome, report_outcome};
 ghost use Rattle.gomod_run.specs.Reports.{FaultPlace, main_line};
 ghost use Rattle.gomod_run.specs.Editing.{EditEnds, IsRefusedOperation, edited_in_turn, refusal_of};
 ghost use Rattle.gomod_run.specs.Refusals.{report_by_edit, report_by_op};
@@ -71,7 +71,7 @@ fn editor_of<'a, 'r>(alloc: Global, file: &'a [u8]) -> Result<Editor<'a>, Report
     ensures { MatchResult result
         (λ editor. IsMainOf file.now editor)
         (λ told. OrNoMemory (λ outcome. (place : FaultPlace) × IsMisread Strict file.now place.0 place.1
-        × (outcome ≡ report_of (main_line place))) (report_outcome told)) }
+        × (outcome ≡ refusal_outcome (main_line place))) (report_outcome told)) }
 {
     let main = MainFile::read_bytes(alloc, file)?;
     Ok(Editor::of(alloc, main)?)

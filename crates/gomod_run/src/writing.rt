@@ -2,7 +2,7 @@
 //! one place.
 
 ghost use Rattle.gm_store.specs.Taken.{SinkState};
-ghost use Rattle.gomod_run.specs.Outcome.{code_of, output_of, report_outcome};
+ghost use Rattle.gomod_run.specs.Outcome.{code_of, text_outcome, report_outcome};
 ghost use Rattle.gomod_run.specs.Written.{IsWritten};
 
 use crate::reports::report::Report;
@@ -11,7 +11,7 @@ use gm_store::{Sink, write_all};
 
 /// Writes a text to the output, and returns the status of the run: `Done`, or `Device` if the sink fails.
 pub(crate) fn print_text<O: Sink>(out: &mut O, text: &str) -> Status
-    ensures { (report : SinkState) → IsWritten (output_of text.now)
+    ensures { (report : SinkState) → IsWritten (text_outcome text.now)
         (O.state out.old) (O.state out.new) report report
         (code_of result) }
 {

@@ -13,7 +13,7 @@ use Rattle.page.specs.ListingTexts.{list_text}
 use Rattle.page.specs.Main.{Main}
 use Rattle.page.specs.ModuleVersion.{ModuleVersion}
 use Rattle.page.specs.Order.{IsAscending}
-use Rattle.page.specs.Outcome.{Outcome, output_of}
+use Rattle.page.specs.Outcome.{Outcome, text_outcome}
 use Rattle.page.specs.Outcomes.{ListEnds, PrintsList, bad_main, bad_sums, device, faulty, no_fault, no_path, path_listed, path_unlisted, too_many}
 use Rattle.page.specs.Run.{AreFaults, AreRows, AreTooMany, IsOpened, Run, Says, run_of}
 use Rattle.page.specs.Types.{Class, Fault, Misreading}
@@ -116,12 +116,12 @@ module _ (content : List ℕ) (main : Main) (asked : List (Name × Reply)) (is_m
     none_faulty : (first : Fault) (others : List Fault) → AreFaults run (first ∷ others) → ⊥
     none_faulty first others faults = let is = (faults.each first).0 (member_head first others) in sound first.vertex first.class is.0 is.1
 
-    printed_by : (outcome : Outcome) → PrintsList None None run outcome → outcome ≡ output_of (list_text main.path rows)
-    printed_by outcome (others, have, no_path none is) = is ∙ ap (λ (es : List Entry). output_of (list_text main.path es)) (one_list others rows have are)
+    printed_by : (outcome : Outcome) → PrintsList None None run outcome → outcome ≡ text_outcome (list_text main.path rows)
+    printed_by outcome (others, have, no_path none is) = is ∙ ap (λ (es : List Entry). text_outcome (list_text main.path es)) (one_list others rows have are)
     printed_by outcome (others, have, path_listed path rest some after is) = absurd (no_path_given path some)
     printed_by outcome (others, have, path_unlisted path some is) = absurd (no_path_given path some)
 
-    pub alone : (outcome : Outcome) → ListEnds None None (given_by content asked) outcome → outcome ≡ output_of (list_text main.path rows)
+    pub alone : (outcome : Outcome) → ListEnds None None (given_by content asked) outcome → outcome ≡ text_outcome (list_text main.path rows)
     alone outcome (bad_main place misread unasked is) = absurd (no_main main place (sym is_main ∙ misread))
     alone outcome (bad_sums other report is bad unasked reported) = absurd bad
     alone outcome (device other table name read due failed is) = absurd (no_names name failed)

@@ -8,13 +8,13 @@ pub record Outcome : Type 0 where
   pub status : ℕ
 
 -- a text, and nothing to report
-abbrev pub output_of : List ℕ → Outcome
-output_of text = record { text = text; report = []; status = 0 }
+abbrev pub text_outcome : List ℕ → Outcome
+text_outcome text = record { text = text; report = []; status = 0 }
 
 -- nothing printed, and what is wrong with what was read
-abbrev pub report_of : List ℕ → Outcome
-report_of report = record { text = []; report = report; status = 1 }
+abbrev pub refusal_outcome : List ℕ → Outcome
+refusal_outcome report = record { text = []; report = report; status = 1 }
 
 -- nothing printed, and what failed
-abbrev pub failure_of : List ℕ → Outcome
-failure_of report = record { text = []; report = report; status = 3 }
+abbrev pub failure_outcome : List ℕ → Outcome
+failure_outcome report = record { text = []; report = report; status = 3 }

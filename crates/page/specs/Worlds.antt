@@ -2,7 +2,7 @@
 use Rattle.std.specs.Prelude.{◌≡◌, ℕ, List, [], ◌∷◌, Some, None, codes}
 use Rattle.page.specs.Asked.{Name, Reply, bytes, folder_file, mod_file}
 use Rattle.page.specs.Files.{end_text, folder_text, local_text, low_text, main_text, mid_text, old_text, short_text, top_text}
-use Rattle.page.specs.Outcome.{Outcome, failure_of, output_of, report_of}
+use Rattle.page.specs.Outcome.{Outcome, failure_outcome, text_outcome, refusal_outcome}
 use Rattle.page.specs.Outcomes.{Given, ListEnds}
 
 abbrev pub asked_top : Name
@@ -49,24 +49,24 @@ wrong_answers = (asked_mid, bytes top_text) ∷ []
 
 -- The whole list and nothing else, its first two rows, what follows a row, and the report on a path without a row.
 pub record PrunedIsListed : Type 0 where
-  pub whole : ListEnds None None (given_by main_text pruned_answers) (output_of pruned_text)
+  pub whole : ListEnds None None (given_by main_text pruned_answers) (text_outcome pruned_text)
   pub only : (outcome : Outcome) → ListEnds None None (given_by main_text pruned_answers) outcome
-      → outcome ≡ output_of pruned_text
-  pub limited : ListEnds None (Some 2) (given_by main_text pruned_answers) (output_of (codes "m\nend.org v1.0.0\n"))
-  pub after : ListEnds (Some (codes "low.org")) None (given_by main_text pruned_answers) (output_of
+      → outcome ≡ text_outcome pruned_text
+  pub limited : ListEnds None (Some 2) (given_by main_text pruned_answers) (text_outcome (codes "m\nend.org v1.0.0\n"))
+  pub after : ListEnds (Some (codes "low.org")) None (given_by main_text pruned_answers) (text_outcome
       (codes "mid.org v1.10.0 => ./mid\ntop.org v1.0.0\n"))
-  pub unlisted : ListEnds (Some (codes "b.org")) None (given_by main_text pruned_answers) (report_of
+  pub unlisted : ListEnds (Some (codes "b.org")) None (given_by main_text pruned_answers) (refusal_outcome
       (codes "b.org: NotListed\n"))
 
 -- Below an unpruned main file a pruned file is opened deeply.
 pub record UnprunedIsListed : Type 0 where
-  pub whole : ListEnds None None (given_by old_text unpruned_answers) (output_of unpruned_text)
+  pub whole : ListEnds None None (given_by old_text unpruned_answers) (text_outcome unpruned_text)
   pub only : (outcome : Outcome) → ListEnds None None (given_by old_text unpruned_answers) outcome
-      → outcome ≡ output_of unpruned_text
+      → outcome ≡ text_outcome unpruned_text
 
 -- A path that no proxy has is a fault, and its file is not asked for; so is a file that declares another path.
 abbrev pub FaultsAreReported : Type 0
-FaultsAreReported = ListEnds None None (given_by local_text wrong_answers) (report_of
+FaultsAreReported = ListEnds None None (given_by local_text wrong_answers) (refusal_outcome
     (codes "local@v1.0.0: NotFetchable\nmid.org@v1.9.0: WrongPath\n"))
 
 -- The device fails on the file of the required module, before anything was answered.
@@ -75,4 +75,4 @@ device_failed = record { file = old_text; sums = None; told = record { asked = [
 
 -- That is reported, with status 3.
 abbrev pub DeviceIsReported : Type 0
-DeviceIsReported = ListEnds None None device_failed (failure_of (codes "gomod: device at mid.org@v1.9.0\n"))
+DeviceIsReported = ListEnds None None device_failed (failure_outcome (codes "gomod: device at mid.org@v1.9.0\n"))

@@ -23,7 +23,7 @@ pub enum LoadFault {
 }
 
 impl LoadFault {
-    /// Why loading stops after this refusal of a request for the file with a name, which a device that failed left.
+    /// Why loading stops after this refusal of a request. If the device failed, the name is that of the file.
     pub(crate) fn of_request(fault: AskFault, name: Option<FileName>) -> LoadFault
         requires { fault ≡ AskFault.Device → IsSome name }
         ensures { IsLoadFaultOf fault name result }

@@ -100,7 +100,8 @@ pub(crate) fn summary_of(
 ) -> Result<Summary, NoMemory>
     requires { start ≤ length modules.old.numbers }
     ensures file { IfOk result (λ summary. summary.file ≡ file) }
-    ensures all { IfOk result (λ summary. at_span (modules_of modules.new) summary.all ≡ drop start (modules_of modules.old)) }
+    ensures all { IfOk result (λ summary.
+        at_span (modules_of modules.new) summary.all ≡ drop start (modules_of modules.old)) }
     ensures kept { IfOk result (IsSummary (main_of main.now) (modules_of modules.new)) }
     ensures grows { Grows modules.old modules.new }
 {

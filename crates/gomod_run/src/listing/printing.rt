@@ -5,10 +5,10 @@ ghost use Rattle.std.specs.Prelude.{◌≡◌, []};
 ghost use Rattle.std.specs.Option.{option_copied};
 ghost use Rattle.gm_file.specs.Main.{main_of};
 ghost use Rattle.gm_graph_select.specs.BuildList.{entries_of_rows};
-ghost use Rattle.gomod_run.specs.ListingTexts.{at_most, list_text};
+ghost use Rattle.gomod_run.specs.ListingTexts.{up_to, list_text};
 ghost use Rattle.gomod_run.specs.Found.{IsOutcomeOfFound, PrintsEdges, PrintsFound, PrintsSteps};
 ghost use Rattle.gomod_run.specs.Outcomes.{PrintsRows};
-ghost use Rattle.gomod_run.specs.Outcome.{OrNoMemory, outcome_view, output_of};
+ghost use Rattle.gomod_run.specs.Outcome.{OrNoMemory, outcome_view, text_outcome};
 
 use crate::listing::graph_lines::{chain_text, graph_text};
 use crate::listing::query::Query;
@@ -40,7 +40,7 @@ fn print_rows<'r>(
     limit: Option<u32>,
 ) -> Result<String, Report<'r>>
     ensures { OrNoMemory (λ outcome. outcome
-        ≡ output_of (list_text (main_of main.now).path (at_most limit (entries_of_rows rows.entry))))
+        ≡ text_outcome (list_text (main_of main.now).path (up_to limit (entries_of_rows rows.entry))))
         (outcome_view result) }
 {
     let text = list_text(alloc, main.module(), rows, limit)?;

@@ -3,7 +3,7 @@
 ghost use Rattle.std.specs.Prelude.{◌≡◌, MatchResult, List, ℕ};
 ghost use Rattle.std.specs.Option.{option_copied};
 ghost use Rattle.gomod_run.specs.Outcomes.{AreInvalidSums, AreSums};
-ghost use Rattle.gomod_run.specs.Outcome.{OrNoMemory, report_of, report_outcome};
+ghost use Rattle.gomod_run.specs.Outcome.{OrNoMemory, refusal_outcome, report_outcome};
 
 use crate::reports::report::Report;
 use gm_store_sums::SumTable;
@@ -17,7 +17,7 @@ pub(crate) fn sum_table<'a, 'r>(
     ensures { MatchResult result
         (λ table. AreSums (option_copied sums.entry) table)
         (λ told. OrNoMemory (λ outcome. (report : List ℕ) × AreInvalidSums (option_copied sums.entry) report
-        × (outcome ≡ report_of report)) (report_outcome told)) }
+        × (outcome ≡ refusal_outcome report)) (report_outcome told)) }
 {
     match sums {
         Some(text) => Ok(Some(SumTable::read(alloc, text)?)),

@@ -5,7 +5,7 @@ ghost use Rattle.std.specs.Prelude.{◌≡◌, ◌++◌, ◌-◌, IfOk, OnOk, op
 ghost use Rattle.std.specs.String.{string_bytes};
 ghost use Rattle.gm_file.specs.Views.{right_view};
 ghost use Rattle.gm_graph_select.specs.BuildList.{entries_of_rows, entry_of_row};
-ghost use Rattle.gomod_run.specs.ListingTexts.{entry_line, at_most, list_text, module_text, replacement_suffix, replacement_text};
+ghost use Rattle.gomod_run.specs.ListingTexts.{entry_line, up_to, list_text, module_text, replacement_suffix, replacement_text};
 
 use gm_file::Right;
 use gm_graph_select::{Row, Rows, Step};
@@ -86,7 +86,7 @@ pub fn list_text(
     limit: Option<u32>,
 ) -> Result<String, NoMemory>
     ensures { IfOk result (λ text. string_bytes text
-        ≡ list_text main.now (at_most limit (entries_of_rows rows.entry))) }
+        ≡ list_text main.now (up_to limit (entries_of_rows rows.entry))) }
 {
     let mut text = String::new(alloc);
     let mut rest = rows;

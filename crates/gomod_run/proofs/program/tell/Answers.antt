@@ -2,7 +2,7 @@ use Rattle.std.proofs.Common.{◌∙◌, ◌++◌, [], List, ap, codes, sym, ℕ
 use Rattle.std.specs.String.{string_bytes}
 use Rattle.gomod_run.proofs.ReportLines.{two_pieces}
 use Rattle.gomod_run.proofs.Takings.{took_piece}
-use Rattle.gomod_run.specs.Outcome.{out_of_memory, output_of}
+use Rattle.gomod_run.specs.Outcome.{out_of_memory, text_outcome}
 use Rattle.gomod_run.specs.ReportTexts.{line}
 use Rattle.gomod_run.specs.Program.{usage_error, usage_outcome}
 use Rattle.gomod_run.proofs.WrittenTexts.{usage_written, written_as}
@@ -44,14 +44,14 @@ returns-in-Line g c =
 pub returns-in-Help : goal.returns-in-Help
 returns-in-Help g c =
     let report = g.R.Sink.state c.args.report.now in
-    written_as (output_of c.as_str.result.now) (usage_outcome c.args.fault.now) _ _ report report _
-    (ap output_of c.as_str.ensures.value ∙ ap usage_outcome (sym c.in-Help.is)) (c.print_text.ensures report)
+    written_as (text_outcome c.as_str.result.now) (usage_outcome c.args.fault.now) _ _ report report _
+    (ap text_outcome c.as_str.ensures.value ∙ ap usage_outcome (sym c.in-Help.is)) (c.print_text.ensures report)
 
 pub returns-in-Version : goal.returns-in-Version
 returns-in-Version g c =
     let report = g.R.Sink.state c.args.report.now in
-    written_as (output_of c.as_str-in-Version.result.now) (usage_outcome c.args.fault.now) _ _ report report _
-    (ap output_of c.as_str-in-Version.ensures.value ∙ ap usage_outcome (sym c.in-Version.is))
+    written_as (text_outcome c.as_str-in-Version.result.now) (usage_outcome c.args.fault.now) _ _ report report _
+    (ap text_outcome c.as_str-in-Version.ensures.value ∙ ap usage_outcome (sym c.in-Version.is))
     (c.print_text-in-Version.ensures report)
 
 pub returns-in-NoMemory : goal.returns-in-NoMemory

@@ -1,7 +1,7 @@
 use Rattle.std.proofs.Common.{ap, inl, inr}
 use Rattle.std.proofs.lemmas.Result.{err_from_is_err_and}
 use Rattle.gm_store.specs.Asked.{reply_of}
-use Rattle.gomod_run.specs.Outcome.{OrNoMemory, outcome_view, output_of}
+use Rattle.gomod_run.specs.Outcome.{OrNoMemory, outcome_view, text_outcome}
 use Rattle.gomod_run.specs.Listing.{IsAllOutcome}
 use Rattle.gomod_run.proofs.Steps.{list_ends, no_memory, none_ends}
 use Rattle.gomod_run.proofs.versions.outcome_of_all.Goals as goal
@@ -26,4 +26,4 @@ returns-in_err-line c =
 pub returns : goal.returns
 returns c =
     list_ends (λ list. OrNoMemory (IsAllOutcome c.args.path.now list)) c.args.path.now (reply_of c.args.answer.now) c.in_ok-list.list.now _
-    c.in_ok-list.ensures (inl (c.in_ok-versions.versions.items, c.in_ok-versions.ensures, ap output_of (rw c.as_slice.ensures.value at c.in_ok-line.ensures)))
+    c.in_ok-list.ensures (inl (c.in_ok-versions.versions.items, c.in_ok-versions.ensures, ap text_outcome (rw c.as_slice.ensures.value at c.in_ok-line.ensures)))

@@ -3,7 +3,7 @@ use Rattle.gm_file.specs.Directives.{VersionInterval}
 use Rattle.gm_file.specs.Shown.{shown_of}
 use Rattle.gm_store.specs.Asked.{mod_file, reply_of}
 use Rattle.gm_graph.specs.Summaries.{reading_of}
-use Rattle.gomod_run.specs.Outcome.{output_of}
+use Rattle.gomod_run.specs.Outcome.{text_outcome}
 use Rattle.gomod_run.specs.Versions.{versions_line}
 use Rattle.gomod_run.proofs.Steps.{no_memory, shown_read}
 use Rattle.gomod_run.proofs.versions.shown_outcome.Goals as goal
@@ -20,8 +20,8 @@ returns-in_ok-line-in-Valid c = λ within. inl
     (c.in_ok-dependency.ensures.reading (mod_file c.args.path.now c.args.latest) within) (ap reading_of c.in-Valid.is) (
       c.in-Valid.dependency.retracts,
       rw c.in-Valid.is at c.in_ok-dependency.ensures.retracts,
-      ap output_of c.in_ok-line-in-Valid.ensures
-          ∙ ap (λ (rs : List VersionInterval). output_of (versions_line c.args.path.now (shown_of rs c.args.versions.now))) c.retracts.ensures,
+      ap text_outcome c.in_ok-line-in-Valid.ensures
+          ∙ ap (λ (rs : List VersionInterval). text_outcome (versions_line c.args.path.now (shown_of rs c.args.versions.now))) c.retracts.ensures,
     ))
 
 pub returns-in-Faulty : goal.returns-in-Faulty
