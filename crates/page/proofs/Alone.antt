@@ -34,10 +34,10 @@ module _ {T : Type 0} where
   pairs_head : (R : T → T → Type 0) (x y : T) (xs : List T) → AllPairs R (x ∷ xs) → Contains xs y → R x y
   pairs_head R x y xs h (k, below, at) = subst (λ (z : T). R x z) at (h 0 (suc k) y (omega arith) (omega (arith, below)))
 
-  member_head : (x : T) (xs : List T) → Contains (x ∷ xs) x
+  pub member_head : (x : T) (xs : List T) → Contains (x ∷ xs) x
   member_head x xs = (0, omega arith, refl)
 
-  member_tail : (x y : T) (xs : List T) → Contains xs y → Contains (x ∷ xs) y
+  pub member_tail : (x y : T) (xs : List T) → Contains xs y → Contains (x ∷ xs) y
   member_tail x y xs (k, below, at) = (suc k, omega (arith, below), at)
 
 module _ {T : Type 0} {cmp : T → T → Ordering} (total : IsTotalOrder cmp) where

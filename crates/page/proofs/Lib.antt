@@ -5,3 +5,5 @@ pub mod Alone
 pub mod Pruned
 pub mod Unpruned
 pub mod Faults
+pub mod RowsTable
+pub mod Rows

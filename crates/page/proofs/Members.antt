@@ -44,13 +44,13 @@ module _ {X : Type 0} where
 
 -- ---- different texts and modules
 
-text_itself : (a : List ℕ) → pointwise nat_eq a a ≡ true
+pub text_itself : (a : List ℕ) → pointwise nat_eq a a ≡ true
 text_itself a = nat_list_eq_equiv.refl a
 
 pair_itself : (a : ModuleVersion) → pair_eq a a ≡ true
 pair_itself a = rw (text_itself a.0, text_itself a.1) refl
 
-pair_same : (a b : ModuleVersion) → pair_eq a b ≡ true → a ≡ b
+pub pair_same : (a b : ModuleVersion) → pair_eq a b ≡ true → a ≡ b
 pair_same a b e =
     let p = and_parts (pointwise nat_eq a.0 b.0) (pointwise nat_eq a.1 b.1) e in
     ap (λ (x : List ℕ). (x, a.1)) (same_text a.0 b.0 (sym p.0))

@@ -10,7 +10,7 @@ use Rattle.page.specs.Main.{Main, replacement_in, without_excluded}
 use Rattle.page.specs.ModuleVersion.{ModuleVersion}
 use Rattle.page.specs.Reading.{IsFileReading, file_of, is_askable, is_right_path}
 use Rattle.page.specs.Run.{FileSays, Requires, Run, Says, answered, faulty, run_of, sound, unaskable, wrong_path}
-use Rattle.page.specs.Types.{Class, Malformed, Misreading, Missing, NotFetchable, NoSum, SumDiffers, TooLong, TooMany, Unknown, WrongPath}
+use Rattle.page.specs.Types.{Class, Malformed, Misreading, Missing, NoModule, NotFetchable, NoSum, SumDiffers, TooLong, TooMany, Unknown, WrongArguments, WrongPath}
 
 -- ---- replies
 
@@ -28,6 +28,8 @@ reads name absent said is = sym is
 reads name too_long said is = sym is
 reads name (bytes content) (Ok file) is = ap as_class is
 reads name (bytes content) (Err (Malformed line TooMany)) is = absurd is
+reads name (bytes content) (Err (Malformed line NoModule)) is = ap as_class is
+reads name (bytes content) (Err (Malformed line WrongArguments)) is = ap as_class is
 reads name (bytes content) (Err (Malformed line Unknown)) is = ap as_class is
 reads name (bytes content) (Err NotFetchable) is = absurd is
 reads name (bytes content) (Err Missing) is = absurd is

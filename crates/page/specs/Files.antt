@@ -4,9 +4,12 @@ use Rattle.std.specs.Str.{bytes_eq}
 use Rattle.page.specs.Asked.{Name}
 use Rattle.page.specs.Directives.{Folder, Lax, Mode, Module, Strict, left_with, left_without}
 use Rattle.page.specs.Fields.{Dependency}
+use Rattle.page.specs.Files.RowFiles.{main_of_rows, said_of_rows}
 use Rattle.page.specs.Main.{Main}
 use Rattle.page.specs.ModuleVersion.{ModuleVersion}
-use Rattle.page.specs.Types.{Class, Misreading, Sums, Unknown}
+use Rattle.page.specs.Types.{Class, Misreading, Sums}
+
+pub mod RowFiles
 
 -- ---- modules
 
@@ -80,7 +83,7 @@ main_in content =
     if bytes_eq content main_text then Ok main_file
     else (if bytes_eq content old_text then Ok old_file
     else (if bytes_eq content local_text then Ok local_file
-    else Err (1, Unknown)))
+    else main_of_rows content))
 
 -- ---- files of other modules
 
@@ -137,7 +140,7 @@ said_in content =
     else (if bytes_eq content folder_text then Ok folder_says
     else (if bytes_eq content low_text then Ok low_file
     else (if bytes_eq content end_text then Ok end_file
-    else Err (1, Unknown))))))
+    else said_of_rows content)))))
 
 -- ---- what bytes say
 

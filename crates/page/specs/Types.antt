@@ -11,10 +11,14 @@ use Rattle.std.specs.declared.cmp.Ordering.{Ordering}
 -- why bytes can't be read: the kinds that the worlds need
 pub data Misreading : Type 0 where
   TooMany : Misreading
+  NoModule : Misreading
+  WrongArguments : Misreading
   Unknown : Misreading
 
 abbrev pub misreading_word : Misreading → List ℕ
 misreading_word TooMany = codes "TooMany"
+misreading_word NoModule = codes "NoModule"
+misreading_word WrongArguments = codes "WrongArguments"
 misreading_word Unknown = codes "Unknown"
 
 -- what is wrong with a module's file
@@ -48,7 +52,11 @@ abbrev pub parts_in : List ℕ → Parts
 parts_in text =
     if bytes_eq text (codes "v1.10.0") then (1, 10, 0, [], [])
     else (if bytes_eq text (codes "v1.9.0") then (1, 9, 0, [], [])
-    else (1, 0, 0, [], []))
+    else (if bytes_eq text (codes "v1.2.0") then (1, 2, 0, [], [])
+    else (if bytes_eq text (codes "v1.1.0") then (1, 1, 0, [], [])
+    else (if bytes_eq text (codes "v0.9.0") then (0, 9, 0, [], [])
+    else (if bytes_eq text (codes "v0.0.0") then (0, 0, 0, [], [])
+    else (1, 0, 0, [], []))))))
 
 -- No world has a pre-release.
 abbrev pub pre_cmp : List ℕ → List ℕ → Ordering

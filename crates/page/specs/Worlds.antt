@@ -5,6 +5,8 @@ use Rattle.page.specs.Files.{end_text, folder_text, local_text, low_text, main_t
 use Rattle.page.specs.Outcome.{Outcome, failure_outcome, text_outcome, refusal_outcome}
 use Rattle.page.specs.Outcomes.{Given, ListEnds}
 
+pub mod Rows
+
 abbrev pub asked_top : Name
 asked_top = mod_file (codes "top.org") (codes "v1.0.0")
 

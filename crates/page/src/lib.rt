@@ -5,6 +5,7 @@
 #![tactic(auto)]
 
 ghost use Rattle.page.specs.Worlds.{DeviceIsReported, FaultsAreReported, PrunedIsListed, UnprunedIsListed};
+ghost use Rattle.page.specs.Worlds.Rows.{EmptyMainIsReported, GreaterVersionIsListed, MainAloneIsListed};
 
 /// Below a main file of go 1.17: an unpruned and a pruned file, a folder, an excluded version, and v1.10.0 above v1.9.0;
 /// all rows, the first two, and those after a path.
@@ -25,4 +26,19 @@ pub fn faults_are_reported()
 /// A failure of the device is reported with status 3.
 pub fn device_is_reported()
     ensures { DeviceIsReported }
+{}
+
+/// Two modules require versions v1.9.0 and v1.10.0 of a third: numbers, not texts, order them. Nothing else is printed.
+pub fn greater_version_is_listed()
+    ensures { GreaterVersionIsListed }
+{}
+
+/// A main file that requires nothing is listed alone, and nothing is asked.
+pub fn main_alone_is_listed()
+    ensures { MainAloneIsListed }
+{}
+
+/// A main file of no bytes is reported with line 0 and a kind, and nothing is asked.
+pub fn empty_main_is_reported()
+    ensures { EmptyMainIsReported }
 {}

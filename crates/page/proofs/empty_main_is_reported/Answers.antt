@@ -1,0 +1,5 @@
+use Rattle.page.proofs.Rows.{empty_main_is_reported}
+use Rattle.page.proofs.empty_main_is_reported.Goals as goal
+
+pub returns : goal.returns
+returns c = empty_main_is_reported

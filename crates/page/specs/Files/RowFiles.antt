@@ -1,0 +1,206 @@
+-- More files and what they say. All paths but one begin with `example.com/`; a file without a go directive has go 1.16.
+use Rattle.std.specs.Prelude.{◌++◌, ℕ, if◌then◌else◌, List, [], ◌∷◌, Option, Some, None, Result, Ok, Err, codes}
+use Rattle.std.specs.Str.{bytes_eq}
+use Rattle.page.specs.Directives.{Folder, Module, Replacing, left_without}
+use Rattle.page.specs.Fields.{Dependency}
+use Rattle.page.specs.Main.{Main}
+use Rattle.page.specs.ModuleVersion.{ModuleVersion}
+use Rattle.page.specs.Types.{Misreading, NoModule, Unknown, WrongArguments}
+
+-- ---- modules
+
+abbrev pub path_of : List ℕ → List ℕ
+path_of name = codes "example.com/" ++ name
+
+abbrev pub at : List ℕ → List ℕ → ModuleVersion
+at name version = (path_of name, version)
+
+abbrev pub first_of : List ℕ → ModuleVersion
+first_of name = at name (codes "v1.0.0")
+
+-- a module that no proxy has
+abbrev pub local_zero : ModuleVersion
+local_zero = (codes "local", codes "v0.0.0")
+
+-- ---- texts
+
+-- `module example.com/NAME`
+abbrev pub module_line : List ℕ → List ℕ
+module_line name = codes "module example.com/" ++ name ++ codes "\n"
+
+-- `require example.com/NAME VERSION`
+abbrev pub require_line : List ℕ → List ℕ → List ℕ
+require_line name version = codes "require example.com/" ++ name ++ codes " " ++ version ++ codes "\n"
+
+-- a file that requires one module
+abbrev pub requiring : List ℕ → List ℕ → List ℕ → List ℕ
+requiring name other version = module_line name ++ require_line other version
+
+-- The same, with a go directive.
+abbrev pub going : List ℕ → List ℕ → List ℕ → List ℕ → List ℕ
+going name go other version = module_line name ++ codes "go " ++ go ++ codes "\n" ++ require_line other version
+
+-- ---- main files
+
+abbrev pub main_with : ℕ × ℕ → List ModuleVersion → List Replacing → Main
+main_with go requirements replaces = record {
+  path = codes "example.com/m";
+  go = go;
+  requirements = requirements;
+  excludes = [];
+  replaces = replaces;
+}
+
+-- It requires nothing.
+abbrev pub alone_text : List ℕ
+alone_text = codes "module example.com/m\n\ngo 1.21\n"
+
+abbrev pub alone_file : Main
+alone_file = main_with (1, 21) [] []
+
+-- It is not pruned, and requires a and b.
+abbrev pub both_text : List ℕ
+both_text = codes "module example.com/m\ngo 1.16\nrequire example.com/a v1.0.0\nrequire example.com/b v1.0.0\n"
+
+abbrev pub both_file : Main
+both_file = main_with (1, 16) (first_of (codes "a") ∷ first_of (codes "b") ∷ []) []
+
+-- It is pruned, and requires a.
+abbrev pub one_text : List ℕ
+one_text = codes "module example.com/m\ngo 1.17\nrequire example.com/a v1.0.0\n"
+
+abbrev pub one_file : Main
+one_file = main_with (1, 17) (first_of (codes "a") ∷ []) []
+
+-- It is pruned, and requires a and b.
+abbrev pub two_text : List ℕ
+two_text = codes "module example.com/m\ngo 1.17\nrequire example.com/a v1.0.0\nrequire example.com/b v1.0.0\n"
+
+abbrev pub two_file : Main
+two_file = main_with (1, 17) (first_of (codes "a") ∷ first_of (codes "b") ∷ []) []
+
+-- It excludes a version of c.
+abbrev pub excluding_text : List ℕ
+excluding_text =
+    codes "module example.com/m\ngo 1.16\nrequire example.com/a v1.0.0\nexclude example.com/c v1.2.0\n"
+
+abbrev pub excluding_file : Main
+excluding_file = record (main_with (1, 16) (first_of (codes "a") ∷ []) []) {
+  excludes = at (codes "c") (codes "v1.2.0") ∷ [];
+}
+
+-- It requires a and z.
+abbrev pub ends_text : List ℕ
+ends_text = codes "module example.com/m\ngo 1.16\nrequire example.com/a v1.0.0\nrequire example.com/z v1.0.0\n"
+
+abbrev pub ends_file : Main
+ends_file = main_with (1, 16) (first_of (codes "a") ∷ first_of (codes "z") ∷ []) []
+
+-- It requires a module that no proxy has.
+abbrev pub unfetchable_text : List ℕ
+unfetchable_text = codes "module example.com/m\nrequire local v0.0.0\n"
+
+abbrev pub unfetchable_file : Main
+unfetchable_file = main_with (1, 16) (local_zero ∷ []) []
+
+-- It replaces that by a folder.
+abbrev pub replacing_text : List ℕ
+replacing_text = unfetchable_text ++ codes "replace local => ../local\n"
+
+abbrev pub replacing_file : Main
+replacing_file = main_with (1, 16) (local_zero ∷ []) ((left_without (codes "local"), Folder (codes "../local")) ∷ [])
+
+-- It requires a fork, too, which replaces each version of a.
+abbrev pub forking_text : List ℕ
+forking_text = codes "module example.com/m\ngo 1.16\nrequire example.com/a v1.0.0\nrequire example.com/fork v1.1.0\n"
+    ++ codes "replace example.com/a => example.com/fork v1.1.0\n"
+
+abbrev pub forking_file : Main
+forking_file = main_with (1, 16) (first_of (codes "a") ∷ at (codes "fork") (codes "v1.1.0") ∷ [])
+    ((left_without (codes "example.com/a"), Module (codes "example.com/fork") (codes "v1.1.0")) ∷ [])
+
+-- It requires a, a later version of b, and c.
+abbrev pub three_text : List ℕ
+three_text = codes "module example.com/m\ngo 1.16\nrequire example.com/a v1.0.0\nrequire example.com/b v1.1.0\n"
+    ++ codes "require example.com/c v1.0.0\n"
+
+abbrev pub three_file : Main
+three_file = main_with (1, 16)
+    (first_of (codes "a") ∷ at (codes "b") (codes "v1.1.0") ∷ first_of (codes "c") ∷ []) []
+
+-- what the bytes of a main file say; no bytes say nothing
+abbrev pub main_of_rows : List ℕ → Result Main (ℕ × Misreading)
+main_of_rows content =
+    if bytes_eq content [] then Err (0, NoModule)
+    else (if bytes_eq content alone_text then Ok alone_file
+    else (if bytes_eq content both_text then Ok both_file
+    else (if bytes_eq content one_text then Ok one_file
+    else (if bytes_eq content two_text then Ok two_file
+    else (if bytes_eq content excluding_text then Ok excluding_file
+    else (if bytes_eq content ends_text then Ok ends_file
+    else (if bytes_eq content unfetchable_text then Ok unfetchable_file
+    else (if bytes_eq content replacing_text then Ok replacing_file
+    else (if bytes_eq content forking_text then Ok forking_file
+    else (if bytes_eq content three_text then Ok three_file
+    else Err (1, Unknown)))))))))))
+
+-- ---- files of other modules
+
+abbrev pub file_with : List ℕ → ℕ × ℕ → List ModuleVersion → Dependency
+file_with name go requirements = record { declared = Some (path_of name); go = go; requirements = requirements }
+
+-- It requires nothing.
+abbrev pub bare_file : List ℕ → Dependency
+bare_file name = file_with name (1, 16) []
+
+-- It has no bytes, and so declares no path.
+abbrev pub empty_file : Dependency
+empty_file = record { declared = None; go = (1, 16); requirements = [] }
+
+-- A `require` without a version stands on its third line.
+abbrev pub malformed_text : List ℕ
+malformed_text = codes "module example.com/b\n\nrequire example.com/c\n"
+
+-- it requires one module
+abbrev pub file_requiring : List ℕ → ℕ × ℕ → List ℕ → List ℕ → Dependency
+file_requiring name go other version = file_with name go (at other version ∷ [])
+
+-- a text with what it says
+abbrev pub Said : Type 0
+Said = List ℕ × Dependency
+
+abbrev pub bare : List ℕ → Said
+bare name = (module_line name, bare_file name)
+
+-- a file without a go directive
+abbrev pub requires : List ℕ → List ℕ → List ℕ → Said
+requires name other version = (requiring name other version, file_requiring name (1, 16) other version)
+
+-- a file of go 1.16 or of go 1.17, which requires the first version of another module
+abbrev pub old : List ℕ → List ℕ → Said
+old name other =
+    (going name (codes "1.16") other (codes "v1.0.0"), file_requiring name (1, 16) other (codes "v1.0.0"))
+
+abbrev pub new : List ℕ → List ℕ → Said
+new name other =
+    (going name (codes "1.17") other (codes "v1.0.0"), file_requiring name (1, 17) other (codes "v1.0.0"))
+
+abbrev pub valid_files : List Said
+valid_files =
+    ([], empty_file)
+    ∷ bare (codes "a") ∷ bare (codes "b") ∷ bare (codes "c") ∷ bare (codes "d") ∷ bare (codes "k")
+    ∷ bare (codes "z") ∷ bare (codes "fork")
+    ∷ requires (codes "a") (codes "c") (codes "v1.9.0") ∷ requires (codes "b") (codes "c") (codes "v1.10.0")
+    ∷ requires (codes "a") (codes "c") (codes "v1.2.0") ∷ requires (codes "a") (codes "b") (codes "v1.0.0")
+    ∷ requires (codes "b") (codes "a") (codes "v1.0.0") ∷ requires (codes "a") (codes "m") (codes "v0.9.0")
+    ∷ requires (codes "m") (codes "k") (codes "v1.0.0")
+    ∷ old (codes "a") (codes "c") ∷ new (codes "a") (codes "c") ∷ new (codes "c") (codes "d") ∷ []
+
+abbrev pub said_among : List Said → List ℕ → Result Dependency (ℕ × Misreading)
+said_among [] content = Err (1, Unknown)
+said_among (one ∷ others) content = if bytes_eq content one.0 then Ok one.1 else said_among others content
+
+-- what the bytes of another module's file say
+abbrev pub said_of_rows : List ℕ → Result Dependency (ℕ × Misreading)
+said_of_rows content =
+    if bytes_eq content malformed_text then Err (3, WrongArguments) else said_among valid_files content
