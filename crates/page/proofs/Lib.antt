@@ -7,3 +7,4 @@ pub mod Unpruned
 pub mod Faults
 pub mod RowsTable
 pub mod Rows
+pub mod RowsOpened

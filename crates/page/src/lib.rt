@@ -5,7 +5,8 @@
 #![tactic(auto)]
 
 ghost use Rattle.page.specs.Worlds.{DeviceIsReported, FaultsAreReported, PrunedIsListed, UnprunedIsListed};
-ghost use Rattle.page.specs.Worlds.Rows.{EmptyMainIsReported, GreaterVersionIsListed, MainAloneIsListed};
+ghost use Rattle.page.specs.Worlds.Rows.{DeepIsOpened, EmptyMainIsReported, ExcludedIsLeftOut, GreaterVersionIsListed,
+    MainAloneIsListed, TopIsOpenedDeeply, UnopenedIsListed};
 
 /// Below a main file of go 1.17: an unpruned and a pruned file, a folder, an excluded version, and v1.10.0 above v1.9.0;
 /// all rows, the first two, and those after a path.
@@ -41,4 +42,25 @@ pub fn main_alone_is_listed()
 /// A main file of no bytes is reported with line 0 and a kind, and nothing is asked.
 pub fn empty_main_is_reported()
     ensures { EmptyMainIsReported }
+{}
+
+/// What a pruned file requires below a pruned main file is listed, and its file is not asked for.
+pub fn unopened_is_listed()
+    ensures { UnopenedIsListed }
+{}
+
+/// Below a pruned main file an unpruned file requires a pruned one: what that requires is opened and listed too.
+pub fn deep_is_opened()
+    ensures { DeepIsOpened }
+{}
+
+/// A pruned file stands at the top, and an unpruned one requires it: what it requires is opened too, and each file is
+/// asked for once.
+pub fn top_is_opened_deeply()
+    ensures { TopIsOpenedDeeply }
+{}
+
+/// A module requires a version that the main file excludes: it has no row, and its file is not asked for.
+pub fn excluded_is_left_out()
+    ensures { ExcludedIsLeftOut }
 {}

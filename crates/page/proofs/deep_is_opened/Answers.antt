@@ -1,0 +1,5 @@
+use Rattle.page.proofs.RowsOpened.{deep_is_opened}
+use Rattle.page.proofs.deep_is_opened.Goals as goal
+
+pub returns : goal.returns
+returns c = deep_is_opened

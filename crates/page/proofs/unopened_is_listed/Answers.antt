@@ -1,0 +1,5 @@
+use Rattle.page.proofs.RowsOpened.{unopened_is_listed}
+use Rattle.page.proofs.unopened_is_listed.Goals as goal
+
+pub returns : goal.returns
+returns c = unopened_is_listed
