@@ -8,3 +8,6 @@ pub mod Faults
 pub mod RowsTable
 pub mod Rows
 pub mod RowsOpened
+pub mod RowsReplaced
+pub mod RowsReported
+pub mod RowsAfter

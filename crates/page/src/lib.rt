@@ -5,8 +5,9 @@
 #![tactic(auto)]
 
 ghost use Rattle.page.specs.Worlds.{DeviceIsReported, FaultsAreReported, PrunedIsListed, UnprunedIsListed};
-ghost use Rattle.page.specs.Worlds.Rows.{DeepIsOpened, EmptyMainIsReported, ExcludedIsLeftOut, GreaterVersionIsListed,
-    MainAloneIsListed, TopIsOpenedDeeply, UnopenedIsListed};
+ghost use Rattle.page.specs.Worlds.Rows.{DeepIsOpened, EmptyMainIsReported, ExcludedIsLeftOut, FolderIsListed,
+    ForkIsListed, ForkIsReported, GreaterVersionIsListed, MainAloneIsListed, MalformedIsReported, OwnPathIsLeftOut,
+    TopIsOpenedDeeply, UnfetchableIsReported, UnopenedIsListed};
 
 /// Below a main file of go 1.17: an unpruned and a pruned file, a folder, an excluded version, and v1.10.0 above v1.9.0;
 /// all rows, the first two, and those after a path.
@@ -63,4 +64,35 @@ pub fn top_is_opened_deeply()
 /// A module requires a version that the main file excludes: it has no row, and its file is not asked for.
 pub fn excluded_is_left_out()
     ensures { ExcludedIsLeftOut }
+{}
+
+/// A folder replaces a module whose path no proxy has: the row shows the folder, and the folder's file alone is asked for.
+pub fn folder_is_listed()
+    ensures { FolderIsListed }
+{}
+
+/// Without the folder the module is reported, and nothing is asked.
+pub fn unfetchable_is_reported()
+    ensures { UnfetchableIsReported }
+{}
+
+/// A fork replaces each version of a path, and is required itself: both have rows, and the fork's file is asked for once.
+pub fn fork_is_listed()
+    ensures { ForkIsListed }
+{}
+
+/// The fork's file declares the path that it replaces: that is right for the replaced module, and wrong for the fork.
+pub fn fork_is_reported()
+    ensures { ForkIsReported }
+{}
+
+/// A version that has no row has a malformed file, reported with line and kind beside a file that is missing.
+pub fn malformed_is_reported()
+    ensures { MalformedIsReported }
+{}
+
+/// A module requires a version of the main module: it has no row, and what it requires has one. The rows after a path,
+/// and the first of them.
+pub fn own_path_is_left_out()
+    ensures { OwnPathIsLeftOut }
 {}

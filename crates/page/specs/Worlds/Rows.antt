@@ -102,14 +102,20 @@ UnfetchableIsReported = IsReportedAs unfetchable_text [] (codes "local@v0.0.0: N
 abbrev pub fork_name : Name
 fork_name = name_at (codes "fork") (codes "v1.1.0")
 
+abbrev pub fork_answers : List (Name × Reply)
+fork_answers = (fork_name, bytes (module_line (codes "fork"))) ∷ []
+
 -- A fork that replaces each version of a path is listed itself, too; its file is asked for once.
 abbrev pub ForkIsListed : Type 0
-ForkIsListed = IsListedAs forking_text ((fork_name, bytes (module_line (codes "fork"))) ∷ [])
+ForkIsListed = IsListedAs forking_text fork_answers
     (codes "example.com/m\nexample.com/a v1.0.0 => example.com/fork v1.1.0\nexample.com/fork v1.1.0\n")
+
+abbrev pub wrong_fork_answers : List (Name × Reply)
+wrong_fork_answers = (fork_name, bytes (module_line (codes "a"))) ∷ []
 
 -- If the fork's file declares the replaced path, it is right for that path alone.
 abbrev pub ForkIsReported : Type 0
-ForkIsReported = IsReportedAs forking_text ((fork_name, bytes (module_line (codes "a"))) ∷ [])
+ForkIsReported = IsReportedAs forking_text wrong_fork_answers
     (codes "example.com/fork@v1.1.0: WrongPath\n")
 
 abbrev pub malformed_answers : List (Name × Reply)

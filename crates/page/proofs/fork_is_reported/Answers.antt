@@ -1,0 +1,5 @@
+use Rattle.page.proofs.RowsReported.{fork_is_reported}
+use Rattle.page.proofs.fork_is_reported.Goals as goal
+
+pub returns : goal.returns
+returns c = fork_is_reported

@@ -1,0 +1,5 @@
+use Rattle.page.proofs.RowsReported.{unfetchable_is_reported}
+use Rattle.page.proofs.unfetchable_is_reported.Goals as goal
+
+pub returns : goal.returns
+returns c = unfetchable_is_reported
