@@ -1,9 +1,8 @@
 -- Worlds of example.com, each with what its modules say.
-use Rattle.std.proofs.Common.{◌≡◌, ◌∙◌, ◌++◌, true, false, ℕ, List, [], ◌∷◌, Some, None, Ok, Err, Result, arith, codes, map, refl, sym}
+use Rattle.std.proofs.Common.{◌≡◌, ◌++◌, true, ℕ, List, [], ◌∷◌, None, Ok, arith, codes, map, refl}
 use Rattle.std.specs.Fmt.{digits}
 use Rattle.std.specs.List.{AllByRecursion, IsDistinct}
 use Rattle.std.specs.declared.cmp.Ordering.TheVariants.{Less}
-use Rattle.std.proofs.lemmas.Bool.{false≢true}
 use Rattle.page.specs.Asked.{Name, Reply}
 use Rattle.page.specs.BuildList.{entry_of, main_entry, path_cmp}
 use Rattle.page.specs.Fields.{Dependency}
@@ -70,9 +69,17 @@ versions_table = record {
   is_main = refl;
   tops_are = refl;
   tells = (
-    sound (answered _ refl refl refl) refl, (sound (answered _ refl refl refl) refl,
-    (sound (answered _ refl refl refl) refl, (sound (answered _ refl refl refl) refl,
-    (sound (answered _ refl refl refl) refl, (sound (answered _ refl refl refl) refl, tt))))),
+    sound (answered _ refl refl refl) refl,
+    (
+      sound (answered _ refl refl refl) refl,
+      (
+        sound (answered _ refl refl refl) refl,
+        (
+          sound (answered _ refl refl refl) refl,
+          (sound (answered _ refl refl refl) refl, (sound (answered _ refl refl refl) refl, tt)),
+        ),
+      ),
+    ),
   );
   bounded = refl;
   reached = refl;
@@ -85,12 +92,24 @@ versions_asked = record {
   readable = ((λ name. (Ok _, refl)), ((λ name. (Ok _, refl)), ((λ name. (Ok _, refl)), ((λ name. (Ok _, refl)), tt))));
   once = ((refl, (refl, (refl, tt))), ((refl, (refl, tt)), ((refl, tt), (tt, tt))));
   needed = (
-    (_, (0, omega arith, refl), refl, refl), ((_, (1, omega arith, refl), refl, refl),
-    ((_, (4, omega arith, refl), refl, refl), ((_, (5, omega arith, refl), refl, refl), tt))),
+    (_, (0, omega arith, refl), refl, refl),
+    (
+      (_, (1, omega arith, refl), refl, refl),
+      ((_, (4, omega arith, refl), refl, refl), ((_, (5, omega arith, refl), refl, refl), tt)),
+    ),
   );
   were = (
-    (λ ask. (0, omega arith, refl)), ((λ ask. (1, omega arith, refl)), ((λ ask. (0, omega arith, refl)), ((λ ask. (1, omega arith, refl)),
-    ((λ ask. (2, omega arith, refl)), ((λ ask. (3, omega arith, refl)), tt))))),
+    (λ ask. (0, omega arith, refl)),
+    (
+      (λ ask. (1, omega arith, refl)),
+      (
+        (λ ask. (0, omega arith, refl)),
+        (
+          (λ ask. (1, omega arith, refl)),
+          ((λ ask. (2, omega arith, refl)), ((λ ask. (3, omega arith, refl)), tt)),
+        ),
+      ),
+    ),
   );
 }
 

@@ -1,5 +1,5 @@
 -- The world of a requirement on the main module's own path, with the rows after a path, and a limit.
-use Rattle.std.proofs.Common.{◌≡◌, ◌++◌, false, List, [], ◌∷◌, None, Some, Ok, ℕ, arith, codes, nat_eq, refl}
+use Rattle.std.proofs.Common.{◌≡◌, ◌++◌, false, List, [], ◌∷◌, None, Ok, ℕ, arith, codes, nat_eq, refl}
 use Rattle.std.specs.Cmp.Lexicographic.{pointwise}
 use Rattle.std.specs.List.{AllByRecursion, IsDistinct}
 use Rattle.page.specs.BuildList.{Entry, IsRestAfter, entry_of, main_entry, path_of}

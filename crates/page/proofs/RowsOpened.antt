@@ -1,7 +1,7 @@
 -- Worlds of what is opened below pruned and unpruned files, and of an excluded version.
-use Rattle.std.proofs.Common.{◌≡◌, ◌++◌, List, [], ◌∷◌, Ok, arith, codes, refl}
+use Rattle.std.proofs.Common.{◌++◌, List, [], ◌∷◌, Ok, arith, codes, refl}
 use Rattle.std.specs.List.{IsDistinct}
-use Rattle.page.specs.Files.RowFiles.{at, bare_file, excluding_file, excluding_text, file_requiring, first_of, one_file, one_text, two_file, two_text}
+use Rattle.page.specs.Files.RowFiles.{bare_file, excluding_file, excluding_text, file_requiring, first_of, one_file, one_text, two_file, two_text}
 use Rattle.page.specs.Path.{is_fetchable}
 use Rattle.page.specs.Run.{answered, sound}
 use Rattle.page.specs.Worlds.Rows.{DeepIsOpened, ExcludedIsLeftOut, TopIsOpenedDeeply, UnopenedIsListed, both_ways_answers, deep_answers, excluded_answers, unopened_answers}

@@ -1,8 +1,7 @@
 -- Worlds of a folder and a fork that replace modules.
-use Rattle.std.proofs.Common.{◌≡◌, ◌++◌, List, [], ◌∷◌, Ok, arith, codes, refl}
+use Rattle.std.proofs.Common.{◌++◌, List, [], ◌∷◌, Ok, arith, codes, refl}
 use Rattle.std.specs.List.{IsDistinct}
-use Rattle.page.specs.Asked.{Name, Reply, bytes}
-use Rattle.page.specs.Files.RowFiles.{at, bare_file, empty_file, first_of, forking_file, forking_text, local_zero, module_line, replacing_file, replacing_text}
+use Rattle.page.specs.Files.RowFiles.{at, bare_file, empty_file, first_of, forking_file, forking_text, local_zero, replacing_file, replacing_text}
 use Rattle.page.specs.Path.{is_fetchable}
 use Rattle.page.specs.Run.{answered, sound}
 use Rattle.page.specs.Worlds.Rows.{FolderIsListed, ForkIsListed, folder_answers, fork_answers}

@@ -1,5 +1,5 @@
 -- How a run without a go.sum ends, computed from a table of what its modules say.
-use Rattle.std.proofs.Common.{◌≡◌, ◌∙◌, ◌++◌, ◌⊎◌, ◌&&◌, ◌||◌, ◌≤◌, ℕ, Bool, true, false, List, [], ◌∷◌, None, Result, Ok, Err, Contains, ap, arith, inl, inr, length, map, nat_eq, not, refl, subst, sym}
+use Rattle.std.proofs.Common.{◌≡◌, ◌∙◌, ◌++◌, ◌⊎◌, ◌&&◌, ◌||◌, ◌≤◌, ℕ, Bool, true, false, List, [], ◌∷◌, None, Result, Ok, Err, Contains, ap, inl, inr, length, map, nat_eq, not, refl, subst, sym}
 use Rattle.std.specs.Cmp.Lexicographic.{pointwise, same_text}
 use Rattle.std.specs.List.{AllByRecursion, IsDistinct}
 use Rattle.std.specs.Ordering.{is_gt}
@@ -14,12 +14,12 @@ use Rattle.page.specs.Main.{Main, is_pruned_by, without_excluded}
 use Rattle.page.specs.ModuleVersion.{ModuleVersion, pair_cmp, pair_eq}
 use Rattle.page.specs.Outcomes.{AreFound}
 use Rattle.page.specs.Reading.{file_of, is_askable}
-use Rattle.page.specs.Run.{AreFaults, AreRows, IsDeep, IsEdge, IsFault, IsNeeded, IsOpened, IsSettled, IsTop, Requires, Run, Says, from_deep, from_main, from_top, run_of}
+use Rattle.page.specs.Run.{AreFaults, AreRows, IsDeep, IsEdge, IsFault, IsNeeded, IsOpened, IsTop, Requires, Run, Says, from_deep, from_main, from_top, run_of}
 use Rattle.page.specs.Types.{Class, Fault, Main as FromMain, Of}
 use Rattle.page.specs.Version.{version_cmp}
 use Rattle.page.specs.Worlds.{given_by}
 use Rattle.page.proofs.Alone.{member_head, member_tail}
-use Rattle.page.proofs.Ending.{IsReadable, WasAsked, settled}
+use Rattle.page.proofs.Ending.{IsReadable, settled}
 use Rattle.page.proofs.Members.{Pairs, each_member, member_cases, no_member, pair_same, pairs_of, text_itself}
 use Rattle.page.proofs.Saying.{class_is, file_is, has_no_fault, required_in, requires_nothing, says}
 
@@ -251,7 +251,7 @@ module _ (content : List ℕ) (main : Main) (asked : List (Name × Reply)) (tops
       → is_pruned_by file.go ≡ false → Contains (without_excluded main file.requirements) y → Contains (firsts deep) y
   leads_deep x (Ok own) tells h file y also unpruned there = elim (or_parts (is_pruned_by own.go) (are_in (kept main (Ok own)) (firsts deep)) h) [
     | inl pruned ↦
-      absurd (false≢true (sym unpruned ∙ ap (λ (f : Dependency). is_pruned_by f.go) (sym (file_is main asked x own (says main asked x (Ok own) tells) file also)) ∙ pruned))
+        absurd (false≢true (sym unpruned ∙ ap (λ (f : Dependency). is_pruned_by f.go) (sym (file_is main asked x own (says main asked x (Ok own) tells) file also)) ∙ pruned))
     | inr within ↦ are_members (kept main (Ok own)) (firsts deep) within y (requires_in x (Ok own) tells y (file, also, there))
   ]
   leads_deep x (Err class) tells h file y also unpruned there =
@@ -320,7 +320,7 @@ module _ (content : List ℕ) (main : Main) (asked : List (Name × Reply)) (tops
   led : (found : List Row) (y : ModuleVersion) → AllByRecursion IsDeepRow found → is_led main tops found y ≡ true → IsDeep run y
   led found y are h = elim (or_parts (not (is_pruned_by main.go) && has (firsts tops) y) _ h) [
     | inl own ↦ (let parts = and_parts (not (is_pruned_by main.go)) (has (firsts tops) y) own in
-      from_main (not_true (is_pruned_by main.go) parts.0) (subst (λ (xs : List ModuleVersion). Contains xs y) table.tops_are (has_member (firsts tops) y parts.1)))
+        from_main (not_true (is_pruned_by main.go) parts.0) (subst (λ (xs : List ModuleVersion). Contains xs y) table.tops_are (has_member (firsts tops) y parts.1)))
     | inr other ↦ elim (or_parts (some (λ (row : Row). not (is_shallow row.1) && has (kept main row.1) y) tops) _ other) [
       | inl top ↦ by_top y (some_one _ tops top)
       | inr row ↦ by_deep found y are (some_one _ found row)

@@ -8,7 +8,6 @@ use Rattle.page.specs.Files.RowFiles.{main_of_rows, said_of_rows}
 use Rattle.page.specs.Main.{Main}
 use Rattle.page.specs.ModuleVersion.{ModuleVersion}
 use Rattle.page.specs.Types.{Class, Misreading, Sums}
-
 pub mod RowFiles
 
 -- ---- modules

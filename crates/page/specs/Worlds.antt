@@ -4,7 +4,6 @@ use Rattle.page.specs.Asked.{Name, Reply, bytes, folder_file, mod_file}
 use Rattle.page.specs.Files.{end_text, folder_text, local_text, low_text, main_text, mid_text, old_text, short_text, top_text}
 use Rattle.page.specs.Outcome.{Outcome, failure_outcome, text_outcome, refusal_outcome}
 use Rattle.page.specs.Outcomes.{Given, ListEnds}
-
 pub mod Rows
 
 abbrev pub asked_top : Name

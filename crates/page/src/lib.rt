@@ -5,12 +5,24 @@
 #![tactic(auto)]
 
 ghost use Rattle.page.specs.Worlds.{DeviceIsReported, FaultsAreReported, PrunedIsListed, UnprunedIsListed};
-ghost use Rattle.page.specs.Worlds.Rows.{DeepIsOpened, EmptyMainIsReported, ExcludedIsLeftOut, FolderIsListed,
-    ForkIsListed, ForkIsReported, GreaterVersionIsListed, MainAloneIsListed, MalformedIsReported, OwnPathIsLeftOut,
-    TopIsOpenedDeeply, UnfetchableIsReported, UnopenedIsListed};
+ghost use Rattle.page.specs.Worlds.Rows.{
+  DeepIsOpened,
+  EmptyMainIsReported,
+  ExcludedIsLeftOut,
+  FolderIsListed,
+  ForkIsListed,
+  ForkIsReported,
+  GreaterVersionIsListed,
+  MainAloneIsListed,
+  MalformedIsReported,
+  OwnPathIsLeftOut,
+  TopIsOpenedDeeply,
+  UnfetchableIsReported,
+  UnopenedIsListed,
+};
 
-/// Below a main file of go 1.17: an unpruned and a pruned file, a folder, an excluded version, and v1.10.0 above v1.9.0;
-/// all rows, the first two, and those after a path.
+/// Below a main file of go 1.17: an unpruned and a pruned file, a folder, an excluded version, and v1.10.0 above
+/// v1.9.0; all rows, the first two, and those after a path.
 pub fn pruned_is_listed()
     ensures { PrunedIsListed }
 {}
@@ -30,7 +42,7 @@ pub fn device_is_reported()
     ensures { DeviceIsReported }
 {}
 
-/// Two modules require versions v1.9.0 and v1.10.0 of a third: numbers, not texts, order them. Nothing else is printed.
+/// Two modules require v1.9.0 and v1.10.0 of a third: numbers, not texts, order them. Nothing else is printed.
 pub fn greater_version_is_listed()
     ensures { GreaterVersionIsListed }
 {}
@@ -66,7 +78,7 @@ pub fn excluded_is_left_out()
     ensures { ExcludedIsLeftOut }
 {}
 
-/// A folder replaces a module whose path no proxy has: the row shows the folder, and the folder's file alone is asked for.
+/// A folder replaces a module whose path no proxy has: the row shows the folder, whose file alone is asked for.
 pub fn folder_is_listed()
     ensures { FolderIsListed }
 {}
@@ -76,7 +88,7 @@ pub fn unfetchable_is_reported()
     ensures { UnfetchableIsReported }
 {}
 
-/// A fork replaces each version of a path, and is required itself: both have rows, and the fork's file is asked for once.
+/// A fork replaces each version of a path, and is required itself: both have rows, and its file is asked for once.
 pub fn fork_is_listed()
     ensures { ForkIsListed }
 {}

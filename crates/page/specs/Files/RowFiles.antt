@@ -1,5 +1,5 @@
 -- More files and what they say. All paths but one begin with `example.com/`; a file without a go directive has go 1.16.
-use Rattle.std.specs.Prelude.{◌++◌, ℕ, if◌then◌else◌, List, [], ◌∷◌, Option, Some, None, Result, Ok, Err, codes}
+use Rattle.std.specs.Prelude.{◌++◌, ℕ, if◌then◌else◌, List, [], ◌∷◌, Some, None, Result, Ok, Err, codes}
 use Rattle.std.specs.Str.{bytes_eq}
 use Rattle.page.specs.Directives.{Folder, Module, Replacing, left_without}
 use Rattle.page.specs.Fields.{Dependency}

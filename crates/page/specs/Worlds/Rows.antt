@@ -1,7 +1,9 @@
 -- More worlds, each of which shows one thing that `list` does.
 use Rattle.std.specs.Prelude.{◌≡◌, ℕ, List, [], ◌∷◌, Option, Some, None, codes}
 use Rattle.page.specs.Asked.{Name, Reply, absent, bytes, folder_file, mod_file}
-use Rattle.page.specs.Files.RowFiles.{alone_text, both_text, ends_text, excluding_text, forking_text, going, malformed_text, module_line, one_text, path_of, replacing_text, requiring, three_text, two_text, unfetchable_text}
+use Rattle.page.specs.Files.RowFiles.{alone_text, both_text, ends_text, excluding_text, forking_text, going}
+use Rattle.page.specs.Files.RowFiles.{malformed_text, module_line, one_text, path_of, replacing_text, requiring}
+use Rattle.page.specs.Files.RowFiles.{three_text, two_text, unfetchable_text}
 use Rattle.page.specs.Outcome.{Outcome, refusal_outcome, text_outcome}
 use Rattle.page.specs.Outcomes.{ListEnds}
 use Rattle.page.specs.Worlds.{given_by}
