@@ -1,5 +1,5 @@
 -- Worlds of example.com, each with what its modules say.
-use Rattle.std.proofs.Common.{◌≡◌, ◌++◌, true, ℕ, List, [], ◌∷◌, None, Ok, arith, codes, map, refl}
+use Rattle.std.proofs.Common.{◌≡◌, ◌++◌, true, ℕ, List, [], ◌∷◌, None, Ok, arith, codes, map, refl, ◌∙◌, Err, Result, ap, sym}
 use Rattle.std.specs.Fmt.{digits}
 use Rattle.std.specs.List.{AllByRecursion, IsDistinct}
 use Rattle.std.specs.declared.cmp.Ordering.TheVariants.{Less}
@@ -10,10 +10,13 @@ use Rattle.page.specs.Files.RowFiles.{alone_file, alone_text, at, bare_file, bot
 use Rattle.page.specs.ListingTexts.{list_text}
 use Rattle.page.specs.Main.{Main}
 use Rattle.page.specs.ModuleVersion.{ModuleVersion}
-use Rattle.page.specs.Outcomes.{bad_main, no_fault, no_path}
+use Rattle.page.specs.Outcome.{Outcome, refusal_outcome}
+use Rattle.page.specs.Outcomes.{ListEnds, bad_main, bad_sums, device, faulty, no_fault, no_path, too_many}
 use Rattle.page.specs.Path.{is_fetchable}
 use Rattle.page.specs.Run.{answered, sound}
-use Rattle.page.specs.Types.{NoModule}
+use Rattle.page.specs.Reports.{main_line}
+use Rattle.page.specs.Types.{Misreading, NoModule}
+use Rattle.page.specs.Worlds.{given_by}
 use Rattle.page.specs.Worlds.Rows.{EmptyMainIsReported, GreaterVersionIsListed, IsListedAs, MainAloneIsListed, versions_answers}
 use Rattle.page.proofs.Alone.{alone}
 use Rattle.page.proofs.Members.{Pairs}
@@ -44,9 +47,32 @@ alone_asked = record { readable = tt; once = tt; needed = tt; were = tt }
 pub main_alone_is_listed : MainAloneIsListed
 main_alone_is_listed = listed alone_text alone_file [] [] [] alone_table alone_asked tt [] tt refl
 
+-- ---- a main file of no bytes
+
+place_is : (a b : ℕ × Misreading) → ◌≡◌ {A = Result Main (ℕ × Misreading)} (Err a) (Err b) → a ≡ b
+place_is a b e = cc e
+
+no_main : (place : ℕ × Misreading) (main : Main) → ◌≡◌ {A = Result Main (ℕ × Misreading)} (Err place) (Ok main) → ⊥
+no_main place main e = cc e
+
+abbrev empty_place : ℕ × Misreading
+empty_place = (0, NoModule)
+
+only_report : (outcome : Outcome) → ListEnds None None (given_by [] []) outcome → outcome ≡ refusal_outcome (main_line empty_place)
+only_report outcome (bad_main place misread unasked is) =
+    is ∙ ap (λ (p : ℕ × Misreading). refusal_outcome (main_line p)) (sym (place_is empty_place place misread))
+only_report outcome (bad_sums main report is bad unasked reported) = absurd (no_main empty_place main is)
+only_report outcome (device main table name read due failed is) = absurd (no_main empty_place main read.main_file)
+only_report outcome (too_many main table read known many unfailed is) = absurd (no_main empty_place main read.main_file)
+only_report outcome (faulty main table first others found is) = absurd (no_main empty_place main found.read.main_file)
+only_report outcome (no_fault main table found prints) = absurd (no_main empty_place main found.read.main_file)
+
 pub empty_main_is_reported : EmptyMainIsReported
 unfolding digits
-empty_main_is_reported = bad_main (0, NoModule) refl (refl, refl) refl
+empty_main_is_reported = record {
+  whole = bad_main empty_place refl (refl, refl) refl;
+  only = only_report;
+}
 
 -- ---- the order of versions
 

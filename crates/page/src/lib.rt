@@ -52,7 +52,7 @@ pub fn main_alone_is_listed()
     ensures { MainAloneIsListed }
 {}
 
-/// A main file of no bytes is reported with line 0 and a kind, and nothing is asked.
+/// A main file of no bytes is reported with line 0 and a kind, and nothing else; nothing is asked.
 pub fn empty_main_is_reported()
     ensures { EmptyMainIsReported }
 {}

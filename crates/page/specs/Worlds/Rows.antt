@@ -37,9 +37,14 @@ bare_answer name version = (name_at name version, bytes (module_line name))
 abbrev pub MainAloneIsListed : Type 0
 MainAloneIsListed = IsListedAs alone_text [] (codes "example.com/m\n")
 
--- A main file of no bytes has no module line.
-abbrev pub EmptyMainIsReported : Type 0
-EmptyMainIsReported = IsReportedAs [] [] (codes "go.mod:0: NoModule\n")
+abbrev pub no_module_report : List ℕ
+no_module_report = codes "go.mod:0: NoModule\n"
+
+-- A main file of no bytes has no module line; nothing else is reported.
+pub record EmptyMainIsReported : Type 0 where
+  pub whole : IsReportedAs [] [] no_module_report
+  pub only : (outcome : Outcome) → ListEnds None None (given_by [] []) outcome
+      → outcome ≡ refusal_outcome no_module_report
 
 abbrev pub versions_answers : List (Name × Reply)
 versions_answers =
