@@ -4,7 +4,7 @@ use Rattle.std.specs.Cmp.Lexicographic.{pointwise, same_text}
 use Rattle.std.specs.List.{AllByRecursion, IsDistinct}
 use Rattle.std.specs.Ordering.{is_gt}
 use Rattle.std.specs.declared.cmp.Ordering.TheVariants.{Less}
-use Rattle.std.proofs.lemmas.Bool.{and_parts, false≢true}
+use Rattle.std.proofs.lemmas.Bool.{and_parts, false≢true, not-true, or_cases}
 use Rattle.page.specs.Asked.{Name, Reply, names_in, same_name}
 use Rattle.page.specs.BuildList.{IsSelected, entry_of, main_entry, path_cmp}
 use Rattle.page.specs.Fields.{Dependency}
@@ -22,16 +22,6 @@ use Rattle.page.proofs.Alone.{member_head, member_tail}
 use Rattle.page.proofs.Ending.{IsReadable, settled}
 use Rattle.page.proofs.Members.{Pairs, each_member, member_cases, no_member, pair_same, pairs_of, text_itself}
 use Rattle.page.proofs.Saying.{class_is, file_is, has_no_fault, required_in, requires_nothing, says}
-
--- ---- truth values
-
-or_parts : (a b : Bool) → (a || b) ≡ true → (a ≡ true) ⊎ (b ≡ true)
-or_parts true b h = inl refl
-or_parts false b h = inr h
-
-not_true : (b : Bool) → not b ≡ true → b ≡ false
-not_true true h = absurd (false≢true h)
-not_true false h = refl
 
 -- ---- lists
 
@@ -59,7 +49,7 @@ module _ {T : Type 0} where
 
   some_one : (p : T → Bool) (xs : List T) → some p xs ≡ true → (x : T) × Contains xs x × (p x ≡ true)
   some_one p [] h = absurd (false≢true h)
-  some_one p (y ∷ ys) h = elim (or_parts (p y) (some p ys) h) [
+  some_one p (y ∷ ys) h = elim (or_cases (p y) (some p ys) h) [
     | inl is ↦ (y, member_head y ys, is)
     | inr later ↦ some_later p y ys (some_one p ys later)
   ]
@@ -249,7 +239,7 @@ module _ (content : List ℕ) (main : Main) (asked : List (Name × Reply)) (tops
   leads_deep : (x : ModuleVersion) (said : Result Dependency Class) → Says run x said
       → (is_shallow said || are_in (kept main said) (firsts deep)) ≡ true → (file : Dependency) (y : ModuleVersion) → Says run x (Ok file)
       → is_pruned_by file.go ≡ false → Contains (without_excluded main file.requirements) y → Contains (firsts deep) y
-  leads_deep x (Ok own) tells h file y also unpruned there = elim (or_parts (is_pruned_by own.go) (are_in (kept main (Ok own)) (firsts deep)) h) [
+  leads_deep x (Ok own) tells h file y also unpruned there = elim (or_cases (is_pruned_by own.go) (are_in (kept main (Ok own)) (firsts deep)) h) [
     | inl pruned ↦
         absurd (false≢true (sym unpruned ∙ ap (λ (f : Dependency). is_pruned_by f.go) (sym (file_is main asked x own (says main asked x (Ok own) tells) file also)) ∙ pruned))
     | inr within ↦ are_members (kept main (Ok own)) (firsts deep) within y (requires_in x (Ok own) tells y (file, also, there))
@@ -278,7 +268,7 @@ module _ (content : List ℕ) (main : Main) (asked : List (Name × Reply)) (tops
       (requires_in row.0 row.1 (tell row (in_right row tops deep there)) y (subst (λ (z : ModuleVersion). Requires run z y) (sym same) requires))
 
   row_is_deep : (x : ModuleVersion) → IsDeep run x → Contains (firsts deep) x
-  row_is_deep x (from_main unpruned top) = elim (or_parts (is_pruned_by main.go) (are_in (firsts tops) (firsts deep)) bounds) [
+  row_is_deep x (from_main unpruned top) = elim (or_cases (is_pruned_by main.go) (are_in (firsts tops) (firsts deep)) bounds) [
     | inl pruned ↦ absurd (false≢true (sym unpruned ∙ pruned))
     | inr within ↦ are_members (firsts tops) (firsts deep) within x (row_at_top x top)
   ]
@@ -305,7 +295,7 @@ module _ (content : List ℕ) (main : Main) (asked : List (Name × Reply)) (tops
   by_top : (y : ModuleVersion) → (row : Row) × Contains tops row × ((not (is_shallow row.1) && has (kept main row.1) y) ≡ true) → IsDeep run y
   by_top y (row, there, h) =
       let parts = and_parts (not (is_shallow row.1)) (has (kept main row.1) y) h in
-      from_row row.0 row.1 (tell row (in_left row tops deep there)) (is_top row there) (not_true (is_shallow row.1) parts.0) y
+      from_row row.0 row.1 (tell row (in_left row tops deep there)) (is_top row there) (not-true (is_shallow row.1) parts.0) y
       (has_member (kept main row.1) y parts.1)
 
   abbrev IsDeepRow : Row → Type 0
@@ -318,10 +308,10 @@ module _ (content : List ℕ) (main : Main) (asked : List (Name × Reply)) (tops
       from_deep {x = row.0} is.1 (requires_out row.0 row.1 is.0 y (has_member (kept main row.1) y h))
 
   led : (found : List Row) (y : ModuleVersion) → AllByRecursion IsDeepRow found → is_led main tops found y ≡ true → IsDeep run y
-  led found y are h = elim (or_parts (not (is_pruned_by main.go) && has (firsts tops) y) _ h) [
+  led found y are h = elim (or_cases (not (is_pruned_by main.go) && has (firsts tops) y) _ h) [
     | inl own ↦ (let parts = and_parts (not (is_pruned_by main.go)) (has (firsts tops) y) own in
-        from_main (not_true (is_pruned_by main.go) parts.0) (subst (λ (xs : List ModuleVersion). Contains xs y) table.tops_are (has_member (firsts tops) y parts.1)))
-    | inr other ↦ elim (or_parts (some (λ (row : Row). not (is_shallow row.1) && has (kept main row.1) y) tops) _ other) [
+        from_main (not-true (is_pruned_by main.go) parts.0) (subst (λ (xs : List ModuleVersion). Contains xs y) table.tops_are (has_member (firsts tops) y parts.1)))
+    | inr other ↦ elim (or_cases (some (λ (row : Row). not (is_shallow row.1) && has (kept main row.1) y) tops) _ other) [
       | inl top ↦ by_top y (some_one _ tops top)
       | inr row ↦ by_deep found y are (some_one _ found row)
     ]
@@ -421,9 +411,9 @@ module _ (content : List ℕ) (main : Main) (asked : List (Name × Reply)) (tops
   same_is a b same = subst (λ (c : List ℕ). pointwise nat_eq a c ≡ true) same (text_itself a)
 
   no_greater : (x y : ModuleVersion) → is_no_greater x y ≡ true → y.0 ≡ x.0 → is_gt (version_cmp y.1 x.1) ≡ false
-  no_greater x y h same = elim (or_parts (not (pointwise nat_eq y.0 x.0)) (not (is_gt (version_cmp y.1 x.1))) h) [
-    | inl unlike ↦ absurd (false≢true (sym (not_true (pointwise nat_eq y.0 x.0) unlike) ∙ same_is y.0 x.0 same))
-    | inr not_gt ↦ not_true (is_gt (version_cmp y.1 x.1)) not_gt
+  no_greater x y h same = elim (or_cases (not (pointwise nat_eq y.0 x.0)) (not (is_gt (version_cmp y.1 x.1))) h) [
+    | inl unlike ↦ absurd (false≢true (sym (not-true (pointwise nat_eq y.0 x.0) unlike) ∙ same_is y.0 x.0 same))
+    | inr not_gt ↦ not-true (is_gt (version_cmp y.1 x.1)) not_gt
   ]
 
   chosen : (x : ModuleVersion) → is_chosen main ends x ≡ true → Selects x
@@ -431,7 +421,7 @@ module _ (content : List ℕ) (main : Main) (asked : List (Name × Reply)) (tops
       let parts = and_parts (has ends x) (not (pointwise nat_eq x.0 main.path) && every (is_no_greater x) ends) h in
       let others = and_parts (not (pointwise nat_eq x.0 main.path)) (every (is_no_greater x) ends) parts.1 in
       record {
-        not_main = λ same. false≢true (sym (not_true (pointwise nat_eq x.0 main.path) others.0) ∙ same_is x.0 main.path same);
+        not_main = λ same. false≢true (sym (not-true (pointwise nat_eq x.0 main.path) others.0) ∙ same_is x.0 main.path same);
         is_end = end_at x (has_member ends x parts.0);
         greatest = λ y is. no_greater x y (every_one (is_no_greater x) ends others.1 y (end_in y is));
       }
@@ -442,9 +432,9 @@ module _ (content : List ℕ) (main : Main) (asked : List (Name × Reply)) (tops
       false≢true (sym (is.greatest y (end_at y there) (same_text y.0 x.0 (sym parts.0))) ∙ parts.1)
 
   placed : (selected : List ModuleVersion) (x : ModuleVersion) → is_placed main ends selected x ≡ true → Selects x → Contains selected x
-  placed selected x h is = elim (or_parts (has selected x) (pointwise nat_eq x.0 main.path || some (is_greater x) ends) h) [
+  placed selected x h is = elim (or_cases (has selected x) (pointwise nat_eq x.0 main.path || some (is_greater x) ends) h) [
     | inl there ↦ has_member selected x there
-    | inr other ↦ elim (or_parts (pointwise nat_eq x.0 main.path) (some (is_greater x) ends) other) [
+    | inr other ↦ elim (or_cases (pointwise nat_eq x.0 main.path) (some (is_greater x) ends) other) [
       | inl own ↦ absurd (is.not_main (same_text x.0 main.path (sym own)))
       | inr greater ↦ absurd (no_lesser x is (some_one (is_greater x) ends greater))
     ]
