@@ -19,8 +19,7 @@ use Rattle.gm_graph.specs.declared.cache.depth.Depth.{Depth}
 use Rattle.gm_graph.specs.declared.cache.depth.Depth.TheVariants.{Top, Deep}
 use Rattle.gm_graph.specs.declared.cache.depth.Turn.{Turn}
 use Rattle.gm_graph.specs.Building.{AreGathered, Faults, Gathers, IsGathered, fault, fault_in, gathers, faults_with}
-use Rattle.gm_graph.specs.CacheVisits.{KeepsSayings}
-use Rattle.gm_graph.specs.Run.{IsEdge, IsFault, Requires, Run, Says, TakesTurn, run_of}
+use Rattle.gm_graph.specs.Run.{IsEdge, IsFault, KeepsSayings, Requires, Run, Says, TakesTurn, run_of}
 use Rattle.gm_graph.specs.Turns.{same_turn, turn}
 use Rattle.gm_graph_select.specs.declared.step.Edge.{Edge}
 use Rattle.gm_graph_select.specs.declared.step.Step.{Step}

@@ -10,8 +10,8 @@ use Rattle.gm_graph.specs.declared.cache.depth.Turn.{Turn}
 use Rattle.gm_graph.specs.declared.cache.visit.Visit.{Visit}
 use Rattle.gm_graph.specs.Cached.{HoldsSame, KeepsSound, Knows, LentSame, file_count, modules_in, module_numbered, run_in, turns_in}
 use Rattle.gm_file.specs.Main.{main_of}
-use Rattle.gm_graph.specs.CacheVisits.{Continues, HasVisited, IsVisit, KeepsSayings}
-use Rattle.gm_graph.specs.Run.{Run}
+use Rattle.gm_graph.specs.CacheVisits.{Continues, HasVisited, IsVisit}
+use Rattle.gm_graph.specs.Run.{KeepsSayings, Run}
 use Rattle.gm_graph.specs.Turns.{turn}
 use Rattle.gm_graph.proofs.Growing.{number_stays}
 use Rattle.gm_graph.proofs.Keeping.{knows_still, main_same, same_run}

@@ -10,9 +10,8 @@ use Rattle.gm_graph.specs.declared.cache.class.Class.{Class}
 use Rattle.gm_graph.specs.declared.cache.depth.Turn.{Turn}
 use Rattle.gm_graph.specs.declared.cache.depth.Depth.{Depth}
 use Rattle.gm_graph.specs.declared.cache.depth.Depth.TheVariants.{Top, Deep}
-use Rattle.gm_graph.specs.CacheVisits.{KeepsSayings}
 use Rattle.gm_graph.specs.Reading.{leads_on}
-use Rattle.gm_graph.specs.Run.{IsDeep, IsEdge, IsOpened, IsTop, Requires, Run, Says, TakesTurn, from_deep, from_main, from_top, run_of}
+use Rattle.gm_graph.specs.Run.{IsDeep, IsEdge, IsOpened, IsTop, KeepsSayings, Requires, Run, Says, TakesTurn, from_deep, from_main, from_top, run_of}
 use Rattle.gm_graph.specs.Turns.{AddsAll, turn}
 use Rattle.gm_graph.specs.VisitedTurns.{IsDone, LeadsTo, Visits}
 use Rattle.gm_graph_select.specs.declared.step.Step.{Step}

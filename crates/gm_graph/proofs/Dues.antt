@@ -11,10 +11,9 @@ use Rattle.gm_graph.specs.declared.cache.depth.Turn.{Turn}
 use Rattle.gm_graph.specs.declared.cache.load_fault.LoadFault.{LoadFault}
 use Rattle.gm_file.specs.Main.{Main}
 use Rattle.gm_graph.specs.Cached.{Knows}
-use Rattle.gm_graph.specs.CacheVisits.{KeepsSayings}
 use Rattle.gm_graph.specs.Reading.{file_of, is_askable}
 use Rattle.gm_graph.specs.Refusals.{refused_names, refused_in}
-use Rattle.gm_graph.specs.Run.{AreTooMany, AskedInTurn, CallsFor, IsDue, IsRead, LoadingNeeds, Says, more, nothing, run_of}
+use Rattle.gm_graph.specs.Run.{AreTooMany, AskedInTurn, CallsFor, IsDue, IsRead, KeepsSayings, LoadingNeeds, Says, more, nothing, run_of}
 use Rattle.gm_graph.specs.Turns.{turn}
 use Rattle.gm_graph.specs.VisitedTurns.{AllValidTurns}
 use Rattle.gm_graph.specs.Visiting.{OverflowsAt}

@@ -17,10 +17,10 @@ use Rattle.gm_file.specs.Main.{Main, without_excluded}
 use Rattle.gm_file.specs.Fields.{Dependency}
 use Rattle.gm_graph_select.specs.Adjacency.{list_at}
 use Rattle.gm_graph.specs.Cached.{IsSound, KeepsSound, modules_in}
-use Rattle.gm_graph.specs.CacheVisits.{Continues, IsVisit, KeepsSayings, LendsFile, required_by, table_of}
+use Rattle.gm_graph.specs.CacheVisits.{Continues, IsVisit, LendsFile, required_by, table_of}
 use Rattle.gm_graph.specs.EdgeLists.{AreLists, HasNumbers, IsListFor, IsPushed, KeepsLists, list_by, list_of, numbers_of}
 use Rattle.gm_graph.specs.FileLists.{AddsFileList, AreNumbersOf, HasNumbersOf, HaveFiles}
-use Rattle.gm_graph.specs.Run.{Run}
+use Rattle.gm_graph.specs.Run.{KeepsSayings, Run}
 use Rattle.gm_graph.proofs.Growing.{vertex_stays}
 use Rattle.gm_graph.proofs.PushedEdges.{one_longer, pushed_kept, pushed_there}
 use Rattle.gm_graph.proofs.Sayings.{file_same}

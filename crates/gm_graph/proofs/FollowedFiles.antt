@@ -10,13 +10,13 @@ use Rattle.gm_graph.specs.declared.cache.depth.Turn.{Turn}
 use Rattle.gm_graph.specs.declared.cache.visit.Required.{Required}
 use Rattle.gm_graph.specs.declared.cache.visit.Visit.TheVariants as visit
 use Rattle.gm_graph.specs.Cached.{IsSound, KeepsSound, modules_in}
-use Rattle.gm_graph.specs.Run.{Run}
+use Rattle.gm_graph.specs.Run.{KeepsSayings, Run}
 use Rattle.gm_graph.specs.Turns.{turn, AddsAll}
 use Rattle.gm_graph.specs.declared.followed.Followed.{Followed}
 use Rattle.gm_graph.specs.declared.graph_builder.GraphBuilder.{GraphBuilder}
 use Rattle.gm_graph.specs.Builder.{IsBuilder, turns_of}
 use Rattle.gm_graph.specs.Followed.{AddsFollowed, AreFollowedIn, FollowsFile, followed_at}
-use Rattle.gm_graph.specs.CacheVisits.{Continues, IsVisit, KeepsSayings, LendsFile, required_by, table_of}
+use Rattle.gm_graph.specs.CacheVisits.{Continues, IsVisit, LendsFile, required_by, table_of}
 use Rattle.gm_graph.proofs.Growing.{turns_over}
 use Rattle.gm_graph.proofs.Sayings.{requires_before}
 use Rattle.gm_graph.proofs.Visited.{required_of}

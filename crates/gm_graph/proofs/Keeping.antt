@@ -18,17 +18,16 @@ use Rattle.gm_file.specs.Main.{Main, main_of}
 use Rattle.gm_graph.specs.Reading.{file_of}
 use Rattle.gm_graph.specs.FileTable.{KeepsFiles, kept_at}
 use Rattle.gm_graph.specs.Summaries.{Grows, IsKept, summary_reading}
-use Rattle.gm_graph.specs.Cached.{AnswerSays, HoldsSame, KeepsSound, Knows, LendsKept, LentSame, held_of, kept_file, main_in, modules_in, run_in, summary_at, sums_in}
-use Rattle.gm_graph.specs.CacheVisits.{KeepsSayings}
-use Rattle.gm_graph.specs.Run.{IsRead, Run, Says, run_of}
+use Rattle.gm_graph.specs.Cached.{HoldsSame, KeepsSound, Knows, LendsKept, LentSame, held_of, kept_file, main_in, modules_in, run_in, summary_at, sums_in}
+use Rattle.gm_graph.specs.Run.{KeepsSayings, Run, Says, run_of}
 use Rattle.gm_graph.specs.Asking.{AsksFor, FailsFor, StillLacks}
 use Rattle.gm_graph.specs.Refusals.{IsLoadFaultOf, refused_in, refused_names}
 use Rattle.gm_graph.specs.declared.cache.load_fault.LoadFault.{LoadFault}
 use Rattle.gm_graph.specs.declared.cache.load_fault.LoadFault.TheVariants as load
 use Rattle.gm_graph.proofs.Sayings.{says_more}
-use Rattle.gm_graph.proofs.FilePlaces.{kept_if_more}
 use Rattle.gm_graph.proofs.PuttingPlaces.{front_stays}
-use Rattle.gm_graph.proofs.Spans.{kept_still, readings_still}
+use Rattle.gm_graph.specs.Held.{AreKept, HoldsAnswers, held_under}
+use Rattle.gm_graph.proofs.HeldFiles.{grown_held, grown_kept, grown_lends}
 
 -- ---- the runs of a cache
 
@@ -85,15 +84,12 @@ main_same old new same = ap main_of same.main
 -- A cache that holds the same knows the same.
 pub knows_still : (old new : Cache) (pairs : List (Name × Reply)) → HoldsSame old new → Knows old pairs → Knows new pairs
 knows_still old new pairs same knows =
-    let run : run_in new pairs ≡ run_in old pairs = same_run old new pairs same.main same.sums in
-    record {
-      read = subst (λ (r : Run). IsRead r) (sym run) knows.read;
-      kept = λ name said. (
-        (λ e. subst (λ (r : Run). AnswerSays r name said) (sym run) ((knows.kept name said).0 (sym (same.held name) ∙ e))),
-        (λ says. same.held name ∙ (knows.kept name said).1 (subst (λ (r : Run). AnswerSays r name said) run says)),
-      );
-      lends = same.lends knows.lends;
-    }
+    let holds : HoldsAnswers (run_in old pairs) new.modules new.files = record {
+      kept = λ name reply e. let got = knows.kept name reply e in (got.0, same.held name ∙ got.1, got.2);
+      only = λ name e. same.held name ∙ knows.only name e;
+      lends = subst (λ (m : Main). AreKept m new.modules new.files) (main_same old new same) (same.lends knows.lends);
+    } in
+    subst (λ (r : Run). HoldsAnswers r new.modules new.files) (sym (same_run old new pairs same.main same.sums)) holds
 
 -- A cache with the same files holds the same, if its list of modules only grew.
 pub holds_grown : (old new : Cache) → new.main.now ≡ old.main.now → sums_in new ≡ sums_in old → new.files ≡ old.files
@@ -101,18 +97,15 @@ pub holds_grown : (old new : Cache) → new.main.now ≡ old.main.now → sums_i
 holds_grown old new main sums files grows lends =
     let found : (name : Name) → summary_at new name ≡ summary_at old name =
     λ name. ap (λ (kept : FileTable). kept_at (modules_in new) kept name) files
-    ∙ ap (λ (modules : List ModuleVersion). kept_at modules old.files name) grows.1.numbered.1
-    ∙ sym (kept_if_more (modules_in old) grows.1.numbered.0 old.files name old.own_within) in
-    let begins : BeginsWith (modules_of old.modules) (modules_of new.modules) = (grows.0, grows.1.listed) in
-    let held : (name : Name) → held_of new name ≡ held_of old name =
-    λ name. ap (option_map (summary_reading (modules_of new.modules))) (found name)
-    ∙ readings_still (main_in old) (modules_of old.modules) (modules_of new.modules) (summary_at old name) begins (lends name) in
+    ∙ grown_kept (main_in old) old.modules new.modules old.files old.own_within grows name in
     record {
       main = main;
       sums = sums;
-      held = held;
-      lends = λ _ name one e. subst (λ (m : Main). IsKept m (modules_of new.modules) one) (ap main_of (sym main))
-          (kept_still (main_in old) (modules_of old.modules) (modules_of new.modules) one begins (lends name one (sym (found name) ∙ e)));
+      held = λ name. ap (λ (kept : FileTable). held_under new.modules kept name) files
+          ∙ grown_held (main_in old) old.modules new.modules old.files old.own_within grows lends name;
+      lends = λ _. subst (λ (m : Main). AreKept m new.modules new.files) (ap main_of (sym main))
+          (subst (λ (kept : FileTable). AreKept (main_in old) new.modules kept) (sym files)
+          (grown_lends (main_in old) old.modules new.modules old.files old.own_within grows lends));
       numbered = grows.1.numbered;
       sound = λ run. sound_still old new run run main ([], ap (λ (kept : FileTable). kept.files.items) files ∙ sym (append-nil old.files.files.items))
           (λ name one e. found name ∙ e) (λ x said says. says);

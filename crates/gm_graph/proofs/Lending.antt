@@ -20,8 +20,8 @@ use Rattle.gm_file.specs.Main.{Main, without_excluded}
 use Rattle.gm_graph.specs.Reading.{file_of}
 use Rattle.gm_graph.specs.Summaries.{IsKept, IsWithinList, at_span, span_found, summary_reading}
 use Rattle.gm_graph.specs.Cached.{AreRequirements, HasFileAt, HoldsSame, IsLender, IsSound, KeepsSound, Knows, LendsKept, file_count, its_requirements, kept_file, main_in, modules_in, no_requirements, run_in}
-use Rattle.gm_graph.specs.CacheVisits.{Continues, IsVisit, KeepsSayings, LendsOver}
-use Rattle.gm_graph.specs.Run.{FileSays, Run, Says}
+use Rattle.gm_graph.specs.CacheVisits.{Continues, IsVisit, LendsOver}
+use Rattle.gm_graph.specs.Run.{FileSays, KeepsSayings, Run, Says}
 use Rattle.gm_graph.proofs.Holding.{held_says, held_sound}
 use Rattle.gm_graph.proofs.Keeping.{same_run}
 use Rattle.gm_graph.proofs.Spans.{span_within}

@@ -30,6 +30,7 @@ pub mod Loads
 pub mod LawProofs
 pub mod RunLemmas
 pub mod Excluding
+pub mod HeldFiles
 pub mod Holding
 pub mod Telling
 pub mod AskedFile

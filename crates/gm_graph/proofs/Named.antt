@@ -7,10 +7,9 @@ use Rattle.gm_store.specs.Asked.{Name, Reply}
 use Rattle.gm_store.specs.States.{StoreState}
 use Rattle.gm_graph.specs.declared.cache.Cache.{Cache}
 use Rattle.gm_graph.specs.Cached.{HasSoundFile, HoldsSame, IsLender, IsLenderNamed, Knows, KnowsLender, held_of, main_in, modules_in, run_in, summary_at}
-use Rattle.gm_graph.specs.CacheVisits.{KeepsSayings}
 use Rattle.gm_graph.specs.Asking.{AsksFor}
 use Rattle.gm_graph.specs.FileTable.{IsPlaceOf}
-use Rattle.gm_graph.specs.Run.{Run}
+use Rattle.gm_graph.specs.Run.{KeepsSayings, Run}
 use Rattle.gm_file.specs.Main.{Main, main_of}
 use Rattle.gm_graph.specs.Reading.{file_of}
 use Rattle.gm_graph.specs.Summaries.{summary_reading}

@@ -10,8 +10,7 @@ use Rattle.gm_store_sums.specs.Sums.{Sums}
 use Rattle.gm_graph.specs.declared.cache.depth.Turn.{Turn}
 use Rattle.gm_graph.specs.declared.cache.depth.Depth.{Depth}
 use Rattle.gm_graph.specs.declared.cache.depth.Depth.TheVariants.{Top, Deep}
-use Rattle.gm_graph.specs.CacheVisits.{KeepsSayings}
-use Rattle.gm_graph.specs.Run.{AreTooMany, IsTop, Run, TakesTurn, run_of}
+use Rattle.gm_graph.specs.Run.{AreTooMany, IsTop, KeepsSayings, Run, TakesTurn, run_of}
 use Rattle.gm_graph.specs.Turns.{OverflowsWith, turn}
 use Rattle.gm_graph.specs.VisitedTurns.{AllValidTurns, AreFirstTurns, IsDone, VisitOverflows, Visits}
 use Rattle.gm_name_table.specs.Listed.{BeginsWith}

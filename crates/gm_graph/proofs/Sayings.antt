@@ -8,9 +8,8 @@ use Rattle.gm_file.specs.Main.{Main, replacement_in, without_excluded}
 use Rattle.gm_store.specs.Asked.{Name, Reply, answer_in, same_name}
 use Rattle.gm_store_sums.specs.Sums.{Sums}
 use Rattle.gm_graph.specs.declared.cache.class.Class.{Class}
-use Rattle.gm_graph.specs.CacheVisits.{KeepsSayings}
 use Rattle.gm_graph.specs.Reading.{IsFileReading, file_of, is_right_path}
-use Rattle.gm_graph.specs.Run.{FileSays, Requires, Run, Says, answered, faulty, run_of, sound, unaskable, wrong_path}
+use Rattle.gm_graph.specs.Run.{FileSays, KeepsSayings, Requires, Run, Says, answered, faulty, run_of, sound, unaskable, wrong_path}
 use Rattle.gm_graph.proofs.OneReading.{one_reading}
 
 -- ---- one thing

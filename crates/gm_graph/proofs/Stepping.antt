@@ -18,6 +18,7 @@ use Rattle.gm_graph.specs.CacheVisits.{Continues}
 use Rattle.gm_graph.specs.Run.{AskedInTurn, IsOpened, IsRead, LoadingNeeds, Run, run_of}
 use Rattle.gm_graph.specs.Turns.{turn}
 use Rattle.gm_graph.specs.Visiting.{IsFirstGraph, IsOpenedIn, IsVisited}
+use Rattle.gm_graph.proofs.Holding.{answers_read}
 use Rattle.gm_graph.proofs.BuiltEdges.{IsGatheredTo, edges_exactly, faults_exactly, gathered_more}
 use Rattle.gm_graph.proofs.Deepening.{IsValidTurn-kept}
 use Rattle.gm_graph.proofs.Dues.{AddsFile, asks_more, none_in_turn, knows_nothing, lent_more, says_still}
@@ -64,7 +65,7 @@ pub record IsAt (main : Main) (sums : Option Sums) (cache : Cache) (pairs : List
 -- What a cache's run is, if its main file and its go.sum are these.
 pub read_by : (main : Main) (sums : Option Sums) (cache : Cache) (pairs : List (Name × Reply)) → sums_in cache ≡ sums → Knows cache pairs
     → IsRead (run_of main sums pairs)
-read_by main sums cache pairs sums_are knows = subst (λ (s : Option Sums). IsRead (run_of main s pairs)) sums_are knows.read
+read_by main sums cache pairs sums_are knows = subst (λ (s : Option Sums). IsRead (run_of main s pairs)) sums_are (answers_read cache pairs knows)
 
 pub by_run : (P : Run → Type 0) (main : Main) (sums : Option Sums) (cache : Cache) (pairs : List (Name × Reply)) → main_in cache ≡ main
     → sums_in cache ≡ sums → P (run_in cache pairs) → P (run_of main sums pairs)

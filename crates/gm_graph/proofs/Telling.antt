@@ -1,6 +1,5 @@
 -- A cache that keeps one more file knows one more answer.
-use Rattle.std.proofs.Common.{◌≡◌, ◌∙◌, ◌↔◌, Bool, true, false, cond, List, [], ◌∷◌, ◌++◌, Option, Some, None, Result, sym, ap, subst, refl}
-use Rattle.std.proofs.lemmas.Option.{same_Some}
+use Rattle.std.proofs.Common.{◌≡◌, ◌∙◌, Bool, true, false, cond, List, [], ◌∷◌, ◌++◌, Option, Some, None, Result, sym, ap, subst, refl}
 use Rattle.std.specs.Option.{option_map}
 use Rattle.gm_name.specs.ModuleVersion.{ModuleVersion}
 use Rattle.gm_file.specs.Fields.{Dependency}
@@ -11,33 +10,25 @@ use Rattle.gm_name_table.specs.Listed.{BeginsWith, NumberedList, modules_of}
 use Rattle.gm_graph.specs.declared.cache.class.Class.{Class}
 use Rattle.gm_graph.specs.declared.cache.summary.Kept.{Kept}
 use Rattle.gm_graph.specs.declared.cache.Cache.{Cache}
-use Rattle.gm_file.specs.Main.{Main, main_of}
+use Rattle.gm_file.specs.Main.{Main}
 use Rattle.gm_graph.specs.Reading.{IsFileReading}
 use Rattle.gm_graph.specs.FileTable.{PutsFile, kept_at}
+use Rattle.gm_graph.proofs.HeldFiles.{IsAnswerOf, kept_with, map_cond, one_answer}
+use Rattle.gm_graph.specs.Held.{HoldsAnswers}
 use Rattle.gm_graph.proofs.Keeping.{knows_still, main_same, same_run, says_later, sound_still}
-use Rattle.gm_graph.proofs.OneReading.{one_reading}
 use Rattle.gm_graph.specs.Summaries.{IsKept, summary_reading}
-use Rattle.gm_graph.specs.Cached.{AnswerSays, HoldsSame, KeepsSound, Knows, LentSame, held_of, main_in, modules_in, run_in, summary_at, sums_in}
-use Rattle.gm_graph.specs.Run.{IsRead, Run}
-
--- What is held of one name is what the answer to it says.
-record IsAnswerOf (sums : Option Sums) (name : Name) (answer : Option Reply) (held : Option (Result Dependency Class)) : Type 0 where
-  read : (reply : Reply) → answer ≡ Some reply → (said : Result Dependency Class) × IsFileReading sums name reply said
-  kept : (said : Result Dependency Class)
-      → (held ≡ Some said) ↔ ((reply : Reply) × (answer ≡ Some reply) × IsFileReading sums name reply said)
+use Rattle.gm_graph.specs.Cached.{HoldsSame, KeepsSound, Knows, LentSame, held_of, main_in, modules_in, run_in, summary_at, sums_in}
+use Rattle.gm_graph.specs.Run.{Run}
 
 known_of : (cache : Cache) (pairs : List (Name × Reply)) → Knows cache pairs → (name : Name)
     → IsAnswerOf (sums_in cache) name (answer_in pairs name) (held_of cache name)
-known_of cache pairs knows name = record { read = knows.read name; kept = knows.kept name }
+known_of cache pairs knows name = record { kept = knows.kept name; only = knows.only name }
 
 -- If nothing is held, the name was not answered.
 none_told : (sums : Option Sums) (name : Name) (answer : Option Reply) (held : Option (Result Dependency Class))
     → IsAnswerOf sums name answer held → held ≡ None → answer ≡ None
 none_told sums name None held is e = refl
-none_told sums name (Some reply) held is e =
-    let (said, reads) = is.read reply refl in
-    let there : held ≡ Some said = (is.kept said).1 (reply, refl, reads) in
-    absurd (cc (sym e ∙ there))
+none_told sums name (Some reply) held is e = let got = is.kept reply refl in absurd (cc (sym e ∙ got.1))
 
 said_none : (modules : List ModuleVersion) (o : Option Kept) → o ≡ None → option_map (summary_reading modules) o ≡ None
 said_none modules o e = ap (option_map (summary_reading modules)) e
@@ -61,17 +52,6 @@ answer_elsewhere : (pairs : List (Name × Reply)) (name other : Name) (reply : R
 answer_elsewhere [] name other reply e = ap (λ (b : Bool). cond b (Some reply) None) e
 answer_elsewhere (pair ∷ pairs) name other reply e = ap (λ (o : Option Reply). cond (same_name other pair.0) (Some pair.1) o) (answer_elsewhere pairs name other reply e)
 
-one_answer : (sums : Option Sums) (name : Name) (reply : Reply) (reading : Result Dependency Class) → IsFileReading sums name reply reading
-    → IsAnswerOf sums name (Some reply) (Some reading)
-one_answer sums name reply reading reads = record {
-  read = λ other e. (reading, subst (λ (r : Reply). IsFileReading sums name r reading) (same_Some reply other e) reads);
-  kept = λ said. (
-    (λ e. (reply, refl, subst (λ (r : Result Dependency Class). IsFileReading sums name reply r) (same_Some reading said e) reads)),
-    (λ says. ap Some (one_reading sums name reply reading said reads
-        (subst (λ (r : Reply). IsFileReading sums name r said) (sym (same_Some reply says.0 says.1)) says.2))),
-  );
-}
-
 answer_along : (sums : Option Sums) (name : Name) (a b : Option Reply) (h k : Option (Result Dependency Class)) → a ≡ b → h ≡ k → IsAnswerOf sums name b k → IsAnswerOf sums name a h
 answer_along sums name a b h k e f is = subst (λ (x : Option Reply). IsAnswerOf sums name x h) (sym e) (subst (λ (y : Option (Result Dependency Class)). IsAnswerOf sums name b y) (sym f) is)
 
@@ -88,10 +68,6 @@ answer_with false old pairs held name reply reading other is knows fresh reads e
     answer_along (sums_in old) other (answer_in (pairs ++ (name, reply) ∷ []) other) (answer_in pairs other) held (held_of old other)
     (answer_elsewhere pairs name other reply (sym is)) e (known_of old pairs knows other)
 
-map_cond : {A B : Type 0} (f : A → B) (b : Bool) (v : A) (r : Option A) → option_map f (cond b (Some v) r) ≡ cond b (Some (f v)) (option_map f r)
-map_cond f true v r = refl
-map_cond f false v r = refl
-
 -- ---- a cache with one more file
 
 held_with : (old new : Cache) (name : Name) (one : Kept) → new.modules ≡ old.modules → PutsFile (modules_in old) old.files new.files name one
@@ -101,11 +77,6 @@ held_with old new name one modules keeps other =
     ∙ ap (option_map (summary_reading (modules_of old.modules))) (keeps other)
     ∙ map_cond (summary_reading (modules_of old.modules)) (same_name other name) one (summary_at old other)
 
-kept_with : (b : Bool) (main : Main) (modules : List ModuleVersion) (o : Option Kept) (one some : Kept) → ((any : Kept) → o ≡ Some any → IsKept main modules any) → IsKept main modules one
-    → cond b (Some one) o ≡ Some some → IsKept main modules some
-kept_with true main modules o one some were is e = let same : one ≡ some = cc in subst (λ (x : Kept). IsKept main modules x) same is
-kept_with false main modules o one some were is e = were some e
-
 -- The cache knows the pairs and one more.
 pub knows_more : (old new : Cache) (pairs : List (Name × Reply)) (name : Name) (reply : Reply) (one : Kept)
     → Knows old pairs → answer_in pairs name ≡ None → new.main.now ≡ old.main.now → sums_in new ≡ sums_in old → new.modules ≡ old.modules
@@ -113,21 +84,18 @@ pub knows_more : (old new : Cache) (pairs : List (Name × Reply)) (name : Name) 
     → Knows new (pairs ++ (name, reply) ∷ [])
 knows_more old new pairs name reply one knows none same_main same_sums modules keeps reads is =
     let all : List (Name × Reply) = pairs ++ (name, reply) ∷ [] in
-    let run : run_in new all ≡ run_in old all = same_run old new all same_main same_sums in
     let answers : (other : Name) → IsAnswerOf (sums_in old) other (answer_in all other) (held_of new other) =
     λ other. answer_with (same_name other name) old pairs (held_of new other) name reply (summary_reading (modules_of old.modules) one) other refl knows none reads
     (held_with old new name one modules keeps other) in
-    record {
-      read = subst (λ (r : Run). IsRead r) (sym run) (λ other. (answers other).read);
-      kept = λ other said. (
-        (λ e. subst (λ (r : Run). AnswerSays r other said) (sym run) (((answers other).kept said).0 e)),
-        (λ says. ((answers other).kept said).1 (subst (λ (r : Run). AnswerSays r other said) run says)),
-      );
-      lends = λ other some e. subst (λ (m : Main). IsKept m (modules_of new.modules) some) (ap main_of (sym same_main))
-          (subst (λ (list : NumberedList). IsKept (main_in old) (modules_of list) some) (sym modules)
+    let holds : HoldsAnswers (run_in old all) new.modules new.files = record {
+      kept = λ other. (answers other).kept;
+      only = λ other. (answers other).only;
+      lends = λ other some e.
+          subst (λ (list : NumberedList). IsKept (main_in old) (modules_of list) some) (sym modules)
           (kept_with (same_name other name) (main_in old) (modules_of old.modules) (summary_at old other) one some (λ any f. knows.lends other any f) is
-          (sym (ap (λ (list : NumberedList). kept_at list.modules new.files other) modules ∙ keeps other) ∙ e)));
-    }
+          (sym (ap (λ (list : NumberedList). kept_at list.modules new.files other) modules ∙ keeps other) ∙ e));
+    } in
+    subst (λ (r : Run). HoldsAnswers r new.modules new.files) (sym (same_run old new all same_main same_sums)) holds
 
 -- A cache that adds what was read of one more file knows all answers.
 pub knows_read : (old mid new : Cache) (pairs all : List (Name × Reply)) (name : Name) (reply : Reply) (one : Kept)

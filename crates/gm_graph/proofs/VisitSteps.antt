@@ -17,6 +17,7 @@ use Rattle.gm_graph.specs.Run.{Run}
 use Rattle.gm_graph.specs.Turns.{OverflowsWith}
 use Rattle.gm_graph.specs.Visiting.{IsVisited, OverflowsAt}
 use Rattle.gm_graph.proofs.Growing.{built_over, number_stays, turns_over}
+use Rattle.gm_graph.proofs.Holding.{answers_read}
 use Rattle.gm_graph.proofs.Stepping.{by_run}
 
 pub on_ok_given : {T E P : Type 0} (r : Result T E) → P → OnOk r P
@@ -57,7 +58,7 @@ module _ (old new : Cache) (builder : GraphBuilder) (one : NumberedTurn) (contin
       ap (λ (ms : List ModuleVersion). turns_of ms builder) has.visit_is.2
       ∙ turns_over (modules_in old) (modules_in new) builder is continues.numbered in
       let holds : OverflowsAt run turns x one.depth = (
-        has.knows.read,
+        answers_read new pairs has.knows,
         (
           says.file,
           says.says,

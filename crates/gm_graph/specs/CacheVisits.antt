@@ -13,7 +13,6 @@ use Rattle.gm_store.specs.States.{StoreState}
 use Rattle.gm_store.specs.declared.files.AskFault.{AskFault}
 use Rattle.gm_store.specs.declared.files.AskFault.TheVariants.{Device}
 use Rattle.gm_graph.specs.declared.cache.Cache.{Cache}
-use Rattle.gm_graph.specs.declared.cache.class.Class.{Class}
 use Rattle.gm_graph.specs.declared.cache.depth.Depth.{Depth}
 use Rattle.gm_graph.specs.declared.cache.visit.Required.{Required}
 use Rattle.gm_graph.specs.declared.cache.visit.Visit.{Visit}
@@ -22,16 +21,11 @@ use Rattle.gm_graph.specs.Asking.{FailsFor}
 use Rattle.gm_graph.specs.Cached.{IsSound, KeepsSound, Knows, file_count, main_in, modules_in, module_numbered, run_in, sums_in, turns_in}
 use Rattle.gm_graph.specs.Lent.{lent_modules, lent_table}
 use Rattle.gm_graph.specs.Reading.{leads_on}
-use Rattle.gm_graph.specs.Run.{Run, Says}
+use Rattle.gm_graph.specs.Run.{KeepsSayings, Run, Says}
 use Rattle.gm_graph.specs.contracts.cache.Cache.{the_row}
 use Rattle.gm_graph.specs.Turns.{turn}
 
 -- ---- what stays
-
--- Whatever a module's file says by the first run, it says by the second.
-abbrev pub KeepsSayings : Run → Run → Type 0
-KeepsSayings earlier later = (x : ModuleVersion) (said : Result Dependency Class) → Says earlier x said
-    → Says later x said
 
 -- The main file and the go.sum are the same, and each module has the number that it had.
 pub record Continues (old new : Cache) : Type 0 where

@@ -1,10 +1,10 @@
 -- What a cache holds, what it finds of a vertex, and which requirements it returns.
-use Rattle.std.specs.Prelude.{◌≡◌, ◌↔◌, ◌<◌, ℕ, true, false, List, [], ◌∷◌, ◌++◌, Option, Some, None, MatchResult, Result, Ok, Err, length, slice_get}
-use Rattle.std.specs.Option.{option_copied, option_map}
+use Rattle.std.specs.Prelude.{◌≡◌, ◌<◌, ℕ, true, false, List, [], ◌∷◌, ◌++◌, Option, Some, None, MatchResult, Result, Ok, Err, length, slice_get}
+use Rattle.std.specs.Option.{option_copied}
 use Rattle.std.specs.Borrow.{Fml, MutBor}
 use Rattle.std.specs.Io.BufRead.{Rests}
 use Rattle.gm_name.specs.ModuleVersion.{ModuleVersion, module_at}
-use Rattle.gm_name_table.specs.Listed.{BeginsWith, modules_of}
+use Rattle.gm_name_table.specs.Listed.{BeginsWith}
 use Rattle.gm_file.specs.Fields.{Dependency}
 use Rattle.gm_store.specs.Asked.{Name, Reply, name_of}
 use Rattle.gm_store_sums.specs.Sums.{Sums}
@@ -16,9 +16,9 @@ use Rattle.gm_graph.specs.declared.cache.summary.Kept.{Kept}
 use Rattle.gm_graph.specs.declared.cache.Cache.{Cache}
 use Rattle.gm_file.specs.Main.{Main, main_of, without_excluded}
 use Rattle.gm_graph.specs.FileTable.{kept_at}
-use Rattle.gm_graph.specs.Summaries.{IsKept, summary_reading}
-use Rattle.gm_graph.specs.Reading.{IsFileReading, file_of, is_askable}
-use Rattle.gm_graph.specs.Run.{IsRead, Run, Says, run_of}
+use Rattle.gm_graph.specs.Held.{AreKept, HoldsAnswers, held_under}
+use Rattle.gm_graph.specs.Reading.{file_of, is_askable}
+use Rattle.gm_graph.specs.Run.{Run, Says, run_of}
 use mir.Syntax.{named}
 use Rattle.gm_graph.specs.contracts.cache.Cache.{the_row}
 
@@ -55,7 +55,7 @@ kept_file cache place = slice_get cache.files.files.items place
 
 -- what is held of the file of a name: its contents or its fault
 abbrev pub held_of : Cache → Name → Option (Result Dependency Class)
-held_of cache name = option_map (summary_reading (modules_of cache.modules)) (summary_at cache name)
+held_of cache name = held_under cache.modules cache.files name
 
 -- The run of a cache whose store gave these answers.
 abbrev pub run_in : Cache → List (Name × Reply) → Run
@@ -63,19 +63,11 @@ run_in cache pairs = run_of (main_in cache) (sums_in cache) pairs
 
 -- Each summary has the requirements of its file, without the excluded ones, and the list of modules has both.
 abbrev pub LendsKept : Cache → Type 0
-LendsKept cache = (name : Name) (one : Kept) → summary_at cache name ≡ Some one
-    → IsKept (main_in cache) (modules_of cache.modules) one
-
--- The answer to a name says this.
-abbrev pub AnswerSays : Run → Name → Result Dependency Class → Type 0
-AnswerSays run name said = (reply : Reply) × (run.answers name ≡ Some reply) × IsFileReading run.sums name reply said
+LendsKept cache = AreKept (main_in cache) cache.modules cache.files
 
 -- The cache holds what these answers say, and nothing else.
-pub record Knows (cache : Cache) (pairs : List (Name × Reply)) : Type 0 where
-  pub read : IsRead (run_in cache pairs)
-  pub kept : (name : Name) (said : Result Dependency Class)
-      → (held_of cache name ≡ Some said) ↔ AnswerSays (run_in cache pairs) name said
-  pub lends : LendsKept cache
+abbrev pub Knows : Cache → List (Name × Reply) → Type 0
+Knows cache pairs = HoldsAnswers (run_in cache pairs) cache.modules cache.files
 
 -- ---- what is found of a vertex
 

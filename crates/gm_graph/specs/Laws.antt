@@ -12,7 +12,7 @@ use Rattle.gm_file.specs.Main.{Main, is_pruned_by}
 use Rattle.gm_graph.specs.Reading.{IsFileReading}
 use Rattle.gm_graph_select.specs.declared.step.Step.{Step}
 use Rattle.gm_graph_select.specs.declared.step.Step.TheVariants.{Of}
-use Rattle.gm_graph.specs.Run.{IsEdge, IsOpened, IsRead, IsTop, IsVertex, Requires, Run, Says, run_of}
+use Rattle.gm_graph.specs.Run.{IsEdge, IsOpened, IsRead, IsTop, IsVertex, KeepsSayings, Requires, Run, Says, run_of}
 use Rattle.gm_graph.specs.Outcome.{IsLoaded, LoadedGraph}
 
 -- ---- what replies say
@@ -29,9 +29,8 @@ ModulesSayOneThing = (run : Run) (x : ModuleVersion) (a b : Result Dependency Cl
 
 -- Whatever a module's file says, it still says when more was asked for.
 abbrev pub EarlierSayingsStay : Type 0
-EarlierSayingsStay = (main : Main) (sums : Option Sums) (pairs more : List (Name × Reply)) (x : ModuleVersion)
-    (said : Result Dependency Class)
-    → Says (run_of main sums pairs) x said → Says (run_of main sums (pairs ++ more)) x said
+EarlierSayingsStay = (main : Main) (sums : Option Sums) (pairs more : List (Name × Reply))
+    → KeepsSayings (run_of main sums pairs) (run_of main sums (pairs ++ more))
 
 -- If all answers say something, so do the first of them.
 abbrev pub FirstAnswersSaySomething : Type 0

@@ -17,6 +17,7 @@ pub mod Asking
 pub mod Summaries
 pub mod Lent
 pub mod Cached
+pub mod Held
 pub mod Refusals
 pub mod ClassWords
 pub mod FileTable

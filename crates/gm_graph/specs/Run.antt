@@ -158,3 +158,10 @@ pub record IsSettled (run : Run) (asked : List Name) : Type 0 where
   pub once : IsDistinct same_name asked
   pub needed : (name : Name) → Contains asked name ↔ IsNeeded run name
   pub few : (xs : List ModuleVersion) → AreOpened run xs → length xs ≤ 65536
+
+-- ---- what stays
+
+-- Whatever a module's file says by the first run, it says by the second.
+abbrev pub KeepsSayings : Run → Run → Type 0
+KeepsSayings earlier later = (x : ModuleVersion) (said : Result Dependency Class) → Says earlier x said
+    → Says later x said

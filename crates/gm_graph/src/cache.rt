@@ -38,6 +38,7 @@ ghost use Rattle.gm_graph.specs.Asking.{AsksAtMost, AsksFor, FailsFor};
 ghost use Rattle.gm_graph.specs.Reading.{IsFileReading, file_of, is_askable as may_be_asked, leads_on};
 ghost use Rattle.gm_graph.specs.Refusals.{IsLoadFaultOf};
 ghost use Rattle.gm_graph.specs.FileTable.{PutsFile, HasReplacing};
+ghost use Rattle.gm_graph.specs.Held.{HoldsSome};
 ghost use Rattle.gm_graph.specs.Lent.{lent_modules};
 ghost use Rattle.gm_graph.specs.Summaries.{Grows, IsKept, IsWithinList, at_span, summary_reading};
 ghost use Rattle.gm_graph.specs.Turns.{turn};
@@ -87,6 +88,7 @@ pub struct Cache<'a> {
         ≡ without_excluded (main_of main.now) (main_of main.now).requirements },
     ghost own_within: { length files.own.items ≤ length modules.modules },
     ghost has_replacing: { HasReplacing (main_of main.now) files },
+    ghost holds_some: { ∥ HoldsSome (main_of main.now) (option_copied sums) modules files ∥₁ },
 }
 
 /// A table of names without a limit, which knows the paths that the main file requires.
@@ -172,7 +174,8 @@ impl<'a> Cache<'a> {
     ghost use Rattle.gm_graph.specs.Cached.{HasFileAt, HoldsSame, IsPlaceFor, KeepsSound, Knows, LendsKept, LentSame, file_count, main_in, modules_in, module_numbered, run_in, sums_in, turns_in};
     ghost use Rattle.gm_graph.specs.Lent.{lent_table};
     ghost use Rattle.gm_graph.specs.declared.cache.Cache.{Cache};
-    ghost use Rattle.gm_graph.specs.CacheVisits.{Continues, IsVisit, KeepsSayings, LendsOver, Visits};
+    ghost use Rattle.gm_graph.specs.CacheVisits.{Continues, IsVisit, LendsOver, Visits};
+    ghost use Rattle.gm_graph.specs.Run.{KeepsSayings};
 
     /// A cache for a main file, without files. If there is a go.sum, the files that come from proxies are checked
     /// against it. The only refusal is `NoMemory`.
@@ -246,6 +249,9 @@ impl<'a> Cache<'a> {
         requires file { name_of name.now ≡ file_of (main_in self.old) (module_numbered self.old number) }
         requires askable { may_be_asked (name_of name.now) ≡ true }
         requires few { file_count self.old < 4294967295 }
+        requires reading { (reply : Reply) × IsFileReading (sums_in self.old) (name_of name.now) reply
+            (summary_reading (modules_of self.old.modules) kept) }
+        requires kept { IsKept (main_in self.old) (modules_of self.old.modules) kept }
         ensures count { file_count self.new ≤ file_count self.old + 1 }
         ensures adds { OnOk result
             (PutsFile (modules_in self.old) self.old.files self.new.files (name_of name.now) kept) }

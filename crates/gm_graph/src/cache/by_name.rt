@@ -50,7 +50,7 @@ impl<'a> Cache<'a> {
     ghost use Rattle.std.specs.Borrow.{sem};
     ghost use Rattle.std.specs.Prelude.{IfSome};
     ghost use Rattle.gm_graph.specs.Cached.{AreRequirements, HoldsSame, IsKnownAs, IsLender, IsPlaceFor, Knows, KnowsLender, LendsKept, LendsNamed, LentSame, file_count, main_in, modules_in, module_numbered, run_in};
-    ghost use Rattle.gm_graph.specs.CacheVisits.{KeepsSayings};
+    ghost use Rattle.gm_graph.specs.Run.{KeepsSayings};
 
     /// The number of a module, which gets one if it has none. The only refusal is `NoMemory`.
     fn number(&mut self, x: &ModVer) -> Result<u32, NoMemory>

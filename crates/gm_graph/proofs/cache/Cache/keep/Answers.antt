@@ -1,7 +1,8 @@
 use Rattle.std.proofs.Common.{length, refl}
 use Rattle.gm_store.specs.Asked.{name_of}
-use Rattle.gm_graph.specs.Cached.{main_in, modules_in, module_numbered}
+use Rattle.gm_graph.specs.Cached.{main_in, modules_in, module_numbered, sums_in}
 use Rattle.gm_graph.proofs.OwnFiles.{added_there, has_file, if_ok_both, is_file_of, on_err_weaker}
+use Rattle.gm_graph.proofs.HeldFiles.{added_some}
 use Rattle.gm_graph.proofs.Keeping.{holds_listed}
 use Rattle.gm_graph.proofs.cache.Cache.keep.Goals as goal
 
@@ -11,6 +12,14 @@ invariant_of-self-clause-own_within c =
 
 pub invariant_of-self-clause-has_replacing : goal.invariant_of-self-clause-has_replacing
 invariant_of-self-clause-has_replacing c = c.add.ensures.replacing (main_in c.args.self.now) c.args.self.now.has_replacing
+
+pub invariant_of-self-clause-holds_some : goal.invariant_of-self-clause-holds_some
+invariant_of-self-clause-holds_some c =
+    let cache = c.args.self.now in
+    let name = name_of c.args.name.now in
+    added_some (main_in cache) (sums_in cache) cache.modules cache.files c.add.new.self c.add.result name c.args.kept c.requires.reading c.requires.kept
+    (c.add.ensures.adds (modules_in cache) (is_file_of cache c.args.number name c.module.ensures.distinct c.requires.vertex c.requires.file))
+    (c.add.ensures.err (modules_in cache)) cache.holds_some
 
 pub returns-clause-err : goal.returns-clause-err
 returns-clause-err c =

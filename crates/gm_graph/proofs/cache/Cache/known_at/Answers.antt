@@ -1,9 +1,13 @@
-use Rattle.std.proofs.Common.{◌≡◌, ◌∙◌, Err, sym, ap, append-nil, refl, subst}
+use Rattle.std.proofs.Common.{◌≡◌, ◌∙◌, Err, Option, sym, ap, append-nil, refl, subst}
 use Rattle.gm_name.specs.ModuleVersion.{ModuleVersion}
+use Rattle.gm_name_table.specs.Listed.{modules_of}
+use Rattle.gm_file.specs.Main.{Main, main_of}
 use Rattle.gm_store.specs.Asked.{name_of}
+use Rattle.gm_store_sums.specs.Sums.{Sums}
+use Rattle.gm_graph.specs.Summaries.{IsKept, summary_reading}
 use Rattle.gm_store.specs.declared.files.AskFault.TheVariants as ask
 use Rattle.gm_graph.specs.Cached.{HasFileAt, main_in, modules_in, module_numbered, summary_at}
-use Rattle.gm_graph.specs.Reading.{file_of, is_askable}
+use Rattle.gm_graph.specs.Reading.{IsFileReading, file_of, is_askable}
 use Rattle.gm_graph.proofs.AskedFile.{asks_file}
 use Rattle.gm_graph.proofs.Growing.{number_stays}
 use Rattle.gm_graph.proofs.Keeping.{any_err, holds_after, holds_failed, holds_itself, lent_after, none_refused_for}
@@ -31,6 +35,19 @@ pub returns-in_err-keep-in-Ok-clause-asks : goal.returns-in_err-keep-in-Ok-claus
 returns-in_err-keep-in-Ok-clause-asks g c =
     asks_file (main_in c.args.self.now) (g.F.Asks.state c.args.files.now) (g.F.Asks.state c.read_file.new.files) (module_numbered c.args.self.now c.args.number) (name_of c.in_ok-name.name)
     (c.in_ok-name.ensures ∙ ap (file_of (main_in c.args.self.now)) c.module.ensures.module) (sym c.is_askable.ensures ∙ c.if-not-is_askable.false) c.read_file.ensures.asks
+
+pub keep-requires-clause-reading : goal.keep-requires-clause-reading
+keep-requires-clause-reading g c =
+    let read = c.in-Ok.ensures.reading in
+    let mid = c.read_file.new.self in (
+      read.0,
+      subst (λ (s : Option Sums). IsFileReading s (name_of c.in_ok-name.name) read.0 (summary_reading (modules_of mid.modules) c.in-Ok.kept)) (sym c.read_file.ensures.lent.sums) read.2,
+    )
+
+pub keep-requires-clause-kept : goal.keep-requires-clause-kept
+keep-requires-clause-kept g c =
+    let mid = c.read_file.new.self in
+    subst (λ (m : Main). IsKept m (modules_of mid.modules) c.in-Ok.kept) (sym (ap main_of c.read_file.ensures.lent.main)) c.in-Ok.ensures.kept
 
 -- ---- memory ran out before anything was asked for
 

@@ -1,6 +1,8 @@
 use Rattle.std.proofs.Common.{inr, refl}
 use Rattle.gm_store.specs.Asked.{name_of}
 use Rattle.gm_store.proofs.Serving.{request_served}
+use Rattle.gm_graph.specs.Cached.{main_in, sums_in}
+use Rattle.gm_graph.proofs.HeldFiles.{grown_some}
 use Rattle.gm_graph.proofs.Keeping.{holds_grown, holds_itself}
 use Rattle.gm_graph.proofs.cache.Cache.read_file.Goals as goal
 
@@ -18,6 +20,11 @@ returns-in_err-kept-clause-asks g c = let (reply, _, _, adds) = c.in_ok-ask.ensu
 
 pub returns-clause-asks : goal.returns-clause-asks
 returns-clause-asks g c = let (reply, _, _, adds) = c.in_ok-ask.ensures.answered in inr (reply, c.requires.fresh, adds)
+
+pub invariant_of-self-clause-holds_some : goal.invariant_of-self-clause-holds_some
+invariant_of-self-clause-holds_some g c =
+    let cache = c.args.self.now in
+    grown_some (main_in cache) cache.modules c.summarize.new.modules cache.files cache.own_within c.summarize.ensures.grows (sums_in cache) cache.holds_some
 
 pub returns-in_err-ask-clause-holds : goal.returns-in_err-ask-clause-holds
 returns-in_err-ask-clause-holds g c = holds_itself c.args.self.now

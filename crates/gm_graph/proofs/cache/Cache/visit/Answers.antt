@@ -3,7 +3,7 @@ use Rattle.gm_name.specs.ModuleVersion.{ModuleVersion}
 use Rattle.gm_graph.specs.Cached.{module_numbered}
 use Rattle.gm_graph.specs.Turns.{turn}
 use Rattle.gm_graph.proofs.Caching.{has_visited, known_both}
-use Rattle.gm_graph.proofs.Keeping.{holds_listed, knows_still, says_still}
+use Rattle.gm_graph.proofs.Keeping.{holds_listed, says_still}
 use Rattle.gm_graph.proofs.cache.Cache.visit.Goals as goal
 
 pub returns : goal.returns
@@ -23,8 +23,7 @@ returns g c =
             c.in_ok-place.ensures.knows stays c.in_ok-place.ensures.sound known.count refl
             (subst (λ (x : ModuleVersion). c.push_turn.new.turns.items ≡ mid.turns.items ++ turn x c.args.depth ∷ []) c.module.ensures.module c.in_ok-push_turn.ensures.ok)
             c.said.ensures.distinct
-            (c.said.ensures.visit after.asked
-            (knows_still mid _ after.asked (holds_listed mid _ refl refl (λ _. refl) ([], sym (append-nil mid.files.files.items)) refl) c.in_ok-place.ensures.knows)),
+            (c.said.ensures.visit after.asked c.in_ok-place.ensures.knows),
       ),
       record {
         lends = known_both old mid _ known.lent known.numbered
