@@ -1,8 +1,10 @@
 -- Lists of modules with one more.
-use Rattle.std.proofs.Common.{◌≡◌, ◌∙◌, ◌||◌, ℕ, zero, suc, Bool, true, false, List, [], ◌∷◌, ◌++◌, Some, length, ap, refl, sym, inl, inr}
-use Rattle.std.specs.Prelude.{◌⊎◌, slice_get}
+use Rattle.std.proofs.Common.{◌≡◌, ◌∙◌, ◌<◌, ◌||◌, ℕ, zero, suc, Bool, true, false, List, [], ◌∷◌, ◌++◌, Option, None, Some, length, ap, ap₂, arith, refl, sym, subst, inl, inr}
+use Rattle.std.specs.Prelude.{◌⊎◌, ◌↔◌, IfSome, slice_get}
 use Rattle.std.specs.List.{IsDistinct, list_any}
-use Rattle.std.proofs.lemmas.Map.Keys.{IsDistinct-push}
+use Rattle.std.proofs.lemmas.Bool.{false≢true}
+use Rattle.std.proofs.lemmas.Map.Keys.{IsDistinct-push, apart_from_distinct}
+use Rattle.std.proofs.lemmas.Option.{get_or_from_slice_get, slice_get_within}
 use Rattle.gm_name.specs.ModuleVersion.{ModuleVersion, pair_eq, pair_eq-Decides, pairs-equivalence}
 use Rattle.gm_name_table.specs.Lists.{IsAbsent}
 
@@ -44,3 +46,29 @@ pub still-distinct : (pairs : List ModuleVersion) (pair : ModuleVersion) → IsD
     → IsDistinct pair_eq (pairs ++ pair ∷ [])
 still-distinct pairs pair distinct absent =
     IsDistinct-push pairs-equivalence pairs pair distinct (none-equal pairs pair absent)
+
+-- ---- where a module stands in a list without duplicates
+
+one-there : (pairs : List ModuleVersion) (i j : ℕ) (pair : ModuleVersion) → IsDistinct pair_eq pairs → slice_get pairs i ≡ Some pair
+    → slice_get pairs j ≡ Some pair → i < j → ⊥
+one-there pairs i j pair distinct first second below =
+    let apart = apart_from_distinct pair_eq pairs i j ([], []) distinct below (slice_get_within pairs j pair second) in
+    let same = ap₂ pair_eq (get_or_from_slice_get pairs i pair ([], []) first) (get_or_from_slice_get pairs j pair ([], []) second) in
+    false≢true (sym apart ∙ same ∙ (pair_eq-Decides pair pair).1 refl)
+
+pub one-place : (pairs : List ModuleVersion) (i j : ℕ) (pair : ModuleVersion) → IsDistinct pair_eq pairs → slice_get pairs i ≡ Some pair
+    → slice_get pairs j ≡ Some pair → i ≡ j
+one-place pairs i j pair distinct first second =
+    let not_before : i < j → ⊥ = one-there pairs i j pair distinct first second in
+    let not_after : j < i → ⊥ = one-there pairs j i pair distinct second first in
+    omega (arith, not_before, not_after)
+
+-- What a look-up finds is where the module stands, and there is nothing else to find.
+pub found-exactly : (pairs : List ModuleVersion) (pair : ModuleVersion) (found : Option ℕ) → IsDistinct pair_eq pairs
+    → IfSome found (λ number. slice_get pairs number ≡ Some pair) → (found ≡ None → IsAbsent pairs pair)
+    → (number : ℕ) → (found ≡ Some number) ↔ (slice_get pairs number ≡ Some pair)
+found-exactly pairs pair None distinct some none number = ((λ e. absurd (cc e)), (λ there. absurd (none refl number there)))
+found-exactly pairs pair (Some place) distinct some none number = (
+  (λ e. let same : place ≡ number = cc e in subst (λ n. slice_get pairs n ≡ Some pair) same some),
+  (λ there. ap Some (one-place pairs place number pair distinct some there)),
+)

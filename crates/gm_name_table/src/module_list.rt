@@ -1,6 +1,6 @@
 //! A list of modules, of which many come more than once, by their numbers.
 
-ghost use Rattle.std.specs.Prelude.{◌≡◌, ◌≤◌, ◌<◌, ◌∷◌, [], false, true, IfOk, Ok, OnErr, OnOk, length, take};
+ghost use Rattle.std.specs.Prelude.{ℕ, ◌≡◌, ◌≤◌, ◌<◌, ◌↔◌, ◌∷◌, [], false, true, IfOk, Ok, OnErr, OnOk, Some, length, slice_get, take};
 ghost use Rattle.std.specs.Iterator.{YieldsFirstRef, item_count};
 ghost use Rattle.std.specs.List.{IsDistinct};
 ghost use Rattle.gm_name.specs.ModuleVersion.{module_at, pair_eq};
@@ -68,6 +68,27 @@ impl ModuleList {
         ensures distinct { IsDistinct pair_eq self.now.modules }
     {
         self.table.at(number)
+    }
+
+    /// The number of a module: `None` exactly if it has none. Allocates no memory.
+    pub fn find(&self, pair: &ModVer) -> Option<u32>
+        ensures { (number : ℕ) → (result ≡ Some number) ↔ (slice_get self.now.modules number ≡ Some pair.now) }
+    {
+        self.table.find(pair)
+    }
+
+    /// The number of a module, which gets one if it has none. The list stays as it is. The only refusal is `NoMemory`,
+    /// after which the module has no number.
+    pub fn number(&mut self, pair: &ModVer) -> Result<u32, NoMemory>
+        ensures number { IfOk result (λ number. slice_get self.new.modules number ≡ Some pair.now) }
+        ensures found { (number : ℕ) → slice_get self.old.modules number ≡ Some pair.now
+            → (result ≡ Ok number) × (self.new ≡ self.old) }
+        ensures only { IsOneMoreAtMost self.old.modules self.new.modules pair.now }
+        ensures numbers { self.new.numbers ≡ self.old.numbers }
+        ensures list { modules_of self.new ≡ modules_of self.old }
+        ensures err { OnErr result (self.new ≡ self.old) }
+    {
+        self.table.number(pair)
     }
 
     /// Appends the module with these texts if it finds it among those put in before, and returns whether it did. It

@@ -1,6 +1,6 @@
 //! The table of distinct modules, in the order in which each was first put in.
 
-ghost use Rattle.std.specs.Prelude.{◌≡◌, ◌<◌, ◌≤◌, ◌++◌, ◌∷◌, [], IfOk, IfSome, IsTrue, Ok, OnErr, OnOk, Some, length, slice_get};
+ghost use Rattle.std.specs.Prelude.{ℕ, ◌≡◌, ◌<◌, ◌≤◌, ◌++◌, ◌∷◌, ◌↔◌, [], IfOk, IfSome, IsTrue, Ok, OnErr, OnOk, Some, length, slice_get};
 ghost use Rattle.std.specs.List.{IsDistinct};
 ghost use Rattle.gm_name.specs.ModuleVersion.{pair_eq};
 ghost use Rattle.gm_name.specs.Readings.{PairReading};
@@ -88,10 +88,20 @@ impl ModuleTable {
         }
     }
 
+    /// The number of a module: `None` exactly if it isn't in the table. Allocates no memory.
+    pub fn find(&self, pair: &ModVer) -> Option<u32>
+        ensures { (number : ℕ) → (result ≡ Some number) ↔ (slice_get self.now number ≡ Some pair.now) }
+    {
+        let first = self.index.first_with(pair_tag(pair));
+        self.index.find(&self.modules, first, pair)
+    }
+
     /// The number of a module, which is put in at the end if it isn't in the table. Its texts are shared, not copied.
     /// `NoMemory` only if memory runs out or all numbers are given (2^32 - 1 of them); the table is then as it was.
     pub fn number(&mut self, pair: &ModVer) -> Result<u32, NoMemory>
         ensures number { IfOk result (λ number. slice_get self.new number ≡ Some pair.now) }
+        ensures found { (number : ℕ) → slice_get self.old number ≡ Some pair.now
+            → (result ≡ Ok number) × (self.new ≡ self.old) }
         ensures only { IsOneMoreAtMost self.old self.new pair.now }
         ensures err { OnErr result (self.new ≡ self.old) }
     {

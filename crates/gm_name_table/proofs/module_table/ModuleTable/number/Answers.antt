@@ -1,8 +1,8 @@
-use Rattle.std.proofs.Common.{◌≡◌, ◌∙◌, ◌++◌, ◌∷◌, [], ℕ, List, ap, inr, rules, subst, sym}
+use Rattle.std.proofs.Common.{◌≡◌, ◌∙◌, ◌++◌, ◌∷◌, [], ℕ, List, Ok, ap, inr, refl, rules, subst, sym}
 use Rattle.std.specs.Prelude.{slice_get}
 use Rattle.gm_name.specs.ModuleVersion.{ModuleVersion}
 use Rattle.gm_name_table.specs.Index.{IsIndexOf}
-use Rattle.gm_name_table.proofs.Lists.{last}
+use Rattle.gm_name_table.proofs.Lists.{found-exactly, last}
 use Rattle.gm_name_table.proofs.module_table.ModuleTable.number.Goals as goal
 
 -- the modules with the new one at the end
@@ -11,6 +11,15 @@ grown c =
     c.in_ok-push.ensures.items
     ∙ ap (λ (pairs : List ModuleVersion). pairs ++ c.in_ok-copy.copy ∷ []) c.in_ok-reserve.ensures.items
     ∙ ap (λ (pair : ModuleVersion). c.self.inside.modules.items ++ pair ∷ []) c.in_ok-copy.ensures
+
+pub returns-in-Some-clause-found : goal.returns-in-Some-clause-found
+returns-in-Some-clause-found c = λ number there.
+    let pairs = c.self.inside.modules.items in
+    let pair = c.args.pair.now in
+    let found = (found-exactly pairs pair c.find.result c.self.invariant.0.distinct (rw c.deref.ensures.value at c.find.ensures.some)
+    (rw c.deref.ensures.value at c.find.ensures.none) number).1
+    (ap (λ (ps : List ModuleVersion). slice_get ps number) c.self.view_is ∙ there) in
+    let same : c.in-Some.number ≡ number = cc (sym c.in-Some.is ∙ found) in (ap Ok same, refl)
 
 pub returns-clause-number : goal.returns-clause-number
 returns-clause-number c =
