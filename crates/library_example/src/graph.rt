@@ -39,11 +39,10 @@ fn ends(alloc: Global, main: &MainFile<'_>) -> anyhow::Result<Vec<ModVer>>
 /// Prints a selected module, and what replaces it, if anything does.
 fn print_selected(rt: &impl Print, main: &MainFile<'_>, module: &ModVer) -> io::Result<()> {
     match main.replacement(module) {
-        None => println!(rt; "{module}")?,
-        Some(Right::Folder(folder)) => println!(rt; "{module} => {folder}")?,
-        Some(Right::Module(path, version)) => println!(rt; "{module} => {path}@{version}")?,
+        None => println!(rt; "{module}"),
+        Some(Right::Folder(folder)) => println!(rt; "{module} => {folder}"),
+        Some(Right::Module(path, version)) => println!(rt; "{module} => {path}@{version}"),
     }
-    Ok(())
 }
 
 /// Prints the main module, then the selected modules, each with what replaces it.

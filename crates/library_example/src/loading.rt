@@ -30,10 +30,9 @@ fn graph(rt: HostRuntime, main: &MainFile<'_>, proxies: &str) -> anyhow::Result<
 /// Prints a step: the main module's path, or a path and a version.
 fn print_step(rt: &impl Print, main: &MainFile<'_>, step: &Step) -> io::Result<()> {
     match step {
-        Step::Main => println!(rt; "{}", main.module())?,
-        Step::Of(vertex) => println!(rt; "{vertex}")?,
+        Step::Main => println!(rt; "{}", main.module()),
+        Step::Of(vertex) => println!(rt; "{vertex}"),
     }
-    Ok(())
 }
 
 /// Prints the rows of a build list.
