@@ -6,7 +6,7 @@ ghost use Rattle.gomod_words.specs.Usage.{ShowsLine, is_line_or_memory, usage_of
 
 use crate::dashed::{begins_with_dash, edit_words, free_word, without_dashes};
 use crate::help::{TRY_HELP, usage_of};
-use crate::typed::{push_all_typed, push_typed};
+use crate::typed::followed;
 use crate::usage::{UsageFault, is_command, line};
 use clap::error::ErrorKind;
 use gm_name::{ModPath, ModVersion, PathFault, VersionFault, fits};
@@ -112,16 +112,12 @@ fn similar_in(tips: &str) -> Option<&str> {
 
 /// What to type instead of these words. An option with a similar name is what was meant.
 fn tip_for(alloc: Global, kind: ErrorKind, refusal: Refusal<'_>, words: &[&str]) -> Tip {
-    let similar = copied(alloc, refusal.similar)?;
-    if !leads_on(kind, refusal.message)
-        || (matches!(kind, ErrorKind::UnknownArgument) && similar.is_some())
-    {
-        return Ok(similar);
+    if leads_on(kind, refusal) {
+        if let Some(tip) = tip_by_words(alloc, words)? {
+            return Ok(Some(tip));
+        }
     }
-    match tip_by_words(alloc, words)? {
-        Some(tip) => Ok(Some(tip)),
-        None => Ok(similar),
-    }
+    copied(alloc, refusal.similar)
 }
 
 /// The text, if there is one.
@@ -134,63 +130,50 @@ fn copied(alloc: Global, text: Option<&str>) -> Tip {
 
 /// Whether words that are refused with an error of this kind can be put right by what else they say. An option that
 /// lacks its value cannot, but for `--proxy`.
-fn leads_on(kind: ErrorKind, message: &str) -> bool {
+fn leads_on(kind: ErrorKind, refusal: Refusal<'_>) -> bool {
     match kind {
-        ErrorKind::UnknownArgument => true,
+        ErrorKind::UnknownArgument => refusal.similar.is_none(),
+        ErrorKind::InvalidValue => refusal.message.contains("'--proxy <DIR>'"),
         ErrorKind::InvalidSubcommand => true,
         ErrorKind::MissingRequiredArgument => true,
         ErrorKind::TooManyValues => true,
-        ErrorKind::InvalidValue => message.contains("'--proxy <DIR>'"),
         _ => false,
     }
 }
 
 /// What to type instead of these words. `mod` in front of a command, as in `go mod graph`, goes.
 fn tip_by_words(alloc: Global, words: &[&str]) -> Tip {
-    let [_, rest @ ..] = words else {
-        return Ok(None);
-    };
-    match rest {
-        ["mod", name, rest @ ..] => tip_of(alloc, *name, rest),
-        [name, rest @ ..] => tip_of(alloc, *name, rest),
+    match words {
+        [_, "mod", rest @ ..] => tip_of(alloc, rest),
+        [_, rest @ ..] => tip_of(alloc, rest),
         _ => Ok(None),
     }
 }
 
-/// What to type instead of a command, or of what was taken for one, with these words after it.
-fn tip_of(alloc: Global, name: &str, rest: &[&str]) -> Tip {
-    match name {
+/// What to type instead of these words, which begin with a command or with what was taken for one.
+fn tip_of(alloc: Global, words: &[&str]) -> Tip {
+    let [name, rest @ ..] = words else {
+        return Ok(None);
+    };
+    match *name {
         "edit" => edit_tip(alloc, rest),
         "fmt" => fmt_tip(alloc, rest),
         "graph" => query_tip(alloc, "graph", rest),
-        "list" => listing_tip(alloc, rest),
-        "-m" => listing_tip(alloc, rest),
+        "list" | "-m" => query_tip(alloc, listing(rest), rest),
         "versions" => query_tip(alloc, "versions", rest),
-        "chain" => query_tip(alloc, "chain", rest),
-        "why" => query_tip(alloc, "chain", rest),
+        "chain" | "why" => query_tip(alloc, "chain", rest),
         "get" => get_tip(alloc, rest),
-        _ => other_tip(alloc, name, rest),
+        _ => other_tip(alloc, *name, words),
     }
 }
 
-/// What to type instead of a word that is no command of ours.
-fn other_tip(alloc: Global, name: &str, rest: &[&str]) -> Tip {
+/// What to type instead of these words, which begin with this one. It is no command of ours.
+fn other_tip(alloc: Global, name: &str, words: &[&str]) -> Tip {
     match name {
-        "tidy" => go_tip(alloc, "go mod tidy", rest),
-        "download" => go_tip(alloc, "go mod download", rest),
-        "init" => go_tip(alloc, "go mod init", rest),
-        "vendor" => go_tip(alloc, "go mod vendor", rest),
-        "verify" => go_tip(alloc, "go mod verify", rest),
-        "version" => version_tip(alloc),
-        "-version" => version_tip(alloc),
-        "-v" => version_tip(alloc),
+        "tidy" | "download" | "init" | "vendor" | "verify" => go_tip(alloc, "go mod", words),
+        "version" | "-version" | "-v" => copied(alloc, Some("gomod --version")),
         _ => file_tip(alloc, name),
     }
-}
-
-/// The version is an option.
-fn version_tip(alloc: Global) -> Tip {
-    copied(alloc, Some("gomod --version"))
 }
 
 /// A go.mod file alone can be formatted.
@@ -203,62 +186,79 @@ fn file_tip(alloc: Global, name: &str) -> Tip {
 }
 
 /// A command of go with these words.
-fn go_tip(alloc: Global, command: &str, rest: &[&str]) -> Tip {
-    let mut tip = String::from_str(alloc, command)?;
-    push_all_typed(&mut tip, rest)?;
-    tip.push_str(ABOUT_GO)?;
+fn go_tip(alloc: Global, command: &str, words: &[&str]) -> Tip {
+    ended(followed(alloc, command, words)?, ABOUT_GO)
+}
+
+/// The tip with this text and this end.
+fn ended(mut tip: String, end: &str) -> Tip {
+    tip.push_str(end)?;
     Ok(Some(tip))
 }
 
-/// The command line with these words, the first of which is `gomod`, if it asks for a command.
-fn command_tip(alloc: Global, typed: &[&str]) -> Tip {
-    if !is_command(alloc, typed)? {
+/// The command with these words, and this after it, if the command line asks for something.
+fn command_tip(alloc: Global, command: &str, operands: &[&str], end: &str) -> Tip {
+    let words = command_words(alloc, command, operands)?;
+    typed_tip(alloc, words.as_slice(), end)
+}
+
+/// The words of a command line, of which these follow the command.
+fn command_words<'a>(
+    alloc: Global,
+    command: &'a str,
+    operands: &[&'a str],
+) -> Result<Vec<&'a str>, AllocError> {
+    let mut words = Vec::from_slice(alloc, &["gomod", command])?;
+    words.extend_from_slice(operands)?;
+    Ok(words)
+}
+
+/// The command line with these words, and this after it, if it asks for something.
+fn typed_tip(alloc: Global, words: &[&str], end: &str) -> Tip {
+    if !is_command(alloc, words)? {
         return Ok(None);
     }
-    let [program, rest @ ..] = typed else {
+    let [program, rest @ ..] = words else {
         return Ok(None);
     };
-    let mut tip = String::from_str(alloc, program)?;
-    push_all_typed(&mut tip, rest)?;
-    Ok(Some(tip))
+    ended(followed(alloc, *program, rest)?, end)
 }
 
 /// `fmt` of the file that the words name, or of `go.mod`.
 fn fmt_tip(alloc: Global, rest: &[&str]) -> Tip {
-    let file = free_word(rest).unwrap_or("go.mod");
-    kept(rest, file, command_tip(alloc, &["gomod", "fmt", file])?)
+    over_file(alloc, "fmt", &[free_word(rest).unwrap_or("go.mod")], rest)
 }
 
 /// `edit` with the file and the operations that the words have. Without operations it may be that the file was to be
 /// printed.
 fn edit_tip(alloc: Global, rest: &[&str]) -> Tip {
     let operands = edit_words(alloc, rest)?;
-    if operands.len() < 2 {
-        return if asks_for_print(rest) {
-            fmt_tip(alloc, rest)
-        } else {
-            Ok(None)
-        };
+    if operands.len() > 1 {
+        over_file(alloc, "edit", operands.as_slice(), rest)
+    } else if asks_for_print(rest) {
+        fmt_tip(alloc, rest)
+    } else {
+        Ok(None)
     }
-    let mut typed = Vec::new(alloc);
-    typed.push("gomod")?;
-    typed.push("edit")?;
-    for word in &operands {
-        typed.push(*word)?;
-    }
-    kept(rest, operands[0], command_tip(alloc, typed.as_slice())?)
 }
 
-/// The command line with what is printed kept in the file, if `-w` asks for that.
-fn kept(rest: &[&str], file: &str, tip: Option<String>) -> Tip {
-    let Some(mut tip) = tip else {
+/// A command over the first of these operands, a file. What it prints is kept in the file if `-w` is among the rest of
+/// the words.
+fn over_file(alloc: Global, command: &str, operands: &[&str], rest: &[&str]) -> Tip {
+    let [file, ..] = operands else {
         return Ok(None);
     };
-    if has_flag(rest, "w") {
-        tip.push_str(" > go.mod.new && mv go.mod.new ")?;
-        push_typed(&mut tip, file)?;
+    let end = kept(alloc, *file, rest)?;
+    command_tip(alloc, command, operands, end.as_str())
+}
+
+/// What keeps the output of a command line in the file, if `-w` asks for that.
+fn kept(alloc: Global, file: &str, rest: &[&str]) -> Result<String, AllocError> {
+    if has_option(rest, "w") {
+        followed(alloc, " > go.mod.new && mv go.mod.new", &[file])
+    } else {
+        Ok(String::new(alloc))
     }
-    Ok(Some(tip))
 }
 
 /// Whether every option of `go mod edit` among the words asks it to print, and there is one.
@@ -271,78 +271,72 @@ fn asks_for_print(rest: &[&str]) -> bool {
 
 /// Whether the word is an option of `go mod edit` that asks it to print.
 fn is_print(word: &str) -> bool {
-    word == "-print"
-        || word == "--print"
-        || word == "-fmt"
-        || word == "--fmt"
-        || word == "-json"
-        || word == "--json"
+    begins_with_dash(word) && matches!(without_dashes(word), "print" | "fmt" | "json")
 }
 
-/// Whether the words have this flag, with one dash or two.
-fn has_flag(rest: &[&str], flag: &str) -> bool {
-    rest.iter().any(|word| begins_with_dash(*word) && without_dashes(*word) == flag)
+/// Whether the word is the option of this name, with one dash or two.
+fn is_option(word: &str, name: &str) -> bool {
+    begins_with_dash(word) && without_dashes(word) == name
+}
+
+/// Whether the words have the option of this name.
+fn has_option(rest: &[&str], name: &str) -> bool {
+    rest.iter().any(|word| is_option(*word, name))
 }
 
 /// The command that lists what `go list` does.
-fn listing<'a>(rest: &[&'a str]) -> &'a str {
-    if has_flag(rest, "versions") {
+fn listing(rest: &[&str]) -> &'static str {
+    if has_option(rest, "versions") {
         "versions"
     } else {
         "list"
     }
 }
 
-/// What to type instead of `go list` with these words after it.
-fn listing_tip(alloc: Global, rest: &[&str]) -> Tip {
-    let command = listing(rest);
-    query_tip(alloc, command, rest)
-}
-
 /// A command over the proxy folders that the words name, or over the module cache, with those of the words that it
 /// takes.
-fn query_tip<'a>(alloc: Global, command: &'a str, rest: &[&'a str]) -> Tip {
-    let typed = query_words(alloc, command, rest)?;
-    let Some(mut tip) = command_tip(alloc, typed.as_slice())? else {
-        return Ok(None);
+fn query_tip(alloc: Global, command: &str, rest: &[&str]) -> Tip {
+    let operands = query_words(alloc, command, rest)?;
+    let end = if value_in(rest, "proxy").is_some() {
+        ""
+    } else {
+        ABOUT_CACHE
     };
-    if value_in(rest, "proxy").is_none() {
-        tip.push_str(ABOUT_CACHE)?;
-    }
-    Ok(Some(tip))
+    command_tip(alloc, command, operands.as_slice(), end)
 }
 
-/// The words of a command over proxy folders.
+/// What a command over proxy folders takes of the words.
 fn query_words<'a>(
     alloc: Global,
-    command: &'a str,
+    command: &str,
     rest: &[&'a str],
 ) -> Result<Vec<&'a str>, AllocError> {
-    let mut typed = Vec::new(alloc);
-    typed.push("gomod")?;
-    typed.push(command)?;
-    if command == "chain" || command == "versions" {
-        push_path(&mut typed, rest)?;
+    let mut operands = Vec::new(alloc);
+    push_query(&mut operands, command, rest)?;
+    Ok(operands)
+}
+
+/// Appends what a command over proxy folders takes of the words: its path, the folders, and its options.
+fn push_query<'a>(
+    operands: &mut Vec<&'a str>,
+    command: &str,
+    rest: &[&'a str],
+) -> Result<(), AllocError> {
+    if matches!(command, "chain" | "versions") {
+        push_path(operands, rest)?;
     }
-    typed.push("--proxy")?;
-    typed.push(value_in(rest, "proxy").unwrap_or(CACHE))?;
-    if command == "versions" {
-        push_retracted(&mut typed, rest)?;
-        return Ok(typed);
+    operands.extend_from_slice(&["--proxy", value_in(rest, "proxy").unwrap_or(CACHE)])?;
+    match command {
+        "versions" => push_retracted(operands, rest),
+        "list" => push_options(operands, &["--mod", "--sum", "--after", "--limit"], rest),
+        _ => push_options(operands, &["--mod", "--sum"], rest),
     }
-    push_option(&mut typed, rest, "--mod", "mod")?;
-    push_option(&mut typed, rest, "--sum", "sum")?;
-    if command == "list" {
-        push_option(&mut typed, rest, "--after", "after")?;
-        push_option(&mut typed, rest, "--limit", "limit")?;
-    }
-    Ok(typed)
 }
 
 /// Appends the path that the words name, without a version.
-fn push_path<'a>(typed: &mut Vec<&'a str>, rest: &[&'a str]) -> Result<(), AllocError> {
+fn push_path<'a>(operands: &mut Vec<&'a str>, rest: &[&'a str]) -> Result<(), AllocError> {
     if let Some(word) = free_word(rest) {
-        typed.push(before_version(word))?;
+        operands.push(before_version(word))?;
     }
     Ok(())
 }
@@ -356,23 +350,23 @@ fn before_version(word: &str) -> &str {
 }
 
 /// Appends `--retracted`, if the words have it.
-fn push_retracted<'a>(typed: &mut Vec<&'a str>, rest: &[&'a str]) -> Result<(), AllocError> {
-    if has_flag(rest, "retracted") || value_in(rest, "retracted").is_some() {
-        typed.push("--retracted")?;
+fn push_retracted<'a>(operands: &mut Vec<&'a str>, rest: &[&'a str]) -> Result<(), AllocError> {
+    if has_option(rest, "retracted") || value_in(rest, "retracted").is_some() {
+        operands.push("--retracted")?;
     }
     Ok(())
 }
 
-/// Appends an option with its value, if the words have it.
-fn push_option<'a>(
-    typed: &mut Vec<&'a str>,
+/// Appends those of the options that the words have, each with its value.
+fn push_options<'a>(
+    operands: &mut Vec<&'a str>,
+    options: &[&'a str],
     rest: &[&'a str],
-    option: &'a str,
-    name: &str,
 ) -> Result<(), AllocError> {
-    if let Some(value) = value_in(rest, name) {
-        typed.push(option)?;
-        typed.push(value)?;
+    for option in options {
+        if let Some(value) = value_in(rest, without_dashes(*option)) {
+            operands.extend_from_slice(&[*option, value])?;
+        }
     }
     Ok(())
 }
@@ -384,7 +378,7 @@ fn value_in<'a>(rest: &[&'a str], name: &str) -> Option<&'a str> {
         if is_next && !begins_with_dash(*word) {
             return Some(*word);
         }
-        is_next = begins_with_dash(*word) && without_dashes(*word) == name;
+        is_next = is_option(*word, name);
         if let Some(value) = value_at(*word, name) {
             return Some(value);
         }
@@ -407,13 +401,16 @@ fn value_at<'a>(word: &'a str, name: &str) -> Option<&'a str> {
 fn get_tip(alloc: Global, rest: &[&str]) -> Tip {
     if let [module] = rest {
         if is_requirement(alloc, *module)? {
-            let mut tip = String::from_str(alloc, "gomod edit go.mod")?;
-            let operation = format!(in alloc; "require={module}")?;
-            push_all_typed(&mut tip, &[operation.as_str()])?;
-            return Ok(Some(tip));
+            return requirement_tip(alloc, *module);
         }
     }
     go_tip(alloc, "go get", rest)
+}
+
+/// The operation that requires a module at a version.
+fn requirement_tip(alloc: Global, module: &str) -> Tip {
+    let operation = format!(in alloc; "require={module}")?;
+    command_tip(alloc, "edit", &["go.mod", operation.as_str()], "")
 }
 
 /// Whether the word is a path and a version that fits it.

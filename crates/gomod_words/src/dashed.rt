@@ -2,15 +2,16 @@
 //! parser would take such a word for an option that is unknown.
 
 ghost use Rattle.std.specs.Prelude.{◌≡◌, ◌∷◌, ◌++◌, IfOk, IfSome, OnOk, codes, false, is_some, map, unwrap_or};
-ghost use Rattle.std.specs.List.{filter_map, find};
+ghost use Rattle.std.specs.List.{find, flat_map};
 ghost use Rattle.std.specs.Option.{option_copied};
 ghost use Rattle.std.specs.String.{string_bytes};
 ghost use Rattle.clap.specs.Lexer.{strip_byte, without_minus};
+ghost use Rattle.gomod_words.specs.Typed.{typed_words};
 ghost use Rattle.gomod_words.specs.Usage.{IsLineOf, dashed_message, dashed_text, words_after};
 ghost use Rattle.gomod_words.specs.Dashed.{begins_with_dash, dashed_in, edit_words, free_from, is_adding, is_dropping, is_free, is_operation, is_setting, names_value, operation_in, operations_in, takes_value, without_dashes};
 
 use crate::help::usage_of;
-use crate::typed::push_all_typed;
+use crate::typed::followed;
 use crate::usage::{UsageFault, line};
 use std::alloc::{AllocError, Global};
 
@@ -116,7 +117,7 @@ pub(crate) fn dashed_in<'a>(words: &[&'a str]) -> Option<&'a str>
 fn names_value(name: &str) -> bool
     ensures { result ≡ names_value name.now }
 {
-    name == "proxy" || name == "mod" || name == "sum" || name == "after" || name == "limit"
+    matches!(name, "proxy" | "mod" | "sum" | "after" | "limit")
 }
 
 /// Whether a word is an option, with one dash or two, that takes the next word as its value.
@@ -147,13 +148,15 @@ pub(crate) fn free_word<'a>(words: &[&'a str]) -> Option<&'a str>
     None
 }
 
-/// Appends the operation that a word is, if it is one.
-fn push_operation<'a>(typed: &mut Vec<&'a str>, word: &'a str) -> Result<(), AllocError>
+/// Appends the operations that words are.
+fn push_operations<'a>(typed: &mut Vec<&'a str>, words: &[&'a str]) -> Result<(), AllocError>
     ensures { OnOk result (map (λ word. word.now) typed.new.items
-        ≡ map (λ word. word.now) typed.old.items ++ operations_in word.now) }
+        ≡ map (λ word. word.now) typed.old.items ++ flat_map operations_in (map (λ word. word.now) words.now)) }
 {
-    if let Some(operation) = operation_in(word) {
-        typed.push(operation)?;
+    for word in words {
+        if let Some(operation) = operation_in(*word) {
+            typed.push(operation)?;
+        }
     }
     Ok(())
 }
@@ -162,11 +165,8 @@ fn push_operation<'a>(typed: &mut Vec<&'a str>, word: &'a str) -> Result<(), All
 pub(crate) fn edit_words<'a>(alloc: Global, words: &[&'a str]) -> Result<Vec<&'a str>, AllocError>
     ensures { IfOk result (λ typed. map (λ word. word.now) typed.items ≡ edit_words (map (λ word. word.now) words.now)) }
 {
-    let mut typed = Vec::new(alloc);
-    typed.push(free_word(words).unwrap_or("go.mod"))?;
-    for word in words {
-        push_operation(&mut typed, *word)?;
-    }
+    let mut typed = Vec::from_slice(alloc, &[free_word(words).unwrap_or("go.mod")])?;
+    push_operations(&mut typed, words)?;
     Ok(typed)
 }
 
@@ -186,12 +186,20 @@ fn dashed_message(alloc: Global, operation: &str, words: &[&str]) -> Result<Stri
     ensures { IfOk result (λ message. string_bytes message
         ≡ dashed_message operation.now (map (λ word. word.now) words.now)) }
 {
-    let mut message = format!(in alloc;
+    let typed = edit_words(alloc, words)?;
+    typed_message(alloc, operation, typed.as_slice())
+}
+
+/// The same, if these words are to be typed after `edit`.
+fn typed_message(alloc: Global, operation: &str, typed: &[&str]) -> Result<String, AllocError>
+    ensures { IfOk result (λ message. string_bytes message
+        ≡ codes "error: operations have no dash: " ++ operation.now
+        ++ codes "\n\n  tip: gomod edit" ++ typed_words (map (λ word. word.now) typed.now)) }
+{
+    let message = format!(in alloc;
         "error: operations have no dash: {operation}\n\n  tip: gomod edit"
     )?;
-    let typed = edit_words(alloc, words)?;
-    push_all_typed(&mut message, typed.as_slice())?;
-    Ok(message)
+    followed(alloc, message.as_str(), typed)
 }
 
 /// The usage error of an operation that was written with a dash in front, among these words.

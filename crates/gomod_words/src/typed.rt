@@ -1,12 +1,12 @@
 //! Words as they are typed in a shell, so that a command line that a message shows can be pasted.
 
-ghost use Rattle.std.specs.Prelude.{◌≡◌, ◌++◌, OnOk, flat_map, map};
+ghost use Rattle.std.specs.Prelude.{◌≡◌, ◌++◌, IfOk, OnOk, flat_map, map};
 ghost use Rattle.std.specs.List.{list_all};
 ghost use Rattle.std.specs.Str.{chars};
 ghost use Rattle.std.specs.String.{string_bytes};
 ghost use Rattle.gomod_words.specs.Typed.{is_unquoted_byte, quoted_text, quoted_char, typed_word, typed_words};
 
-use std::alloc::AllocError;
+use std::alloc::{AllocError, Global};
 
 /// Whether a shell takes a byte as it is.
 fn is_unquoted_byte(byte: u8) -> bool
@@ -58,7 +58,7 @@ fn push_quoted(text: &mut String, word: &str) -> Result<(), AllocError>
 }
 
 /// Appends a word as it is typed.
-pub(crate) fn push_typed(text: &mut String, word: &str) -> Result<(), AllocError>
+fn push_typed(text: &mut String, word: &str) -> Result<(), AllocError>
     ensures { OnOk result (string_bytes text.new ≡ string_bytes text.old ++ typed_word word.now) }
 {
     if !word.is_empty() && has_only_plain_bytes(word.as_bytes()) {
@@ -68,7 +68,7 @@ pub(crate) fn push_typed(text: &mut String, word: &str) -> Result<(), AllocError
 }
 
 /// Appends words as they are typed, each after a space.
-pub(crate) fn push_all_typed(text: &mut String, words: &[&str]) -> Result<(), AllocError>
+fn push_all_typed(text: &mut String, words: &[&str]) -> Result<(), AllocError>
     ensures { OnOk result (string_bytes text.new
         ≡ string_bytes text.old ++ typed_words (map (λ word. word.now) words.now)) }
 {
@@ -77,4 +77,14 @@ pub(crate) fn push_all_typed(text: &mut String, words: &[&str]) -> Result<(), Al
         push_typed(text, word)?;
     }
     Ok(())
+}
+
+/// A text with words after it, as they are typed.
+pub(crate) fn followed(alloc: Global, text: &str, words: &[&str]) -> Result<String, AllocError>
+    ensures { IfOk result (λ line. string_bytes line
+        ≡ text.now ++ typed_words (map (λ word. word.now) words.now)) }
+{
+    let mut line = String::from_str(alloc, text)?;
+    push_all_typed(&mut line, words)?;
+    Ok(line)
 }
