@@ -1,13 +1,13 @@
 -- What buckets of any kind hold after one of them was changed, and that a number chooses one of them.
-use Rattle.std.proofs.Common.{◌≡◌, ◌∙◌, ◌+◌, ◌<◌, ◌≤◌, ◌*◌, ℕ, zero, suc, Bool, cond, List, [], ◌∷◌, Option, Some, length, get_or, nat_eq, ap, refl, sym, subst, inl, inr, arith}
+use Rattle.std.proofs.Common.{◌≡◌, ◌∙◌, ◌+◌, ◌<◌, ◌≤◌, ◌*◌, ℕ, zero, suc, Bool, cond, List, [], ◌∷◌, ◌++◌, ◌/◌, Option, None, Some, length, get_or, length-append, replicate, nat_eq, ap, refl, sym, subst, inl, inr, arith}
 use Rattle.std.specs.Prelude.{slice_get}
 use Rattle.std.specs.Option.{option_and_then}
 use Rattle.std.proofs.Math.ListN.{set}
-use Rattle.std.proofs.Math.Nat.{mul-suc, mul-zero}
-use Rattle.std.proofs.lemmas.Bool.{cases_eq, ne_eqb}
+use Rattle.std.proofs.Math.Nat.{mul-suc, mul-zero, mul_assoc}
+use Rattle.std.proofs.lemmas.Bool.{cases_eq, cases_lt, ne_eqb}
 use Rattle.std.proofs.lemmas.List.{length-set, get_or-set_same, set-get_or}
-use Rattle.std.proofs.lemmas.Option.{slice_get_read}
-use Rattle.gm_name.specs.Buckets.{PutsIn, bucket_of, value_at, value_in}
+use Rattle.std.proofs.lemmas.Option.{slice_get_past, slice_get_read}
+use Rattle.gm_name.specs.Buckets.{AreParts, PutsIn, bucket_of, value_at, value_in}
 
 -- A list with one item changed has that item in its place.
 pub there : {X : Type 0} (xs : List X) (i : ℕ) (x : X) → i < length xs → slice_get (set xs i x) i ≡ Some x
@@ -63,3 +63,55 @@ pub within : (number many : ℕ) → number < 4294967296 → 0 < many → bucket
 within number many fits some =
     let product = mul-below number many fits in
     omega (arith, product, some)
+
+-- Buckets that are all the same empty one hold nothing.
+pub none_in : {B : Type 0} (holds : B → ℕ → Option ℕ) (bucket : B) → ((number : ℕ) → holds bucket number ≡ None)
+    → (many at number : ℕ) → value_at holds (replicate many bucket) at number ≡ None
+none_in holds bucket none zero at number = refl
+none_in holds bucket none (suc many) zero number = none number
+none_in holds bucket none (suc many) (suc at) number = none_in holds bucket none many at number
+
+-- An item that was added stands past the others.
+pub last : {X : Type 0} (xs : List X) (x : X) → slice_get (xs ++ x ∷ []) (length xs) ≡ Some x
+last [] x = refl
+last (first ∷ xs) x = last xs x
+
+-- The others stand where they stood.
+pub before : {X : Type 0} (xs : List X) (x : X) (i : ℕ) → i < length xs → slice_get (xs ++ x ∷ []) i ≡ slice_get xs i
+before [] x i within = absurd (omega (arith, within))
+before (first ∷ xs) x zero within = refl
+before (first ∷ xs) x (suc i) within = before xs x i (omega (arith, within))
+
+-- With one more part, which holds what the bucket that it is half of holds, parts are parts.
+pub one_more_part : {B : Type 0} (holds : B → ℕ → Option ℕ) (choice : ℕ → ℕ → ℕ) (buckets : List B) (many : ℕ) (parts : List B) (whole part : B)
+    → AreParts holds choice buckets many parts → slice_get buckets (length parts / 2) ≡ Some whole
+    → ((number : ℕ) → choice number many ≡ length parts → holds part number ≡ holds whole number)
+    → AreParts holds choice buckets many (parts ++ part ∷ [])
+one_more_part {B} holds choice buckets many parts whole part are is same at number within chosen = elim (cases_eq at (length parts)) [
+  | inl end ↦
+      subst (λ (n : ℕ). value_at holds (parts ++ part ∷ []) n number ≡ value_at holds buckets (n / 2) number) (sym end)
+      (ap (λ (o : Option B). option_and_then (λ bucket. holds bucket number) o) (last parts part)
+      ∙ same number (chosen ∙ end)
+      ∙ ap (λ (o : Option B). option_and_then (λ bucket. holds bucket number) o) (sym is))
+  | inr other ↦
+      let small : at < length parts = omega (arith, within, other, length-append parts (part ∷ [])) in
+      ap (λ (o : Option B). option_and_then (λ bucket. holds bucket number) o) (before parts part at small) ∙ are at number small chosen
+]
+
+-- Twice as many buckets, each of which is a part, hold what the buckets hold.
+pub parts_hold : {B : Type 0} (holds : B → ℕ → Option ℕ) (buckets parts : List B) → length parts ≡ length buckets * 2
+    → AreParts holds bucket_of buckets (length buckets * 2) parts → (number : ℕ)
+    → value_in holds bucket_of parts number ≡ value_in holds bucket_of buckets number
+parts_hold {B} holds buckets parts size are number =
+    let many = length buckets in
+    let chosen : bucket_of number (length parts) ≡ bucket_of number (many * 2) = ap (λ (n : ℕ). bucket_of number n) size in
+    let product = mul_assoc number many 2 in
+    let half : bucket_of number (many * 2) / 2 ≡ bucket_of number many = omega (arith, product) in
+    ap (λ (at : ℕ). value_at holds parts at number) chosen
+    ∙ elim (cases_lt (bucket_of number (many * 2)) (length parts)) [
+      | inl there ↦ are (bucket_of number (many * 2)) number there refl ∙ ap (λ (at : ℕ). value_at holds buckets at number) half
+      | inr past ↦
+          let outside : many ≤ bucket_of number many = omega (arith, half, past, size) in
+          ap (λ (o : Option B). option_and_then (λ bucket. holds bucket number) o)
+          (slice_get_past parts (bucket_of number (many * 2)) past ∙ sym (slice_get_past buckets (bucket_of number many) outside))
+    ]

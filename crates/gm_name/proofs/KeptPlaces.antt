@@ -1,5 +1,5 @@
 -- What is at places of a list after one more value, or another one in the place of one.
-use Rattle.std.proofs.Common.{◌≡◌, ◌∙◌, ◌<◌, ◌+◌, ℕ, zero, suc, Bool, true, false, cond, List, [], ◌∷◌, ◌++◌, Option, None, Some, length, nat_eq, ap, refl, sym, subst, arith}
+use Rattle.std.proofs.Common.{◌≡◌, ◌∙◌, ◌<◌, ◌+◌, ℕ, Bool, true, false, cond, List, [], ◌∷◌, ◌++◌, Option, None, Some, length, nat_eq, ap, refl, sym, subst, arith}
 use Rattle.std.specs.Prelude.{slice_get}
 use Rattle.std.specs.Option.{option_and_then}
 use Rattle.std.proofs.Math.ListN.{set}
@@ -7,16 +7,7 @@ use Rattle.std.proofs.lemmas.Bool.{eq-eqb, eqb-true}
 use Rattle.gm_name.specs.Buckets.{PutsIn}
 use Rattle.gm_name.specs.TagIndex.{ArePlacesBelow, HasSame, place_under}
 use Rattle.gm_name.specs.declared.tag_index.TagIndex.{TagIndex}
-use Rattle.gm_name.proofs.Buckets.{elsewhere, there}
-
-last : {V : Type 0} (values : List V) (value : V) → slice_get (values ++ value ∷ []) (length values) ≡ Some value
-last [] value = refl
-last (first ∷ values) value = last values value
-
-before : {V : Type 0} (values : List V) (value : V) (place : ℕ) → place < length values → slice_get (values ++ value ∷ []) place ≡ slice_get values place
-before [] value place within = absurd (omega (arith, within))
-before (first ∷ values) value zero within = refl
-before (first ∷ values) value (suc place) within = before values value place (omega (arith, within))
+use Rattle.gm_name.proofs.Buckets.{before, elsewhere, last, there}
 
 -- The value that was added is found at the place past the others, and they are found where they were.
 pub put_value : {V : Type 0} (values : List V) (value : V) (b : Bool) (old : Option ℕ) → ((place : ℕ) → old ≡ Some place → place < length values)

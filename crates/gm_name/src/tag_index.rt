@@ -35,16 +35,12 @@ pub struct TagIndex {
     ghost few: { length buckets.items ≤ 4294967296 },
 }
 
-/// The buckets for the first place, all empty.
-fn first_buckets(alloc: Global) -> Result<Vec<Bucket>, AllocError>
-    ensures len { IfOk result (λ buckets. length buckets.items ≡ 64) }
+/// So many buckets, all empty.
+fn empty_buckets(alloc: Global, many: usize) -> Result<Vec<Bucket>, AllocError>
+    ensures len { IfOk result (λ buckets. length buckets.items ≡ many) }
     ensures none { IfOk result (λ buckets. (t : ℕ) → place_in_buckets buckets.items t ≡ None) }
 {
-    let mut buckets = Vec::with_capacity(alloc, FIRST)?;
-    for _ in 0..FIRST {
-        buckets.push(Bucket::new())?;
-    }
-    Ok(buckets)
+    Ok(vec![in alloc; Bucket::new(); many]?)
 }
 
 /// Twice as many buckets with the same places.
@@ -104,7 +100,7 @@ impl TagIndex {
     {
         let many = self.buckets.len();
         if many == 0 {
-            self.buckets = first_buckets(self.alloc)?;
+            self.buckets = empty_buckets(self.alloc, FIRST)?;
         } else if self.count / 3 >= many && many <= MOST {
             self.buckets = doubled(self.alloc, &self.buckets)?;
         }

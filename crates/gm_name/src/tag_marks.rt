@@ -17,15 +17,11 @@ pub(crate) struct TagMarks {
     marks: Vec<bool>,
 }
 
-/// As many marks as there are, none of them set.
-fn no_marks(alloc: Global) -> Result<Vec<bool>, AllocError>
-    ensures { IfOk result (λ marks. length marks.items ≡ 1024) }
+/// So many marks, none of them set.
+fn no_marks(alloc: Global, many: usize) -> Result<Vec<bool>, AllocError>
+    ensures { IfOk result (λ marks. length marks.items ≡ many) }
 {
-    let mut marks = Vec::with_capacity(alloc, MANY)?;
-    for _ in 0..MANY {
-        marks.push(false)?;
-    }
-    Ok(marks)
+    Ok(vec![in alloc; false; many]?)
 }
 
 /// Which mark is that of a tag.
@@ -60,7 +56,7 @@ impl TagMarks {
         ensures kept { KeepsMarks self.old self.new }
     {
         if self.marks.len() != MANY {
-            self.marks = no_marks(self.alloc)?;
+            self.marks = no_marks(self.alloc, MANY)?;
         }
         Ok(())
     }
