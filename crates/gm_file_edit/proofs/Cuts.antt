@@ -1,41 +1,18 @@
--- Splitting and trimming the texts of operations keeps them valid UTF-8; paths and versions that are parsed.
+-- Splitting the texts of operations keeps them valid UTF-8; paths and versions that are parsed.
 use Rattle.std.specs.Borrow.{Bor}
 use Rattle.std.specs.Prelude.{MatchOption, slice_index}
-use Rattle.gm_file_edit.specs.Sound.{split_seen}
+use Rattle.gm_file_edit.specs.Sound.{split_view}
 use Rattle.gm_name.proofs.NameTests.{and_both, path-tested, version-tested}
-use Rattle.std.proofs.Common.{◌≡◌, ℕ, ◌+◌, ◌-◌, ◌==◌, ◌&&◌, ◌<◌, ◌≤◌, nat_lt, true, false, List, [], ◌∷◌, length, get_or, take_while, Option, Some, None, inl, inr, refl, subst, ◌∙◌, arith, ◌↔◌, Bool}
-use Rattle.std.proofs.lemmas.Bool.{cases_Bool, cases_lt}
+use Rattle.std.proofs.Common.{◌≡◌, ℕ, ◌-◌, ◌==◌, ◌&&◌, ◌<◌, nat_lt, true, false, List, [], ◌∷◌, length, get_or, Option, Some, None, inl, inr, refl, ◌∙◌, arith, ◌↔◌, Bool}
+use Rattle.std.proofs.lemmas.Bool.{cases_Bool}
 use Rattle.std.proofs.lemmas.Bool.Decides.{nat_tests}
-use Rattle.std.proofs.lemmas.List.Folds.{length-prefix_len}
-use Rattle.std.proofs.lemmas.List.Sums.{prefix_len-le-length, prefix_len_passes}
-use Rattle.std.proofs.lemmas.Str.{IsCharBoundary-start, IsCharBoundary-after_ascii}
-use Rattle.std.specs.List.{position_or_len, prefix_len, before_first, after_first}
+use Rattle.std.proofs.lemmas.Str.{IsCharBoundary-after_ascii}
+use Rattle.std.specs.List.{position_or_len, before_first, after_first}
 use Rattle.std.specs.Str.{IsCharBoundary, IsUtf8}
-use Rattle.gm_file_edit.specs.Edits.{split_at_byte, has_byte, is_bracketed, is_space_or_tab, path_in, version_in}
+use Rattle.gm_file_edit.specs.Edits.{split_at_byte, has_byte, is_bracketed, path_in, version_in}
 use Rattle.gm_name.specs.Path.{IsPath}
 use Rattle.gm_name.specs.Version.{IsVersion}
 use Rattle.gm_name.specs.Names.{is_path, is_version}
-
-pub blank-ascii : (b : ℕ) → is_space_or_tab b ≡ true → b < 128
-blank-ascii b e = grind (arith, nat_tests)
-
-boundary-at : (text : List ℕ) (n : ℕ) → IsUtf8 text → n ≤ length text → ((k : ℕ) → k < n → is_space_or_tab (get_or text k 0) ≡ true) → IsCharBoundary text n
-boundary-at text n utf8 le passes = elim (cases_lt 0 n) [
-  | inl some ↦
-      let lt : n - 1 < length text = omega (arith, le, some) in
-      let e : (n - 1) + 1 ≡ n = omega (arith, some) in
-      let small : get_or text (n - 1) 0 < 128 = blank-ascii (get_or text (n - 1) 0) (passes (n - 1) (omega (arith, some))) in
-      subst (IsCharBoundary text) e (IsCharBoundary-after_ascii text (n - 1) utf8 lt small)
-  | inr none ↦
-      let e : 0 ≡ n = omega (arith, none) in
-      subst (IsCharBoundary text) e (IsCharBoundary-start text utf8)
-]
-
--- the end of the leading spaces and tabs is a character boundary
-pub blanks-boundary : (text : List ℕ) → IsUtf8 text → IsCharBoundary text (length (take_while is_space_or_tab text))
-blanks-boundary text utf8 =
-    rw (length-prefix_len is_space_or_tab text) (boundary-at text (prefix_len is_space_or_tab text) utf8 (prefix_len-le-length is_space_or_tab text)
-    (λ k lt. prefix_len_passes is_space_or_tab text k 0 lt))
 
 -- a list contains an element if and only if the position of the first one is in range
 any-position : (b : ℕ) (xs : List ℕ) → has_byte b xs ≡ nat_lt (position_or_len (λ c. c == b) xs) (length xs)
@@ -56,7 +33,7 @@ cut-some b text front back lt f g =
 
 pub cut-is : (b : ℕ) (text : List ℕ) (r : Option (Bor (List ℕ) × Bor (List ℕ)))
     → MatchOption r (position_or_len (λ c. c == b) text ≡ length text) (λ x. (position_or_len (λ c. c == b) text < length text) × (x.0.now ≡ before_first (λ c. c == b) text) × (x.1.now ≡ after_first (λ c. c == b) text))
-    → split_seen r ≡ split_at_byte b text
+    → split_view r ≡ split_at_byte b text
 cut-is b text None e = rw (cut-none b text e) refl
 cut-is b text (Some x) is = cut-some b text x.0.now x.1.now is.0 is.1 is.2
 

@@ -1,4 +1,5 @@
 pub mod Cuts
+pub mod Trimming
 pub mod Pairs
 pub mod Filters
 pub mod Insertions

@@ -25,12 +25,12 @@ use Rattle.gm_file.specs.GoVersions.{strict_go}
 -- ---- the program's values as contracts see them
 
 -- the left side of a replace
-abbrev pub left_seen : LeftSide → Left
-left_seen side = record { path = side.path; version = side.version }
+abbrev pub left_view : LeftSide → Left
+left_view side = record { path = side.path; version = side.version }
 
 -- the two parts of a split text
-abbrev pub split_seen : Option (Bor (List ℕ) × Bor (List ℕ)) → Option (List ℕ × List ℕ)
-split_seen cut = option_map (λ parts. (parts.0.now, parts.1.now)) cut
+abbrev pub split_view : Option (Bor (List ℕ) × Bor (List ℕ)) → Option (List ℕ × List ℕ)
+split_view cut = option_map (λ parts. (parts.0.now, parts.1.now)) cut
 
 -- the directive that is set
 abbrev pub setting_of : declared_setting.Setting → Setting
@@ -48,7 +48,7 @@ addition_of (addition.Retract ends) = Retract (interval_view ends)
 abbrev pub target_of : declared_target.Target → Target
 target_of (target.Require path) = AnyRequire path
 target_of (target.Exclude p) = AnyExclude p
-target_of (target.Replace side) = AnyReplace (left_seen side)
+target_of (target.Replace side) = AnyReplace (left_view side)
 target_of (target.Retract ends) = AnyRetract (interval_view ends)
 
 -- the operation that a change is

@@ -9,7 +9,6 @@ ghost use Rattle.gm_syntax.specs.LineViews.{plain_lines};
 ghost use Rattle.gm_file.specs.Directives.{Strict, main_verb, verb_eq};
 ghost use Rattle.gm_file.specs.declared.verb.Verb.TheVariants.{Unknown};
 ghost use Rattle.gm_file.specs.Faults.{fault_of};
-ghost use Rattle.gm_name.specs.Names.{does_fit};
 ghost use Rattle.gm_file_edit.specs.About.{about};
 ghost use Rattle.gm_file_edit.specs.Edits.{Add, Set};
 ghost use Rattle.gm_file_edit.specs.Edited.{with_addition, with_change, lines_after, put_in};
@@ -29,21 +28,14 @@ use gm_file::does_left_fit;
 use gm_name::{ModPath, ModVersion, fits};
 use std::alloc::{AllocError, Global};
 
-/// Whether a version fits its path.
-fn does_fit(path: &ModPath, version: &ModVersion) -> bool
-    ensures { result ≡ does_fit path.now version.now }
-{
-    fits(path, version)
-}
-
 /// Whether the versions of an operation fit their paths. Only versions that it requires or excludes and the one in
 /// the left side of a `replace` are checked, since strict reading of the result refuses those.
 pub(crate) fn is_fit(change: &Change) -> bool
     ensures { result ≡ is_fit (edit_of change.now) }
 {
     match change {
-        Change::Set(Setting::Require((path, version))) => does_fit(path, version),
-        Change::Add(Addition::Exclude((path, version))) => does_fit(path, version),
+        Change::Set(Setting::Require((path, version))) => fits(path, version),
+        Change::Add(Addition::Exclude((path, version))) => fits(path, version),
         Change::Set(Setting::Replace(replace)) => does_left_fit(&replace.left, &replace.version),
         _ => true,
     }

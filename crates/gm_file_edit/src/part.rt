@@ -3,12 +3,11 @@
 //! Each `read_` function fails with `OpFault::Spelling` if and only if the text isn't such an argument, unless memory
 //! runs out.
 
-ghost use Rattle.std.specs.Prelude.{◌≡◌, true, length, take_while};
-ghost use Rattle.std.specs.List.{suffix_len};
+ghost use Rattle.std.specs.Prelude.{◌≡◌, true};
 ghost use Rattle.std.specs.String.{string_bytes};
 ghost use Rattle.gm_file.specs.Views.{interval_view, replace_view, right_view};
-ghost use Rattle.gm_file_edit.specs.Edits.{split_at_byte, has_byte, inside_brackets, interval_in, is_bracketed, is_space_or_tab, go_text_in, left_in, pair_in, path_in, replacing_in, right_in, trim, two_versions_in, version_in, without_trailing, without_leading};
-ghost use Rattle.gm_file_edit.specs.Sound.{IsParsedPart, split_seen, left_seen};
+ghost use Rattle.gm_file_edit.specs.Edits.{split_at_byte, has_byte, inside_brackets, interval_in, is_bracketed, go_text_in, left_in, pair_in, path_in, replacing_in, right_in, trim, two_versions_in, version_in};
+ghost use Rattle.gm_file_edit.specs.Sound.{IsParsedPart, split_view, left_view};
 
 use crate::fault::OpFault;
 use gm_file::{Interval, Replace, Right, is_folder, strict_go};
@@ -26,21 +25,21 @@ pub(crate) struct LeftSide {
 
 /// Splits a text at its first `=`, which is in neither part.
 pub(crate) fn split_at_equals(text: &str) -> Option<(&str, &str)>
-    ensures { split_seen result ≡ split_at_byte 61 text.now }
+    ensures { split_view result ≡ split_at_byte 61 text.now }
 {
     text.split_once('=')
 }
 
 /// Splits a text at its first `@`, which is in neither part.
 fn split_at_sign(text: &str) -> Option<(&str, &str)>
-    ensures { split_seen result ≡ split_at_byte 64 text.now }
+    ensures { split_view result ≡ split_at_byte 64 text.now }
 {
     text.split_once('@')
 }
 
 /// Splits a text at its first comma, which is in neither part.
 fn split_at_comma(text: &str) -> Option<(&str, &str)>
-    ensures { split_seen result ≡ split_at_byte 44 text.now }
+    ensures { split_view result ≡ split_at_byte 44 text.now }
 {
     text.split_once(',')
 }
@@ -108,7 +107,7 @@ fn has_at_sign(text: &[u8]) -> bool
 /// Parses the left side of a `replace`: a path, optionally with `@` and a version.
 #[tactic(auto, unfolding(crate::specs::Edits::left_in))]
 pub(crate) fn read_left(alloc: Global, text: &str) -> Result<LeftSide, OpFault>
-    ensures { IsParsedPart left_seen (left_in text.now) result }
+    ensures { IsParsedPart left_view (left_in text.now) result }
 {
     if has_at_sign(text.as_bytes()) {
         let (path, version) = read_pair(alloc, text)?;
@@ -157,52 +156,13 @@ pub(crate) fn read_replace(alloc: Global, text: &str) -> Result<Replace, OpFault
     })
 }
 
-/// Whether a byte is a space or a tab.
-fn is_space_or_tab(byte: u8) -> bool
-    ensures { result ≡ is_space_or_tab byte }
-{
-    byte == b' ' || byte == b'\t'
-}
-
-/// The number of spaces and tabs at the start of a text.
-fn leading_len(text: &[u8]) -> usize
-    ensures { result ≡ length (take_while is_space_or_tab text.now) }
-{
-    text.iter().take_while(|b| is_space_or_tab(**b)).count()
-}
-
-/// The number of spaces and tabs at the end of a text.
-fn trailing_len(text: &[u8]) -> usize
-    ensures { result ≡ suffix_len is_space_or_tab text.now }
-{
-    text.iter()
-        .rev()
-        .take_while(|b| is_space_or_tab(**b))
-        .count()
-}
-
-/// The text without the spaces and tabs at its start.
-fn without_leading(text: &str) -> &str
-    ensures { result.now ≡ without_leading text.now }
-{
-    let (_, rest) = text.split_at(leading_len(text.as_bytes()));
-    rest
-}
-
-/// The text without the spaces and tabs at its end.
-fn without_trailing(text: &str) -> &str
-    ensures { result.now ≡ without_trailing text.now }
-{
-    let (front, _) = text.split_at(text.len() - trailing_len(text.as_bytes()));
-    front
-}
-
 /// The text without the spaces and tabs at its start and its end.
 #[tactic(auto, unfolding(crate::specs::Edits::trim))]
 fn trim(text: &str) -> &str
     ensures { result.now ≡ trim text.now }
 {
-    without_trailing(without_leading(text))
+    text.trim_start_matches([' ', '\t'])
+        .trim_end_matches([' ', '\t'])
 }
 
 /// Whether a text starts with `[` and ends with another byte, `]`.
