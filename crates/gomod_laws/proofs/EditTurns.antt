@@ -20,7 +20,7 @@ use Rattle.gm_file_edit.specs.Kinds.{is_fit}
 use Rattle.gm_file_edit.specs.Laws.{IsEditOf, directives_of}
 use Rattle.gm_file_edit.proofs.EditedSound.{edited-document}
 use Rattle.gm_file_edit.proofs.Written.{written-sound}
-use Rattle.gomod_run.specs.Editing.{EditEnds, applied, bad_main, edited_in_turn, edits_outcome, refusal_of, refusals_from}
+use Rattle.gomod_run.specs.Editing.{EditEnds, applied, bad_main, lines_after_all, edits_outcome, refusal_of, refusals_from}
 use Rattle.gomod_run.specs.Outcome.{Outcome, text_outcome, refusal_outcome}
 use Rattle.gomod_run.specs.Outcomes.{longest}
 use Rattle.gomod_run.specs.Reports.{edit_line, main_line}
@@ -33,7 +33,7 @@ use Rattle.gomod_laws.proofs.FormattingRead.{layout_read}
 
 -- the lines that operations leave
 abbrev pub turned : List (List ℕ) → List (Line Placed) → List (Line Placed)
-turned texts lines = edited_in_turn (filter_map edit_in texts) lines
+turned texts lines = lines_after_all (filter_map edit_in texts) lines
 
 -- what `edit` does with operations, the first of which has this number, if those before them leave these lines
 abbrev pub outcome_from : ℕ → List (List ℕ) → List (Line Placed) → Outcome

@@ -16,7 +16,7 @@ use Rattle.gm_file.specs.Misreading.{IsMisread}
 use Rattle.gm_file.specs.Directives.{Strict}
 use Rattle.gomod_run.specs.Reports.{FaultPlace, main_line}
 use Rattle.gomod_run.specs.declared.reports.report.Report.{Report}
-use Rattle.gomod_run.specs.Editing.{EditEnds, IsRefusedOperation, applied, bad_main, edited_in_turn, edits_outcome, refusal_of, refusals_from}
+use Rattle.gomod_run.specs.Editing.{EditEnds, IsRefusedOperation, applied, bad_main, lines_after_all, edits_outcome, refusal_of, refusals_from}
 use Rattle.gomod_run.specs.Refusals.{report_by_edit}
 
 -- an operation that has been parsed and is not applied
@@ -40,13 +40,13 @@ pub one_refused : (texts : List (List ℕ)) (file : List ℕ) (lines : List (Lin
     → refusals_from 1 texts ≡ refusals_from number (text ∷ later) → OrNoMemory (IsRefusedOperation number (edit_in text)) outcome → OrNoMemory (EditEnds texts file) outcome
 one_refused texts file lines number text later outcome main same (inl (kind, is, says)) =
     let first = ap (λ (o : Option (List ℕ)). option_to_list (option_map (λ kind. (number, kind)) o) ++ refusals_from (number + 1) later) is in
-    inl (applied lines main (says ∙ sym (ap (λ (rs : List (ℕ × List ℕ)). edits_outcome rs (edited_in_turn (filter_map edit_in texts) lines)) (same ∙ first))))
+    inl (applied lines main (says ∙ sym (ap (λ (rs : List (ℕ × List ℕ)). edits_outcome rs (lines_after_all (filter_map edit_in texts) lines)) (same ∙ first))))
 one_refused texts file lines number text later outcome main same (inr memory) = inr memory
 
 -- no operation is refused, and the layout of what they leave is printed
 pub all_applied : (texts : List (List ℕ)) (file : List ℕ) (lines last : List (Line Placed)) (text : List ℕ) → IsMainOf file lines → refusals_from 1 texts ≡ []
-    → edited_in_turn (filter_map edit_in texts) lines ≡ last → text ≡ layout (plain_lines last) → EditEnds texts file (text_outcome text)
+    → lines_after_all (filter_map edit_in texts) lines ≡ last → text ≡ layout (plain_lines last) → EditEnds texts file (text_outcome text)
 all_applied texts file lines last text main none same is =
     applied lines main
     (ap text_outcome (is ∙ ap (λ (ls : List (Line Placed)). layout (plain_lines ls)) (sym same))
-    ∙ sym (ap (λ (rs : List (ℕ × List ℕ)). edits_outcome rs (edited_in_turn (filter_map edit_in texts) lines)) none))
+    ∙ sym (ap (λ (rs : List (ℕ × List ℕ)). edits_outcome rs (lines_after_all (filter_map edit_in texts) lines)) none))

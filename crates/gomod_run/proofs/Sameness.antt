@@ -23,7 +23,7 @@ use Rattle.gomod_run.specs.Outcome.{Outcome, text_outcome, refusal_outcome}
 use Rattle.gomod_run.specs.Reports.{FaultPlace, main_line, syntax_place}
 use Rattle.gomod_run.specs.Needs.{AnswersByName}
 use Rattle.gomod_run.proofs.OneRead.{misread_or_lines, one_place, same_lines}
-use Rattle.gomod_run.specs.Editing.{EditEnds, bad_main, applied, edited_in_turn, edits_outcome, refusals_from}
+use Rattle.gomod_run.specs.Editing.{EditEnds, bad_main, applied, lines_after_all, edits_outcome, refusals_from}
 use Rattle.gomod_run.specs.Runs.{FmtEnds, bad_syntax, laid_out}
 use Rattle.gomod_run.specs.Versions.{IsListedOutcome, IsOutcomeByList, IsShownBy, IsShownOutcome, IsVersionsOutcome, by_latest, by_list, unfetchable, unfiltered, versions_line}
 use Rattle.gomod_run.proofs.Uniqueness.{latest_once, listed_once, none_latest}
@@ -65,7 +65,7 @@ fmt_once file one other (bad_syntax fault place parsed named says) (bad_syntax n
 -- ---- edit
 
 -- the result of operations doesn't depend on where the tokens were
-pub in_turn_same : (edits : List Change) (one other : List (Line Placed)) → plain_lines one ≡ plain_lines other → plain_lines (edited_in_turn edits one) ≡ plain_lines (edited_in_turn edits other)
+pub in_turn_same : (edits : List Change) (one other : List (Line Placed)) → plain_lines one ≡ plain_lines other → plain_lines (lines_after_all edits one) ≡ plain_lines (lines_after_all edits other)
 in_turn_same [] one other same = same
 in_turn_same (edit ∷ edits) one other same = in_turn_same edits (lines_after edit one) (lines_after edit other) (edited-same edit one other same)
 
@@ -80,7 +80,7 @@ edit_once texts file one other (bad_main here misread says) (applied lines main 
 edit_once texts file one other (applied lines main says) (bad_main there read tells) = absurd (misread_or_lines file there lines read main)
 edit_once texts file one other (applied lines main says) (applied others again tells) =
     let edits = filter_map edit_in texts in
-    says ∙ printed_same (refusals_from 1 texts) (edited_in_turn edits lines) (edited_in_turn edits others)
+    says ∙ printed_same (refusals_from 1 texts) (lines_after_all edits lines) (lines_after_all edits others)
     (in_turn_same edits lines others (same_lines file lines others main.0 again.0)) ∙ sym tells
 
 -- ---- versions

@@ -34,8 +34,8 @@ refusals_from number (text ∷ texts) =
     ++ refusals_from (number + 1) texts
 
 -- the lines after operations, each applied to what those before it left
-abbrev pub edited_in_turn : List Edit → List (Line Placed) → List (Line Placed)
-edited_in_turn edits lines = fold (λ lines edit. lines_after edit lines) lines edits
+abbrev pub lines_after_all : List Edit → List (Line Placed) → List (Line Placed)
+lines_after_all edits lines = fold (λ lines edit. lines_after edit lines) lines edits
 
 -- the first refusal is reported; without one the layout is printed
 abbrev pub edits_outcome : List (ℕ × List ℕ) → List (Line Placed) → Outcome
@@ -48,5 +48,5 @@ pub data EditEnds (texts : List (List ℕ)) (file : List ℕ) (outcome : Outcome
   bad_main : (place : FaultPlace) → IsMisread Strict file place.0 place.1 → outcome ≡ refusal_outcome (main_line place)
       → EditEnds texts file outcome
   applied : (lines : List (Line Placed)) → IsMainOf file lines
-      → outcome ≡ edits_outcome (refusals_from 1 texts) (edited_in_turn (filter_map edit_in texts) lines)
+      → outcome ≡ edits_outcome (refusals_from 1 texts) (lines_after_all (filter_map edit_in texts) lines)
       → EditEnds texts file outcome

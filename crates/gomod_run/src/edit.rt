@@ -10,7 +10,7 @@ ghost use Rattle.gm_file.specs.Misreading.{IsMisread};
 ghost use Rattle.gm_file.specs.Directives.{Strict};
 ghost use Rattle.gomod_run.specs.Outcome.{OrNoMemory, outcome_view, refusal_outcome, report_outcome};
 ghost use Rattle.gomod_run.specs.Reports.{FaultPlace, main_line};
-ghost use Rattle.gomod_run.specs.Editing.{EditEnds, IsRefusedOperation, edited_in_turn, refusal_of};
+ghost use Rattle.gomod_run.specs.Editing.{EditEnds, IsRefusedOperation, lines_after_all, refusal_of};
 ghost use Rattle.gomod_run.specs.Refusals.{report_by_edit, report_by_op};
 
 use crate::reports::report::{Refusal, Report};
@@ -52,7 +52,7 @@ fn apply_text<'r>(
     text: &str,
 ) -> Result<(), Report<'r>>
     ensures accepted { OnOk result (refusal_of (edit_in text.now) ≡ None) }
-    ensures applied { OnOk result (editor.new ≡ edited_in_turn (filter_map edit_in (text.now ∷ [])) editor.old) }
+    ensures applied { OnOk result (editor.new ≡ lines_after_all (filter_map edit_in (text.now ∷ [])) editor.old) }
     ensures refused { IfErr result (λ told. OrNoMemory (IsRefusedOperation number (edit_in text.now))
         (report_outcome told)) }
 {

@@ -52,10 +52,7 @@ fn read_named<'a, S: FileSystem + Alloc<A = Global>>(
     ensures read { IfOk result (λ bytes. MayRead (S.may_open rt.now name.now) (Ok bytes)) }
     ensures unread { IfErr result (λ told. IsFileUnread (S.may_open rt.now) name.now (report_outcome told)) }
 {
-    match read_file(rt, rt.alloc(), name) {
-        Ok(bytes) => Ok(bytes),
-        Err(fault) => Err(unread_report(name, fault)),
-    }
+    read_file(rt, rt.alloc(), name).map_err(|fault| unread_report(name, fault))
 }
 
 /// The bytes of the go.sum, if one is named.

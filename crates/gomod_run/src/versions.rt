@@ -2,6 +2,8 @@
 //! ordered here.
 
 ghost use Rattle.std.specs.Prelude.{◌≡◌, ◌++◌, ℕ, [], IfOk, List, MatchOption, MatchResult, None, OnOk, Option, codes, map};
+ghost use Rattle.std.specs.Borrow.{Bor};
+ghost use Rattle.std.specs.Iterator.{Drains, IsFinite};
 ghost use Rattle.std.specs.String.{string_bytes};
 ghost use Rattle.std.specs.List.Sorted.{IsStrictlySortedBy};
 ghost use Rattle.gm_name.specs.Version.{version_cmp};
@@ -36,29 +38,15 @@ fn push_version(line: &mut String, version: &BorrowedVersion<'_>) -> Result<(), 
 }
 
 /// The path and the versions on one line, separated by single spaces.
-fn versions_line(
+fn versions_line<'v, V: Iterator<Item = &'v BorrowedVersion<'v>> + Drop>(
     alloc: Global,
     path: &ModPath,
-    versions: &[&BorrowedVersion<'_>],
+    versions: V,
 ) -> Result<String, NoMemory>
-    ensures { IfOk result (λ line. string_bytes line
-        ≡ versions_line path.now (map (λ version. version.now) versions.now)) }
-{
-    let mut line = String::from_str(alloc, path.as_str())?;
-    'versions: for version in versions {
-        push_version(&mut line, version)?;
-    }
-    line.push_str("\n")?;
-    Ok(line)
-}
-
-/// The path and all versions on one line. It needs no list of the versions to show.
-fn all_line(
-    alloc: Global,
-    path: &ModPath,
-    versions: &[BorrowedVersion<'_>],
-) -> Result<String, NoMemory>
-    ensures { IfOk result (λ line. string_bytes line ≡ versions_line path.now versions.now) }
+    requires can { V.can_next versions }
+    requires ends { IsFinite (V.remaining versions) }
+    ensures { IfOk result (λ line. (given : List (Bor (List ℕ))) × Drains V.next_gives versions given
+        × (string_bytes line ≡ versions_line path.now (map (λ version. version.now) given))) }
 {
     let mut line = String::from_str(alloc, path.as_str())?;
     'versions: for version in versions {
@@ -81,7 +69,7 @@ fn shown_line(
         ≡ versions_line path.now (shown_of (interval_views intervals.now) versions.now)) }
 {
     let shown = shown_versions(alloc, versions, intervals)?;
-    versions_line(alloc, path, shown.as_slice())
+    versions_line(alloc, path, shown.iter().copied())
 }
 
 /// The list of a module in the answer for it, or the report that there is none or that it is too long. It takes no
@@ -205,7 +193,7 @@ fn outcome_of_all<'p>(
 {
     let list = list_in(path, answer)?;
     let versions = versions_of(alloc, path, list)?;
-    let line = all_line(alloc, path, versions.as_slice())?;
+    let line = versions_line(alloc, path, versions.iter())?;
     Ok(line)
 }
 
@@ -227,7 +215,7 @@ fn outcome_of_shown<'p, F: Asks>(
     match latest_version(alloc, versions.as_slice())? {
         Some(latest) => latest_outcome(alloc, path, versions.as_slice(), latest, files),
         None => {
-            let line = all_line(alloc, path, versions.as_slice())?;
+            let line = versions_line(alloc, path, versions.iter())?;
             Ok(line)
         }
     }

@@ -6,7 +6,7 @@ use Rattle.std.proofs.lemmas.Result.{err_from_is_err_and}
 use Rattle.std.specs.List.{filter_map}
 use Rattle.gm_file_edit.specs.Edits.{edit_in}
 use Rattle.gm_file_edit.proofs.Walking.{drop-next}
-use Rattle.gomod_run.specs.Editing.{edited_in_turn, refusals_from}
+use Rattle.gomod_run.specs.Editing.{lines_after_all, refusals_from}
 use Rattle.gomod_run.specs.Outcome.{report_outcome}
 use Rattle.gomod_run.proofs.Operations.{all_applied, bad_file, one_refused}
 use Rattle.gomod_run.proofs.edit.edit_outcome.Goals as goal
@@ -35,6 +35,6 @@ returns c =
     let none = drop_of_length-le all {i = n} (omega (arith, c.loop-n-test.false)) in
     inl (all_applied (map string_bytes all) c.args.file.now c.in_ok-editor.editor c.into_doc.result (string_bytes c.in_ok-format.field-0) c.in_ok-editor.ensures
     (c.loop-n.invariant.refusals ∙ ap (λ (rest : List (String Global)). refusals_from (n + 1) (map string_bytes rest)) none)
-    (c.loop-n.invariant.lines ∙ ap (λ (rest : List (String Global)). edited_in_turn (filter_map edit_in (map string_bytes rest)) c.loop-n.editor) none
+    (c.loop-n.invariant.lines ∙ ap (λ (rest : List (String Global)). lines_after_all (filter_map edit_in (map string_bytes rest)) c.loop-n.editor) none
     ∙ sym c.into_doc.ensures.lines)
     (search rules))

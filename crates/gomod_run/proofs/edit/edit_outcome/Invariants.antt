@@ -1,7 +1,7 @@
 use Rattle.std.proofs.Common.{◌≡◌, ◌+◌, drop, map, string_bytes}
 use Rattle.std.specs.List.{filter_map}
 use Rattle.gm_file_edit.specs.Edits.{edit_in}
-use Rattle.gomod_run.specs.Editing.{edited_in_turn, refusals_from}
+use Rattle.gomod_run.specs.Editing.{lines_after_all, refusals_from}
 use Rattle.gomod_run.proofs.edit.edit_outcome.Given as goal
 
 -- the remaining operations have the refusals of all of them, and give the lines that all of them give
@@ -11,6 +11,6 @@ invariant-loop-n l =
     let rest = map string_bytes (drop l.n l.operations) in
     record {
       refusals : refusals_from 1 all ≡ refusals_from (l.n + 1) rest;
-      lines : edited_in_turn (filter_map edit_in all) l.initial.editor
-          ≡ edited_in_turn (filter_map edit_in rest) l.editor;
+      lines : lines_after_all (filter_map edit_in all) l.initial.editor
+          ≡ lines_after_all (filter_map edit_in rest) l.editor;
     }

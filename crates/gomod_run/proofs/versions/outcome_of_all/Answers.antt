@@ -1,8 +1,10 @@
-use Rattle.std.proofs.Common.{ap, inl, inr}
+use Rattle.std.proofs.Common.{◌∙◌, ap, inl, inr, string_bytes}
+use Rattle.std.proofs.lemmas.Iterator.{YieldsList-from_slice}
 use Rattle.std.proofs.lemmas.Result.{err_from_is_err_and}
 use Rattle.gm_store.specs.Asked.{reply_of}
 use Rattle.gomod_run.specs.Outcome.{OrNoMemory, outcome_view, text_outcome}
 use Rattle.gomod_run.specs.Listing.{IsAllOutcome}
+use Rattle.gomod_run.proofs.Joining.{line_of_versions}
 use Rattle.gomod_run.proofs.Steps.{list_ends, no_memory, none_ends}
 use Rattle.gomod_run.proofs.versions.outcome_of_all.Goals as goal
 
@@ -25,5 +27,9 @@ returns-in_err-line c =
 
 pub returns : goal.returns
 returns c =
-    list_ends (λ list. OrNoMemory (IsAllOutcome c.args.path.now list)) c.args.path.now (reply_of c.args.answer.now) c.in_ok-list.list.now _
-    c.in_ok-list.ensures (inl (c.in_ok-versions.versions.items, c.in_ok-versions.ensures, ap text_outcome (rw c.as_slice.ensures.value at c.in_ok-line.ensures)))
+    let path = c.args.path.now in
+    let versions = c.in_ok-versions.versions.items in
+    let all = YieldsList-from_slice {s = c.iter.result} versions (c.iter.ensures.rest ∙ c.deref.ensures.value) in
+    let line = line_of_versions path (string_bytes c.in_ok-line.line) all c.in_ok-line.ensures in
+    list_ends (λ list. OrNoMemory (IsAllOutcome path list)) path (reply_of c.args.answer.now) c.in_ok-list.list.now _
+    c.in_ok-list.ensures (inl (versions, c.in_ok-versions.ensures, ap text_outcome line))

@@ -1,7 +1,7 @@
-use Rattle.std.proofs.Common.{◌≡◌, ◌∷◌, map, take, string_bytes}
+use Rattle.std.proofs.Common.{◌≡◌, ◌∷◌, map, string_bytes}
 use Rattle.std.specs.List.{join_with_byte}
 use Rattle.gomod_run.proofs.versions.versions_line.Given as goal
 
 -- the path and the versions so far
 abbrev pub invariant-versions : goal.invariant-versions
-invariant-versions l = string_bytes l.line ≡ join_with_byte 32 (l.path ∷ take l.version-index (map (λ version. version.now) l.versions))
+invariant-versions g l = string_bytes l.line ≡ join_with_byte 32 (l.path ∷ map (λ version. version.now) l.yielded)
