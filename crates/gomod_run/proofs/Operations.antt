@@ -1,11 +1,13 @@
 -- Operations of `edit`.
-use Rattle.std.proofs.Common.{◌≡◌, ◌∙◌, ◌++◌, ◌∷◌, ◌+◌, ℕ, Bool, List, [], Option, Some, None, Err, Result, ap, codes, false, if◌then◌else◌, inl, inr, refl, sym}
-use Rattle.std.specs.List.{filter_map}
+use Rattle.std.proofs.Common.{◌≡◌, ◌∙◌, ◌++◌, ◌∷◌, ◌+◌, ℕ, Bool, List, [], IfErr, Option, Some, None, Ok, Err, Result, ap, codes, false, if◌then◌else◌, inl, inr, refl, sym, true}
+use Rattle.std.specs.Prelude.{IsErrAnd, IsOk, OnOk}
+use Rattle.std.specs.List.{cons_option, filter_map}
 use Rattle.std.specs.Option.{option_map, option_to_list}
 use Rattle.gm_syntax.specs.Document.{Line}
 use Rattle.gm_syntax.specs.Layout.{layout}
 use Rattle.gm_syntax.specs.LineViews.{plain_lines}
 use Rattle.gm_syntax.specs.Tokens.{Placed}
+use Rattle.gm_file_edit.specs.Edited.{lines_after}
 use Rattle.gm_file_edit.specs.Edits.{Edit, edit_in}
 use Rattle.gm_file_edit.specs.Kinds.{is_fit}
 use Rattle.gm_file_edit.specs.declared.fault.EditFault.{EditFault}
@@ -26,6 +28,46 @@ not_applied number text edit NoMemory told parsed misfit is = inr (ap report_out
 not_applied number text edit Misfit told parsed misfit is =
     let unfit : refusal_of (Some edit) ≡ Some (codes "Misfit") = ap (λ (fit : Bool). if fit then None else Some (codes "Misfit")) (misfit refl) in
     inl (codes "Misfit", ap refusal_of parsed ∙ unfit, ap report_outcome is)
+
+-- what a fit operation is refused for
+fits : (fit : Bool) → (fit ≡ false → ⊥) → (if fit then None else Some (codes "Misfit")) ≡ None
+fits true fit = refl
+fits false fit = absurd (fit refl)
+
+-- an operation that was parsed, by the result of applying it
+module _ (number : ℕ) (text : List ℕ) (edit : Edit) (parsed : edit_in text ≡ Some edit) where
+  pub op_accepted : (made : Result (Unit {0}) EditFault) (result : Result (Unit {0}) Report) → OnOk result (IsOk made)
+      → (is_fit edit ≡ false → ◌≡◌ {A = Result (Unit {0}) EditFault} made (Err Misfit)) → OnOk result (refusal_of (edit_in text) ≡ None)
+  op_accepted made (Err told) ok unfit = tt
+  op_accepted (Err fault) (Ok u) ok unfit = let e : false ≡ true = ok in cc e
+  op_accepted (Ok v) (Ok u) ok unfit = ap refusal_of parsed ∙ fits (is_fit edit) (λ e. absurd (cc (unfit e)))
+
+  pub op_applied : (old new : List (Line Placed)) (made : Result (Unit {0}) EditFault) (result : Result (Unit {0}) Report) → OnOk result (IsOk made)
+      → OnOk made (new ≡ lines_after edit old) → OnOk result (new ≡ lines_after_all (filter_map edit_in (text ∷ [])) old)
+  op_applied old new made (Err told) ok is = tt
+  op_applied old new (Err fault) (Ok u) ok is = let e : false ≡ true = ok in cc e
+  op_applied old new (Ok v) (Ok u) ok is = is ∙ ap (λ (o : Option Edit). lines_after_all (cons_option o []) old) (sym parsed)
+
+  pub op_refused : (made : Result (Unit {0}) EditFault) (result : Result (Unit {0}) Report) → IfErr result (λ told. IsErrAnd made (λ fault. told ≡ report_by_edit number fault))
+      → (◌≡◌ {A = Result (Unit {0}) EditFault} made (Err Misfit) → is_fit edit ≡ false) → IfErr result (λ told. OrNoMemory (IsRefusedOperation number (edit_in text)) (report_outcome told))
+  op_refused made (Ok u) err unfit = tt
+  op_refused (Ok v) (Err told) err unfit = absurd err
+  op_refused (Err fault) (Err told) err unfit = not_applied number text edit fault told parsed unfit err
+
+-- ---- the operations in turn
+
+-- one that is accepted has no refusal
+pub next_refusals : (number : ℕ) (text : List ℕ) (later : List (List ℕ)) → refusal_of (edit_in text) ≡ None → refusals_from number (text ∷ later) ≡ refusals_from (number + 1) later
+next_refusals number text later none = ap (λ (o : Option (List ℕ)). option_to_list (option_map (λ kind. (number, kind)) o) ++ refusals_from (number + 1) later) none
+
+-- those after it apply to what it left
+pub next_lines : (text : List ℕ) (later : List (List ℕ)) (lines : List (Line Placed)) → lines_after_all (filter_map edit_in (text ∷ later)) lines
+    ≡ lines_after_all (filter_map edit_in later) (lines_after_all (filter_map edit_in (text ∷ [])) lines)
+next_lines text later lines = by_option (edit_in text)
+  where
+    by_option : (o : Option Edit) → lines_after_all (cons_option o (filter_map edit_in later)) lines ≡ lines_after_all (filter_map edit_in later) (lines_after_all (cons_option o []) lines)
+    by_option None = refl
+    by_option (Some edit) = refl
 
 -- ---- how `edit` ends
 

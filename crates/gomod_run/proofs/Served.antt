@@ -24,7 +24,7 @@ use Rattle.gomod_run.specs.declared.inputs.Inputs.{Inputs}
 use Rattle.gomod_run.specs.Program.{IsInputServed, IsMainServed, IsServed, IsStoreRun, IsSumsServed, IsVersionsServed, MayBeTold, untaken}
 use Rattle.gomod_run.specs.Reads.{AreBothRead, AreInputs, AreSumsInput, AreSumsUnread, HoldsInput, HoldsNothing, IsOneUnread, IsStoreFolder, IsUnreadInput, IsUnreadList, versions_path, with_proxy}
 use Rattle.gomod_run.specs.Runs.{RunEnds, run_between, told_between}
-use Rattle.gomod_run.specs.Written.{EndsAsStated, IsWritten}
+use Rattle.gomod_run.specs.Written.{EndsAsStated, EndsOrStops, IsWritten}
 use Rattle.gomod_run.proofs.Endings.{ends_weaken, input_weaken, store_weaken}
 
 -- ---- the inputs
@@ -190,11 +190,6 @@ input_is_served may_open may_take (Chain path) own places is outcome served = cc
 
 -- ---- what can't be read
 
--- what holds of an error holds of what `?` passes on
-pub passed_on : {T E : Type 0} (stated : E → Type 0) (error : E) (result : Result T E) → IsErrAnd result (λ passed. passed ≡ error) → stated error → IfErr result stated
-passed_on stated error (Err passed) same is = subst stated (sym same) is
-passed_on stated error (Ok value) same is = tt
-
 -- the report of a file that can't be read is an outcome of the command
 pub input_unserved : (may_open : List ℕ → Opening → Type 0) (command : Command) (places : Places) (proxy : Option ProxyList) (outcome : Outcome) → IsUnreadInput may_open command places outcome
     → IsServed may_open untaken command (with_proxy places proxy) outcome
@@ -212,32 +207,20 @@ input_unserved may_open (Chain path) places proxy outcome is =
 pub input_unread : (may_take : Opening → Type 0) (command : Command) (path : List ℕ) (outcome : Outcome) → IsUnreadList may_take outcome → IsInputServed may_take command path outcome
 input_unread may_take command path outcome (fault, may, is) = (Err fault, may, is)
 
--- ---- the end
+-- ---- a run that may have stopped before it began
 
--- what a run over a store gives its caller: an end, or what can't be read, where nothing was written
-pub record IsRun (may_open : List ℕ → Opening → Type 0) (may_take : Opening → Type 0) (command : Command) (places : Places) (out out' report report' : SinkState) (served : Result Status Report) : Type 0 where
-  pub ends : IfOk served (λ status. EndsAsStated (IsServed may_open may_take command places) out out' report report' (code_of status))
-  pub unread : IfErr served (λ told. OrNoMemory (IsServed may_open may_take command places) (report_outcome told))
-  pub no_text : IfErr served (λ _. out' ≡ out)
-  pub no_report : IfErr served (λ _. report' ≡ report)
+-- it may be stated more widely
+pub stops_weaken : (one other : Outcome → Type 0) (out out' report report' : SinkState) (served : Result Status Report)
+    → ((outcome : Outcome) → one outcome → other outcome) → EndsOrStops one out out' report report' served → EndsOrStops other out out' report report' served
+stops_weaken one other out out' report report' (Ok status) wider ends = ends_weaken one other out out' report report' (code_of status) wider ends
+stops_weaken one other out out' report report' (Err told) wider (inl stated, no_text, no_report) = (inl (wider (report_outcome told) stated), no_text, no_report)
+stops_weaken one other out out' report report' (Err told) wider (inr memory, no_text, no_report) = (inr memory, no_text, no_report)
 
--- a run of `versions` over standard input is one without proxy folders
-pub input_run : (may_open : List ℕ → Opening → Type 0) (may_take : Opening → Type 0) (command : Command) (path : List ℕ) (places : Places) (out out' report report' : SinkState) (made : Result Status Report)
-    → versions_path command ≡ Some path → IfOk made (λ status. EndsAsStated (IsInputServed may_take command path) out out' report report' (code_of status))
-    → IfErr made (λ told. OrNoMemory (IsInputServed may_take command path) (report_outcome told)) → IfErr made (λ _. out' ≡ out) → IfErr made (λ _. report' ≡ report)
-    → IsRun may_open may_take command (with_proxy places None) out out' report report' made
-input_run may_open may_take command path places out out' report report' (Ok status) is ends unread no_text no_report = record {
-  ends = ends_weaken _ _ _ _ _ _ _ (input_is_served may_open may_take command path places is) ends;
-  unread = tt;
-  no_text = tt;
-  no_report = tt;
-}
-input_run may_open may_take command path places out out' report report' (Err told) is ends unread no_text no_report = record {
-  ends = tt;
-  unread = elim unread [ inl stated ↦ inl (input_is_served may_open may_take command path places is (report_outcome told) stated) | inr memory ↦ inr memory ];
-  no_text = no_text;
-  no_report = no_report;
-}
+-- nothing was written before what `?` passes on
+pub stopped : (stated : Outcome → Type 0) (out report : SinkState) (told : Report) (served : Result Status Report) → IsErrAnd served (λ passed. passed ≡ told)
+    → OrNoMemory stated (report_outcome told) → EndsOrStops stated out out report report served
+stopped stated out report told (Err passed) same is = (subst (λ (told : Report). OrNoMemory stated (report_outcome told)) (sym same) is, refl, refl)
+stopped stated out report told (Ok status) same is = absurd same
 
 -- a run of `versions` that took no standard input was one over proxy folders
 untaken_versions : (may_open : List ℕ → Opening → Type 0) (may_take : Opening → Type 0) (command : Command) (path : List ℕ) (proxy : Option ProxyList) (outcome : Outcome)
@@ -255,49 +238,40 @@ untaken_served may_open may_take Graph places outcome served = served
 untaken_served may_open may_take (Rows after limit) places outcome served = served
 untaken_served may_open may_take (Chain path) places outcome served = served
 
-pub untaken_run : (may_open : List ℕ → Opening → Type 0) (may_take : Opening → Type 0) (command : Command) (places : Places) (out out' report report' : SinkState) (made : Result Status Report)
-    → IsRun may_open untaken command places out out' report report' made → IsRun may_open may_take command places out out' report report' made
-untaken_run may_open may_take command places out out' report report' (Ok status) run = record {
-  ends = ends_weaken _ _ _ _ _ _ _ (untaken_served may_open may_take command places) run.ends;
-  unread = tt;
-  no_text = tt;
-  no_report = tt;
-}
-untaken_run may_open may_take command places out out' report report' (Err told) run = record {
-  ends = tt;
-  unread = elim run.unread [ inl stated ↦ inl (untaken_served may_open may_take command places (report_outcome told) stated) | inr memory ↦ inr memory ];
-  no_text = run.no_text;
-  no_report = run.no_report;
-}
+module _ (may_open : List ℕ → Opening → Type 0) (may_take : Opening → Type 0) (command : Command) (places : Places) where
+  -- what a run over a store gives its caller
+  abbrev pub ServedRun : Option ProxyList → SinkState → SinkState → SinkState → SinkState → Result Status Report → Type 0
+  ServedRun proxy out out' report report' served = EndsOrStops (IsServed may_open may_take command (with_proxy places proxy)) out out' report report' served
 
--- it gives the same where its results have other names
-pub same_served : (may_open : List ℕ → Opening → Type 0) (may_take : Opening → Type 0) (command : Command) (places : Places) (proxy : Option ProxyList) (out mid out' report between report' : SinkState) (made served : Result Status Report)
-    → proxy ≡ places.proxy → out' ≡ mid → report' ≡ between → served ≡ made
-    → IsRun may_open may_take command (with_proxy places proxy) out mid report between made → IsRun may_open may_take command places out out' report report' served
-same_served may_open may_take command places proxy out mid out' report between report' made served same_proxy same_out same_report same run =
-    let P : Option ProxyList → Type 0 = λ proxy. IsRun may_open may_take command (with_proxy places proxy) out mid report between made in
-    let Q : SinkState → Type 0 = λ out'. IsRun may_open may_take command places out out' report between made in
-    let R : SinkState → Type 0 = λ report'. IsRun may_open may_take command places out out' report report' made in
-    let S : Result Status Report → Type 0 = λ served. IsRun may_open may_take command places out out' report report' served in
-    subst S (sym same) (subst R (sym same_report) (subst Q (sym same_out) (subst P same_proxy run)))
+  pub untaken_run : (proxy : Option ProxyList) (out out' report report' : SinkState) (served : Result Status Report)
+      → EndsOrStops (IsServed may_open untaken command (with_proxy places proxy)) out out' report report' served → ServedRun proxy out out' report report' served
+  untaken_run proxy out out' report report' served run =
+      stops_weaken _ _ out out' report report' served (untaken_served may_open may_take command (with_proxy places proxy)) run
 
--- the end of a command whose run has none: what can't be read is reported
-pub stopped_ends : (may_open : List ℕ → Opening → Type 0) (may_take : Opening → Type 0) (command : Command) (places : Places) (told : Report) (out mid out' report between report' : SinkState) (served : Result Status Report) (status : ℕ) → served ≡ Err told
-    → IsRun may_open may_take command places out mid report between served
-    → IsWritten (report_outcome told) mid out' between report' status → EndsAsStated (IsServed may_open may_take command places) out out' report report' status
-stopped_ends may_open may_take command places told out mid out' report between report' served status is run written =
-    let run' = subst (IsRun may_open may_take command places out mid report between) is run in
-    let P : SinkState → Type 0 = λ report. IsWritten (report_outcome told) mid out' report report' status in
-    let Q : SinkState → Type 0 = λ out. IsWritten (report_outcome told) out out' report report' status in
-    record { outcome = report_outcome told; as_stated = run'.unread; utf8 = IsUtf8-nil; written = subst Q run'.no_text (subst P run'.no_report written) }
+  -- a run of `versions` over standard input is one without proxy folders
+  pub input_run : (path : List ℕ) (out out' report report' : SinkState) (served : Result Status Report) → versions_path command ≡ Some path
+      → EndsOrStops (IsInputServed may_take command path) out out' report report' served → ServedRun None out out' report report' served
+  input_run path out out' report report' served is run =
+      stops_weaken _ _ out out' report report' served (input_is_served may_open may_take command path places is) run
 
--- the end of a command that was served
-pub served_ends : (may_open : List ℕ → Opening → Type 0) (may_take : Opening → Type 0) (command : Command) (places : Places) (out mid report between report' : SinkState) (served : Result Status Report) (status : Status)
-    → IsRun may_open may_take command places out mid report between served → IfOk served (λ ran. status ≡ ran) → IfOk served (λ _. report' ≡ between)
-    → IfErr served (λ told. (any : SinkState) → IsWritten (report_outcome told) any any between report' (code_of status))
-    → EndsAsStated (IsServed may_open may_take command places) out mid report report' (code_of status)
-served_ends may_open may_take command places out mid report between report' (Ok ran) status run is same written =
-    subst (λ (last : SinkState). EndsAsStated (IsServed may_open may_take command places) out mid report last (code_of status)) (sym same)
-    (subst (λ (code : Status). EndsAsStated (IsServed may_open may_take command places) out mid report between (code_of code)) (sym is) run.ends)
-served_ends may_open may_take command places out mid report between report' (Err told) status run is same written =
-    stopped_ends may_open may_take command places told out mid mid report between report' (Err told) (code_of status) refl run (written mid)
+  -- it gives the same where its results have other names
+  pub same_served : (proxy : Option ProxyList) (out mid out' report between report' : SinkState) (made served : Result Status Report)
+      → proxy ≡ places.proxy → out' ≡ mid → report' ≡ between → served ≡ made → ServedRun proxy out mid report between made → ServedRun places.proxy out out' report report' served
+  same_served proxy out mid out' report between report' made served same_proxy same_out same_report same run =
+      let P : Option ProxyList → Type 0 = λ proxy. ServedRun proxy out mid report between made in
+      let Q : SinkState → Type 0 = λ out'. ServedRun places.proxy out out' report between made in
+      let R : SinkState → Type 0 = λ report'. ServedRun places.proxy out out' report report' made in
+      subst (ServedRun places.proxy out out' report report') (sym same) (subst R (sym same_report) (subst Q (sym same_out) (subst P same_proxy run)))
+
+  -- the end of a command that was served
+  pub served_ends : (out mid report between report' : SinkState) (served : Result Status Report) (status : Status)
+      → ServedRun places.proxy out mid report between served → IfOk served (λ ran. status ≡ ran) → IfOk served (λ _. report' ≡ between)
+      → IfErr served (λ told. (any : SinkState) → IsWritten (report_outcome told) any any between report' (code_of status))
+      → EndsAsStated (IsServed may_open may_take command places) out mid report report' (code_of status)
+  served_ends out mid report between report' (Ok ran) status run is same written =
+      subst (λ (last : SinkState). EndsAsStated (IsServed may_open may_take command places) out mid report last (code_of status)) (sym same)
+      (subst (λ (code : Status). EndsAsStated (IsServed may_open may_take command places) out mid report between (code_of code)) (sym is) run)
+  served_ends out mid report between report' (Err told) status (unread, no_text, no_report) is same written =
+      let P : SinkState → Type 0 = λ report. IsWritten (report_outcome told) mid mid report report' (code_of status) in
+      let Q : SinkState → Type 0 = λ out. IsWritten (report_outcome told) out mid report report' (code_of status) in
+      record { outcome = report_outcome told; as_stated = unread; utf8 = IsUtf8-nil; written = subst Q no_text (subst P no_report (written mid)) }

@@ -26,7 +26,7 @@ use Rattle.gm_graph.specs.Run.{AskedInTurn, more, nothing}
 use Rattle.gm_graph.proofs.Dues.{none_in_turn}
 use Rattle.gomod_run.specs.Needs.{AnswersByName, FailsInTurn}
 use Rattle.gomod_run.proofs.InTurn.{IsWanted}
-use Rattle.gomod_run.specs.Runs.{ComesTo, run_between, told_between}
+use Rattle.gomod_run.specs.Runs.{ComesTo, IsVersionsRun, run_between, told_between}
 use Rattle.gomod_run.specs.Versions.{IsEndByList, IsRefusedList, IsShownBy, IsShownOutcome, IsUnfetchable, IsVersionsOutcome, NeedsFile, VersionsEnds, VersionsNeed, answered, by_latest, by_list, device, unfetchable, unfiltered, versions_line}
 use Rattle.gomod_words.specs.declared.usage.Command.TheVariants.{Versions}
 use Rattle.gomod_run.proofs.Answering.{file_answer, list_answer}
@@ -141,15 +141,7 @@ refused_on old new outcome one is grown name also =
     let tail : one ∷ [] ≡ name ∷ [] = append_cancel_left old.refused (one ∷ []) (name ∷ []) (sym grown ∙ also) in
     let same : one ≡ name = cc tail in is ∙ ap (λ (name : Name). failure_outcome (device_line name)) same
 
--- ---- the clauses of a run
-
--- what the contract of `versions_outcome` says of a run, but for its answers
-pub record IsVersionsRun (path : List ℕ) (all : Bool) (old new : StoreState) (outcome : Outcome) : Type 0 where
-  pub ends : OrNoMemory (VersionsEnds path all (told_between old new)) outcome
-  pub device : (name : Name) → new.refused ≡ old.refused ++ name ∷ [] → outcome ≡ failure_outcome (device_line name)
-  pub no_list : (other : Outcome) → IsRefusedList path (answer_in new.asked) other → outcome ≡ other
-  pub in_turn : AskedInTurn (VersionsNeed path all) new.asked
-  pub fails : FailsInTurn (VersionsNeed path all) old new
+-- ---- the parts of a run
 
 -- the report that there is no list, or that it is too long, is one
 one_refusal : (Leads : List ℕ → Outcome → Type 0) (path : List ℕ) (reply : Reply) (outcome other : Outcome)
@@ -298,11 +290,12 @@ module _ (path : List ℕ) (all : Bool) (old mid new : StoreState) (first : old.
 
   -- the versions that are not retracted are to be printed
   shown_run : (outcome : Outcome) → IsShownAsked path list mid new outcome → IsVersionsRun path all old new outcome
-  shown_run outcome (inl (listed, is, same)) =
+  shown_run outcome (inl (versions, listed, inl (none, is, same))) =
       subst (λ (state : StoreState). IsVersionsRun path all old state outcome) (sym same)
-      (listed_run path all old first mid (bytes list) fetchable heard outcome (inl ([], listed, inr refl, is)))
-  shown_run outcome (inr (inl full)) = latest_run full.0 full.1 outcome full.2 full.3 full.4
-  shown_run outcome (inr (inr unasked)) = unasked_run outcome unasked
+      (listed_run path all old first mid (bytes list) fetchable heard outcome (inl (versions, listed, inr none, is)))
+  shown_run outcome (inl (versions, listed, inr (inl (latest, greatest, asked)))) = latest_run versions latest outcome listed greatest asked
+  shown_run outcome (inl (versions, listed, inr (inr unasked))) = unasked_run outcome unasked
+  shown_run outcome (inr unasked) = unasked_run outcome unasked
 
 -- this is the reply to the last ask
 abbrev IsLastReply : StoreState → Reply → Type 0
@@ -363,6 +356,12 @@ versions_come path all before after old new outcome is served main sums = record
 }
 
 -- ---- single functions
+
+-- what holds of a report holds of what `?` passes on
+pub passed : (Is : Outcome → Type 0) (told : Report) (result : Result (String Global) Report) → IsErrAnd result (λ passed. passed ≡ told) → Is (report_outcome told)
+    → Is (outcome_view result)
+passed Is told (Err other) same is = subst (λ (told : Report). Is (report_outcome told)) (sym same) is
+passed Is told (Ok text) same is = absurd same
 
 -- memory ran out, which is passed on
 pub no_memory : (result : Result (String Global) Report) → IsErrAnd result (λ told. told ≡ report.NoMemory) → outcome_view result ≡ out_of_memory

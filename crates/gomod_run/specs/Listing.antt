@@ -24,19 +24,23 @@ abbrev pub IsAllOutcome : List ℕ → List ℕ → Outcome → Type 0
 IsAllOutcome path list outcome = (versions : List (List ℕ)) × AreListed path list versions
     × (outcome ≡ text_outcome (versions_line path versions))
 
--- the list has no versions, which is printed, and nothing more was asked
-abbrev pub IsEmptyList : List ℕ → List ℕ → StoreState → StoreState → Outcome → Type 0
-IsEmptyList path list old new outcome =
-    AreListed path list [] × (outcome ≡ text_outcome (versions_line path [])) × (new ≡ old)
+-- there are no versions, which is printed, and nothing more was asked
+abbrev pub AreNoneAsked : List ℕ → List (List ℕ) → StoreState → StoreState → Outcome → Type 0
+AreNoneAsked path versions old new outcome =
+    (versions ≡ []) × (outcome ≡ text_outcome (versions_line path versions)) × (new ≡ old)
 
--- the list has versions, and the go.mod of the latest one was asked for
-abbrev pub IsFullList : List ℕ → List ℕ → StoreState → StoreState → Outcome → Type 0
-IsFullList path list old new outcome = (versions : List (List ℕ)) × (latest : List ℕ)
-    × AreListed path list versions
-    × IsLatest versions latest
+-- there are versions, and the go.mod of the latest one was asked for
+abbrev pub AreSomeAsked : List ℕ → List (List ℕ) → StoreState → StoreState → Outcome → Type 0
+AreSomeAsked path versions old new outcome = (latest : List ℕ) × IsLatest versions latest
     × IsLatestAsked path versions latest old new outcome
 
--- what a list ends with if retracted versions are not to be printed, unless memory ran out before more was asked
+-- what listed versions end with if retracted ones are not to be printed, unless memory ran out before more was asked
+abbrev pub AreShownAsked : List ℕ → List (List ℕ) → StoreState → StoreState → Outcome → Type 0
+AreShownAsked path versions old new outcome = AreNoneAsked path versions old new outcome
+    ⊎ (AreSomeAsked path versions old new outcome ⊎ IsUnanswered old new outcome)
+
+-- what a list ends with if retracted versions are not to be printed, unless memory ran out before it was read
 abbrev pub IsShownAsked : List ℕ → List ℕ → StoreState → StoreState → Outcome → Type 0
-IsShownAsked path list old new outcome = IsEmptyList path list old new outcome
-    ⊎ (IsFullList path list old new outcome ⊎ IsUnanswered old new outcome)
+IsShownAsked path list old new outcome =
+    ((versions : List (List ℕ)) × AreListed path list versions × AreShownAsked path versions old new outcome)
+    ⊎ IsUnanswered old new outcome

@@ -1,7 +1,7 @@
 //! `edit`: each operation is parsed and applied in turn. This is here and not in `gm_file_edit`, because reports belong
 //! to the program and not to the library.
 
-ghost use Rattle.std.specs.Prelude.{◌≡◌, ◌∷◌, [], IfErr, MatchResult, None, OnOk, map};
+ghost use Rattle.std.specs.Prelude.{◌≡◌, ◌∷◌, [], IfErr, IsErrAnd, IsOk, MatchResult, None, OnOk, map};
 ghost use Rattle.std.specs.List.{filter_map};
 ghost use Rattle.std.specs.String.{string_bytes};
 ghost use Rattle.gm_file_edit.specs.Edits.{edit_in};
@@ -44,6 +44,17 @@ fn unapplied<'r>(number: usize, fault: EditFault) -> Report<'r>
     }
 }
 
+/// What applying the operation of this number comes to, with the report if it is not applied.
+fn reported<'r>(number: usize, applied: Result<(), EditFault>) -> Result<(), Report<'r>>
+    ensures ok { OnOk result (IsOk applied) }
+    ensures err { IfErr result (λ told. IsErrAnd applied (λ fault. told ≡ report_by_edit number fault)) }
+{
+    match applied {
+        Ok(()) => Ok(()),
+        Err(fault) => Err(unapplied(number, fault)),
+    }
+}
+
 /// Parses the operation of this number and applies it.
 fn apply_text<'r>(
     alloc: Global,
@@ -56,13 +67,9 @@ fn apply_text<'r>(
     ensures refused { IfErr result (λ told. OrNoMemory (IsRefusedOperation number (edit_in text.now))
         (report_outcome told)) }
 {
-    let op = match Op::parse(alloc, text) {
-        Ok(op) => op,
-        Err(fault) => return Err(unparsed(number, fault)),
-    };
-    match editor.apply(&op) {
-        Ok(()) => Ok(()),
-        Err(fault) => Err(unapplied(number, fault)),
+    match Op::parse(alloc, text) {
+        Ok(op) => reported(number, editor.apply(&op)),
+        Err(fault) => Err(unparsed(number, fault)),
     }
 }
 

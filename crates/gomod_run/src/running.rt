@@ -8,7 +8,7 @@ ghost use Rattle.gomod_run.specs.Written.{EndsAsStated, IsWritten};
 
 use crate::outcome::outcome;
 use crate::reports::status::Status;
-use crate::writing::{print_text, write_report};
+use crate::writing::write_outcome;
 use gm_store::{Asks, Sink};
 use gomod_words::Command;
 use std::alloc::Global;
@@ -82,8 +82,6 @@ pub fn run<F: Asks, O: Sink, R: Sink>(
         (λ outcome. IsWritten outcome
         (O.state out.old) (O.state out.new) (R.state report.old) (R.state report.new) (code_of result)) }
 {
-    match outcome(alloc, command, main, sums, files) {
-        Ok(text) => print_text(out, text.as_str()),
-        Err(told) => write_report(report, &told),
-    }
+    let ended = outcome(alloc, command, main, sums, files);
+    write_outcome(ended, out, report)
 }

@@ -2,11 +2,11 @@
 //! input for `versions`, and over an empty store for another command.
 
 ghost use Rattle.std.specs.Prelude.{◌≡◌, IfErr, IfOk, None, Some};
-ghost use Rattle.gomod_run.specs.Outcome.{OrNoMemory, code_of, report_outcome};
+ghost use Rattle.gomod_run.specs.Outcome.{code_of, report_outcome};
 ghost use Rattle.gomod_run.specs.Program.{IsInputServed, IsServed, untaken};
 ghost use Rattle.gomod_run.specs.Reads.{versions_path, with_proxy};
 ghost use Rattle.gm_store.specs.Taken.{SinkState};
-ghost use Rattle.gomod_run.specs.Written.{EndsAsStated, IsWritten};
+ghost use Rattle.gomod_run.specs.Written.{EndsAsStated, EndsOrStops, IsWritten};
 
 use crate::inputs::read_inputs;
 use crate::reports::report::Report;
@@ -28,15 +28,9 @@ fn over_folders<'a, S: FileSystem + Copy + Drop + Alloc<A = Global>, O: Sink, R:
     out: &mut O,
     report: &mut R,
 ) -> Result<Status, Report<'a>>
-    ensures ends { IfOk result (λ status.
-        EndsAsStated (IsServed (S.may_open rt.now) untaken command.now (with_proxy places.now (Some folders)))
-        (O.state out.old) (O.state out.new) (R.state report.old) (R.state report.new)
-        (code_of status)) }
-    ensures unread { IfErr result (λ told.
-        OrNoMemory (IsServed (S.may_open rt.now) untaken command.now (with_proxy places.now (Some folders)))
-        (report_outcome told)) }
-    ensures no_text { IfErr result (λ _. O.state out.new ≡ O.state out.old) }
-    ensures no_report { IfErr result (λ _. R.state report.new ≡ R.state report.old) }
+    ensures { EndsOrStops
+        (IsServed (S.may_open rt.now) untaken command.now (with_proxy places.now (Some folders)))
+        (O.state out.old) (O.state out.new) (R.state report.old) (R.state report.new) result }
 {
     let read = read_inputs(rt, command, places)?;
     let folder = store_folder(rt.alloc(), command, places.main.as_str())?;
@@ -62,15 +56,8 @@ fn over_memory<'a, S: FileSystem + Alloc<A = Global>, O: Sink, R: Sink>(
     report: &mut R,
 ) -> Result<Status, Report<'a>>
     requires { versions_path command.now ≡ None }
-    ensures ends { IfOk result (λ status.
-        EndsAsStated (IsServed (S.may_open rt.now) untaken command.now (with_proxy places.now None))
-        (O.state out.old) (O.state out.new) (R.state report.old) (R.state report.new)
-        (code_of status)) }
-    ensures unread { IfErr result (λ told.
-        OrNoMemory (IsServed (S.may_open rt.now) untaken command.now (with_proxy places.now None))
-        (report_outcome told)) }
-    ensures no_text { IfErr result (λ _. O.state out.new ≡ O.state out.old) }
-    ensures no_report { IfErr result (λ _. R.state report.new ≡ R.state report.old) }
+    ensures { EndsOrStops (IsServed (S.may_open rt.now) untaken command.now (with_proxy places.now None))
+        (O.state out.old) (O.state out.new) (R.state report.old) (R.state report.new) result }
 {
     let read = read_inputs(rt, command, places)?;
     let mut files = MemoryFiles::new(rt.alloc());
@@ -96,14 +83,8 @@ fn over_input<'a, S: StandardInput + Alloc<A = Global>, O: Sink, R: Sink>(
     report: &mut R,
 ) -> Result<Status, Report<'a>>
     requires { versions_path command.now ≡ Some path.now }
-    ensures ends { IfOk result (λ status.
-        EndsAsStated (IsInputServed (S.may_take rt.now) command.now path.now)
-        (O.state out.old) (O.state out.new) (R.state report.old) (R.state report.new)
-        (code_of status)) }
-    ensures unread { IfErr result (λ told.
-        OrNoMemory (IsInputServed (S.may_take rt.now) command.now path.now) (report_outcome told)) }
-    ensures no_text { IfErr result (λ _. O.state out.new ≡ O.state out.old) }
-    ensures no_report { IfErr result (λ _. R.state report.new ≡ R.state report.old) }
+    ensures { EndsOrStops (IsInputServed (S.may_take rt.now) command.now path.now)
+        (O.state out.old) (O.state out.new) (R.state report.old) (R.state report.new) result }
 {
     let mut files = list_store(rt, path)?;
     Ok(run(rt.alloc(), command, &[], None, &mut files, out, report))

@@ -9,17 +9,16 @@ ghost use Rattle.std.specs.List.Sorted.{IsStrictlySortedBy};
 ghost use Rattle.gm_name.specs.Version.{version_cmp};
 ghost use Rattle.gm_file.specs.Views.{interval_views};
 ghost use Rattle.gm_file.specs.Shown.{shown_of};
-ghost use Rattle.gm_store.specs.Asked.{IsWithinLimit, Name, answer_in, bytes, mod_file, reply_of};
+ghost use Rattle.gm_store.specs.Asked.{IsWithinLimit, Name, answer_in, bytes, mod_file, name_of, reply_of};
 ghost use Rattle.gm_store.specs.States.{HasServed};
 ghost use Rattle.gm_graph.specs.Reading.{IsFileReading};
 ghost use Rattle.gm_graph.specs.Summaries.{RetractsBy, reading_of};
 ghost use Rattle.gomod_run.specs.Outcome.{OrNoMemory, out_of_memory, outcome_view, report_outcome};
 ghost use Rattle.gm_store.specs.Latest.{IsLatest};
 ghost use Rattle.gomod_run.specs.Asking.{IsLatestAsked};
-ghost use Rattle.gomod_run.specs.Listing.{IsAllOutcome, IsListAsked, IsShownAsked};
-ghost use Rattle.gomod_run.specs.Runs.{ComesTo};
+ghost use Rattle.gomod_run.specs.Listing.{AreShownAsked, IsAllOutcome, IsListAsked, IsShownAsked};
+ghost use Rattle.gomod_run.specs.Runs.{IsVersionsRun};
 ghost use Rattle.gomod_run.specs.Versions.{IsEndByList, IsShownOutcome, versions_line};
-ghost use Rattle.gomod_words.specs.declared.usage.Command.TheVariants.{Versions};
 
 use crate::asking::ask_for;
 use crate::reports::report::Report;
@@ -133,6 +132,13 @@ fn shown_outcome<'p>(
     }
 }
 
+/// The name of the go.mod of a version.
+fn mod_name(alloc: Global, path: &ModPath, version: &ModVersion) -> Result<FileName, NoMemory>
+    ensures { IfOk result (λ name. name_of name ≡ mod_file path.now version.now) }
+{
+    Ok(FileName::Mod(path.copy(alloc)?, version.copy(alloc)?))
+}
+
 /// Asks for the go.mod of the latest version, and gives what the listed versions end with.
 fn latest_outcome<'p, F: Asks>(
     alloc: Global,
@@ -148,7 +154,7 @@ fn latest_outcome<'p, F: Asks>(
     ensures served { HasServed (F.may_answer files.old) (F.may_answer files.new)
         (F.state files.old) (F.state files.new) }
 {
-    ask_for(files, FileName::Mod(path.copy(alloc)?, latest.copy(alloc)?))?;
+    ask_for(files, mod_name(alloc, path, &latest)?)?;
     shown_outcome(alloc, path, versions, latest, files.last())
 }
 
@@ -197,8 +203,31 @@ fn outcome_of_all<'p>(
     Ok(line)
 }
 
-/// What a list ends with if retracted versions are not to be printed. If it has versions, the go.mod of the latest one
+/// What listed versions end with if retracted ones are not to be printed. If there are any, the go.mod of the latest one
 /// is asked for.
+fn outcome_of_listed<'p, F: Asks>(
+    alloc: Global,
+    path: &'p ModPath,
+    versions: &[BorrowedVersion<'_>],
+    files: &mut F,
+) -> Result<String, Report<'p>>
+    requires ascending { IsStrictlySortedBy version_cmp versions.now }
+    requires unasked { (latest : List ℕ) → answer_in (F.state files.old).asked (mod_file path.now latest) ≡ None }
+    ensures asked { AreShownAsked path.now versions.now (F.state files.old) (F.state files.new)
+        (outcome_view result) }
+    ensures served { HasServed (F.may_answer files.old) (F.may_answer files.new)
+        (F.state files.old) (F.state files.new) }
+{
+    match latest_version(alloc, versions)? {
+        Some(latest) => latest_outcome(alloc, path, versions, latest, files),
+        None => {
+            let line = versions_line(alloc, path, versions.iter())?;
+            Ok(line)
+        }
+    }
+}
+
+/// What a list ends with if retracted versions are not to be printed.
 fn outcome_of_shown<'p, F: Asks>(
     alloc: Global,
     path: &'p ModPath,
@@ -212,13 +241,7 @@ fn outcome_of_shown<'p, F: Asks>(
         (F.state files.old) (F.state files.new) }
 {
     let versions = versions_of(alloc, path, list)?;
-    match latest_version(alloc, versions.as_slice())? {
-        Some(latest) => latest_outcome(alloc, path, versions.as_slice(), latest, files),
-        None => {
-            let line = versions_line(alloc, path, versions.iter())?;
-            Ok(line)
-        }
-    }
+    outcome_of_listed(alloc, path, versions.as_slice(), files)
 }
 
 /// What `versions` ends with over a store that has not been asked yet. With `all`, retracted versions are printed too.
@@ -229,9 +252,9 @@ pub(crate) fn versions_outcome<'p, F: Asks>(
     files: &mut F,
 ) -> Result<String, Report<'p>>
     requires { (F.state files.old).asked ≡ [] }
-    ensures { (main : List ℕ) (sums : Option (List ℕ)) → ComesTo (Versions path.now all) main sums
-        (F.may_answer files.old) (F.may_answer files.new) (F.state files.old) (F.state files.new)
-        (outcome_view result) }
+    ensures run { IsVersionsRun path.now all (F.state files.old) (F.state files.new) (outcome_view result) }
+    ensures served { HasServed (F.may_answer files.old) (F.may_answer files.new)
+        (F.state files.old) (F.state files.new) }
 {
     ask_for_list(alloc, path, files)?;
     if all {

@@ -1,8 +1,9 @@
 //! Writing what a command ends with. All writing is in this file, so that the status after a failed sink is settled in
 //! one place.
 
+ghost use Rattle.std.specs.Str.{IsUtf8};
 ghost use Rattle.gm_store.specs.Taken.{SinkState};
-ghost use Rattle.gomod_run.specs.Outcome.{code_of, text_outcome, report_outcome};
+ghost use Rattle.gomod_run.specs.Outcome.{code_of, outcome_view, text_outcome, report_outcome};
 ghost use Rattle.gomod_run.specs.Written.{IsWritten};
 
 use crate::reports::report::Report;
@@ -31,5 +32,22 @@ pub(crate) fn write_report<R: Sink>(report: &mut R, told: &Report<'_>) -> Status
     match told.write(report) {
         Ok(()) => told.status(),
         Err(_) => Status::Device,
+    }
+}
+
+/// Writes what a command ends with: a text to `out` or a report to `report`. Returns the status of the run.
+pub(crate) fn write_outcome<O: Sink, R: Sink>(
+    ended: Result<String, Report<'_>>,
+    out: &mut O,
+    report: &mut R,
+) -> Status
+    ensures utf8 { IsUtf8 (outcome_view ended.entry).text }
+    ensures written { IsWritten (outcome_view ended.entry)
+        (O.state out.old) (O.state out.new) (R.state report.old) (R.state report.new)
+        (code_of result) }
+{
+    match ended {
+        Ok(text) => print_text(out, text.as_str()),
+        Err(told) => write_report(report, &told),
     }
 }

@@ -1,7 +1,14 @@
-use Rattle.gomod_run.proofs.Operations.{not_applied}
+use Rattle.gomod_run.proofs.Operations.{op_accepted, op_applied, op_refused}
 use Rattle.gomod_run.proofs.edit.apply_text.Goals as goal
 
-pub returns-clause-refused : goal.returns-clause-refused
-returns-clause-refused c =
-    not_applied c.args.number c.args.text.now c.in-Ok.op c.in-Err-apply.fault c.unapplied.result c.in-Ok.ensures.ok
-    c.in-Err-apply.ensures.misfit.0 c.unapplied.ensures
+pub returns-in-Ok-clause-accepted : goal.returns-in-Ok-clause-accepted
+returns-in-Ok-clause-accepted c =
+    op_accepted c.args.number c.args.text.now c.in-Ok.op c.in-Ok.ensures.ok c.apply.result c.reported.result c.reported.ensures.ok c.apply.ensures.misfit.1
+
+pub returns-in-Ok-clause-applied : goal.returns-in-Ok-clause-applied
+returns-in-Ok-clause-applied c =
+    op_applied c.args.number c.args.text.now c.in-Ok.op c.in-Ok.ensures.ok c.args.editor.now c.apply.new.self c.apply.result c.reported.result c.reported.ensures.ok c.apply.ensures.ok
+
+pub returns-in-Ok-clause-refused : goal.returns-in-Ok-clause-refused
+returns-in-Ok-clause-refused c =
+    op_refused c.args.number c.args.text.now c.in-Ok.op c.in-Ok.ensures.ok c.apply.result c.reported.result c.reported.ensures.err c.apply.ensures.misfit.0

@@ -1,9 +1,14 @@
 use Rattle.std.specs.Option.{option_map}
+use Rattle.gomod_run.specs.Outcome.{outcome_view}
 use Rattle.gomod_run.proofs.CommandOutcomes.{bytes_come}
+use Rattle.gomod_run.proofs.Steps.{versions_come}
 use Rattle.gomod_run.proofs.outcome.outcome.Goals as goal
 
 pub returns-in-Versions : goal.returns-in-Versions
-returns-in-Versions g c = rw c.in-Versions.is (c.versions_outcome.ensures c.args.main.now (option_map (λ sums. sums.now) c.args.sums))
+returns-in-Versions g c =
+    rw c.in-Versions.is
+    (versions_come _ _ _ _ (g.F.Asks.state c.args.files.now) (g.F.Asks.state c.versions_outcome.new.files) (outcome_view c.versions_outcome.result)
+    c.versions_outcome.ensures.run c.versions_outcome.ensures.served c.args.main.now (option_map (λ sums. sums.now) c.args.sums))
 
 pub returns-in-Fmt : goal.returns-in-Fmt
 returns-in-Fmt g c =

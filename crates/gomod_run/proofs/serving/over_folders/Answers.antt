@@ -1,24 +1,29 @@
-use Rattle.std.proofs.Common.{ℕ, List, Some, inl, option_map, subst}
+use Rattle.std.proofs.Common.{ℕ, List, Some, inl, inr, option_map, refl, subst}
 use Rattle.std.specs.String.{string_bytes}
 use Rattle.gm_store.specs.Views.{fallback_state}
 use Rattle.gm_store.proofs.Serving.{may_all}
-use Rattle.gomod_run.specs.Outcome.{OrNoMemory, report_outcome}
-use Rattle.gomod_run.specs.declared.reports.report.Report.{Report}
+use Rattle.gomod_run.specs.Outcome.{report_outcome}
 use Rattle.gomod_run.specs.Program.{IsServed, untaken}
 use Rattle.gomod_run.specs.Reads.{IsStoreFolder, with_proxy}
+use Rattle.gomod_run.specs.declared.reports.report.Report.TheVariants.{NoMemory}
 use Rattle.gomod_run.proofs.Endings.{ends_weaken}
-use Rattle.gomod_run.proofs.Served.{folders_served, input_unserved, passed_on, same_run}
+use Rattle.gomod_run.proofs.Served.{folders_served, input_unserved, same_run, stopped}
 use Rattle.gomod_run.proofs.serving.over_folders.Goals as goal
 
-pub returns-in_err-read-clause-unread : goal.returns-in_err-read-clause-unread
-returns-in_err-read-clause-unread g c =
+pub returns-in_err-read : goal.returns-in_err-read
+returns-in_err-read g c =
     let may_open = g.S.FileSystem.may_open c.args.rt.now in
     let told = c.in_err-read.field-0.0 in
-    passed_on (λ (told : Report). OrNoMemory (IsServed may_open untaken c.args.command.now (with_proxy c.args.places.now (Some c.args.folders))) (report_outcome told)) told c.from_residual.result
+    stopped (IsServed may_open untaken c.args.command.now (with_proxy c.args.places.now (Some c.args.folders))) _ _ told c.from_residual.result
     c.from_residual.ensures.1 (inl (input_unserved may_open c.args.command.now c.args.places.now (Some c.args.folders) (report_outcome told) c.in_err-read.ensures))
 
-pub returns-clause-ends : goal.returns-clause-ends
-returns-clause-ends g c =
+pub returns-in_err-folder : goal.returns-in_err-folder
+returns-in_err-folder g c =
+    stopped (IsServed (g.S.FileSystem.may_open c.args.rt.now) untaken c.args.command.now (with_proxy c.args.places.now (Some c.args.folders))) _ _ NoMemory
+    c.from_residual-in_err-folder.result c.from_residual-in_err-folder.ensures.1 (inr refl)
+
+pub returns : goal.returns
+returns g c =
     let may_open = g.S.FileSystem.may_open c.args.rt.now in
     let folder = string_bytes c.in_ok-folder.folder in
     let is = subst (λ (main : List ℕ). IsStoreFolder c.args.command.now main folder) c.as_str.ensures.value c.in_ok-folder.ensures in

@@ -1,19 +1,20 @@
 use Rattle.std.proofs.Common.{◌∙◌, ap, inl, inr, string_bytes}
 use Rattle.std.proofs.lemmas.Iterator.{YieldsList-from_slice}
-use Rattle.std.proofs.lemmas.Result.{err_from_is_err_and}
 use Rattle.gm_store.specs.Asked.{reply_of}
-use Rattle.gomod_run.specs.Outcome.{OrNoMemory, outcome_view, text_outcome}
+use Rattle.gomod_run.specs.Outcome.{OrNoMemory, outcome_view, report_outcome, text_outcome}
 use Rattle.gomod_run.specs.Listing.{IsAllOutcome}
+use Rattle.gomod_run.specs.Versions.{IsEndByList}
 use Rattle.gomod_run.proofs.Joining.{line_of_versions}
-use Rattle.gomod_run.proofs.Steps.{list_ends, no_memory, none_ends}
+use Rattle.gomod_run.proofs.Steps.{list_ends, no_memory, none_ends, passed}
 use Rattle.gomod_run.proofs.versions.outcome_of_all.Goals as goal
 
 pub returns-in_err-list : goal.returns-in_err-list
 returns-in_err-list c =
     let path = c.args.path.now in
     let reply = reply_of c.args.answer.now in
-    let p = err_from_is_err_and c.from_residual.result c.from_residual.ensures.1 in
-    rw (p.1, p.2) (none_ends (λ list. OrNoMemory (IsAllOutcome path list)) path reply _ c.in_err-list.ensures)
+    let told = c.in_err-list.field-0.0 in
+    passed (IsEndByList (λ list. OrNoMemory (IsAllOutcome path list)) path reply) told c.from_residual.result c.from_residual.ensures.1
+    (none_ends (λ list. OrNoMemory (IsAllOutcome path list)) path reply (report_outcome told) c.in_err-list.ensures)
 
 pub returns-in_err-versions : goal.returns-in_err-versions
 returns-in_err-versions c =

@@ -1,21 +1,22 @@
 use Rattle.std.proofs.Common.{inl, refl}
-use Rattle.std.proofs.lemmas.Result.{err_from_is_err_and}
 use Rattle.std.specs.Option.{option_copied}
 use Rattle.gm_store.proofs.Serving.{nothing_served}
 use Rattle.gm_file.specs.Main.{main_of}
 use Rattle.gomod_run.specs.Needs.{GraphNeeds}
+use Rattle.gomod_run.specs.FromFaults.{report_by_load}
 use Rattle.gomod_run.specs.Outcome.{outcome_view}
+use Rattle.gomod_run.specs.Runs.{ComesTo, command_of}
 use Rattle.gomod_run.proofs.CommandOutcomes.{answered, both_ok, broken, not_broken, not_loaded, query_comes, refused_read, unasked}
 use Rattle.gm_graph.proofs.Dues.{none_in_turn}
 use Rattle.gomod_run.proofs.InTurn.{load_fails, loading_in_turn}
+use Rattle.gomod_run.proofs.Steps.{passed}
 use Rattle.gomod_run.proofs.listing.answering.answer.Goals as goal
 
 pub returns-in_err-read : goal.returns-in_err-read
 returns-in_err-read g c =
     let sums = option_copied c.args.sums in
     let state = g.F.Asks.state c.args.files.now in
-    let p = err_from_is_err_and c.from_residual.result c.from_residual.ensures.1 in
-    rw (p.1, p.2)
+    passed (ComesTo (command_of c.args.query) c.args.file.now sums _ _ state state) c.in_err-read.field-0.0 c.from_residual.result c.from_residual.ensures.1
     (query_comes c.args.query c.args.file.now sums _ _ state state _
     (refused_read c.args.query c.args.file.now sums state c.read_files.result c.in_err-read.field-0.0 c.requires c.in_err-read.was c.read_files.ensures)
     (none_in_turn (GraphNeeds c.args.file.now sums) state.asked c.requires) (inl refl) (nothing_served _ state)
@@ -31,8 +32,8 @@ returns-in_err-loaded g c =
     let new = g.F.Asks.state c.load.new.files in
     let load = rw c.as_ref.ensures.value at c.load.ensures in
     let both = both_ok file sums c.read_files.result c.in_ok-read.read c.in_ok-read.was c.read_files.ensures in
-    let p = err_from_is_err_and c.from_residual-in_err-loaded.result c.from_residual-in_err-loaded.ensures.1 in
-    rw (p.1, p.2)
+    passed (ComesTo (command_of c.args.query) file sums _ _ old new) (report_by_load c.in_err-loaded.field-0.0) c.from_residual-in_err-loaded.result
+    c.from_residual-in_err-loaded.ensures.1
     (query_comes c.args.query file sums _ _ old new _
     (not_loaded c.args.query file sums main table old new c.load.result c.in_err-loaded.field-0.0 c.in_err-loaded.was both load.too_many load.device load.refused)
     (loading_in_turn file sums main table both load.asks) (load_fails file sums main table both old new c.load.result load.refused load.device) load.served

@@ -1,6 +1,6 @@
-use Rattle.std.proofs.Common.{◌∙◌, ◌++◌, List, [], ap, codes, drop, refl, suc, sym, take, take_all, ℕ}
+use Rattle.std.proofs.Common.{◌∙◌, ◌+◌, ◌++◌, List, [], Ok, ap, codes, drop, refl, suc, sym, take, take_all, ℕ}
 use Rattle.std.specs.List.{flat_map}
-use Rattle.gomod_run.proofs.Waiting.{around, gives_more, gives_no_end, no_more}
+use Rattle.gomod_run.proofs.Waiting.{around, gives_more, gives_no_end, no_more, one_more}
 use Rattle.gomod_run.specs.ReportTexts.{line}
 use Rattle.gomod_run.proofs.reports.buffer.LineBuffer.give_line.Goals as goal
 
@@ -22,6 +22,17 @@ returns-in_err-give g c =
     c.args.self.now c.pieces.self c.give.new.self front piece rest (line (flat_map (λ piece. piece.now) pieces))
     c.in_err-give.field-0.0 c.from_residual-in_err-give.result c.from_residual-in_err-give.ensures.0
     (split ∙ ap (λ (t : List ℕ). front ++ (t ++ rest)) (sym c.as_bytes.ensures.value)) c.pieces.invariant c.in_err-give.ensures
+
+pub pieces-preserved : goal.pieces-preserved
+pieces-preserved g c =
+    let pieces = c.args.pieces.now in
+    let at = c.pieces.piece-index in
+    let front = flat_map (λ piece. piece.now) (take at pieces) in
+    gives_more (g.R.Sink.state c.args.sink.now) (g.R.Sink.state c.pieces.sink) (g.R.Sink.state c.give.new.sink)
+    c.args.self.now c.pieces.self c.give.new.self front c.as_bytes.result.now (flat_map (λ piece. piece.now) (take (at + 1) pieces))
+    (Ok c.in_ok-give.field-0)
+    (one_more (λ piece. piece.now) pieces at (record { ref_ptr = (0, 0); now = [] }) c.pieces-test.true ∙ ap (λ (t : List ℕ). front ++ t) (sym c.as_bytes.ensures.value))
+    c.pieces.invariant c.in_ok-give.ensures
 
 pub returns : goal.returns
 returns g c =
