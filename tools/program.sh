@@ -350,7 +350,8 @@ def passes(program, path, case):
                 over = f", allocation {number} refused"
             stream = run.stream_to_cut()
             if got == wanted and stream:
-                over, wanted, got = f", {stream} is /dev/full", CUT, run.comes_to(program, folder, stdin, cut=stream)
+                over, wanted = f", {stream} is /dev/full", CUT
+                got = run.comes_to(program, folder, stdin, memory=case.memory, cut=stream)
             if got != wanted:
                 if good:
                     print(f"{path}:{case.line}: {case.title}")
