@@ -1,9 +1,8 @@
 -- The path and the versions on one line, as an iterator gives the versions.
-use Rattle.std.proofs.Common.{◌≡◌, ◌∙◌, ℕ, Bor, List, [], ◌∷◌, ◌++◌, Option, map, map-id, ap, append_assoc, refl, string_bytes, sym}
+use Rattle.std.proofs.Common.{◌≡◌, ◌∙◌, ℕ, Bor, List, [], ◌∷◌, ◌++◌, Option, map, map-id, ap, append_assoc, refl, sym}
 use Rattle.std.proofs.lemmas.Iterator.{YieldsList, items_from_drains}
 use Rattle.std.specs.Iterator.{Drains}
 use Rattle.std.specs.List.{join_with_byte}
-use Rattle.std.specs.Prelude.{String}
 use Rattle.gomod_run.specs.Versions.{versions_line}
 
 -- one more piece is added after the byte

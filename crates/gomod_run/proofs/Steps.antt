@@ -24,7 +24,7 @@ use Rattle.gomod_run.specs.Listing.{IsAllOutcome, IsListAsked, IsShownAsked}
 use Rattle.gm_store.specs.States.{HasServed, StoreState}
 use Rattle.gm_graph.specs.Run.{AskedInTurn, more, nothing}
 use Rattle.gm_graph.proofs.Dues.{none_in_turn}
-use Rattle.gomod_run.specs.Needs.{AnswersByName, FailsInTurn}
+use Rattle.gomod_run.specs.Needs.{AnswersByName}
 use Rattle.gomod_run.proofs.InTurn.{IsWanted}
 use Rattle.gomod_run.specs.Runs.{ComesTo, IsVersionsRun, run_between, told_between}
 use Rattle.gomod_run.specs.Versions.{IsEndByList, IsRefusedList, IsShownBy, IsShownOutcome, IsUnfetchable, IsVersionsOutcome, NeedsFile, VersionsEnds, VersionsNeed, answered, by_latest, by_list, device, unfetchable, unfiltered, versions_line}

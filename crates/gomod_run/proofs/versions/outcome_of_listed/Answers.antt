@@ -1,4 +1,4 @@
-use Rattle.std.proofs.Common.{◌≡◌, ◌∙◌, [], ap, inl, inr, refl, string_bytes}
+use Rattle.std.proofs.Common.{◌≡◌, [], ap, inl, inr, refl, string_bytes}
 use Rattle.std.proofs.lemmas.Iterator.{YieldsList-from_slice}
 use Rattle.gomod_run.specs.Outcome.{text_outcome}
 use Rattle.gomod_run.proofs.Joining.{line_of_versions}
