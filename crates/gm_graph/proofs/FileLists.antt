@@ -32,7 +32,8 @@ module _ (modules : List ModuleVersion) (distinct : IsDistinct pair_eq modules) 
   apart n m lt below same = false≢true (sym (apart_from_distinct pair_eq modules n m ([], []) distinct lt below)
       ∙ ap (λ (v : ModuleVersion). pair_eq v (module_at modules m)) same ∙ pairs-equivalence.refl (module_at modules m))
 
-  number_same : (n m : ℕ) → n < length modules → m < length modules → module_at modules n ≡ module_at modules m → n ≡ m
+  -- A module has one number.
+  pub number_same : (n m : ℕ) → n < length modules → m < length modules → module_at modules n ≡ module_at modules m → n ≡ m
   number_same n m below inside same = elim (cases_lt n m) [
     | inl lt ↦ absurd (apart n m lt inside same)
     | inr ge ↦ elim (cases_lt m n) [ inl lt ↦ absurd (apart m n lt below (sym same)) | inr le ↦ omega (arith, ge, le) ]

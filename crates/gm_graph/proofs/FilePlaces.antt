@@ -1,70 +1,99 @@
--- The places of files: beside their modules, and of their names.
-use Rattle.std.proofs.Common.{◌≡◌, ◌∙◌, ◌<◌, ◌≤◌, ℕ, zero, suc, Bool, true, false, cond, List, [], ◌∷◌, ◌++◌, Option, Some, None, length, get_or, ap, arith, refl, sym}
+-- The places of files: noted for the numbers of modules, and of their names.
+use Rattle.std.proofs.Common.{◌≡◌, ◌∙◌, ◌<◌, ◌≤◌, ◌++◌, ℕ, zero, suc, Bool, true, false, cond, List, [], ◌∷◌, Option, Some, None, length, get_or, ap, ap₂, arith, refl, subst, sym}
 use Rattle.std.specs.List.{All, IsDistinct}
 use Rattle.std.specs.Map.{lookup, values_of}
-use Rattle.std.specs.Option.{option_and_then, unwrap_or}
+use Rattle.std.specs.Option.{IsSome, option_and_then, option_map, option_or, unwrap_or}
 use Rattle.std.specs.Prelude.{slice_get}
 use Rattle.std.proofs.lemmas.List.Elements.{All-head, All-tail}
-use Rattle.std.proofs.lemmas.Map.Keys.{IsDistinct-tail, apart_from_distinct}
-use Rattle.gm_name.specs.ModuleVersion.{ModuleVersion, module_at, pair_eq, pair_eq-Decides}
+use Rattle.gm_name.specs.ModuleVersion.{ModuleVersion, module_at}
 use Rattle.gm_name.specs.OptionalPlaces.{no_place, place_in}
 use Rattle.gm_name.specs.declared.place.OptionalPlace.{OptionalPlace}
-use Rattle.gm_store.specs.Asked.{Name, mod_file, folder_file, list_file, name_of, same_name}
+use Rattle.gm_file.specs.Directives.{Right}
+use Rattle.gm_file.specs.Main.{Main, replacement_in}
+use Rattle.gm_store.proofs.NameOrder.{names_equal}
+use Rattle.gm_store.specs.Asked.{Name, mod_file, name_of, same_name}
 use Rattle.gm_graph.specs.declared.cache.file_table.FileTable.{FileTable}
-use Rattle.gm_graph.specs.FileTable.{IsFileOf, IsPlaceOf, kept_at, own_place, place_beside, place_of, replacing_place}
+use Rattle.gm_graph.specs.FileTable.{HasReplacing, IsFileOf, IsPlaceOf, kept_at, noted_for, place_beside, place_of, replacing_place}
 use Rattle.gm_graph.specs.Places.{IsPlace}
+use Rattle.gm_graph.specs.Reading.{file_named, file_of}
+use Rattle.gm_graph.proofs.FileLists.{number_same}
 
--- ---- a list with a place for each number, and the places beside modules
+-- ---- a list with a place for each number, and the first place for a name
 
--- the place beside a module, if this function gives the place of each number
-abbrev pub beside_by : List ModuleVersion → (ℕ → OptionalPlace) → ModuleVersion → OptionalPlace
-beside_by [] places x = no_place
-beside_by (y ∷ modules) places x = cond (pair_eq y x) (places 0) (beside_by modules (λ k. places (suc k)) x)
+-- the first place for a module whose file has this name, if this function gives the place of each number
+abbrev pub beside_by : Main → List ModuleVersion → (ℕ → Option ℕ) → Name → Option ℕ
+beside_by main [] places name = None
+beside_by main (y ∷ modules) places name =
+    option_or (cond (same_name name (file_of main y)) (places 0) None) (beside_by main modules (λ k. places (suc k)) name)
 
-none_beside : (modules : List ModuleVersion) (x : ModuleVersion) → beside_by modules (λ k. no_place) x ≡ no_place
-none_beside [] x = refl
-none_beside (y ∷ modules) x =
-    elim (pair_eq y x) as (λ b. cond b no_place (beside_by modules (λ k. no_place) x) ≡ no_place)
-    [ true ↦ refl | false ↦ none_beside modules x ]
+pub none_first : (b : Bool) (o rest : Option ℕ) → (b ≡ true → o ≡ None) → option_or (cond b o None) rest ≡ rest
+none_first true o rest none = ap (λ (p : Option ℕ). option_or p rest) (none refl)
+none_first false o rest none = refl
 
-pub beside_is : (modules : List ModuleVersion) (places : List OptionalPlace) (x : ModuleVersion)
-    → place_beside modules places x ≡ beside_by modules (λ k. get_or places k no_place) x
-beside_is [] places x = refl
-beside_is (y ∷ modules) [] x = sym (none_beside (y ∷ modules) x)
-beside_is (y ∷ modules) (place ∷ places) x = ap (λ (n : OptionalPlace). cond (pair_eq y x) place n) (beside_is modules places x)
+-- There is none for a name if none is noted for the modules whose files have it.
+pub none_by : (main : Main) (modules : List ModuleVersion) (places : ℕ → Option ℕ) (name : Name)
+    → ((k : ℕ) → k < length modules → same_name name (file_of main (module_at modules k)) ≡ true → places k ≡ None)
+    → beside_by main modules places name ≡ None
+none_by main [] places name none = refl
+none_by main (y ∷ modules) places name none =
+    none_first (same_name name (file_of main y)) (places 0) (beside_by main modules (λ k. places (suc k)) name) (none 0 (omega arith))
+    ∙ none_by main modules (λ k. places (suc k)) name (λ k below. none (suc k) (omega (arith, below)))
 
--- A module is beside its number's place.
-at_by : (modules : List ModuleVersion) (places : ℕ → OptionalPlace) (number : ℕ) → IsDistinct pair_eq modules → number < length modules
-    → beside_by modules places (module_at modules number) ≡ places number
-at_by [] places number distinct within = absurd (omega arith)
-at_by (y ∷ modules) places zero distinct within =
-    ap (λ (b : Bool). cond b (places 0) (beside_by modules (λ k. places (suc k)) y)) ((pair_eq-Decides y y).1 refl)
-at_by (y ∷ modules) places (suc number) distinct within =
-    ap (λ (b : Bool). cond b (places 0) (beside_by modules (λ k. places (suc k)) (module_at modules number)))
-    (apart_from_distinct pair_eq (y ∷ modules) 0 (suc number) ([], []) distinct (omega arith) within)
-    ∙ at_by modules (λ k. places (suc k)) number (IsDistinct-tail pair_eq y modules distinct) (omega arith)
-
-pub place_at : (modules : List ModuleVersion) (places : List OptionalPlace) (number : ℕ) → IsDistinct pair_eq modules → number < length modules
-    → place_beside modules places (module_at modules number) ≡ get_or places number no_place
-place_at modules places number distinct within =
-    beside_is modules places (module_at modules number) ∙ at_by modules (λ k. get_or places k no_place) number distinct within
+pub beside_is : (main : Main) (modules : List ModuleVersion) (places : List OptionalPlace) (name : Name)
+    → place_beside main modules places name ≡ beside_by main modules (λ k. place_in (get_or places k no_place)) name
+beside_is main [] places name = refl
+beside_is main (y ∷ modules) [] name = sym (none_by main (y ∷ modules) (λ k. None) name (λ k below same. refl))
+beside_is main (y ∷ modules) (place ∷ places) name =
+    ap (λ (rest : Option ℕ). option_or (cond (same_name name (file_of main y)) (place_in place) None) rest) (beside_is main modules places name)
 
 -- ---- the place of a file's name
 
-pub own_at : (modules : List ModuleVersion) (files : FileTable) (number : ℕ) (name : Name) → IsFileOf modules files number name
-    → replacing_place files name ≡ None → own_place modules files name ≡ get_or files.own.items number no_place
-own_at modules files number name is none =
-    ap (own_place modules files) (is.own none) ∙ place_at modules files.own.items number is.distinct is.within
-
--- The place of a file's name is that of its replacement, or otherwise the one of its module's number.
-pub place_by : (modules : List ModuleVersion) (files : FileTable) (number : ℕ) (name : Name) → IsFileOf modules files number name
-    → place_of modules files name ≡ unwrap_or (replacing_place files name) (get_or files.own.items number no_place)
-place_by modules files number name is = cases (replacing_place files name) refl
+-- The file of a module is its own, if it is not one of a replacement.
+own_file : (main : Main) (files : FileTable) (x : ModuleVersion) → HasReplacing main files → replacing_place files (file_of main x) ≡ None
+    → file_of main x ≡ mod_file x.0 x.1
+own_file main files x has none = by (replacement_in main x) never
   where
-    cases : (o : Option OptionalPlace) → replacing_place files name ≡ o
-        → unwrap_or o (own_place modules files name) ≡ unwrap_or o (get_or files.own.items number no_place)
-    cases None none = own_at modules files number name is none
-    cases (Some place) some = refl
+    never : IsSome (replacement_in main x) → ⊥
+    never some = let there = subst (λ (o : Option OptionalPlace). IsSome o) none (has x some) in cc
+
+    by : (o : Option Right) → (IsSome o → ⊥) → file_named x o ≡ mod_file x.0 x.1
+    by None never = refl
+    by (Some right) never = absurd (never refl)
+
+one_module : (x y : ModuleVersion) → mod_file x.0 x.1 ≡ mod_file y.0 y.1 → x ≡ y
+one_module x y same =
+    let p : x.0 ≡ y.0 = cc in let v : x.1 ≡ y.1 = cc in
+    ap₂ (λ (a b : List ℕ). (a, b)) p v
+
+-- A file that is not one of a replacement is that of one module.
+one_owner : (main : Main) (files : FileTable) (x y : ModuleVersion) (name : Name) → HasReplacing main files → replacing_place files name ≡ None
+    → name ≡ file_of main x → same_name name (file_of main y) ≡ true → x ≡ y
+one_owner main files x y name has none named same =
+    let other : name ≡ file_of main y = names_equal name (file_of main y) same in
+    one_module x y
+    (sym (own_file main files x has (ap (replacing_place files) (sym named) ∙ none)) ∙ sym named ∙ other
+    ∙ own_file main files y has (ap (replacing_place files) (sym other) ∙ none))
+
+-- The place of a file's name is the one noted for its module, or otherwise that of a replacement's file.
+pub place_by : (main : Main) (modules : List ModuleVersion) (files : FileTable) (number : ℕ) (name : Name)
+    → IsFileOf main modules files number name
+    → place_of main modules files name ≡ option_or (noted_for files number) (option_and_then place_in (replacing_place files name))
+place_by main modules files number name is = noted (noted_for files number) refl
+  where
+    replacing : (o : Option OptionalPlace) → replacing_place files name ≡ o → noted_for files number ≡ None
+        → unwrap_or (option_map place_in o) (place_beside main modules files.places.items name) ≡ option_and_then place_in o
+    replacing None none nowhere =
+        beside_is main modules files.places.items name
+        ∙ none_by main modules (noted_for files) name
+        (λ k below same. ap (noted_for files) (number_same modules is.distinct k number below is.within
+        (sym (one_owner main files (module_at modules number) (module_at modules k) name is.has_replacing none is.named same)))
+        ∙ nowhere)
+    replacing (Some place) some nowhere = refl
+
+    noted : (o : Option ℕ) → noted_for files number ≡ o
+        → place_of main modules files name ≡ option_or o (option_and_then place_in (replacing_place files name))
+    noted None none = replacing (replacing_place files name) refl none
+    noted (Some place) some = ap (place_of main modules files) is.named ∙ (is.notes number place some).placed
 
 -- ---- each place is one of the files, or none
 
@@ -75,71 +104,73 @@ nowhere_within count number e = absurd (cc e)
 pub some_within : (count number : ℕ) (place : OptionalPlace) → place_in place ≡ Some number → number < count → IsPlace count place
 some_within count number place is below other e = let same : number ≡ other = cc (is, e) in omega (arith, same, below)
 
-beside_within : (count : ℕ) (modules : List ModuleVersion) (places : List OptionalPlace) (x : ModuleVersion) → All (IsPlace count) places
-    → IsPlace count (place_beside modules places x)
-beside_within count [] places x are = nowhere_within count
-beside_within count (y ∷ modules) [] x are = nowhere_within count
-beside_within count (y ∷ modules) (place ∷ places) x are =
-    elim (pair_eq y x) as (λ b. IsPlace count (cond b place (place_beside modules places x)))
-    [ true ↦ All-head (IsPlace count) place places are | false ↦ beside_within count modules places x (All-tail (IsPlace count) place places are) ]
+-- This is one of so many places, or none.
+abbrev IsWithin : ℕ → Option ℕ → Type 0
+IsWithin count place = (number : ℕ) → place ≡ Some number → number < count
 
-own_within : (modules : List ModuleVersion) (files : FileTable) (name : Name)
-    → IsPlace (length files.files.items) (own_place modules files name)
-own_within modules files (mod_file path version) =
-    beside_within (length files.files.items) modules files.own.items (path, version) files.own_places
-own_within modules files (folder_file text) = nowhere_within (length files.files.items)
-own_within modules files (list_file path) = nowhere_within (length files.files.items)
+either_within : (count : ℕ) (b : Bool) (o rest : Option ℕ) → IsWithin count o → IsWithin count rest → IsWithin count (option_or (cond b o None) rest)
+either_within count true None rest one two = two
+either_within count true (Some place) rest one two = one
+either_within count false o rest one two = two
 
-found_within : {K : Type 0} (count : ℕ) (test : K → Bool) (entries : List (K × OptionalPlace)) (otherwise : OptionalPlace)
-    → All (IsPlace count) (values_of entries) → IsPlace count otherwise
-    → IsPlace count (unwrap_or (lookup test entries) otherwise)
+beside_within : (count : ℕ) (main : Main) (modules : List ModuleVersion) (places : List OptionalPlace) (name : Name) → All (IsPlace count) places
+    → IsWithin count (place_beside main modules places name)
+beside_within count main [] places name are = λ number e. absurd (cc e)
+beside_within count main (y ∷ modules) [] name are = λ number e. absurd (cc e)
+beside_within count main (y ∷ modules) (place ∷ places) name are =
+    either_within count (same_name name (file_of main y)) (place_in place) (place_beside main modules places name)
+    (All-head (IsPlace count) place places are)
+    (beside_within count main modules places name (All-tail (IsPlace count) place places are))
+
+found_within : {K : Type 0} (count : ℕ) (test : K → Bool) (entries : List (K × OptionalPlace)) (otherwise : Option ℕ)
+    → All (IsPlace count) (values_of entries) → IsWithin count otherwise
+    → IsWithin count (unwrap_or (option_map place_in (lookup test entries)) otherwise)
 found_within count test [] otherwise are is = is
 found_within count test (entry ∷ entries) otherwise are is =
-    elim (test entry.0) as (λ b. IsPlace count (unwrap_or (cond b (Some entry.1) (lookup test entries)) otherwise)) [
+    elim (test entry.0) as (λ b. IsWithin count (unwrap_or (option_map place_in (cond b (Some entry.1) (lookup test entries))) otherwise)) [
       | true ↦ All-head (IsPlace count) entry.1 (values_of entries) are
       | false ↦ found_within count test entries otherwise (All-tail (IsPlace count) entry.1 (values_of entries) are) is
     ]
 
-pub place_within : (modules : List ModuleVersion) (files : FileTable) (name : Name)
-    → IsPlace (length files.files.items) (place_of modules files name)
-place_within modules files name =
-    found_within (length files.files.items) (λ file. same_name name (name_of file)) files.replacing.entries (own_place modules files name)
-    files.replacing_places (own_within modules files name)
+pub place_within : (main : Main) (modules : List ModuleVersion) (files : FileTable) (name : Name) (place : ℕ)
+    → place_of main modules files name ≡ Some place → place < length files.files.items
+place_within main modules files name =
+    found_within (length files.files.items) (λ file. same_name name (name_of file)) files.replacing.entries
+    (place_beside main modules files.places.items name) files.replacing_places
+    (beside_within (length files.files.items) main modules files.places.items name files.noted_places)
 
 -- ---- what `place_of` returns
 
-pub place_found : (modules : List ModuleVersion) (files : FileTable) (name : Name) (place : OptionalPlace) → place_of modules files name ≡ place
-    → IsPlaceOf modules files name (place_in place)
-place_found modules files name place is = by (place_in place) refl
-  where
-    by : (o : Option ℕ) → place_in place ≡ o → IsPlaceOf modules files name o
-    by None none = ap (option_and_then (slice_get files.files.items)) (ap place_in is ∙ none)
-    by (Some number) some = (
-      place_within modules files name number (ap place_in is ∙ some),
-      ap (option_and_then (slice_get files.files.items)) (sym (ap place_in is ∙ some)),
-    )
+pub place_found : (main : Main) (modules : List ModuleVersion) (files : FileTable) (name : Name) (place : Option ℕ)
+    → place_of main modules files name ≡ place → IsPlaceOf main modules files name place
+place_found main modules files name None none = ap (option_and_then (slice_get files.files.items)) none
+place_found main modules files name (Some place) some =
+    (place_within main modules files name place some, ap (option_and_then (slice_get files.files.items)) (sym some))
 
 -- ---- what is kept stays if there are more modules
 
-none_of_none : (modules : List ModuleVersion) (x : ModuleVersion) → no_place ≡ place_beside modules [] x
-none_of_none [] x = refl
-none_of_none (y ∷ modules) x = refl
+none_of_none : (main : Main) (modules : List ModuleVersion) (name : Name) → None ≡ place_beside main modules [] name
+none_of_none main [] name = refl
+none_of_none main (y ∷ modules) name = refl
 
-beside_if_more : (modules more : List ModuleVersion) (places : List OptionalPlace) (x : ModuleVersion) → length places ≤ length modules
-    → place_beside modules places x ≡ place_beside (modules ++ more) places x
-beside_if_more [] more [] x within = none_of_none more x
-beside_if_more [] more (place ∷ places) x within = absurd (omega arith)
-beside_if_more (y ∷ modules) more [] x within = refl
-beside_if_more (y ∷ modules) more (place ∷ places) x within =
-    ap (λ (n : OptionalPlace). cond (pair_eq y x) place n) (beside_if_more modules more places x (omega arith))
+beside_if_more : (main : Main) (modules more : List ModuleVersion) (places : List OptionalPlace) (name : Name) → length places ≤ length modules
+    → place_beside main modules places name ≡ place_beside main (modules ++ more) places name
+beside_if_more main [] more [] name within = none_of_none main more name
+beside_if_more main [] more (place ∷ places) name within = absurd (omega arith)
+beside_if_more main (y ∷ modules) more [] name within = refl
+beside_if_more main (y ∷ modules) more (place ∷ places) name within =
+    ap (λ (rest : Option ℕ). option_or (cond (same_name name (file_of main y)) (place_in place) None) rest)
+    (beside_if_more main modules more places name (omega arith))
 
-own_if_more : (modules more : List ModuleVersion) (files : FileTable) (name : Name) → length files.own.items ≤ length modules
-    → own_place modules files name ≡ own_place (modules ++ more) files name
-own_if_more modules more files (mod_file path version) within = beside_if_more modules more files.own.items (path, version) within
-own_if_more modules more files (folder_file text) within = refl
-own_if_more modules more files (list_file path) within = refl
+pub place_if_more : (main : Main) (modules more : List ModuleVersion) (files : FileTable) (name : Name)
+    → length files.places.items ≤ length modules
+    → place_of main modules files name ≡ place_of main (modules ++ more) files name
+place_if_more main modules more files name within =
+    ap (λ (p : Option ℕ). unwrap_or (option_map place_in (replacing_place files name)) p)
+    (beside_if_more main modules more files.places.items name within)
 
-pub kept_if_more : (modules more : List ModuleVersion) (files : FileTable) (name : Name) → length files.own.items ≤ length modules
-    → kept_at modules files name ≡ kept_at (modules ++ more) files name
-kept_if_more modules more files name within =
-    ap (λ (n : OptionalPlace). option_and_then (slice_get files.files.items) (place_in (unwrap_or (replacing_place files name) n))) (own_if_more modules more files name within)
+pub kept_if_more : (main : Main) (modules more : List ModuleVersion) (files : FileTable) (name : Name)
+    → length files.places.items ≤ length modules
+    → kept_at main modules files name ≡ kept_at main (modules ++ more) files name
+kept_if_more main modules more files name within =
+    ap (option_and_then (slice_get files.files.items)) (place_if_more main modules more files name within)

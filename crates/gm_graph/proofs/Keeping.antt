@@ -15,7 +15,7 @@ use Rattle.gm_graph.specs.declared.cache.Cache.{Cache}
 use Rattle.gm_graph.specs.declared.cache.file_table.FileTable.{FileTable}
 use Rattle.gm_graph.specs.declared.cache.summary.Kept.{Kept}
 use Rattle.gm_file.specs.Main.{Main, main_of}
-use Rattle.gm_graph.specs.Reading.{file_of}
+use Rattle.gm_graph.specs.Reading.{IsFileReading, file_of}
 use Rattle.gm_graph.specs.FileTable.{KeepsFiles, kept_at}
 use Rattle.gm_graph.specs.Summaries.{Grows, IsKept, summary_reading}
 use Rattle.gm_graph.specs.Cached.{HoldsSame, KeepsSound, Knows, LendsKept, LentSame, held_of, kept_file, main_in, modules_in, run_in, summary_at, sums_in}
@@ -26,7 +26,7 @@ use Rattle.gm_graph.specs.declared.cache.load_fault.LoadFault.{LoadFault}
 use Rattle.gm_graph.specs.declared.cache.load_fault.LoadFault.TheVariants as load
 use Rattle.gm_graph.proofs.Sayings.{says_more}
 use Rattle.gm_graph.proofs.PuttingPlaces.{front_stays}
-use Rattle.gm_graph.specs.Held.{AreKept, HoldsAnswers, held_under}
+use Rattle.gm_graph.specs.Held.{AreKept, held_under}
 use Rattle.gm_graph.proofs.HeldFiles.{grown_held, grown_kept, grown_lends}
 
 -- ---- the runs of a cache
@@ -53,7 +53,7 @@ says_still old new before after x lent (inr asked) =
 
 -- ---- places stay
 
-file_there : (files : List Kept) (place : ℕ) → place < length files → (one : Kept) × (slice_get files place ≡ Some one)
+pub file_there : (files : List Kept) (place : ℕ) → place < length files → (one : Kept) × (slice_get files place ≡ Some one)
 file_there [] place within = absurd (omega arith)
 file_there (file ∷ files) zero within = (file, refl)
 file_there (file ∷ files) (suc place) within = file_there files place (omega arith)
@@ -84,28 +84,31 @@ main_same old new same = ap main_of same.main
 -- A cache that holds the same knows the same.
 pub knows_still : (old new : Cache) (pairs : List (Name × Reply)) → HoldsSame old new → Knows old pairs → Knows new pairs
 knows_still old new pairs same knows =
-    let holds : HoldsAnswers (run_in old pairs) new.modules new.files = record {
-      kept = λ name reply e. let got = knows.kept name reply e in (got.0, same.held name ∙ got.1, got.2);
+    record {
+      kept = λ name reply e.
+          let got = knows.kept name reply e in
+          (got.0, same.held name ∙ got.1, subst (λ (s : Option Sums). IsFileReading s name reply got.0) (sym same.sums) got.2);
       only = λ name e. same.held name ∙ knows.only name e;
-      lends = subst (λ (m : Main). AreKept m new.modules new.files) (main_same old new same) (same.lends knows.lends);
-    } in
-    subst (λ (r : Run). HoldsAnswers r new.modules new.files) (sym (same_run old new pairs same.main same.sums)) holds
+      lends = same.lends knows.lends;
+    }
 
 -- A cache with the same files holds the same, if its list of modules only grew.
 pub holds_grown : (old new : Cache) → new.main.now ≡ old.main.now → sums_in new ≡ sums_in old → new.files ≡ old.files
     → Grows old.modules new.modules → LendsKept old → HoldsSame old new
 holds_grown old new main sums files grows lends =
     let found : (name : Name) → summary_at new name ≡ summary_at old name =
-    λ name. ap (λ (kept : FileTable). kept_at (modules_in new) kept name) files
-    ∙ grown_kept (main_in old) old.modules new.modules old.files old.own_within grows name in
+    λ name. ap (λ (m : Main). kept_at m (modules_in new) new.files name) (ap main_of main)
+    ∙ ap (λ (kept : FileTable). kept_at (main_in old) (modules_in new) kept name) files
+    ∙ grown_kept (main_in old) old.modules new.modules old.files old.places_within grows name in
     record {
       main = main;
       sums = sums;
-      held = λ name. ap (λ (kept : FileTable). held_under new.modules kept name) files
-          ∙ grown_held (main_in old) old.modules new.modules old.files old.own_within grows lends name;
+      held = λ name. ap (λ (m : Main). held_under m new.modules new.files name) (ap main_of main)
+          ∙ ap (λ (kept : FileTable). held_under (main_in old) new.modules kept name) files
+          ∙ grown_held (main_in old) old.modules new.modules old.files old.places_within grows lends name;
       lends = λ _. subst (λ (m : Main). AreKept m new.modules new.files) (ap main_of (sym main))
           (subst (λ (kept : FileTable). AreKept (main_in old) new.modules kept) (sym files)
-          (grown_lends (main_in old) old.modules new.modules old.files old.own_within grows lends));
+          (grown_lends (main_in old) old.modules new.modules old.files old.places_within grows lends));
       numbered = grows.1.numbered;
       sound = λ run. sound_still old new run run main ([], ap (λ (kept : FileTable). kept.files.items) files ∙ sym (append-nil old.files.files.items))
           (λ name one e. found name ∙ e) (λ x said says. says);
@@ -113,11 +116,12 @@ holds_grown old new main sums files grows lends =
 
 -- So does one with the same list of modules, whose files begin with the old ones.
 pub holds_listed : (old new : Cache) → new.main.now ≡ old.main.now → sums_in new ≡ sums_in old
-    → KeepsFiles (modules_in old) old.files new.files → BeginsWith old.files.files.items new.files.files.items
+    → KeepsFiles (main_in old) (modules_in old) old.files new.files → BeginsWith old.files.files.items new.files.files.items
     → new.modules ≡ old.modules → HoldsSame old new
 holds_listed old new main sums keeps files modules =
     let found : (name : Name) → summary_at new name ≡ summary_at old name =
-    λ name. ap (λ (list : NumberedList). kept_at list.modules new.files name) modules ∙ keeps name in
+    λ name. ap (λ (m : Main). kept_at m (modules_in new) new.files name) (ap main_of main)
+    ∙ ap (λ (list : NumberedList). kept_at (main_in old) list.modules new.files name) modules ∙ keeps name in
     let held : (name : Name) → held_of new name ≡ held_of old name =
     λ name. ap (λ (list : NumberedList). option_map (summary_reading (modules_of list)) (summary_at new name)) modules
     ∙ ap (option_map (summary_reading (modules_of old.modules))) (found name) in
@@ -158,6 +162,11 @@ holds_after old mid new one two = record {
   sound = λ run x place sound. two.sound run x place (one.sound run x place sound);
 }
 
+-- What was found at a place is found there by the same answers.
+pub sound_same : (old new : Cache) (pairs : List (Name × Reply)) → HoldsSame old new → KeepsSound old (run_in old pairs) new (run_in new pairs)
+sound_same old new pairs same =
+    subst (λ (r : Run). KeepsSound old (run_in old pairs) new r) (sym (same_run old new pairs same.main same.sums)) (same.sound (run_in old pairs))
+
 pub lent_after : (old mid new : Cache) → LentSame old mid → LentSame mid new → LentSame old new
 lent_after old mid new one two = record { main = two.main ∙ one.main; sums = two.sums ∙ one.sums; turns = two.turns ∙ one.turns }
 
@@ -165,7 +174,7 @@ lent_after old mid new one two = record { main = two.main ∙ one.main; sums = t
 pub holds_failed : (old mid new : Cache) → HoldsSame old mid → new.main.now ≡ mid.main.now → sums_in new ≡ sums_in mid
     → new.files ≡ mid.files → new.modules ≡ mid.modules → HoldsSame old new
 holds_failed old mid new same main sums files modules = holds_after old mid new same
-    (holds_listed mid new main sums (λ name. ap (λ (kept : FileTable). kept_at (modules_in mid) kept name) files)
+    (holds_listed mid new main sums (λ name. ap (λ (kept : FileTable). kept_at (main_in mid) (modules_in mid) kept name) files)
     ([], ap (λ (kept : FileTable). kept.files.items) files ∙ sym (append-nil mid.files.files.items)) modules)
 
 -- ---- refusals

@@ -29,7 +29,7 @@ module _ (cache : Cache) (pairs : List (Name × Reply)) (x : ModuleVersion) (nam
       cc (sym empty ∙ here)
 
   -- The place at which it is found is that of the vertex's file.
-  pub lender_named : (place : Option ℕ) → IsPlaceOf (modules_in cache) cache.files name place → IsLender cache (run_in cache pairs) x place
+  pub lender_named : (place : Option ℕ) → IsPlaceOf (main_in cache) (modules_in cache) cache.files name place → IsLender cache (run_in cache pairs) x place
   lender_named None none = absurd (named_kept none)
   lender_named (Some place) at = record {
     within = at.0;

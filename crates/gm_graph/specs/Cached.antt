@@ -44,7 +44,7 @@ module_numbered cache number = module_at (modules_in cache) number
 
 -- what is kept of the file of a name
 abbrev pub summary_at : Cache → Name → Option Kept
-summary_at cache name = kept_at (modules_in cache) cache.files name
+summary_at cache name = kept_at (main_in cache) (modules_in cache) cache.files name
 
 -- how many files are kept, and what is kept of the one at a place
 abbrev pub file_count : Cache → ℕ
@@ -55,7 +55,7 @@ kept_file cache place = slice_get cache.files.files.items place
 
 -- what is held of the file of a name: its contents or its fault
 abbrev pub held_of : Cache → Name → Option (Result Dependency Class)
-held_of cache name = held_under cache.modules cache.files name
+held_of cache name = held_under (main_in cache) cache.modules cache.files name
 
 -- The run of a cache whose store gave these answers.
 abbrev pub run_in : Cache → List (Name × Reply) → Run

@@ -1,83 +1,105 @@
 -- What is kept of the files that were read, by their names.
-use Rattle.std.specs.Prelude.{◌≡◌, ◌==◌, ◌<◌, ◌≤◌, if◌then◌else◌, ℕ, List, [], ◌∷◌, Option, Some, None, IsSome, length, slice_get, slice_index_or, unwrap_or}
+use Rattle.std.specs.Prelude.{◌≡◌, ◌==◌, ◌<◌, ◌≤◌, if◌then◌else◌, ℕ, true, List, [], ◌∷◌, Option, Some, None, IsSome, length, slice_get, slice_index_or, unwrap_or}
 use Rattle.std.specs.List.{IsDistinct}
 use Rattle.std.specs.Map.{lookup}
-use Rattle.std.specs.Option.{option_and_then}
+use Rattle.std.specs.Option.{option_and_then, option_map, option_or}
 use Rattle.gm_name.specs.ModuleVersion.{ModuleVersion, module_at, pair_eq}
 use Rattle.gm_name.specs.OptionalPlaces.{no_place, place_in}
 use Rattle.gm_name.specs.declared.place.OptionalPlace.{OptionalPlace}
-use Rattle.gm_store.specs.Asked.{Name, mod_file, folder_file, list_file, name_of, same_name}
+use Rattle.gm_store.specs.Asked.{Name, name_of, same_name}
 use Rattle.gm_graph.specs.declared.cache.file_table.FileTable.{FileTable}
 use Rattle.gm_graph.specs.declared.cache.summary.Kept.{Kept}
 use Rattle.gm_file.specs.Main.{Main, replacement_in}
-use Rattle.gm_graph.specs.Reading.{file_of}
+use Rattle.gm_graph.specs.Reading.{file_of, is_askable}
 
--- the place beside a module, in a list of places by the modules' numbers, of which the last ones may be left out
-abbrev pub place_beside : List ModuleVersion → List OptionalPlace → ModuleVersion → OptionalPlace
-place_beside [] places x = no_place
-place_beside (y ∷ modules) [] x = no_place
-place_beside (y ∷ modules) (place ∷ places) x = if pair_eq y x then place else place_beside modules places x
+-- the place that is noted for the module with a number, if any
+abbrev pub noted_for : FileTable → ℕ → Option ℕ
+noted_for files number = place_in (slice_index_or files.places.items number no_place)
 
--- the place of a module's own file
-abbrev pub own_place : List ModuleVersion → FileTable → Name → OptionalPlace
-own_place modules files (mod_file path version) = place_beside modules files.own.items (path, version)
-own_place modules files (folder_file text) = no_place
-own_place modules files (list_file path) = no_place
+-- the first place that is noted for a module whose file has this name, in a list of places by the modules' numbers, of
+-- which the last ones may be left out
+abbrev pub place_beside : Main → List ModuleVersion → List OptionalPlace → Name → Option ℕ
+place_beside main [] places name = None
+place_beside main (y ∷ modules) [] name = None
+place_beside main (y ∷ modules) (place ∷ places) name = option_or
+    (if same_name name (file_of main y) then place_in place else None) (place_beside main modules places name)
 
 -- the place of a replacement's file, if the name is that of one
 abbrev pub replacing_place : FileTable → Name → Option OptionalPlace
 replacing_place files name = lookup (λ file. same_name name (name_of file)) files.replacing.entries
 
 -- the place of the file of a name
-abbrev pub place_of : List ModuleVersion → FileTable → Name → OptionalPlace
-place_of modules files name = unwrap_or (replacing_place files name) (own_place modules files name)
+abbrev pub place_of : Main → List ModuleVersion → FileTable → Name → Option ℕ
+place_of main modules files name = unwrap_or (option_map place_in (replacing_place files name))
+    (place_beside main modules files.places.items name)
 
 -- what is kept of the file of a name
-abbrev pub kept_at : List ModuleVersion → FileTable → Name → Option Kept
-kept_at modules files name = option_and_then (slice_get files.files.items) (place_in (place_of modules files name))
+abbrev pub kept_at : Main → List ModuleVersion → FileTable → Name → Option Kept
+kept_at main modules files name = option_and_then (slice_get files.files.items) (place_of main modules files name)
 
 -- The file of each replaced vertex is one of those of the replacements.
 abbrev pub HasReplacing : Main → FileTable → Type 0
 HasReplacing main files = (x : ModuleVersion) → IsSome (replacement_in main x)
     → IsSome (replacing_place files (file_of main x))
 
--- The name is that of a replacement's file, or of the own file of the module with this number.
-pub record IsFileOf (modules : List ModuleVersion) (files : FileTable) (number : ℕ) (name : Name) : Type 0 where
+-- This is the place of the module's file, which may be asked for.
+pub record IsPlacedAt (main : Main) (modules : List ModuleVersion) (files : FileTable) (x : ModuleVersion) (place : ℕ)
+    : Type 0 where
+  pub placed : place_of main modules files (file_of main x) ≡ Some place
+  pub askable : is_askable (file_of main x) ≡ true
+
+-- Each place that is noted for a module is that of its file.
+abbrev pub NotesFiles : Main → List ModuleVersion → FileTable → Type 0
+NotesFiles main modules files = (number place : ℕ) → noted_for files number ≡ Some place
+    → IsPlacedAt main modules files (module_at modules number) place
+
+-- The name is that of the file of the module with this number, in a table with the files of these modules.
+pub record IsFileOf (main : Main) (modules : List ModuleVersion) (files : FileTable) (number : ℕ) (name : Name)
+    : Type 0 where
   pub distinct : IsDistinct pair_eq modules
   pub within : number < length modules
-  pub own : replacing_place files name ≡ None
-      → name ≡ mod_file (module_at modules number).0 (module_at modules number).1
+  pub named : name ≡ file_of main (module_at modules number)
+  pub has_replacing : HasReplacing main files
+  pub notes : NotesFiles main modules files
+
+-- The name is that of the file of the module with this number. It may be asked for, and has no place.
+pub record IsNewFile (main : Main) (modules : List ModuleVersion) (files : FileTable) (number : ℕ) (name : Name)
+    : Type 0 where
+  pub within : number < length modules
+  pub named : name ≡ file_of main (module_at modules number)
+  pub askable : is_askable name ≡ true
+  pub none : place_of main modules files name ≡ None
 
 -- This is the place of the file of a name; there is none if nothing is kept of it.
-abbrev pub IsPlaceOf : List ModuleVersion → FileTable → Name → Option ℕ → Type 0
-IsPlaceOf modules files name None = kept_at modules files name ≡ None
-IsPlaceOf modules files name (Some place) = (place < length files.files.items)
-    × (slice_get files.files.items place ≡ kept_at modules files name)
+abbrev pub IsPlaceOf : Main → List ModuleVersion → FileTable → Name → Option ℕ → Type 0
+IsPlaceOf main modules files name None = kept_at main modules files name ≡ None
+IsPlaceOf main modules files name (Some place) = (place < length files.files.items)
+    × (slice_get files.files.items place ≡ kept_at main modules files name)
 
 -- One more file is kept, and those of the other names stay.
-abbrev pub PutsFile : List ModuleVersion → FileTable → FileTable → Name → Kept → Type 0
-PutsFile modules old new name kept = (other : Name)
-    → kept_at modules new other ≡ (if same_name other name then Some kept else kept_at modules old other)
+abbrev pub PutsFile : Main → List ModuleVersion → FileTable → FileTable → Name → Kept → Type 0
+PutsFile main modules old new name kept = (other : Name) → kept_at main modules new other
+    ≡ (if same_name other name then Some kept else kept_at main modules old other)
 
 -- The files of all names stay.
-abbrev pub KeepsFiles : List ModuleVersion → FileTable → FileTable → Type 0
-KeepsFiles modules old new = (name : Name) → kept_at modules new name ≡ kept_at modules old name
+abbrev pub KeepsFiles : Main → List ModuleVersion → FileTable → FileTable → Type 0
+KeepsFiles main modules old new = (name : Name) → kept_at main modules new name ≡ kept_at main modules old name
 
 -- ---- what changes of the places
 
--- The place for this number is this one now, and those for the other numbers stay.
-abbrev pub PutsOwn : FileTable → FileTable → ℕ → OptionalPlace → Type 0
-PutsOwn old new number place = (other : ℕ) → slice_index_or new.own.items other no_place
-    ≡ (if number == other then place else slice_index_or old.own.items other no_place)
+-- This place is noted for this number now, and those for the other numbers stay.
+abbrev pub NotesFor : FileTable → FileTable → ℕ → ℕ → Type 0
+NotesFor old new number place = (other : ℕ) → noted_for new other
+    ≡ (if number == other then Some place else noted_for old other)
 
 -- The places for all numbers stay.
-abbrev pub KeepsOwn : FileTable → FileTable → Type 0
-KeepsOwn old new = (number : ℕ)
-    → slice_index_or new.own.items number no_place ≡ slice_index_or old.own.items number no_place
+abbrev pub KeepsNoted : FileTable → FileTable → Type 0
+KeepsNoted old new = (number : ℕ) → noted_for new number ≡ noted_for old number
 
--- The list of the places of own files grows to this number at most.
-abbrev pub IsOwnWithin : ℕ → FileTable → FileTable → Type 0
-IsOwnWithin number old new = (count : ℕ) → number < count → length old.own.items ≤ count → length new.own.items ≤ count
+-- The list of places grows to this number at most.
+abbrev pub ReachesAtMost : ℕ → FileTable → FileTable → Type 0
+ReachesAtMost number old new = (count : ℕ) → number < count → length old.places.items ≤ count
+    → length new.places.items ≤ count
 
 -- This is the place of the file of a replacement with this name, and those of the other replacements' files stay.
 abbrev pub PutsReplacing : FileTable → FileTable → Name → OptionalPlace → Type 0
@@ -93,10 +115,10 @@ abbrev pub KeepsOthers : FileTable → FileTable → Type 0
 KeepsOthers old new = (new.files ≡ old.files) × (new.replacing ≡ old.replacing)
 
 -- The place of the file of this name is this one now, and those of the other names stay.
-abbrev pub NotesPlace : List ModuleVersion → FileTable → FileTable → Name → OptionalPlace → Type 0
-NotesPlace modules old new name place = (other : Name)
-    → place_of modules new other ≡ (if same_name other name then place else place_of modules old other)
+abbrev pub NotesPlace : Main → List ModuleVersion → FileTable → FileTable → Name → ℕ → Type 0
+NotesPlace main modules old new name place = (other : Name) → place_of main modules new other
+    ≡ (if same_name other name then Some place else place_of main modules old other)
 
 -- The places of the files of all names stay.
-abbrev pub KeepsPlaces : List ModuleVersion → FileTable → FileTable → Type 0
-KeepsPlaces modules old new = (name : Name) → place_of modules new name ≡ place_of modules old name
+abbrev pub KeepsPlaces : Main → List ModuleVersion → FileTable → FileTable → Type 0
+KeepsPlaces main modules old new = (name : Name) → place_of main modules new name ≡ place_of main modules old name

@@ -25,8 +25,9 @@ pub(crate) mod summary;
 pub(crate) mod visit;
 
 ghost use Rattle.std.specs.Prelude.{◌≡◌, ◌≤◌, ◌<◌, ◌+◌, ◌++◌, ◌∷◌, [], List, IfOk, OnOk, OnErr, IsSome, None, Some, Err, length, take, true};
-ghost use Rattle.std.specs.Option.{option_copied};
+ghost use Rattle.std.specs.Option.{option_and_then, option_copied};
 ghost use Rattle.gm_name.specs.ModuleVersion.{ModuleVersion};
+ghost use Rattle.gm_name.specs.OptionalPlaces.{place_in};
 ghost use Rattle.gm_name_table.specs.Listed.{modules_of};
 ghost use Rattle.gm_store.specs.Asked.{IsWithinLimit, Name, Reply, answer_in, name_of, reply_of};
 ghost use Rattle.gm_store.specs.Requests.{refused_for};
@@ -37,7 +38,7 @@ ghost use Rattle.gm_file.specs.Main.{main_of, without_excluded};
 ghost use Rattle.gm_graph.specs.Asking.{AsksAtMost, AsksFor, FailsFor};
 ghost use Rattle.gm_graph.specs.Reading.{IsFileReading, file_of, is_askable as may_be_asked, leads_on};
 ghost use Rattle.gm_graph.specs.Refusals.{IsLoadFaultOf};
-ghost use Rattle.gm_graph.specs.FileTable.{PutsFile, HasReplacing};
+ghost use Rattle.gm_graph.specs.FileTable.{PutsFile, HasReplacing, NotesFiles, replacing_place};
 ghost use Rattle.gm_graph.specs.Held.{HoldsSome};
 ghost use Rattle.gm_graph.specs.Lent.{lent_modules};
 ghost use Rattle.gm_graph.specs.Summaries.{Grows, IsKept, IsWithinList, at_span, summary_reading};
@@ -86,9 +87,10 @@ pub struct Cache<'a> {
     ghost first_within: { first ≤ length modules.numbers },
     ghost first_are: { take first (modules_of modules)
         ≡ without_excluded (main_of main.now) (main_of main.now).requirements },
-    ghost own_within: { length files.own.items ≤ length modules.modules },
+    ghost places_within: { length files.places.items ≤ length modules.modules },
     ghost has_replacing: { HasReplacing (main_of main.now) files },
     ghost holds_some: { ∥ HoldsSome (main_of main.now) (option_copied sums) modules files ∥₁ },
+    ghost notes: { NotesFiles (main_of main.now) modules.modules files },
 }
 
 /// A table of names without a limit, which knows the paths that the main file requires.
@@ -171,7 +173,7 @@ impl<'a> Cache<'a> {
     ghost use Rattle.std.specs.List.{IsDistinct};
     ghost use Rattle.gm_name.specs.ModuleVersion.{pair_eq};
     ghost use Rattle.gm_name_table.specs.Listed.{BeginsWith};
-    ghost use Rattle.gm_graph.specs.Cached.{HasFileAt, HoldsSame, IsPlaceFor, KeepsSound, Knows, LendsKept, LentSame, file_count, main_in, modules_in, module_numbered, run_in, sums_in, turns_in};
+    ghost use Rattle.gm_graph.specs.Cached.{HasFileAt, HoldsSame, IsPlaceFor, KeepsSound, Knows, LendsKept, LentSame, file_count, main_in, modules_in, module_numbered, run_in, summary_at, sums_in, turns_in};
     ghost use Rattle.gm_graph.specs.Lent.{lent_table};
     ghost use Rattle.gm_graph.specs.declared.cache.Cache.{Cache};
     ghost use Rattle.gm_graph.specs.CacheVisits.{Continues, IsVisit, LendsOver, Visits};
@@ -248,22 +250,36 @@ impl<'a> Cache<'a> {
         requires vertex { number < length (modules_in self.old) }
         requires file { name_of name.now ≡ file_of (main_in self.old) (module_numbered self.old number) }
         requires askable { may_be_asked (name_of name.now) ≡ true }
+        requires none { summary_at self.old (name_of name.now) ≡ None }
         requires few { file_count self.old < 4294967295 }
         requires reading { (reply : Reply) × IsFileReading (sums_in self.old) (name_of name.now) reply
             (summary_reading (modules_of self.old.modules) kept) }
         requires kept { IsKept (main_in self.old) (modules_of self.old.modules) kept }
         ensures count { file_count self.new ≤ file_count self.old + 1 }
-        ensures adds { OnOk result
-            (PutsFile (modules_in self.old) self.old.files self.new.files (name_of name.now) kept) }
+        ensures adds { OnOk result (PutsFile (main_in self.old) (modules_in self.old) self.old.files self.new.files
+            (name_of name.now) kept) }
         ensures modules { self.new.modules ≡ self.old.modules }
         ensures files { BeginsWith self.old.files.files.items self.new.files.files.items }
         ensures place { IfOk result (HasFileAt self.new (module_numbered self.old number)) }
         ensures lent { LentSame self.old self.new }
         ensures err { OnErr result (HoldsSame self.old self.new) }
     {
-        // By this no module has two numbers, so the file is found by this one.
-        let _ = self.modules.module(number);
         self.files.add(name, number, kept)
+    }
+
+    /// Notes the place of the file of the vertex with a number, which is that of a replacement. The only refusal is
+    /// `NoMemory`. The cache holds the same in any case.
+    fn note(&mut self, number: u32, place: u32) -> Result<(), NoMemory>
+        requires vertex { number < length (modules_in self.old) }
+        requires place { option_and_then place_in (replacing_place self.old.files (file_of (main_in self.old)
+            (module_numbered self.old number))) ≡ Some place }
+        requires askable { may_be_asked (file_of (main_in self.old) (module_numbered self.old number)) ≡ true }
+        ensures holds { HoldsSame self.old self.new }
+        ensures lent { LentSame self.old self.new }
+        ensures count { file_count self.new ≡ file_count self.old }
+        ensures place { HasFileAt self.new (module_numbered self.old number) place }
+    {
+        self.files.note(number, place)
     }
 
     /// The requirements of the main file, without the excluded ones.
@@ -306,11 +322,15 @@ impl<'a> Cache<'a> {
         ensures served { HasServed (F.may_answer files.old) (F.may_answer files.new)
             (F.state files.old) (F.state files.new) }
     {
+        if let Some(place) = self.files.noted_place(number) {
+            return Ok(Some(place));
+        }
         let name = file_name(self.alloc, self.main, self.modules.module(number))?;
         if !is_askable(&name) {
             return Ok(None);
         }
-        if let Some(place) = self.files.place_of(&name, number) {
+        if let Some(place) = self.files.replacing_place(&name) {
+            self.note(number, place)?;
             return Ok(Some(place));
         }
         match self.read_file(files, &name) {

@@ -1,7 +1,7 @@
 //! What is kept of the files that were read.
 //!
-//! A module's own file is found by the module's number, without a search. The files of replacements, whose names stand
-//! in the main file, are found by their names: a folder is no module, and two modules may have one replacement.
+//! A module's file is found by the module's number once its place is noted for that, without a search. Until then a file
+//! that a replacement names is found by its name: a folder is no module, and two modules may have one replacement.
 
 ghost use Rattle.std.specs.Prelude.{◌≤◌, All, length};
 ghost use Rattle.std.specs.BTreeMap.{values};
@@ -20,32 +20,32 @@ use std::collections::BTreeMap;
 pub(crate) struct FileTable {
     /// What is kept of each file, in the order in which they were read.
     files: Vec<Kept>,
-    /// For each module, by its number, the place of its own file in `files`, if any. The last ones may be left out.
-    own: Vec<OptionalPlace>,
+    /// For each module, by its number, the place of its file in `files`, if it is noted. The last ones may be left out.
+    places: Vec<OptionalPlace>,
     /// The names of the files of all replacements, with their places in `files`, if any.
     replacing: BTreeMap<FileName, OptionalPlace>,
     ghost few: { length files.items ≤ 4294967295 },
-    ghost own_places: { All (IsPlace (length files.items)) own.items },
+    ghost noted_places: { All (IsPlace (length files.items)) places.items },
     ghost replacing_places: { All (IsPlace (length files.items)) (values replacing) },
 }
 
 impl FileTable {
-    ghost use Rattle.std.specs.Prelude.{◌≡◌, ◌<◌, ◌+◌, IfOk, IfSome, List, None, OnErr, OnOk, Some, false, slice_get, slice_index_or, true, unwrap_or};
-    ghost use Rattle.std.specs.Option.{option_and_then};
+    ghost use Rattle.std.specs.Prelude.{◌≡◌, ◌<◌, ◌+◌, IfOk, IfSome, List, ℕ, None, OnErr, OnOk, Some, slice_get};
+    ghost use Rattle.std.specs.Option.{IsSome, option_and_then};
     ghost use Rattle.gm_name_table.specs.Listed.{BeginsWith};
     ghost use Rattle.gm_store.specs.Asked.{Name, name_of};
-    ghost use Rattle.gm_graph.specs.FileTable.{PutsFile, HasReplacing, IsFileOf, IsOwnWithin, IsPlaceOf, KeepsFiles, KeepsOthers, KeepsOwn, KeepsPlaces, KeepsReplacing, PutsOwn, NotesPlace, PutsReplacing, kept_at, replacing_place};
+    ghost use Rattle.gm_graph.specs.FileTable.{PutsFile, HasReplacing, IsFileOf, IsNewFile, IsPlaceOf, KeepsFiles, KeepsNoted, KeepsOthers, KeepsPlaces, KeepsReplacing, NotesFiles, NotesFor, NotesPlace, PutsReplacing, ReachesAtMost, kept_at, noted_for, replacing_place};
     ghost use Rattle.gm_file.specs.Main.{Main, main_of};
     ghost use Rattle.gm_name.specs.ModuleVersion.{ModuleVersion};
-    ghost use Rattle.gm_name.specs.OptionalPlaces.{no_place};
+    ghost use Rattle.gm_name.specs.OptionalPlaces.{place_in};
     ghost use Rattle.gm_graph.specs.Summaries.{span_found};
 
     /// No files, for a main file with these replacements. The only refusal is `NoMemory`.
     pub(crate) fn new(alloc: Global, main: &MainFile) -> Result<FileTable, NoMemory>
         ensures none { IfOk result (λ files. (modules : List ModuleVersion) (name : Name)
-            → kept_at modules files name ≡ None) }
+            → kept_at (main_of main.now) modules files name ≡ None) }
         ensures files { IfOk result (λ files. length files.files.items ≡ 0) }
-        ensures own { IfOk result (λ files. length files.own.items ≡ 0) }
+        ensures places { IfOk result (λ files. length files.places.items ≡ 0) }
         ensures replacing { IfOk result (HasReplacing (main_of main.now)) }
     {
         let mut replacing = BTreeMap::new(alloc);
@@ -54,40 +54,41 @@ impl FileTable {
         }
         Ok(FileTable {
             files: Vec::new(alloc),
-            own: Vec::new(alloc),
+            places: Vec::new(alloc),
             replacing,
         })
     }
 
-    /// The place of the own file of the module with a number, if any.
-    fn own_place(&self, number: u32) -> OptionalPlace
-        ensures { result ≡ slice_index_or self.now.own.items number no_place }
+    /// The place that is noted for the module with a number, if any.
+    pub(crate) fn noted_place(&self, number: u32) -> Option<u32>
+        ensures { result ≡ noted_for self.now number }
     {
-        match self.own.get(number as usize) {
-            None => OptionalPlace::none(),
-            Some(place) => *place,
+        match self.places.get(number as usize) {
+            None => None,
+            Some(place) => place.get(),
         }
     }
 
-    /// The place noted for the name of a replacement's file, or otherwise for the own file of the module with a number,
-    /// if any.
-    fn noted_place(&self, name: &FileName, number: u32) -> OptionalPlace
-        ensures { result ≡ unwrap_or (replacing_place self.now (name_of name.now))
-            (slice_index_or self.now.own.items number no_place) }
+    /// The place of the file of a replacement, if the name is that of one and something is kept of it.
+    pub(crate) fn replacing_place(&self, name: &FileName) -> Option<u32>
+        ensures { result ≡ option_and_then place_in (replacing_place self.now (name_of name.now)) }
     {
         match self.replacing.get(name) {
-            None => self.own_place(number),
-            Some(place) => *place,
+            None => None,
+            Some(place) => place.get(),
         }
     }
 
-    /// The place of the file of a name, which is that of a replacement's file or of the own file of the module with
-    /// this number. There is none if nothing is kept of the file.
+    /// The place of the file of a name, which is that of the module with this number. There is none if nothing is kept of
+    /// the file.
     pub(crate) fn place_of(&self, name: &FileName, number: u32) -> Option<u32>
-        ensures { (modules : List ModuleVersion) → IsFileOf modules self.now number (name_of name.now)
-            → IsPlaceOf modules self.now (name_of name.now) result }
+        ensures { (main : Main) (modules : List ModuleVersion) → IsFileOf main modules self.now number (name_of name.now)
+            → IsPlaceOf main modules self.now (name_of name.now) result }
     {
-        self.noted_place(name, number).get()
+        match self.noted_place(number) {
+            None => self.replacing_place(name),
+            Some(place) => Some(place),
+        }
     }
 
     /// What is kept of the file at a place.
@@ -110,89 +111,93 @@ impl FileTable {
         }
     }
 
-    /// Lengthens the list of the places of own files, so that it has one for this number. The only refusal is
-    /// `NoMemory`.
+    /// Lengthens the list of places, so that it has one for this number. The only refusal is `NoMemory`.
     fn reach(&mut self, number: u32) -> Result<(), NoMemory>
-        ensures reaches { OnOk result (number < length self.new.own.items) }
-        ensures own { KeepsOwn self.old self.new }
+        ensures reaches { OnOk result (number < length self.new.places.items) }
+        ensures noted { KeepsNoted self.old self.new }
         ensures others { KeepsOthers self.old self.new }
-        ensures within { IsOwnWithin number self.old self.new }
+        ensures within { ReachesAtMost number self.old self.new }
     {
         let number = number as usize;
-        if number < self.own.len() {
+        if number < self.places.len() {
             return Ok(());
         }
-        self.own.resize(number + 1, OptionalPlace::none())?;
+        self.places.resize(number + 1, OptionalPlace::none())?;
         Ok(())
     }
 
-    /// Notes the place of the own file of the module with a number. The only refusal is `NoMemory`, after which no
-    /// place was noted.
-    fn put_own(&mut self, number: u32, place: OptionalPlace) -> Result<(), NoMemory>
-        requires { IsPlace (length self.old.files.items) place }
-        ensures puts { OnOk result (PutsOwn self.old self.new number place) }
-        ensures err { OnErr result (KeepsOwn self.old self.new) }
+    /// Notes the place of the file of the module with a number. The only refusal is `NoMemory`, after which no place was
+    /// noted.
+    pub(crate) fn note(&mut self, number: u32, place: u32) -> Result<(), NoMemory>
+        requires { place < length self.old.files.items }
+        ensures notes { OnOk result (NotesFor self.old self.new number place) }
+        ensures err { OnErr result (KeepsNoted self.old self.new) }
         ensures others { KeepsOthers self.old self.new }
-        ensures within { IsOwnWithin number self.old self.new }
+        ensures within { ReachesAtMost number self.old self.new }
     {
         self.reach(number)?;
-        self.own[number as usize] = place;
+        self.places[number as usize] = OptionalPlace::some(place);
         Ok(())
     }
 
-    /// Notes the place of the file of a replacement, if the name is that of one, and reports whether it is.
-    fn put_replacing(&mut self, name: &FileName, place: OptionalPlace) -> bool
+    /// Notes the place of the file of a replacement, if the name is that of one.
+    fn put_replacing(&mut self, name: &FileName, place: OptionalPlace)
         requires { IsPlace (length self.old.files.items) place }
-        ensures puts { result ≡ true → PutsReplacing self.old self.new (name_of name.now) place }
-        ensures none { result ≡ false → replacing_place self.old (name_of name.now) ≡ None }
-        ensures keeps { result ≡ false → KeepsReplacing self.old self.new }
+        ensures puts { IsSome (replacing_place self.old (name_of name.now))
+            → PutsReplacing self.old self.new (name_of name.now) place }
+        ensures keeps { replacing_place self.old (name_of name.now) ≡ None → KeepsReplacing self.old self.new }
         ensures files { self.new.files ≡ self.old.files }
-        ensures own { self.new.own ≡ self.old.own }
+        ensures places { self.new.places ≡ self.old.places }
     {
-        match self.replacing.get_mut(name) {
-            None => false,
-            Some(noted) => {
-                *noted = place;
-                true
-            }
+        if let Some(noted) = self.replacing.get_mut(name) {
+            *noted = place;
         }
     }
 
     /// Notes the place of the file of a name, as `place_of` finds it. The only refusal is `NoMemory`, after which no
     /// place was noted.
-    fn put(&mut self, name: &FileName, number: u32, place: OptionalPlace) -> Result<(), NoMemory>
-        requires { IsPlace (length self.old.files.items) place }
-        ensures puts { (modules : List ModuleVersion) → IsFileOf modules self.old number (name_of name.now)
-            → OnOk result (NotesPlace modules self.old self.new (name_of name.now) place) }
-        ensures err { (modules : List ModuleVersion) → OnErr result (KeepsPlaces modules self.old self.new) }
+    fn put(&mut self, name: &FileName, number: u32, place: u32) -> Result<(), NoMemory>
+        requires { place < length self.old.files.items }
+        ensures puts { (main : Main) (modules : List ModuleVersion)
+            → IsNewFile main modules self.old number (name_of name.now)
+            → OnOk result (NotesPlace main modules self.old self.new (name_of name.now) place) }
+        ensures notes { (main : Main) (modules : List ModuleVersion)
+            → IsNewFile main modules self.old number (name_of name.now)
+            → NotesFiles main modules self.old → NotesFiles main modules self.new }
+        ensures err { (main : Main) (modules : List ModuleVersion)
+            → OnErr result (KeepsPlaces main modules self.old self.new) }
         ensures files { self.new.files ≡ self.old.files }
-        ensures own { IsOwnWithin number self.old self.new }
+        ensures within { ReachesAtMost number self.old self.new }
         ensures replacing { (main : Main) → HasReplacing main self.old → HasReplacing main self.new }
     {
-        if self.put_replacing(name, place) {
-            return Ok(());
-        }
-        self.put_own(number, place)
+        self.note(number, place)?;
+        self.put_replacing(name, OptionalPlace::some(place));
+        Ok(())
     }
 
-    /// Keeps what was read of the file of a name, of which nothing was kept, and returns its place. The name is that of
-    /// a replacement's file or of the own file of the module with this number.
+    /// Keeps what was read of the file of a name, of which nothing was kept, and returns its place. It is the file of
+    /// the module with this number.
     ///
     /// The only refusal is `NoMemory`. What is kept of other files stays in any case.
     pub(crate) fn add(&mut self, name: &FileName, number: u32, kept: Kept) -> Result<u32, NoMemory>
         requires few { length self.old.files.items < 4294967295 }
-        ensures adds { (modules : List ModuleVersion) → IsFileOf modules self.old number (name_of name.now)
-            → OnOk result (PutsFile modules self.old self.new (name_of name.now) kept) }
+        ensures adds { (main : Main) (modules : List ModuleVersion)
+            → IsNewFile main modules self.old number (name_of name.now)
+            → OnOk result (PutsFile main modules self.old self.new (name_of name.now) kept) }
+        ensures notes { (main : Main) (modules : List ModuleVersion)
+            → IsNewFile main modules self.old number (name_of name.now)
+            → NotesFiles main modules self.old → NotesFiles main modules self.new }
         ensures place { IfOk result (λ place. slice_get self.new.files.items place ≡ Some kept) }
         ensures files { BeginsWith self.old.files.items self.new.files.items }
         ensures count { length self.new.files.items ≤ length self.old.files.items + 1 }
-        ensures err { (modules : List ModuleVersion) → OnErr result (KeepsFiles modules self.old self.new) }
-        ensures own { IsOwnWithin number self.old self.new }
+        ensures err { (main : Main) (modules : List ModuleVersion)
+            → OnErr result (KeepsFiles main modules self.old self.new) }
+        ensures within { ReachesAtMost number self.old self.new }
         ensures replacing { (main : Main) → HasReplacing main self.old → HasReplacing main self.new }
     {
         let place = self.files.len() as u32;
         self.files.push(kept)?;
-        self.put(name, number, OptionalPlace::some(place))?;
+        self.put(name, number, place)?;
         Ok(place)
     }
 }

@@ -2,7 +2,8 @@
 //!
 //! A file that declares another path belongs to another module, so its requirements would be wrong for the vertex.
 
-ghost use Rattle.std.specs.Prelude.{◌≡◌, Some};
+ghost use Rattle.std.specs.Prelude.{◌≡◌, Some, false};
+ghost use Rattle.gm_name.specs.ModuleVersion.{ModuleVersion};
 ghost use Rattle.gm_file.specs.Views.{right_view};
 ghost use Rattle.gm_file.specs.Main.{main_of, replacement_in};
 ghost use Rattle.gm_graph.specs.Reading.{declares, is_right_path};
@@ -20,22 +21,26 @@ fn declares(path: &ModPath, file: &ListedFile) -> bool
     }
 }
 
-/// Whether a file declares a right path for a vertex.
+/// Whether a file declares a right path for a vertex. Nearly all declare the own path of the vertex, which is right.
 pub(crate) fn is_right_path(main: &MainFile, x: &ModVer, file: &ListedFile) -> bool
     ensures { result ≡ is_right_path x.now (replacement_in (main_of main.now) x.now) file.now.declared }
 {
+    if declares(x.path(), file) {
+        return true;
+    }
     match main.replacement(x) {
-        None => declares(x.path(), file),
-        Some(right) => is_right_through(right, x, file),
+        None => false,
+        Some(right) => is_right_through(right, file),
     }
 }
 
-/// Whether a file declares a right path for a vertex that is replaced.
-fn is_right_through(right: &Right, x: &ModVer, file: &ListedFile) -> bool
-    ensures { result ≡ is_right_path x.now (Some (right_view right.now)) file.now.declared }
+/// Whether a file declares a right path for a vertex that is replaced, if it does not declare that of the vertex.
+fn is_right_through(right: &Right, file: &ListedFile) -> bool
+    ensures { (x : ModuleVersion) → declares x.0 file.now.declared ≡ false
+        → result ≡ is_right_path x (Some (right_view right.now)) file.now.declared }
 {
     match right {
         Right::Folder(_) => true,
-        Right::Module(path, _) => declares(x.path(), file) || declares(path, file),
+        Right::Module(path, _) => declares(path, file),
     }
 }

@@ -1,28 +1,39 @@
 use Rattle.std.proofs.Common.{◌≡◌, ◌∙◌, Err, Option, sym, ap, append-nil, refl, subst}
 use Rattle.gm_name.specs.ModuleVersion.{ModuleVersion}
+use Rattle.gm_name.specs.OptionalPlaces.{place_in}
 use Rattle.gm_name_table.specs.Listed.{modules_of}
 use Rattle.gm_file.specs.Main.{Main, main_of}
-use Rattle.gm_store.specs.Asked.{name_of}
+use Rattle.gm_store.specs.Asked.{Name, name_of}
 use Rattle.gm_store_sums.specs.Sums.{Sums}
+use Rattle.std.specs.Option.{option_and_then}
+use Rattle.gm_graph.specs.FileTable.{replacing_place}
 use Rattle.gm_graph.specs.Summaries.{IsKept, summary_reading}
 use Rattle.gm_store.specs.declared.files.AskFault.TheVariants as ask
 use Rattle.gm_graph.specs.Cached.{HasFileAt, main_in, modules_in, module_numbered, summary_at}
 use Rattle.gm_graph.specs.Reading.{IsFileReading, file_of, is_askable}
 use Rattle.gm_graph.proofs.AskedFile.{asks_file}
 use Rattle.gm_graph.proofs.Growing.{number_stays}
-use Rattle.gm_graph.proofs.Keeping.{any_err, holds_after, holds_failed, holds_itself, lent_after, none_refused_for}
-use Rattle.gm_graph.proofs.OwnFiles.{file_is}
-use Rattle.gm_graph.proofs.Telling.{knows_read, not_asked, sound_read}
+use Rattle.gm_graph.proofs.Keeping.{any_err, holds_after, holds_failed, holds_itself, knows_still, lent_after, none_refused_for, sound_same}
+use Rattle.gm_graph.proofs.OwnFiles.{has_noted, nothing_kept}
+use Rattle.gm_graph.proofs.Telling.{knows_read, none_still, not_asked, sound_read}
 use Rattle.gm_graph.proofs.cache.Cache.known_at.Goals as goal
 
 pub read_file-requires-clause-fresh : goal.read_file-requires-clause-fresh
 read_file-requires-clause-fresh g c =
-    not_asked c.args.self.now (g.F.Asks.state c.args.files.now).asked (name_of c.in_ok-name.name) c.requires.knows (c.in_default.ensures (modules_in c.args.self.now) (file_is c.args.self.now c.args.number c.in_ok-name.name c.module.result.now c.module.ensures.distinct c.requires.vertex c.in_ok-name.ensures c.module.ensures.module))
+    not_asked c.args.self.now (g.F.Asks.state c.args.files.now).asked (name_of c.in_ok-name.name) c.requires.knows (nothing_kept c.args.self.now c.args.number (name_of c.in_ok-name.name) c.module.result.now c.module.ensures.distinct c.requires.vertex
+    c.in_ok-name.ensures c.module.ensures.module (sym c.in_default.ensures) (sym c.in_default-replacing_place.ensures))
+
+pub keep-requires-clause-none : goal.keep-requires-clause-none
+keep-requires-clause-none g c =
+    none_still c.args.self.now c.read_file.new.self (name_of c.in_ok-name.name) c.read_file.ensures.holds
+    (nothing_kept c.args.self.now c.args.number (name_of c.in_ok-name.name) c.module.result.now c.module.ensures.distinct c.requires.vertex
+    c.in_ok-name.ensures c.module.ensures.module (sym c.in_default.ensures) (sym c.in_default-replacing_place.ensures))
 
 pub returns-in_ok-keep-in-Ok-clause-knows : goal.returns-in_ok-keep-in-Ok-clause-knows
 returns-in_ok-keep-in-Ok-clause-knows g c =
     let read = c.in-Ok.ensures.reading in
-    let none = c.in_default.ensures (modules_in c.args.self.now) (file_is c.args.self.now c.args.number c.in_ok-name.name c.module.result.now c.module.ensures.distinct c.requires.vertex c.in_ok-name.ensures c.module.ensures.module) in
+    let none = nothing_kept c.args.self.now c.args.number (name_of c.in_ok-name.name) c.module.result.now c.module.ensures.distinct c.requires.vertex
+    c.in_ok-name.ensures c.module.ensures.module (sym c.in_default.ensures) (sym c.in_default-replacing_place.ensures) in
     knows_read c.args.self.now c.read_file.new.self c.keep.new.self (g.F.Asks.state c.args.files.now).asked (g.F.Asks.state c.read_file.new.files).asked (name_of c.in_ok-name.name) read.0 c.in-Ok.kept
     c.requires.knows c.read_file.ensures.holds c.keep.ensures.lent c.keep.ensures.modules none c.in_ok-keep-in-Ok.ensures.adds read.1 read.2 c.in-Ok.ensures.kept
 
@@ -64,7 +75,8 @@ returns-in_ok-keep-in-Ok-clause-sound g c =
     let read = c.in-Ok.ensures.reading in
     sound_read c.args.self.now c.read_file.new.self c.keep.new.self (g.F.Asks.state c.args.files.now).asked (g.F.Asks.state c.read_file.new.files).asked
     (name_of c.in_ok-name.name) read.0 c.in-Ok.kept c.read_file.ensures.holds c.keep.ensures.lent
-    c.keep.ensures.modules (c.in_default.ensures (modules_in c.args.self.now) (file_is c.args.self.now c.args.number c.in_ok-name.name c.module.result.now c.module.ensures.distinct c.requires.vertex c.in_ok-name.ensures c.module.ensures.module)) c.in_ok-keep-in-Ok.ensures.adds c.keep.ensures.files
+    c.keep.ensures.modules (nothing_kept c.args.self.now c.args.number (name_of c.in_ok-name.name) c.module.result.now c.module.ensures.distinct c.requires.vertex
+    c.in_ok-name.ensures c.module.ensures.module (sym c.in_default.ensures) (sym c.in_default-replacing_place.ensures)) c.in_ok-keep-in-Ok.ensures.adds c.keep.ensures.files
     read.1
 
 pub returns-in_ok-keep-in-Ok-clause-refused : goal.returns-in_ok-keep-in-Ok-clause-refused
@@ -79,18 +91,27 @@ pub returns-in_err-keep-in-Ok-clause-err : goal.returns-in_err-keep-in-Ok-clause
 returns-in_err-keep-in-Ok-clause-err g c =
     any_err c.from_residual-in_err-keep-in-Ok.result (holds_after c.args.self.now c.read_file.new.self c.keep.new.self c.read_file.ensures.holds c.in_err-keep-in-Ok.ensures.err)
 
+-- ---- the file is one of a replacement
+
+pub note-requires-clause-place : goal.note-requires-clause-place
+note-requires-clause-place g c =
+    let cache = c.args.self.now in
+    ap (λ (name : Name). option_and_then place_in (replacing_place cache.files name))
+    (sym (c.in_ok-name.ensures ∙ ap (file_of (main_in cache)) c.module.ensures.module))
+    ∙ sym c.in-Some-replacing_place.ensures
+
+pub returns-in-Some-replacing_place-clause-knows : goal.returns-in-Some-replacing_place-clause-knows
+returns-in-Some-replacing_place-clause-knows g c =
+    knows_still c.args.self.now c.note.new.self (g.F.Asks.state c.args.files.now).asked c.note.ensures.holds c.requires.knows
+
+pub returns-in-Some-replacing_place-clause-sound : goal.returns-in-Some-replacing_place-clause-sound
+returns-in-Some-replacing_place-clause-sound g c =
+    sound_same c.args.self.now c.note.new.self (g.F.Asks.state c.args.files.now).asked c.note.ensures.holds
+
 -- ---- the place
 
 pub returns-in-Some-clause-place : goal.returns-in-Some-clause-place
-returns-in-Some-clause-place g c =
-    let cache = c.args.self.now in
-    let is = c.in_ok-name.ensures ∙ ap (file_of (main_in cache)) c.module.ensures.module in
-    let at = c.in-Some.ensures (modules_in cache) (file_is cache c.args.number c.in_ok-name.name c.module.result.now c.module.ensures.distinct c.requires.vertex c.in_ok-name.ensures c.module.ensures.module) in
-    record {
-      within = at.0;
-      kept = at.1 ∙ ap (summary_at cache) is;
-      askable = sym (ap is_askable is) ∙ (sym c.is_askable.ensures ∙ c.if-not-is_askable.false);
-    }
+returns-in-Some-clause-place g c = has_noted c.args.self.now c.args.number c.in-Some.place (sym c.in-Some.ensures)
 
 pub returns-in_ok-keep-in-Ok-clause-place : goal.returns-in_ok-keep-in-Ok-clause-place
 returns-in_ok-keep-in-Ok-clause-place g c =
@@ -122,5 +143,6 @@ returns-in-Err-clause-device g c = λ e. let device : c.in-Err.fault ≡ ask.Dev
   c.in-Err.ensures.device (ap Err device),
   c.in_ok-name.ensures ∙ ap (file_of (main_in c.args.self.now)) c.module.ensures.module,
   sym c.is_askable.ensures ∙ c.if-not-is_askable.false,
-  not_asked c.args.self.now (g.F.Asks.state c.args.files.now).asked (name_of c.in_ok-name.name) c.requires.knows (c.in_default.ensures (modules_in c.args.self.now) (file_is c.args.self.now c.args.number c.in_ok-name.name c.module.result.now c.module.ensures.distinct c.requires.vertex c.in_ok-name.ensures c.module.ensures.module)),
+  not_asked c.args.self.now (g.F.Asks.state c.args.files.now).asked (name_of c.in_ok-name.name) c.requires.knows (nothing_kept c.args.self.now c.args.number (name_of c.in_ok-name.name) c.module.result.now c.module.ensures.distinct c.requires.vertex
+      c.in_ok-name.ensures c.module.ensures.module (sym c.in_default.ensures) (sym c.in_default-replacing_place.ensures)),
 )

@@ -1,7 +1,7 @@
 use Rattle.std.proofs.Common.{Bor}
 use Rattle.gm_store.specs.Asked.{name_of}
 use Rattle.gm_store.specs.declared.files.FileName.{FileName}
-use Rattle.gm_graph.specs.Cached.{modules_in, module_numbered, run_in}
+use Rattle.gm_graph.specs.Cached.{main_in, modules_in, module_numbered, run_in}
 use Rattle.gm_graph.proofs.Named.{lender_named, name_here, named_known, no_name}
 use Rattle.gm_graph.proofs.OwnFiles.{is_file_of}
 use Rattle.gm_graph.proofs.cache.Cache.lender.Goals as goal
@@ -20,4 +20,4 @@ returns-in-Some c = λ pairs knows.
     let named = name_here (λ (n : Bor FileName). name_of n.now) (run_in cache pairs) x c.args.name c.in-Some.name c.in-Some.is
     (named_known cache pairs x _ knows c.requires.named) in
     lender_named cache pairs x name knows named c.place_of.result
-    (c.place_of.ensures (modules_in cache) (is_file_of cache c.args.number name c.module.ensures.distinct c.requires.vertex named.name_is))
+    (c.place_of.ensures (main_in cache) (modules_in cache) (is_file_of cache c.args.number name c.module.ensures.distinct c.requires.vertex named.name_is))

@@ -1,9 +1,10 @@
 use Rattle.std.proofs.Common.{inr, refl}
 use Rattle.gm_store.specs.Asked.{name_of}
 use Rattle.gm_store.proofs.Serving.{request_served}
-use Rattle.gm_graph.specs.Cached.{main_in, sums_in}
+use Rattle.gm_graph.specs.Cached.{main_in, modules_in, sums_in}
 use Rattle.gm_graph.proofs.HeldFiles.{grown_some}
 use Rattle.gm_graph.proofs.Keeping.{holds_grown, holds_itself}
+use Rattle.gm_graph.proofs.PuttingPlaces.{notes_if_more}
 use Rattle.gm_graph.proofs.cache.Cache.read_file.Goals as goal
 
 pub returns-in_err-ask-clause-served : goal.returns-in_err-ask-clause-served
@@ -24,7 +25,7 @@ returns-clause-asks g c = let (reply, _, _, adds) = c.in_ok-ask.ensures.answered
 pub invariant_of-self-clause-holds_some : goal.invariant_of-self-clause-holds_some
 invariant_of-self-clause-holds_some g c =
     let cache = c.args.self.now in
-    grown_some (main_in cache) cache.modules c.summarize.new.modules cache.files cache.own_within c.summarize.ensures.grows (sums_in cache) cache.holds_some
+    grown_some (main_in cache) cache.modules c.summarize.new.modules cache.files cache.places_within c.summarize.ensures.grows (sums_in cache) cache.holds_some
 
 pub returns-in_err-ask-clause-holds : goal.returns-in_err-ask-clause-holds
 returns-in_err-ask-clause-holds g c = holds_itself c.args.self.now
@@ -34,3 +35,8 @@ returns-in_err-kept-clause-holds g c = holds_grown c.args.self.now _ refl refl r
 
 pub returns-clause-holds : goal.returns-clause-holds
 returns-clause-holds g c = holds_grown c.args.self.now _ refl refl refl c.summarize.ensures.grows c.requires.lends
+
+pub invariant_of-self-clause-notes : goal.invariant_of-self-clause-notes
+invariant_of-self-clause-notes g c =
+    let old = c.args.self.now in
+    notes_if_more (main_in old) (modules_in old) _ old.files c.summarize.ensures.grows.1.numbered old.places_within old.notes
