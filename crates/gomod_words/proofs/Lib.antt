@@ -1,5 +1,6 @@
 pub mod Asked
 mod Commands
+mod EntriesFaults
 mod Exclusion
 mod Faults
 pub mod GivenWords

@@ -1,6 +1,18 @@
-use Rattle.std.proofs.Common.{codes}
+use Rattle.std.proofs.Common.{◌∙◌, Some, ap, codes, inl, inr, refl, sym}
+use Rattle.clap.specs.Words.{found_of, rows_of}
+use Rattle.std.specs.Option.{option_copied}
+use Rattle.gomod_words.specs.Usage.{IsEntriesFault}
+use Rattle.gomod_words.proofs.EntriesFaults.{passed, path_fault}
 use Rattle.gomod_words.proofs.UsageLines.{line_shows}
 use Rattle.gomod_words.proofs.query.read_chain.Goals as goal
 
 pub returns-in_default-clause-usage : goal.returns-in_default-clause-usage
 returns-in_default-clause-usage c = line_shows (codes "error: no PATH given") c.args.usage.now c.line.result c.line.ensures.text
+
+pub returns-in_err-path-clause-fault : goal.returns-in_err-path-clause-fault
+returns-in_err-path-clause-fault c =
+    let rows = rows_of (found_of c.args.found.now) in
+    let fault = c.in_err-path.field-0.0 in
+    let given = sym c.value_of.ensures ∙ ap option_copied c.in-Some.is in
+    passed c.from_residual.result fault (IsEntriesFault (Some (codes "chain", rows))) c.from_residual.ensures.1
+    (path_fault (codes "chain") rows c.in-Some.text.now fault (inl (inr refl, given)) c.in_err-path.ensures.fault)
