@@ -1,6 +1,6 @@
 -- Operations of `edit` that are written with a dash in front, as after `go mod edit`, and what to type instead.
 use Rattle.std.specs.Prelude.{◌&&◌, ◌||◌, ◌==◌, ◌∷◌, not, if◌then◌else◌, Bool, false, nat_eq, List, [], Option, Some, None, codes, is_some, unwrap_or}
-use Rattle.std.specs.List.{find, flat_map, starts_with}
+use Rattle.std.specs.List.{find, flat_map, list_any, starts_with}
 use Rattle.std.specs.Option.{option_and_then, option_map_or}
 use Rattle.std.specs.Str.{bytes_eq}
 use Rattle.clap.specs.Lexer.{without_minus}
@@ -15,25 +15,15 @@ begins_with_dash _ = false
 abbrev pub without_dashes : Text → Text
 without_dashes word = without_minus (without_minus word)
 
--- the text begins with the name of an operation that sets something, and `=`
-abbrev pub is_setting : Text → Bool
-is_setting text =
-    starts_with nat_eq text (codes "module=") || (starts_with nat_eq text (codes "go=")
-    || (starts_with nat_eq text (codes "require=") || starts_with nat_eq text (codes "replace=")))
-
--- the same of one that adds something
-abbrev pub is_adding : Text → Bool
-is_adding text = starts_with nat_eq text (codes "exclude=") || starts_with nat_eq text (codes "retract=")
-
--- the same of one that drops something
-abbrev pub is_dropping : Text → Bool
-is_dropping text =
-    starts_with nat_eq text (codes "droprequire=") || (starts_with nat_eq text (codes "dropexclude=")
-    || (starts_with nat_eq text (codes "dropreplace=") || starts_with nat_eq text (codes "dropretract=")))
+-- the names of operations, each with `=`
+abbrev pub operation_names : List Text
+operation_names =
+    codes "module=" ∷ codes "go=" ∷ codes "require=" ∷ codes "replace=" ∷ codes "exclude=" ∷ codes "retract="
+    ∷ codes "droprequire=" ∷ codes "dropexclude=" ∷ codes "dropreplace=" ∷ codes "dropretract=" ∷ []
 
 -- the text begins with the name of an operation and `=`
 abbrev pub is_operation : Text → Bool
-is_operation text = is_setting text || (is_adding text || is_dropping text)
+is_operation text = list_any (starts_with nat_eq text) operation_names
 
 -- the operation that a word is, with one dash or two in front or with none
 abbrev pub operation_in : Text → Option Text

@@ -1,14 +1,14 @@
 //! Operations of `edit` that are written with a dash in front, as after `go mod edit`, and what to type instead. The
 //! parser would take such a word for an option that is unknown.
 
-ghost use Rattle.std.specs.Prelude.{◌≡◌, ◌∷◌, ◌++◌, IfOk, IfSome, OnOk, codes, false, is_some, map, unwrap_or};
-ghost use Rattle.std.specs.List.{find, flat_map};
+ghost use Rattle.std.specs.Prelude.{◌≡◌, ◌∷◌, ◌++◌, IfOk, IfSome, OnOk, codes, false, is_some, map, nat_eq, unwrap_or};
+ghost use Rattle.std.specs.List.{find, flat_map, list_any, starts_with};
 ghost use Rattle.std.specs.Option.{option_copied};
 ghost use Rattle.std.specs.String.{string_bytes};
 ghost use Rattle.clap.specs.Lexer.{strip_byte, without_minus};
 ghost use Rattle.gomod_words.specs.Typed.{typed_words};
 ghost use Rattle.gomod_words.specs.Usage.{IsLineOf, dashed_message, dashed_text, words_after};
-ghost use Rattle.gomod_words.specs.Dashed.{begins_with_dash, dashed_in, edit_words, free_from, is_adding, is_dropping, is_free, is_operation, is_setting, names_value, operation_in, operations_in, takes_value, without_dashes};
+ghost use Rattle.gomod_words.specs.Dashed.{begins_with_dash, dashed_in, edit_words, free_from, is_free, is_operation, names_value, operation_in, operations_in, takes_value, without_dashes};
 
 use crate::help::usage_of;
 use crate::typed::followed;
@@ -46,38 +46,32 @@ pub(crate) fn without_dashes(word: &str) -> &str
     without_dash(without_dash(word))
 }
 
-/// Whether a text begins with the name of an operation that sets something, and `=`.
-fn is_setting(text: &[u8]) -> bool
-    ensures { result ≡ is_setting text.now }
+/// Whether a text begins with one of these names.
+fn begins_with_any(text: &[u8], names: &[&str]) -> bool
+    ensures { result ≡ list_any (λ name. starts_with nat_eq text.now name.now) names.now }
 {
-    text.starts_with(b"module=")
-        || text.starts_with(b"go=")
-        || text.starts_with(b"require=")
-        || text.starts_with(b"replace=")
-}
-
-/// Whether a text begins with the name of an operation that adds something, and `=`.
-fn is_adding(text: &[u8]) -> bool
-    ensures { result ≡ is_adding text.now }
-{
-    text.starts_with(b"exclude=") || text.starts_with(b"retract=")
-}
-
-/// Whether a text begins with the name of an operation that drops something, and `=`.
-fn is_dropping(text: &[u8]) -> bool
-    ensures { result ≡ is_dropping text.now }
-{
-    text.starts_with(b"droprequire=")
-        || text.starts_with(b"dropexclude=")
-        || text.starts_with(b"dropreplace=")
-        || text.starts_with(b"dropretract=")
+    names.iter().any(|name| text.starts_with(name.as_bytes()))
 }
 
 /// Whether a text begins with the name of an operation and `=`.
 fn is_operation(text: &[u8]) -> bool
     ensures { result ≡ is_operation text.now }
 {
-    is_setting(text) || is_adding(text) || is_dropping(text)
+    begins_with_any(
+        text,
+        &[
+            "module=",
+            "go=",
+            "require=",
+            "replace=",
+            "exclude=",
+            "retract=",
+            "droprequire=",
+            "dropexclude=",
+            "dropreplace=",
+            "dropretract=",
+        ],
+    )
 }
 
 /// The operation that a word is, with one dash or two in front or with none.

@@ -32,10 +32,10 @@ loop-word-preserved c =
     one_more (texts c.args.typed.now.items) typed c.match-operation_in.typed.items words c.loop-word.word-index none c.loop-word-test.true c.loop-word.invariant
     (elim c.match-operation_in.branch [
       | in-Some+in_ok-push w ↦
-        ap (λ (v : Vec (Bor (List ℕ)) Global). texts v.items) w.typed-is ∙ ap texts w.in_ok-push.ensures.items
-        ∙ map_push (λ (w : Bor (List ℕ)). w.now) typed w.in-Some.operation
-        ∙ ap (λ (ts : List (List ℕ)). texts typed ++ ts) (added word c.operation_in.result _ c.operation_in.ensures (ap option_copied w.in-Some.is))
+          ap (λ (v : Vec (Bor (List ℕ)) Global). texts v.items) w.typed-is ∙ ap texts w.in_ok-push.ensures.items
+          ∙ map_push (λ (w : Bor (List ℕ)). w.now) typed w.in-Some.operation
+          ∙ ap (λ (ts : List (List ℕ)). texts typed ++ ts) (added word c.operation_in.result _ c.operation_in.ensures (ap option_copied w.in-Some.is))
       | in_default w ↦
-        ap (λ (v : Vec (Bor (List ℕ)) Global). texts v.items) w.typed-is ∙ sym (append-nil (texts typed))
-        ∙ ap (λ (ts : List (List ℕ)). texts typed ++ ts) (added word c.operation_in.result _ c.operation_in.ensures (ap option_copied w.in_default.is))
+          ap (λ (v : Vec (Bor (List ℕ)) Global). texts v.items) w.typed-is ∙ sym (append-nil (texts typed))
+          ∙ ap (λ (ts : List (List ℕ)). texts typed ++ ts) (added word c.operation_in.result _ c.operation_in.ensures (ap option_copied w.in_default.is))
     ])
