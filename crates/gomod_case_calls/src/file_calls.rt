@@ -1,7 +1,7 @@
 //! Calls about what a go.mod says: its lines, its words, and its directives.
 
 use crate::call_faults::CallFault;
-use crate::name_calls::line_of;
+use crate::name_calls::push_line;
 use gm_file::{DepFile, Interval, MainFile, Replace, Right};
 use gm_name::{ModPath, ModVer};
 use gm_syntax::{Doc, Line, Token};
@@ -9,18 +9,28 @@ use std::alloc::{AllocError, Global};
 use std::borrow::CowStr;
 use std::slice;
 
-/// What a call about the text of a file gives.
-pub(crate) fn about_text(alloc: Global, name: &str, bytes: &[u8]) -> Result<String, CallFault> {
+/// Appends what a call about the text of a file gives.
+pub(crate) fn about_text(
+    alloc: Global,
+    text: &mut String,
+    name: &str,
+    bytes: &[u8],
+) -> Result<(), CallFault> {
     let doc = Doc::parse(alloc, bytes)?;
-    about_document(alloc, name, &doc)
+    about_document(alloc, text, name, &doc)
 }
 
-/// What a call about a document gives.
-fn about_document(alloc: Global, name: &str, doc: &Doc) -> Result<String, CallFault> {
+/// Appends what a call about a document gives.
+fn about_document(
+    alloc: Global,
+    text: &mut String,
+    name: &str,
+    doc: &Doc,
+) -> Result<(), CallFault> {
     match name {
-        "document" => text_of_lines(alloc, doc.lines()),
-        "spans" => places_in(alloc, doc.lines()),
-        "lax" => lax_text(alloc, doc),
+        "document" => Ok(push_lines(text, doc.lines())?),
+        "spans" => Ok(push_places_in(text, doc.lines())?),
+        "lax" => lax(alloc, text, doc),
         _ => Err(CallFault::NoCall),
     }
 }
@@ -69,7 +79,7 @@ fn words_of<'a, 'b>(line: &'b Line<'a>) -> &'b [Token<'a>] {
 }
 
 /// Appends the description of a line of a document.
-fn push_line(text: &mut String, line: &Line) -> Result<(), AllocError> {
+fn push_line_of(text: &mut String, line: &Line) -> Result<(), AllocError> {
     text.push_str(kind_of(line))?;
     push_words(text, words_of(line))?;
     if let Some(comment) = comment_of(line) {
@@ -81,16 +91,9 @@ fn push_line(text: &mut String, line: &Line) -> Result<(), AllocError> {
 /// Appends the descriptions of lines.
 fn push_lines(text: &mut String, lines: &[Line]) -> Result<(), AllocError> {
     for line in lines {
-        push_line(text, line)?;
+        push_line_of(text, line)?;
     }
     Ok(())
-}
-
-/// What lines are.
-fn text_of_lines(alloc: Global, lines: &[Line]) -> Result<String, CallFault> {
-    let mut text = String::new(alloc);
-    push_lines(&mut text, lines)?;
-    Ok(text)
 }
 
 /// Appends the place of a word, and the word.
@@ -119,20 +122,13 @@ fn push_places_in(text: &mut String, lines: &[Line]) -> Result<(), AllocError> {
     Ok(())
 }
 
-/// The places of the words of lines.
-fn places_in(alloc: Global, lines: &[Line]) -> Result<String, CallFault> {
-    let mut text = String::new(alloc);
-    push_places_in(&mut text, lines)?;
-    Ok(text)
-}
-
-/// The word with a value, or none if the value has a line feed.
-pub(crate) fn spell(alloc: Global, value: &str) -> Result<String, CallFault> {
+/// Appends the word with a value, or none if the value has a line feed.
+pub(crate) fn spell(alloc: Global, text: &mut String, value: &str) -> Result<(), CallFault> {
     if !value.as_bytes().iter().all(|byte| *byte != b'\n') {
-        return Ok(String::from_str(alloc, "none\n")?);
+        return push_line(text, "none");
     }
     let word = Token::spell(alloc, value)?;
-    line_of(alloc, word.spelling())
+    push_line(text, word.spelling())
 }
 
 /// Appends the directives that have a path and a version after their verb.
@@ -198,20 +194,13 @@ fn push_module(text: &mut String, path: &ModPath) -> Result<(), AllocError> {
 }
 
 /// Appends what a main file says.
-fn push_main(text: &mut String, file: &MainFile) -> Result<(), AllocError> {
+pub(crate) fn push_main(text: &mut String, file: &MainFile) -> Result<(), AllocError> {
     push_module(text, file.module())?;
     push_go(text, file.go())?;
     push_pairs(text, "require", file.requirements())?;
     push_pairs(text, "exclude", file.excludes())?;
     push_replacements(text, file.replaces())?;
     push_retractions(text, file.retracts())
-}
-
-/// What a main file says.
-pub(crate) fn text_of_main(alloc: Global, file: &MainFile) -> Result<String, CallFault> {
-    let mut text = String::new(alloc);
-    push_main(&mut text, file)?;
-    Ok(text)
 }
 
 /// Appends what a dependency's file says.
@@ -224,31 +213,17 @@ fn push_dependency(text: &mut String, file: &DepFile) -> Result<(), AllocError> 
     push_retractions(text, file.retracts())
 }
 
-/// What a dependency's file says.
-fn text_of_dependency(alloc: Global, file: &DepFile) -> Result<String, CallFault> {
-    let mut text = String::new(alloc);
-    push_dependency(&mut text, file)?;
-    Ok(text)
-}
-
-/// What a document says as a dependency's file.
-fn lax_text(alloc: Global, doc: &Doc) -> Result<String, CallFault> {
+/// Appends what a document says as a dependency's file.
+fn lax(alloc: Global, text: &mut String, doc: &Doc) -> Result<(), CallFault> {
     let file = DepFile::read(alloc, doc)?;
-    text_of_dependency(alloc, &file)
+    Ok(push_dependency(text, &file)?)
 }
 
 /// Appends a right side, or that there is none.
-fn push_found(text: &mut String, right: Option<&Right>) -> Result<(), AllocError> {
+pub(crate) fn push_found(text: &mut String, right: Option<&Right>) -> Result<(), AllocError> {
     match right {
         Some(right) => push_right(text, right)?,
         None => text.push_str("none")?,
     }
     text.push('\n')
-}
-
-/// The line with a right side, or that there is none.
-pub(crate) fn line_of_right(alloc: Global, right: Option<&Right>) -> Result<String, CallFault> {
-    let mut text = String::new(alloc);
-    push_found(&mut text, right)?;
-    Ok(text)
 }

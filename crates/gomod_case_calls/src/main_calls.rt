@@ -1,8 +1,8 @@
 //! Calls about a main file: what it says, a version in it, and an operation on it.
 
 use crate::call_faults::CallFault;
-use crate::file_calls::{line_of_right, text_of_main};
-use crate::name_calls::{pair, yes_or_no};
+use crate::file_calls::{push_found, push_main};
+use crate::name_calls::{pair, push_test};
 use gm_file::MainFile;
 use gm_file_edit::{Apply, Op};
 use gm_name::ModVer;
@@ -21,60 +21,79 @@ enum Question<'a> {
     Edited(&'a Op),
 }
 
-/// What a file answers as a main file.
-fn ask(alloc: Global, bytes: &[u8], question: Question<'_>) -> Result<String, CallFault> {
+/// Appends what a file answers as a main file.
+fn ask(
+    alloc: Global,
+    text: &mut String,
+    bytes: &[u8],
+    question: Question<'_>,
+) -> Result<(), CallFault> {
     // what owns a main file is proved through all its fields, so this alone does
     let mut file = MainFile::read_bytes(alloc, bytes)?;
-    answer(alloc, &mut file, question)
+    push_answer(alloc, text, &mut file, question)
 }
 
-/// What a main file answers.
-fn answer(
+/// Appends what a main file answers.
+fn push_answer(
     alloc: Global,
+    text: &mut String,
     file: &mut MainFile<'_>,
     question: Question<'_>,
-) -> Result<String, CallFault> {
+) -> Result<(), CallFault> {
     match question {
-        Question::All => text_of_main(alloc, file),
-        Question::Replacement(pair) => line_of_right(alloc, file.replacement(pair)),
-        Question::Excluded(pair) => yes_or_no(alloc, file.excluded(pair)),
-        Question::Edited(op) => layout_after(alloc, file, op),
+        Question::All => Ok(push_main(text, file)?),
+        Question::Replacement(pair) => Ok(push_found(text, file.replacement(pair))?),
+        Question::Excluded(pair) => push_test(text, file.excluded(pair)),
+        Question::Edited(op) => push_layout_after(alloc, text, file, op),
     }
 }
 
-/// The layout of a main file after an operation.
-fn layout_after(alloc: Global, file: &mut MainFile<'_>, op: &Op) -> Result<String, CallFault> {
+/// Appends the layout of a main file after an operation.
+fn push_layout_after(
+    alloc: Global,
+    text: &mut String,
+    file: &mut MainFile<'_>,
+    op: &Op,
+) -> Result<(), CallFault> {
     file.apply(alloc, op)?;
-    Ok(file.doc().format()?)
+    let layout = file.doc().format()?;
+    Ok(text.push_str(layout.as_str())?)
 }
 
-/// What a file says as a main file.
-pub(crate) fn strict(alloc: Global, bytes: &[u8]) -> Result<String, CallFault> {
-    ask(alloc, bytes, Question::All)
+/// Appends what a file says as a main file.
+pub(crate) fn strict(alloc: Global, text: &mut String, bytes: &[u8]) -> Result<(), CallFault> {
+    ask(alloc, text, bytes, Question::All)
 }
 
-/// The replacement of a version in a main file.
+/// Appends the replacement of a version in a main file.
 pub(crate) fn replacement(
     alloc: Global,
+    text: &mut String,
     bytes: &[u8],
     version: (&str, &str),
-) -> Result<String, CallFault> {
+) -> Result<(), CallFault> {
     let version = pair(alloc, version)?;
-    ask(alloc, bytes, Question::Replacement(&version))
+    ask(alloc, text, bytes, Question::Replacement(&version))
 }
 
-/// Whether a main file excludes a version.
+/// Appends whether a main file excludes a version.
 pub(crate) fn excluded(
     alloc: Global,
+    text: &mut String,
     bytes: &[u8],
     version: (&str, &str),
-) -> Result<String, CallFault> {
+) -> Result<(), CallFault> {
     let version = pair(alloc, version)?;
-    ask(alloc, bytes, Question::Excluded(&version))
+    ask(alloc, text, bytes, Question::Excluded(&version))
 }
 
-/// The layout of a main file after an operation.
-pub(crate) fn apply(alloc: Global, bytes: &[u8], text: &str) -> Result<String, CallFault> {
-    let op = Op::parse(alloc, text)?;
-    ask(alloc, bytes, Question::Edited(&op))
+/// Appends the layout of a main file after an operation.
+pub(crate) fn apply(
+    alloc: Global,
+    text: &mut String,
+    bytes: &[u8],
+    operation: &str,
+) -> Result<(), CallFault> {
+    let op = Op::parse(alloc, operation)?;
+    ask(alloc, text, bytes, Question::Edited(&op))
 }

@@ -5,9 +5,10 @@ use gm_name::{Major, ModPath, ModVer, ModVersion, Pseudo};
 use std::alloc::Global;
 use std::cmp::Ordering;
 
-/// A line with this text.
-pub(crate) fn line_of(alloc: Global, text: &str) -> Result<String, CallFault> {
-    Ok(format!(in alloc; "{text}\n")?)
+/// Appends a line.
+pub(crate) fn push_line(text: &mut String, line: &str) -> Result<(), CallFault> {
+    text.push_str(line)?;
+    Ok(text.push('\n')?)
 }
 
 /// The path and the version that two texts spell.
@@ -24,84 +25,89 @@ pub(crate) fn pair(alloc: Global, pair: (&str, &str)) -> Result<ModVer, CallFaul
     let (path, version) = path_and_version(alloc, pair)?;
     match ModVer::pair(path, version) {
         Some(pair) => Ok(pair),
-        None => Err(CallFault::Misfit),
+        None => Err(CallFault::Argument("Misfit")),
     }
 }
 
-/// The line with the result of a test.
-pub(crate) fn yes_or_no(alloc: Global, is_true: bool) -> Result<String, CallFault> {
-    line_of(alloc, if is_true { "yes" } else { "no" })
+/// Appends the result of a test.
+pub(crate) fn push_test(text: &mut String, is_true: bool) -> Result<(), CallFault> {
+    push_line(text, if is_true { "yes" } else { "no" })
 }
 
-/// The suffix of a module path, and whether it is fetchable.
-pub(crate) fn path(alloc: Global, path: &str) -> Result<String, CallFault> {
+/// Appends the suffix of a module path, and whether it is fetchable.
+pub(crate) fn path(alloc: Global, text: &mut String, path: &str) -> Result<(), CallFault> {
     let path = ModPath::parse(alloc, path)?;
-    suffix(alloc, path.major(), path.is_fetchable())
+    push_suffix(text, path.major(), path.is_fetchable())
 }
 
-/// The line with a suffix, and whether its path is fetchable.
-fn suffix(alloc: Global, major: Major, is_fetchable: bool) -> Result<String, CallFault> {
+/// Appends a suffix, and whether its path is fetchable.
+fn push_suffix(text: &mut String, major: Major, is_fetchable: bool) -> Result<(), CallFault> {
     let fetchable = if is_fetchable { " fetchable" } else { "" };
-    Ok(format!(in alloc; "{major:?}{fetchable}\n")?)
+    Ok(writeln!(text, "{major:?}{fetchable}")?)
 }
 
-/// The kind of version that a text spells.
-pub(crate) fn version(alloc: Global, version: &str) -> Result<String, CallFault> {
+/// Appends the kind of a version.
+pub(crate) fn version(alloc: Global, text: &mut String, version: &str) -> Result<(), CallFault> {
     let version = ModVersion::parse(alloc, version)?;
     let is_release = version.is_release();
-    line_of(alloc, if is_release { "release" } else { "prerelease" })
+    push_line(text, if is_release { "release" } else { "prerelease" })
 }
 
-/// Whether a version fits a path.
-pub(crate) fn fits(alloc: Global, path: &str, version: &str) -> Result<String, CallFault> {
+/// Appends whether a version fits a path.
+pub(crate) fn fits(
+    alloc: Global,
+    text: &mut String,
+    path: &str,
+    version: &str,
+) -> Result<(), CallFault> {
     let (path, version) = path_and_version(alloc, (path, version))?;
-    yes_or_no(alloc, gm_name::fits(&path, &version))
+    push_test(text, gm_name::fits(&path, &version))
 }
 
-/// What a pseudo-version says of its commit.
-pub(crate) fn pseudo(alloc: Global, version: &str) -> Result<String, CallFault> {
+/// Appends what a pseudo-version says of its commit.
+pub(crate) fn pseudo(alloc: Global, text: &mut String, version: &str) -> Result<(), CallFault> {
     let version = ModVersion::parse(alloc, version)?;
     match gm_name::pseudo(&version) {
-        Some(commit) => line_of_commit(alloc, &commit),
-        None => line_of(alloc, "none"),
+        Some(commit) => push_commit(text, &commit),
+        None => push_line(text, "none"),
     }
 }
 
-/// The line with what a pseudo-version says of its commit.
-fn line_of_commit(alloc: Global, commit: &Pseudo) -> Result<String, CallFault> {
+/// Appends what a pseudo-version says of its commit.
+fn push_commit(text: &mut String, commit: &Pseudo) -> Result<(), CallFault> {
     let (form, time, revision) = (commit.form, commit.time, commit.revision);
-    Ok(format!(in alloc; "{form} {time} {revision}\n")?)
+    Ok(writeln!(text, "{form} {time} {revision}")?)
 }
 
-/// The base version of a pseudo-version.
-pub(crate) fn base(alloc: Global, version: &str) -> Result<String, CallFault> {
+/// Appends the base version of a pseudo-version.
+pub(crate) fn base(alloc: Global, text: &mut String, version: &str) -> Result<(), CallFault> {
     let version = ModVersion::parse(alloc, version)?;
     match gm_name::base(alloc, &version)? {
-        Some(base) => line_of(alloc, base.as_str()),
-        None => line_of(alloc, "none"),
+        Some(base) => push_line(text, base.as_str()),
+        None => push_line(text, "none"),
     }
 }
 
-/// The escaped text.
-pub(crate) fn escape(alloc: Global, text: &str) -> Result<String, CallFault> {
-    let text = gm_name::escape(alloc, text)?;
-    line_of(alloc, text.as_str())
+/// Appends the escaped name.
+pub(crate) fn escape(alloc: Global, text: &mut String, name: &str) -> Result<(), CallFault> {
+    let escaped = gm_name::escape(alloc, name)?;
+    push_line(text, escaped.as_str())
 }
 
-/// The text that escapes to this name.
-pub(crate) fn unescape(alloc: Global, name: &str) -> Result<String, CallFault> {
-    let text = gm_name::unescape(alloc, name)?;
-    line_of(alloc, text.as_str())
+/// Appends the text that escapes to this name.
+pub(crate) fn unescape(alloc: Global, text: &mut String, name: &str) -> Result<(), CallFault> {
+    let unescaped = gm_name::unescape(alloc, name)?;
+    push_line(text, unescaped.as_str())
 }
 
-/// The line that says how two things are ordered.
-fn ordering(alloc: Global, ordering: Ordering) -> Result<String, CallFault> {
+/// Appends how two things are ordered.
+fn push_ordering(text: &mut String, ordering: Ordering) -> Result<(), CallFault> {
     let order = match ordering {
         Ordering::Less => "less",
         Ordering::Equal => "equal",
         Ordering::Greater => "greater",
     };
-    line_of(alloc, order)
+    push_line(text, order)
 }
 
 /// The versions that two texts spell.
@@ -114,25 +120,36 @@ fn two_versions(
     Ok((one, ModVersion::parse(alloc, other)?))
 }
 
-/// The order of two versions, by their precedence and then by their texts.
-pub(crate) fn order(alloc: Global, version: &str, other: &str) -> Result<String, CallFault> {
+/// Appends the order of two versions, by their precedence and then by their texts.
+pub(crate) fn order(
+    alloc: Global,
+    text: &mut String,
+    version: &str,
+    other: &str,
+) -> Result<(), CallFault> {
     let (version, other) = two_versions(alloc, version, other)?;
-    ordering(alloc, version.cmp(&other))
+    push_ordering(text, version.cmp(&other))
 }
 
-/// The order of two versions by their precedence alone.
-pub(crate) fn precedence(alloc: Global, version: &str, other: &str) -> Result<String, CallFault> {
+/// Appends the order of two versions by their precedence alone.
+pub(crate) fn precedence(
+    alloc: Global,
+    text: &mut String,
+    version: &str,
+    other: &str,
+) -> Result<(), CallFault> {
     let (version, other) = two_versions(alloc, version, other)?;
-    ordering(alloc, version.precedence(&other))
+    push_ordering(text, version.precedence(&other))
 }
 
-/// The order of two pairs of a path and a version.
+/// Appends the order of two pairs of a path and a version.
 pub(crate) fn order_of_pairs(
     alloc: Global,
+    text: &mut String,
     one: (&str, &str),
     other: (&str, &str),
-) -> Result<String, CallFault> {
+) -> Result<(), CallFault> {
     let one = pair(alloc, one)?;
     let other = pair(alloc, other)?;
-    ordering(alloc, one.cmp(&other))
+    push_ordering(text, one.cmp(&other))
 }
