@@ -1,7 +1,6 @@
 //! Cases: commands over a few files, and the results they must have.
 
-use crate::words::texts_of;
-use std::alloc::{AllocError, Global};
+use std::alloc::Global;
 
 /// The name of the file that commands read from standard input.
 pub const STDIN: &str = "stdin";
@@ -34,15 +33,6 @@ pub struct CaseFile {
 }
 
 impl CaseFile {
-    /// A file with these bytes.
-    pub(crate) fn of_bytes(name: String, bytes: Vec<u8>) -> CaseFile {
-        CaseFile {
-            name,
-            content: Content::Bytes(bytes),
-            mode: None,
-        }
-    }
-
     /// The bytes of the file, or none if it is a folder or a link.
     pub(crate) fn bytes(&self) -> &[u8] {
         match &self.content {
@@ -102,11 +92,6 @@ impl<'a> Run<'a> {
     pub fn wanted_status(&self) -> u8 {
         self.status.unwrap_or(0)
     }
-
-    /// Its words as texts, or none if one of them is not UTF-8.
-    pub fn texts(&self, alloc: Global) -> Result<Option<Vec<&str>>, AllocError> {
-        texts_of(alloc, self.words.as_slice())
-    }
 }
 
 /// Some commands over some files.
@@ -150,13 +135,5 @@ impl<'a> Case<'a> {
             }
         }
         None
-    }
-
-    /// What its commands read from standard input.
-    pub fn input(&self) -> &[u8] {
-        match self.file(STDIN) {
-            Some(file) => file.bytes(),
-            None => b"",
-        }
     }
 }

@@ -1,8 +1,8 @@
 //! Escapes of bytes that a line of text can't show.
 
-use crate::faults::{CaseFault, CaseLineFault, TextFault};
+use crate::faults::{BAD_ESCAPE, CaseFault};
 use crate::numbering::{MOST, push_numbered};
-use std::alloc::Global;
+use std::alloc::{AllocError, Global};
 use std::{mem, str};
 
 /// What the bytes so far end in.
@@ -21,6 +21,8 @@ enum EscapeState {
     Times(usize),
     /// The same and an open parenthesis: what stands before the closed one is repeated so often, each with its number.
     Group(usize),
+    /// No escape. This never ends.
+    Invalid,
 }
 
 /// Takes escaped text byte by byte, and keeps the bytes that it denotes.
@@ -48,93 +50,86 @@ impl Unescaper {
         !matches!(self.state, EscapeState::Plain)
     }
 
+    /// The bytes so far.
+    pub(crate) fn bytes(&self) -> &[u8] {
+        self.bytes.as_slice()
+    }
+
+    /// The bytes so far, after which it begins anew.
+    pub(crate) fn take_bytes(&mut self) -> Vec<u8> {
+        mem::replace(&mut self.bytes, Vec::new(self.alloc))
+    }
+
     /// Takes a byte outside an escape.
-    pub(crate) fn push(&mut self, byte: u8) -> Result<(), TextFault> {
-        self.bytes.push(byte)?;
+    pub(crate) fn push(&mut self, byte: u8) -> Result<(), AllocError> {
+        Ok(self.bytes.push(byte)?)
+    }
+
+    /// Takes the next byte of the text.
+    pub(crate) fn take(&mut self, byte: u8) -> Result<(), AllocError> {
+        match self.state {
+            EscapeState::Plain if byte == b'\\' => self.go_on(EscapeState::Backslash),
+            EscapeState::Plain => self.push(byte),
+            EscapeState::Backslash if byte == b'x' => self.go_on(EscapeState::Hexadecimal),
+            EscapeState::Backslash if byte == b'*' => self.go_on(EscapeState::Count(0)),
+            EscapeState::Backslash => self.end(escaped(byte), 1),
+            EscapeState::Hexadecimal => self.go_on(first_digit(byte)),
+            EscapeState::FirstDigit(first) => self.end(joined(first, byte), 1),
+            EscapeState::Count(count) => self.go_on(counted(count, byte)),
+            EscapeState::Times(count) if byte == b'(' => self.go_on(EscapeState::Group(count)),
+            EscapeState::Times(count) => self.end(Some(byte), count),
+            EscapeState::Group(count) if byte == b')' => self.end_group(count),
+            EscapeState::Group(_) => Ok(self.group.push(byte)?),
+            EscapeState::Invalid => Ok(()),
+        }
+    }
+
+    /// Goes on in an escape.
+    fn go_on(&mut self, state: EscapeState) -> Result<(), AllocError> {
+        self.state = state;
         Ok(())
     }
 
-    /// Takes a whole text.
-    fn take_text(&mut self, text: &str) -> Result<(), TextFault> {
+    /// Ends an escape with a byte that stands so often, if it is valid.
+    fn end(&mut self, byte: Option<u8>, count: usize) -> Result<(), AllocError> {
+        let Some(byte) = byte else {
+            return self.go_on(EscapeState::Invalid);
+        };
+        self.state = EscapeState::Plain;
+        self.bytes
+            .resize(self.bytes.len().saturating_add(count), byte)
+    }
+
+    /// Ends an escape with what stands in parentheses, so often, each time with its number.
+    fn end_group(&mut self, count: usize) -> Result<(), AllocError> {
+        let Ok(text) = str::from_utf8(self.group.as_slice()) else {
+            return self.go_on(EscapeState::Invalid);
+        };
+        push_numbered(self.alloc, &mut self.bytes, text, count)?;
+        self.group.clear();
+        self.go_on(EscapeState::Plain)
+    }
+
+    /// Takes the text of the line of this number.
+    fn take_text(&mut self, number: usize, text: &str) -> Result<(), CaseFault> {
         for byte in text.as_bytes() {
             self.take(*byte)?;
         }
         if self.is_inside_escape() {
-            return Err(TextFault::Invalid);
+            return Err(CaseFault::Line(number, BAD_ESCAPE));
         }
         Ok(())
-    }
-
-    /// Takes the next byte of the text.
-    pub(crate) fn take(&mut self, byte: u8) -> Result<(), TextFault> {
-        match self.state {
-            EscapeState::Plain if byte == b'\\' => self.state = EscapeState::Backslash,
-            EscapeState::Plain => self.push(byte)?,
-            EscapeState::Backslash if byte == b'x' => self.state = EscapeState::Hexadecimal,
-            EscapeState::Backslash if byte == b'*' => self.state = EscapeState::Count(0),
-            EscapeState::Backslash => self.end(escaped(byte))?,
-            EscapeState::Hexadecimal => match digit(byte) {
-                Some(first) => self.state = EscapeState::FirstDigit(first),
-                None => return Err(TextFault::Invalid),
-            },
-            EscapeState::FirstDigit(first) => self.end(joined(first, byte))?,
-            EscapeState::Count(count) => self.state = counted(count, byte)?,
-            EscapeState::Times(count) if byte == b'(' => self.state = EscapeState::Group(count),
-            EscapeState::Times(count) => self.repeat(byte, count)?,
-            EscapeState::Group(count) if byte == b')' => self.repeat_group(count)?,
-            EscapeState::Group(_) => self.group.push(byte)?,
-        }
-        Ok(())
-    }
-
-    /// Ends an escape with a byte that stands so often.
-    fn repeat(&mut self, byte: u8, count: usize) -> Result<(), TextFault> {
-        let length = self.bytes.len().saturating_add(count);
-        self.bytes.resize(length, byte)?;
-        self.state = EscapeState::Plain;
-        Ok(())
-    }
-
-    /// Ends an escape with what stands in parentheses, so often, each time with its number.
-    fn repeat_group(&mut self, count: usize) -> Result<(), TextFault> {
-        let group = mem::replace(&mut self.group, Vec::new(self.alloc));
-        let Ok(text) = str::from_utf8(group.as_slice()) else {
-            return Err(TextFault::Invalid);
-        };
-        push_numbered(self.alloc, &mut self.bytes, text, count)?;
-        self.state = EscapeState::Plain;
-        Ok(())
-    }
-
-    /// Ends an escape.
-    fn end(&mut self, byte: Option<u8>) -> Result<(), TextFault> {
-        let Some(byte) = byte else {
-            return Err(TextFault::Invalid);
-        };
-        self.state = EscapeState::Plain;
-        self.push(byte)
-    }
-
-    /// The bytes so far.
-    pub(crate) fn into_bytes(self) -> Vec<u8> {
-        self.bytes
     }
 }
 
 /// What follows a backslash, `*`, the digits of a number, and this byte.
-fn counted(count: usize, byte: u8) -> Result<EscapeState, TextFault> {
+fn counted(count: usize, byte: u8) -> EscapeState {
     match byte {
-        b'*' if count > 0 => Ok(EscapeState::Times(count)),
-        b'0'..=b'9' => {
-            let count = count
-                .saturating_mul(10)
-                .saturating_add(usize::from(byte - b'0'));
-            if count > MOST {
-                return Err(TextFault::Invalid);
-            }
-            Ok(EscapeState::Count(count))
+        b'*' if count > 0 => EscapeState::Times(count),
+        b'0'..=b'9' if count <= MOST / 10 => {
+            EscapeState::Count(count * 10 + usize::from(byte - b'0'))
         }
-        _ => Err(TextFault::Invalid),
+        _ => EscapeState::Invalid,
     }
 }
 
@@ -160,17 +155,18 @@ fn digit(byte: u8) -> Option<u8> {
     }
 }
 
+/// What follows a backslash, `x` and this byte.
+fn first_digit(byte: u8) -> EscapeState {
+    match digit(byte) {
+        Some(first) => EscapeState::FirstDigit(first),
+        None => EscapeState::Invalid,
+    }
+}
+
 /// The byte of two digits.
 fn joined(first: u8, second: u8) -> Option<u8> {
     let second = digit(second)?;
     first.checked_mul(16)?.checked_add(second)
-}
-
-/// The bytes that escaped text denotes.
-fn unescaped(alloc: Global, text: &str) -> Result<Vec<u8>, TextFault> {
-    let mut unescaper = Unescaper::new(alloc);
-    unescaper.take_text(text)?;
-    Ok(unescaper.into_bytes())
 }
 
 /// Appends the bytes that escaped text in the line of this number denotes.
@@ -180,9 +176,7 @@ pub(crate) fn push_unescaped(
     number: usize,
     text: &str,
 ) -> Result<(), CaseFault> {
-    match unescaped(alloc, text) {
-        Ok(more) => Ok(bytes.extend_from_slice(more.as_slice())?),
-        Err(TextFault::NoMemory) => Err(CaseFault::NoMemory),
-        Err(TextFault::Invalid) => Err(CaseFault::Line(number, CaseLineFault::BadEscape)),
-    }
+    let mut unescaper = Unescaper::new(alloc);
+    unescaper.take_text(number, text)?;
+    Ok(bytes.extend_from_slice(unescaper.bytes())?)
 }

@@ -5,26 +5,19 @@ use std::fs::Permissions;
 use std::os::unix::fs::PermissionsExt;
 use std::{env, fs, io, process};
 
-/// The name of the folder of the case at the line with this number, among the temporary files of the system.
-fn folder_of(rt: &HostRuntime, number: usize) -> io::Result<String> {
+/// The name of the folder of a case, among the temporary files of the system. One case runs at a time.
+fn folder_name(rt: &HostRuntime) -> io::Result<String> {
     let id = process::id(rt.process());
     let system = env::temp_dir(rt)?;
-    let system = system.as_str();
-    Ok(format!(in rt.alloc(); "{system}/gomod_cases_{id}_{number}")?)
-}
-
-/// Makes a folder with nothing in it.
-fn make_empty(rt: &HostRuntime, folder: &str) -> io::Result<()> {
-    if fs::exists(rt, folder)? {
-        fs::remove_dir_all(rt, folder)?;
-    }
-    fs::create_dir_all(rt, folder)
+    Ok(format!(in rt.alloc(); "{}/gomod_cases_{id}", system.as_str())?)
 }
 
 /// Makes a new, empty folder.
-pub fn make_folder(rt: &HostRuntime, number: usize) -> io::Result<String> {
-    let folder = folder_of(rt, number)?;
-    make_empty(rt, folder.as_str())?;
+pub fn make_folder(rt: &HostRuntime) -> io::Result<String> {
+    let folder = folder_name(rt)?;
+    // what an earlier process of this number may have left
+    let _ = fs::remove_dir_all(rt, folder.as_str());
+    fs::create_dir_all(rt, folder.as_str())?;
     Ok(folder)
 }
 
@@ -52,10 +45,10 @@ fn lay_at(rt: &HostRuntime, place: &str, file: &CaseFile) -> io::Result<()> {
         fs::create_dir_all(rt, parent)?;
     }
     lay_content(rt, place, &file.content)?;
-    if let Some(mode) = file.mode {
-        fs::set_permissions(rt, place, Permissions::from_mode(mode))?;
+    match file.mode {
+        Some(mode) => fs::set_permissions(rt, place, Permissions::from_mode(mode)),
+        None => Ok(()),
     }
-    Ok(())
 }
 
 /// Writes what a case has at a place.

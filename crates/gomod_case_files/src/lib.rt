@@ -12,12 +12,11 @@
 //! module    example.com/a
 //! ```
 //!
-//! `read_cases` reads it as a `Case` with one `Run` and one `CaseFile`. The run has the three words of the command, the
-//! line after `> ` as its output, an empty report, the status 0, and `a/go.mod` as the one file that it opens. If a
-//! line belongs to no case, the result is a `CaseFault` with its number.
-//!
-//! `case_texts` divides a file of cases by its titles. A case that is run at several sizes is a text with places for
-//! the size, and `read_cases` reads what `CaseText::at` makes of it for each.
+//! `case_texts` divides a file of cases by its titles, and `read_case` reads such a case as a `Case` with one `Run` and
+//! one `CaseFile`. The run has the three words of the command, the line after `> ` as its output, an empty report, the
+//! status 0, and `a/go.mod` as the one file that it opens. If a line has no place in a case, the result is a `CaseFault`
+//! with its number. A case that is run at several sizes is a text with places for the size, and `read_case` reads what
+//! `CaseText::at` makes of it for each.
 //!
 //! `lay_files` writes the files of a case into a real folder. A `View` is the same files as bytes in memory, one of which
 //! may be cut off.
@@ -38,10 +37,11 @@ mod views;
 mod words;
 
 pub use crate::cases::{Case, CaseFile, Content, Run, STDIN};
-pub use crate::faults::{CaseFault, CaseLineFault};
+pub use crate::faults::CaseFault;
 pub use crate::folders::{lay_files, make_folder};
 pub use crate::pieces::NO_LINE_END;
 pub use crate::places::{is_near, tidied};
-pub use crate::reading::read_cases;
+pub use crate::reading::read_case;
 pub use crate::sizes::{CaseText, Sizes, case_texts};
 pub use crate::views::View;
+pub use crate::words::texts_of;

@@ -1,11 +1,11 @@
-//! Lines that are repeated with a number in them.
+//! Texts that are repeated with a number in them.
 
 use std::alloc::{AllocError, Global};
 
-/// The placeholder of the number in a line that is repeated.
+/// The placeholder of the number in a text that is repeated.
 pub(crate) const NUMBER: &str = "{n}";
 
-/// How often a line may be repeated, and how long a file may be made.
+/// How often a text may be repeated, and how long a file may be made.
 pub(crate) const MOST: usize = 16_777_217;
 
 /// A number of lines or bytes.
@@ -16,6 +16,12 @@ pub(crate) fn count_of(text: &str) -> Option<usize> {
     } else {
         None
     }
+}
+
+/// The number before a mark in a text, and what follows the mark.
+pub(crate) fn count_before(text: &str, mark: char) -> Option<(usize, &str)> {
+    let (count, rest) = text.split_once(mark)?;
+    Some((count_of(count)?, rest))
 }
 
 /// How many digits a number has.
@@ -86,21 +92,4 @@ pub(crate) fn push_numbered(
         push_parts(bytes, parts.as_slice(), digits.as_slice())?;
     }
     Ok(())
-}
-
-/// Appends a line this many times, each with its number.
-pub(crate) fn push_repeated(
-    alloc: Global,
-    bytes: &mut Vec<u8>,
-    line: &str,
-    count: usize,
-) -> Result<(), AllocError> {
-    let line = format!(in alloc; "{line}\n")?;
-    push_numbered(alloc, bytes, line.as_str(), count)
-}
-
-/// Appends a line with its end.
-pub(crate) fn push_line(bytes: &mut Vec<u8>, line: &str) -> Result<(), AllocError> {
-    bytes.extend_from_slice(line.as_bytes())?;
-    bytes.extend_from_slice(b"\n")
 }

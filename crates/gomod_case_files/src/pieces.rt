@@ -2,11 +2,11 @@
 
 use crate::cases::{Case, CaseFile, Content};
 use crate::escapes::push_unescaped;
-use crate::faults::{CaseFault, CaseLineFault};
-use crate::numbering::{NUMBER, count_of, numbered, push_line, push_numbered};
-use crate::places::tidied;
+use crate::faults::{BAD_HEADER, BAD_WORDS, CaseFault, LIKE_MARK, NO_CONTENT, SEVERAL_LINES};
+use crate::numbering::{NUMBER, count_of, numbered, push_numbered};
 use crate::words::{texts_of, words_of_line};
 use std::alloc::{AllocError, Global};
+use std::{mem, str};
 
 /// The last line of a file that does not end in a line end.
 pub const NO_LINE_END: &str = "\\ No newline at end of file";
@@ -81,12 +81,12 @@ fn kind_alone<'a>(verb: &str) -> Option<HeaderKind<'a>> {
 
 /// What a word of a header says with its argument.
 fn kind_with<'a>(verb: &str, argument: &'a str) -> Option<HeaderKind<'a>> {
-    match verb {
-        "repeat" => Some(HeaderKind::Lines(LineForm::Repeated(count_of(argument)?))),
-        "fill" => Some(HeaderKind::Lines(LineForm::Filled(count_of(argument)?))),
-        "mode" => Some(HeaderKind::Mode(mode_of(argument)?)),
-        "link" => Some(HeaderKind::Link(argument)),
-        "copy" => Some(HeaderKind::Copy(argument)),
+    match (verb, count_of(argument), mode_of(argument)) {
+        ("repeat", Some(count), _) => Some(HeaderKind::Lines(LineForm::Repeated(count))),
+        ("fill", Some(count), _) => Some(HeaderKind::Lines(LineForm::Filled(count))),
+        ("mode", _, Some(mode)) => Some(HeaderKind::Mode(mode)),
+        ("link", _, _) => Some(HeaderKind::Link(argument)),
+        ("copy", _, _) => Some(HeaderKind::Copy(argument)),
         _ => None,
     }
 }
@@ -101,35 +101,22 @@ fn content_of(alloc: Global, kind: HeaderKind<'_>) -> Result<Content, AllocError
     })
 }
 
-/// Whether a path has a part that leads up.
-fn leads_up(path: &str) -> bool {
-    path.split('/').any(|part| part == "..")
-}
-
 /// Whether the name of a file is the shortest spelling of its place, and leads at most one folder up out of the folder
 /// of its case.
-fn is_place(alloc: Global, name: &str) -> Result<bool, AllocError> {
-    let rest = name.strip_prefix("../").unwrap_or(name);
-    if rest.is_empty() || leads_up(rest) {
-        return Ok(false);
-    }
-    Ok(tidied(alloc, name)?.as_str() == name)
+fn is_place(name: &str) -> bool {
+    let rest = name
+        .strip_prefix("../")
+        .or(name.strip_prefix('/'))
+        .unwrap_or(name);
+    rest.split('/').all(|part| !matches!(part, "" | "." | ".."))
 }
 
 /// The name and the kind in the words of a header.
-fn read_header<'a>(
-    alloc: Global,
-    line: usize,
-    words: &[&'a str],
-) -> Result<(&'a str, HeaderKind<'a>), CaseFault> {
-    if let Some((name, rest)) = words.split_first() {
-        if let Some(kind) = kind_of(rest) {
-            if is_place(alloc, name)? {
-                return Ok((*name, kind));
-            }
-        }
+fn read_header<'a>(words: &[&'a str]) -> Option<(&'a str, HeaderKind<'a>)> {
+    match words {
+        [name, rest @ ..] if is_place(name) => Some((*name, kind_of(rest)?)),
+        _ => None,
     }
-    Err(CaseFault::Line(line, CaseLineFault::BadHeader))
 }
 
 impl CasePiece {
@@ -138,14 +125,16 @@ impl CasePiece {
         let words = words_of_line(alloc, line, text)?;
         match texts_of(alloc, words.as_slice())? {
             Some(texts) => CasePiece::of_words(alloc, line, texts.as_slice()),
-            None => Err(CaseFault::Line(line, CaseLineFault::BadWords)),
+            None => Err(CaseFault::Line(line, BAD_WORDS)),
         }
     }
 
     /// The piece that the words of a header begin.
     fn of_words(alloc: Global, line: usize, words: &[&str]) -> Result<CasePiece, CaseFault> {
-        let (name, kind) = read_header(alloc, line, words)?;
-        Ok(CasePiece::new(alloc, line, name, kind)?)
+        match read_header(words) {
+            Some((name, kind)) => Ok(CasePiece::new(alloc, line, name, kind)?),
+            None => Err(CaseFault::Line(line, BAD_HEADER)),
+        }
     }
 
     /// A piece without lines.
@@ -190,42 +179,61 @@ impl CasePiece {
             self.blanks = self.blanks.saturating_add(1);
             return Ok(());
         }
+        if line.starts_with("==") || line.starts_with("--") {
+            return Err(CaseFault::Line(number, LIKE_MARK));
+        }
         self.take_blanks(0)?;
         self.lines = self.lines.saturating_add(1);
-        let Content::Bytes(bytes) = &mut self.file.content else {
-            return Err(CaseFault::Line(number, CaseLineFault::NoContent));
-        };
-        push_formed(alloc, bytes, self.form, number, line)
+        match &mut self.file.content {
+            Content::Bytes(bytes) => push_formed(alloc, bytes, self.form, number, line),
+            _ => Err(CaseFault::Line(number, NO_CONTENT)),
+        }
     }
 
     /// Takes the blank lines at the end, but for this many.
     fn take_blanks(&mut self, left: usize) -> Result<(), AllocError> {
-        if let Content::Bytes(bytes) = &mut self.file.content {
-            let count = self.blanks.saturating_sub(left);
-            bytes.resize(bytes.len().saturating_add(count), b'\n')?;
-        }
+        let count = self.blanks.saturating_sub(left);
         self.blanks = 0;
-        Ok(())
+        match &mut self.file.content {
+            Content::Bytes(bytes) => bytes.resize(bytes.len().saturating_add(count), b'\n'),
+            _ => Ok(()),
+        }
     }
 
-    /// Adds the piece to the files of its case. One blank line at the end of the last piece belongs to no file.
-    pub(crate) fn end(
-        self,
-        alloc: Global,
-        case: &mut Case<'_>,
-        is_last: bool,
-    ) -> Result<(), CaseFault> {
-        let mut piece = self;
-        piece.take_blanks(if is_last { 1 } else { 0 })?;
-        piece.put_into(alloc, case)
+    /// Ends the piece: its lines get their form. One blank line at the end of the last piece belongs to no file.
+    pub(crate) fn end(&mut self, alloc: Global, is_last: bool) -> Result<(), CaseFault> {
+        self.take_blanks(if is_last { 1 } else { 0 })?;
+        if matches!(self.form, LineForm::Filled(_)) && self.lines != 1 {
+            return Err(CaseFault::Line(self.line, SEVERAL_LINES));
+        }
+        Ok(self.form_bytes(alloc)?)
     }
 
-    /// Adds the piece to the files of a case.
-    fn put_into(self, alloc: Global, case: &mut Case<'_>) -> Result<(), CaseFault> {
+    /// Fills its line, or repeats its lines, unless each is to be a file of its own.
+    fn form_bytes(&mut self, alloc: Global) -> Result<(), AllocError> {
+        let Content::Bytes(bytes) = &mut self.file.content else {
+            return Ok(());
+        };
         match self.form {
-            LineForm::Plain | LineForm::Escaped => put(case, self.file),
-            LineForm::Repeated(count) => put_repeated(alloc, case, &self.file, count),
-            LineForm::Filled(count) => put_filled(alloc, case, &self, count),
+            LineForm::Filled(count) => fill(bytes, count),
+            LineForm::Repeated(count) if !self.file.name.as_str().contains(NUMBER) => {
+                repeat(alloc, bytes, count)
+            }
+            _ => Ok(()),
+        }
+    }
+
+    /// Adds what it makes, once it has ended, to the files of its case.
+    pub(crate) fn put_into(self, alloc: Global, case: &mut Case<'_>) -> Result<(), AllocError> {
+        match self.form {
+            LineForm::Plain | LineForm::Escaped => {}
+            LineForm::Repeated(_) | LineForm::Filled(_) => case.is_large = true,
+        }
+        match self.form {
+            LineForm::Repeated(count) if self.file.name.as_str().contains(NUMBER) => {
+                put_files(alloc, case, &self.file, count)
+            }
+            _ => put(case, self.file),
         }
     }
 }
@@ -239,23 +247,43 @@ fn push_formed(
     line: &str,
 ) -> Result<(), CaseFault> {
     if line == NO_LINE_END || !matches!(form, LineForm::Escaped) {
-        return take_line(bytes, line);
+        return Ok(take_line(bytes, line)?);
     }
     push_unescaped(alloc, bytes, number, line)?;
     Ok(bytes.push(b'\n')?)
 }
 
 /// Takes a line into a text.
-pub(crate) fn take_line(text: &mut Vec<u8>, line: &str) -> Result<(), CaseFault> {
+pub(crate) fn take_line(text: &mut Vec<u8>, line: &str) -> Result<(), AllocError> {
     if line == NO_LINE_END {
         let _ = text.pop();
         return Ok(());
     }
-    Ok(push_line(text, line)?)
+    text.extend_from_slice(line.as_bytes())?;
+    text.extend_from_slice(b"\n")
+}
+
+/// Repeats the last byte of a line until the line, with its end, has this many bytes.
+fn fill(line: &mut Vec<u8>, count: usize) -> Result<(), AllocError> {
+    let _ = line.pop();
+    let last = line.last().copied().unwrap_or(b' ');
+    line.resize(count.saturating_sub(1), last)?;
+    line.extend_from_slice(b"\n")
+}
+
+/// Repeats a text, each time with its number. One that is not UTF-8 is left out.
+fn repeat(alloc: Global, bytes: &mut Vec<u8>, count: usize) -> Result<(), AllocError> {
+    let text = mem::replace(bytes, Vec::new(alloc));
+    push_numbered(
+        alloc,
+        bytes,
+        str::from_utf8(text.as_slice()).unwrap_or(""),
+        count,
+    )
 }
 
 /// Adds a file to a case, or its bytes to those of a file with its name.
-fn put(case: &mut Case<'_>, file: CaseFile) -> Result<(), CaseFault> {
+fn put(case: &mut Case<'_>, file: CaseFile) -> Result<(), AllocError> {
     if is_continued(&mut case.files, &file)? {
         return Ok(());
     }
@@ -264,66 +292,32 @@ fn put(case: &mut Case<'_>, file: CaseFile) -> Result<(), CaseFault> {
 
 /// Whether some of these files have a name, in which case the first of them gets the bytes of the file with that name.
 fn is_continued(files: &mut [CaseFile], more: &CaseFile) -> Result<bool, AllocError> {
-    let Content::Bytes(bytes) = &more.content else {
-        return Ok(false);
-    };
     for file in files {
         if file.name == more.name {
-            append(file, bytes.as_slice())?;
+            append(&mut file.content, more.bytes())?;
             return Ok(true);
         }
     }
     Ok(false)
 }
 
-/// Appends bytes to a file, if it has any.
-fn append(file: &mut CaseFile, bytes: &[u8]) -> Result<(), AllocError> {
-    if let Content::Bytes(before) = &mut file.content {
-        before.extend_from_slice(bytes)?;
+/// Appends bytes to what a case has at a place, if these are bytes.
+fn append(content: &mut Content, bytes: &[u8]) -> Result<(), AllocError> {
+    match content {
+        Content::Bytes(before) => before.extend_from_slice(bytes),
+        _ => Ok(()),
     }
-    Ok(())
-}
-
-/// Adds a file this many times to a case, or its lines this many times to one file.
-fn put_repeated(
-    alloc: Global,
-    case: &mut Case<'_>,
-    file: &CaseFile,
-    count: usize,
-) -> Result<(), CaseFault> {
-    case.is_large = true;
-    let Ok(text) = str::from_utf8(file.bytes()) else {
-        return Ok(());
-    };
-    let name = file.name.as_str();
-    if name.contains(NUMBER) {
-        return put_files(alloc, case, name, text, count);
-    }
-    put(case, repeated_file(alloc, name, text, count)?)
-}
-
-/// A file that has a text this many times, each with its number.
-fn repeated_file(
-    alloc: Global,
-    name: &str,
-    text: &str,
-    count: usize,
-) -> Result<CaseFile, AllocError> {
-    let mut bytes = Vec::new(alloc);
-    push_numbered(alloc, &mut bytes, text, count)?;
-    Ok(CaseFile::of_bytes(String::from_str(alloc, name)?, bytes))
 }
 
 /// Adds this many files to a case, each with its number.
 fn put_files(
     alloc: Global,
     case: &mut Case<'_>,
-    name: &str,
-    text: &str,
+    file: &CaseFile,
     count: usize,
-) -> Result<(), CaseFault> {
+) -> Result<(), AllocError> {
     for index in 0..count {
-        let file = numbered_file(alloc, name, text, index.saturating_add(1), count)?;
+        let file = numbered_file(alloc, file, index.saturating_add(1), count)?;
         case.files.push(file)?;
     }
     Ok(())
@@ -332,39 +326,16 @@ fn put_files(
 /// The file with this number.
 fn numbered_file(
     alloc: Global,
-    name: &str,
-    text: &str,
+    file: &CaseFile,
     number: usize,
     greatest: usize,
 ) -> Result<CaseFile, AllocError> {
-    let name = numbered(alloc, name, number, greatest)?;
+    let text = str::from_utf8(file.bytes()).unwrap_or("");
     let text = numbered(alloc, text, number, greatest)?;
-    Ok(CaseFile::of_bytes(name, text.into_bytes()))
-}
-
-/// Adds a file of this many bytes to a case.
-fn put_filled(
-    alloc: Global,
-    case: &mut Case<'_>,
-    piece: &CasePiece,
-    count: usize,
-) -> Result<(), CaseFault> {
-    if piece.lines != 1 {
-        return Err(CaseFault::Line(piece.line, CaseLineFault::SeveralLines));
-    }
-    case.is_large = true;
-    let line = piece.file.bytes();
-    let name = String::from_str(alloc, piece.file.name.as_str())?;
-    let bytes = filled(alloc, &line[..line.len().saturating_sub(1)], count)?;
-    put(case, CaseFile::of_bytes(name, bytes))
-}
-
-/// A line whose last byte is repeated until the line, with its end, has this many bytes.
-fn filled(alloc: Global, line: &[u8], count: usize) -> Result<Vec<u8>, AllocError> {
-    let last = line.last().map_or(b' ', |byte| *byte);
-    let mut bytes = Vec::new(alloc);
-    bytes.extend_from_slice(line)?;
-    bytes.resize(count.saturating_sub(1), last)?;
-    bytes.push(b'\n')?;
-    Ok(bytes)
+    let name = numbered(alloc, file.name.as_str(), number, greatest)?;
+    Ok(CaseFile {
+        name,
+        content: Content::Bytes(text.into_bytes()),
+        mode: None,
+    })
 }

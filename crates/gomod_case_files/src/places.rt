@@ -8,7 +8,7 @@ fn parts_of(alloc: Global, path: &str) -> Result<Vec<&str>, AllocError> {
     for part in path.split('/') {
         match part {
             "" | "." => {}
-            ".." if parts.last().is_some_and(|last| *last != "..") => {
+            ".." if !matches!(parts.last(), None | Some(&"..")) => {
                 let _ = parts.pop();
             }
             _ => parts.push(part)?,
@@ -17,24 +17,12 @@ fn parts_of(alloc: Global, path: &str) -> Result<Vec<&str>, AllocError> {
     Ok(parts)
 }
 
-/// Appends parts with a `/` between them.
-fn push_parts(path: &mut String, parts: &[&str]) -> Result<(), AllocError> {
-    for (index, part) in parts.iter().enumerate() {
-        if index > 0 {
-            path.push('/')?;
-        }
-        path.push_str(part)?;
-    }
-    Ok(())
-}
-
 /// A path without parts that lead nowhere. A leading `/` stays.
 pub fn tidied(alloc: Global, path: &str) -> Result<String, AllocError> {
-    let root = if path.starts_with('/') { "/" } else { "" };
     let parts = parts_of(alloc, path)?;
-    let mut tidied = String::from_str(alloc, root)?;
-    push_parts(&mut tidied, parts.as_slice())?;
-    Ok(tidied)
+    let below = parts.join(alloc, "/")?;
+    let root = if path.starts_with('/') { "/" } else { "" };
+    format!(in alloc; "{root}{below}")
 }
 
 /// Whether a path leads at most one folder up out of the folder of a case.

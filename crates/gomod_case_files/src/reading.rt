@@ -1,11 +1,14 @@
-//! Reading files of cases.
+//! Reading cases.
 
 use crate::cases::{Case, Run};
 use crate::escapes::push_unescaped;
-use crate::faults::{CaseFault, CaseLineFault};
-use crate::numbering::{count_of, push_repeated};
+use crate::faults::{
+    BAD_COUNT, BAD_STATUS, BEFORE_COMMAND, CaseFault, NO_COMMAND, NO_MARK, NO_SIZE, SAID_BEFORE,
+    UNDER_CALL,
+};
+use crate::numbering::{count_before, push_numbered};
 use crate::pieces::{CasePiece, header, take_line};
-use crate::sizes::has_place;
+use crate::sizes::{has_place, has_sizes};
 use crate::words::words_of_line;
 use std::alloc::Global;
 
@@ -15,74 +18,57 @@ const EVERY_BYTE: &str = "% every byte";
 /// The line of a command that is run over real files alone.
 const FILES_ONLY: &str = "% files";
 
-/// Takes the lines of a file of cases.
+/// Takes the lines of a case.
 #[derive(Drop)]
 struct Reader<'a> {
     alloc: Global,
-    /// The number of lines before the text.
-    lines_before: usize,
-    /// The cases so far. The next line belongs to the last of them.
-    cases: Vec<Case<'a>>,
+    /// The case so far.
+    case: Case<'a>,
     /// The piece of a file that the next line belongs to.
     piece: Option<CasePiece>,
 }
 
-/// The cases of a text that follows this many lines, in the order of their titles' lines.
-pub fn read_cases<'a>(
-    alloc: Global,
-    lines_before: usize,
-    text: &'a str,
-) -> Result<Vec<Case<'a>>, CaseFault> {
+/// The case of a text that begins with its title, in the line of this number.
+pub fn read_case<'a>(alloc: Global, line: usize, text: &'a str) -> Result<Case<'a>, CaseFault> {
+    let (title, lines) = text.split_once('\n').unwrap_or((text, ""));
     let mut reader = Reader {
         alloc,
-        lines_before,
-        cases: Vec::new(alloc),
+        case: Case::new(alloc, line, title),
         piece: None,
     };
-    reader.take_text(text)?;
-    let Reader { cases, .. } = reader;
-    Ok(cases)
+    reader.take_lines(lines)?;
+    let Reader { case, .. } = reader;
+    Ok(case)
 }
 
 impl<'a> Reader<'a> {
-    /// Takes a whole text.
-    fn take_text(&mut self, text: &'a str) -> Result<(), CaseFault> {
-        // what follows the last line end of a text is not a line
-        let text = text.strip_suffix('\n').unwrap_or(text);
-        for (index, line) in text.split('\n').enumerate() {
-            let number = self.lines_before.saturating_add(index).saturating_add(1);
-            self.take(number, line)?;
+    /// Takes the lines below the title.
+    fn take_lines(&mut self, lines: &'a str) -> Result<(), CaseFault> {
+        let title = self.case.line;
+        for (index, line) in lines.split('\n').enumerate() {
+            if index > 0 || !has_sizes(line) {
+                self.take(title.saturating_add(index).saturating_add(1), line)?;
+            }
         }
-        if self.cases.is_empty() {
-            return Err(CaseFault::Line(1, CaseLineFault::NoCase));
+        self.end_piece(true)?;
+        if self.case.runs.is_empty() {
+            return Err(CaseFault::Line(title, NO_COMMAND));
         }
-        self.end_case()
+        Ok(())
     }
 
     /// Takes the next line.
     fn take(&mut self, number: usize, line: &'a str) -> Result<(), CaseFault> {
         if has_place(line) {
-            return Err(CaseFault::Line(number, CaseLineFault::NoSize));
-        }
-        if let Some(title) = line.strip_prefix("=== ") {
-            return self.begin_case(number, title);
-        }
-        if line.starts_with("===") {
-            return Err(CaseFault::Line(number, CaseLineFault::NoMark));
-        }
-        if self.cases.is_empty() {
-            return take_before_cases(number, line);
+            return Err(CaseFault::Line(number, NO_SIZE));
         }
         if let Some(text) = header(line) {
             return self.begin_piece(number, text);
         }
-        self.take_in_case(number, line)
-    }
-
-    /// Begins the case with a title.
-    fn begin_case(&mut self, number: usize, title: &'a str) -> Result<(), CaseFault> {
-        self.end_case()?;
-        Ok(self.cases.push(Case::new(self.alloc, number, title))?)
+        match &mut self.piece {
+            Some(piece) => piece.take(self.alloc, number, line),
+            None => take_among_commands(self.alloc, &mut self.case, number, line),
+        }
     }
 
     /// Begins the piece of a file with a header.
@@ -92,80 +78,42 @@ impl<'a> Reader<'a> {
         Ok(())
     }
 
-    /// Takes a line of a case that is neither its title nor a header.
-    fn take_in_case(&mut self, number: usize, line: &'a str) -> Result<(), CaseFault> {
-        if let Some(piece) = &mut self.piece {
-            if is_like_mark(line) {
-                return Err(CaseFault::Line(number, CaseLineFault::LikeMark));
-            }
-            return piece.take(self.alloc, number, line);
-        }
-        let Some(case) = self.cases.last_mut() else {
-            return Ok(());
-        };
-        if line == EVERY_BYTE {
-            return mark_once(&mut case.is_cut_everywhere, number);
-        }
-        take_line_of_runs(self.alloc, &mut case.runs, number, line)
-    }
-
-    /// Ends the piece that the lines so far belong to.
+    /// Ends the piece that the lines so far belong to. One blank line at the end of the last piece belongs to no file.
     fn end_piece(&mut self, is_last: bool) -> Result<(), CaseFault> {
-        let Some(piece) = self.piece.take() else {
-            return Ok(());
-        };
-        match self.cases.last_mut() {
-            Some(case) => piece.end(self.alloc, case, is_last),
+        if let Some(piece) = &mut self.piece {
+            piece.end(self.alloc, is_last)?;
+        }
+        match self.piece.take() {
+            Some(piece) => Ok(piece.put_into(self.alloc, &mut self.case)?),
             None => Ok(()),
         }
     }
-
-    /// Ends the case that the lines so far belong to.
-    fn end_case(&mut self) -> Result<(), CaseFault> {
-        self.end_piece(true)?;
-        match self.cases.last() {
-            Some(case) if case.runs.is_empty() => {
-                Err(CaseFault::Line(case.line, CaseLineFault::NoCommand))
-            }
-            _ => Ok(()),
-        }
-    }
-}
-
-/// Takes a line before the first case.
-fn take_before_cases(number: usize, line: &str) -> Result<(), CaseFault> {
-    if is_passed(line) {
-        return Ok(());
-    }
-    Err(CaseFault::Line(number, CaseLineFault::BeforeTitle))
-}
-
-/// Whether a line begins as a title or a header does.
-fn is_like_mark(line: &str) -> bool {
-    line.starts_with("==") || line.starts_with("--")
 }
 
 /// Whether a line among commands is blank or a remark.
-fn is_passed(line: &str) -> bool {
+pub(crate) fn is_passed(line: &str) -> bool {
     line.trim().is_empty() || line.starts_with('#')
 }
 
 /// Takes a line among the commands of a case.
-fn take_line_of_runs<'a>(
+fn take_among_commands<'a>(
     alloc: Global,
-    runs: &mut Vec<Run<'a>>,
+    case: &mut Case<'a>,
     number: usize,
     line: &'a str,
 ) -> Result<(), CaseFault> {
     if is_passed(line) {
         return Ok(());
     }
-    if let Some(command) = line.strip_prefix("$ ") {
-        return begin_run(alloc, runs, number, command);
+    if line == EVERY_BYTE {
+        return mark_once(&mut case.is_cut_everywhere, number);
     }
-    match runs.last_mut() {
+    if let Some(command) = line.strip_prefix("$ ") {
+        return begin_run(alloc, &mut case.runs, number, command);
+    }
+    match case.runs.last_mut() {
         Some(run) => take_line_of_run(alloc, run, number, line),
-        None => Err(CaseFault::Line(number, CaseLineFault::BeforeCommand)),
+        None => Err(CaseFault::Line(number, BEFORE_COMMAND)),
     }
 }
 
@@ -177,9 +125,6 @@ fn begin_run<'a>(
     command: &'a str,
 ) -> Result<(), CaseFault> {
     let words = words_of_line(alloc, number, command)?;
-    if words.is_empty() {
-        return Err(CaseFault::Line(number, CaseLineFault::BadWords));
-    }
     Ok(runs.push(Run::new(alloc, number, command, words))?)
 }
 
@@ -194,7 +139,7 @@ fn take_line_of_run<'a>(
         return take_written(alloc, &mut run.out, number, rest);
     }
     if is_about_command_line(line) && !run.is_command_line() {
-        return Err(CaseFault::Line(number, CaseLineFault::UnderCall));
+        return Err(CaseFault::Line(number, UNDER_CALL));
     }
     if let Some(rest) = line.strip_prefix('!') {
         return take_written(alloc, &mut run.report, number, rest);
@@ -202,7 +147,13 @@ fn take_line_of_run<'a>(
     if let Some(rest) = line.strip_prefix('@') {
         return take_opened(alloc, run, number, rest);
     }
-    take_about_run(run, number, line)
+    if let Some(text) = line.strip_prefix("? ") {
+        return take_status(run, number, text);
+    }
+    if line == FILES_ONLY {
+        return mark_once(&mut run.is_over_files_only, number);
+    }
+    Err(CaseFault::Line(number, NO_MARK))
 }
 
 /// Whether a line has one of the marks that only command lines have: of a report, a status, an opened file, or a way to
@@ -211,24 +162,13 @@ fn is_about_command_line(line: &str) -> bool {
     matches!(line.as_bytes().first(), Some(b'!' | b'?' | b'@' | b'%'))
 }
 
-/// Takes a line that gives the status of a command, or says that it runs over real files alone.
-fn take_about_run(run: &mut Run<'_>, number: usize, line: &str) -> Result<(), CaseFault> {
-    if let Some(text) = line.strip_prefix("? ") {
-        return take_status(run, number, text);
-    }
-    if line != FILES_ONLY {
-        return Err(CaseFault::Line(number, CaseLineFault::NoMark));
-    }
-    mark_once(&mut run.is_over_files_only, number)
-}
-
 /// Takes the status of a command.
 fn take_status(run: &mut Run<'_>, number: usize, text: &str) -> Result<(), CaseFault> {
     let Ok(status) = text.parse::<u8>() else {
-        return Err(CaseFault::Line(number, CaseLineFault::BadStatus));
+        return Err(CaseFault::Line(number, BAD_STATUS));
     };
     if run.status.is_some() {
-        return Err(CaseFault::Line(number, CaseLineFault::SaidBefore));
+        return Err(CaseFault::Line(number, SAID_BEFORE));
     }
     run.status = Some(status);
     Ok(())
@@ -237,7 +177,7 @@ fn take_status(run: &mut Run<'_>, number: usize, text: &str) -> Result<(), CaseF
 /// Sets what the line of this number says, which no line before it said.
 fn mark_once(mark: &mut bool, number: usize) -> Result<(), CaseFault> {
     if *mark {
-        return Err(CaseFault::Line(number, CaseLineFault::SaidBefore));
+        return Err(CaseFault::Line(number, SAID_BEFORE));
     }
     *mark = true;
     Ok(())
@@ -251,15 +191,18 @@ fn take_written(
     rest: &str,
 ) -> Result<(), CaseFault> {
     if rest.is_empty() {
-        return take_line(text, "");
+        return Ok(take_line(text, "")?);
     }
     if let Some(line) = rest.strip_prefix(' ') {
-        return take_line(text, line);
+        return Ok(take_line(text, line)?);
     }
     if let Some(line) = rest.strip_prefix("\\ ") {
         return push_unescaped(alloc, text, number, line);
     }
-    take_repeated(alloc, text, number, rest)
+    match rest.strip_prefix('*') {
+        Some(rest) => take_repeated(alloc, text, number, rest),
+        None => Err(CaseFault::Line(number, NO_MARK)),
+    }
 }
 
 /// Takes the text after the mark of a line that a command writes several times.
@@ -269,18 +212,11 @@ fn take_repeated(
     number: usize,
     rest: &str,
 ) -> Result<(), CaseFault> {
-    let Some((count, line)) = repetition(rest) else {
-        return Err(CaseFault::Line(number, CaseLineFault::NoMark));
+    let Some((count, line)) = count_before(rest, ' ') else {
+        return Err(CaseFault::Line(number, BAD_COUNT));
     };
-    let Some(count) = count_of(count) else {
-        return Err(CaseFault::Line(number, CaseLineFault::BadCount));
-    };
-    Ok(push_repeated(alloc, text, line, count)?)
-}
-
-/// The count of lines and the line after a mark and a `*`.
-fn repetition(rest: &str) -> Option<(&str, &str)> {
-    rest.strip_prefix('*')?.split_once(' ')
+    let line = format!(in alloc; "{line}\n")?;
+    Ok(push_numbered(alloc, text, line.as_str(), count)?)
 }
 
 /// Takes the text after the mark of a file that a command opens.
@@ -292,7 +228,7 @@ fn take_opened<'a>(
 ) -> Result<(), CaseFault> {
     if let Some(opened) = &run.opened {
         if opened.is_empty() || rest.is_empty() {
-            return Err(CaseFault::Line(number, CaseLineFault::SaidBefore));
+            return Err(CaseFault::Line(number, SAID_BEFORE));
         }
     }
     let opened = run.opened.get_or_insert(Vec::new(alloc));
@@ -300,7 +236,7 @@ fn take_opened<'a>(
         return Ok(());
     }
     let Some(name) = rest.strip_prefix(' ') else {
-        return Err(CaseFault::Line(number, CaseLineFault::NoMark));
+        return Err(CaseFault::Line(number, NO_MARK));
     };
     Ok(opened.push(name)?)
 }

@@ -1,11 +1,15 @@
 //! Cases as text, each of which may be run at several sizes.
 
-use crate::faults::{CaseFault, CaseLineFault};
+use crate::faults::{BAD_SIZES, BEFORE_TITLE, CaseFault, NO_CASE};
 use crate::numbering::count_of;
+use crate::reading::is_passed;
 use std::alloc::{AllocError, Global};
 
 /// What the title of a case begins with.
 const TITLE: &str = "=== ";
+
+/// What is between a case and the title of the next one.
+const NEXT_TITLE: &str = "\n=== ";
 
 /// What the line directly below a title begins with, if the case is run at several sizes.
 const SIZES: &str = "% sizes ";
@@ -49,71 +53,87 @@ impl Sizes {
     pub fn is_in_memory_alone(&self, index: usize) -> bool {
         self.is_range && index.saturating_add(1) < self.all.len()
     }
-}
 
-/// The line that says at which sizes a case is run.
-#[derive(Clone, Copy)]
-struct SizesLine<'a> {
-    number: usize,
-    /// What follows the mark.
-    text: &'a str,
-}
-
-/// A case as text.
-#[derive(Drop)]
-pub struct CaseText<'a> {
-    /// The number of lines before it.
-    pub lines_before: usize,
-    /// Its title. Only a text without any case has none.
-    pub title: Option<&'a str>,
-    /// Its lines, of which the one that has the sizes is blank here.
-    pub text: String,
-    sizes: Option<SizesLine<'a>>,
-}
-
-impl<'a> CaseText<'a> {
-    /// A case without lines.
-    fn new(alloc: Global, lines_before: usize) -> CaseText<'a> {
-        CaseText {
-            lines_before,
-            title: None,
-            text: String::new(alloc),
-            sizes: None,
+    /// Takes the sizes that a text names, and says whether it is one of sizes.
+    fn take(&mut self, text: &str) -> Result<bool, AllocError> {
+        match text.split_once(TO) {
+            Some((least, most)) => self.take_range(count_of(least), count_of(most)),
+            None => self.take_list(text),
         }
     }
 
-    /// Takes the line after this many others of the file. One with the sizes stands directly below the title.
-    fn take(
+    /// Takes the sizes from the least to the greatest: each is four times the one before it, but for the greatest.
+    fn take_range(
         &mut self,
-        index: usize,
-        line: &'a str,
-        is_below_title: bool,
-    ) -> Result<(), AllocError> {
-        match line.strip_prefix(SIZES) {
-            Some(text) if is_below_title => {
-                let number = index.saturating_add(1);
-                self.sizes = Some(SizesLine { number, text });
+        least: Option<usize>,
+        most: Option<usize>,
+    ) -> Result<bool, AllocError> {
+        let (Some(least), Some(most)) = (least, most) else {
+            return Ok(false);
+        };
+        self.is_range = true;
+        let mut size = least;
+        for _ in 0..MOST_SIZES {
+            if size < most {
+                self.all.push(size)?;
+                size = size.saturating_mul(STEP);
             }
-            _ => self.text.push_str(line)?,
         }
-        self.text.push('\n')
+        self.all.push(most)?;
+        Ok(least < most)
+    }
+
+    /// Takes the sizes that a text lists, in ascending order.
+    fn take_list(&mut self, text: &str) -> Result<bool, AllocError> {
+        for word in text.split(COMMA) {
+            let size = count_of(word).unwrap_or(0);
+            if size <= self.all.last().copied().unwrap_or(0) {
+                return Ok(false);
+            }
+            self.all.push(size)?;
+        }
+        Ok(true)
+    }
+}
+
+/// A case as text.
+#[derive(Clone, Copy)]
+pub struct CaseText<'a> {
+    /// The number of the line of its title.
+    pub line: usize,
+    /// Its title, and the lines below it.
+    pub text: &'a str,
+}
+
+impl<'a> CaseText<'a> {
+    /// Its title.
+    pub fn title(&self) -> &'a str {
+        self.text.split('\n').next().unwrap_or("")
+    }
+
+    /// What the line directly below its title says of sizes, if it is such a line.
+    fn sizes_line(&self) -> Option<&'a str> {
+        self.text.split('\n').nth(1)?.strip_prefix(SIZES)
     }
 
     /// The sizes that it is run at, or none if it is run as it stands.
     pub fn sizes(&self, alloc: Global) -> Result<Option<Sizes>, CaseFault> {
-        let Some(line) = self.sizes else {
+        let Some(text) = self.sizes_line() else {
             return Ok(None);
         };
-        let names_size = self.title.is_some_and(|title| title.contains(SIZE));
-        match sizes_of(alloc, line.text)? {
-            Some(sizes) if names_size => Ok(Some(sizes)),
-            _ => Err(CaseFault::Line(line.number, CaseLineFault::BadSizes)),
+        let mut sizes = Sizes {
+            all: Vec::new(alloc),
+            is_range: false,
+        };
+        if sizes.take(text)? && self.title().contains(SIZE) {
+            return Ok(Some(sizes));
         }
+        Err(CaseFault::Line(self.line.saturating_add(1), BAD_SIZES))
     }
 
     /// Its text at a size.
     pub fn at(&self, alloc: Global, size: usize) -> Result<String, AllocError> {
-        let text = placed(alloc, self.text.as_str(), SIZE, size)?;
+        let text = placed(alloc, self.text, SIZE, size)?;
         let text = placed(alloc, text.as_str(), BEFORE, size.saturating_sub(1))?;
         placed(alloc, text.as_str(), AFTER, size.saturating_add(1))
     }
@@ -130,103 +150,47 @@ pub(crate) fn has_place(text: &str) -> bool {
     text.contains(PLACE)
 }
 
-/// The sizes that a text names, if it is one of sizes.
-fn sizes_of(alloc: Global, text: &str) -> Result<Option<Sizes>, AllocError> {
-    let is_range = text.contains(TO);
-    let all = if is_range {
-        range_of(alloc, text)?
-    } else {
-        list_of(alloc, text)?
-    };
-    Ok(all.map(|all| Sizes { all, is_range }))
+/// Whether a line has the sizes of a case, if it is directly below the title.
+pub(crate) fn has_sizes(line: &str) -> bool {
+    line.starts_with(SIZES)
 }
 
-/// The sizes from the least to the greatest that a text names.
-fn range_of(alloc: Global, text: &str) -> Result<Option<Vec<usize>>, AllocError> {
-    match ends_of(text) {
-        Some((least, most)) if least < most => Ok(Some(sizes_between(alloc, least, most)?)),
-        _ => Ok(None),
-    }
-}
-
-/// The least and the greatest size that a text names.
-fn ends_of(text: &str) -> Option<(usize, usize)> {
-    let (least, most) = text.split_once(TO)?;
-    Some((count_of(least)?, count_of(most)?))
-}
-
-/// The sizes that a text lists, in ascending order.
-fn list_of(alloc: Global, text: &str) -> Result<Option<Vec<usize>>, AllocError> {
-    let mut sizes = Vec::new(alloc);
-    let mut last = 0;
-    for word in text.split(COMMA) {
-        match count_of(word) {
-            Some(size) if last < size => {
-                sizes.push(size)?;
-                last = size;
-            }
-            _ => return Ok(None),
-        }
-    }
-    Ok(Some(sizes))
-}
-
-/// The sizes from one to another: each four times the one before it, and the greatest.
-fn sizes_between(alloc: Global, least: usize, most: usize) -> Result<Vec<usize>, AllocError> {
-    let mut sizes = Vec::new(alloc);
-    let mut size = least;
-    for _ in 0..MOST_SIZES {
-        if size < most {
-            sizes.push(size)?;
-            size = size.saturating_mul(STEP);
-        }
-    }
-    sizes.push(most)?;
-    Ok(sizes)
-}
-
-/// The cases of a text, in order, each as text. What stands before the first title belongs to the first of them.
-pub fn case_texts<'a>(alloc: Global, text: &'a str) -> Result<Vec<CaseText<'a>>, AllocError> {
-    let mut cases = Vec::new(alloc);
-    push_cases(alloc, &mut cases, text)?;
-    Ok(cases)
-}
-
-/// Adds the cases of a text.
-fn push_cases<'a>(
-    alloc: Global,
-    cases: &mut Vec<CaseText<'a>>,
-    text: &'a str,
-) -> Result<(), AllocError> {
-    cases.push(CaseText::new(alloc, 0))?;
-    let mut is_below_title = false;
+/// The cases of a text, in order, each as text.
+pub fn case_texts<'a>(alloc: Global, text: &'a str) -> Result<Vec<CaseText<'a>>, CaseFault> {
     // what follows the last line end of a text is not a line
     let text = text.strip_suffix('\n').unwrap_or(text);
-    for (index, line) in text.split('\n').enumerate() {
-        let title = line.strip_prefix(TITLE);
-        if let Some(title) = title {
-            begin_case(alloc, cases, index, title)?;
+    let (line, cases) = match text.strip_prefix(TITLE) {
+        Some(cases) => (1, cases),
+        None => {
+            let (before, cases) = text.split_once(NEXT_TITLE).unwrap_or((text, ""));
+            (line_after(before)?, cases)
         }
-        if let Some(last) = cases.last_mut() {
-            last.take(index, line, is_below_title)?;
-        }
-        is_below_title = title.is_some();
+    };
+    if cases.is_empty() {
+        return Err(CaseFault::Line(1, NO_CASE));
     }
-    Ok(())
+    Ok(divided(alloc, line, cases)?)
 }
 
-/// Begins the case with a title, which is the line after this many others.
-fn begin_case<'a>(
-    alloc: Global,
-    cases: &mut Vec<CaseText<'a>>,
-    index: usize,
-    title: &'a str,
-) -> Result<(), AllocError> {
-    if cases.last().is_some_and(|last| last.title.is_some()) {
-        cases.push(CaseText::new(alloc, index))?;
+/// The number of the line after those before the first title.
+fn line_after(before: &str) -> Result<usize, CaseFault> {
+    let mut number: usize = 0;
+    for line in before.split('\n') {
+        number = number.saturating_add(1);
+        if !is_passed(line) {
+            return Err(CaseFault::Line(number, BEFORE_TITLE));
+        }
     }
-    if let Some(last) = cases.last_mut() {
-        last.title = Some(title);
+    Ok(number.saturating_add(1))
+}
+
+/// The cases of a text that begins with a title, without its mark, in the line of this number.
+fn divided<'a>(alloc: Global, line: usize, text: &'a str) -> Result<Vec<CaseText<'a>>, AllocError> {
+    let mut cases = Vec::new(alloc);
+    let mut line = line;
+    for text in text.split(NEXT_TITLE) {
+        cases.push(CaseText { line, text })?;
+        line = line.saturating_add(text.split('\n').count());
     }
-    Ok(())
+    Ok(cases)
 }

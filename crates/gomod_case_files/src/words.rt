@@ -1,13 +1,13 @@
 //! The words of a command.
 
 use crate::escapes::Unescaper;
-use crate::faults::{CaseFault, CaseLineFault, TextFault};
-use crate::numbering::{count_of, numbered};
+use crate::faults::{BAD_WORDS, CaseFault};
+use crate::numbering::{count_before, numbered};
 use std::alloc::{AllocError, Global};
-use std::{mem, str};
+use std::str;
 
 /// Where a byte is in the words.
-#[derive(Clone, Copy, PartialEq, Eq)]
+#[derive(Clone, Copy)]
 enum WordState {
     /// Between words.
     Between,
@@ -19,6 +19,8 @@ enum WordState {
     Double,
     /// Directly after a quote that ended a word.
     Closed,
+    /// In no word. This never ends.
+    Invalid,
 }
 
 /// Takes words byte by byte.
@@ -40,97 +42,88 @@ impl Cutter {
         }
     }
 
-    /// Takes a whole text.
-    fn take_text(&mut self, text: &str) -> Result<(), TextFault> {
+    /// Takes the text of the line of this number.
+    fn take_text(&mut self, number: usize, text: &str) -> Result<(), CaseFault> {
         for byte in text.as_bytes() {
             self.take(*byte)?;
         }
+        // a blank ends a word unless that is in quotes
+        self.take(b' ')?;
         match self.state {
-            WordState::Bare => self.end_bare(),
-            WordState::Single | WordState::Double => Err(TextFault::Invalid),
-            WordState::Between | WordState::Closed => Ok(()),
+            WordState::Between => Ok(()),
+            _ => Err(CaseFault::Line(number, BAD_WORDS)),
         }
     }
 
     /// Takes the next byte.
-    fn take(&mut self, byte: u8) -> Result<(), TextFault> {
+    fn take(&mut self, byte: u8) -> Result<(), AllocError> {
         match self.state {
             WordState::Between => self.begin(byte),
             WordState::Bare if byte == b' ' => self.end_bare(),
-            WordState::Bare => self.word.push(byte),
             WordState::Single if byte == b'\'' => self.end(WordState::Closed),
-            WordState::Single => self.word.push(byte),
-            WordState::Double => self.take_escaped(byte),
-            WordState::Closed if byte == b' ' => {
-                self.state = WordState::Between;
-                Ok(())
+            WordState::Double if byte == b'"' && !self.word.is_inside_escape() => {
+                self.end(WordState::Closed)
             }
-            WordState::Closed => Err(TextFault::Invalid),
+            WordState::Bare | WordState::Single => self.word.push(byte),
+            WordState::Double => self.word.take(byte),
+            WordState::Closed if byte == b' ' => self.go_on(WordState::Between),
+            WordState::Closed | WordState::Invalid => self.go_on(WordState::Invalid),
         }
-    }
-
-    /// Takes the next byte of a word in `"`.
-    fn take_escaped(&mut self, byte: u8) -> Result<(), TextFault> {
-        if byte == b'"' && !self.word.is_inside_escape() {
-            return self.end(WordState::Closed);
-        }
-        self.word.take(byte)
     }
 
     /// Takes a byte between words.
-    fn begin(&mut self, byte: u8) -> Result<(), TextFault> {
+    fn begin(&mut self, byte: u8) -> Result<(), AllocError> {
         match byte {
-            b' ' => {}
-            b'\'' => self.state = WordState::Single,
-            b'"' => self.state = WordState::Double,
+            b' ' => Ok(()),
+            b'\'' => self.go_on(WordState::Single),
+            b'"' => self.go_on(WordState::Double),
             _ => {
                 self.state = WordState::Bare;
-                self.word.push(byte)?;
+                self.word.push(byte)
             }
         }
+    }
+
+    /// Goes on in another state.
+    fn go_on(&mut self, state: WordState) -> Result<(), AllocError> {
+        self.state = state;
         Ok(())
     }
 
     /// Ends a word without quotes, which may stand for several.
-    fn end_bare(&mut self) -> Result<(), TextFault> {
-        self.state = WordState::Between;
-        let word = mem::replace(&mut self.word, Unescaper::new(self.alloc)).into_bytes();
-        if word.first() != Some(&b'*') {
-            self.words.push(word)?;
-            return Ok(());
+    fn end_bare(&mut self) -> Result<(), AllocError> {
+        if self.word.bytes().first() != Some(&b'*') {
+            return self.end(WordState::Between);
         }
-        match str::from_utf8(word.as_slice()) {
-            Ok(word) => self.push_several(word),
-            Err(_) => Err(TextFault::Invalid),
-        }
+        let word = self.word.take_bytes();
+        self.push_several(word.as_slice())
     }
 
-    /// Adds the words that a word stands for which begins with a `*`: a number, a second `*`, and what each of so many
-    /// words is.
-    fn push_several(&mut self, word: &str) -> Result<(), TextFault> {
+    /// Ends a word.
+    fn end(&mut self, state: WordState) -> Result<(), AllocError> {
+        self.state = state;
+        Ok(self.words.push(self.word.take_bytes())?)
+    }
+
+    /// Adds the words that a word stands for which begins with a `*`.
+    fn push_several(&mut self, word: &[u8]) -> Result<(), AllocError> {
         let Some((count, text)) = several(word) else {
-            return Err(TextFault::Invalid);
+            return self.go_on(WordState::Invalid);
         };
+        self.state = WordState::Between;
         for index in 0..count {
             let one = numbered(self.alloc, text, index.saturating_add(1), count)?;
             self.words.push(one.into_bytes())?;
         }
         Ok(())
     }
-
-    /// Ends a word.
-    fn end(&mut self, state: WordState) -> Result<(), TextFault> {
-        let word = mem::replace(&mut self.word, Unescaper::new(self.alloc));
-        self.words.push(word.into_bytes())?;
-        self.state = state;
-        Ok(())
-    }
 }
 
-/// How many words a word stands for which begins with a `*`, and what each of them is.
-fn several(word: &str) -> Option<(usize, &str)> {
-    let (count, text) = word.strip_prefix('*')?.split_once('*')?;
-    Some((count_of(count)?, text))
+/// How many words a word stands for which begins with a `*`, and what each of them is: a number, a second `*`, and a
+/// text.
+fn several(word: &[u8]) -> Option<(usize, &str)> {
+    let text = str::from_utf8(word).ok()?;
+    count_before(text.strip_prefix('*')?, '*')
 }
 
 /// The words of a text in the line of this number.
@@ -140,15 +133,12 @@ pub(crate) fn words_of_line(
     text: &str,
 ) -> Result<Vec<Vec<u8>>, CaseFault> {
     let mut cutter = Cutter::new(alloc);
-    match cutter.take_text(text) {
-        Ok(()) => Ok(cutter.words),
-        Err(TextFault::NoMemory) => Err(CaseFault::NoMemory),
-        Err(TextFault::Invalid) => Err(CaseFault::Line(number, CaseLineFault::BadWords)),
-    }
+    cutter.take_text(number, text)?;
+    Ok(cutter.words)
 }
 
 /// Words as texts, or none if one of them is not UTF-8.
-pub(crate) fn texts_of(alloc: Global, words: &[Vec<u8>]) -> Result<Option<Vec<&str>>, AllocError> {
+pub fn texts_of(alloc: Global, words: &[Vec<u8>]) -> Result<Option<Vec<&str>>, AllocError> {
     let mut texts = Vec::new(alloc);
     for word in words {
         let Ok(text) = str::from_utf8(word.as_slice()) else {

@@ -9,7 +9,7 @@ use crate::parsing::{ParsedRun, parsed_runs};
 use crate::sweeping::sweep;
 use crate::workspace::{Real, Workspace, are_opened, is_each_opened_once};
 use gomod_case_calls::call;
-use gomod_case_files::{Case, Run, View, lay_files, make_folder};
+use gomod_case_files::{Case, Run, STDIN, View, lay_files, make_folder, texts_of};
 use std::alloc::{AllocError, Global};
 use std::{fs, io};
 
@@ -32,7 +32,7 @@ pub(crate) fn check_case(
     count: &Count,
     differences: &mut Differences,
 ) -> io::Result<()> {
-    let root = make_folder(rt, case.line)?;
+    let root = make_folder(rt)?;
     let root = root.as_str();
     let checked = check_below(rt, root, case, count, differences);
     let removed = fs::remove_dir_all(rt, root);
@@ -57,7 +57,7 @@ fn check_below(
         system: *rt,
         folder,
         case,
-        input: KnownInput::of(case.input()),
+        input: KnownInput::of(View::whole(case).named(STDIN).unwrap_or(b"")),
         count,
     };
     check_in(&workspace, differences)
@@ -112,7 +112,7 @@ fn check_run(
 
 /// What a call of a library function gives, or none if there is no such call.
 fn text_of_call(workspace: &Workspace<'_>, run: &Run<'_>) -> Result<Option<String>, AllocError> {
-    let Some(words) = run.texts(workspace.alloc())? else {
+    let Some(words) = texts_of(workspace.alloc(), run.words.as_slice())? else {
         return Ok(None);
     };
     workspace.count.add();

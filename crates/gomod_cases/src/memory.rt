@@ -47,18 +47,6 @@ impl Memory<'_> {
         }
     }
 
-    /// The files that a command line asks for over a store whose device doesn't fail, or none as above.
-    pub(crate) fn asked(
-        &self,
-        parsed: &Parsed,
-        room: Room,
-    ) -> Result<Option<Vec<FileName>>, AllocError> {
-        match self.outcome(parsed, None, room)? {
-            Some(found) => Ok(Some(found.asked)),
-            None => Ok(None),
-        }
-    }
-
     /// Runs a command of the case over stores in memory, if it can be run there.
     pub(crate) fn found(
         &self,
@@ -94,7 +82,7 @@ impl Memory<'_> {
 
     /// Runs `fmt` or `edit`.
     fn over_main(&self, parsed: &Parsed, room: Room) -> Result<Option<InMemory>, AllocError> {
-        let Some(main) = self.view.named(parsed.main.as_str()) else {
+        let Some(main) = self.view.named(parsed.places.main.as_str()) else {
             return Ok(None);
         };
         let mut files = MemoryFiles::new(self.alloc);
@@ -110,7 +98,7 @@ impl Memory<'_> {
         room: Room,
     ) -> Result<Option<InMemory>, AllocError> {
         let mut folders = Folders::new(self.alloc);
-        self.put_lists(&mut folders, path, &parsed.proxy, broken)?;
+        self.put_lists(&mut folders, path, &parsed.places.proxy, broken)?;
         self.over_folders(&parsed.command, b"", None, folders, room)
     }
 
@@ -139,10 +127,13 @@ impl Memory<'_> {
         requires { is_query parsed.now.command ≡ true }
     {
         let command = &parsed.command;
-        let (Some(main), Some(list)) = (self.view.named(parsed.main.as_str()), &parsed.proxy) else {
+        let (Some(main), Some(list)) = (
+            self.view.named(parsed.places.main.as_str()),
+            &parsed.places.proxy,
+        ) else {
             return Ok(None);
         };
-        let sums = match &parsed.sums {
+        let sums = match &parsed.places.sums {
             Some(place) => {
                 let Some(bytes) = self.view.named(place.as_str()) else {
                     return Ok(None);
@@ -152,7 +143,13 @@ impl Memory<'_> {
             None => None,
         };
         let mut folders = Folders::new(self.alloc);
-        self.put_graph(&mut folders, parsed.main.as_str(), main, list, broken)?;
+        self.put_graph(
+            &mut folders,
+            parsed.places.main.as_str(),
+            main,
+            list,
+            broken,
+        )?;
         self.over_folders(command, main, sums, folders, room)
     }
 

@@ -4,7 +4,7 @@ use crate::checking::check_case;
 use crate::counting::Count;
 use crate::differences::Differences;
 use gomod_case_files::{
-    Case, CaseFault, CaseFile, CaseLineFault, CaseText, Content, Sizes, case_texts, read_cases,
+    Case, CaseFault, CaseFile, CaseText, Content, Sizes, case_texts, read_case,
 };
 use std::process::ExitCode;
 use std::{env, fs, io};
@@ -126,8 +126,18 @@ impl<'a> Session<'a> {
 
     /// Runs the cases of a text.
     fn run_text(&mut self, name: &str, text: &str) -> io::Result<()> {
-        for case in &case_texts(self.system.alloc(), text)? {
-            self.run_case_text(name, case)?;
+        match case_texts(self.system.alloc(), text) {
+            Ok(cases) => self.run_chosen(name, cases.as_slice()),
+            Err(fault) => self.fail_read(name, fault),
+        }
+    }
+
+    /// Runs those of the cases that the words choose.
+    fn run_chosen(&mut self, name: &str, cases: &[CaseText<'_>]) -> io::Result<()> {
+        for case in cases {
+            if is_chosen(case.title(), self.words, &mut self.unmatched) {
+                self.run_case_text(name, case)?;
+            }
         }
         Ok(())
     }
@@ -135,78 +145,60 @@ impl<'a> Session<'a> {
     /// Runs a case as it stands, or at each of its sizes.
     fn run_case_text(&mut self, name: &str, case: &CaseText<'_>) -> io::Result<()> {
         match case.sizes(self.system.alloc()) {
-            Ok(None) => self.run_read(name, case.lines_before, case.text.as_str(), None),
+            Ok(None) => self.run_read(name, case.line, case.text, None),
             Ok(Some(sizes)) => self.run_sized(name, case, &sizes),
-            Err(fault) => self.fail_case(name, fault),
+            Err(fault) => self.fail_read(name, fault),
         }
     }
 
-    /// Runs a case at each of its sizes, if the words choose it.
+    /// Runs a case at each of its sizes.
     fn run_sized(&mut self, name: &str, case: &CaseText<'_>, sizes: &Sizes) -> io::Result<()> {
-        let title = case.title.unwrap_or("");
-        if !is_chosen(title, self.words, &mut self.unmatched) {
-            return Ok(());
-        }
         for (index, size) in sizes.all.iter().enumerate() {
-            let is_in_memory_alone = sizes.is_in_memory_alone(index);
             let text = case.at(self.system.alloc(), *size)?;
-            self.run_read(
-                name,
-                case.lines_before,
-                text.as_str(),
-                Some(is_in_memory_alone),
-            )?;
+            let is_in_memory_alone = sizes.is_in_memory_alone(index);
+            self.run_read(name, case.line, text.as_str(), Some(is_in_memory_alone))?;
         }
         Ok(())
     }
 
-    /// Runs the case of a text that follows this many lines. If it is one of several sizes, it is said whether it is
-    /// run in memory alone.
+    /// Runs the case of a text whose title is in this line. If it is one of several sizes, it is said whether it is run
+    /// in memory alone.
     fn run_read(
         &mut self,
         name: &str,
-        lines_before: usize,
+        line: usize,
         text: &str,
         sized: Option<bool>,
     ) -> io::Result<()> {
-        match read_cases(self.system.alloc(), lines_before, text) {
-            Ok(mut cases) => self.run_cases(name, cases.as_mut_slice(), sized),
-            Err(fault) => self.fail_case(name, fault),
+        match read_case(self.system.alloc(), line, text) {
+            Ok(mut case) => self.run_case(name, &mut case, sized),
+            Err(fault) => self.fail_read(name, fault),
         }
     }
 
     /// Reports why a case can't be read.
-    fn fail_case(&mut self, name: &str, fault: CaseFault) -> io::Result<()> {
+    fn fail_read(&mut self, name: &str, fault: CaseFault) -> io::Result<()> {
         match fault {
-            CaseFault::Line(number, fault) => self.fail_line(name, number, fault),
+            CaseFault::Line(number, what) => {
+                self.count_failure();
+                eprintln!(&self.system; "{name}:{number}: {what}")
+            }
             CaseFault::NoMemory => Err(io::Error::from(io::ErrorKind::OutOfMemory)),
         }
     }
 
-    /// Reports a line that belongs to no case.
-    fn fail_line(&mut self, name: &str, number: usize, fault: CaseLineFault) -> io::Result<()> {
-        self.count_failure();
-        eprintln!(&self.system; "{name}:{number}: {fault}")
-    }
-
-    /// Runs those of the cases that the words choose, after it reads the files that they copy.
-    fn run_cases(
-        &mut self,
-        name: &str,
-        cases: &mut [Case<'_>],
-        sized: Option<bool>,
-    ) -> io::Result<()> {
-        for case in cases {
-            if sized.is_some() || is_chosen(case.title, self.words, &mut self.unmatched) {
-                prepare(&self.system, case, sized)?;
-                self.run_case(name, case)?;
-            }
+    /// Runs a case, once if it is at one of several sizes, after it reads the files that it copies.
+    fn run_case(&mut self, name: &str, case: &mut Case<'_>, sized: Option<bool>) -> io::Result<()> {
+        if let Some(is_in_memory_alone) = sized {
+            case.is_large = true;
+            case.is_in_memory_alone = is_in_memory_alone;
         }
-        Ok(())
+        read_copies(&self.system, case)?;
+        self.check(name, case)
     }
 
-    /// Runs a case.
-    fn run_case(&mut self, name: &str, case: &Case<'_>) -> io::Result<()> {
+    /// Checks a case.
+    fn check(&mut self, name: &str, case: &Case<'_>) -> io::Result<()> {
         let mut differences = Differences::new(self.system.alloc());
         check_case(&self.system, case, &self.count, &mut differences)?;
         self.end_case(name, case, &differences)
@@ -233,16 +225,6 @@ impl<'a> Session<'a> {
     fn count_failure(&mut self) {
         self.failed = self.failed.saturating_add(1);
     }
-}
-
-/// Reads the files that a case copies. If it is at one of several sizes, it is run once, and in memory alone if that is
-/// said.
-fn prepare(rt: &HostRuntime, case: &mut Case<'_>, sized: Option<bool>) -> io::Result<()> {
-    if let Some(is_in_memory_alone) = sized {
-        case.is_large = true;
-        case.is_in_memory_alone = is_in_memory_alone;
-    }
-    read_copies(rt, case)
 }
 
 /// Reads the files that a case copies.

@@ -27,8 +27,8 @@ pub(crate) fn sweep_asks(
     if parsed.folder_count() > 1 {
         return Ok(());
     }
-    match workspace.memory().asked(parsed, room_for(run))? {
-        Some(asked) => sweep_asked(workspace, run, parsed, asked.as_slice(), differences),
+    match workspace.memory().outcome(parsed, None, room_for(run))? {
+        Some(found) => sweep_asked(workspace, run, parsed, found.asked.as_slice(), differences),
         None => Ok(()),
     }
 }

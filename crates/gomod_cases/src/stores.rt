@@ -9,7 +9,6 @@ use gm_store::{
     FileName, Held, Mark, MemoryFolder, MemoryFolders, ProxyList, copy_name, folder_of,
     relative_name,
 };
-use gm_syntax::Doc;
 use gomod_case_files::{CaseFile, View, tidied};
 use std::alloc::{AllocError, Global};
 
@@ -39,7 +38,7 @@ impl Folders {
         bytes: &[u8],
     ) -> Result<(), AllocError> {
         self.proxies.push(MemoryFolder::new(alloc))?;
-        let bytes = copied(alloc, bytes)?;
+        let bytes = Vec::from_slice(alloc, bytes)?;
         self.put(FileName::List(path.copy(alloc)?), Held::Content(bytes))
     }
 
@@ -53,10 +52,7 @@ impl Folders {
         for folder in &list.folders {
             self.put_proxy(alloc, view, folder.as_str())?;
         }
-        for mark in &list.marks {
-            self.marks.push(*mark)?;
-        }
-        Ok(())
+        self.marks.extend_from_slice(list.marks.as_slice())
     }
 
     /// Adds a proxy folder, with the files that a case has in it.
@@ -104,21 +100,7 @@ impl Folders {
         main: &str,
         bytes: &[u8],
     ) -> Result<(), AllocError> {
-        match Doc::parse(alloc, bytes) {
-            Ok(doc) => self.put_replacements_of(alloc, view, main, doc),
-            Err(_) => Ok(()),
-        }
-    }
-
-    /// Adds the go.mod files of the folders by which a document replaces modules, if it can be read as a main file.
-    fn put_replacements_of(
-        &mut self,
-        alloc: Global,
-        view: &View<'_>,
-        main: &str,
-        doc: Doc<'_>,
-    ) -> Result<(), AllocError> {
-        match MainFile::read(alloc, doc) {
+        match MainFile::read_bytes(alloc, bytes) {
             Ok(file) => self.put_replaced(alloc, view, main, file.replaces()),
             Err(_) => Ok(()),
         }
@@ -134,23 +116,11 @@ impl Folders {
     ) -> Result<(), AllocError> {
         let folder = folder_of(alloc, main)?;
         for replace in replaces {
-            self.put_right(alloc, view, folder.as_str(), &replace.right)?;
+            if let Right::Folder(text) = &replace.right {
+                self.put_folder(alloc, view, folder.as_str(), text.as_str())?;
+            }
         }
         Ok(())
-    }
-
-    /// Adds the go.mod of the right side of a replacement, if that is a folder and the case has it.
-    fn put_right(
-        &mut self,
-        alloc: Global,
-        view: &View<'_>,
-        folder: &str,
-        right: &Right,
-    ) -> Result<(), AllocError> {
-        match right {
-            Right::Folder(text) => self.put_folder(alloc, view, folder, text.as_str()),
-            Right::Module(..) => Ok(()),
-        }
     }
 
     /// Adds the go.mod of a folder, as a main file in another folder names it, if the case has it.
@@ -221,7 +191,7 @@ fn put_content(
     name: FileName,
     bytes: &[u8],
 ) -> Result<(), AllocError> {
-    let content = Held::Content(copied(alloc, bytes)?);
+    let content = Held::Content(Vec::from_slice(alloc, bytes)?);
     shelf.put(name, content)
 }
 
@@ -244,13 +214,6 @@ fn place_in(alloc: Global, folder: &str, relative: &str) -> Result<String, Alloc
     }
     let joined = format!(in alloc; "{folder}/{relative}")?;
     tidied(alloc, joined.as_str())
-}
-
-/// A copy of bytes.
-fn copied(alloc: Global, bytes: &[u8]) -> Result<Vec<u8>, AllocError> {
-    let mut copy = Vec::new(alloc);
-    copy.extend_from_slice(bytes)?;
-    Ok(copy)
 }
 
 /// The rest of a path after a folder.

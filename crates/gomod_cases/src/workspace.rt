@@ -138,23 +138,13 @@ pub(crate) fn are_opened(
     Ok(true)
 }
 
-/// Names in ascending order.
-fn sorted(alloc: Global, names: &[String]) -> Result<Vec<&str>, AllocError> {
-    let mut sorted = Vec::new(alloc);
-    for name in names {
-        sorted.push(name.as_str())?;
-    }
-    sorted.sort()?;
-    Ok(sorted)
-}
-
 /// Whether no file was opened twice.
 pub(crate) fn is_each_opened_once(alloc: Global, opened: &[String]) -> Result<bool, AllocError> {
-    let names = sorted(alloc, opened)?;
-    for pair in names.as_slice().windows(2) {
-        if pair.first() == pair.last() {
-            return Ok(false);
-        }
+    let mut names = Vec::new(alloc);
+    for name in opened {
+        names.push(name.as_str())?;
     }
-    Ok(true)
+    names.sort_unstable();
+    names.dedup();
+    Ok(names.len() == opened.len())
 }
