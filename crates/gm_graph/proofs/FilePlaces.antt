@@ -5,9 +5,11 @@ use Rattle.std.specs.Map.{lookup, values_of}
 use Rattle.std.specs.Option.{IsSome, option_and_then, option_map, option_or, unwrap_or}
 use Rattle.std.specs.Prelude.{slice_get}
 use Rattle.std.proofs.lemmas.List.Elements.{All-head, All-tail}
+use Rattle.std.proofs.lemmas.Option.{slice_get-get_or}
 use Rattle.gm_name.specs.ModuleVersion.{ModuleVersion, module_at}
 use Rattle.gm_name.specs.OptionalPlaces.{no_place, place_in}
 use Rattle.gm_name.specs.declared.place.OptionalPlace.{OptionalPlace}
+use Rattle.gm_name_table.specs.Lists.{IsAbsent}
 use Rattle.gm_file.specs.Directives.{Right}
 use Rattle.gm_file.specs.Main.{Main, replacement_in}
 use Rattle.gm_store.proofs.NameOrder.{names_equal}
@@ -94,6 +96,22 @@ place_by main modules files number name is = noted (noted_for files number) refl
         → place_of main modules files name ≡ option_or o (option_and_then place_in (replacing_place files name))
     noted None none = replacing (replacing_place files name) refl none
     noted (Some place) some = ap (place_of main modules files) is.named ∙ (is.notes number place some).placed
+
+-- For a module without a number it is that of a replacement's file.
+pub place_by_absent : (main : Main) (modules : List ModuleVersion) (files : FileTable) (x : ModuleVersion) (name : Name)
+    → IsAbsent modules x → name ≡ file_of main x → HasReplacing main files
+    → place_of main modules files name ≡ option_and_then place_in (replacing_place files name)
+place_by_absent main modules files x name absent named has = by (replacing_place files name) refl
+  where
+    by : (o : Option OptionalPlace) → replacing_place files name ≡ o
+        → unwrap_or (option_map place_in o) (place_beside main modules files.places.items name) ≡ option_and_then place_in o
+    by None none =
+        beside_is main modules files.places.items name
+        ∙ none_by main modules (noted_for files) name
+        (λ k below same. absurd (absent k
+        (slice_get-get_or modules k ([], []) below
+        ∙ ap (λ (y : ModuleVersion). Some y) (sym (one_owner main files x (module_at modules k) name has none named same)))))
+    by (Some place) some = refl
 
 -- ---- each place is one of the files, or none
 

@@ -1,11 +1,13 @@
 -- What is held of files stays if the list of modules grows, and when one more file is kept.
-use Rattle.std.proofs.Common.{◌≡◌, ◌∙◌, ◌≤◌, Bool, true, false, cond, List, [], ◌∷◌, Option, Some, None, Result, Ok, Err, length, ap, refl, sym, subst}
+use Rattle.std.proofs.Common.{◌≡◌, ◌∙◌, ◌≤◌, Bool, true, false, cond, List, [], ◌∷◌, Option, Some, None, Result, Ok, Err, length, ap, append-nil, refl, sym, subst}
 use Rattle.std.specs.Prelude.{OnErr, OnOk}
 use Rattle.std.specs.Option.{option_map}
 use Rattle.std.proofs.lemmas.Option.{same_Some}
 use Rattle.std.proofs.Math.Logic.{∥∥₁_map}
 use Rattle.gm_name.specs.ModuleVersion.{ModuleVersion}
+use Rattle.gm_name_table.proofs.Listed.{begins_as}
 use Rattle.gm_name_table.specs.Listed.{BeginsWith, NumberedList, modules_of}
+use Rattle.gm_name_table.specs.Lists.{IsOneMoreAtMost}
 use Rattle.gm_file.specs.Fields.{Dependency}
 use Rattle.gm_file.specs.Main.{Main}
 use Rattle.gm_store.proofs.NameOrder.{names_equal}
@@ -35,6 +37,18 @@ none_some main sums list files none = ∣ (
 ) ∣₁
 
 -- ---- a list of modules that grew
+
+-- The list is the same, and one more module may have a number.
+pub numbered_more : (old new : NumberedList) (pair : ModuleVersion) → IsOneMoreAtMost old.modules new.modules pair → new.numbers ≡ old.numbers
+    → modules_of new ≡ modules_of old → Grows old new
+numbered_more old new pair only numbers list = (
+  [],
+  record {
+    numbered = begins_as old.modules new.modules pair only;
+    kept = ([], numbers ∙ sym (append-nil old.numbers));
+    listed = list ∙ sym (append-nil (modules_of old));
+  },
+)
 
 module _ (main : Main) (old new : NumberedList) (files : FileTable) (few : length files.places.items ≤ length old.modules) (grows : Grows old new) where
   begins : BeginsWith (modules_of old) (modules_of new)

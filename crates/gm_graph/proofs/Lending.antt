@@ -3,6 +3,8 @@ use Rattle.std.proofs.Common.{◌≡◌, ◌<◌, ◌∙◌, ℕ, List, Option, 
 use Rattle.std.specs.Prelude.{IfSome, slice_get}
 use Rattle.std.specs.List.{IsDistinct}
 use Rattle.std.specs.Option.{option_and_then, option_map}
+use Rattle.std.proofs.Math.Logic.{∥∥₁_elim}
+use Rattle.std.proofs.Props.{props}
 use Rattle.gm_name.specs.ModuleVersion.{ModuleVersion, pair_eq}
 use Rattle.gm_name_table.specs.Listed.{BeginsWith, modules_of}
 use Rattle.gm_file.specs.Fields.{Dependency}
@@ -19,11 +21,10 @@ use Rattle.gm_graph.specs.declared.cache.Cache.{Cache}
 use Rattle.gm_file.specs.Main.{Main, without_excluded}
 use Rattle.gm_graph.specs.Reading.{file_of}
 use Rattle.gm_graph.specs.Summaries.{IsKept, IsWithinList, at_span, span_found, summary_reading}
-use Rattle.gm_graph.specs.Cached.{AreRequirements, HasFileAt, HoldsSame, IsLender, IsSound, KeepsSound, Knows, LendsKept, file_count, its_requirements, kept_file, main_in, modules_in, no_requirements, run_in}
+use Rattle.gm_graph.specs.Cached.{AreRequirements, HasFileAt, IsLender, IsSound, KeepsSound, Knows, LendsKept, file_count, its_requirements, kept_file, main_in, modules_in, no_requirements, run_in}
 use Rattle.gm_graph.specs.CacheVisits.{Continues, IsVisit, LendsOver}
 use Rattle.gm_graph.specs.Run.{FileSays, KeepsSayings, Run, Says}
 use Rattle.gm_graph.proofs.Holding.{held_says, held_sound}
-use Rattle.gm_graph.proofs.Keeping.{same_run}
 use Rattle.gm_graph.proofs.Spans.{span_within}
 
 -- What is kept at the place of a vertex's file is what the file says.
@@ -63,29 +64,24 @@ lent_kept cache pairs x (Some place) knows lender =
     (λ one e. knows.lends (file_of (main_in cache) x) one (sym lender.kept ∙ e)) (held_there cache pairs x place lender.file knows lender lender.says)))
     (its_requirements lender.says)
 
--- So they are by a cache that holds the same.
-pub lent_named : (old cache : Cache) (pairs : List (Name × Reply)) (x y : ModuleVersion) (place : Option ℕ) (xs : List ModuleVersion)
-    → HoldsSame old cache → x ≡ y → Knows cache pairs → IsLender cache (run_in cache pairs) x place
-    → xs ≡ at_span (modules_of cache.modules) (span_at cache place) → AreRequirements (run_in old pairs) y xs
-lent_named old cache pairs x y place xs same is knows lender e =
-    let lent = at_span (modules_of cache.modules) (span_at cache place) in
-    subst (λ (ms : List ModuleVersion). AreRequirements (run_in old pairs) y ms) (sym e)
-    (subst (λ (v : ModuleVersion). AreRequirements (run_in old pairs) v lent) is
-    (subst (λ (r : Run). AreRequirements r x lent) (same_run old cache pairs same.main same.sums)
-    (lent_kept cache pairs x place knows lender)))
-
 -- Where these requirements are is within the list of modules.
-pub lent_within : (cache : Cache) (run : Run) (x : ModuleVersion) (place : Option ℕ) → LendsKept cache → IsLender cache run x place
+lent_within : (cache : Cache) (run : Run) (x : ModuleVersion) (place : Option ℕ) → LendsKept cache → IsLender cache run x place
     → IsWithinList (modules_of cache.modules) (span_at cache place)
 lent_within cache run x None lends lender = span_within (main_in cache) (modules_of cache.modules) None (λ one e. absurd (cc e))
 lent_within cache run x (Some place) lends lender =
     span_within (main_in cache) (modules_of cache.modules) (kept_file cache place) (λ one e. lends (file_of (main_in cache) x) one (sym lender.kept ∙ e))
 
--- A place is that of a file.
-pub lender_within : (cache : Cache) (run : Run) (x : ModuleVersion) (place : Option ℕ) → IsLender cache run x place
-    → IfSome place (λ there. there < file_count cache)
-lender_within cache run x None lender = tt
-lender_within cache run x (Some place) lender = lender.within
+-- Some answers are known, so what holds by all that the cache knows holds by some.
+module _ (cache : Cache) (x : ModuleVersion) where
+  pub lent_there : (place : Option ℕ) → ((pairs : List (Name × Reply)) → Knows cache pairs → IsLender cache (run_in cache pairs) x place)
+      → IsWithinList (modules_of cache.modules) (span_at cache place)
+  lent_there place is = ∥∥₁_elim cache.holds_some (hlevel props) (λ some. lent_within cache (run_in cache some.0) x place some.1.lends (is some.0 some.1))
+
+  -- A place is that of a file.
+  pub lender_there : (place : Option ℕ) → ((pairs : List (Name × Reply)) → Knows cache pairs → IsLender cache (run_in cache pairs) x place)
+      → IfSome place (λ there. there < file_count cache)
+  lender_there None is = tt
+  lender_there (Some place) is = ∥∥₁_elim cache.holds_some (hlevel props) (λ some. (is some.0 some.1).within)
 
 -- Vertices whose file is at one place have the same file.
 one_file_there : (cache : Cache) (pairs : List (Name × Reply)) (x y : ModuleVersion) (place : ℕ) (file other : Dependency) → Knows cache pairs

@@ -1,20 +1,26 @@
 -- The calls of a cache that name modules and files.
-use Rattle.std.proofs.Common.{◌≡◌, ◌∙◌, ℕ, List, Option, None, Some, Ok, Err, ap, refl, subst, sym}
+use Rattle.std.proofs.Common.{◌≡◌, ◌∙◌, ◌∷◌, [], ℕ, List, Option, None, Some, Result, Ok, Err, ap, refl, subst, sym}
+use Rattle.std.specs.Prelude.{MatchResult}
 use Rattle.std.specs.Option.{option_map}
 use Rattle.gm_name.specs.ModuleVersion.{ModuleVersion}
-use Rattle.gm_name_table.specs.Listed.{modules_of}
+use Rattle.gm_name_table.specs.Listed.{NumberedList, modules_of}
 use Rattle.gm_store.specs.Asked.{Name, Reply}
 use Rattle.gm_store.specs.States.{StoreState}
 use Rattle.gm_graph.specs.declared.cache.Cache.{Cache}
-use Rattle.gm_graph.specs.Cached.{HasSoundFile, HoldsSame, IsLender, IsLenderNamed, Knows, KnowsLender, held_of, main_in, modules_in, run_in, summary_at}
+use Rattle.gm_graph.specs.declared.cache.by_name.Known.{Known}
+use Rattle.gm_graph.specs.declared.cache.by_name.Known.TheVariants as known
+use Rattle.gm_graph.specs.declared.cache.depth.Turn.{Turn}
+use Rattle.gm_graph.specs.declared.cache.file_table.FileTable.{FileTable}
+use Rattle.gm_graph.specs.Held.{HoldsAnswers}
+use Rattle.gm_graph.specs.Cached.{HasMoreTurns, HasSoundFile, IsKnownAs, IsLender, IsLenderNamed, Knows, KnowsLender, file_known, held_of, main_in, modules_in, run_in, summary_at}
 use Rattle.gm_graph.specs.Asking.{AsksFor}
 use Rattle.gm_graph.specs.FileTable.{IsPlaceOf}
 use Rattle.gm_graph.specs.Run.{KeepsSayings, Run}
 use Rattle.gm_file.specs.Main.{Main, main_of}
 use Rattle.gm_graph.specs.Reading.{file_of}
 use Rattle.gm_graph.specs.Summaries.{summary_reading}
-use Rattle.gm_graph.proofs.Holding.{held_sound, known_alike}
-use Rattle.gm_graph.proofs.Keeping.{knows_still, same_run}
+use Rattle.gm_graph.proofs.Holding.{held_sound}
+use Rattle.gm_graph.proofs.Keeping.{same_run}
 
 -- ---- the place of a file that is named
 
@@ -49,31 +55,28 @@ pub no_name : {A : Type 0} (f : A → Name) (run : Run) (x : ModuleVersion) (o :
     → IsLenderNamed run x None
 no_name f run x o e named = subst (λ v. IsLenderNamed run x (option_map f v)) e named
 
-named_by : (earlier later : Run) (x : ModuleVersion) (name : Option Name) → later.main ≡ earlier.main → KeepsSayings earlier later
-    → IsLenderNamed earlier x name → IsLenderNamed later x name
-named_by earlier later x None same keeps named = (named.0, keeps x (Err named.0) named.1)
-named_by earlier later x (Some name) same keeps named = record {
-  name_is = named.name_is ∙ ap (λ (m : Main). file_of m x) (sym same);
-  file = named.file;
-  says = keeps x (Ok named.file) named.says;
-}
+-- What is known of a vertex gives the name.
+pub named_known : (run : Run) (x : ModuleVersion) (found : Known) → IsKnownAs run x found → IsLenderNamed run x (file_known found)
+named_known run x (known.Fault class) is = (class, is)
+named_known run x (known.Sound name) is = is
 
--- What is named by some answers that the cache knows is named by all that it knows.
-pub named_known : (cache : Cache) (pairs : List (Name × Reply)) (x : ModuleVersion) (name : Option Name) → Knows cache pairs
-    → KnowsLender cache x name → IsLenderNamed (run_in cache pairs) x name
-named_known cache pairs x name knows lender =
-    named_by (run_in cache lender.pairs) (run_in cache pairs) x name refl
-    (known_alike cache lender.pairs pairs lender.knows knows) lender.named
+-- ---- what stays
 
--- What is named in one cache is named in one that holds the same.
-pub named_still : (old mid : Cache) (x y : ModuleVersion) (name : Option Name) → HoldsSame old mid → x ≡ y
-    → KnowsLender old x name → KnowsLender mid y name
-named_still old mid x y name same is lender = record {
-  pairs = lender.pairs;
-  knows = knows_still old mid lender.pairs same lender.knows;
-  named = subst (λ (v : ModuleVersion). IsLenderNamed (run_in mid lender.pairs) v name) is
-      (subst (λ (r : Run). IsLenderNamed r x name) (sym (same_run old mid lender.pairs same.main same.sums)) lender.named);
-}
+lender_by : (old new : Cache) (more : List Turn) (x : ModuleVersion) (name : Option Name) → HasMoreTurns old new more → KnowsLender old x name
+    → KnowsLender new x name
+lender_by old new more x name has lender pairs knows =
+    let run : run_in new pairs ≡ run_in old pairs = same_run old new pairs has.holds.main has.holds.sums in
+    let before : Knows old pairs =
+    subst (λ (files : FileTable). HoldsAnswers (run_in old pairs) old.modules files) has.files
+    (subst (λ (list : NumberedList). HoldsAnswers (run_in old pairs) list new.files) has.modules
+    (subst (λ (r : Run). HoldsAnswers r new.modules new.files) run knows)) in
+    subst (λ (r : Run). IsLenderNamed r x name) (sym run) (lender pairs before)
+
+-- What is named is named still after requirements were lent, or refused.
+pub lender_still : {T E : Type 0} (result : Result T E) (old new : Cache) (one : Turn) (x : ModuleVersion) (name : Option Name)
+    → MatchResult result (λ _. HasMoreTurns old new (one ∷ [])) (λ _. HasMoreTurns old new []) → KnowsLender old x name → KnowsLender new x name
+lender_still (Ok lent) old new one x name has lender = lender_by old new (one ∷ []) x name has lender
+lender_still (Err fault) old new one x name has lender = lender_by old new [] x name has lender
 
 -- What is asked for is the file of the same vertex.
 pub asks_named : (old mid : Cache) (before after : StoreState) (x y : ModuleVersion) → mid.main.now ≡ old.main.now → y ≡ x

@@ -110,12 +110,15 @@ abbrev pub IsLenderNamed : Run → ModuleVersion → Option Name → Type 0
 IsLenderNamed run x None = (class : Class) × Says run x (Err class)
 IsLenderNamed run x (Some name) = HasSoundFile run x name
 
--- By answers that the cache knows, this is the name of the file that has a vertex's requirements: none if the vertex
--- has a fault.
-pub record KnowsLender (cache : Cache) (x : ModuleVersion) (name : Option Name) : Type 0 where
-  pub pairs : List (Name × Reply)
-  pub knows : Knows cache pairs
-  pub named : IsLenderNamed (run_in cache pairs) x name
+-- By the answers that the cache knows, this is the name of the file that has a vertex's requirements: none if the
+-- vertex has a fault.
+abbrev pub KnowsLender : Cache → ModuleVersion → Option Name → Type 0
+KnowsLender cache x name = (pairs : List (Name × Reply)) → Knows cache pairs → IsLenderNamed (run_in cache pairs) x name
+
+-- the name of a vertex's file, if the vertex has no fault
+abbrev pub file_known : Known → Option Name
+file_known (known.Fault class) = None
+file_known (known.Sound name) = Some (name_of name)
 
 -- The requirements of a vertex, without the excluded ones: none if it has a fault.
 pub data AreRequirements (run : Run) (x : ModuleVersion) : List ModuleVersion → Type 0 where
@@ -146,10 +149,12 @@ pub record LentSame (old new : Cache) : Type 0 where
   pub sums : sums_in new ≡ sums_in old
   pub turns : turns_in new ≡ turns_in old
 
--- The list has these turns more at its end, and what is held is the same. More modules may have numbers.
+-- The list has these turns more at its end, and nothing else is new: no more modules have numbers.
 pub record HasMoreTurns (old new : Cache) (more : List Turn) : Type 0 where
   pub turns : turns_in new ≡ turns_in old ++ more
   pub holds : HoldsSame old new
+  pub modules : new.modules ≡ old.modules
+  pub files : new.files ≡ old.files
 
 -- Once the borrow of the requirements ends, the cache has one more turn. If the call was refused, it has the same.
 abbrev pub LendsNamed : {T E : Type 0} → MutBor Cache → Turn → Result T E → Fml

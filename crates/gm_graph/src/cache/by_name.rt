@@ -1,18 +1,16 @@
 //! The calls of the cache for those who name modules and files.
 //!
-//! Loading gives each module a number once, and asks by that. These calls find the number, and give one to a module
-//! that has none.
+//! Loading gives each module a number once, and asks by that. These calls look up the number. Only `known` gives one to
+//! a module that has none.
 
 ghost use Rattle.std.specs.Prelude.{◌≡◌, ◌≤◌, ◌+◌, ◌++◌, ◌<◌, IfOk, List, OnErr, OnOk, Err, length};
 ghost use Rattle.std.specs.Option.{option_map};
-ghost use Rattle.gm_name.specs.ModuleVersion.{module_at};
 ghost use Rattle.gm_store.specs.Asked.{Name, Reply, name_of};
 ghost use Rattle.gm_store.specs.States.{HasServed};
 ghost use Rattle.gm_graph.specs.Asking.{AsksFor, StillLacks};
 ghost use Rattle.gm_graph.specs.Lent.{lent_modules};
 ghost use Rattle.gm_graph.specs.Reading.{file_of};
 ghost use Rattle.gm_graph.specs.Refusals.{refused_in};
-ghost use Rattle.gm_graph.specs.Summaries.{Grows};
 ghost use Rattle.gm_graph.specs.Turns.{turn};
 
 use crate::cache::class::Class;
@@ -23,7 +21,6 @@ use crate::cache::naming::file_name;
 use crate::cache::visit::Visit;
 use crate::cache::{Cache, push_turn};
 use gm_name::{ModVer, NoMemory};
-use gm_name_table::ModuleList;
 use gm_store::{Asks, FileName};
 
 /// What is known of a vertex.
@@ -35,21 +32,10 @@ pub enum Known {
     Sound(FileName),
 }
 
-/// The number of a module, which is appended to the list, and has a number then. The only refusal is `NoMemory`.
-fn number_of(modules: &mut ModuleList, x: &ModVer) -> Result<u32, NoMemory>
-    ensures number { IfOk result (λ number. number < length modules.new.modules) }
-    ensures module { IfOk result (λ number. module_at modules.new.modules number ≡ x.now) }
-    ensures grows { Grows modules.old modules.new }
-{
-    modules.push(x)?;
-    let end = modules.len();
-    Ok(modules.numbers(end - 1, end)[0])
-}
-
 impl<'a> Cache<'a> {
     ghost use Rattle.std.specs.Borrow.{sem};
     ghost use Rattle.std.specs.Prelude.{IfSome};
-    ghost use Rattle.gm_graph.specs.Cached.{AreRequirements, HoldsSame, IsKnownAs, IsLender, IsPlaceFor, Knows, KnowsLender, LendsKept, LendsNamed, LentSame, file_count, main_in, modules_in, module_numbered, run_in};
+    ghost use Rattle.gm_graph.specs.Cached.{AreRequirements, HoldsSame, IsKnownAs, IsLender, IsPlaceFor, Knows, KnowsLender, LendsKept, LendsNamed, LentSame, file_count, file_known, main_in, modules_in, module_numbered, run_in};
     ghost use Rattle.gm_graph.specs.Run.{KeepsSayings};
 
     /// The number of a module, which gets one if it has none. The only refusal is `NoMemory`.
@@ -61,7 +47,7 @@ impl<'a> Cache<'a> {
         ensures lent { LentSame self.old self.new }
         ensures files { file_count self.new ≡ file_count self.old }
     {
-        number_of(&mut self.modules, x)
+        self.modules.number(x)
     }
 
     /// Makes the file of a vertex known, and says whether the vertex has a fault, and otherwise the name of its file. The
@@ -77,6 +63,7 @@ impl<'a> Cache<'a> {
         ensures count { file_count self.new ≤ file_count self.old + 1 }
         ensures knows { OnOk result (Knows self.new (F.state files.new).asked) }
         ensures known { IfOk result (IsKnownAs (run_in self.new (F.state files.new).asked) vertex.now) }
+        ensures lender { IfOk result (λ known. KnowsLender self.new vertex.now (file_known known)) }
         ensures lent { LentSame self.old self.new }
         ensures stays { KeepsSayings (run_in self.old (F.state files.old).asked)
             (run_in self.new (F.state files.new).asked) }
@@ -113,28 +100,28 @@ impl<'a> Cache<'a> {
         }
     }
 
-    /// The place of the file with this name, which is that of the vertex with a number, or `None` if the vertex has a
-    /// fault.
-    fn lender(&self, number: u32, name: Option<&FileName>) -> Option<u32>
-        requires vertex { number < length (modules_in self.now) }
-        requires named { KnowsLender self.now (module_numbered self.now number) (option_map (λ n. name_of n.now) name) }
+    /// The place of the file with this name, which is that of a vertex, or `None` if the vertex has a fault.
+    fn lender(&self, vertex: &ModVer, name: Option<&FileName>) -> Option<u32>
+        requires { KnowsLender self.now vertex.now (option_map (λ n. name_of n.now) name) }
         ensures { (pairs : List (Name × Reply)) → Knows self.now pairs
-            → IsLender self.now (run_in self.now pairs) (module_numbered self.now number) result }
+            → IsLender self.now (run_in self.now pairs) vertex.now result }
     {
-        match name {
-            None => None,
-            Some(name) => {
+        let name = name?;
+        match self.modules.find(vertex) {
+            Some(number) => {
                 // By this no module has two numbers, so the file is found by this one.
                 let _ = self.modules.module(number);
                 self.files.place_of(name, number)
             }
+            // A module's own file is kept by its number, so this is the file of a replacement.
+            None => self.files.replacing_place(name),
         }
     }
 
     /// Returns the requirements of a vertex, without the excluded ones, and appends the vertex and the depth to the
-    /// list of turns. For a vertex with a fault `name` is `None`, and there are no requirements; for any other
-    /// vertex it is the name of its file, as `known` gives it. The only refusal is `NoMemory`, after which the cache
-    /// holds the same, and has the same turns.
+    /// list of turns. Nothing else changes. For a vertex with a fault `name` is `None`, and there are no requirements;
+    /// for any other vertex it is the name of its file, as `known` gives it. The only refusal is `NoMemory`, after which
+    /// the cache has the same turns.
     pub fn lend(
         &mut self,
         vertex: &ModVer,
@@ -146,8 +133,7 @@ impl<'a> Cache<'a> {
             → AreRequirements (run_in self.old pairs) vertex.now (lent_modules lent)) }
         ensures* after { sem 𝓛 (LendsNamed self.entry (turn vertex.now depth) result) }
     {
-        let number = self.number(vertex)?;
-        let place = self.lender(number, name);
+        let place = self.lender(vertex, name);
         let span = self.files.span_of(place);
         push_turn(self.alloc, &mut self.turns, vertex, depth)?;
         Ok(Lent::at(&self.modules, span))

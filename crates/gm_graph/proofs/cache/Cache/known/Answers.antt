@@ -8,7 +8,7 @@ use Rattle.gm_file.specs.Main.{Main, main_of}
 use Rattle.gm_graph.specs.Reading.{file_of}
 use Rattle.gm_graph.proofs.Growing.{number_below, number_stays}
 use Rattle.gm_graph.proofs.Keeping.{device_failed, failed_there, holds_after, knows_still, lent_after, never_many, refused_failed, says_still}
-use Rattle.gm_graph.proofs.Named.{asks_named}
+use Rattle.gm_graph.proofs.Named.{asks_named, named_known}
 use Rattle.gm_graph.proofs.cache.Cache.known.Goals as goal
 
 pub known_at-requires-clause-knows : goal.known_at-requires-clause-knows
@@ -59,6 +59,16 @@ returns-in-Ok-clause-known g c =
     (number_stays (modules_in c.number.new.self) (modules_in new) number c.known_at.ensures.numbered c.in_ok-number.ensures.number
     ∙ c.in_ok-number.ensures.module)
     (c.known_by.ensures pairs c.in-Ok.ensures.knows)
+
+pub returns-in-Ok-clause-lender : goal.returns-in-Ok-clause-lender
+returns-in-Ok-clause-lender g c = λ pairs knows.
+    let new = c.known_at.new.self in
+    let number = c.in_ok-number.number in
+    named_known (run_in new pairs) c.args.vertex.now c.known_by.result
+    (subst (λ (v : ModuleVersion). IsKnownAs (run_in new pairs) v c.known_by.result)
+    (number_stays (modules_in c.number.new.self) (modules_in new) number c.known_at.ensures.numbered c.in_ok-number.ensures.number
+    ∙ c.in_ok-number.ensures.module)
+    (c.known_by.ensures pairs knows))
 
 pub known_by-requires-clause-name : goal.known_by-requires-clause-name
 known_by-requires-clause-name g c =

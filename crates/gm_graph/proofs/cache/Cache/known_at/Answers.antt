@@ -9,8 +9,8 @@ use Rattle.std.specs.Option.{option_and_then}
 use Rattle.gm_graph.specs.FileTable.{replacing_place}
 use Rattle.gm_graph.specs.Summaries.{IsKept, summary_reading}
 use Rattle.gm_store.specs.declared.files.AskFault.TheVariants as ask
-use Rattle.gm_graph.specs.Cached.{HasFileAt, main_in, modules_in, module_numbered, summary_at}
-use Rattle.gm_graph.specs.Reading.{IsFileReading, file_of, is_askable}
+use Rattle.gm_graph.specs.Cached.{HasFileAt, main_in, modules_in, module_numbered}
+use Rattle.gm_graph.specs.Reading.{IsFileReading, file_of}
 use Rattle.gm_graph.proofs.AskedFile.{asks_file}
 use Rattle.gm_graph.proofs.Growing.{number_stays}
 use Rattle.gm_graph.proofs.Keeping.{any_err, holds_after, holds_failed, holds_itself, knows_still, lent_after, none_refused_for, sound_same}

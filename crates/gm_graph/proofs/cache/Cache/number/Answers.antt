@@ -1,19 +1,37 @@
-use Rattle.std.proofs.Common.{refl}
+use Rattle.std.proofs.Common.{◌≡◌, Some, [], refl}
+use Rattle.std.specs.Prelude.{slice_get}
+use Rattle.std.proofs.lemmas.Option.{get_or_from_slice_get}
+use Rattle.std.proofs.lemmas.Result.{IfOk-weaker}
+use Rattle.gm_name.specs.ModuleVersion.{module_at}
 use Rattle.gm_graph.specs.Cached.{main_in, modules_in, sums_in}
-use Rattle.gm_graph.proofs.HeldFiles.{grown_some}
+use Rattle.gm_graph.proofs.HeldFiles.{grown_some, numbered_more}
 use Rattle.gm_graph.proofs.Keeping.{holds_grown}
 use Rattle.gm_graph.proofs.PuttingPlaces.{notes_if_more}
 use Rattle.gm_graph.proofs.cache.Cache.number.Goals as goal
 
+pub returns-clause-module : goal.returns-clause-module
+returns-clause-module c =
+    let modules = c.number.new.self.modules in
+    let x = c.args.x.now in
+    IfOk-weaker c.number.result (λ number. slice_get modules number ≡ Some x) (λ number. module_at modules number ≡ x)
+    (λ number there. get_or_from_slice_get modules number x ([], []) there) c.number.ensures.number
+
 pub returns-clause-holds : goal.returns-clause-holds
-returns-clause-holds c = holds_grown c.args.self.now _ refl refl refl c.number_of.ensures.grows c.requires
+returns-clause-holds c =
+    let old = c.args.self.now in
+    let more = c.number.ensures in
+    holds_grown old _ refl refl refl (numbered_more old.modules c.number.new.self c.args.x.now more.only more.numbers more.list) c.requires
 
 pub invariant_of-self-clause-holds_some : goal.invariant_of-self-clause-holds_some
 invariant_of-self-clause-holds_some c =
-    let cache = c.args.self.now in
-    grown_some (main_in cache) cache.modules c.number_of.new.modules cache.files cache.places_within c.number_of.ensures.grows (sums_in cache) cache.holds_some
+    let old = c.args.self.now in
+    let more = c.number.ensures in
+    grown_some (main_in old) old.modules c.number.new.self old.files old.places_within
+    (numbered_more old.modules c.number.new.self c.args.x.now more.only more.numbers more.list) (sums_in old) old.holds_some
 
 pub invariant_of-self-clause-notes : goal.invariant_of-self-clause-notes
 invariant_of-self-clause-notes c =
     let old = c.args.self.now in
-    notes_if_more (main_in old) (modules_in old) _ old.files c.number_of.ensures.grows.1.numbered old.places_within old.notes
+    let more = c.number.ensures in
+    notes_if_more (main_in old) (modules_in old) _ old.files
+    (numbered_more old.modules c.number.new.self c.args.x.now more.only more.numbers more.list).1.numbered old.places_within old.notes

@@ -1,4 +1,4 @@
-use Rattle.std.proofs.Common.{◌≡◌, ◌∙◌, ℕ, Global, List, Vec, ap, ap₂, length, rules}
+use Rattle.std.proofs.Common.{◌∙◌, ℕ, Global, List, Vec, ap, ap₂, rules}
 use Rattle.std.specs.Prelude.{slice_get}
 use Rattle.gm_store.specs.Asked.{name_of}
 use Rattle.gm_graph.proofs.PuttingPlaces.{at_end, file_added, files_kept}

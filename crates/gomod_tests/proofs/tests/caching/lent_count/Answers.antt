@@ -1,0 +1,11 @@
+use Rattle.std.specs.Option.{option_map}
+use Rattle.gm_store.specs.Asked.{name_of}
+use Rattle.gm_graph.proofs.Named.{lender_still}
+use Rattle.gm_graph.specs.Turns.{turn}
+use Rattle.gm_graph.specs.declared.cache.depth.Depth.TheVariants.{Deep}
+use Rattle.gomod_tests.proofs.tests.caching.lent_count.Goals as goal
+
+pub returns : goal.returns
+returns g c =
+    lender_still c.lend.result c.args.cache.now c.lend.follows.lender-at-none (turn c.args.vertex.now Deep) c.args.vertex.now (option_map (λ n. name_of n.now) c.args.name)
+    c.lend.follows.holds-at-none c.requires
