@@ -102,7 +102,7 @@ module _ (main : Main) (sums : Option Sums) (pairs longer : List (Name × Reply)
       | inl there ↦ edge_kept main sums pairs longer keeps e.from e.to (are.only e there)
       | inr found ↦ subst (λ (one : Edge). IsEdge later one.from one.to) (sym found.2) (opened_from later x depth taken, found.1)
     ];
-    known = λ z class e. elim (noted_from (fault_in g.faults.said) x z before class (sym (g.faults.noting z) ∙ e)) [
+    known = λ z class e. elim (noted_from (fault_in g.faults.said) x z before class (sym (g.faults.adds z) ∙ e)) [
       | inl there ↦ fault_kept z class (are.known z class there)
       | inr here ↦ subst (λ (v : ModuleVersion). IsFault later (fault v class)) here.1 (
         opened_from later x depth taken,
@@ -118,12 +118,12 @@ module _ (main : Main) (sums : Option Sums) (pairs longer : List (Name × Reply)
   one_gathered : IsGathered later new more after (turn x depth)
   one_gathered = record {
     each = λ is y r. g.each (gathers_before old new x depth extends is) y r;
-    fault = λ class says. g.faults.noting x ∙ noted_here (fault_in g.faults.said) x before class (noted_of class says);
+    fault = λ class says. g.faults.adds x ∙ noted_here (fault_in g.faults.said) x before class (noted_of class says);
   }
 
   still_noted : (z : ModuleVersion) (class : Class) → Says later z (Err class) → before z ≡ Some class → after z ≡ Some class
   still_noted z class says e =
-      g.faults.noting z
+      g.faults.adds z
       ∙ noted_stays (fault_in g.faults.said) x z before class e
       (λ same. noted_of class (subst (λ (v : ModuleVersion). Says later v (Err class)) (sym same) says))
 

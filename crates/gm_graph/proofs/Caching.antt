@@ -8,7 +8,7 @@ use Rattle.gm_graph.specs.declared.cache.Cache.{Cache}
 use Rattle.gm_graph.specs.declared.cache.depth.Depth.{Depth}
 use Rattle.gm_graph.specs.declared.cache.depth.Turn.{Turn}
 use Rattle.gm_graph.specs.declared.cache.visit.Visit.{Visit}
-use Rattle.gm_graph.specs.Cached.{HoldsSame, KeepsSound, Knows, LentSame, file_count, modules_in, module_numbered, run_in, turns_in}
+use Rattle.gm_graph.specs.Cached.{HoldsSame, KeepsSound, Knows, LentSame, file_count, module_numbered, run_in, table_in, turns_in}
 use Rattle.gm_file.specs.Main.{main_of}
 use Rattle.gm_graph.specs.CacheVisits.{Continues, HasVisited, IsVisit}
 use Rattle.gm_graph.specs.Run.{KeepsSayings, Run}
@@ -18,8 +18,8 @@ use Rattle.gm_graph.proofs.Keeping.{knows_still, main_same, same_run}
 
 -- ---- a cache that knows the file, and one with one more turn
 
-module _ (old mid new : Cache) (lent : LentSame old mid) (numbered_by : BeginsWith (modules_in old) (modules_in mid))
-    (holds : HoldsSame mid new) (modules : modules_in new ≡ modules_in mid) where
+module _ (old mid new : Cache) (lent : LentSame old mid) (numbered_by : BeginsWith (table_in old) (table_in mid))
+    (holds : HoldsSame mid new) (modules : table_in new ≡ table_in mid) where
   pub continues_both : Continues old new
   continues_both = record {
     main = main_same mid new holds ∙ ap main_of lent.main;
@@ -35,13 +35,13 @@ module _ (old mid new : Cache) (lent : LentSame old mid) (numbered_by : BeginsWi
     sound_both keeps = subst (λ (r : Run). KeepsSound old (run_in old earlier) new r) (sym (same_run mid new pairs holds.main holds.sums))
         (λ x place at. holds.sound (run_in mid pairs) x place (keeps x place at))
 
-    pub has_visited : (number : ℕ) (d : Depth) (got : Visit) → number < length (modules_in old) → Knows mid pairs
+    pub has_visited : (number : ℕ) (d : Depth) (got : Visit) → number < length (table_in old) → Knows mid pairs
         → KeepsSayings (run_in old earlier) (run_in mid pairs) → KeepsSound old (run_in old earlier) mid (run_in mid pairs)
         → file_count mid ≤ file_count old + 1 → file_count new ≡ file_count mid
-        → turns_in new ≡ turns_in mid ++ turn (module_numbered mid number) d ∷ [] → IsDistinct pair_eq (modules_in new)
+        → turns_in new ≡ turns_in mid ++ turn (module_numbered mid number) d ∷ [] → IsDistinct pair_eq (table_in new)
         → IsVisit new (run_in new pairs) (module_numbered mid number) d got → HasVisited old earlier new pairs number d got
     has_visited number d got below knows stays keeps count files turns distinct is =
-        let same : module_numbered mid number ≡ module_numbered old number = number_stays (modules_in old) (modules_in mid) number numbered_by below in
+        let same : module_numbered mid number ≡ module_numbered old number = number_stays (table_in old) (table_in mid) number numbered_by below in
         record {
           knows = knows_still mid new pairs holds knows;
           continues = continues_both;

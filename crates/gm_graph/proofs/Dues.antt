@@ -62,7 +62,7 @@ module _ (main : Main) (sums : Option Sums) (old : List (Name × Reply)) (read :
   pub due_here : (new : List (Name × Reply)) (name : Name) → new ≡ old → name ≡ file_of main x → is_askable name ≡ true → answer_in old name ≡ None
       → IsDue (run_of main sums new) name
   due_here new name same is askable none =
-      subst (λ (ps : List (Name × Reply)). IsDue (run_of main sums ps) name) (sym same) (record { called = called name (sym is) askable; unasked = none })
+      subst (λ (ps : List (Name × Reply)). IsDue (run_of main sums ps) name) (sym same) (record { calls = called name (sym is) askable; unasked = none })
 
   pub many_here : (new : List (Name × Reply)) → AddsFile main old new x → OverflowsAt (run_of main sums new) turns x depth
       → IsRead (run_of main sums new) × AreTooMany (run_of main sums new)

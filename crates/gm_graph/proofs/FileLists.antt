@@ -16,7 +16,7 @@ use Rattle.gm_graph.specs.declared.edge_lists.EdgeLists.{EdgeLists}
 use Rattle.gm_file.specs.Main.{Main, without_excluded}
 use Rattle.gm_file.specs.Fields.{Dependency}
 use Rattle.gm_graph_select.specs.Adjacency.{list_at}
-use Rattle.gm_graph.specs.Cached.{IsSound, KeepsSound, modules_in}
+use Rattle.gm_graph.specs.Cached.{IsSound, KeepsSound, table_in}
 use Rattle.gm_graph.specs.CacheVisits.{Continues, IsVisit, LendsFile, required_by, table_of}
 use Rattle.gm_graph.specs.EdgeLists.{AreLists, HasNumbers, IsListFor, IsPushed, KeepsLists, list_by, list_of, numbers_of}
 use Rattle.gm_graph.specs.FileLists.{AddsFileList, AreNumbersOf, HasNumbersOf, HaveFiles}
@@ -185,7 +185,7 @@ has_its_numbers old run edges required lends have = λ f held e there.
     let sound = subst (λ (p : ℕ). IsSound old run x p) file_is of_file.sound in
     subst (λ (xs : List ModuleVersion). AreNumbersOf (table_of required) held xs)
     (sym (lends.shared x file sound of_file.sound.says))
-    (numbers_over (modules_in old) (table_of required) held (without_excluded run.main file.requirements) lends.begins of_file.numbers_are)
+    (numbers_over (table_in old) (table_of required) held (without_excluded run.main file.requirements) lends.begins of_file.numbers_are)
 
 -- The lists are still of files after that of a vertex's file was added.
 pub have_files_more : (cache : Cache) (run : Run) (old new : EdgeLists) (x : ModuleVersion) (d : Depth) (required : Required)
@@ -236,7 +236,7 @@ have_files_known old new earlier later edges continues main stays keeps have = �
     record {
       vertex = x;
       sound = sound;
-      numbers_are = subst (λ (g : Dependency). AreNumbersOf (modules_in new) held (without_excluded later.main g.requirements)) same
-          (subst (λ (m : Main). AreNumbersOf (modules_in new) held (without_excluded m file.requirements)) (sym main)
-          (numbers_over (modules_in old) (modules_in new) held (without_excluded earlier.main file.requirements) continues.numbered of_file.numbers_are));
+      numbers_are = subst (λ (g : Dependency). AreNumbersOf (table_in new) held (without_excluded later.main g.requirements)) same
+          (subst (λ (m : Main). AreNumbersOf (table_in new) held (without_excluded m file.requirements)) (sym main)
+          (numbers_over (table_in old) (table_in new) held (without_excluded earlier.main file.requirements) continues.numbered of_file.numbers_are));
     }

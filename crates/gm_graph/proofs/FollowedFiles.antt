@@ -9,7 +9,7 @@ use Rattle.gm_graph.specs.declared.cache.depth.Depth.TheVariants.{Deep}
 use Rattle.gm_graph.specs.declared.cache.depth.Turn.{Turn}
 use Rattle.gm_graph.specs.declared.cache.visit.Required.{Required}
 use Rattle.gm_graph.specs.declared.cache.visit.Visit.TheVariants as visit
-use Rattle.gm_graph.specs.Cached.{IsSound, KeepsSound, modules_in}
+use Rattle.gm_graph.specs.Cached.{IsSound, KeepsSound, table_in}
 use Rattle.gm_graph.specs.Run.{KeepsSayings, Run}
 use Rattle.gm_graph.specs.Turns.{turn, AddsAll}
 use Rattle.gm_graph.specs.declared.followed.Followed.{Followed}
@@ -44,13 +44,13 @@ follows_none followed file turns xs = λ f is. inl is
 
 -- What was lent over them has turns, if its file was followed.
 pub has_its_turns : (old : Cache) (run : Run) (builder : GraphBuilder) (followed : Followed) (required : Required)
-    → IsBuilder (modules_in old) builder → LendsFile old run required
-    → AreFollowedIn old run (turns_of (modules_in old) builder) followed → followed_at followed required.file ≡ true
+    → IsBuilder (table_in old) builder → LendsFile old run required
+    → AreFollowedIn old run (turns_of (table_in old) builder) followed → followed_at followed required.file ≡ true
     → (y : ModuleVersion) → Contains (required_by required) y → Contains (turns_of (table_of required) builder) (turn y Deep)
 has_its_turns old run builder followed required is lends are by = λ y h.
     let one = are required.file by in
     let shared = lends.shared one.vertex one.sound.file one.sound one.sound.says in
-    subst (λ (ts : List Turn). Contains ts (turn y Deep)) (sym (turns_over (modules_in old) (table_of required) builder is lends.begins))
+    subst (λ (ts : List Turn). Contains ts (turn y Deep)) (sym (turns_over (table_in old) (table_of required) builder is lends.begins))
     (one.each y (one.sound.file, one.sound.says, subst (λ (xs : List ModuleVersion). Contains xs y) shared h))
 
 -- More turns.
@@ -82,14 +82,14 @@ followed_more cache run old new before after x d required is longer are files = 
 
 -- A cache that knows more.
 pub followed_known : (old new : Cache) (earlier later : Run) (builder : GraphBuilder) (followed : Followed)
-    → IsBuilder (modules_in old) builder → Continues old new → later.main ≡ earlier.main → KeepsSayings earlier later
-    → KeepsSound old earlier new later → AreFollowedIn old earlier (turns_of (modules_in old) builder) followed
-    → AreFollowedIn new later (turns_of (modules_in new) builder) followed
+    → IsBuilder (table_in old) builder → Continues old new → later.main ≡ earlier.main → KeepsSayings earlier later
+    → KeepsSound old earlier new later → AreFollowedIn old earlier (turns_of (table_in old) builder) followed
+    → AreFollowedIn new later (turns_of (table_in new) builder) followed
 followed_known old new earlier later builder followed is continues main stays keeps are = λ f by.
     let one = are f by in
     record {
       vertex = one.vertex;
       sound = keeps one.vertex f one.sound;
-      each = λ y r. subst (λ (ts : List Turn). Contains ts (turn y Deep)) (sym (turns_over (modules_in old) (modules_in new) builder is continues.numbered))
+      each = λ y r. subst (λ (ts : List Turn). Contains ts (turn y Deep)) (sym (turns_over (table_in old) (table_in new) builder is continues.numbered))
           (one.each y (requires_before earlier later main stays one.vertex y (Ok one.sound.file) one.sound.says r));
     }

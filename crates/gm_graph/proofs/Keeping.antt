@@ -18,7 +18,7 @@ use Rattle.gm_file.specs.Main.{Main, main_of}
 use Rattle.gm_graph.specs.Reading.{IsFileReading, file_of}
 use Rattle.gm_graph.specs.FileTable.{KeepsFiles, kept_at}
 use Rattle.gm_graph.specs.Summaries.{Grows, IsKept, summary_reading}
-use Rattle.gm_graph.specs.Cached.{HoldsSame, KeepsSound, Knows, LendsKept, LentSame, held_of, kept_file, main_in, modules_in, run_in, summary_at, sums_in}
+use Rattle.gm_graph.specs.Cached.{HoldsSame, KeepsSound, Knows, LendsKept, LentSame, held_of, kept_file, main_in, run_in, summary_at, sums_in, table_in}
 use Rattle.gm_graph.specs.Run.{KeepsSayings, Run, Says, run_of}
 use Rattle.gm_graph.specs.Asking.{AsksFor, FailsFor, StillLacks}
 use Rattle.gm_graph.specs.Refusals.{IsLoadFaultOf, refused_in, refused_names}
@@ -97,8 +97,8 @@ pub holds_grown : (old new : Cache) → new.main.now ≡ old.main.now → sums_i
     → Grows old.modules new.modules → LendsKept old → HoldsSame old new
 holds_grown old new main sums files grows lends =
     let found : (name : Name) → summary_at new name ≡ summary_at old name =
-    λ name. ap (λ (m : Main). kept_at m (modules_in new) new.files name) (ap main_of main)
-    ∙ ap (λ (kept : FileTable). kept_at (main_in old) (modules_in new) kept name) files
+    λ name. ap (λ (m : Main). kept_at m (table_in new) new.files name) (ap main_of main)
+    ∙ ap (λ (kept : FileTable). kept_at (main_in old) (table_in new) kept name) files
     ∙ grown_kept (main_in old) old.modules new.modules old.files old.places_within grows name in
     record {
       main = main;
@@ -116,11 +116,11 @@ holds_grown old new main sums files grows lends =
 
 -- So does one with the same list of modules, whose files begin with the old ones.
 pub holds_listed : (old new : Cache) → new.main.now ≡ old.main.now → sums_in new ≡ sums_in old
-    → KeepsFiles (main_in old) (modules_in old) old.files new.files → BeginsWith old.files.files.items new.files.files.items
+    → KeepsFiles (main_in old) (table_in old) old.files new.files → BeginsWith old.files.files.items new.files.files.items
     → new.modules ≡ old.modules → HoldsSame old new
 holds_listed old new main sums keeps files modules =
     let found : (name : Name) → summary_at new name ≡ summary_at old name =
-    λ name. ap (λ (m : Main). kept_at m (modules_in new) new.files name) (ap main_of main)
+    λ name. ap (λ (m : Main). kept_at m (table_in new) new.files name) (ap main_of main)
     ∙ ap (λ (list : NumberedList). kept_at (main_in old) list.modules new.files name) modules ∙ keeps name in
     let held : (name : Name) → held_of new name ≡ held_of old name =
     λ name. ap (λ (list : NumberedList). option_map (summary_reading (modules_of list)) (summary_at new name)) modules
@@ -129,7 +129,7 @@ holds_listed old new main sums keeps files modules =
       main = main;
       sums = sums;
       held = held;
-      numbered = ([], ap (λ (list : NumberedList). list.modules) modules ∙ sym (append-nil (modules_in old)));
+      numbered = ([], ap (λ (list : NumberedList). list.modules) modules ∙ sym (append-nil (table_in old)));
       sound = λ run. sound_still old new run run main files (λ name one e. found name ∙ e) (λ x said says. says);
       lends = λ lends name one e. subst (λ (m : Main). IsKept m (modules_of new.modules) one) (ap main_of (sym main))
           (subst (λ (list : NumberedList). IsKept (main_in old) (modules_of list) one) (sym modules) (lends name one (sym (found name) ∙ e)));
@@ -142,7 +142,7 @@ holds_itself cache = record {
   sums = refl;
   held = λ name. refl;
   lends = λ lends. lends;
-  numbered = ([], sym (append-nil (modules_in cache)));
+  numbered = ([], sym (append-nil (table_in cache)));
   sound = λ run x place sound. sound;
 }
 
@@ -158,7 +158,7 @@ holds_after old mid new one two = record {
   sums = two.sums ∙ one.sums;
   held = λ name. two.held name ∙ one.held name;
   lends = λ lends. two.lends (one.lends lends);
-  numbered = begins_after (modules_in old) (modules_in mid) (modules_in new) one.numbered two.numbered;
+  numbered = begins_after (table_in old) (table_in mid) (table_in new) one.numbered two.numbered;
   sound = λ run x place sound. two.sound run x place (one.sound run x place sound);
 }
 
@@ -174,7 +174,7 @@ lent_after old mid new one two = record { main = two.main ∙ one.main; sums = t
 pub holds_failed : (old mid new : Cache) → HoldsSame old mid → new.main.now ≡ mid.main.now → sums_in new ≡ sums_in mid
     → new.files ≡ mid.files → new.modules ≡ mid.modules → HoldsSame old new
 holds_failed old mid new same main sums files modules = holds_after old mid new same
-    (holds_listed mid new main sums (λ name. ap (λ (kept : FileTable). kept_at (main_in mid) (modules_in mid) kept name) files)
+    (holds_listed mid new main sums (λ name. ap (λ (kept : FileTable). kept_at (main_in mid) (table_in mid) kept name) files)
     ([], ap (λ (kept : FileTable). kept.files.items) files ∙ sym (append-nil mid.files.files.items)) modules)
 
 -- ---- refusals

@@ -21,7 +21,7 @@ use Rattle.gm_graph.specs.declared.cache.Cache.{Cache}
 use Rattle.gm_file.specs.Main.{Main, without_excluded}
 use Rattle.gm_graph.specs.Reading.{file_of}
 use Rattle.gm_graph.specs.Summaries.{IsKept, IsWithinList, at_span, span_found, summary_reading}
-use Rattle.gm_graph.specs.Cached.{AreRequirements, HasFileAt, IsLender, IsSound, KeepsSound, Knows, LendsKept, file_count, its_requirements, kept_file, main_in, modules_in, no_requirements, run_in}
+use Rattle.gm_graph.specs.Cached.{AreRequirements, HasFileAt, IsLender, IsSound, KeepsSound, Knows, LendsKept, file_count, its_requirements, kept_file, main_in, no_requirements, run_in, table_in}
 use Rattle.gm_graph.specs.CacheVisits.{Continues, IsVisit, LendsOver}
 use Rattle.gm_graph.specs.Run.{FileSays, KeepsSayings, Run, Says}
 use Rattle.gm_graph.proofs.Holding.{held_says, held_sound}
@@ -95,10 +95,10 @@ one_file_there cache pairs x y place file other knows at says there also =
 -- What a visit gets is what each vertex requires that had this file.
 pub lends_over : (old new : Cache) (earlier pairs : List (Name × Reply)) (x : ModuleVersion) (d : Depth) (got : Visit) → Knows new pairs
     → Continues old new → KeepsSayings (run_in old earlier) (run_in new pairs) → KeepsSound old (run_in old earlier) new (run_in new pairs)
-    → IsDistinct pair_eq (modules_in new) → IsVisit new (run_in new pairs) x d got → LendsOver old (run_in old earlier) got
+    → IsDistinct pair_eq (table_in new) → IsVisit new (run_in new pairs) x d got → LendsOver old (run_in old earlier) got
 lends_over old new earlier pairs x d (visit.Fault vertex class) knows continues stays keeps distinct is = tt
 lends_over old new earlier pairs x d (visit.Required required) knows continues stays keeps distinct is = record {
-  begins = subst (λ (ms : List ModuleVersion). BeginsWith (modules_in old) ms) (sym is.2) continues.numbered;
+  begins = subst (λ (ms : List ModuleVersion). BeginsWith (table_in old) ms) (sym is.2) continues.numbered;
   distinct = subst (λ (ms : List ModuleVersion). IsDistinct pair_eq ms) (sym is.2) distinct;
   shared = λ y file at says.
       let same : is.1.file ≡ file =

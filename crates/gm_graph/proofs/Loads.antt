@@ -11,7 +11,7 @@ use Rattle.gm_graph.specs.declared.fault.Fault.{Fault}
 use Rattle.gm_graph.specs.declared.graph_builder.GraphBuilder.{GraphBuilder}
 use Rattle.gm_graph.specs.Builder.{edges_in, sources_in, turns_of}
 use Rattle.gm_graph.specs.Building.{fault}
-use Rattle.gm_graph.specs.Cached.{modules_in, turns_in}
+use Rattle.gm_graph.specs.Cached.{table_in, turns_in}
 use Rattle.gm_graph.specs.Outcome.{IsLoaded, LoadedGraph}
 use Rattle.gm_graph.specs.Run.{AreFaults, AreTooMany, AreTurns, AskedInTurn, IsEdge, IsRead, LoadingNeeds, Run, run_of}
 use Rattle.gm_graph.specs.Turns.{OverflowsWith}
@@ -31,12 +31,12 @@ use Rattle.gm_graph.proofs.Rooted.{list_rooted, same_edges}
 
 module _ (run : Run) (cache : Cache) (builder : GraphBuilder) (opened : IsOpenedIn run cache builder) where
   abbrev edges : List Edge
-  edges = edges_in (modules_in cache) builder
+  edges = edges_in (table_in cache) builder
 
   pub gathered_rooted : IsRooted (among edges)
   gathered_rooted = list_rooted run edges opened.edges
 
-  pub gathered_ends : (x : ModuleVersion) → Contains (sources_in (modules_in cache) builder) (Of x) → IsEdgeEnd (among edges) x
+  pub gathered_ends : (x : ModuleVersion) → Contains (sources_in (table_in cache) builder) (Of x) → IsEdgeEnd (among edges) x
   gathered_ends x h = opened_among run edges opened.edges x (opened.opened x h)
 
   faults_are : (faults : List Fault) → faults ≡ map (λ e. fault e.0 e.1) builder.faults.entries → tree.IsOrdered pair_cmp builder.faults → AreFaults run faults
@@ -55,7 +55,7 @@ module _ (run : Run) (cache : Cache) (builder : GraphBuilder) (opened : IsOpened
 pub loads : (main : Main) (sums : Option Sums) (pairs : List (Name × Reply)) (cache : Cache) (builder : GraphBuilder)
     → IsOpenedIn (run_of main sums pairs) cache builder → AskedInTurn (LoadingNeeds main sums) pairs → (loaded : LoadedGraph) → loaded.main ≡ main.path
     → loaded.faults ≡ map (λ e. fault e.0 e.1) builder.faults.entries → tree.IsOrdered pair_cmp builder.faults
-    → IsAscending edge_cmp loaded.edges → HaveSame (edges_in (modules_in cache) builder) loaded.edges
+    → IsAscending edge_cmp loaded.edges → HaveSame (edges_in (table_in cache) builder) loaded.edges
     → IsBuildList main.path main.replaces (among loaded.edges) loaded.rows → loaded.turns ≡ turns_in cache
     → IsLoaded (run_of main sums pairs) (names_in pairs) loaded
 loads main sums pairs cache builder opened asks loaded path_is faults ordered ascending same rows turns =
@@ -68,7 +68,7 @@ loads main sums pairs cache builder opened asks loaded path_is faults ordered as
       rows = same_build_list main.path main.replaces (among loaded.edges) (IsEdge run) loaded.rows (same_edges run loaded.edges each) rows;
       turns = subst (λ (ts : List Turn). AreTurns run ts) (sym (turns ∙ opened.lent)) opened.turns;
       settled = settled main sums pairs asks opened.known opened.read
-          (few_opened run opened.is_builder.opened (turns_of (modules_in cache) builder) opened.is_builder.turns opened.turns);
+          (few_opened run opened.is_builder.opened (turns_of (table_in cache) builder) opened.is_builder.turns opened.turns);
     }
 
 -- Nothing was asked for, and the main file requires too many vertices.

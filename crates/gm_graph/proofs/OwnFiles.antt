@@ -16,7 +16,7 @@ use Rattle.gm_store.specs.declared.files.FileName.{FileName}
 use Rattle.gm_graph.specs.declared.cache.file_table.FileTable.{FileTable}
 use Rattle.gm_graph.specs.declared.cache.summary.Kept.{Kept}
 use Rattle.gm_graph.specs.declared.cache.Cache.{Cache}
-use Rattle.gm_graph.specs.Cached.{HasFileAt, kept_file, main_in, modules_in, module_numbered, summary_at}
+use Rattle.gm_graph.specs.Cached.{HasFileAt, kept_file, main_in, module_numbered, summary_at, table_in}
 use Rattle.gm_graph.specs.FileTable.{PutsFile, IsFileOf, IsNewFile, KeepsFiles, KeepsNoted, KeepsOthers, KeepsPlaces, KeepsReplacing, NotesFiles, NotesFor, kept_at, noted_for, place_beside, place_of, replacing_place}
 use Rattle.gm_file.specs.Main.{Main}
 use Rattle.gm_graph.specs.Reading.{file_of, is_askable}
@@ -25,9 +25,9 @@ use Rattle.gm_graph.proofs.Keeping.{file_there}
 use Rattle.gm_graph.proofs.PuttingPlaces.{notes_again, notes_kept, places_again, places_kept}
 
 -- The file of a module, in a cache.
-pub is_file_of : (cache : Cache) (number : ℕ) (name : Name) → IsDistinct pair_eq (modules_in cache)
-    → number < length (modules_in cache) → name ≡ file_of (main_in cache) (module_numbered cache number)
-    → IsFileOf (main_in cache) (modules_in cache) cache.files number name
+pub is_file_of : (cache : Cache) (number : ℕ) (name : Name) → IsDistinct pair_eq (table_in cache)
+    → number < length (table_in cache) → name ≡ file_of (main_in cache) (module_numbered cache number)
+    → IsFileOf (main_in cache) (table_in cache) cache.files number name
 is_file_of cache number name distinct within named = record {
   distinct = distinct;
   within = within;
@@ -49,25 +49,25 @@ no_place_of main modules files name none = by (place_of main modules files name)
         absurd (cc (sym none ∙ there.1))
 
 -- Nothing is kept of a module's file if no place is noted for the module, and none for a replacement's file with that name.
-pub nothing_kept : (cache : Cache) (number : ℕ) (name : Name) (x : ModuleVersion) → IsDistinct pair_eq (modules_in cache)
-    → number < length (modules_in cache) → name ≡ file_of (main_in cache) x → x ≡ module_numbered cache number
+pub nothing_kept : (cache : Cache) (number : ℕ) (name : Name) (x : ModuleVersion) → IsDistinct pair_eq (table_in cache)
+    → number < length (table_in cache) → name ≡ file_of (main_in cache) x → x ≡ module_numbered cache number
     → noted_for cache.files number ≡ None → option_and_then place_in (replacing_place cache.files name) ≡ None
     → summary_at cache name ≡ None
 nothing_kept cache number name x distinct within named is nowhere none =
     ap (option_and_then (slice_get cache.files.files.items))
-    (place_by (main_in cache) (modules_in cache) cache.files number name
+    (place_by (main_in cache) (table_in cache) cache.files number name
     (is_file_of cache number name distinct within (named ∙ ap (file_of (main_in cache)) is))
     ∙ ap₂ (λ (o p : Option ℕ). option_or o p) nowhere none)
 
 -- The name of a module's file, of which nothing was kept.
-pub new_file : (cache : Cache) (number : ℕ) (name : Name) → number < length (modules_in cache)
+pub new_file : (cache : Cache) (number : ℕ) (name : Name) → number < length (table_in cache)
     → name ≡ file_of (main_in cache) (module_numbered cache number) → is_askable name ≡ true → summary_at cache name ≡ None
-    → IsNewFile (main_in cache) (modules_in cache) cache.files number name
+    → IsNewFile (main_in cache) (table_in cache) cache.files number name
 new_file cache number name within named askable none = record {
   within = within;
   named = named;
   askable = askable;
-  none = no_place_of (main_in cache) (modules_in cache) cache.files name none;
+  none = no_place_of (main_in cache) (table_in cache) cache.files name none;
 }
 
 -- What was added is kept of its file.
@@ -77,10 +77,10 @@ added_there main modules old new name one adds =
     adds name ∙ ap (λ (b : Bool). cond b (Some one) (kept_at main modules old name)) (name_itself name)
 
 -- A vertex's file is at its place.
-pub has_placed : (cache : Cache) (x : ModuleVersion) (place : ℕ) → place_of (main_in cache) (modules_in cache) cache.files (file_of (main_in cache) x) ≡ Some place
+pub has_placed : (cache : Cache) (x : ModuleVersion) (place : ℕ) → place_of (main_in cache) (table_in cache) cache.files (file_of (main_in cache) x) ≡ Some place
     → is_askable (file_of (main_in cache) x) ≡ true → HasFileAt cache x place
 has_placed cache x place is askable = record {
-  within = place_within (main_in cache) (modules_in cache) cache.files (file_of (main_in cache) x) place is;
+  within = place_within (main_in cache) (table_in cache) cache.files (file_of (main_in cache) x) place is;
   kept = ap (option_and_then (slice_get cache.files.files.items)) (sym is);
   askable = askable;
 }
@@ -132,10 +132,10 @@ pub noted_again : {T E : Type 0} (cache : Cache) (new : FileTable) (number place
     → option_and_then place_in (replacing_place cache.files (file_of (main_in cache) (module_numbered cache number))) ≡ Some place
     → is_askable (file_of (main_in cache) (module_numbered cache number)) ≡ true → KeepsOthers cache.files new
     → OnOk r (NotesFor cache.files new number place) → OnErr r (KeepsNoted cache.files new)
-    → KeepsPlaces (main_in cache) (modules_in cache) cache.files new × NotesFiles (main_in cache) (modules_in cache) new
+    → KeepsPlaces (main_in cache) (table_in cache) cache.files new × NotesFiles (main_in cache) (table_in cache) new
 noted_again cache new number place r at askable others ok err =
     let main = main_in cache in
-    let modules = modules_in cache in
+    let modules = table_in cache in
     let replacing = same_replacing cache.files new others in
     on_either r
     (λ notes. (

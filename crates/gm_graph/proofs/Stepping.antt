@@ -13,7 +13,7 @@ use Rattle.gm_graph.specs.declared.cache.depth.Turn.{Turn}
 use Rattle.gm_graph.specs.declared.graph_builder.GraphBuilder.{GraphBuilder}
 use Rattle.gm_graph.specs.declared.graph_builder.NumberedTurn.{NumberedTurn}
 use Rattle.gm_graph.specs.Builder.{Built, IsBuilder, graph_of, turn_of, turns_of}
-use Rattle.gm_graph.specs.Cached.{Knows, main_in, modules_in, run_in, sums_in, turns_in}
+use Rattle.gm_graph.specs.Cached.{Knows, main_in, run_in, sums_in, table_in, turns_in}
 use Rattle.gm_graph.specs.CacheVisits.{Continues}
 use Rattle.gm_graph.specs.Run.{AskedInTurn, IsOpened, IsRead, LoadingNeeds, Run, run_of}
 use Rattle.gm_graph.specs.Turns.{turn}
@@ -47,12 +47,12 @@ module _ (modules : List ModuleVersion) (builder : GraphBuilder) (at : ℕ) wher
 
 -- the graph under construction, by the numbers of a cache's modules
 abbrev pub built_by : Cache → GraphBuilder → Built
-built_by cache builder = graph_of (modules_in cache) builder
+built_by cache builder = graph_of (table_in cache) builder
 
 -- The turns before this position were visited.
 pub record IsAt (main : Main) (sums : Option Sums) (cache : Cache) (pairs : List (Name × Reply)) (builder : GraphBuilder) (at : ℕ) : Type 0 where
   pub place : at ≤ length (built_by cache builder).turns
-  pub builder_is : IsBuilder (modules_in cache) builder
+  pub builder_is : IsBuilder (table_in cache) builder
   pub main_is : main_in cache ≡ main
   pub sums_are : sums_in cache ≡ sums
   pub knows : Knows cache pairs
@@ -79,11 +79,11 @@ asks_by main sums cache pairs main_is sums_are asks =
     by_run (λ (run : Run). AskedInTurn (LoadingNeeds run.main run.sums) pairs) main sums cache pairs main_is sums_are asks
 
 pub first_step : (cache : Cache) (pairs : List (Name × Reply)) (builder : GraphBuilder) → pairs ≡ [] → Knows cache [] → turns_in cache ≡ []
-    → IsFirstGraph (run_in cache []) (modules_in cache) builder → IsAt (main_in cache) (sums_in cache) cache pairs builder 0
+    → IsFirstGraph (run_in cache []) (table_in cache) builder → IsAt (main_in cache) (sums_in cache) cache pairs builder 0
 first_step cache pairs builder none knows lent nothing =
     let made = built_by cache builder in
-    let first : IsFirstGraph (run_in cache pairs) (modules_in cache) builder =
-    subst (λ (ps : List (Name × Reply)). IsFirstGraph (run_in cache ps) (modules_in cache) builder) (sym none) nothing in
+    let first : IsFirstGraph (run_in cache pairs) (table_in cache) builder =
+    subst (λ (ps : List (Name × Reply)). IsFirstGraph (run_in cache ps) (table_in cache) builder) (sym none) nothing in
     record {
       place = omega arith;
       builder_is = first.is_builder;
@@ -99,7 +99,7 @@ first_step cache pairs builder none knows lent nothing =
 
 pub step : (main : Main) (sums : Option Sums) (old new : Cache) (pairs longer : List (Name × Reply)) (before after : GraphBuilder) (at : ℕ) (x : ModuleVersion) (depth : Depth)
     → IsAt main sums old pairs before at → at < length (built_by old before).turns → get_or (built_by old before).turns at (turn x depth) ≡ turn x depth
-    → Knows new longer → Continues old new → turns_in new ≡ turns_in old ++ turn x depth ∷ [] → IsBuilder (modules_in new) after
+    → Knows new longer → Continues old new → turns_in new ≡ turns_in old ++ turn x depth ∷ [] → IsBuilder (table_in new) after
     → IsVisited (run_in new longer) (built_by old before) (built_by new after) x depth → AddsFile (main_in old) pairs longer x
     → IsAt main sums new longer after (at + 1)
 step main sums old new pairs longer before after at x depth is below here knows continues lent builder visited asked =

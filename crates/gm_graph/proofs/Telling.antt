@@ -17,7 +17,7 @@ use Rattle.gm_graph.proofs.HeldFiles.{IsAnswerOf, kept_with, map_cond, one_answe
 use Rattle.gm_graph.specs.Held.{HoldsAnswers}
 use Rattle.gm_graph.proofs.Keeping.{knows_still, main_same, same_run, says_later, sound_still}
 use Rattle.gm_graph.specs.Summaries.{IsKept, summary_reading}
-use Rattle.gm_graph.specs.Cached.{HoldsSame, KeepsSound, Knows, LentSame, held_of, main_in, modules_in, run_in, summary_at, sums_in}
+use Rattle.gm_graph.specs.Cached.{HoldsSame, KeepsSound, Knows, LentSame, held_of, main_in, run_in, summary_at, sums_in, table_in}
 use Rattle.gm_graph.specs.Run.{Run}
 
 known_of : (cache : Cache) (pairs : List (Name × Reply)) → Knows cache pairs → (name : Name)
@@ -71,14 +71,14 @@ answer_with false old pairs held name reply reading other is knows fresh reads e
 -- ---- a cache with one more file
 
 found_with : (old new : Cache) (name : Name) (one : Kept) → new.main.now ≡ old.main.now → new.modules ≡ old.modules
-    → PutsFile (main_in old) (modules_in old) old.files new.files name one
+    → PutsFile (main_in old) (table_in old) old.files new.files name one
     → (other : Name) → summary_at new other ≡ cond (same_name other name) (Some one) (summary_at old other)
 found_with old new name one main modules keeps other =
-    ap (λ (m : Main). kept_at m (modules_in new) new.files other) (ap main_of main)
+    ap (λ (m : Main). kept_at m (table_in new) new.files other) (ap main_of main)
     ∙ ap (λ (list : NumberedList). kept_at (main_in old) list.modules new.files other) modules ∙ keeps other
 
 held_with : (old new : Cache) (name : Name) (one : Kept) → new.main.now ≡ old.main.now → new.modules ≡ old.modules
-    → PutsFile (main_in old) (modules_in old) old.files new.files name one
+    → PutsFile (main_in old) (table_in old) old.files new.files name one
     → (other : Name) → held_of new other ≡ cond (same_name other name) (Some (summary_reading (modules_of old.modules) one)) (held_of old other)
 held_with old new name one main modules keeps other =
     ap (λ (list : NumberedList). option_map (summary_reading (modules_of list)) (summary_at new other)) modules
@@ -88,7 +88,7 @@ held_with old new name one main modules keeps other =
 -- The cache knows the pairs and one more.
 pub knows_more : (old new : Cache) (pairs : List (Name × Reply)) (name : Name) (reply : Reply) (one : Kept)
     → Knows old pairs → answer_in pairs name ≡ None → new.main.now ≡ old.main.now → sums_in new ≡ sums_in old → new.modules ≡ old.modules
-    → PutsFile (main_in old) (modules_in old) old.files new.files name one
+    → PutsFile (main_in old) (table_in old) old.files new.files name one
     → IsFileReading (sums_in old) name reply (summary_reading (modules_of old.modules) one) → IsKept (main_in old) (modules_of old.modules) one
     → Knows new (pairs ++ (name, reply) ∷ [])
 knows_more old new pairs name reply one knows none same_main same_sums modules keeps reads is =
@@ -110,7 +110,7 @@ knows_more old new pairs name reply one knows none same_main same_sums modules k
 -- A cache that adds what was read of one more file knows all answers.
 pub knows_read : (old mid new : Cache) (pairs all : List (Name × Reply)) (name : Name) (reply : Reply) (one : Kept)
     → Knows old pairs → HoldsSame old mid → LentSame mid new → new.modules ≡ mid.modules → summary_at old name ≡ None
-    → PutsFile (main_in mid) (modules_in mid) mid.files new.files name one
+    → PutsFile (main_in mid) (table_in mid) mid.files new.files name one
     → all ≡ pairs ++ (name, reply) ∷ [] → IsFileReading (sums_in old) name reply (summary_reading (modules_of mid.modules) one) → IsKept (main_in old) (modules_of mid.modules) one → Knows new all
 knows_read old mid new pairs all name reply one knows same lent modules none adds e reads is =
     subst (λ (ps : List (Name × Reply)). Knows new ps) (sym e)
@@ -135,7 +135,7 @@ none_still old mid name same none =
 -- those that were kept.
 pub sound_read : (old mid new : Cache) (pairs all : List (Name × Reply)) (name : Name) (reply : Reply) (one : Kept) → HoldsSame old mid
     → LentSame mid new → new.modules ≡ mid.modules → summary_at old name ≡ None
-    → PutsFile (main_in mid) (modules_in mid) mid.files new.files name one → BeginsWith mid.files.files.items new.files.files.items → all ≡ pairs ++ (name, reply) ∷ []
+    → PutsFile (main_in mid) (table_in mid) mid.files new.files name one → BeginsWith mid.files.files.items new.files.files.items → all ≡ pairs ++ (name, reply) ∷ []
     → KeepsSound old (run_in old pairs) new (run_in new all)
 sound_read old mid new pairs all name reply one same lent modules none adds files asked x place sound =
     let none_more : summary_at mid name ≡ None = none_still old mid name same none in

@@ -11,7 +11,7 @@ use Rattle.gm_graph.specs.declared.cache.visit.Visit.TheVariants as visit
 use Rattle.gm_graph.specs.declared.graph_builder.GraphBuilder.{GraphBuilder}
 use Rattle.gm_graph.specs.declared.graph_builder.NumberedTurn.{NumberedTurn}
 use Rattle.gm_graph.specs.Builder.{Built, IsBuilder, graph_of, turns_of}
-use Rattle.gm_graph.specs.Cached.{main_in, modules_in, module_numbered, run_in, sums_in}
+use Rattle.gm_graph.specs.Cached.{main_in, module_numbered, run_in, sums_in, table_in}
 use Rattle.gm_graph.specs.CacheVisits.{Continues, HasVisited, required_by, table_of}
 use Rattle.gm_graph.specs.Run.{Run}
 use Rattle.gm_graph.specs.Turns.{OverflowsWith}
@@ -29,34 +29,34 @@ on_ok_two (Ok x) f p q = f p q
 on_ok_two (Err e) f p q = tt
 
 -- A vertex has its number still.
-pub same_module : (old new : Cache) (number : ℕ) → Continues old new → number < length (modules_in old)
+pub same_module : (old new : Cache) (number : ℕ) → Continues old new → number < length (table_in old)
     → module_numbered old number ≡ module_numbered new number
-same_module old new number continues below = sym (number_stays (modules_in old) (modules_in new) number continues.numbered below)
+same_module old new number continues below = sym (number_stays (table_in old) (table_in new) number continues.numbered below)
 
 -- The modules that a visit adds have numbers that the builder doesn't use.
 module _ (old new : Cache) (builder : GraphBuilder) (one : NumberedTurn) (continues : Continues old new)
-    (is : IsBuilder (modules_in old) builder) where
+    (is : IsBuilder (table_in old) builder) where
   -- what it did
   pub visited_by : (run : Run) (after : GraphBuilder)
-      → IsVisited run (graph_of (modules_in new) builder) (graph_of (modules_in new) after) (module_numbered old one.number) one.depth
-      → IsVisited run (graph_of (modules_in old) builder) (graph_of (modules_in new) after) (module_numbered old one.number) one.depth
+      → IsVisited run (graph_of (table_in new) builder) (graph_of (table_in new) after) (module_numbered old one.number) one.depth
+      → IsVisited run (graph_of (table_in old) builder) (graph_of (table_in new) after) (module_numbered old one.number) one.depth
   visited_by run after visited =
-      subst (λ (b : Built). IsVisited run b (graph_of (modules_in new) after) (module_numbered old one.number) one.depth)
-      (built_over (modules_in old) (modules_in new) builder is continues.numbered) visited
+      subst (λ (b : Built). IsVisited run b (graph_of (table_in new) after) (module_numbered old one.number) one.depth)
+      (built_over (table_in old) (table_in new) builder is continues.numbered) visited
 
   -- too many vertices
   pub overflows_at : (earlier pairs : List (Name × Reply)) (required : Required)
       → HasVisited old earlier new pairs one.number one.depth (visit.Required required) → required.leads ≡ true
       → OverflowsWith (turns_of (table_of required) builder) (required_by required)
-      → OverflowsAt (run_in old pairs) (turns_of (modules_in old) builder) (module_numbered old one.number) one.depth
+      → OverflowsAt (run_in old pairs) (turns_of (table_in old) builder) (module_numbered old one.number) one.depth
   overflows_at earlier pairs required has leads over =
       let x = module_numbered old one.number in
       let says = has.visit_is.1 in
-      let turns = turns_of (modules_in old) builder in
+      let turns = turns_of (table_in old) builder in
       let run = run_in new pairs in
       let same : turns_of (table_of required) builder ≡ turns =
       ap (λ (ms : List ModuleVersion). turns_of ms builder) has.visit_is.2
-      ∙ turns_over (modules_in old) (modules_in new) builder is continues.numbered in
+      ∙ turns_over (table_in old) (table_in new) builder is continues.numbered in
       let holds : OverflowsAt run turns x one.depth = (
         answers_read new pairs has.knows,
         (

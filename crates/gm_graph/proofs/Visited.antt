@@ -59,7 +59,7 @@ module _ (run : Run) (x : ModuleVersion) (d : Depth) (said : Result Dependency C
   edges_before = opens.edges ∙ notes.edges
 
   adds_fault : AddsFault run old.faults new.faults x
-  adds_fault = record { said = said; says = says; noting = λ y. adds.faults y ∙ opens.faults y ∙ notes.faults y }
+  adds_fault = record { said = said; says = says; adds = λ y. adds.faults y ∙ opens.faults y ∙ notes.faults y }
 
   gathered : Gathers run old.turns old.edges new.edges old.faults new.faults (turn x d)
   gathered = elim (cases_Bool (gathers old.turns (turn x d))) [

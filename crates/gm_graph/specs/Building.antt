@@ -46,7 +46,7 @@ gathers turns one = gathers_at one.depth (list_any (same_turn (turn one.vertex T
 pub record AddsFault (run : Run) (before after : Faults) (x : ModuleVersion) : Type 0 where
   pub said : Result Dependency Class
   pub says : Says run x said
-  pub noting : (y : ModuleVersion) → after y ≡ faults_with (fault_in said) x before y
+  pub adds : (y : ModuleVersion) → after y ≡ faults_with (fault_in said) x before y
 
 -- The edges and the fault of a turn were added, and nothing else.
 pub record Gathers (run : Run) (turns : List Turn) (old new : List Edge) (before after : Faults) (one : Turn)

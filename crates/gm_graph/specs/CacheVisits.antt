@@ -18,7 +18,7 @@ use Rattle.gm_graph.specs.declared.cache.visit.Required.{Required}
 use Rattle.gm_graph.specs.declared.cache.visit.Visit.{Visit}
 use Rattle.gm_graph.specs.declared.cache.visit.Visit.TheVariants as visit
 use Rattle.gm_graph.specs.Asking.{FailsFor}
-use Rattle.gm_graph.specs.Cached.{IsSound, KeepsSound, Knows, file_count, main_in, modules_in, module_numbered, run_in, sums_in, turns_in}
+use Rattle.gm_graph.specs.Cached.{IsSound, KeepsSound, Knows, file_count, main_in, module_numbered, run_in, sums_in, table_in, turns_in}
 use Rattle.gm_graph.specs.Lent.{lent_modules, lent_table}
 use Rattle.gm_graph.specs.Reading.{leads_on}
 use Rattle.gm_graph.specs.Run.{KeepsSayings, Run, Says}
@@ -31,7 +31,7 @@ use Rattle.gm_graph.specs.Turns.{turn}
 pub record Continues (old new : Cache) : Type 0 where
   pub main : main_in new ≡ main_in old
   pub sums : sums_in new ≡ sums_in old
-  pub numbered : BeginsWith (modules_in old) (modules_in new)
+  pub numbered : BeginsWith (table_in old) (table_in new)
 
 -- ---- what a visit gets from the cache
 
@@ -54,12 +54,12 @@ pub record SaysRequired (run : Run) (x : ModuleVersion) (d : Depth) (required : 
 abbrev pub IsVisit : Cache → Run → ModuleVersion → Depth → Visit → Type 0
 IsVisit cache run x d (visit.Fault vertex class) = (vertex.now ≡ x) × Says run x (Err class)
 IsVisit cache run x d (visit.Required required) = IsSound cache run x required.file
-    × SaysRequired run x d required × (table_of required ≡ modules_in cache)
+    × SaysRequired run x d required × (table_of required ≡ table_in cache)
 
 -- What was lent has the number of each module that had one, and is what each vertex requires that had this file by the
 -- run before the visit.
 pub record LendsFile (old : Cache) (run : Run) (required : Required) : Type 0 where
-  pub begins : BeginsWith (modules_in old) (table_of required)
+  pub begins : BeginsWith (table_in old) (table_of required)
   pub distinct : IsDistinct pair_eq (table_of required)
   pub shared : (x : ModuleVersion) (file : Dependency) → IsSound old run x required.file → Says run x (Ok file)
       → required_by required ≡ without_excluded run.main file.requirements
@@ -75,7 +75,7 @@ pub record HasVisited (old : Cache) (earlier : List (Name × Reply)) (new : Cach
   pub knows : Knows new pairs
   pub continues : Continues old new
   pub stays : KeepsSayings (run_in old earlier) (run_in new pairs)
-  pub distinct : IsDistinct pair_eq (modules_in new)
+  pub distinct : IsDistinct pair_eq (table_in new)
   pub sound : KeepsSound old (run_in old earlier) new (run_in new pairs)
   pub count : file_count new ≤ file_count old + 1
   pub turns : turns_in new ≡ turns_in old ++ turn (module_numbered old number) d ∷ []

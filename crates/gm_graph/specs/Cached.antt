@@ -35,16 +35,16 @@ abbrev pub turns_in : Cache → List Turn
 turns_in cache = cache.turns.items
 
 -- the modules that have numbers, each at the place that is its number
-abbrev pub modules_in : Cache → List ModuleVersion
-modules_in cache = cache.modules.modules
+abbrev pub table_in : Cache → List ModuleVersion
+table_in cache = cache.modules.modules
 
 -- the module with a number
 abbrev pub module_numbered : Cache → ℕ → ModuleVersion
-module_numbered cache number = module_at (modules_in cache) number
+module_numbered cache number = module_at (table_in cache) number
 
 -- what is kept of the file of a name
 abbrev pub summary_at : Cache → Name → Option Kept
-summary_at cache name = kept_at (main_in cache) (modules_in cache) cache.files name
+summary_at cache name = kept_at (main_in cache) (table_in cache) cache.files name
 
 -- how many files are kept, and what is kept of the one at a place
 abbrev pub file_count : Cache → ℕ
@@ -140,7 +140,7 @@ pub record HoldsSame (old new : Cache) : Type 0 where
   pub sums : sums_in new ≡ sums_in old
   pub held : (name : Name) → held_of new name ≡ held_of old name
   pub lends : LendsKept old → LendsKept new
-  pub numbered : BeginsWith (modules_in old) (modules_in new)
+  pub numbered : BeginsWith (table_in old) (table_in new)
   pub sound : (run : Run) → KeepsSound old run new run
 
 -- the same main file, go.sum and list of turns

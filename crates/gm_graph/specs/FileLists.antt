@@ -5,7 +5,7 @@ use Rattle.gm_name_table.specs.Listed.{AreModuleNumbers, modules_at}
 use Rattle.gm_file.specs.Main.{without_excluded}
 use Rattle.gm_graph.specs.declared.cache.Cache.{Cache}
 use Rattle.gm_graph.specs.declared.edge_lists.EdgeLists.{EdgeLists}
-use Rattle.gm_graph.specs.Cached.{IsSound, modules_in}
+use Rattle.gm_graph.specs.Cached.{IsSound, table_in}
 use Rattle.gm_graph.specs.EdgeLists.{numbers_of}
 use Rattle.gm_graph.specs.Run.{Run}
 
@@ -28,7 +28,7 @@ AddsFileList old new file modules xs = (f : ℕ) (held : List ℕ) → numbers_o
 pub record AreOfFile (cache : Cache) (run : Run) (file : ℕ) (numbers : List ℕ) : Type 0 where
   pub vertex : ModuleVersion
   pub sound : IsSound cache run vertex file
-  pub numbers_are : AreNumbersOf (modules_in cache) numbers (without_excluded run.main sound.file.requirements)
+  pub numbers_are : AreNumbersOf (table_in cache) numbers (without_excluded run.main sound.file.requirements)
 
 -- The list of each file that was added has the numbers of what the file requires.
 abbrev pub HaveFiles : Cache → Run → EdgeLists → Type 0

@@ -139,7 +139,7 @@ pub record CallsFor (run : Run) (name : Name) : Type 0 where
 
 -- By these answers the name is needed, and it is not among them.
 pub record IsDue (run : Run) (name : Name) : Type 0 where
-  pub called : CallsFor run name
+  pub calls : CallsFor run name
   pub unasked : run.answers name ≡ None
 
 -- The names that answers call for, if this is the main file and this the go.sum.

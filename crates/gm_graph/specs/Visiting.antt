@@ -10,7 +10,7 @@ use Rattle.gm_graph.specs.declared.cache.depth.Turn.{Turn}
 use Rattle.gm_graph.specs.declared.graph_builder.GraphBuilder.{GraphBuilder}
 use Rattle.gm_graph.specs.Builder.{Built, IsBuilder, edges_in, faults_by_vertex, sources_in, turns_of}
 use Rattle.gm_graph.specs.Building.{AddsSource, AreGathered, Gathers, fault, gathers as adds_edges}
-use Rattle.gm_graph.specs.Cached.{modules_in, turns_in}
+use Rattle.gm_graph.specs.Cached.{table_in, turns_in}
 use Rattle.gm_graph.specs.Run.{AreTurns, IsEdge, IsFault, IsOpened, IsRead, Run, Says}
 use Rattle.gm_graph.specs.Turns.{turn}
 use Rattle.gm_graph.specs.VisitedTurns.{AreFirstTurns, VisitOverflows, Visits}
@@ -39,12 +39,12 @@ OverflowsAt run turns x d = IsRead run × VisitOverflows run turns x d
 -- vertices, whose edges and faults are in the graph builder, with one source for each.
 pub record IsOpenedIn (run : Run) (cache : Cache) (builder : GraphBuilder) : Type 0 where
   pub read : IsRead run
-  pub lent : turns_in cache ≡ turns_of (modules_in cache) builder
-  pub is_builder : IsBuilder (modules_in cache) builder
-  pub turns : AreTurns run (turns_of (modules_in cache) builder)
+  pub lent : turns_in cache ≡ turns_of (table_in cache) builder
+  pub is_builder : IsBuilder (table_in cache) builder
+  pub turns : AreTurns run (turns_of (table_in cache) builder)
   pub known : (x : ModuleVersion) → IsOpened run x → (said : Result Dependency Class) × Says run x said
-  pub edges : (one : Edge) → Contains (edges_in (modules_in cache) builder) one ↔ IsEdge run one.from one.to
-  pub once : IsDistinct step_eq (sources_in (modules_in cache) builder)
-  pub opened : (x : ModuleVersion) → Contains (sources_in (modules_in cache) builder) (Of x) → IsOpened run x
+  pub edges : (one : Edge) → Contains (edges_in (table_in cache) builder) one ↔ IsEdge run one.from one.to
+  pub once : IsDistinct step_eq (sources_in (table_in cache) builder)
+  pub opened : (x : ModuleVersion) → Contains (sources_in (table_in cache) builder) (Of x) → IsOpened run x
   pub faults : (x : ModuleVersion) (class : Class)
       → (faults_by_vertex builder x ≡ Some class) ↔ IsFault run (fault x class)

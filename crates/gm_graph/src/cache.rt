@@ -173,7 +173,7 @@ impl<'a> Cache<'a> {
     ghost use Rattle.std.specs.List.{IsDistinct};
     ghost use Rattle.gm_name.specs.ModuleVersion.{pair_eq};
     ghost use Rattle.gm_name_table.specs.Listed.{BeginsWith};
-    ghost use Rattle.gm_graph.specs.Cached.{HasFileAt, HoldsSame, IsPlaceFor, KeepsSound, Knows, LendsKept, LentSame, file_count, main_in, modules_in, module_numbered, run_in, summary_at, sums_in, turns_in};
+    ghost use Rattle.gm_graph.specs.Cached.{HasFileAt, HoldsSame, IsPlaceFor, KeepsSound, Knows, LendsKept, LentSame, file_count, main_in, module_numbered, run_in, summary_at, sums_in, table_in, turns_in};
     ghost use Rattle.gm_graph.specs.Lent.{lent_table};
     ghost use Rattle.gm_graph.specs.declared.cache.Cache.{Cache};
     ghost use Rattle.gm_graph.specs.CacheVisits.{Continues, IsVisit, LendsOver, Visits};
@@ -247,7 +247,7 @@ impl<'a> Cache<'a> {
     /// Keeps what was read of the file of the vertex with a number, of which nothing was kept, and returns the place.
     /// The only refusal is `NoMemory`, which leaves the cache unchanged.
     fn keep(&mut self, number: u32, name: &FileName, kept: Kept) -> Result<u32, NoMemory>
-        requires vertex { number < length (modules_in self.old) }
+        requires vertex { number < length (table_in self.old) }
         requires file { name_of name.now ≡ file_of (main_in self.old) (module_numbered self.old number) }
         requires askable { may_be_asked (name_of name.now) ≡ true }
         requires none { summary_at self.old (name_of name.now) ≡ None }
@@ -256,7 +256,7 @@ impl<'a> Cache<'a> {
             (summary_reading (modules_of self.old.modules) kept) }
         requires kept { IsKept (main_in self.old) (modules_of self.old.modules) kept }
         ensures count { file_count self.new ≤ file_count self.old + 1 }
-        ensures adds { OnOk result (PutsFile (main_in self.old) (modules_in self.old) self.old.files self.new.files
+        ensures adds { OnOk result (PutsFile (main_in self.old) (table_in self.old) self.old.files self.new.files
             (name_of name.now) kept) }
         ensures modules { self.new.modules ≡ self.old.modules }
         ensures files { BeginsWith self.old.files.files.items self.new.files.files.items }
@@ -270,7 +270,7 @@ impl<'a> Cache<'a> {
     /// Notes the place of the file of the vertex with a number, which is that of a replacement. The only refusal is
     /// `NoMemory`. The cache holds the same in any case.
     fn note(&mut self, number: u32, place: u32) -> Result<(), NoMemory>
-        requires vertex { number < length (modules_in self.old) }
+        requires vertex { number < length (table_in self.old) }
         requires place { option_and_then place_in (replacing_place self.old.files (file_of (main_in self.old)
             (module_numbered self.old number))) ≡ Some place }
         requires askable { may_be_asked (file_of (main_in self.old) (module_numbered self.old number)) ≡ true }
@@ -286,7 +286,7 @@ impl<'a> Cache<'a> {
     pub(crate) fn first_requirements(&self) -> Lent<'_>
         ensures modules { lent_modules result
             ≡ without_excluded (main_in self.now) (main_in self.now).requirements }
-        ensures table { lent_table result ≡ modules_in self.now }
+        ensures table { lent_table result ≡ table_in self.now }
     {
         let span = ListSpan {
             start: 0,
@@ -303,13 +303,13 @@ impl<'a> Cache<'a> {
     /// After any refusal the cache holds the same; more modules may have numbers.
     fn known_at<F: Asks>(&mut self, files: &mut F, number: u32) -> Result<Option<u32>, AskFault>
         requires knows { Knows self.old (F.state files.old).asked }
-        requires vertex { number < length (modules_in self.old) }
+        requires vertex { number < length (table_in self.old) }
         requires few { file_count self.old < 4294967295 }
         ensures count { file_count self.new ≤ file_count self.old + 1 }
         ensures knows { OnOk result (Knows self.new (F.state files.new).asked) }
         ensures place { IfOk result (IsPlaceFor self.new (module_numbered self.old number)) }
         ensures lent { LentSame self.old self.new }
-        ensures numbered { BeginsWith (modules_in self.old) (modules_in self.new) }
+        ensures numbered { BeginsWith (table_in self.old) (table_in self.new) }
         ensures sound { OnOk result (KeepsSound self.old (run_in self.old (F.state files.old).asked)
             self.new (run_in self.new (F.state files.new).asked)) }
         ensures err { OnErr result (HoldsSame self.old self.new) }
@@ -349,7 +349,7 @@ impl<'a> Cache<'a> {
         ensures leads { (requirements : List ModuleVersion)
             → result.leads ≡ leads_on (with_requirements summary.now.file requirements) depth }
         ensures modules { lent_modules result.list ≡ at_span (modules_of self.now.modules) summary.now.kept }
-        ensures table { lent_table result.list ≡ modules_in self.now }
+        ensures table { lent_table result.list ≡ table_in self.now }
     {
         Required {
             file: place,
@@ -361,7 +361,7 @@ impl<'a> Cache<'a> {
     /// What a visit to this depth gets of the vertex with a number, whose file is kept at this place. There is no place
     /// if the file comes from a proxy and its path isn't fetchable.
     fn said(&self, number: u32, depth: Depth, place: Option<u32>) -> Visit<'_>
-        requires vertex { number < length (modules_in self.now) }
+        requires vertex { number < length (table_in self.now) }
         requires place { IsPlaceFor self.now (module_numbered self.now number) place }
         requires lends { LendsKept self.now }
         ensures visit { (pairs : List (Name × Reply)) → Knows self.now pairs
@@ -370,7 +370,7 @@ impl<'a> Cache<'a> {
             → Continues old self.now → KeepsSayings (run_in old earlier) (run_in self.now pairs)
             → KeepsSound old (run_in old earlier) self.now (run_in self.now pairs)
             → LendsOver old (run_in old earlier) result }
-        ensures distinct { IsDistinct pair_eq (modules_in self.now) }
+        ensures distinct { IsDistinct pair_eq (table_in self.now) }
     {
         let vertex = self.modules.module(number);
         let Some(place) = place else {
@@ -402,7 +402,7 @@ impl<'a> Cache<'a> {
         depth: Depth,
     ) -> Result<Visit<'_>, AskFault>
         requires knows { Knows self.old (F.state files.old).asked }
-        requires vertex { number < length (modules_in self.old) }
+        requires vertex { number < length (table_in self.old) }
         requires few { file_count self.old < 4294967295 }
         ensures lends { IfOk result (LendsOver self.old (run_in self.old (F.state files.old).asked)) }
         ensures asks { AsksFor (main_in self.old) (F.state files.old) (F.state files.new)
@@ -437,7 +437,7 @@ impl<'a> Cache<'a> {
 
     /// The modules in the order of their numbers, and the list of turns. The rest of the cache is dropped.
     pub(crate) fn into_parts(self) -> (Vec<ModVer>, Vec<Turn>)
-        ensures modules { result.0.items ≡ modules_in self.entry }
+        ensures modules { result.0.items ≡ table_in self.entry }
         ensures distinct { IsDistinct pair_eq result.0.items }
         ensures few { length result.0.items ≤ 4294967295 }
         ensures turns { result.1.items ≡ turns_in self.entry }

@@ -5,7 +5,7 @@ ghost use Rattle.std.specs.Option.{option_copied};
 ghost use Rattle.gm_store.specs.Asked.{name_of, names_in};
 ghost use Rattle.gm_store.specs.States.{HasServed};
 ghost use Rattle.gm_store.specs.declared.files.FileName.{FileName};
-ghost use Rattle.gm_graph.specs.Cached.{Knows, file_count, main_in, modules_in, run_in, sums_in, turns_in};
+ghost use Rattle.gm_graph.specs.Cached.{Knows, file_count, main_in, run_in, sums_in, table_in, turns_in};
 ghost use Rattle.gm_graph.specs.Refusals.{refused_in};
 ghost use Rattle.gm_file.specs.Main.{main_of};
 ghost use Rattle.gm_graph_select.specs.BuildList.{IsBuildList};
@@ -50,7 +50,7 @@ fn visit_all<F: Asks>(
     requires knows { Knows cache.old [] }
     requires lent { turns_in cache.old ≡ [] }
     requires none { file_count cache.old ≡ 0 }
-    requires first { IsFirstGraph (run_in cache.old []) (modules_in cache.old) builder.old }
+    requires first { IsFirstGraph (run_in cache.old []) (table_in cache.old) builder.old }
     requires files { HaveFiles cache.old (run_in cache.old []) builder.old.edges }
     ensures opened { OnOk result (IsOpenedIn (run_in cache.old (F.state files.new).asked) cache.new builder.new) }
     ensures too_many { result ≡ Err LoadFault.TooMany → IsRead (run_in cache.old (F.state files.new).asked)

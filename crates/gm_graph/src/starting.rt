@@ -1,7 +1,7 @@
 //! The main module's requirements, and the graph that loading starts with.
 
 ghost use Rattle.std.specs.Prelude.{◌≡◌, [], IfOk, Err};
-ghost use Rattle.gm_graph.specs.Cached.{main_in, modules_in, run_in};
+ghost use Rattle.gm_graph.specs.Cached.{main_in, run_in, table_in};
 ghost use Rattle.gm_file.specs.Main.{is_pruned_by, without_excluded, main_of};
 ghost use Rattle.gm_graph.specs.Refusals.{refused_in};
 ghost use Rattle.gm_graph.specs.FileLists.{HaveFiles};
@@ -35,7 +35,7 @@ pub(crate) fn first_graph(
     cache: &Cache<'_>,
 ) -> Result<GraphBuilder, LoadFault>
     requires { main_in cache.now ≡ main_of main.now }
-    ensures first { IfOk result (IsFirstGraph (run_in cache.now []) (modules_in cache.now)) }
+    ensures first { IfOk result (IsFirstGraph (run_in cache.now []) (table_in cache.now)) }
     ensures files { IfOk result (λ builder. HaveFiles cache.now (run_in cache.now []) builder.edges) }
     ensures too_many { result ≡ Err LoadFault.TooMany
         → OverflowsWith [] (without_excluded (main_of main.now) (main_of main.now).requirements) }

@@ -6,7 +6,7 @@ ghost use Rattle.gm_store.specs.Asked.{name_of};
 ghost use Rattle.gm_store.specs.States.{HasServed};
 ghost use Rattle.gm_store.specs.declared.files.FileName.{FileName};
 ghost use Rattle.gm_graph.specs.Asking.{AsksFor, StillLacks};
-ghost use Rattle.gm_graph.specs.Cached.{Knows, file_count, main_in, modules_in, module_numbered, run_in, turns_in};
+ghost use Rattle.gm_graph.specs.Cached.{Knows, file_count, main_in, module_numbered, run_in, table_in, turns_in};
 ghost use Rattle.gm_graph.specs.CacheVisits.{Continues, SaysRequired, required_by, table_of};
 ghost use Rattle.gm_graph.specs.Refusals.{refused_in};
 ghost use Rattle.gm_graph.specs.Builder.{IsBuilder, KeepsTurns, graph_of, turn_of, turns_of};
@@ -103,27 +103,27 @@ pub(crate) fn visit<F: Asks>(
     one: NumberedTurn,
 ) -> Result<(), LoadFault>
     requires knows { Knows cache.old (F.state files.old).asked }
-    requires builder { IsBuilder (modules_in cache.old) builder.old }
-    requires below { one.number < length (modules_in cache.old) }
+    requires builder { IsBuilder (table_in cache.old) builder.old }
+    requires below { one.number < length (table_in cache.old) }
     requires files { HaveFiles cache.old (run_in cache.old (F.state files.old).asked) builder.old.edges }
     requires followed { AreFollowedIn cache.old (run_in cache.old (F.state files.old).asked)
-        (turns_of (modules_in cache.old) builder.old) followed.old }
+        (turns_of (table_in cache.old) builder.old) followed.old }
     requires few { file_count cache.old < 4294967295 }
     ensures count { OnOk result (file_count cache.new ≤ file_count cache.old + 1) }
     ensures knows { OnOk result (Knows cache.new (F.state files.new).asked) }
     ensures continues { OnOk result (Continues cache.old cache.new) }
     ensures turns { OnOk result (turns_in cache.new
-        ≡ turns_in cache.old ++ turn_of (modules_in cache.old) one ∷ []) }
-    ensures builder { OnOk result (IsBuilder (modules_in cache.new) builder.new) }
+        ≡ turns_in cache.old ++ turn_of (table_in cache.old) one ∷ []) }
+    ensures builder { OnOk result (IsBuilder (table_in cache.new) builder.new) }
     ensures files { OnOk result
         (HaveFiles cache.new (run_in cache.new (F.state files.new).asked) builder.new.edges) }
     ensures followed { OnOk result (AreFollowedIn cache.new (run_in cache.new (F.state files.new).asked)
-        (turns_of (modules_in cache.new) builder.new) followed.new) }
+        (turns_of (table_in cache.new) builder.new) followed.new) }
     ensures visited { OnOk result (IsVisited (run_in cache.new (F.state files.new).asked)
-        (graph_of (modules_in cache.old) builder.old) (graph_of (modules_in cache.new) builder.new)
+        (graph_of (table_in cache.old) builder.old) (graph_of (table_in cache.new) builder.new)
         (module_numbered cache.old one.number) one.depth) }
     ensures too_many { result ≡ Err LoadFault.TooMany → OverflowsAt (run_in cache.old (F.state files.new).asked)
-        (turns_of (modules_in cache.old) builder.old) (module_numbered cache.old one.number) one.depth }
+        (turns_of (table_in cache.old) builder.old) (module_numbered cache.old one.number) one.depth }
     ensures asks { AsksFor (main_in cache.old) (F.state files.old) (F.state files.new)
         (module_numbered cache.old one.number) }
     ensures device { (name : FileName) → result ≡ Err (LoadFault.Device name)

@@ -235,7 +235,7 @@ one_of : (one other : Name) → one ∷ [] ≡ other ∷ [] → one ≡ other
 one_of one other e = cc e
 
 low_not_due : (name : Name) → IsDue (run_with []) name → low_name ∷ [] ≡ name ∷ [] → ⊥
-low_not_due name due failed = names_differ (need_is [] unanswered_silent name due.called.needed ∙ sym (one_of low_name name failed))
+low_not_due name due failed = names_differ (need_is [] unanswered_silent name due.calls.needed ∙ sym (one_of low_name name failed))
 
 -- ---- files are answered to be missing
 
@@ -345,7 +345,7 @@ required_is_asked = record {
   missing = faulty main None top_fault []
       (record { read = files; settled = missing_settled; faults_are = missing_faulty; none_failed = refl }) refl;
   device = device main None top_name files
-      (record { called = record { read = λ name reply at. absurd (cc at); needed = top_needed [] }; unasked = refl }) refl refl;
+      (record { calls = record { read = λ name reply at. absurd (cc at); needed = top_needed [] }; unasked = refl }) refl refl;
   unasked = no_outcome [] [] unanswered_silent (λ settled none. not_asked settled) (λ name due failed. none_failed name failed);
   undue = no_outcome [] (low_name ∷ []) unanswered_silent (λ settled none. some_failed low_name none) low_not_due;
   answered = no_outcome told (top_name ∷ []) missing_silent (λ settled none. some_failed top_name none) top_not_due;

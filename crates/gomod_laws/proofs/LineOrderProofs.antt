@@ -37,7 +37,7 @@ module _ (file other : List ℕ) (sums : Option (List ℕ)) (m n : Main) (is : I
     same_found faults found = found_to file other sums sums told again n table table alike found.settled.read also_read faults found
 
     same_due : (name : Name) → IsDue one name → IsDue two name
-    same_due name due = due_to one two alike due.called.read name due
+    same_due name due = due_to one two alike due.calls.read name due
 
     same_many : AreTooMany one → AreTooMany two
     same_many many = many_to one two alike many

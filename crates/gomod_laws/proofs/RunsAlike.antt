@@ -112,7 +112,7 @@ module _ (r s : Run) (alike : ReadAlike r s) where
 
   pub due_to : IsRead s → (name : Name) → IsDue r name → IsDue s name
   due_to read name due = record {
-    called = record { read = read; needed = (needed_same name).0 due.called.needed };
+    calls = record { read = read; needed = (needed_same name).0 due.calls.needed };
     unasked = sym (alike.answers name) ∙ due.unasked;
   }
 

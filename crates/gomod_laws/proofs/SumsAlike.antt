@@ -87,7 +87,7 @@ module _ (main one other : List ℕ) (asked others : List (Name × Reply)) (alik
       same_for : (name : Name) → IsNeeded one_run name → HaveSameFor one other name
       same_for (mod_file path version) needed =
           λ hash. are.same path version hash
-          (record { main = said; table = Some t; read = record { main_file = is_main; sums = reads }; called = record { read = read; needed = needed } })
+          (record { main = said; table = Some t; read = record { main_file = is_main; sums = reads }; calls = record { read = read; needed = needed } })
       same_for (folder_file folder) needed = tt
       same_for (list_file path) needed = tt
 

@@ -108,7 +108,7 @@ module _ (main sums : List ℕ) (asked : List (Name × Reply)) (right : AreRight
         main = said;
         table = None;
         read = record { main_file = is_main; sums = tt };
-        called = record { read = read; needed = needed };
+        calls = record { read = read; needed = needed };
       })
       at)))
 

@@ -32,7 +32,7 @@ graph_answered run main table faults found name needs =
     let theirs : Run = run_of needs.main needs.table run.told.asked in
     let ours : Run = run_of main table run.told.asked in
     let agrees : Agrees theirs ours = stores_agree run run needs.main main needs.table table (itself run) needs.read found.read found.settled in
-    settled_answers main table run.told.asked found.settled name (needed theirs ours agrees name needs.called.needed)
+    settled_answers main table run.told.asked found.settled name (needed theirs ours agrees name needs.calls.needed)
 
 -- ---- what `versions` needs
 

@@ -28,7 +28,7 @@ wider_in_turn one other wider (more {pairs} {name} reply asks needed unasked) =
 
 module _ (file : List ℕ) (sums : Option (List ℕ)) (main : Main) (table : Option Sums) (read : FilesReadAs file sums main table) where
   loading_needs : (answers : AnswersByName) (name : Name) → LoadingNeeds main table answers name → GraphNeeds file sums answers name
-  loading_needs answers name called = record { main = main; table = table; read = read; called = called }
+  loading_needs answers name called = record { main = main; table = table; read = read; calls = called }
 
   -- the files that loading asks for are needed in turn
   pub loading_in_turn : {asked : Pairs} → AskedInTurn (LoadingNeeds main table) asked → AskedInTurn (GraphNeeds file sums) asked
@@ -43,4 +43,4 @@ module _ (file : List ℕ) (sums : Option (List ℕ)) (main : Main) (table : Opt
   load_fails old new (Err load.TooMany) grown due = inl (grown ∙ append-nil old.refused)
   load_fails old new (Err (load.Device name)) grown due =
       let is = due name refl in
-      inr (name_of name, loading_needs (answer_in new.asked) (name_of name) is.called, is.unasked, grown)
+      inr (name_of name, loading_needs (answer_in new.asked) (name_of name) is.calls, is.unasked, grown)

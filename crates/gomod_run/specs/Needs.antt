@@ -36,4 +36,4 @@ pub record GraphNeeds (file : List ℕ) (sums : Option (List ℕ)) (answers : An
   pub main : Main
   pub table : Option Sums
   pub read : FilesReadAs file sums main table
-  pub called : LoadingNeeds main table answers name
+  pub calls : LoadingNeeds main table answers name

@@ -120,7 +120,7 @@ faults_are_reported =
 mid_is_due : IsDue (run_of old_file None []) asked_mid
 unfolding is_fetchable
 mid_is_due = record {
-  called = record { read = all_read old_file [] tt; needed = (mid_nine, inl (0, omega arith, refl), refl, refl) };
+  calls = record { read = all_read old_file [] tt; needed = (mid_nine, inl (0, omega arith, refl), refl, refl) };
   unasked = refl;
 }
 

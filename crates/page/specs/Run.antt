@@ -97,7 +97,7 @@ pub record CallsFor (run : Run) (name : Name) : Type 0 where
 
 -- By these answers the name is needed, and it is not among them.
 pub record IsDue (run : Run) (name : Name) : Type 0 where
-  pub called : CallsFor run name
+  pub calls : CallsFor run name
   pub unasked : run.answers name ≡ None
 
 -- Exactly the needed files were asked for, each once, and at most 65,536 modules are opened.

@@ -35,13 +35,13 @@ pub enum Known {
 impl<'a> Cache<'a> {
     ghost use Rattle.std.specs.Borrow.{sem};
     ghost use Rattle.std.specs.Prelude.{IfSome};
-    ghost use Rattle.gm_graph.specs.Cached.{AreRequirements, HoldsSame, IsKnownAs, IsLender, IsPlaceFor, Knows, KnowsLender, LendsKept, LendsNamed, LentSame, file_count, file_known, main_in, modules_in, module_numbered, run_in};
+    ghost use Rattle.gm_graph.specs.Cached.{AreRequirements, HoldsSame, IsKnownAs, IsLender, IsPlaceFor, Knows, KnowsLender, LendsKept, LendsNamed, LentSame, file_count, file_known, main_in, module_numbered, run_in, table_in};
     ghost use Rattle.gm_graph.specs.Run.{KeepsSayings};
 
     /// The number of a module, which gets one if it has none. The only refusal is `NoMemory`.
     fn number(&mut self, x: &ModVer) -> Result<u32, NoMemory>
         requires { LendsKept self.old }
-        ensures number { IfOk result (λ number. number < length (modules_in self.new)) }
+        ensures number { IfOk result (λ number. number < length (table_in self.new)) }
         ensures module { IfOk result (λ number. module_numbered self.new number ≡ x.now) }
         ensures holds { HoldsSame self.old self.new }
         ensures lent { LentSame self.old self.new }
@@ -87,7 +87,7 @@ impl<'a> Cache<'a> {
     /// What is known of the vertex with a number, whose file has this name, and is kept at this place. There is no place
     /// if the file comes from a proxy and its path isn't fetchable.
     fn known_by(&self, number: u32, place: Option<u32>, name: FileName) -> Known
-        requires vertex { number < length (modules_in self.now) }
+        requires vertex { number < length (table_in self.now) }
         requires place { IsPlaceFor self.now (module_numbered self.now number) place }
         requires lends { LendsKept self.now }
         requires name { name_of name ≡ file_of (main_in self.now) (module_numbered self.now number) }

@@ -3,7 +3,7 @@ use Rattle.gm_file.specs.Main.{Main}
 use Rattle.gm_store.specs.Asked.{Name, Reply}
 use Rattle.gm_store.proofs.Serving.{nothing_served, served_both}
 use Rattle.gm_graph.specs.Builder.{turns_of}
-use Rattle.gm_graph.specs.Cached.{main_in, modules_in, module_numbered, run_in, sums_in}
+use Rattle.gm_graph.specs.Cached.{main_in, module_numbered, run_in, sums_in, table_in}
 use Rattle.gm_graph.specs.FileLists.{HaveFiles}
 use Rattle.gm_graph.specs.Reading.{file_of}
 use Rattle.gm_graph.specs.Refusals.{refused_names}
@@ -27,7 +27,7 @@ turns-init g c = record {
 
 pub turns-smaller : goal.turns-smaller
 turns-smaller g c =
-    let modules = modules_in c.turns.cache in
+    let modules = table_in c.turns.cache in
     let below = turn_below modules c.turns.builder c.turns.at (omega arith) in
     let few = few_turns c.turns.invariant.state.builder_is.opened (turns_of modules c.turns.builder) c.turns.invariant.state.builder_is.turns in
     omega arith
@@ -35,7 +35,7 @@ turns-smaller g c =
 pub turns-preserved : goal.turns-preserved
 turns-preserved g c =
     let one = c.index-one.result.now in
-    let modules = modules_in c.turns.cache in
+    let modules = table_in c.turns.cache in
     let x = module_numbered c.turns.cache one.number in
     let below = turn_below modules c.turns.builder c.turns.at (omega arith) in
     let here = turn_here modules c.turns.builder c.turns.at one (omega arith) c.index-one.ensures in
@@ -50,14 +50,14 @@ turns-preserved g c =
     }
 
 pub returns-clause-opened : goal.returns-clause-opened
-returns-clause-opened g c = last_step (main_in c.args.cache.now) (sums_in c.args.cache.now) c.turns.cache (g.F.Asks.state c.turns.files).asked c.turns.builder c.turns.at c.turns.invariant.state (past_all (modules_in c.turns.cache) c.turns.builder c.turns.at (omega arith))
+returns-clause-opened g c = last_step (main_in c.args.cache.now) (sums_in c.args.cache.now) c.turns.cache (g.F.Asks.state c.turns.files).asked c.turns.builder c.turns.at c.turns.invariant.state (past_all (table_in c.turns.cache) c.turns.builder c.turns.at (omega arith))
 
 pub returns-clause-asks : goal.returns-clause-asks
 returns-clause-asks g c = c.turns.invariant.state.asks
 
 pub visit-requires : goal.visit-requires
 visit-requires g c =
-    let modules = modules_in c.turns.cache in
+    let modules = table_in c.turns.cache in
     let below = turn_below modules c.turns.builder c.turns.at (omega arith) in
     let turns = few_turns c.turns.invariant.state.builder_is.opened (turns_of modules c.turns.builder) c.turns.invariant.state.builder_is.turns in
     record {
@@ -76,7 +76,7 @@ returns-in_err-visit-clause-asks g c =
     let sums = sums_in c.args.cache.now in
     let pairs = (g.F.Asks.state c.turns.files).asked in
     let longer = (g.F.Asks.state c.visit.new.files).asked in
-    let modules = modules_in c.turns.cache in
+    let modules = table_in c.turns.cache in
     let x = module_numbered c.turns.cache one.number in
     let below = turn_below modules c.turns.builder c.turns.at (omega arith) in
     let here = turn_here modules c.turns.builder c.turns.at one (omega arith) c.index-one.ensures in
@@ -92,7 +92,7 @@ returns-in_err-visit-clause-too_many g c = λ e.
     let sums = sums_in c.args.cache.now in
     let longer = (g.F.Asks.state c.visit.new.files).asked in
     let x = module_numbered c.turns.cache one.number in
-    let modules = modules_in c.turns.cache in
+    let modules = table_in c.turns.cache in
     let below = turn_below modules c.turns.builder c.turns.at (omega arith) in
     let here = turn_here modules c.turns.builder c.turns.at one (omega arith) c.index-one.ensures in
     let state = c.turns.invariant.state in
@@ -110,7 +110,7 @@ returns-in_err-visit-clause-device g c = λ name e.
     let sums = sums_in c.args.cache.now in
     let pairs = (g.F.Asks.state c.turns.files).asked in
     let longer = (g.F.Asks.state c.visit.new.files).asked in
-    let modules = modules_in c.turns.cache in
+    let modules = table_in c.turns.cache in
     let below = turn_below modules c.turns.builder c.turns.at (omega arith) in
     let here = turn_here modules c.turns.builder c.turns.at one (omega arith) c.index-one.ensures in
     let state = c.turns.invariant.state in

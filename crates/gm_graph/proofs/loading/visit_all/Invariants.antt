@@ -1,6 +1,6 @@
 use Rattle.std.proofs.Common.{◌≡◌, ◌≤◌, ◌-◌}
 use Rattle.gm_store.specs.States.{HasServed}
-use Rattle.gm_graph.specs.Cached.{file_count, main_in, modules_in, run_in, sums_in}
+use Rattle.gm_graph.specs.Cached.{file_count, main_in, run_in, sums_in, table_in}
 use Rattle.gm_graph.specs.Builder.{turns_of}
 use Rattle.gm_graph.specs.Followed.{AreFollowedIn}
 use Rattle.gm_graph.specs.FileLists.{HaveFiles}
@@ -12,7 +12,7 @@ invariant-turns g l = record {
   state : IsAt (main_in l.fn.cache) (sums_in l.fn.cache) l.cache (g.F.Asks.state l.files).asked l.builder l.at;
   files : HaveFiles l.cache (run_in l.cache (g.F.Asks.state l.files).asked) l.builder.edges;
   few : file_count l.cache ≤ l.at;
-  followed : AreFollowedIn l.cache (run_in l.cache (g.F.Asks.state l.files).asked) (turns_of (modules_in l.cache) l.builder) l.followed;
+  followed : AreFollowedIn l.cache (run_in l.cache (g.F.Asks.state l.files).asked) (turns_of (table_in l.cache) l.builder) l.followed;
   served : HasServed (g.F.Asks.may_answer l.fn.files) (g.F.Asks.may_answer l.files) (g.F.Asks.state l.fn.files) (g.F.Asks.state l.files);
   refused : (g.F.Asks.state l.files).refused ≡ (g.F.Asks.state l.fn.files).refused;
 }

@@ -9,7 +9,7 @@ use Rattle.gm_graph.specs.declared.cache.depth.Turn.{Turn}
 use Rattle.gm_graph.specs.declared.cache.visit.Visit.{Visit}
 use Rattle.gm_graph.specs.declared.graph_builder.NumberedTurn.{NumberedTurn}
 use Rattle.gm_graph.specs.Builder.{IsBuilder, graph_of, turn_of, turns_of}
-use Rattle.gm_graph.specs.Cached.{main_in, modules_in, module_numbered, run_in, turns_in}
+use Rattle.gm_graph.specs.Cached.{main_in, module_numbered, run_in, table_in, turns_in}
 use Rattle.gm_graph.specs.Followed.{AreFollowedIn}
 use Rattle.gm_graph.specs.Run.{Says}
 use Rattle.gm_graph.specs.CacheVisits.{HasVisited, LendsOver, table_of}
@@ -28,14 +28,14 @@ add_requirements-requires-clause-builder g c =
     let old = c.args.cache.now in
     let run = run_in old (g.F.Asks.state c.args.files.now).asked in
     let lends = subst (λ (v : Visit). LendsOver old run v) c.in-Ok-Required.field-0-is c.in-Ok-Required.ensures.lends in
-    builder_over (modules_in old) (table_of c.in-Ok-Required.required) c.args.builder.now c.requires.builder lends.begins lends.distinct
+    builder_over (table_in old) (table_of c.in-Ok-Required.required) c.args.builder.now c.requires.builder lends.begins lends.distinct
 
 pub add_requirements-requires-clause-below : goal.add_requirements-requires-clause-below
 add_requirements-requires-clause-below g c =
     let old = c.args.cache.now in
     let run = run_in old (g.F.Asks.state c.args.files.now).asked in
     let lends = subst (λ (v : Visit). LendsOver old run v) c.in-Ok-Required.field-0-is c.in-Ok-Required.ensures.lends in
-    number_below (modules_in old) (table_of c.in-Ok-Required.required) c.args.one.number lends.begins c.requires.below
+    number_below (table_in old) (table_of c.in-Ok-Required.required) c.args.one.number lends.begins c.requires.below
 
 pub add_requirements-requires-clause-edges : goal.add_requirements-requires-clause-edges
 add_requirements-requires-clause-edges g c =
@@ -232,9 +232,9 @@ returns-in-Ok-Fault-clause-builder g c =
     let one = c.args.one in
     let seen : HasVisited old earlier new pairs one.number one.depth c.in-Ok-Fault.field-0 = rw c.in-Ok-Fault.is at c.visit.follows.holds-at-none in
     let has = subst (λ (v : Visit). HasVisited old earlier new pairs one.number one.depth v) c.in-Ok-Fault.field-0-is seen in
-    c.add_fault.ensures.builder (modules_in new)
-    (builder_over (modules_in old) (modules_in new) c.args.builder.now c.requires.builder has.continues.numbered has.distinct)
-    (number_below (modules_in old) (modules_in new) one.number has.continues.numbered c.requires.below)
+    c.add_fault.ensures.builder (table_in new)
+    (builder_over (table_in old) (table_in new) c.args.builder.now c.requires.builder has.continues.numbered has.distinct)
+    (number_below (table_in old) (table_in new) one.number has.continues.numbered c.requires.below)
 
 pub returns-in-Ok-Fault-clause-files : goal.returns-in-Ok-Fault-clause-files
 returns-in-Ok-Fault-clause-files g c =
@@ -261,7 +261,7 @@ returns-in-Ok-Fault-clause-followed g c =
     let has = subst (λ (v : Visit). HasVisited old earlier new pairs one.number one.depth v) c.in-Ok-Fault.field-0-is seen in
     on_ok_weaker c.add_fault.result
     (λ same. subst (λ (ts : List Turn). AreFollowedIn new (run_in new pairs) ts c.args.followed.now)
-    (sym (ap (λ (ts : List NumberedTurn). map (turn_of (modules_in new)) ts) same))
+    (sym (ap (λ (ts : List NumberedTurn). map (turn_of (table_in new)) ts) same))
     (followed_known old new (run_in old earlier) (run_in new pairs) c.args.builder.now c.args.followed.now c.requires.builder has.continues has.continues.main has.stays has.sound c.requires.followed))
     c.add_fault.ensures.turns
 
@@ -276,14 +276,14 @@ returns-in-Ok-Fault-clause-visited g c =
     let has = subst (λ (v : Visit). HasVisited old earlier new pairs one.number one.depth v) c.in-Ok-Fault.field-0-is seen in
     let before = c.args.builder.now in
     let after = c.add_fault.new.builder in
-    let ms = modules_in new in
+    let ms = table_in new in
     let is = has.visit_is.0 in
     on_ok_weaker c.add_fault.result
     (λ visited. visited_by old new before one has.continues c.requires.builder (run_in new pairs) after
     (subst (λ (x : ModuleVersion). IsVisited (run_in new pairs) (graph_of ms before) (graph_of ms after) x one.depth) is visited))
     (c.add_fault.ensures.visited ms (run_in new pairs)
-    (builder_over (modules_in old) ms before c.requires.builder has.continues.numbered has.distinct)
-    (number_below (modules_in old) ms one.number has.continues.numbered c.requires.below)
+    (builder_over (table_in old) ms before c.requires.builder has.continues.numbered has.distinct)
+    (number_below (table_in old) ms one.number has.continues.numbered c.requires.below)
     (is ∙ same_module old new one.number has.continues c.requires.below)
     (subst (λ (v : ModuleVersion). Says (run_in new pairs) v (Err c.in-Ok-Fault.class)) (sym is) has.visit_is.1))
 

@@ -3,7 +3,7 @@ use Rattle.gm_name.specs.ModuleVersion.{ModuleVersion}
 use Rattle.gm_store.specs.Asked.{Name, name_of}
 use Rattle.gm_graph.specs.declared.cache.load_fault.LoadFault.TheVariants as load
 use Rattle.gm_graph.specs.Asking.{StillLacks}
-use Rattle.gm_graph.specs.Cached.{IsKnownAs, IsPlaceFor, main_in, modules_in, module_numbered, run_in}
+use Rattle.gm_graph.specs.Cached.{IsKnownAs, IsPlaceFor, main_in, module_numbered, run_in, table_in}
 use Rattle.gm_file.specs.Main.{Main, main_of}
 use Rattle.gm_graph.specs.Reading.{file_of}
 use Rattle.gm_graph.proofs.Growing.{number_below, number_stays}
@@ -56,7 +56,7 @@ returns-in-Ok-clause-known g c =
     let number = c.in_ok-number.number in
     let pairs = (g.F.Asks.state c.known_at.new.files).asked in
     subst (λ (v : ModuleVersion). IsKnownAs (run_in new pairs) v c.known_by.result)
-    (number_stays (modules_in c.number.new.self) (modules_in new) number c.known_at.ensures.numbered c.in_ok-number.ensures.number
+    (number_stays (table_in c.number.new.self) (table_in new) number c.known_at.ensures.numbered c.in_ok-number.ensures.number
     ∙ c.in_ok-number.ensures.module)
     (c.known_by.ensures pairs c.in-Ok.ensures.knows)
 
@@ -66,7 +66,7 @@ returns-in-Ok-clause-lender g c = λ pairs knows.
     let number = c.in_ok-number.number in
     named_known (run_in new pairs) c.args.vertex.now c.known_by.result
     (subst (λ (v : ModuleVersion). IsKnownAs (run_in new pairs) v c.known_by.result)
-    (number_stays (modules_in c.number.new.self) (modules_in new) number c.known_at.ensures.numbered c.in_ok-number.ensures.number
+    (number_stays (table_in c.number.new.self) (table_in new) number c.known_at.ensures.numbered c.in_ok-number.ensures.number
     ∙ c.in_ok-number.ensures.module)
     (c.known_by.ensures pairs knows))
 
@@ -75,18 +75,18 @@ known_by-requires-clause-name g c =
     let new = c.known_at.new.self in
     let number = c.in_ok-number.number in
     c.in_ok-name.ensures
-    ∙ ap (λ (v : ModuleVersion). file_of (main_in c.args.self.now) v) (sym (number_stays (modules_in c.number.new.self) (modules_in new) number c.known_at.ensures.numbered c.in_ok-number.ensures.number
+    ∙ ap (λ (v : ModuleVersion). file_of (main_in c.args.self.now) v) (sym (number_stays (table_in c.number.new.self) (table_in new) number c.known_at.ensures.numbered c.in_ok-number.ensures.number
     ∙ c.in_ok-number.ensures.module))
     ∙ ap (λ m. file_of (main_of m) (module_numbered new number)) (sym (c.known_at.ensures.lent.main ∙ c.number.ensures.lent.main))
 
 pub known_by-requires-clause-vertex : goal.known_by-requires-clause-vertex
 known_by-requires-clause-vertex g c =
-    number_below (modules_in c.number.new.self) (modules_in c.known_at.new.self) c.in_ok-number.number c.known_at.ensures.numbered c.in_ok-number.ensures.number
+    number_below (table_in c.number.new.self) (table_in c.known_at.new.self) c.in_ok-number.number c.known_at.ensures.numbered c.in_ok-number.ensures.number
 
 pub known_by-requires-clause-place : goal.known_by-requires-clause-place
 known_by-requires-clause-place g c =
     subst (λ (v : ModuleVersion). IsPlaceFor c.known_at.new.self v c.in-Ok.place)
-    (sym (number_stays (modules_in c.number.new.self) (modules_in c.known_at.new.self) c.in_ok-number.number c.known_at.ensures.numbered c.in_ok-number.ensures.number))
+    (sym (number_stays (table_in c.number.new.self) (table_in c.known_at.new.self) c.in_ok-number.number c.known_at.ensures.numbered c.in_ok-number.ensures.number))
     c.in-Ok.ensures.place
 
 pub load_fault-requires : goal.load_fault-requires

@@ -9,7 +9,7 @@ use Rattle.std.specs.Option.{option_and_then}
 use Rattle.gm_graph.specs.FileTable.{replacing_place}
 use Rattle.gm_graph.specs.Summaries.{IsKept, summary_reading}
 use Rattle.gm_store.specs.declared.files.AskFault.TheVariants as ask
-use Rattle.gm_graph.specs.Cached.{HasFileAt, main_in, modules_in, module_numbered}
+use Rattle.gm_graph.specs.Cached.{HasFileAt, main_in, module_numbered, table_in}
 use Rattle.gm_graph.specs.Reading.{IsFileReading, file_of}
 use Rattle.gm_graph.proofs.AskedFile.{asks_file}
 use Rattle.gm_graph.proofs.Growing.{number_stays}
@@ -116,7 +116,7 @@ returns-in-Some-clause-place g c = has_noted c.args.self.now c.args.number c.in-
 pub returns-in_ok-keep-in-Ok-clause-place : goal.returns-in_ok-keep-in-Ok-clause-place
 returns-in_ok-keep-in-Ok-clause-place g c =
     subst (λ (v : ModuleVersion). HasFileAt c.keep.new.self v c.in_ok-keep-in-Ok.field-0)
-    (number_stays (modules_in c.args.self.now) (modules_in c.read_file.new.self) c.args.number c.read_file.ensures.holds.numbered c.requires.vertex)
+    (number_stays (table_in c.args.self.now) (table_in c.read_file.new.self) c.args.number c.read_file.ensures.holds.numbered c.requires.vertex)
     c.in_ok-keep-in-Ok.ensures.place
 
 -- ---- refusals

@@ -1,6 +1,6 @@
 use Rattle.std.proofs.Common.{◌∙◌, [], Global, Vec, ap, append-nil, length, refl, sym}
 use Rattle.gm_graph.specs.declared.cache.summary.Kept.{Kept}
-use Rattle.gm_graph.specs.Cached.{main_in, modules_in, module_numbered, sums_in}
+use Rattle.gm_graph.specs.Cached.{main_in, module_numbered, sums_in, table_in}
 use Rattle.gm_graph.specs.Reading.{file_of}
 use Rattle.gm_graph.proofs.FilePlaces.{place_within}
 use Rattle.gm_graph.proofs.HeldFiles.{kept_some}
@@ -13,12 +13,12 @@ pub note-requires : goal.note-requires
 note-requires c =
     let cache = c.args.self.now in
     let file = file_of (main_in cache) (module_numbered cache c.args.number) in
-    place_within (main_in cache) (modules_in cache) cache.files file c.args.place
-    (replacing_at (main_in cache) (modules_in cache) cache.files file c.args.place c.requires.place)
+    place_within (main_in cache) (table_in cache) cache.files file c.args.place
+    (replacing_at (main_in cache) (table_in cache) cache.files file c.args.place c.requires.place)
 
 pub invariant_of-self-clause-places_within : goal.invariant_of-self-clause-places_within
 invariant_of-self-clause-places_within c =
-    c.note.ensures.within (length (modules_in c.args.self.now)) c.requires.vertex c.args.self.now.places_within
+    c.note.ensures.within (length (table_in c.args.self.now)) c.requires.vertex c.args.self.now.places_within
 
 pub invariant_of-self-clause-has_replacing : goal.invariant_of-self-clause-has_replacing
 invariant_of-self-clause-has_replacing c =
@@ -39,7 +39,7 @@ invariant_of-self-clause-holds_some c =
     noted_again cache c.note.new.self c.args.number c.args.place c.note.result c.requires.place c.requires.askable
     c.note.ensures.others c.note.ensures.notes c.note.ensures.err in
     kept_some (main_in cache) (sums_in cache) cache.modules cache.files c.note.new.self
-    (same_files (main_in cache) (modules_in cache) cache.files c.note.new.self c.note.ensures.others again.0) cache.holds_some
+    (same_files (main_in cache) (table_in cache) cache.files c.note.new.self c.note.ensures.others again.0) cache.holds_some
 
 pub returns-clause-holds : goal.returns-clause-holds
 returns-clause-holds c =
@@ -48,7 +48,7 @@ returns-clause-holds c =
     noted_again cache c.note.new.self c.args.number c.args.place c.note.result c.requires.place c.requires.askable
     c.note.ensures.others c.note.ensures.notes c.note.ensures.err in
     holds_listed cache _ refl refl
-    (same_files (main_in cache) (modules_in cache) cache.files c.note.new.self c.note.ensures.others again.0)
+    (same_files (main_in cache) (table_in cache) cache.files c.note.new.self c.note.ensures.others again.0)
     ([], ap (λ (files : Vec Kept Global). files.items) c.note.ensures.others.0 ∙ sym (append-nil cache.files.files.items)) refl
 
 pub returns-clause-place : goal.returns-clause-place
@@ -60,5 +60,5 @@ returns-clause-place c =
     c.note.ensures.others c.note.ensures.notes c.note.ensures.err in
     has_placed _ x c.args.place
     (again.0 (file_of (main_in cache) x)
-    ∙ replacing_at (main_in cache) (modules_in cache) cache.files (file_of (main_in cache) x) c.args.place c.requires.place)
+    ∙ replacing_at (main_in cache) (table_in cache) cache.files (file_of (main_in cache) x) c.args.place c.requires.place)
     c.requires.askable

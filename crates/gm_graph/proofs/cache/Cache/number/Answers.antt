@@ -3,7 +3,7 @@ use Rattle.std.specs.Prelude.{slice_get}
 use Rattle.std.proofs.lemmas.Option.{get_or_from_slice_get}
 use Rattle.std.proofs.lemmas.Result.{IfOk-weaker}
 use Rattle.gm_name.specs.ModuleVersion.{module_at}
-use Rattle.gm_graph.specs.Cached.{main_in, modules_in, sums_in}
+use Rattle.gm_graph.specs.Cached.{main_in, sums_in, table_in}
 use Rattle.gm_graph.proofs.HeldFiles.{grown_some, numbered_more}
 use Rattle.gm_graph.proofs.Keeping.{holds_grown}
 use Rattle.gm_graph.proofs.PuttingPlaces.{notes_if_more}
@@ -33,5 +33,5 @@ pub invariant_of-self-clause-notes : goal.invariant_of-self-clause-notes
 invariant_of-self-clause-notes c =
     let old = c.args.self.now in
     let more = c.number.ensures in
-    notes_if_more (main_in old) (modules_in old) _ old.files
+    notes_if_more (main_in old) (table_in old) _ old.files
     (numbered_more old.modules c.number.new.self c.args.x.now more.only more.numbers more.list).1.numbered old.places_within old.notes

@@ -1,7 +1,7 @@
 use Rattle.std.proofs.Common.{inr, refl}
 use Rattle.gm_store.specs.Asked.{name_of}
 use Rattle.gm_store.proofs.Serving.{request_served}
-use Rattle.gm_graph.specs.Cached.{main_in, modules_in, sums_in}
+use Rattle.gm_graph.specs.Cached.{main_in, sums_in, table_in}
 use Rattle.gm_graph.proofs.HeldFiles.{grown_some}
 use Rattle.gm_graph.proofs.Keeping.{holds_grown, holds_itself}
 use Rattle.gm_graph.proofs.PuttingPlaces.{notes_if_more}
@@ -39,4 +39,4 @@ returns-clause-holds g c = holds_grown c.args.self.now _ refl refl refl c.summar
 pub invariant_of-self-clause-notes : goal.invariant_of-self-clause-notes
 invariant_of-self-clause-notes g c =
     let old = c.args.self.now in
-    notes_if_more (main_in old) (modules_in old) _ old.files c.summarize.ensures.grows.1.numbered old.places_within old.notes
+    notes_if_more (main_in old) (table_in old) _ old.files c.summarize.ensures.grows.1.numbered old.places_within old.notes
