@@ -88,7 +88,7 @@ BRANCH = re.compile(r"(?:else\s*)?(?:if|for|while|loop|'\w+:)\b|.*\belse$", re.S
 MATCH = re.compile(r"\bmatch\b[^;{}]*$")
 # what goes on after a brace; the guard of an arm too, as `} if n > 0 =>`
 GOES_ON = re.compile(r"\s*(?:else\b|as\b|if\b[^{}]*=>|[.?,;)\]=&|+*/<>-])")
-LEFT_OUT = re.compile(r"gomod_(?:tests|case|cases)")
+LEFT_OUT = re.compile(r"gomod_(?:tests|case)|run_cases")
 
 
 def joined(text):

@@ -1,9 +1,26 @@
-//! Runs the cases in the files that the command line names. docs/dev/CASES.md has the form of these files.
+//! Runs the program over cases in text files, and reports those whose results differ. The command line names the
+//! files. docs/dev/CASES.md has their form.
 #![tactic(auto)]
+
+mod case_runtime;
+mod checking;
+mod counting;
+mod cutting;
+mod differences;
+mod known_input;
+mod memory;
+mod outcomes;
+mod outputs;
+mod parsing;
+mod program;
+mod refusals;
+mod stores;
+mod sweeping;
+mod workspace;
 
 use std::process::ExitCode;
 
 /// Runs the cases, reports on standard error, and returns the exit status.
 fn main(rt: HostRuntime) -> ExitCode {
-    gomod_cases::exit_code(&rt)
+    program::exit_code(&rt)
 }

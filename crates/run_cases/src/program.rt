@@ -21,7 +21,7 @@ fn names_file(word: &str) -> bool {
 /// contain one of them. It runs these cases, reports on standard error how each that fails differs, and prints how many
 /// passed and failed, and if all passed how many runs were made. The status is 0 if all passed, 1 if one failed or a
 /// file of cases can't be read, and 3 if the cases can't be run.
-pub fn exit_code(rt: &HostRuntime) -> ExitCode {
+pub(crate) fn exit_code(rt: &HostRuntime) -> ExitCode {
     match all_pass(rt) {
         Ok(true) => ExitCode::SUCCESS,
         Ok(false) => ExitCode::from(1),
