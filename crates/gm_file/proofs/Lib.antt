@@ -11,6 +11,7 @@ pub mod Members
 pub mod Sets
 pub mod Indexed
 pub mod Saying
+pub mod Adding
 pub mod Ordered
 pub mod LineSaid
 pub mod Lines

@@ -129,14 +129,8 @@ impl Fields {
                 self.requirements.push(pair)?;
                 Ok(())
             }
-            Directive::Exclude(pair) => {
-                self.excludes.add(alloc, pair)?;
-                Ok(())
-            }
-            Directive::Replace(replace) => {
-                self.replaces.add(alloc, replace)?;
-                Ok(())
-            }
+            Directive::Exclude(pair) => self.excludes.add(alloc, pair),
+            Directive::Replace(replace) => self.replaces.add(alloc, replace),
             Directive::Retract(interval) => {
                 self.retracts.push(interval)?;
                 Ok(())

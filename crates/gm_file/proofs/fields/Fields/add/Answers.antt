@@ -1,11 +1,10 @@
-use Rattle.std.proofs.Common.{ap, refl, ◌∙◌}
-use Rattle.std.proofs.lemmas.Result.{err_from_is_err_and}
+use Rattle.std.proofs.Common.{refl}
 use Rattle.std.proofs.lemmas.List.{map-append}
-use Rattle.std.specs.List.{list_any}
-use Rattle.gm_file.specs.Faults.{directive_kinds, is_conflict}
+use Rattle.gm_file.specs.Faults.{directive_kinds}
 use Rattle.gm_file.specs.VerbViews.{mode_view}
-use Rattle.gm_file.specs.Views.{interval_view, replace_view, replace_views}
-use Rattle.gm_file.proofs.Saying.{conflict-reported, replace-right, say-exclusion, say-interval, say-kept, say-replacing, say-requirement}
+use Rattle.gm_file.specs.Views.{interval_view, replace_view}
+use Rattle.gm_file.proofs.Adding.{excludes-found, exclusion-added, replaces-found, replacing-added}
+use Rattle.gm_file.proofs.Saying.{say-interval, say-kept, say-requirement}
 use Rattle.gm_file.proofs.fields.Fields.add.Goals as goal
 
 pub returns-in-Module-clause-added : goal.returns-in-Module-clause-added
@@ -17,26 +16,27 @@ returns-in_ok-push-in-Require-clause-added c = λ ds holds.
     let early = rw c.in-Require.is at c.requires.early in
     rw (c.in-Require.is, c.in_ok-push-in-Require.ensures.items) (say-requirement holds c.in-Require.pair, early)
 
-pub returns-in_ok-add-in-Exclude-clause-added : goal.returns-in_ok-add-in-Exclude-clause-added
-unfolding directive_kinds
-returns-in_ok-add-in-Exclude-clause-added c = λ ds holds.
+pub returns-in-Exclude-clause-found : goal.returns-in-Exclude-clause-found
+returns-in-Exclude-clause-found c =
+    excludes-found c.args.self.now c.add.new.self c.add.result c.requires.found c.add.ensures.set
+
+pub returns-in-Exclude-clause-added : goal.returns-in-Exclude-clause-added
+returns-in-Exclude-clause-added c =
     let early = rw c.in-Exclude.is at c.requires.early in
-    rw (c.in-Exclude.is, c.in_ok-add-in-Exclude.ensures.lines) (say-exclusion holds c.in-Exclude.pair, early)
+    rw c.in-Exclude.is
+    (exclusion-added (mode_view c.args.mode) c.args.self.now c.add.new.self c.in-Exclude.pair c.add.result early
+    c.add.ensures.lines c.add.ensures.memory)
 
-pub returns-in_ok-add-in-Replace-clause-added : goal.returns-in_ok-add-in-Replace-clause-added
-returns-in_ok-add-in-Replace-clause-added c = λ ds holds.
-    let early = rw c.in-Replace.is at c.requires.early in
-    rw (c.in-Replace.is, c.in_ok-add-in-Replace.ensures.lines) (
-      say-replacing holds (replace_view c.in-Replace.replace),
-      replace-right (mode_view c.args.mode) ds (replace_view c.in-Replace.replace) early (ap (list_any (is_conflict (replace_view c.in-Replace.replace))) holds.replaces_are ∙ c.in_ok-add-in-Replace.ensures.conflict),
-    )
+pub returns-in-Replace-clause-found : goal.returns-in-Replace-clause-found
+returns-in-Replace-clause-found c =
+    replaces-found c.args.self.now c.add-in-Replace.new.self c.add-in-Replace.result c.requires.found c.add-in-Replace.ensures.indexed
 
-pub returns-in_err-add-in-Replace-clause-added : goal.returns-in_err-add-in-Replace-clause-added
-returns-in_err-add-in-Replace-clause-added c =
+pub returns-in-Replace-clause-added : goal.returns-in-Replace-clause-added
+returns-in-Replace-clause-added c =
     let early = rw c.in-Replace.is at c.requires.early in
-    let p = err_from_is_err_and c.from_residual-in_err-add-in-Replace.result c.from_residual-in_err-add-in-Replace.ensures.1 in
-    rw (c.in-Replace.is, p.1, p.2) (conflict-reported (mode_view c.args.mode) c.args.self.now (record c.args.self.now { replaces = c.add-in-Replace.new.self }) (replace_view c.in-Replace.replace) (replace_views c.args.self.now.replaces.lines.items)
-    c.in_err-add-in-Replace.field-0.0 early (λ ds holds. holds.replaces_are) c.in_err-add-in-Replace.ensures.conflict)
+    rw c.in-Replace.is
+    (replacing-added (mode_view c.args.mode) c.args.self.now c.add-in-Replace.new.self (replace_view c.in-Replace.replace) c.add-in-Replace.result early
+    c.add-in-Replace.ensures.lines c.add-in-Replace.ensures.conflict)
 
 pub returns-in_ok-push-in-Retract-clause-added : goal.returns-in_ok-push-in-Retract-clause-added
 unfolding directive_kinds
