@@ -2,7 +2,8 @@
 
 ghost use Rattle.std.specs.Prelude.{◌≡◌, [], IfOk, IfErr, OnErr, None, unwrap_or};
 ghost use Rattle.std.specs.Option.{option_copied};
-ghost use Rattle.gm_syntax.specs.LineViews.{plain_lines};
+ghost use Rattle.gm_syntax.specs.LineReading.{HasRead};
+ghost use Rattle.gm_syntax.specs.LineViews.{line_views, plain_lines};
 ghost use Rattle.gm_name_table.specs.Listed.{Appends};
 ghost use Rattle.gm_file.specs.DepLines.{AreRetractedIn, IsDependencyIn};
 ghost use Rattle.gm_file.specs.Directives.{Lax};
@@ -22,7 +23,7 @@ use crate::required::Required;
 use crate::retractions::{retractions_of_bytes, retractions_of_lines};
 use gm_name::{KnownNames, ModPath, ModVer};
 use gm_name_table::ModuleList;
-use gm_syntax::{Doc, LineReader};
+use gm_syntax::{Doc, Line, LineReader};
 use std::alloc::Global;
 use std::marker::Model;
 use std::mem;
@@ -73,15 +74,34 @@ impl DepFile {
         ensures fault { IfErr result (ReportsFault Lax (plain_lines doc.now)) }
     {
         let mut names = KnownNames::new(alloc, 0);
-        let mut said = DepLines::over(alloc, Required::own(Vec::new(alloc)));
-        read_document(alloc, &mut names, doc.lines(), &mut said)?;
-        let retracts = retractions_of_lines(alloc, &mut names, doc.lines())?;
-        let DepLines { fields, .. } = said;
-        Ok(DepFile::of_fields(fields, retracts))
+        DepFile::read_lines(alloc, &mut names, doc.lines())
     }
 
-    /// Reads the bytes of a file: the result is that of `Doc::parse` and then `read`, but no document is kept. A second
-    /// pass reads the retractions.
+    /// Reads the lines of a document as `read` does.
+    // The retractions come first, so that little is held where they are refused.
+    fn read_lines(
+        alloc: Global,
+        names: &mut KnownNames,
+        lines: &[Line],
+    ) -> Result<DepFile, FileFault>
+        ensures ok { IfOk result (λ file. (file.dependency ≡ dependency_of (plain_lines (line_views lines.now)))
+            × (fault_of Lax (plain_lines (line_views lines.now)) ≡ None)) }
+        ensures retracts { IfOk result (λ file. file.retracts ≡ lax_retracts_of (plain_lines (line_views lines.now))) }
+        ensures fault { IfErr result (ReportsFault Lax (plain_lines (line_views lines.now))) }
+    {
+        let retracts = retractions_of_lines(alloc, names, lines)?;
+        let mut said = DepLines::over(alloc, Required::own(Vec::new(alloc)));
+        let read = read_document(alloc, names, lines, &mut said);
+        let DepLines { fields, .. } = said;
+        let file = DepFile::of_fields(fields, retracts);
+        match read {
+            Ok(()) => Ok(file),
+            Err(fault) => Err(fault),
+        }
+    }
+
+    /// Reads the bytes of a file: the result is that of `Doc::parse` and then `read`, but no document is kept. A
+    /// pass of its own reads the retractions.
     ///
     /// A fault of the text comes first, on whichever line it is: the bytes are read to the end even if a directive
     /// before it is at fault. `NoMemory` may replace any result, when memory runs out.
@@ -98,12 +118,33 @@ impl DepFile {
         ensures fault { IfErr result (IsBytesFault Lax bytes.now) }
     {
         let mut reader = LineReader::new(alloc, bytes)?;
+        DepFile::read_twice(alloc, names, &mut reader, bytes)
+    }
+
+    /// Reads the lines of a file as `read_bytes` does. No line of `reader`, which reads the same bytes, must have been
+    /// read.
+    fn read_twice(
+        alloc: Global,
+        names: &mut KnownNames,
+        reader: &mut LineReader,
+        bytes: &[u8],
+    ) -> Result<DepFile, BytesFault>
+        requires start { HasRead reader.old [] }
+        requires source { reader.old.source ≡ bytes.now }
+        ensures ok { IfOk result (λ file. IsDependencyIn bytes.now file.dependency) }
+        ensures retracts { IfOk result (λ file. AreRetractedIn bytes.now file.retracts) }
+        ensures fault { IfErr result (IsBytesFault Lax bytes.now) }
+    {
+        let retracts = retractions_of_bytes(alloc, names, bytes)?;
         let pairs = Vec::with_capacity(alloc, bytes.len() / BYTES_OF_ONE)?;
         let mut said = DepLines::over(alloc, Required::own(pairs));
-        read_all(alloc, names, &mut reader, &mut said)?;
-        let retracts = retractions_of_bytes(alloc, names, bytes)?;
+        let read = read_all(alloc, names, reader, &mut said);
         let DepLines { fields, .. } = said;
-        Ok(DepFile::of_fields(fields, retracts))
+        let file = DepFile::of_fields(fields, retracts);
+        match read {
+            Ok(()) => Ok(file),
+            Err(fault) => Err(fault),
+        }
     }
 
     /// Reads the bytes of a file as `read_bytes` does, but puts the requirements to the end of a list of modules. On a

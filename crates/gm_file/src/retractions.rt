@@ -4,6 +4,7 @@
 ghost use Rattle.std.specs.Prelude.{◌≡◌, ◌∷◌, ◌++◌, [], IfErr, IfOk, List, OnOk};
 ghost use Rattle.std.specs.Option.{option_map, option_to_list};
 ghost use Rattle.gm_syntax.specs.Document.{Line as LineOf};
+ghost use Rattle.gm_syntax.specs.LineReading.{HasRead};
 ghost use Rattle.gm_syntax.specs.LineViews.{line_of, line_views, plain, plain_lines};
 ghost use Rattle.gm_syntax.specs.Tokens.{words_of};
 ghost use Rattle.gm_syntax.specs.Words.{Word};
@@ -164,13 +165,27 @@ pub(crate) fn retractions_of_bytes(
     ensures fault { IfErr result (IsBytesFault Lax bytes.now) }
 {
     let mut reader = LineReader::new(alloc, bytes)?;
+    retractions_left(alloc, names, &mut reader)
+}
+
+/// The intervals that the lines of a file retract, of which none must have been read.
+fn retractions_left<'a>(
+    alloc: Global,
+    names: &mut KnownNames,
+    reader: &mut LineReader<'a>,
+) -> Result<Vec<Interval>, BytesFault>
+    requires { HasRead reader.old [] }
+    ensures ok { IfOk result (λ intervals. AreRetractedIn reader.old.source (interval_views intervals.items)) }
+    ensures fault { IfErr result (IsBytesFault Lax reader.old.source) }
+{
     let mut said = Retractions::none(alloc);
     loop {
         let Some(line) = reader.next()? else {
             let Retractions { intervals, .. } = said;
             return Ok(intervals);
         };
-        said.read_line(alloc, names, &line)?;
+        let read = said.read_line(alloc, names, &line);
         reader.recycle(line);
+        read?;
     }
 }

@@ -1,26 +1,7 @@
-use Rattle.std.proofs.Common.{ℕ, List, Err, subst, ◌∙◌}
-use Rattle.std.proofs.lemmas.Result.{err_from_is_err_and}
-use Rattle.gm_syntax.specs.LineViews.{line_of, plain_lines}
-use Rattle.gm_syntax.specs.Parsed.{IsParsedAs}
-use Rattle.gm_file.specs.Directives.{Lax}
-use Rattle.gm_file.proofs.DepReading.{misread-syntax}
-use Rattle.gm_file.proofs.Retracted.{retracted-sofar}
 use Rattle.gm_file.proofs.retractions.retractions_of_bytes.Goals as goal
 
-pub returns-in_err-line-clause-fault : goal.returns-in_err-line-clause-fault
-returns-in_err-line-clause-fault c =
-    let so = c.loop-said.invariant.read in
-    let fault = c.in_err-line.field-0.0 in
-    let parsed : IsParsedAs c.args.bytes.now (Err fault) =
-    subst (λ (source : List ℕ). IsParsedAs source (Err fault)) (c.in_err-line.ensures.source ∙ c.loop-said.invariant.source ∙ c.in_ok-reader.ensures.source) (c.in_err-line.ensures.next so.0 so.1) in
-    let p = err_from_is_err_and c.from_residual-in_err-line.result c.from_residual-in_err-line.ensures.1 in
-    rw (p.1, p.2) (misread-syntax Lax c.args.bytes.now fault parsed)
+pub returns-clause-ok : goal.returns-clause-ok
+returns-clause-ok c = rw c.in_ok-reader.ensures.source at c.retractions_left.ensures.ok
 
-pub loop-said-preserved : goal.loop-said-preserved
-loop-said-preserved c =
-    let so = c.loop-said.invariant.read in
-    rw c.recycle.ensures (record {
-      source = c.in_ok-line.ensures.source ∙ c.loop-said.invariant.source;
-      read = retracted-sofar c.next.new.self so.0 (line_of c.in-Some.line) c.read_line.new.self (rw c.in-Some.is at c.in_ok-line.ensures.next so.0 so.1)
-          (c.in_ok-read_line.ensures (plain_lines so.0) so.2);
-    })
+pub returns-clause-fault : goal.returns-clause-fault
+returns-clause-fault c = rw c.in_ok-reader.ensures.source at c.retractions_left.ensures.fault

@@ -1,6 +1,6 @@
 use Rattle.std.proofs.Common.{◌≡◌, length}
 use Rattle.gm_file.proofs.Retracted.{AreRetractedSofar}
-use Rattle.gm_file.proofs.retractions.retractions_of_bytes.Given as goal
+use Rattle.gm_file.proofs.retractions.retractions_left.Given as goal
 
 abbrev pub invariant-loop-said : goal.invariant-loop-said
 invariant-loop-said l = record {
