@@ -1,6 +1,6 @@
 use Rattle.gm_syntax.specs.Tokens.{words_of}
 use Rattle.gm_file.specs.Directives.{ends_of}
-use Rattle.gm_file.proofs.Retracted.{ends-read, ends-refused}
+use Rattle.gm_file.proofs.Retracted.{ends-read}
 use Rattle.gm_file.proofs.retractions.interval_in.Goals as goal
 
 pub returns-in-Ok : goal.returns-in-Ok
