@@ -1,11 +1,11 @@
 //! The table of distinct modules, in the order in which each was first put in.
 
-ghost use Rattle.std.specs.Prelude.{ℕ, ◌≡◌, ◌<◌, ◌≤◌, ◌++◌, ◌∷◌, ◌↔◌, [], IfOk, IfSome, IsTrue, Ok, OnErr, OnOk, Some, length, slice_get};
+ghost use Rattle.std.specs.Prelude.{ℕ, ◌≡◌, ◌<◌, ◌≤◌, ◌↔◌, [], IfOk, IfSome, IsTrue, Ok, OnErr, Some, length, slice_get};
 ghost use Rattle.std.specs.List.{IsDistinct};
 ghost use Rattle.gm_name.specs.ModuleVersion.{pair_eq};
 ghost use Rattle.gm_name.specs.Readings.{PairReading};
 ghost use Rattle.gm_name_table.specs.Index.{pair_tag};
-ghost use Rattle.gm_name_table.specs.Lists.{IsAbsent, IsOneMoreAtMost};
+ghost use Rattle.gm_name_table.specs.Lists.{IsOneMoreAtMost};
 
 use crate::index::{Index, pair_tag, texts_tag};
 use gm_name::{MOST_PLACES, ModVer, NoMemory};
