@@ -2,7 +2,6 @@
 
 ghost use Rattle.std.specs.Prelude.{◌≡◌, ◌≤◌, ◌↔◌, IfOk, IfSome, IsErrOf, Ok};
 ghost use Rattle.gm_name.specs.Fingerprint.{fingerprint};
-ghost use Rattle.gm_name.specs.Fit.{Fits};
 ghost use Rattle.gm_name.specs.Kept.{IsWithinRoom, KeepsAll, none_kept};
 ghost use Rattle.gm_name.specs.KeptNames.{count_of};
 ghost use Rattle.gm_name.specs.Path.{IsPath};
