@@ -1,6 +1,6 @@
 //! A dependency's lines: the ones of a document, or those of bytes, read in one pass, so that no document is kept.
 
-ghost use Rattle.std.specs.Prelude.{◌≡◌, ◌≤◌, ◌∷◌, ◌++◌, [], ℕ, List, None, Option, IfErr, IsTrue, OnOk, codes, length};
+ghost use Rattle.std.specs.Prelude.{◌≡◌, ◌≤◌, ◌∷◌, ◌++◌, [], List, None, Option, IfErr, IsTrue, OnOk, codes, length};
 ghost use Rattle.std.specs.Option.{option_map};
 ghost use Rattle.gm_syntax.specs.Document.{Line as LineOf};
 ghost use Rattle.gm_syntax.specs.LineReading.{HasRead, Unread};
