@@ -81,14 +81,38 @@ Exit status:
 After an error standard error says what is wrong, unless it is a failed write.
 'gomod <COMMAND> --help' explains the errors of each command.";
 
-/// The long text about `fmt`.
-pub(crate) const FMT_ABOUT: &str = "\
+/// What help says of a command or of an argument.
+#[derive(Clone, Copy)]
+pub(crate) struct Help {
+    /// What short help says.
+    pub(crate) short: &'static str,
+    /// What long help says.
+    pub(crate) long: &'static str,
+}
+
+/// What short and long help say alike.
+macro_rules! alike {
+    ($text:literal) => {
+        Help {
+            short: $text,
+            long: $text,
+        }
+    };
+}
+
+/// What help says that `fmt` does.
+pub(crate) const FMT_ABOUT: Help = Help {
+    short: "Print a go.mod file, formatted",
+    long: "\
 Prints a go.mod file, formatted: single spaces between words, a tab before each line of a block,
 and at most one blank line in a row. Only the syntax is checked, not the directives. The file
-itself is not changed.";
+itself is not changed.",
+};
 
-/// The long text about `edit`.
-pub(crate) const EDIT_ABOUT: &str = "\
+/// What help says that `edit` does.
+pub(crate) const EDIT_ABOUT: Help = Help {
+    short: "Apply operations to a go.mod file and print the result",
+    long: "\
 Applies operations to the go.mod file of a main module, one after the other, and prints the
 result, formatted. The file itself is not changed. If the file or an operation is faulty, only
 the error is reported.
@@ -106,9 +130,10 @@ The operations are those of go mod edit, without the dash in front:
   retract=VERSION                       retract a version
   retract=[LOW,HIGH]                    retract the versions from LOW to HIGH
   dropretract=VERSION                   no longer retract it
-  dropretract=[LOW,HIGH]                no longer retract them";
+  dropretract=[LOW,HIGH]                no longer retract them",
+};
 
-/// The long text about a query on a module graph: what it prints, and where the go.mod files come from.
+/// What long help says of a query on a module graph: what it prints, and where the go.mod files come from.
 macro_rules! query_about {
     ($prints:literal) => {
         concat!(
@@ -123,81 +148,94 @@ folder of the main module adds them to the cache, and their hashes to its go.sum
     };
 }
 
-/// The long text about `graph`.
-pub(crate) const GRAPH_ABOUT: &str = query_about!(
-    "\
+/// What help says that `graph` does.
+pub(crate) const GRAPH_ABOUT: Help = Help {
+    short: "Print the module graph",
+    long: query_about!(
+        "\
 Prints the module graph of a main module, as go mod graph does: a line for each requirement, with
 the module that has it, a space, and the module that it requires, in ascending order. The main
 module is printed as its path, any other as PATH@VERSION."
-);
+    ),
+};
 
-/// The long text about `list`.
-pub(crate) const LIST_ABOUT: &str = query_about!(
-    "\
+/// What help says that `list` does.
+pub(crate) const LIST_ABOUT: Help = Help {
+    short: "Print the build list",
+    long: query_about!(
+        "\
 Prints the build list of a main module by minimal version selection, as go list -m all does: the
 path of the main module, then PATH VERSION of each other module, in the order of their paths. If
 a module is replaced, ' => ' and its replacement follow."
-);
+    ),
+};
 
-/// The long text about `chain`.
-pub(crate) const CHAIN_ABOUT: &str = query_about!(
-    "\
+/// What help says that `chain` does.
+pub(crate) const CHAIN_ABOUT: Help = Help {
+    short: "Print a shortest chain of requirements to a module",
+    long: query_about!(
+        "\
 Prints a shortest chain of requirements from the main module to the version of a module that is
 in the build list, one module on each line: the path of the main module, then PATH@VERSION. A
 main module at go 1.17 or later requires its indirect dependencies itself, so the chain to one of
 them has two lines. It is not the chain of imports that go mod why prints."
-);
+    ),
+};
 
-/// The long text about `versions`.
-pub(crate) const VERSIONS_ABOUT: &str = "\
+/// What help says that `versions` does.
+pub(crate) const VERSIONS_ABOUT: Help = Help {
+    short: "Print the versions of a module, from standard input or --proxy",
+    long: "\
 Prints the path of a module and its versions on one line, in ascending order, each once.
 
 Without --proxy the list of versions is read from standard input, one at the start of each line,
 and all of them are printed. With --proxy it is that of the proxy folders, and the versions that
 the go.mod of the latest one retracts are left out. Pseudo-versions, versions that don't fit the
-path and other words are skipped.";
+path and other words are skipped.",
+};
 
 /// The help of FILE of `fmt`.
-pub(crate) const FMT_FILE: &str = "The go.mod file to format, such as go.mod or /dev/stdin";
+pub(crate) const FMT_FILE: Help = alike!("The go.mod file to format, such as go.mod or /dev/stdin");
 
 /// The help of FILE of `edit`.
-pub(crate) const EDIT_FILE: &str = "The go.mod file to edit, such as go.mod or /dev/stdin";
+pub(crate) const EDIT_FILE: Help = alike!("The go.mod file to edit, such as go.mod or /dev/stdin");
 
 /// The help of OP.
-pub(crate) const OPERATION: &str = "An operation, such as go=1.22, without a dash in front";
+pub(crate) const OPERATION: Help = alike!("An operation, such as go=1.22, without a dash in front");
 
 /// The help of PATH.
-pub(crate) const PATH: &str = "The path of the module";
+pub(crate) const PATH: Help = alike!("The path of the module");
 
 /// The help of `--proxy`.
-pub(crate) const PROXY: &str = "\
+pub(crate) const PROXY: Help = Help {
+    short: "\
 Folders with the files of modules, <DIR>[,DIR|DIR..]: after ',' the next one
-is searched if a file is absent, after '|' also if the one before it fails";
-
-/// The long help of `--proxy`.
-pub(crate) const PROXY_LONG: &str = "\
+is searched if a file is absent, after '|' also if the one before it fails",
+    long: "\
 Folders with the files of modules, <DIR>[,DIR|DIR..]: after ',' the next one is searched
 if a file is absent, after '|' also if the one before it fails. Each has the layout of a
 GOPROXY server, as ~/go/pkg/mod/cache/download has.
 
 Each DIR is taken as it stands: 'file://' and 'https://' don't make it a URL, and only a
-shell replaces '~', at the start of a word. In a wrong folder every module is Missing.";
+shell replaces '~', at the start of a word. In a wrong folder every module is Missing.",
+};
 
 /// The help of `--mod`.
-pub(crate) const MOD: &str = "The go.mod file of the main module";
+pub(crate) const MOD: Help = alike!("The go.mod file of the main module");
 
 /// The help of `--sum`.
-pub(crate) const SUM: &str =
-    "The go.sum file to check go.mod files against; by default none is checked";
+pub(crate) const SUM: Help = alike!(
+    "The go.sum file to check go.mod files against; by default none is checked"
+);
 
 /// The help of `--after`.
-pub(crate) const AFTER: &str = "Print only the rows after the row of this module";
+pub(crate) const AFTER: Help = alike!("Print only the rows after the row of this module");
 
 /// The help of `--limit`.
-pub(crate) const LIMIT: &str = "Print at most N rows, from 1 to 4294967295";
+pub(crate) const LIMIT: Help = alike!("Print at most N rows, from 1 to 4294967295");
 
 /// The help of `--retracted`.
-pub(crate) const RETRACTED: &str = "Print retracted versions too";
+pub(crate) const RETRACTED: Help = alike!("Print retracted versions too");
 
 /// What the help of a command ends with.
 #[derive(Clone, Copy)]

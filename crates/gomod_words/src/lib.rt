@@ -18,6 +18,7 @@ mod given;
 mod help;
 pub mod laws;
 mod query;
+mod table;
 mod typed;
 mod usage;
 

@@ -1,13 +1,16 @@
-use Rattle.std.proofs.Common.{refl}
+use Rattle.std.proofs.Common.{◌≡◌, ◌∙◌, ap}
+use Rattle.std.proofs.lemmas.Result.{IfOk-weaker}
+use Rattle.clap.specs.Built.{AddsInTurn, AddsSubcommand}
+use Rattle.clap.specs.Simple.{App, app_of}
+use Rattle.gomod_words.proofs.Commands.{all_commands, all_names, commands_add}
+use Rattle.gomod_words.specs.Made.{with_commands}
+use Rattle.gomod_words.specs.Usage.{gomod_app}
 use Rattle.gomod_words.proofs.command.gomod_command.Goals as goal
 
 pub returns : goal.returns
 returns c =
-    c.with_command.ensures _ _ refl
-    (c.with_command-program-5.ensures _ _ refl
-    (c.with_command-program-4.ensures _ _ refl
-    (c.with_command-program-3.ensures _ _ refl
-    (c.with_command-program-2.ensures _ _ refl
-    (c.with_command-program.ensures _ _ refl c.bare_gomod.ensures c.fmt_command.ensures)
-    c.edit_command.ensures) c.graph_command.ensures) c.list_command.ensures) c.chain_command.ensures)
-    c.versions_command.ensures
+    let bare = c.bare_gomod.result in
+    IfOk-weaker c.subcommands.result (AddsInTurn AddsSubcommand bare c.in_ok-commands.commands.items) (λ program. app_of program ≡ gomod_app)
+    (λ program adds. commands_add bare program _ all_names c.in_ok-commands.ensures adds
+    ∙ ap (λ (app : App). with_commands app all_names) c.bare_gomod.ensures ∙ all_commands)
+    c.subcommands.ensures
