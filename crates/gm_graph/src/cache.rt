@@ -22,9 +22,10 @@ pub(crate) mod naming;
 pub(crate) mod paths;
 pub(crate) mod reading;
 pub(crate) mod summary;
+pub(crate) mod turn_history;
 pub(crate) mod visit;
 
-ghost use Rattle.std.specs.Prelude.{◌≡◌, ◌≤◌, ◌<◌, ◌+◌, ◌++◌, ◌∷◌, [], List, IfOk, OnOk, OnErr, IsSome, None, Some, Err, length, take, true};
+ghost use Rattle.std.specs.Prelude.{◌≡◌, ◌≤◌, ◌<◌, ◌+◌, ◌++◌, [], List, IfOk, OnOk, OnErr, IsSome, None, Some, Err, length, take, true};
 ghost use Rattle.std.specs.Option.{option_and_then, option_copied};
 ghost use Rattle.gm_name.specs.ModuleVersion.{ModuleVersion};
 ghost use Rattle.gm_name.specs.OptionalPlaces.{place_in};
@@ -42,10 +43,9 @@ ghost use Rattle.gm_graph.specs.FileTable.{PutsFile, HasReplacing, NotesFiles, r
 ghost use Rattle.gm_graph.specs.Held.{HoldsSome};
 ghost use Rattle.gm_graph.specs.Lent.{lent_modules};
 ghost use Rattle.gm_graph.specs.Summaries.{Grows, IsKept, IsWithinList, at_span, summary_reading};
-ghost use Rattle.gm_graph.specs.Turns.{turn};
 
 use crate::cache::class::Class;
-use crate::cache::depth::{Depth, Turn};
+use crate::cache::depth::Depth;
 use crate::cache::file_table::FileTable;
 use crate::cache::lent::Lent;
 use crate::cache::load_fault::LoadFault;
@@ -53,6 +53,7 @@ use crate::cache::naming::{file_name, is_askable};
 use crate::cache::paths::is_right_path;
 use crate::cache::reading::{ListedReading, read_answer};
 use crate::cache::summary::{Kept, ListSpan, Summary, summary_of};
+use crate::cache::turn_history::TurnHistory;
 use crate::cache::visit::{Required, Visit};
 use gm_file::MainFile;
 use gm_name::{KnownNames, ModVer, NoMemory};
@@ -81,7 +82,7 @@ pub struct Cache<'a> {
     /// What was read of each file, or what is wrong with it.
     files: FileTable,
     /// The turns whose requirements were requested, in order.
-    turns: Vec<Turn>,
+    turns: TurnHistory,
     /// The name of the file of the last request that was refused.
     failed: Option<FileName>,
     ghost first_within: { first ≤ length modules.numbers },
@@ -151,23 +152,6 @@ fn summarize(
     }
 }
 
-/// Appends a turn to the list.
-fn push_turn(
-    alloc: Global,
-    turns: &mut Vec<Turn>,
-    vertex: &ModVer,
-    depth: Depth,
-) -> Result<(), NoMemory>
-    ensures ok { OnOk result (turns.new.items ≡ turns.old.items ++ turn vertex.now depth ∷ []) }
-    ensures err { OnErr result (turns.new.items ≡ turns.old.items) }
-{
-    turns.push(Turn {
-        vertex: vertex.copy(alloc)?,
-        depth,
-    })?;
-    Ok(())
-}
-
 impl<'a> Cache<'a> {
     ghost use Rattle.std.specs.Borrow.{sem};
     ghost use Rattle.std.specs.List.{IsDistinct};
@@ -206,7 +190,7 @@ impl<'a> Cache<'a> {
             modules,
             first,
             files,
-            turns: Vec::new(alloc),
+            turns: TurnHistory::new(),
             failed: None,
         })
     }
@@ -414,12 +398,7 @@ impl<'a> Cache<'a> {
         ensures* after { sem 𝓛 (Visits self.entry (F.state files.old) (F.state files.new) number depth result) }
     {
         let place = self.known_at(files, number)?;
-        push_turn(
-            self.alloc,
-            &mut self.turns,
-            self.modules.module(number),
-            depth,
-        )?;
+        self.turns = self.turns.and(self.modules.module(number), &depth);
         Ok(self.said(number, depth, place))
     }
 
@@ -435,13 +414,11 @@ impl<'a> Cache<'a> {
         LoadFault::of_request(fault, failed)
     }
 
-    /// The modules in the order of their numbers, and the list of turns. The rest of the cache is dropped.
-    pub(crate) fn into_parts(self) -> (Vec<ModVer>, Vec<Turn>)
-        ensures modules { result.0.items ≡ table_in self.entry }
-        ensures distinct { IsDistinct pair_eq result.0.items }
-        ensures few { length result.0.items ≤ 4294967295 }
-        ensures turns { result.1.items ≡ turns_in self.entry }
+    /// The modules in the order of their numbers. The rest of the cache is dropped.
+    pub(crate) fn into_modules(self) -> Vec<ModVer>
+        ensures modules { result.items ≡ table_in self.entry }
+        ensures few { length result.items ≤ 4294967295 }
     {
-        (self.modules.into_modules(), self.turns)
+        self.modules.into_modules()
     }
 }

@@ -1,6 +1,6 @@
 //! Loading a module graph: a loop over the worklist, and the assembly of the result.
 
-ghost use Rattle.std.specs.Prelude.{◌≡◌, ◌≤◌, ◌++◌, [], Contains, IfOk, OnOk, Err, length, map};
+ghost use Rattle.std.specs.Prelude.{◌≡◌, ◌<◌, ◌≤◌, ◌++◌, [], All, Contains, IfOk, OnOk, Err, length, map};
 ghost use Rattle.std.specs.Option.{option_copied};
 ghost use Rattle.gm_store.specs.Asked.{name_of, names_in};
 ghost use Rattle.gm_store.specs.States.{HasServed};
@@ -17,7 +17,7 @@ ghost use Rattle.gm_graph_select.specs.Order.{HaveSame, IsAscending};
 ghost use Rattle.gm_graph_select.specs.StepOrder.{step_eq};
 ghost use Rattle.std.specs.BTreeMap as tree;
 ghost use Rattle.std.specs.List.{IsDistinct};
-ghost use Rattle.gm_graph.specs.Builder.{IsBuilder, edges_in, sources_in};
+ghost use Rattle.gm_graph.specs.Builder.{IsBuilder, edges_in, sources_in, turn_of, turns_of};
 ghost use Rattle.gm_graph.specs.Building.{fault};
 ghost use Rattle.gm_graph.specs.FileLists.{HaveFiles};
 ghost use Rattle.gm_graph.specs.Run.{AreTooMany, AskedInTurn, IsDue, IsRead, LoadingNeeds, run_of};
@@ -28,7 +28,7 @@ use crate::cache::Cache;
 use crate::cache::depth::Turn;
 use crate::cache::load_fault::LoadFault;
 use crate::followed::Followed;
-use crate::graph_builder::{GraphBuilder, fault_list};
+use crate::graph_builder::{GraphBuilder, NumberedTurn, fault_list};
 use crate::loaded::Loaded;
 use crate::rows::build_list;
 use crate::starting::first_graph;
@@ -72,13 +72,32 @@ fn visit_all<F: Asks>(
     Ok(())
 }
 
+/// The turns of a worklist whose numbers are those of these modules. The worklist is dropped.
+fn turn_list(
+    alloc: Global,
+    modules: &[ModVer],
+    turns: Vec<NumberedTurn>,
+) -> Result<Vec<Turn>, AllocError>
+    requires { All (λ one. one.number < length modules.now) turns.items }
+    ensures { IfOk result (λ list. list.items ≡ map (turn_of modules.now) turns.items) }
+{
+    let mut list = Vec::with_capacity(alloc, turns.len())?;
+    for one in turns.as_slice() {
+        let vertex = modules[one.number as usize].copy(alloc)?;
+        list.push(Turn {
+            vertex,
+            depth: one.depth,
+        })?;
+    }
+    Ok(list)
+}
+
 /// The loaded graph of a builder whose numbers are those of these modules: the vertices are sorted, and the build list
 /// is made of them.
 fn assemble(
     alloc: Global,
     main: &MainFile,
     modules: Vec<ModVer>,
-    turns: Vec<Turn>,
     builder: GraphBuilder,
 ) -> Result<Loaded, AllocError>
     requires few { length modules.items ≤ 4294967295 }
@@ -95,9 +114,15 @@ fn assemble(
     ensures edges { IfOk result (λ loaded. HaveSame (edges_in modules.items builder) loaded.edges) }
     ensures rows { IfOk result (λ loaded.
         IsBuildList (main_of main.now).path (main_of main.now).replaces (among loaded.edges) loaded.rows) }
-    ensures turns { IfOk result (λ loaded. loaded.turns ≡ turns.items) }
+    ensures turns { IfOk result (λ loaded. loaded.turns ≡ turns_of modules.items builder) }
 {
-    let GraphBuilder { edges, faults, .. } = builder;
+    let GraphBuilder {
+        turns,
+        edges,
+        faults,
+        ..
+    } = builder;
+    let turns = turn_list(alloc, modules.as_slice(), turns)?;
     let faults = fault_list(alloc, faults)?;
     let graph = Graph::new(alloc, modules, edges.lists, edges.sources)?;
     let rows = build_list(alloc, main, &graph)?;
@@ -140,6 +165,6 @@ pub fn load<F: Asks>(
     let mut builder = first_graph(alloc, main, &cache)?;
     visit_all(&mut cache, files, &mut builder)?;
     // What was read of the files is dropped here, before the sorted vertices take their memory.
-    let (modules, turns) = cache.into_parts();
-    Ok(assemble(alloc, main, modules, turns, builder)?)
+    let modules = cache.into_modules();
+    Ok(assemble(alloc, main, modules, builder)?)
 }

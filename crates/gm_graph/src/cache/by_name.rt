@@ -13,13 +13,13 @@ ghost use Rattle.gm_graph.specs.Reading.{file_of};
 ghost use Rattle.gm_graph.specs.Refusals.{refused_in};
 ghost use Rattle.gm_graph.specs.Turns.{turn};
 
+use crate::cache::Cache;
 use crate::cache::class::Class;
 use crate::cache::depth::Depth;
 use crate::cache::lent::Lent;
 use crate::cache::load_fault::LoadFault;
 use crate::cache::naming::file_name;
 use crate::cache::visit::Visit;
-use crate::cache::{Cache, push_turn};
 use gm_name::{ModVer, NoMemory};
 use gm_store::{Asks, FileName};
 
@@ -121,7 +121,7 @@ impl<'a> Cache<'a> {
     /// Returns the requirements of a vertex, without the excluded ones, and appends the vertex and the depth to the
     /// list of turns. Nothing else changes. For a vertex with a fault `name` is `None`, and there are no requirements;
     /// for any other vertex it is the name of its file, as `known` gives it. The only refusal is `NoMemory`, after which
-    /// the cache has the same turns.
+    /// the cache has the same turns; none comes, since the list of turns takes no memory.
     pub fn lend(
         &mut self,
         vertex: &ModVer,
@@ -135,7 +135,7 @@ impl<'a> Cache<'a> {
     {
         let place = self.lender(vertex, name);
         let span = self.files.span_of(place);
-        push_turn(self.alloc, &mut self.turns, vertex, depth)?;
+        self.turns = self.turns.and(vertex, &depth);
         Ok(Lent::at(&self.modules, span))
     }
 }

@@ -5,7 +5,7 @@ use Rattle.gm_name.specs.ModuleVersion.{ModuleVersion}
 use Rattle.gm_file.specs.Main.{main_of}
 use Rattle.gm_store.specs.Asked.{Name, name_of}
 use Rattle.gm_store.proofs.Serving.{nothing_served}
-use Rattle.gm_graph.specs.Builder.{IsBuilder, edges_in, sources_in}
+use Rattle.gm_graph.specs.Builder.{IsBuilder, edges_in, sources_in, turns_of}
 use Rattle.gm_graph.specs.Run.{AreTooMany, IsDue, IsRead, LoadingNeeds, Run}
 use Rattle.gm_graph.specs.Visiting.{IsOpenedIn}
 use Rattle.gm_graph_select.specs.declared.step.Step.TheVariants.{Of}
@@ -64,9 +64,9 @@ assemble-requires g c =
     let opened = c.in_ok-visit_all.ensures.opened in
     let cache = c.visit_all.new.cache in
     let builder = c.visit_all.new.builder in
-    let same = sym c.into_parts-modules.ensures.modules in
+    let same = sym c.into_modules-modules.ensures.modules in
     record {
-      few = c.into_parts-modules.ensures.few;
+      few = c.into_modules-modules.ensures.few;
       builder = subst (λ (ms : List ModuleVersion). IsBuilder ms builder) same opened.is_builder;
       rooted = subst (λ (ms : List ModuleVersion). IsRooted (among (edges_in ms builder))) same (gathered_rooted _ cache builder opened);
       once = subst (λ (ms : List ModuleVersion). IsDistinct step_eq (sources_in ms builder)) same opened.once;
@@ -87,8 +87,8 @@ returns-clause-loaded g c =
     loads main sums pairs cache builder opened
     (asks_by main sums c.in_ok-cache.cache pairs c.in_ok-cache.ensures.main c.in_ok-cache.ensures.sums c.visit_all.ensures.asks)
     loaded told.main told.faults told.ordered told.ascending
-    (subst (λ (ms : List ModuleVersion). HaveSame (edges_in ms builder) loaded.edges) c.into_parts-modules.ensures.modules told.edges)
-    told.rows (told.turns ∙ c.into_parts-modules.ensures.turns)
+    (subst (λ (ms : List ModuleVersion). HaveSame (edges_in ms builder) loaded.edges) c.into_modules-modules.ensures.modules told.edges)
+    told.rows (told.turns ∙ ap (λ (ms : List ModuleVersion). turns_of ms builder) c.into_modules-modules.ensures.modules ∙ sym opened.lent)
 
 pub returns-in_err-builder-clause-served : goal.returns-in_err-builder-clause-served
 returns-in_err-builder-clause-served g c = nothing_served _ (g.F.Asks.state c.args.files.now)

@@ -25,7 +25,7 @@ returns c =
         refl,
         λ _. tt,
         record {
-          turns = c.in_ok-push_turn.ensures.ok;
+          turns = c.and-self.ensures;
           holds = holds_listed cache _ refl refl (λ _. refl) ([], sym (append-nil cache.files.files.items)) refl;
           modules = refl;
           files = refl;

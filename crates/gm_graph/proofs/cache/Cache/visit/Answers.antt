@@ -21,7 +21,7 @@ returns g c =
             (holds_listed mid _ refl refl (λ _. refl) ([], sym (append-nil mid.files.files.items)) refl) refl
             before.asked after.asked c.args.number c.args.depth c.said.result c.requires.vertex
             c.in_ok-place.ensures.knows stays c.in_ok-place.ensures.sound known.count refl
-            (subst (λ (x : ModuleVersion). c.push_turn.new.turns.items ≡ mid.turns.items ++ turn x c.args.depth ∷ []) c.module.ensures.module c.in_ok-push_turn.ensures.ok)
+            (subst (λ (x : ModuleVersion). c.and-self.result.items ≡ mid.turns.items ++ turn x c.args.depth ∷ []) c.module.ensures.module c.and-self.ensures)
             c.said.ensures.distinct
             (c.said.ensures.visit after.asked c.in_ok-place.ensures.knows),
       ),
