@@ -178,7 +178,6 @@ impl<'a> Cache<'a> {
         ensures turns { IfOk result (λ cache. turns_in cache ≡ []) }
         ensures files { IfOk result (λ cache. file_count cache ≡ 0) }
     {
-        let names = names_for(alloc, main)?;
         let files = FileTable::new(alloc, main)?;
         let modules = first_modules(alloc, main)?;
         let first = modules.len();
@@ -186,7 +185,7 @@ impl<'a> Cache<'a> {
             alloc,
             main,
             sums,
-            names,
+            names: names_for(alloc, main)?,
             modules,
             first,
             files,
