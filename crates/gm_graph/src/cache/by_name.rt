@@ -76,11 +76,11 @@ impl<'a> Cache<'a> {
         ensures served { HasServed (F.may_answer files.old) (F.may_answer files.new)
             (F.state files.old) (F.state files.new) }
     {
-        let name = file_name(self.alloc, self.main, vertex)?;
         let number = self.number(vertex)?;
+        let name = file_name(self.alloc, self.main, vertex)?;
         match self.known_at(files, number) {
             Ok(place) => Ok(self.known_by(number, place, name)),
-            Err(fault) => Err(self.load_fault(fault)),
+            Err(fault) => Err(LoadFault::of_request(fault, Some(name))),
         }
     }
 
