@@ -1,16 +1,17 @@
-use Rattle.std.proofs.Common.{◌≡◌, ◌∙◌, Err, Option, sym, ap, append-nil, refl, subst}
+use Rattle.std.proofs.Common.{◌≡◌, ◌∙◌, [], Err, Option, sym, ap, append-nil, inl, refl, subst}
 use Rattle.gm_name.specs.ModuleVersion.{ModuleVersion}
 use Rattle.gm_name.specs.OptionalPlaces.{place_in}
-use Rattle.gm_name_table.specs.Listed.{modules_of}
+use Rattle.gm_name_table.specs.Listed.{NumberedList, modules_of}
 use Rattle.gm_file.specs.Main.{Main, main_of}
 use Rattle.gm_store.specs.Asked.{Name, name_of}
+use Rattle.gm_store.proofs.Serving.{nothing_served}
 use Rattle.gm_store_sums.specs.Sums.{Sums}
 use Rattle.std.specs.Option.{option_and_then}
 use Rattle.gm_graph.specs.FileTable.{replacing_place}
 use Rattle.gm_graph.specs.Summaries.{IsKept, summary_reading}
 use Rattle.gm_store.specs.declared.files.AskFault.TheVariants as ask
 use Rattle.gm_graph.specs.Cached.{HasFileAt, main_in, module_numbered, table_in}
-use Rattle.gm_graph.specs.Reading.{IsFileReading, file_of}
+use Rattle.gm_graph.specs.Reading.{IsFileReading, file_of, is_askable}
 use Rattle.gm_graph.proofs.AskedFile.{asks_file}
 use Rattle.gm_graph.proofs.Growing.{number_stays}
 use Rattle.gm_graph.proofs.Keeping.{any_err, holds_after, holds_failed, holds_itself, knows_still, lent_after, none_refused_for, sound_same}
@@ -146,3 +147,102 @@ returns-in-Err-clause-device g c = λ e. let device : c.in-Err.fault ≡ ask.Dev
   not_asked c.args.self.now (g.F.Asks.state c.args.files.now).asked (name_of c.in_ok-name.name) c.requires.knows (nothing_kept c.args.self.now c.args.number (name_of c.in_ok-name.name) c.module.result.now c.module.ensures.distinct c.requires.vertex
       c.in_ok-name.ensures c.module.ensures.module (sym c.in_default.ensures) (sym c.in_default-replacing_place.ensures)),
 )
+
+-- ---- nothing was asked for
+
+pub returns-in-Some-clause-numbered : goal.returns-in-Some-clause-numbered
+returns-in-Some-clause-numbered g c = ([], sym (append-nil (table_in c.args.self.now)))
+
+pub returns-in-Some-clause-asks : goal.returns-in-Some-clause-asks
+returns-in-Some-clause-asks g c = inl refl
+
+pub returns-in-Some-clause-served : goal.returns-in-Some-clause-served
+returns-in-Some-clause-served g c = nothing_served _ (g.F.Asks.state c.args.files.now)
+
+pub returns-in_err-name-clause-numbered : goal.returns-in_err-name-clause-numbered
+returns-in_err-name-clause-numbered g c = ([], sym (append-nil (table_in c.args.self.now)))
+
+pub returns-in_err-name-clause-asks : goal.returns-in_err-name-clause-asks
+returns-in_err-name-clause-asks g c = inl refl
+
+pub returns-in_err-name-clause-served : goal.returns-in_err-name-clause-served
+returns-in_err-name-clause-served g c = nothing_served _ (g.F.Asks.state c.args.files.now)
+
+pub returns-then-not-is_askable-clause-numbered : goal.returns-then-not-is_askable-clause-numbered
+returns-then-not-is_askable-clause-numbered g c = ([], sym (append-nil (table_in c.args.self.now)))
+
+pub returns-then-not-is_askable-clause-asks : goal.returns-then-not-is_askable-clause-asks
+returns-then-not-is_askable-clause-asks g c = inl refl
+
+pub returns-then-not-is_askable-clause-served : goal.returns-then-not-is_askable-clause-served
+returns-then-not-is_askable-clause-served g c = nothing_served _ (g.F.Asks.state c.args.files.now)
+
+pub returns-then-not-is_askable-clause-place : goal.returns-then-not-is_askable-clause-place
+returns-then-not-is_askable-clause-place g c =
+    ap is_askable (sym (c.in_ok-name.ensures ∙ ap (file_of (main_in c.args.self.now)) c.module.ensures.module))
+    ∙ sym c.is_askable.ensures ∙ c.if-not-is_askable.true
+
+pub note-requires-clause-askable : goal.note-requires-clause-askable
+note-requires-clause-askable g c =
+    ap is_askable (sym (c.in_ok-name.ensures ∙ ap (file_of (main_in c.args.self.now)) c.module.ensures.module))
+    ∙ sym c.is_askable.ensures ∙ c.if-not-is_askable.false
+
+pub returns-in_err-note-clause-numbered : goal.returns-in_err-note-clause-numbered
+returns-in_err-note-clause-numbered g c = c.note.ensures.holds.numbered
+
+pub returns-in_err-note-clause-asks : goal.returns-in_err-note-clause-asks
+returns-in_err-note-clause-asks g c = inl refl
+
+pub returns-in_err-note-clause-served : goal.returns-in_err-note-clause-served
+returns-in_err-note-clause-served g c = nothing_served _ (g.F.Asks.state c.args.files.now)
+
+pub returns-in-Some-replacing_place-clause-numbered : goal.returns-in-Some-replacing_place-clause-numbered
+returns-in-Some-replacing_place-clause-numbered g c = c.note.ensures.holds.numbered
+
+pub returns-in-Some-replacing_place-clause-asks : goal.returns-in-Some-replacing_place-clause-asks
+returns-in-Some-replacing_place-clause-asks g c = inl refl
+
+pub returns-in-Some-replacing_place-clause-served : goal.returns-in-Some-replacing_place-clause-served
+returns-in-Some-replacing_place-clause-served g c = nothing_served _ (g.F.Asks.state c.args.files.now)
+
+-- ---- the file was asked for
+
+pub keep-requires-clause-file : goal.keep-requires-clause-file
+keep-requires-clause-file g c =
+    let cache = c.args.self.now in
+    let read = c.read_file.new.self in
+    c.in_ok-name.ensures ∙ ap (file_of (main_in cache)) (c.module.ensures.module
+    ∙ sym (number_stays (table_in cache) (table_in read) c.args.number c.read_file.ensures.holds.numbered c.requires.vertex))
+    ∙ ap (λ m. file_of (main_of m) (module_numbered read c.args.number)) (sym c.read_file.ensures.lent.main)
+
+pub returns-in_ok-keep-in-Ok-clause-numbered : goal.returns-in_ok-keep-in-Ok-clause-numbered
+returns-in_ok-keep-in-Ok-clause-numbered g c =
+    let begins = c.read_file.ensures.holds.numbered in
+    (begins.0, ap (λ (list : NumberedList). list.modules) c.keep.ensures.modules ∙ begins.1)
+
+pub returns-in_ok-keep-in-Ok-clause-served : goal.returns-in_ok-keep-in-Ok-clause-served
+returns-in_ok-keep-in-Ok-clause-served g c = c.read_file.ensures.served
+
+pub returns-in_err-keep-in-Ok-clause-numbered : goal.returns-in_err-keep-in-Ok-clause-numbered
+returns-in_err-keep-in-Ok-clause-numbered g c =
+    let begins = c.read_file.ensures.holds.numbered in
+    (begins.0, ap (λ (list : NumberedList). list.modules) c.keep.ensures.modules ∙ begins.1)
+
+pub returns-in_err-keep-in-Ok-clause-served : goal.returns-in_err-keep-in-Ok-clause-served
+returns-in_err-keep-in-Ok-clause-served g c = c.read_file.ensures.served
+
+pub returns-in-Err-clause-numbered : goal.returns-in-Err-clause-numbered
+returns-in-Err-clause-numbered g c = c.read_file.ensures.holds.numbered
+
+pub returns-in-Err-clause-served : goal.returns-in-Err-clause-served
+returns-in-Err-clause-served g c = c.read_file.ensures.served
+
+pub returns-in-Err-clause-asks : goal.returns-in-Err-clause-asks
+returns-in-Err-clause-asks g c =
+    asks_file (main_in c.args.self.now) (g.F.Asks.state c.args.files.now) (g.F.Asks.state c.read_file.new.files) (module_numbered c.args.self.now c.args.number) (name_of c.in_ok-name.name)
+    (c.in_ok-name.ensures ∙ ap (file_of (main_in c.args.self.now)) c.module.ensures.module) (sym c.is_askable.ensures ∙ c.if-not-is_askable.false) c.read_file.ensures.asks
+
+pub returns-in-Err-clause-lent : goal.returns-in-Err-clause-lent
+returns-in-Err-clause-lent g c =
+    let lent = c.read_file.ensures.lent in
+    record { main = lent.main; sums = lent.sums; turns = lent.turns }

@@ -1,10 +1,32 @@
-use Rattle.std.proofs.Common.{Err, List, ap, arith, subst, sym}
+use Rattle.std.proofs.Common.{◌≡◌, ◌∙◌, [], Contains, Err, List, append-nil, ap, arith, inl, map, subst, sym}
 use Rattle.gm_name.specs.ModuleVersion.{ModuleVersion}
 use Rattle.gm_graph.specs.Lent.{lent_table}
-use Rattle.gm_graph.specs.Builder.{turns_of}
-use Rattle.gm_graph.specs.Turns.{OverflowsWith}
+use Rattle.gm_graph.specs.Builder.{turn_of, turns_of}
+use Rattle.gm_graph.specs.Turns.{AddsAll, OverflowsWith}
+use Rattle.gm_graph.specs.declared.cache.depth.Depth.{Depth}
+use Rattle.gm_graph.specs.declared.cache.depth.Turn.{Turn}
 use Rattle.gm_graph.proofs.AddingAll.{adds_number, keeps_both, overflow_at}
 use Rattle.gm_graph.proofs.graph_builder.GraphBuilder.add_all.Goals as goal
+
+-- The same turns have a turn more for each of no modules.
+adds_none : (old new : List Turn) (d : Depth) → new ≡ old → AddsAll old new [] d
+adds_none old new d same = record {
+  extends = ([], same ∙ sym (append-nil old));
+  each = λ z h. absurd (omega (arith, h.1));
+  only = λ one h. inl (subst (λ (t : List Turn). Contains t one) same h);
+}
+
+pub loop-number-init : goal.loop-number-init
+loop-number-init c =
+    let modules = lent_table c.args.list in
+    let made = c.in_ok-make_marks.ensures in
+    record {
+      builder = made.builder modules (omega (arith, c.module_count.ensures.count)) c.requires;
+      made = omega (arith, made.made, c.module_count.ensures.count);
+      adds = adds_none (turns_of modules c.args.self.now) (turns_of modules c.make_marks.new.self) c.args.depth
+          (ap (map (turn_of modules)) made.turns);
+      graph = made.graph;
+    }
 
 pub loop-number-preserved : goal.loop-number-preserved
 loop-number-preserved c =
