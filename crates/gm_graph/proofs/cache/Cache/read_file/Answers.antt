@@ -1,9 +1,12 @@
-use Rattle.std.proofs.Common.{inr, refl}
-use Rattle.gm_store.specs.Asked.{name_of}
+use Rattle.std.proofs.Common.{◌≡◌, ◌∙◌, append-nil, inl, inr, refl, subst}
+use Rattle.gm_name_table.specs.Listed.{modules_of}
+use Rattle.gm_store.specs.Asked.{Reply, name_of, reply_of}
 use Rattle.gm_store.proofs.Serving.{request_served}
 use Rattle.gm_graph.specs.Cached.{main_in, sums_in, table_in}
+use Rattle.gm_graph.specs.Reading.{IsFileReading}
+use Rattle.gm_graph.specs.Summaries.{summary_reading}
 use Rattle.gm_graph.proofs.HeldFiles.{grown_some}
-use Rattle.gm_graph.proofs.Keeping.{holds_grown, holds_itself}
+use Rattle.gm_graph.proofs.Keeping.{holds_grown, holds_itself, none_refused_for}
 use Rattle.gm_graph.proofs.PuttingPlaces.{notes_if_more}
 use Rattle.gm_graph.proofs.cache.Cache.read_file.Goals as goal
 
@@ -40,3 +43,29 @@ pub invariant_of-self-clause-notes : goal.invariant_of-self-clause-notes
 invariant_of-self-clause-notes g c =
     let old = c.args.self.now in
     notes_if_more (main_in old) (table_in old) _ old.files c.summarize.ensures.grows.1.numbered old.places_within old.notes
+
+pub returns-clause-reading : goal.returns-clause-reading
+returns-clause-reading g c =
+    let (reply, _, _, adds) = c.in_ok-ask.ensures.answered in
+    let cache = c.args.self.now in
+    let name = name_of c.args.name.now in
+    let same : reply_of c.last.result.now ≡ reply = c.last.ensures.value (g.F.Asks.state c.args.files.now).asked (name, reply) adds in (
+      reply,
+      adds,
+      subst (λ (r : Reply). IsFileReading (sums_in cache) name r (summary_reading (modules_of c.summarize.new.modules) c.in_ok-kept.kept)) same
+          (c.in_ok-kept.ensures.reading c.last.ensures.within_limit),
+    )
+
+pub returns-clause-refused : goal.returns-clause-refused
+returns-clause-refused g c = c.in_ok-ask.ensures.refused
+
+pub returns-in_err-ask-clause-asks : goal.returns-in_err-ask-clause-asks
+returns-in_err-ask-clause-asks g c = inl c.in_err-ask.ensures.unanswered
+
+pub returns-in_err-kept-clause-device : goal.returns-in_err-kept-clause-device
+returns-in_err-kept-clause-device g c = λ e. absurd (cc (rw e at c.from_residual-in_err-kept.ensures.1))
+
+pub returns-in_err-kept-clause-refused : goal.returns-in_err-kept-clause-refused
+returns-in_err-kept-clause-refused g c =
+    none_refused_for _ c.from_residual-in_err-kept.result (g.F.Asks.state c.args.files.now).refused _ _ c.from_residual-in_err-kept.ensures.1
+    (c.in_ok-ask.ensures.refused ∙ append-nil _)
