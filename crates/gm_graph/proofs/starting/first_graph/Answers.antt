@@ -1,4 +1,4 @@
-use Rattle.std.proofs.Common.{◌∙◌, [], Err, List, ap, subst, sym}
+use Rattle.std.proofs.Common.{◌∙◌, [], Err, List, ap, refl, subst, sym}
 use Rattle.gm_name.specs.ModuleVersion.{ModuleVersion}
 use Rattle.gm_graph.specs.Lent.{lent_modules, lent_table}
 use Rattle.gm_file.specs.Main.{Main, is_pruned_by}
@@ -9,6 +9,7 @@ use Rattle.gm_graph.specs.Visiting.{IsFirstGraph}
 use Rattle.gm_graph.specs.declared.edge_lists.EdgeLists.{EdgeLists}
 use Rattle.gm_graph.proofs.AddFaults.{add_too_many}
 use Rattle.gm_graph.proofs.FileLists.{have_files_first}
+use Rattle.gm_graph.proofs.Keeping.{none_refused}
 use Rattle.gm_graph.proofs.FirstGraph.{is_first, required_in, too_many_first}
 use Rattle.gm_graph.proofs.starting.first_graph.Goals as goal
 
@@ -49,3 +50,18 @@ returns-clause-first c =
     required.ensures.modules c.add_all.new.self made c.first_depth.result
     none.edges none.faults (c.first_depth.ensures ∙ ap (λ (main : Main). depth_by (is_pruned_by main.go)) (sym c.requires))
     turned.adds turned.graph last.builder last.turns last.edges last.sources last.faults)
+
+-- ---- memory ran out
+
+pub returns-in_err-builder-clause-too_many : goal.returns-in_err-builder-clause-too_many
+returns-in_err-builder-clause-too_many c = λ e. absurd (cc (rw e at c.from_residual.ensures.1))
+
+pub returns-in_err-builder-clause-not_refused : goal.returns-in_err-builder-clause-not_refused
+returns-in_err-builder-clause-not_refused c = sym (none_refused c.from_residual.result [] [] c.from_residual.ensures.1 refl)
+
+pub returns-in_err-add_edges-clause-too_many : goal.returns-in_err-add_edges-clause-too_many
+returns-in_err-add_edges-clause-too_many c = λ e. absurd (cc (rw e at c.from_residual-in_err-add_edges.ensures.1))
+
+pub returns-in_err-add_edges-clause-not_refused : goal.returns-in_err-add_edges-clause-not_refused
+returns-in_err-add_edges-clause-not_refused c =
+    sym (none_refused c.from_residual-in_err-add_edges.result [] [] c.from_residual-in_err-add_edges.ensures.1 refl)
