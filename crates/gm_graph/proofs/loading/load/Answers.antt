@@ -1,4 +1,4 @@
-use Rattle.std.proofs.Common.{◌∙◌, ◌++◌, Contains, Err, List, append-nil, sym, ap, subst}
+use Rattle.std.proofs.Common.{◌∙◌, ◌++◌, Contains, Err, List, append-nil, refl, sym, ap, subst}
 use Rattle.std.specs.List.{IsDistinct}
 use Rattle.std.specs.Option.{option_copied}
 use Rattle.gm_name.specs.ModuleVersion.{ModuleVersion}
@@ -14,6 +14,7 @@ use Rattle.gm_graph_select.specs.Graph.{IsEdgeEnd, among}
 use Rattle.gm_graph_select.specs.Order.{HaveSame}
 use Rattle.gm_graph_select.specs.StepOrder.{step_eq}
 use Rattle.gm_graph.proofs.Dues.{none_in_turn, refused_same}
+use Rattle.gm_graph.proofs.Keeping.{none_refused}
 use Rattle.gm_graph.proofs.Loads.{gathered_ends, gathered_rooted, loads, too_many_first}
 use Rattle.gm_graph.proofs.Stepping.{asks_by, by_run}
 use Rattle.gm_graph.proofs.loading.load.Goals as goal
@@ -95,3 +96,32 @@ returns-in_err-builder-clause-served g c = nothing_served _ (g.F.Asks.state c.ar
 
 pub returns-in_err-cache-clause-served : goal.returns-in_err-cache-clause-served
 returns-in_err-cache-clause-served g c = nothing_served _ (g.F.Asks.state c.args.files.now)
+
+-- ---- memory ran out
+
+pub returns-in_err-cache-clause-too_many : goal.returns-in_err-cache-clause-too_many
+returns-in_err-cache-clause-too_many g c = λ e. absurd (cc (rw e at c.from_residual.ensures.1))
+
+pub returns-in_err-cache-clause-device : goal.returns-in_err-cache-clause-device
+returns-in_err-cache-clause-device g c = λ name e. absurd (cc (rw e at c.from_residual.ensures.1))
+
+pub returns-in_err-cache-clause-refused : goal.returns-in_err-cache-clause-refused
+returns-in_err-cache-clause-refused g c =
+    let refused = (g.F.Asks.state c.args.files.now).refused in
+    none_refused c.from_residual.result refused refused c.from_residual.ensures.1 refl
+
+pub returns-in_err-assemble-clause-too_many : goal.returns-in_err-assemble-clause-too_many
+returns-in_err-assemble-clause-too_many g c = λ e. absurd (cc (rw e at c.from_residual-in_err-assemble.ensures.1))
+
+pub returns-in_err-assemble-clause-device : goal.returns-in_err-assemble-clause-device
+returns-in_err-assemble-clause-device g c = λ name e. absurd (cc (rw e at c.from_residual-in_err-assemble.ensures.1))
+
+pub returns-in_err-assemble-clause-refused : goal.returns-in_err-assemble-clause-refused
+returns-in_err-assemble-clause-refused g c =
+    none_refused c.from_residual-in_err-assemble.result (g.F.Asks.state c.args.files.now).refused (g.F.Asks.state c.visit_all.new.files).refused
+    c.from_residual-in_err-assemble.ensures.1 (c.in_ok-visit_all.ensures.refused ∙ append-nil _)
+
+-- ---- the graph is loaded
+
+pub returns-clause-refused : goal.returns-clause-refused
+returns-clause-refused g c = c.in_ok-visit_all.ensures.refused
