@@ -18,9 +18,9 @@ nowhere_noted [] number place none e = cc e
 nowhere_noted (first ∷ places) number place none e = cc none
 
 -- No place is noted in a table without places.
-none_noted : (main : Main) (modules : List ModuleVersion) (files : FileTable) → length files.places.items ≡ 0
+notes_nothing : (main : Main) (modules : List ModuleVersion) (files : FileTable) → length files.places.items ≡ 0
     → NotesFiles main modules files
-none_noted main modules files none number place e = absurd (nowhere_noted files.places.items number place none e)
+notes_nothing main modules files none number place e = absurd (nowhere_noted files.places.items number place none e)
 
 pub invariant_of-result-clause-holds_some : goal.invariant_of-result-clause-holds_some
 invariant_of-result-clause-holds_some c =
@@ -29,7 +29,7 @@ invariant_of-result-clause-holds_some c =
 
 pub invariant_of-result-clause-notes : goal.invariant_of-result-clause-notes
 invariant_of-result-clause-notes c =
-    none_noted (main_of c.args.main.now) c.in_ok-modules.modules.modules c.in_ok-files.files c.in_ok-files.ensures.places
+    notes_nothing (main_of c.args.main.now) c.in_ok-modules.modules.modules c.in_ok-files.files c.in_ok-files.ensures.places
 
 pub returns-clause-knows : goal.returns-clause-knows
 returns-clause-knows c =
