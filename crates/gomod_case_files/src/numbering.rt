@@ -1,6 +1,7 @@
 //! Texts that are repeated with a number in them.
 
 use std::alloc::{AllocError, Global};
+use std::str;
 
 /// The placeholder of the number in a text that is repeated.
 pub(crate) const NUMBER: &str = "{n}";
@@ -10,11 +11,9 @@ pub(crate) const MOST: usize = 16_777_217;
 
 /// A number of lines or bytes.
 pub(crate) fn count_of(text: &str) -> Option<usize> {
-    let count = text.parse::<usize>().ok()?;
-    if (1..=MOST).contains(&count) {
-        Some(count)
-    } else {
-        None
+    match text.parse::<usize>() {
+        Ok(count @ 1..=MOST) => Some(count),
+        _ => None,
     }
 }
 
@@ -24,26 +23,28 @@ pub(crate) fn count_before(text: &str, mark: char) -> Option<(usize, &str)> {
     Some((count_of(count)?, rest))
 }
 
+/// How often bytes say that a text is repeated, and the text: this mark, a number, a `*`, and the text.
+pub(crate) fn repetition<'a>(bytes: &'a [u8], mark: &str) -> Option<(usize, &'a str)> {
+    let text = str::from_utf8(bytes).ok()?;
+    count_before(text.strip_prefix(mark)?, '*')
+}
+
 /// How many digits a number has.
 fn digit_count(number: usize) -> u32 {
     number.checked_ilog10().unwrap_or(0).saturating_add(1)
 }
 
-/// A number with leading zeros, as long as the greatest one.
-fn padded(alloc: Global, number: usize, greatest: usize) -> Result<String, AllocError> {
-    let width = digit_count(greatest) as usize;
-    format!(in alloc; "{number:0width$}")
-}
-
-/// A text with a number in it.
+/// A text with a number at each of these places, with leading zeros, as long as the greatest one.
 pub(crate) fn numbered(
     alloc: Global,
     text: &str,
+    place: &str,
     number: usize,
     greatest: usize,
 ) -> Result<String, AllocError> {
-    let digits = padded(alloc, number, greatest)?;
-    text.replace(alloc, NUMBER, digits.as_str())
+    let width = digit_count(greatest) as usize;
+    let digits = format!(in alloc; "{number:0width$}")?;
+    text.replace(alloc, place, digits.as_str())
 }
 
 /// The parts of a text between the places of its number.

@@ -56,8 +56,10 @@ pub(crate) fn header(line: &str) -> Option<&str> {
 
 /// The mode that octal digits name.
 fn mode_of(text: &str) -> Option<u32> {
-    let mode = u32::from_str_radix(text, 8).ok()?;
-    if mode <= 0o777 { Some(mode) } else { None }
+    match u32::from_str_radix(text, 8) {
+        Ok(mode @ 0..=0o777) => Some(mode),
+        _ => None,
+    }
 }
 
 /// What the words of a header after the name say.
@@ -108,7 +110,12 @@ fn is_place(name: &str) -> bool {
         .strip_prefix("../")
         .or(name.strip_prefix('/'))
         .unwrap_or(name);
-    rest.split('/').all(|part| !matches!(part, "" | "." | ".."))
+    for part in rest.split('/') {
+        if matches!(part, "" | "." | "..") {
+            return false;
+        }
+    }
+    true
 }
 
 /// The name and the kind in the words of a header.
@@ -331,8 +338,8 @@ fn numbered_file(
     greatest: usize,
 ) -> Result<CaseFile, AllocError> {
     let text = str::from_utf8(file.bytes()).unwrap_or("");
-    let text = numbered(alloc, text, number, greatest)?;
-    let name = numbered(alloc, file.name.as_str(), number, greatest)?;
+    let text = numbered(alloc, text, NUMBER, number, greatest)?;
+    let name = numbered(alloc, file.name.as_str(), NUMBER, number, greatest)?;
     Ok(CaseFile {
         name,
         content: Content::Bytes(text.into_bytes()),

@@ -8,15 +8,15 @@ use crate::faults::{
 };
 use crate::numbering::{count_before, push_numbered};
 use crate::pieces::{CasePiece, header, take_line};
-use crate::sizes::{has_place, has_sizes};
+use crate::sizes::{PLACE, SIZES};
 use crate::words::words_of_line;
 use std::alloc::Global;
 
 /// The line of a case that is cut at every byte.
 const EVERY_BYTE: &str = "% every byte";
 
-/// The line of a command that is run over real files alone.
-const FILES_ONLY: &str = "% files";
+/// What follows the mark in the line of a command that is run over real files alone.
+const FILES_ONLY: &str = " files";
 
 /// Takes the lines of a case.
 #[derive(Drop)]
@@ -46,7 +46,7 @@ impl<'a> Reader<'a> {
     fn take_lines(&mut self, lines: &'a str) -> Result<(), CaseFault> {
         let title = self.case.line;
         for (index, line) in lines.split('\n').enumerate() {
-            if index > 0 || !has_sizes(line) {
+            if index > 0 || !line.starts_with(SIZES) {
                 self.take(title.saturating_add(index).saturating_add(1), line)?;
             }
         }
@@ -59,7 +59,7 @@ impl<'a> Reader<'a> {
 
     /// Takes the next line.
     fn take(&mut self, number: usize, line: &'a str) -> Result<(), CaseFault> {
-        if has_place(line) {
+        if line.contains(PLACE) {
             return Err(CaseFault::Line(number, NO_SIZE));
         }
         if let Some(text) = header(line) {
@@ -128,49 +128,42 @@ fn begin_run<'a>(
     Ok(runs.push(Run::new(alloc, number, command, words))?)
 }
 
-/// Takes a line of the expected result of a command.
+/// Takes a line of the expected result of a command. Only a command line has a report, a status, opened files and a
+/// way to run.
 fn take_line_of_run<'a>(
     alloc: Global,
     run: &mut Run<'a>,
     number: usize,
     line: &'a str,
 ) -> Result<(), CaseFault> {
-    if let Some(rest) = line.strip_prefix('>') {
-        return take_written(alloc, &mut run.out, number, rest);
+    let mut chars = line.chars();
+    let mark = chars.next();
+    let rest = chars.as_str();
+    match mark {
+        Some('>') => take_written(alloc, &mut run.out, number, rest),
+        Some('!' | '?' | '@' | '%') if !run.is_command_line() => {
+            Err(CaseFault::Line(number, UNDER_CALL))
+        }
+        Some('!') => take_written(alloc, &mut run.report, number, rest),
+        Some('@') => take_opened(alloc, &mut run.opened, number, rest),
+        Some('?') => take_status(&mut run.status, number, rest),
+        Some('%') if rest == FILES_ONLY => mark_once(&mut run.is_over_files_only, number),
+        _ => Err(CaseFault::Line(number, NO_MARK)),
     }
-    if is_about_command_line(line) && !run.is_command_line() {
-        return Err(CaseFault::Line(number, UNDER_CALL));
-    }
-    if let Some(rest) = line.strip_prefix('!') {
-        return take_written(alloc, &mut run.report, number, rest);
-    }
-    if let Some(rest) = line.strip_prefix('@') {
-        return take_opened(alloc, run, number, rest);
-    }
-    if let Some(text) = line.strip_prefix("? ") {
-        return take_status(run, number, text);
-    }
-    if line == FILES_ONLY {
-        return mark_once(&mut run.is_over_files_only, number);
-    }
-    Err(CaseFault::Line(number, NO_MARK))
 }
 
-/// Whether a line has one of the marks that only command lines have: of a report, a status, an opened file, or a way to
-/// run.
-fn is_about_command_line(line: &str) -> bool {
-    matches!(line.as_bytes().first(), Some(b'!' | b'?' | b'@' | b'%'))
-}
-
-/// Takes the status of a command.
-fn take_status(run: &mut Run<'_>, number: usize, text: &str) -> Result<(), CaseFault> {
-    let Ok(status) = text.parse::<u8>() else {
+/// Takes the text after the mark of the status of a command.
+fn take_status(status: &mut Option<u8>, number: usize, rest: &str) -> Result<(), CaseFault> {
+    let Some(text) = rest.strip_prefix(' ') else {
+        return Err(CaseFault::Line(number, NO_MARK));
+    };
+    let Ok(given) = text.parse::<u8>() else {
         return Err(CaseFault::Line(number, BAD_STATUS));
     };
-    if run.status.is_some() {
+    if status.is_some() {
         return Err(CaseFault::Line(number, SAID_BEFORE));
     }
-    run.status = Some(status);
+    *status = Some(given);
     Ok(())
 }
 
@@ -190,18 +183,14 @@ fn take_written(
     number: usize,
     rest: &str,
 ) -> Result<(), CaseFault> {
-    if rest.is_empty() {
-        return Ok(take_line(text, "")?);
-    }
-    if let Some(line) = rest.strip_prefix(' ') {
-        return Ok(take_line(text, line)?);
-    }
     if let Some(line) = rest.strip_prefix("\\ ") {
         return push_unescaped(alloc, text, number, line);
     }
-    match rest.strip_prefix('*') {
-        Some(rest) => take_repeated(alloc, text, number, rest),
-        None => Err(CaseFault::Line(number, NO_MARK)),
+    let mut chars = rest.chars();
+    match chars.next() {
+        None | Some(' ') => Ok(take_line(text, chars.as_str())?),
+        Some('*') => take_repeated(alloc, text, number, chars.as_str()),
+        _ => Err(CaseFault::Line(number, NO_MARK)),
     }
 }
 
@@ -222,21 +211,18 @@ fn take_repeated(
 /// Takes the text after the mark of a file that a command opens.
 fn take_opened<'a>(
     alloc: Global,
-    run: &mut Run<'a>,
+    opened: &mut Option<Vec<&'a str>>,
     number: usize,
     rest: &'a str,
 ) -> Result<(), CaseFault> {
-    if let Some(opened) = &run.opened {
-        if opened.is_empty() || rest.is_empty() {
-            return Err(CaseFault::Line(number, SAID_BEFORE));
-        }
+    let is_first = opened.is_none();
+    let names = opened.get_or_insert(Vec::new(alloc));
+    if !is_first && (names.is_empty() || rest.is_empty()) {
+        return Err(CaseFault::Line(number, SAID_BEFORE));
     }
-    let opened = run.opened.get_or_insert(Vec::new(alloc));
-    if rest.is_empty() {
-        return Ok(());
+    match rest.strip_prefix(' ') {
+        Some(name) => Ok(names.push(name)?),
+        None if rest.is_empty() => Ok(()),
+        None => Err(CaseFault::Line(number, NO_MARK)),
     }
-    let Some(name) = rest.strip_prefix(' ') else {
-        return Err(CaseFault::Line(number, NO_MARK));
-    };
-    Ok(opened.push(name)?)
 }

@@ -1,7 +1,7 @@
 //! Cases as text, each of which may be run at several sizes.
 
 use crate::faults::{BAD_SIZES, BEFORE_TITLE, CaseFault, NO_CASE};
-use crate::numbering::count_of;
+use crate::numbering::{count_of, numbered};
 use crate::reading::is_passed;
 use std::alloc::{AllocError, Global};
 
@@ -12,10 +12,10 @@ const TITLE: &str = "=== ";
 const NEXT_TITLE: &str = "\n=== ";
 
 /// What the line directly below a title begins with, if the case is run at several sizes.
-const SIZES: &str = "% sizes ";
+pub(crate) const SIZES: &str = "% sizes ";
 
 /// What every place of a size begins with.
-const PLACE: &str = "{N";
+pub(crate) const PLACE: &str = "{N";
 
 /// The place of the size.
 const SIZE: &str = "{N}";
@@ -133,26 +133,12 @@ impl<'a> CaseText<'a> {
 
     /// Its text at a size.
     pub fn at(&self, alloc: Global, size: usize) -> Result<String, AllocError> {
-        let text = placed(alloc, self.text, SIZE, size)?;
-        let text = placed(alloc, text.as_str(), BEFORE, size.saturating_sub(1))?;
-        placed(alloc, text.as_str(), AFTER, size.saturating_add(1))
+        let text = numbered(alloc, self.text, SIZE, size, size)?;
+        let before = size.saturating_sub(1);
+        let text = numbered(alloc, text.as_str(), BEFORE, before, before)?;
+        let after = size.saturating_add(1);
+        numbered(alloc, text.as_str(), AFTER, after, after)
     }
-}
-
-/// A text with a number at each of these places.
-fn placed(alloc: Global, text: &str, place: &str, number: usize) -> Result<String, AllocError> {
-    let digits = format!(in alloc; "{number}")?;
-    text.replace(alloc, place, digits.as_str())
-}
-
-/// Whether a text has a place of a size.
-pub(crate) fn has_place(text: &str) -> bool {
-    text.contains(PLACE)
-}
-
-/// Whether a line has the sizes of a case, if it is directly below the title.
-pub(crate) fn has_sizes(line: &str) -> bool {
-    line.starts_with(SIZES)
 }
 
 /// The cases of a text, in order, each as text.

@@ -1,10 +1,10 @@
 //! The words of a command.
 
-use crate::escapes::Unescaper;
+use crate::escapes::push_escaped;
 use crate::faults::{BAD_WORDS, CaseFault};
-use crate::numbering::{count_before, numbered};
+use crate::numbering::{NUMBER, numbered, repetition};
 use std::alloc::{AllocError, Global};
-use std::str;
+use std::{mem, str};
 
 /// Where a byte is in the words.
 #[derive(Clone, Copy)]
@@ -28,7 +28,10 @@ enum WordState {
 struct Cutter {
     alloc: Global,
     words: Vec<Vec<u8>>,
-    word: Unescaper,
+    /// The bytes so far of the word that has begun.
+    word: Vec<u8>,
+    /// Those of the escape in it that has begun.
+    escape: Vec<u8>,
     state: WordState,
 }
 
@@ -37,7 +40,8 @@ impl Cutter {
         Cutter {
             alloc,
             words: Vec::new(alloc),
-            word: Unescaper::new(alloc),
+            word: Vec::new(alloc),
+            escape: Vec::new(alloc),
             state: WordState::Between,
         }
     }
@@ -61,11 +65,11 @@ impl Cutter {
             WordState::Between => self.begin(byte),
             WordState::Bare if byte == b' ' => self.end_bare(),
             WordState::Single if byte == b'\'' => self.end(WordState::Closed),
-            WordState::Double if byte == b'"' && !self.word.is_inside_escape() => {
+            WordState::Double if byte == b'"' && self.escape.is_empty() => {
                 self.end(WordState::Closed)
             }
-            WordState::Bare | WordState::Single => self.word.push(byte),
-            WordState::Double => self.word.take(byte),
+            WordState::Bare | WordState::Single => Ok(self.word.push(byte)?),
+            WordState::Double => push_escaped(self.alloc, &mut self.word, &mut self.escape, byte),
             WordState::Closed if byte == b' ' => self.go_on(WordState::Between),
             WordState::Closed | WordState::Invalid => self.go_on(WordState::Invalid),
         }
@@ -79,7 +83,7 @@ impl Cutter {
             b'"' => self.go_on(WordState::Double),
             _ => {
                 self.state = WordState::Bare;
-                self.word.push(byte)
+                Ok(self.word.push(byte)?)
             }
         }
     }
@@ -90,40 +94,30 @@ impl Cutter {
         Ok(())
     }
 
-    /// Ends a word without quotes, which may stand for several.
-    fn end_bare(&mut self) -> Result<(), AllocError> {
-        if self.word.bytes().first() != Some(&b'*') {
-            return self.end(WordState::Between);
-        }
-        let word = self.word.take_bytes();
-        self.push_several(word.as_slice())
-    }
-
     /// Ends a word.
     fn end(&mut self, state: WordState) -> Result<(), AllocError> {
         self.state = state;
-        Ok(self.words.push(self.word.take_bytes())?)
+        Ok(
+            self.words
+                .push(mem::replace(&mut self.word, Vec::new(self.alloc)))?,
+        )
     }
 
-    /// Adds the words that a word stands for which begins with a `*`.
-    fn push_several(&mut self, word: &[u8]) -> Result<(), AllocError> {
-        let Some((count, text)) = several(word) else {
+    /// Ends a word without quotes. One that begins with a `*` and a number stands for so many words.
+    fn end_bare(&mut self) -> Result<(), AllocError> {
+        if self.word.first() != Some(&b'*') {
+            return self.end(WordState::Between);
+        }
+        let Some((count, text)) = repetition(self.word.as_slice(), "*") else {
             return self.go_on(WordState::Invalid);
         };
-        self.state = WordState::Between;
         for index in 0..count {
-            let one = numbered(self.alloc, text, index.saturating_add(1), count)?;
-            self.words.push(one.into_bytes())?;
+            let word = numbered(self.alloc, text, NUMBER, index.saturating_add(1), count)?;
+            self.words.push(word.into_bytes())?;
         }
-        Ok(())
+        self.word.clear();
+        self.go_on(WordState::Between)
     }
-}
-
-/// How many words a word stands for which begins with a `*`, and what each of them is: a number, a second `*`, and a
-/// text.
-fn several(word: &[u8]) -> Option<(usize, &str)> {
-    let text = str::from_utf8(word).ok()?;
-    count_before(text.strip_prefix('*')?, '*')
 }
 
 /// The words of a text in the line of this number.
