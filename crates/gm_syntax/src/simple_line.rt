@@ -6,6 +6,7 @@ ghost use Rattle.gm_syntax.specs.Words.{AllBlank, IsBare};
 ghost use Rattle.gm_syntax.specs.SimpleLines.{bare_at, IsOpeningEnd, IsSimpleText};
 ghost use Rattle.gm_syntax.specs.Scan.{piece_of};
 ghost use Rattle.gm_syntax.specs.declared.scan.Piece.TheVariants as piece;
+ghost use Rattle.gm_syntax.specs.declared.simple_line.SimpleLine.TheVariants as simple;
 ghost use Rattle.gm_syntax.specs.declared.word.Kind.TheVariants as kind;
 
 use crate::place::Place;
@@ -79,25 +80,25 @@ fn line_without_words<'a>(place: Place, text: &str) -> Option<SimpleLine<'a>>
     }
 }
 
-/// This verb as a word of the line at this place, if no block is open and the text after the verb completes an opening.
-/// The verb begins at the byte offset `offset` of the source.
-fn opening_verb<'a>(
+/// The opening of a block of this verb, if no block is open at this place and the text after the verb completes the
+/// opening. The verb begins at the byte offset `offset` of the source.
+fn opening_line<'a>(
     place: Place,
     offset: usize,
     verb: &'a str,
     after_verb: &str,
-) -> Option<Token<'a>>
+) -> Option<SimpleLine<'a>>
     requires in_range { offset < 2 ^ 32 }
     requires number_in_range { place.number < 2 ^ 32 }
     requires bare { IsBare verb.now }
-    ensures outside { IfSome result (λ token. place.inside ≡ false) }
-    ensures verb { IfSome result (λ token. token ≡ bare_at offset place.number verb.now) }
-    ensures end { IfSome result (λ token. IsOpeningEnd after_verb.now) }
+    ensures { IfSome result (λ line. (place.inside ≡ false) × IsOpeningEnd after_verb.now
+        × (line ≡ simple.Opening (bare_at offset place.number verb.now))) }
 {
     if place.is_inside() || !is_opening_end(after_verb) {
         return None;
     }
-    Some(Token::in_source(Kind::Bare, verb, offset as u32, place.number() as u32))
+    let token = Token::in_source(Kind::Bare, verb, offset as u32, place.number() as u32);
+    Some(SimpleLine::Opening(token))
 }
 
 /// The simple line that this text is at this place, if it is one; `None` also for some simple lines. An opening, and a
@@ -120,8 +121,7 @@ pub(crate) fn simple_line<'a>(
         if first != verb || start.len() != text.len() {
             return None;
         }
-        let token = opening_verb(place, offset, first, after_first)?;
-        return Some(SimpleLine::Opening(token));
+        return opening_line(place, offset, first, after_first);
     };
     if ends_line(after_second.as_bytes()) {
         return Some(SimpleLine::Pair(first, second));

@@ -1,8 +1,9 @@
-use Rattle.std.proofs.Common.{ℕ, List, [], ◌∷◌, ◌≡◌, ◌++◌, sym, subst, ◌∙◌, arith}
+use Rattle.std.proofs.Common.{ℕ, List, [], ◌∷◌, ◌≡◌, ◌++◌, ap, sym, subst, ◌∙◌, arith}
 use Rattle.std.proofs.lemmas.Bool.{not-false}
+use Rattle.std.proofs.lemmas.Option.{IfSome_then}
 use Rattle.std.proofs.lemmas.Slice.Eq.{bytes_eq-Decides}
 use Rattle.gm_syntax.specs.Words.{Word}
-use Rattle.gm_syntax.specs.SimpleLines.{bare_word, bare_at, IsTripleText, IsOpeningText}
+use Rattle.gm_syntax.specs.SimpleLines.{bare_word, bare_at, IsTripleText, IsOpeningText, IsSimpleText}
 use Rattle.gm_syntax.proofs.SimpleLines.{Sofar, as_long, sofar_first, sofar_word, sofar_opening, sofar_end}
 use Rattle.gm_syntax.proofs.simple_line.simple_line.Goals as goal
 
@@ -13,14 +14,12 @@ returns-in_default-split_word c =
     let first = c.in-Some.first.now in
     let parts = c.in-Some.ensures.parts in
     let one : Sofar line (bare_word first ∷ []) c.in-Some.after_first.now = sofar_first line start first c.in-Some.after_first.now c.after_blanks-start.ensures c.in-Some.ensures.word parts in
-    let whole = sofar_opening line (bare_word first ∷ []) c.in-Some.after_first.now one c.in_ok-token.ensures.end in
     let begins : line ≡ first ++ (parts.0 ++ c.in-Some.after_first.now) = as_long line start c.after_blanks-start.ensures (omega (arith, c.if-start-text.false)) ∙ parts.2 in
     let same : first ≡ c.args.verb.now = (bytes_eq-Decides first c.args.verb.now).0 (not-false _ (sym c.ne.ensures ∙ c.if-ne.false)) in
-    let opens : IsOpeningText line first = (parts.0 ++ c.in-Some.after_first.now, begins, whole.0, whole.1) in (
-      c.in_ok-token.ensures.outside,
-      subst (λ (v : List ℕ). c.in_ok-token.token ≡ bare_at c.args.offset c.args.place.number v) same c.in_ok-token.ensures.verb,
-      subst (IsOpeningText line) same opens,
-    )
+    IfSome_then c.opening_line.result c.opening_line.ensures (λ made so.
+    let whole = sofar_opening line (bare_word first ∷ []) c.in-Some.after_first.now one so.1 in
+    let opens : IsOpeningText line first = (parts.0 ++ c.in-Some.after_first.now, begins, whole.0, whole.1) in
+    subst (IsSimpleText c.args.place c.args.offset line c.args.verb.now) (sym so.2) (so.0, ap (bare_at c.args.offset c.args.place.number) same, subst (IsOpeningText line) same opens))
 
 pub returns-then-ends_line : goal.returns-then-ends_line
 returns-then-ends_line c =
