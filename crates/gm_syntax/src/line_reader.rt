@@ -13,7 +13,7 @@ ghost use Rattle.gm_syntax.specs.LineReading.{HasRead, IsNextRead, IsRestRead};
 ghost use Rattle.gm_syntax.specs.SimpleLines.{IsSimpleRead};
 
 use crate::fault::{LineSyntaxFault, SyntaxFault, SyntaxKind};
-use crate::line::{Line, classify};
+use crate::line::{Line, classify, keep_memory};
 use crate::place::Place;
 use crate::reader::read_line;
 use crate::simple_line::{SimpleLine, simple_line};
@@ -144,9 +144,8 @@ impl<'a> LineReader<'a> {
     pub fn recycle(&mut self, line: Line<'a>)
         ensures { self.new ≡ self.old }
     {
-        if let Line::Entry(mut words, _) = line {
-            words.clear();
-            self.words = words;
+        if let Line::Entry(words, _) = line {
+            keep_memory(&mut self.words, words);
         }
     }
 
