@@ -11,7 +11,7 @@ ghost use Rattle.gm_graph_select.specs.Chains.{IsChain, IsReached};
 ghost use Rattle.gm_graph_select.specs.Numbering.{IsGraph, graph_edges};
 ghost use Rattle.gm_graph_select.specs.Searching.{IsTracedTo};
 ghost use Rattle.gm_graph_select.specs.declared.step.Step.{Step};
-ghost use Rattle.gm_graph_select.specs.declared.step.Step.TheVariants.{Main, Of};
+ghost use Rattle.gm_graph_select.specs.declared.step.Step.TheVariants.{Of};
 ghost use Rattle.gm_graph_select.specs.declared.chaining.ChainFault.TheVariants.{NoMemory};
 
 use crate::graph::Graph;
@@ -86,15 +86,6 @@ fn walk_back(
     Ok(steps)
 }
 
-/// The chain to the main module, which is that module alone.
-fn main_alone(alloc: Global) -> Result<Vec<Step>, AllocError>
-    ensures { IfOk result (λ steps. steps.items ≡ Main ∷ []) }
-{
-    let mut steps = Vec::new(alloc);
-    steps.push(Step::Main)?;
-    Ok(steps)
-}
-
 /// The chain to a step, or `None` if no edges lead to it from the main module.
 fn chain_to(alloc: Global, graph: &Graph, last: &Step) -> Result<Option<Vec<Step>>, AllocError>
     ensures chain { IfOk result (λ chain. IfSome chain (λ steps.
@@ -102,7 +93,8 @@ fn chain_to(alloc: Global, graph: &Graph, last: &Step) -> Result<Option<Vec<Step
     ensures none { IfOk result (λ chain. IfNone chain (¬ (IsReached (among graph.now.edges) last.now))) }
 {
     let Step::Of(goal) = last else {
-        return Ok(Some(main_alone(alloc)?));
+        // The chain to the main module is that module alone.
+        return Ok(Some(vec![in alloc; Step::Main]?));
     };
     let Some(rank) = graph.rank_of(goal) else {
         return Ok(None);

@@ -180,18 +180,6 @@ impl Search {
     }
 }
 
-/// The visits to the first level, whose only step is the main module.
-fn first_visits(alloc: Global) -> Result<Vec<Visit>, AllocError>
-    ensures { IfOk result (λ visits. visits.items ≡ record { number = 0; before = 0 } ∷ []) }
-{
-    let mut visits = Vec::new(alloc);
-    visits.push(Visit {
-        number: 0,
-        before: 0,
-    })?;
-    Ok(visits)
-}
-
 /// The visits up to that of the goal's predecessor, or `None` if no edges lead from the main module to the goal, whose
 /// rank is given. A level is visited, then the next one, and so on, until an edge leads to the goal or no steps are left.
 pub(crate) fn visits_to(
@@ -206,7 +194,12 @@ pub(crate) fn visits_to(
     ensures none { IfOk result (λ visits. IfNone visits
         (IsReached (graph_edges graph.now) (Of (module_at graph.now.vertices goal)) → ⊥)) }
 {
-    let mut due = first_visits(alloc)?;
+    // The only step of the first level is the main module.
+    let main = Visit {
+        number: 0,
+        before: 0,
+    };
+    let mut due = vec![in alloc; main]?;
     let mut search = Search::new(alloc, graph)?;
     'levels: while !due.is_empty() {
         if search.visit_level(graph, goal, &due)? {

@@ -9,8 +9,8 @@ use Rattle.gm_graph_select.proofs.chaining.chain_to.Goals as goal
 pub returns-in_default-clause-chain : goal.returns-in_default-clause-chain
 returns-in_default-clause-chain c =
     let edges = c.args.graph.now.edges in
-    subst (λ (s : Step). IsChain (among edges) s c.in_ok-main_alone.field-0.items) (sym (main_step c.args.last.now c.in_default.not-Of))
-    (subst (λ (steps : List Step). IsChain (among edges) Main steps) (sym c.in_ok-main_alone.ensures) begins)
+    subst (λ (s : Step). IsChain (among edges) s c.in_ok-vec.field-0.items) (sym (main_step c.args.last.now c.in_default.not-Of))
+    (subst (λ (steps : List Step). IsChain (among edges) Main steps) (sym c.in_ok-vec.ensures.items) begins)
 
 pub returns-in_default-rank_of-clause-none : goal.returns-in_default-rank_of-clause-none
 returns-in_default-rank_of-clause-none c =

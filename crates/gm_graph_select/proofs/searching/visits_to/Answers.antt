@@ -11,7 +11,7 @@ levels-init c =
     let goal = module_at graph.vertices c.args.goal in
     let due = c.in_ok-due.due.items in
     let (lists, is) = c.in_ok-search.ensures in
-    (0, subst (λ (state : State). IsSearchedTo graph goal 0 state due) (sym is) (first_level graph goal lists due c.requires.graph (omega arith) refl c.in_ok-due.ensures))
+    (0, subst (λ (state : State). IsSearchedTo graph goal 0 state due) (sym is) (first_level graph goal lists due c.requires.graph (omega arith) refl c.in_ok-due.ensures.items))
 
 pub levels-smaller : goal.levels-smaller
 levels-smaller c =
