@@ -115,6 +115,5 @@ pub(crate) fn ranked(
 {
     let mut all = with_numbers(alloc, modules, is_vertex)?;
     all.sort_unstable();
-    let ranking = ranking_of(alloc, all, is_vertex.len())?;
-    Ok(ranking)
+    ranking_of(alloc, all, is_vertex.len())
 }
