@@ -1,6 +1,6 @@
 //! The ranks of vertices: their places in ascending order.
 
-ghost use Rattle.std.specs.Prelude.{◌≡◌, ◌↔◌, ◌<◌, ◌≤◌, ◌++◌, ◌∷◌, [], All, Contains, IfOk, OnOk, if◌then◌else◌, length, map, slice_set};
+ghost use Rattle.std.specs.Prelude.{◌≡◌, ◌↔◌, ◌<◌, ◌≤◌, ◌++◌, ◌∷◌, [], All, Contains, IfOk, OnOk, if◌then◌else◌, length, map};
 ghost use Rattle.std.specs.List.{IsDistinct};
 ghost use Rattle.gm_name.specs.ModuleVersion.{ModuleVersion, pair_cmp, pair_eq};
 ghost use Rattle.gm_graph_select.specs.Order.{IsAscending};
@@ -57,31 +57,6 @@ fn with_numbers(
     Ok(all)
 }
 
-impl Ranking {
-    /// No vertices, with room for so many, and a rank for each of so many modules.
-    fn with_capacity(alloc: Global, vertices: usize, modules: usize) -> Result<Ranking, AllocError>
-        ensures vertices { IfOk result (λ ranking. ranking.vertices.items ≡ []) }
-        ensures ranks { IfOk result (λ ranking. length ranking.ranks.items ≡ modules) }
-    {
-        let vertices = Vec::with_capacity(alloc, vertices)?;
-        let ranks = vec![in alloc; 0; modules]?;
-        Ok(Ranking { vertices, ranks })
-    }
-
-    /// Appends a vertex. Its rank is the number of vertices before it.
-    fn push(&mut self, next: Numbered) -> Result<(), AllocError>
-        requires within { next.number < length self.old.ranks.items }
-        requires few { length self.old.vertices.items < 4294967296 }
-        ensures vertices { OnOk result (self.new.vertices.items ≡ self.old.vertices.items ++ next.vertex ∷ []) }
-        ensures ranks { OnOk result (self.new.ranks.items
-            ≡ slice_set self.old.ranks.items next.number (length self.old.vertices.items)) }
-    {
-        self.ranks[next.number as usize] = self.vertices.len() as u32;
-        self.vertices.push(next.vertex)?;
-        Ok(())
-    }
-}
-
 /// The vertices in the order of this list, and their ranks, among those of so many modules.
 fn ranking_of(alloc: Global, all: Vec<Numbered>, modules: usize) -> Result<Ranking, AllocError>
     requires few { length all.items ≤ 4294967295 }
@@ -91,11 +66,13 @@ fn ranking_of(alloc: Global, all: Vec<Numbered>, modules: usize) -> Result<Ranki
     ensures count { IfOk result (λ ranking. length ranking.ranks.items ≡ modules) }
     ensures ranks { IfOk result (λ ranking. All (IsRanked ranking.vertices.items ranking.ranks.items) all.items) }
 {
-    let mut ranking = Ranking::with_capacity(alloc, all.len(), modules)?;
+    let mut vertices = Vec::with_capacity(alloc, all.len())?;
+    let mut ranks = vec![in alloc; 0; modules]?;
     for next in all {
-        ranking.push(next)?;
+        ranks[next.number as usize] = vertices.len() as u32;
+        vertices.push(next.vertex)?;
     }
-    Ok(ranking)
+    Ok(Ranking { vertices, ranks })
 }
 
 /// The modules that are vertices, in ascending order, and their ranks. For n vertices it takes n log n comparisons.

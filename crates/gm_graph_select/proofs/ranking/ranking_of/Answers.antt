@@ -1,4 +1,4 @@
-use Rattle.std.proofs.Common.{◌⊎◌, ◌∷◌, ◌++◌, ◌<◌, ◌∙◌, ℕ, [], List, Contains, ap, arith, inl, inr, length, map, subst, sym}
+use Rattle.std.proofs.Common.{◌≡◌, ◌⊎◌, ◌∷◌, ◌++◌, ◌<◌, ◌∙◌, ℕ, [], List, Contains, ap, arith, inl, inr, length, map, set, subst, sym}
 use Rattle.std.proofs.lemmas.List.{length-set}
 use Rattle.std.proofs.lemmas.List.Elements.{All-contains}
 use Rattle.std.specs.Vec.Iter.{into_iter_items}
@@ -9,10 +9,10 @@ use Rattle.gm_graph_select.proofs.Ascending.{member_head, member_tail}
 use Rattle.gm_graph_select.proofs.Ranks.{fewer, next_ranked, next_vertices}
 use Rattle.gm_graph_select.proofs.ranking.ranking_of.Goals as goal
 
-pub push-requires-clause-few : goal.push-requires-clause-few
-push-requires-clause-few c =
+pub overflow_cast-len : goal.overflow_cast-len
+overflow_cast-len c =
     let so = c.loop-next.invariant in
-    let below = fewer c.args.all.items c.loop-next.ranking.vertices.items (into_iter_items c.loop-next.next-iterator) so.vertices in
+    let below = fewer c.args.all.items c.loop-next.vertices.items (into_iter_items c.loop-next.next-iterator) so.vertices in
     omega (arith, below, c.requires.few)
 
 pub loop-next-preserved : goal.loop-next-preserved
@@ -22,19 +22,21 @@ loop-next-preserved c =
     let next = c.in-Some.next in
     let rest = into_iter_items c.next.new.self in
     let before = c.in-Some.ensures.steps.0 in
-    let vertices = c.loop-next.ranking.vertices.items in
-    let ranks = c.loop-next.ranking.ranks.items in
+    let vertices = c.loop-next.vertices.items in
+    let ranks = c.loop-next.ranks.items in
     let rest_from : (x : Numbered) → Contains (next ∷ rest) x → Contains all x = λ x h. so.rest x (subst (λ (xs : List Numbered). Contains xs x) (sym before) h) in
     let in_all : Contains all next = rest_from next (member_head next rest) in
     let low : next.number < c.args.modules = All-contains (λ (one : Numbered). one.number < c.args.modules) all next c.requires.within in_all in
     let inside : next.number < length ranks = omega (arith, low, so.count) in
+    let size : c.len-in-loop-next.result ≡ length vertices = omega (arith, c.len-in-loop-next.ensures, c.loop-next.vertices.ok) in
+    let made : set ranks next.number c.len-in-loop-next.result ≡ set ranks next.number (length vertices) = ap (λ (n : ℕ). set ranks next.number n) size in
     record {
-      vertices = ap (λ (xs : List ModuleVersion). xs ++ map (λ (one : Numbered). one.vertex) rest) c.in_ok-push.ensures.vertices
+      vertices = ap (λ (xs : List ModuleVersion). xs ++ map (λ (one : Numbered). one.vertex) rest) c.in_ok-push.ensures.items
           ∙ next_vertices all vertices next rest (ap (λ (xs : List Numbered). vertices ++ map (λ (one : Numbered). one.vertex) xs) (sym before) ∙ so.vertices);
-      count = ap (λ (xs : List ℕ). length xs) c.in_ok-push.ensures.ranks ∙ length-set ranks next.number (length vertices) ∙ so.count;
+      count = length-set ranks next.number c.len-in-loop-next.result ∙ so.count;
       rest = λ x h. rest_from x (member_tail next x rest h);
       each = λ x there.
           let kept = next_ranked all vertices ranks next rest c.requires.once in_all inside x there (elim (so.each x there) [ inl ranked ↦ inl ranked | inr left ↦ inr (subst (λ (xs : List Numbered). Contains xs x) before left) ]) in
-          subst (λ (xs : List ModuleVersion). IsRanked xs c.push.new.self.ranks.items x ⊎ Contains rest x) (sym c.in_ok-push.ensures.vertices)
-          (subst (λ (rs : List ℕ). IsRanked (vertices ++ next.vertex ∷ []) rs x ⊎ Contains rest x) (sym c.in_ok-push.ensures.ranks) kept);
+          subst (λ (xs : List ModuleVersion). IsRanked xs (set ranks next.number c.len-in-loop-next.result) x ⊎ Contains rest x) (sym c.in_ok-push.ensures.items)
+          (subst (λ (rs : List ℕ). IsRanked (vertices ++ next.vertex ∷ []) rs x ⊎ Contains rest x) (sym made) kept);
     }
