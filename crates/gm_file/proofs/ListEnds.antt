@@ -1,10 +1,10 @@
 -- The end of a list of modules, to which requirements are put.
 use Rattle.std.proofs.Common.{◌≡◌, ◌∙◌, ◌≤◌, ℕ, Bool, true, false, List, [], ◌∷◌, ◌++◌, Some, append-nil, ap, arith, drop, length, length-append, refl, subst, sym, take}
-use Rattle.std.proofs.lemmas.List.{take-append-drop, take-append-le, take-map, take_all}
+use Rattle.std.proofs.lemmas.List.{drop_all, length-map, length-take-le, take-append-drop, take-append-le, take-map, take_all}
 use Rattle.std.proofs.lemmas.Option.{same_Some}
 use Rattle.std.specs.Prelude.{OnErr, OnOk, Result, Ok, Err}
 use Rattle.gm_name.specs.ModuleVersion.{ModuleVersion, module_at}
-use Rattle.gm_name_table.specs.Listed.{Appends, AreModuleNumbers, BeginsWith, NumberedList, modules_of, modules_at}
+use Rattle.gm_name_table.specs.Listed.{Appends, AreModuleNumbers, BeginsWith, NumberedList, modules_of}
 use Rattle.gm_name_table.proofs.Listed.{same_modules}
 use Rattle.gm_file.specs.Requirements.{IsLonger, Requirements, items_in, list_before}
 use Rattle.gm_file.specs.declared.required.Destination.TheVariants as place
@@ -99,17 +99,22 @@ stays_if_pushed old new start known pair (Ok value) longer ok err =
 stays_if_pushed old new start known pair (Err error) longer ok err =
     (still_longer old new start known [] longer err, same_before old new start known [] longer err)
 
--- Nothing was put to the end of a list that was cut to its old length.
-pub cut_appends : (old new cut : NumberedList) (more : List ModuleVersion) → Appends old new more
-    → AreModuleNumbers old.modules old.numbers → cut.modules ≡ new.modules
-    → cut.numbers ≡ take (length old.numbers) new.numbers → Appends old cut []
-cut_appends old new cut more appends below same cut_numbers =
-    let numbers = cut_numbers ∙ begun_as old.numbers new.numbers (length old.numbers) (omega arith) appends.kept
-    ∙ take_all (length old.numbers) old.numbers (omega arith) in
-    let begins : BeginsWith old.modules cut.modules = (appends.numbered.0, same ∙ appends.numbered.1) in
-    record {
-      numbered = begins;
-      kept = ([], numbers ∙ sym (append-nil old.numbers));
-      listed = ap (λ (ns : List ℕ). modules_at cut.modules ns) numbers
-          ∙ same_modules old.modules cut.modules old.numbers begins below ∙ sym (append-nil (modules_of old));
-    }
+-- A list that is cut to its old length is no shorter than that, what it was before stays, and nothing comes after.
+pub stays_if_cut : (list cut : NumberedList) (start known : ℕ) → IsLonger list start known → cut.modules ≡ list.modules
+    → cut.numbers ≡ take start list.numbers → IsLonger cut start known
+    × (list_before cut start known ≡ list_before list start known) × (drop start (modules_of cut) ≡ [])
+stays_if_cut list cut start known longer modules numbers =
+    let count : length cut.numbers ≡ start =
+    ap (λ (ns : List ℕ). length ns) numbers ∙ length-take-le start list.numbers longer.numbers in
+    let same : list_before cut start known ≡ list_before list start known =
+    ap (λ (ms : List ModuleVersion). record { modules = take known ms; numbers = take start cut.numbers }) modules
+    ∙ ap (λ (ns : List ℕ). record { modules = take known list.modules; numbers = ns })
+    (take_all start cut.numbers (omega (arith, count)) ∙ numbers) in (
+      record {
+        numbers = omega (arith, count);
+        modules = rw modules longer.modules;
+        below = subst (λ (l : NumberedList). AreModuleNumbers l.modules l.numbers) (sym same) longer.below;
+      },
+      same,
+      drop_all start (modules_of cut) (omega (arith, count, length-map cut.numbers (module_at cut.modules))),
+    )

@@ -162,18 +162,17 @@ impl DepFile {
         ensures err { OnErr result (Appends modules.old modules.new []) }
     {
         let mut reader = LineReader::new(alloc, bytes)?;
-        let start = modules.len();
         let list = mem::replace(modules, ModuleList::new(alloc));
         let mut said = DepLines::over(alloc, Required::at_end(list));
         let read = read_all(alloc, names, &mut reader, &mut said);
+        if read.is_err() {
+            said.fields.requirements.clear();
+        }
         let DepLines { fields, .. } = said;
         let file = ListedFile::of_fields(fields, modules);
         match read {
             Ok(()) => Ok(file),
-            Err(fault) => {
-                modules.truncate(start);
-                Err(fault)
-            }
+            Err(fault) => Err(fault),
         }
     }
 

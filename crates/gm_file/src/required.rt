@@ -18,8 +18,8 @@ use std::mem;
 enum Destination {
     /// A list of their own.
     Own(Vec<ModVer>),
-    /// The end of a list of modules. `start` and `known` are its length and its number of distinct modules before; only
-    /// contracts use them.
+    /// The end of a list of modules. `start` is its length before, and `known` its number of distinct modules before,
+    /// which only contracts use.
     End {
         list: ModuleList,
         start: usize,
@@ -111,6 +111,17 @@ impl Required {
         let pair = pair_of_texts(names, path, version)?;
         self.push(pair)?;
         Ok(())
+    }
+
+    /// Takes all requirements out again. A list of modules is as long as before.
+    pub(crate) fn clear(&mut self)
+        ensures before { self.new.before ≡ self.old.before }
+        ensures items { self.new.items ≡ [] }
+    {
+        match &mut self.place {
+            Destination::Own(pairs) => pairs.clear(),
+            Destination::End { list, start, .. } => list.truncate(*start),
+        }
     }
 
     /// The requirements, which are in a list of their own.
