@@ -40,8 +40,7 @@ pub(crate) fn push_relative(place: &mut String, name: &FileName) -> Result<(), N
         FileName::List(path) => push_list_file(place, path),
         FileName::Folder(folder) => {
             push_folder(place, folder.as_str())?;
-            place.push_str("go.mod")?;
-            Ok(())
+            place.push_str("go.mod")
         }
     }
 }
@@ -56,8 +55,7 @@ fn push_mod_file(place: &mut String, path: &ModPath, version: &ModVersion) -> Re
     push_escaped(place, path)?;
     place.push_str("/@v/")?;
     push_escaped(place, version)?;
-    place.push_str(".mod")?;
-    Ok(())
+    place.push_str(".mod")
 }
 
 /// Appends the path of a module's list file below a proxy folder. The only refusal is `NoMemory`.
@@ -67,8 +65,7 @@ fn push_list_file(place: &mut String, path: &ModPath) -> Result<(), NoMemory>
 {
     let path = path.as_str();
     push_escaped(place, path)?;
-    place.push_str("/@v/list")?;
-    Ok(())
+    place.push_str("/@v/list")
 }
 
 /// Appends a folder's text, and a slash if it doesn't end in one, so that a path appended next is below the folder.
