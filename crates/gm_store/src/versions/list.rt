@@ -5,41 +5,23 @@
 
 ghost use Rattle.std.specs.Prelude.{◌≡◌, ◌↔◌, ◌++◌, ◌∷◌, [], ℕ, List, IfOk, IfNone, IfSome, IsTrue, OnOk};
 ghost use Rattle.gm_name.specs.Lines.{first_word};
-ghost use Rattle.gm_name.specs.Version.{IsVersion};
-ghost use Rattle.gm_store.specs.Listed.{AreListed, HoldsListable, IsListable, IsPseudoVersion};
+ghost use Rattle.gm_store.specs.Listed.{AreListed, HoldsListable, IsListable};
 
 use gm_name::{
     BorrowedVersion, ModPath, ModVersion, NoMemory, VersionFault, first_word, fits, pseudo,
 };
 use std::alloc::{AllocError, Global};
 
-/// The version that a text spells, or `None` if it isn't a canonical version. The only refusal is `NoMemory`.
-fn version_in(alloc: Global, text: &str) -> Result<Option<ModVersion>, NoMemory>
-    ensures some { IfOk result (λ found. IfSome found (λ version. (version ≡ text.now) × IsVersion text.now)) }
-    ensures none { IfOk result (λ found. IfNone found (¬ (IsVersion text.now))) }
-{
-    match ModVersion::parse(alloc, text) {
-        Ok(version) => Ok(Some(version)),
-        Err(VersionFault::NoMemory) => Err(AllocError),
-        Err(_) => Ok(None),
-    }
-}
-
-/// Whether a version is a pseudo-version, of any of the three forms.
-fn is_pseudo(version: &ModVersion) -> bool
-    ensures form { IsTrue result ↔ IsPseudoVersion version.now }
-    ensures version { IsVersion version.now }
-{
-    // The clauses of as_str tell the proof that the text is a version.
-    let _text = version.as_str();
-    pseudo(version).is_some()
-}
-
-/// Whether a version may be listed for a module: it fits the path, and isn't a pseudo-version.
+/// Whether a version may be listed for a module: it fits the path, and isn't a pseudo-version of any form.
 fn is_listable(path: &ModPath, version: &ModVersion) -> bool
     ensures { IsTrue result ↔ IsListable path.now version.now }
 {
-    !is_pseudo(version) && fits(path, version)
+    // The clauses of as_str tell the proof that the text is a version.
+    let _text = version.as_str();
+    match pseudo(version) {
+        Some(_) => false,
+        None => fits(path, version),
+    }
 }
 
 /// The version that a text spells, or `None` if it isn't one that may be listed for the module. The only refusal
@@ -53,8 +35,9 @@ fn listable_text<'a>(
         × IsListable path.now text.now)) }
     ensures none { IfOk result (λ found. IfNone found (¬ (IsListable path.now text.now))) }
 {
-    match version_in(alloc, text)? {
-        Some(version) if is_listable(path, &version) => Ok(Some(version.in_text(text))),
+    match ModVersion::parse(alloc, text) {
+        Ok(version) if is_listable(path, &version) => Ok(Some(version.in_text(text))),
+        Err(VersionFault::NoMemory) => Err(AllocError),
         _ => Ok(None),
     }
 }
