@@ -1,14 +1,16 @@
 -- The state of a walk through folders.
-use Rattle.std.proofs.Common.{◌≡◌, ◌+◌, ◌-◌, ◌≤◌, ◌<◌, ◌^◌, ◌⊎◌, inl, inr, min, ℕ, false, cond, zero, suc, List, [], ◌∷◌, ◌++◌, length, Option, Some, None, ap, ◌∙◌, sym, refl, subst, arith, IsSome, length-append, add_assoc}
-use Rattle.std.specs.Prelude.{slice_get}
+use Rattle.std.proofs.Common.{◌≡◌, ◌+◌, ◌-◌, ◌≤◌, ◌<◌, ◌^◌, ◌⊎◌, inl, inr, min, ℕ, false, true, cond, zero, suc, List, [], ◌∷◌, ◌++◌, length, Option, Some, None, ap, ◌∙◌, sym, refl, subst, arith, IsSome, length-append, add_assoc}
+use Rattle.std.specs.Prelude.{IfNone, slice_get}
+use Rattle.std.specs.Option.{option_map}
+use Rattle.gm_store.specs.declared.files.Answer.{Answer}
 use Rattle.std.specs.List.{count_by}
 use Rattle.std.proofs.lemmas.Bool.{cases_lt}
 use Rattle.std.proofs.lemmas.List.Sums.{sum_by-append}
 use Rattle.gm_store.specs.declared.fallback.proxy_list.Mark.{Mark}
 use Rattle.gm_store.specs.declared.fallback.proxy_list.Mark.TheVariants.{Comma, Bar}
 use Rattle.gm_store.specs.declared.fallback.step.Next.{Next}
-use Rattle.gm_store.specs.declared.fallback.step.Next.TheVariants.{Take, Go, Fail}
-use Rattle.gm_store.specs.Asked.{Reply}
+use Rattle.gm_store.specs.declared.fallback.step.Next.TheVariants.{Take, Go}
+use Rattle.gm_store.specs.Asked.{Reply, reply_of}
 use Rattle.gm_store.specs.Steps.{AreCounted, Counts, HasCounted, MayStop, Seen, absent, counted_up, failed, found, has_failed, outcome_of, step_of, too_long}
 
 -- the request fell back from the first `at` folders; `passed` has the results there, which are counted
@@ -92,17 +94,28 @@ walk_ends may_find marks at old new newer look next outcome so_far seen stops en
       (counted_both so_far.passed (look ∷ []) old new newer so_far.counted grown).1,
     )
 
--- if `step` takes a result, the device didn't fail
-pub take_sound : (look : Seen) (mark : Option Mark) → Take ≡ step_of look mark → has_failed look ≡ false
-take_sound (found content) mark e = refl
-take_sound too_long mark e = refl
-take_sound absent mark e = refl
-take_sound failed None e = cc e
-take_sound failed (Some Comma) e = cc e
-take_sound failed (Some Bar) e = cc e
+outcome_there : (look : Seen) (mark : Option Mark) (answer : Option Reply) → (step_of look mark ≡ Go → ⊥)
+    → (has_failed look ≡ false → answer ≡ outcome_of look Take) → (has_failed look ≡ true → answer ≡ None) → answer ≡ outcome_of look (step_of look mark)
+outcome_there (found content) mark answer ends taken lost = taken refl
+outcome_there too_long mark answer ends taken lost = taken refl
+outcome_there absent (Some mark) answer ends taken lost = absurd (ends refl)
+outcome_there absent None answer ends taken lost = taken refl
+outcome_there failed (Some Bar) answer ends taken lost = absurd (ends refl)
+outcome_there failed (Some Comma) answer ends taken lost = lost refl
+outcome_there failed None answer ends taken lost = lost refl
 
-pub fail_outcome : (look : Seen) → None ≡ outcome_of look Fail
-fail_outcome look = refl
+-- without an answer, the device failed
+pub unanswered : (answer : Option Answer) (look : Seen) (P : Type 0) → (has_failed look ≡ false → option_map reply_of answer ≡ outcome_of look Take) → (has_failed look ≡ true → P) → IfNone answer P
+unanswered (Some answer) look P taken lost = tt
+unanswered None (found content) P taken lost = cc (taken refl)
+unanswered None too_long P taken lost = cc (taken refl)
+unanswered None absent P taken lost = cc (taken refl)
+unanswered None failed P taken lost = lost refl
+
+-- the answer to a request is that of the result at which the walk ends, or none if the device failed there
+pub walk_outcome : (look : Seen) (mark : Option Mark) (next : Next) (answer : Option Reply) → next ≡ step_of look mark → (next ≡ Go → ⊥)
+    → (has_failed look ≡ false → answer ≡ outcome_of look Take) → (has_failed look ≡ true → answer ≡ None) → answer ≡ outcome_of look next
+walk_outcome look mark next answer is ends taken lost = outcome_there look mark answer (λ e. ends (is ∙ e)) taken lost ∙ ap (outcome_of look) (sym is)
 
 pub none_passed : (may_find : ℕ → Seen → Type 0) (marks : List Mark) (old : Counts) → old.lookups < 2 ^ 64 → old.failures < 2 ^ 64 → HasPassed may_find marks 0 old old
 none_passed may_find marks old few small = record {
@@ -118,14 +131,13 @@ min-above : (m old new n : ℕ) → new ≡ min (min (old + n) m + 1) m → old 
 min-above m old new n e h = elim (cases_lt old m) [ inl less ↦ inl (omega arith) | inr more ↦ inr (omega arith) ]
 
 -- a failure of the device at which the walk stops is counted
-pub fail_counts : (look : Seen) (mark : Option Mark) (old new newer : Counts) (at : ℕ) {may_find : ℕ → Seen → Type 0} {marks : List Mark} → HasPassed may_find marks at old new
-    → Fail ≡ step_of look mark → AreCounted (look ∷ []) new newer → old.failures < 2 ^ 64 → (old.failures < newer.failures) ⊎ (old.failures ≡ 2 ^ 64 - 1)
-fail_counts failed mark old new newer at so_far fails grown small =
+pub fail_counts : (look : Seen) (old new newer : Counts) (at : ℕ) {may_find : ℕ → Seen → Type 0} {marks : List Mark} → HasPassed may_find marks at old new
+    → has_failed look ≡ true → AreCounted (look ∷ []) new newer → old.failures < 2 ^ 64 → (old.failures < newer.failures) ⊎ (old.failures ≡ 2 ^ 64 - 1)
+fail_counts failed old new newer at so_far fails grown small =
     min-above (2 ^ 64 - 1) old.failures newer.failures (count_by has_failed so_far.passed) (grown.1 ∙ ap (λ n. min (n + 1) (2 ^ 64 - 1)) so_far.counted.1) (omega arith)
-fail_counts (found content) mark old new newer at so_far fails grown small = cc fails
-fail_counts too_long mark old new newer at so_far fails grown small = cc fails
-fail_counts absent None old new newer at so_far fails grown small = cc fails
-fail_counts absent (Some mark) old new newer at so_far fails grown small = cc fails
+fail_counts (found content) old new newer at so_far fails grown small = cc fails
+fail_counts too_long old new newer at so_far fails grown small = cc fails
+fail_counts absent old new newer at so_far fails grown small = cc fails
 
 -- ---- what was counted
 

@@ -2,7 +2,7 @@
 //!
 //! The loop works over the trait `FolderList`, so folders in memory and on a device share it.
 
-ghost use Rattle.std.specs.Prelude.{◌≡◌, ◌<◌, ℕ, length, slice_get, Some, IfNone, IfOk, IfSome, false};
+ghost use Rattle.std.specs.Prelude.{◌≡◌, ◌<◌, ℕ, length, slice_get, Some, None, IfNone, IfOk, IfSome, false, true};
 ghost use Rattle.std.specs.Option.{option_map};
 ghost use Rattle.gm_store.specs.Asked.{IsWithinLimit, name_of, reply_of};
 ghost use Rattle.gm_store.specs.Counted.{counts_in, inner_folders};
@@ -45,11 +45,10 @@ pub(crate) fn walk<F: FolderList>(
     let mut at = 0;
     'turns: loop {
         let looked = folders.look(buffers, at, name)?;
-        match step(&looked, mark_at(marks, at)) {
-            Next::Take => return Ok(answer_in(looked)),
-            Next::Fail => return Ok(None),
-            Next::Go => at += 1,
-        }
+        let Next::Go = step(&looked, mark_at(marks, at)) else {
+            return Ok(answer_in(looked));
+        };
+        at += 1;
     }
 }
 
@@ -64,6 +63,7 @@ fn mark_at(marks: &[Mark], at: usize) -> Option<Mark>
 fn answer_in(looked: Looked) -> Option<Answer>
     ensures outcome { has_failed (result_of looked) ≡ false
         → option_map reply_of result ≡ outcome_of (result_of looked) Next.Take }
+    ensures failed { has_failed (result_of looked) ≡ true → result ≡ None }
     ensures reply { IfSome result (λ answer. reply_of answer ≡ reply_in (result_of looked)) }
 {
     match looked {

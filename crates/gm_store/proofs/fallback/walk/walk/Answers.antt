@@ -1,10 +1,10 @@
 use Rattle.std.proofs.Common.{◌∙◌, ap, arith, refl, subst, sym}
-use Rattle.gm_store.specs.Asked.{name_of}
+use Rattle.gm_store.specs.Asked.{name_of, reply_of}
 use Rattle.gm_store.specs.Counted.{counts_in, inner_folders}
 use Rattle.gm_store.specs.Steps.{Counts, HasCounted, reply_in, result_of, step_of}
-use Rattle.gm_store.specs.declared.fallback.step.Next.TheVariants.{Take, Fail}
+use Rattle.std.specs.Option.{option_map}
 use Rattle.gm_store.proofs.Limits.{same_limit}
-use Rattle.gm_store.proofs.Walks.{fail_counts, fail_outcome, none_passed, HasPassed-one_more, passed_counts, stop_counts, take_sound, walk_ends}
+use Rattle.gm_store.proofs.Walks.{walk_outcome, fail_counts, none_passed, HasPassed-one_more, passed_counts, stop_counts, unanswered, walk_ends}
 use Rattle.gm_store.proofs.fallback.walk.walk.Goals as goal
 
 pub turns-init : goal.turns-init
@@ -18,33 +18,23 @@ turns-preserved g c =
           (c.in-Go.ensures ∙ ap (step_of (result_of c.in_ok-looked.looked)) c.mark_at.ensures) c.in_ok-looked.ensures.counted,
     )
 
-pub returns-in-Take-clause-stop : goal.returns-in-Take-clause-stop
-returns-in-Take-clause-stop g c =
+pub returns-in_default-clause-stop : goal.returns-in_default-clause-stop
+returns-in_default-clause-stop g c =
     let seen = subst (λ folders. g.F.FolderList.may_find folders c.turns.at (name_of c.args.name.now) (result_of c.in_ok-looked.looked)) c.turns.invariant.0 c.in_ok-looked.ensures.possible in
-    let taken = c.in-Take.ensures ∙ ap (step_of (result_of c.in_ok-looked.looked)) c.mark_at.ensures in
-    walk_ends _ c.args.marks.now c.turns.at (counts_in c.args.folders.now) (counts_in c.turns.folders) _ (result_of c.in_ok-looked.looked) Take _ c.turns.invariant.1 seen taken (λ e. cc e)
-    (c.answer_in.ensures.outcome (take_sound _ _ taken)) c.in_ok-looked.ensures.counted
+    let stops = c.step.ensures ∙ ap (step_of (result_of c.in_ok-looked.looked)) c.mark_at.ensures in
+    walk_ends _ c.args.marks.now c.turns.at (counts_in c.args.folders.now) (counts_in c.turns.folders) _ (result_of c.in_ok-looked.looked) c.step.result _ c.turns.invariant.1 seen stops c.in_default.not-Go
+    (walk_outcome (result_of c.in_ok-looked.looked) _ c.step.result _ stops c.in_default.not-Go c.answer_in.ensures.outcome (λ e. ap (option_map reply_of) (c.answer_in.ensures.failed e))) c.in_ok-looked.ensures.counted
 
-pub returns-in-Fail-clause-stop : goal.returns-in-Fail-clause-stop
-returns-in-Fail-clause-stop g c =
-    let seen = subst (λ folders. g.F.FolderList.may_find folders c.turns.at (name_of c.args.name.now) (result_of c.in_ok-looked.looked)) c.turns.invariant.0 c.in_ok-looked.ensures.possible in
-    walk_ends _ c.args.marks.now c.turns.at (counts_in c.args.folders.now) (counts_in c.turns.folders) _ (result_of c.in_ok-looked.looked) Fail _ c.turns.invariant.1 seen
-    (c.in-Fail.ensures ∙ ap (step_of (result_of c.in_ok-looked.looked)) c.mark_at.ensures) (λ e. cc e) (fail_outcome (result_of c.in_ok-looked.looked)) c.in_ok-looked.ensures.counted
+pub returns-in_default-clause-cause : goal.returns-in_default-clause-cause
+returns-in_default-clause-cause g c =
+    unanswered c.answer_in.result (result_of c.in_ok-looked.looked) _ c.answer_in.ensures.outcome (λ e.
+    fail_counts (result_of c.in_ok-looked.looked) (counts_in c.args.folders.now) (counts_in c.turns.folders) _ c.turns.at c.turns.invariant.1 e c.in_ok-looked.ensures.counted (omega arith))
 
-pub returns-in-Fail-clause-cause : goal.returns-in-Fail-clause-cause
-returns-in-Fail-clause-cause g c =
-    fail_counts (result_of c.in_ok-looked.looked) _ (counts_in c.args.folders.now) (counts_in c.turns.folders) _ c.turns.at c.turns.invariant.1 c.in-Fail.ensures c.in_ok-looked.ensures.counted (omega arith)
+pub returns-in_default-clause-within_limit : goal.returns-in_default-clause-within_limit
+returns-in_default-clause-within_limit g c = same_limit _ (reply_in (result_of c.in_ok-looked.looked)) c.answer_in.ensures.reply c.in_ok-looked.ensures.within_limit
 
-pub returns-in-Take-clause-within_limit : goal.returns-in-Take-clause-within_limit
-returns-in-Take-clause-within_limit g c = same_limit _ (reply_in (result_of c.in_ok-looked.looked)) c.answer_in.ensures.reply c.in_ok-looked.ensures.within_limit
-
-pub returns-in-Take-clause-lookups : goal.returns-in-Take-clause-lookups
-returns-in-Take-clause-lookups g c =
-    let seen = subst (λ folders. g.F.FolderList.may_find folders c.turns.at (name_of c.args.name.now) (result_of c.in_ok-looked.looked)) c.turns.invariant.0 c.in_ok-looked.ensures.possible in
-    stop_counts _ c.args.marks.now c.turns.at (counts_in c.args.folders.now) (counts_in c.turns.folders) _ (result_of c.in_ok-looked.looked) c.turns.invariant.1 seen c.in_ok-looked.ensures.counted
-
-pub returns-in-Fail-clause-lookups : goal.returns-in-Fail-clause-lookups
-returns-in-Fail-clause-lookups g c =
+pub returns-in_default-clause-lookups : goal.returns-in_default-clause-lookups
+returns-in_default-clause-lookups g c =
     let seen = subst (λ folders. g.F.FolderList.may_find folders c.turns.at (name_of c.args.name.now) (result_of c.in_ok-looked.looked)) c.turns.invariant.0 c.in_ok-looked.ensures.possible in
     stop_counts _ c.args.marks.now c.turns.at (counts_in c.args.folders.now) (counts_in c.turns.folders) _ (result_of c.in_ok-looked.looked) c.turns.invariant.1 seen c.in_ok-looked.ensures.counted
 
