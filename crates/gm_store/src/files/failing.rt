@@ -34,7 +34,7 @@ impl FailingFiles {
         ensures left { asks_left result ≡ Some asks }
         ensures refused { refusals_of result ≡ [] }
     {
-        let refused = Vec::new(inside.alloc());
+        let refused = Vec::new(inside.alloc);
         FailingFiles {
             inside,
             left: Some(asks),
@@ -65,7 +65,7 @@ impl Asks for FailingFiles {
     {
         match self.left {
             Some(0) => {
-                keep_name(self.inside.alloc(), &mut self.refused, name)?;
+                keep_name(self.inside.alloc, &mut self.refused, name)?;
                 self.left = None;
                 Err(AskFault::Device)
             }

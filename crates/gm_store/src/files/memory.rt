@@ -17,8 +17,8 @@ use std::collections::BTreeMap;
 /// A store of files in memory: a map from names to contents. Its device never fails.
 #[derive(Drop)]
 pub struct MemoryFiles {
-    /// The allocator for the kept names and answers.
-    alloc: Global,
+    /// The allocator for the kept names and answers. A wrapper may use the same.
+    pub(crate) alloc: Global,
     /// The files' contents by name.
     held: BTreeMap<FileName, Vec<u8>>,
     /// The answered requests.
@@ -67,11 +67,6 @@ impl MemoryFiles {
                 Ok(Answer::Bytes(copy_bytes(content)?))
             }
         }
-    }
-
-    /// The allocator that the store was made with, so that a wrapper can use the same.
-    pub(crate) fn alloc(&self) -> Global {
-        self.alloc
     }
 }
 
