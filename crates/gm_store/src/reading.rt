@@ -42,11 +42,11 @@ impl From<AllocError> for InputFault {
     }
 }
 
-/// A buffer of `length` bytes to read a piece into.
-fn piece_of(alloc: Global, length: usize) -> Result<Vec<u8>, AllocError>
-    ensures { IfOk result (λ piece. vec_len piece ≡ length) }
+/// Makes a buffer `length` bytes long, to read a piece into it.
+fn make_room(piece: &mut Vec<u8>, length: usize) -> Result<(), AllocError>
+    ensures { OnOk result (vec_len piece.new ≡ length) }
 {
-    vec![in alloc; 0u8; length]
+    piece.resize(length, 0u8)
 }
 
 /// Reads once into `room`, and appends the bytes read to `bytes`. Returns their number, which is 0 at the reader's
@@ -75,7 +75,6 @@ fn read_piece<R: ByteReader>(
 ///
 /// `Device` is returned if the read fails, `NoMemory` if memory runs out.
 fn read_next<R: ByteReader>(
-    alloc: Global,
     reader: &mut R,
     piece: &mut Vec<u8>,
     bytes: &mut Vec<u8>,
@@ -92,7 +91,7 @@ fn read_next<R: ByteReader>(
     let wanted = (LIMIT + 1 - bytes.len()).min(piece.len());
     let count = read_piece(reader, &mut piece[..wanted], bytes)?;
     if count == piece.len() && count < MOST {
-        *piece = piece_of(alloc, (count * GROWTH).min(MOST))?;
+        make_room(piece, (count * GROWTH).min(MOST))?;
     }
     Ok(count)
 }
@@ -113,7 +112,7 @@ pub fn read_limited<R: ByteReader>(alloc: Global, reader: &mut R) -> Result<Vec<
 }
 
 /// Reads as `read_limited` does, but into `piece`, which may be passed again for the next file. An empty piece is
-/// allocated; one that a read filled is replaced by a longer one.
+/// allocated; one that a read filled is made longer.
 ///
 /// If the bytes are at most `LIMIT`, the room that they don't need is given back.
 pub(crate) fn read_by_pieces<R: ByteReader>(
@@ -128,11 +127,11 @@ pub(crate) fn read_by_pieces<R: ByteReader>(
     ensures fault { IfErr result (IsReadingFault (R.may_fail reader.old)) }
 {
     if piece.is_empty() {
-        *piece = piece_of(alloc, FIRST)?;
+        make_room(piece, FIRST)?;
     }
     let mut bytes = Vec::new(alloc);
     'fill: while bytes.len() <= LIMIT {
-        let count = read_next(alloc, reader, piece, &mut bytes)?;
+        let count = read_next(reader, piece, &mut bytes)?;
         if count == 0 {
             bytes.shrink_to_fit();
             return Ok(bytes);
