@@ -231,8 +231,8 @@ impl KnownNames {
         ensures within { IsWithinRoom self.new }
         ensures read { PairReading path.now version.now result }
     {
-        let path = self.numbered_path(self.number_of(path), path)?;
-        let version = self.numbered_version(self.number_of(version), version)?;
+        let path = self.kept_path(path)?;
+        let version = self.version(version)?;
         let Some(pair) = ModVer::pair(path, version) else {
             return Err(PairFault::Misfit);
         };
@@ -254,23 +254,21 @@ impl KnownNames {
     pub fn path(&mut self, text: &str) -> Result<ModPath, PathFault>
         ensures kept { KeepsAll self.old self.new }
         ensures within { IsWithinRoom self.new }
-        ensures ok { IfOk result (λ path. (path ≡ text.now) × IsPath text.now) }
-        ensures bad { IsErrOf result PathFault.BadPath ↔ ¬ (IsPath text.now) }
-        ensures memory { IsErrOf result PathFault.NoMemory → IsPath text.now }
+        ensures read { PathReading text.now result }
     {
         if let Some(path) = self.expected_path(text) {
             return Ok(path);
         }
-        self.numbered_path(self.number_of(text), text)
+        self.kept_path(text)
     }
 
-    /// The module path in a text with this fingerprint.
-    fn numbered_path(&mut self, number: Option<u64>, text: &str) -> Result<ModPath, PathFault>
-        requires { IfSome number (λ number. number ≡ fingerprint 0 text.now) }
+    /// The module path in a text, which is looked up among those that are kept, and kept if it isn't there.
+    fn kept_path(&mut self, text: &str) -> Result<ModPath, PathFault>
         ensures kept { KeepsAll self.old self.new }
         ensures within { IsWithinRoom self.new }
         ensures read { PathReading text.now result }
     {
+        let number = self.number_of(text);
         if let Some(path) = self.known_path(number, text) {
             return Ok(path);
         }
@@ -288,29 +286,13 @@ impl KnownNames {
     pub fn version(&mut self, text: &str) -> Result<ModVersion, VersionFault>
         ensures kept { KeepsAll self.old self.new }
         ensures within { IsWithinRoom self.new }
-        ensures ok { IfOk result (λ version. (version ≡ text.now) × IsVersion text.now) }
-        ensures not_canonical { IsErrOf result VersionFault.NotCanonical
-            → IsNotCanonical text.now × ¬ (IsVersion text.now) }
-        ensures bad { IsErrOf result VersionFault.BadVersion → ¬ (IsVersion text.now) × ¬ (IsNotCanonical text.now) }
-        ensures memory { IsErrOf result VersionFault.NoMemory → IsSemVer text.now }
-    {
-        self.numbered_version(self.number_of(text), text)
-    }
-
-    /// The version in a text with this number.
-    fn numbered_version(
-        &mut self,
-        number: Option<u64>,
-        text: &str,
-    ) -> Result<ModVersion, VersionFault>
-        ensures kept { KeepsAll self.old self.new }
-        ensures within { IsWithinRoom self.new }
         ensures read { VersionReading text.now result }
     {
+        let number = self.number_of(text);
         if let Some(version) = self.known_version(number, text) {
             return Ok(version);
         }
-        let version = ModVersion::read(self.alloc, text)?;
+        let version = ModVersion::parse(self.alloc, text)?;
         if let Some(number) = number {
             self.keep_version(number, &version)?;
         }
