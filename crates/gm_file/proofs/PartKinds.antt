@@ -18,7 +18,7 @@ use Rattle.gm_name.proofs.NameTests.{fit-tested, path-tested, version-tested}
 use Rattle.gm_name.specs.Fit.{Fits}
 use Rattle.gm_name.specs.Names.{does_fit, is_path, is_version}
 use Rattle.gm_name.specs.Path.{IsPath}
-use Rattle.gm_name.specs.Readings.{PairReading}
+use Rattle.gm_name.specs.Readings.{PairReading, PathReading, VersionReading}
 use Rattle.gm_name.specs.Version.{IsVersion}
 
 not-tested : (b : Bool) (P : Type 0) → (b ≡ true ↔ P) → ¬ P → b ≡ false
@@ -70,17 +70,16 @@ pub refused-as : {Y : Type 0} (r : Result Y LineFault) (f : LineFault) → IsErr
 refused-as (Ok y) f is same = absurd (cc is)
 refused-as (Err h) f is same = ap Err (same h refl)
 
-pub path-kind : (text : List ℕ) (e : PathFault) → (◌≡◌ {A = Result (List ℕ) PathFault} (Err e) (Err path.BadPath) → ¬ (IsPath text))
+pub path-kind : (text : List ℕ) (e : PathFault) → PathReading text (Err e)
     → IsRead {X = List ℕ} {Y = List ℕ} (λ p. p) WrongArguments path_kinds (Some text) (Err (of_path_fault e))
-path-kind text path.NoMemory bad = tt
-path-kind text path.BadPath bad = rw (path-bad text (bad refl)) refl
+path-kind text path.NoMemory read = tt
+path-kind text path.BadPath read = rw (path-bad text read) refl
 
-pub version-kind : (text : List ℕ) (e : VersionFault) → (◌≡◌ {A = Result (List ℕ) VersionFault} (Err e) (Err version.BadVersion) → ¬ (IsVersion text))
-    → (◌≡◌ {A = Result (List ℕ) VersionFault} (Err e) (Err version.NotCanonical) → ¬ (IsVersion text))
+pub version-kind : (text : List ℕ) (e : VersionFault) → VersionReading text (Err e)
     → IsRead {X = List ℕ} {Y = List ℕ} (λ v. v) WrongArguments version_kinds (Some text) (Err (of_version_fault e))
-version-kind text version.NoMemory bad other = tt
-version-kind text version.BadVersion bad other = rw (version-bad text (bad refl)) refl
-version-kind text version.NotCanonical bad other = rw (version-bad text (other refl)) refl
+version-kind text version.NoMemory read = tt
+version-kind text version.BadVersion read = rw (version-bad text read.0) refl
+version-kind text version.NotCanonical read = rw (version-bad text read.1) refl
 
 pub pair-kind : (path version : List ℕ) (e : PairFault) → PairReading path version (Err e)
     → IsRead {X = ModuleVersion} {Y = ModuleVersion} (λ p. p) WrongArguments pair_kinds (Some (path, version)) (Err (of_pair_fault e))

@@ -6,7 +6,7 @@ use Rattle.gm_file.proofs.part.read_path.Goals as goal
 pub returns-in_err-path : goal.returns-in_err-path
 returns-in_err-path c =
     rw (refused-as c.from_residual.result (of_path_fault c.in_err-path.field-0.0) c.from_residual.ensures.0 (λ h e. rw e at c.from_residual.ensures.1))
-    (path-kind c.args.text.now c.in_err-path.field-0.0 c.in_err-path.ensures.bad.0)
+    (path-kind c.args.text.now c.in_err-path.field-0.0 c.in_err-path.ensures.read)
 
 pub returns : goal.returns
-returns c = rw c.in_ok-path.ensures.ok.0 (refl, path-sound c.args.text.now c.in_ok-path.ensures.ok.1)
+returns c = rw c.in_ok-path.ensures.read.0 (refl, path-sound c.args.text.now c.in_ok-path.ensures.read.1)

@@ -5,9 +5,8 @@ use Rattle.gm_file.proofs.part.read_version.Goals as goal
 
 pub returns-in_err-version : goal.returns-in_err-version
 returns-in_err-version c =
-    let is = c.in_err-version.ensures in
     rw (refused-as c.from_residual.result (of_version_fault c.in_err-version.field-0.0) c.from_residual.ensures.0 (λ h e. rw e at c.from_residual.ensures.1))
-    (version-kind c.args.text.now c.in_err-version.field-0.0 (λ e. (is.bad e).0) (λ e. (is.not_canonical e).1))
+    (version-kind c.args.text.now c.in_err-version.field-0.0 c.in_err-version.ensures.read)
 
 pub returns : goal.returns
-returns c = rw c.in_ok-version.ensures.ok.0 (refl, version-sound c.args.text.now c.in_ok-version.ensures.ok.1)
+returns c = rw c.in_ok-version.ensures.read.0 (refl, version-sound c.args.text.now c.in_ok-version.ensures.read.1)
