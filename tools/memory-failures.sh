@@ -34,7 +34,7 @@ gm_name/src/borrowed_version.rt to_version: a text that is a version was refused
   let Ok(version) = ModVersion::parse(alloc, self.text) else { return Err(AllocError)
 gm_name/src/version.rt is_out_of_memory: it is only compared
   error == semver::Error::from(AllocError)
-gm_name/src/version.rt read: the parser says so
+gm_name/src/version.rt parse: the parser says so
   match Version::parse(alloc, rest) { Err(error) => if is_out_of_memory(error) { Err(VersionFault::NoMemory)
 gm_name/src/version.rt with: a text that is a pre-release was refused
   let Ok(pre) = Prerelease::new(alloc, pre) else { return Err(AllocError)
