@@ -1,5 +1,5 @@
 -- What stays when more is asked for, and when a cache returns requirements.
-use Rattle.std.proofs.Common.{◌≡◌, ◌∙◌, ◌<◌, ℕ, zero, suc, List, [], ◌∷◌, ◌++◌, Option, Some, None, Result, Ok, Err, append_assoc, append-nil, arith, inl, inr, length, length-append, sym, ap, ap₂, subst, refl}
+use Rattle.std.proofs.Common.{◌≡◌, ◌∙◌, ◌<◌, ℕ, zero, suc, List, [], ◌∷◌, ◌++◌, Option, Some, None, Result, Ok, Err, append-nil, arith, inl, inr, length, length-append, sym, ap, ap₂, subst, refl}
 use Rattle.std.specs.Prelude.{IsErrAnd, IsSome, OnErr, slice_get}
 use Rattle.std.specs.Option.{option_map}
 use Rattle.gm_store.specs.Asked.{Name, Reply, name_of}
@@ -11,6 +11,7 @@ use Rattle.gm_store.specs.declared.files.FileName.{FileName}
 use Rattle.gm_store_sums.specs.Sums.{Sums}
 use Rattle.gm_name.specs.ModuleVersion.{ModuleVersion}
 use Rattle.gm_name_table.specs.Listed.{BeginsWith, NumberedList, modules_of}
+use Rattle.gm_name_table.proofs.Listed.{begins_after}
 use Rattle.gm_graph.specs.declared.cache.Cache.{Cache}
 use Rattle.gm_graph.specs.declared.cache.file_table.FileTable.{FileTable}
 use Rattle.gm_graph.specs.declared.cache.summary.Kept.{Kept}
@@ -145,12 +146,6 @@ holds_itself cache = record {
   numbered = ([], sym (append-nil (table_in cache)));
   sound = λ run x place sound. sound;
 }
-
-begins_after : {T : Type 0} (old mid new : List T) → BeginsWith old mid → BeginsWith mid new → BeginsWith old new
-begins_after old mid new one two = (
-  one.0 ++ two.0,
-  two.1 ∙ ap (λ (list : List _). list ++ two.0) one.1 ∙ append_assoc old one.0 two.0,
-)
 
 pub holds_after : (old mid new : Cache) → HoldsSame old mid → HoldsSame mid new → HoldsSame old new
 holds_after old mid new one two = record {

@@ -23,3 +23,4 @@ pub mod Buckets
 pub mod KeptPlaces
 pub mod Places
 pub mod Slots
+pub mod Empty

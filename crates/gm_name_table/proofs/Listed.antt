@@ -1,5 +1,5 @@
 -- Lists of modules by their numbers, in a table that grows at its end.
-use Rattle.std.proofs.Common.{◌≡◌, ◌∙◌, ◌-◌, ◌<◌, ℕ, List, [], ◌∷◌, ◌++◌, Some, length, take, drop, ap, append-nil, refl, sym, subst, inl, inr, arith}
+use Rattle.std.proofs.Common.{◌≡◌, ◌∙◌, ◌-◌, ◌<◌, ℕ, List, [], ◌∷◌, ◌++◌, Some, length, take, drop, ap, append-nil, append_assoc, refl, sym, subst, inl, inr, arith}
 use Rattle.std.specs.Prelude.{slice_get}
 use Rattle.std.proofs.lemmas.List.{drop-map, get_or_append_left, length-append, map_push, take-map}
 use Rattle.std.proofs.lemmas.List.Elements.{All-head, All-push, All-tail, All-weaker}
@@ -34,6 +34,24 @@ still_numbers old new numbers begins are =
     subst (λ (modules : List ModuleVersion). AreModuleNumbers modules numbers) (sym begins.1)
     (All-weaker (λ number. number < length old) (λ number. number < length (old ++ begins.0))
     (λ number below. omega (arith, below, length-append old begins.0)) numbers are)
+
+-- What a list began with, a list that begins with it begins with.
+pub begins_after : {T : Type 0} (old mid new : List T) → BeginsWith old mid → BeginsWith mid new → BeginsWith old new
+begins_after old mid new one two = (
+  one.0 ++ two.0,
+  two.1 ∙ ap (λ (list : List _). list ++ two.0) one.1 ∙ append_assoc old one.0 two.0,
+)
+
+-- What was put to the end of a list at two times was put there one after the other.
+pub appends_after : (old mid new : NumberedList) (first more : List ModuleVersion) → Appends old mid first → Appends mid new more
+    → Appends old new (first ++ more)
+appends_after old mid new first more one two = record {
+  numbered = begins_after old.modules mid.modules new.modules one.numbered two.numbered;
+  kept = begins_after old.numbers mid.numbers new.numbers one.kept two.kept;
+  listed = two.listed
+      ∙ ap (λ (list : List ModuleVersion). list ++ more) one.listed
+      ∙ append_assoc (modules_of old) first more;
+}
 
 -- The number of a module was put to the end of the numbers.
 pub pushed : {was old : NumberedList} (new : List ModuleVersion) (pair : ModuleVersion) (numbers : List ℕ) (number : ℕ) → was ≡ old

@@ -2,7 +2,6 @@ pub mod Appending
 pub mod Bytes
 pub mod Consuming
 pub mod Counts
-pub mod Empty
 pub mod Limits
 pub mod Listing
 pub mod MainFolder

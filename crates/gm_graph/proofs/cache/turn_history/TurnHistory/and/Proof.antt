@@ -19,7 +19,7 @@ use Rattle.gm_name.specs.contracts.fit.ModVer as ModVer
 use Rattle.gm_graph.specs.contracts.cache.depth.Depth as Depth
 use Rattle.gm_graph.specs.Turns.{turn}
 use Rattle.gm_graph.specs.declared.cache.turn_history.TurnHistory.{TurnHistory as Value}
-use Rattle.gm_store.proofs.Empty.{empty, empty_made}
+use Rattle.gm_name.proofs.Empty.{empty, empty_made}
 use Rattle.gm_graph.proofs.cache.turn_history.TurnHistory.and.Statement.{statement}
 use Rattle.gm_graph.proofs.cache.turn_history.TurnHistory.and.Code as code
 

@@ -10,7 +10,7 @@ use denote.Triple.Entry.{on_entry}
 use denote.Triple.Walked.{Stays, walk_of, says, ends_at}
 use Rattle.gm_graph.specs.contracts.cache.turn_history.TurnHistory.new as f
 use Rattle.gm_graph.specs.declared.cache.turn_history.TurnHistory.{TurnHistory}
-use Rattle.gm_store.proofs.Empty.{empty, empty_made}
+use Rattle.gm_name.proofs.Empty.{empty, empty_made}
 use Rattle.gm_graph.proofs.cache.turn_history.TurnHistory.new.Statement.{statement}
 use Rattle.gm_graph.proofs.cache.turn_history.TurnHistory.new.Code as code
 

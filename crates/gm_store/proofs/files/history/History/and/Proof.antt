@@ -18,7 +18,7 @@ use Rattle.gm_store.specs.contracts.files.history.History as History
 use Rattle.gm_store.specs.contracts.files.FileName as FileName
 use Rattle.gm_store.specs.contracts.files.Answer as Answer
 use Rattle.gm_store.specs.declared.files.history.History.{History as Value}
-use Rattle.gm_store.proofs.Empty.{empty, empty_made}
+use Rattle.gm_name.proofs.Empty.{empty, empty_made}
 use Rattle.gm_store.proofs.files.history.History.and.Statement.{statement}
 use Rattle.gm_store.proofs.files.history.History.and.Code as code
 

@@ -10,7 +10,7 @@ use denote.Triple.Entry.{on_entry}
 use denote.Triple.Walked.{Stays, walk_of, says, ends_at}
 use Rattle.gm_store.specs.contracts.files.history.History.new as f
 use Rattle.gm_store.specs.declared.files.history.History.{History}
-use Rattle.gm_store.proofs.Empty.{empty, empty_made}
+use Rattle.gm_name.proofs.Empty.{empty, empty_made}
 use Rattle.gm_store.proofs.files.history.History.new.Statement.{statement}
 use Rattle.gm_store.proofs.files.history.History.new.Code as code
 

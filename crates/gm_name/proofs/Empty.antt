@@ -1,4 +1,4 @@
--- A struct without fields, as the walks of `History` make it.
+-- A struct without fields at run time, as the walks of those that only proofs read make it.
 use Rattle.std.proofs.Common.{List, [], ◌∷◌, refl}
 use seplogic.Ra.Ura.{Ura}
 use mir.Val.{Val, vstruct, vnil}
