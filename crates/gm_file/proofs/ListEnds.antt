@@ -1,120 +1,111 @@
 -- The end of a list of modules, to which requirements are put.
 use Rattle.std.proofs.Common.{◌≡◌, ◌∙◌, ◌≤◌, ℕ, Bool, true, false, List, [], ◌∷◌, ◌++◌, Some, append-nil, ap, arith, drop, length, length-append, refl, subst, sym, take}
-use Rattle.std.proofs.lemmas.List.{drop_all, length-map, length-take-le, take-append-drop, take-append-le, take-map, take_all}
+use Rattle.std.proofs.lemmas.List.{drop_all, drop-append-le, length-map, take-append-le, take-map, take_all}
 use Rattle.std.proofs.lemmas.Option.{same_Some}
 use Rattle.std.specs.Prelude.{OnErr, OnOk, Result, Ok, Err}
 use Rattle.gm_name.specs.ModuleVersion.{ModuleVersion, module_at}
-use Rattle.gm_name_table.specs.Listed.{Appends, AreModuleNumbers, BeginsWith, NumberedList, modules_of}
-use Rattle.gm_name_table.proofs.Listed.{same_modules}
-use Rattle.gm_file.specs.Requirements.{IsLonger, Requirements, items_in, list_before}
+use Rattle.gm_name_table.specs.Listed.{Appends, BeginsWith, NumberedList, modules_at, modules_of}
+use Rattle.gm_name_table.proofs.Listed.{appends_after}
+use Rattle.gm_file.specs.Requirements.{HasGrown, Requirements, items_in}
+use Rattle.gm_file.specs.declared.list_before.ListBefore.{ListBefore}
 use Rattle.gm_file.specs.declared.required.Destination.TheVariants as place
 
--- What stood at the beginning of a list stands there still.
-begun_as : {T : Type 0} (old new : List T) (n : ℕ) → n ≤ length old → BeginsWith old new → take n new ≡ take n old
-begun_as {T} old new n within begins =
-    ap (λ (list : List T). take n list) begins.1 ∙ take-append-le n old begins.0 within
+-- Nothing comes after the end of a list.
+ends_here : (list : NumberedList) (start : ℕ) → start ≡ length list.numbers → drop start (modules_of list) ≡ []
+ends_here list start is =
+    drop_all start (modules_of list) (omega (arith, is, length-map list.numbers (module_at list.modules)))
 
-length-BeginsWith : {T : Type 0} (old new : List T) → BeginsWith old new → length old ≤ length new
-length-BeginsWith {T} old new begins =
-    let is = ap (λ (list : List T). length list) begins.1 in omega (arith, is, length-append old begins.0)
+-- What is put to the end of a list that has grown comes after what was put there earlier.
+ends_with : {before : NumberedList} (old new : NumberedList) (start : ℕ) (more : List ModuleVersion)
+    → HasGrown before old start → Appends old new more → drop start (modules_of new) ≡ drop start (modules_of old) ++ more
+ends_with {before} old new start more grown appends =
+    let kept = ap (λ (numbers : List ℕ). length numbers) grown.appends.kept.1 in
+    let within : start ≤ length (modules_of old) =
+    omega (
+      arith,
+      grown.starts,
+      kept,
+      length-append before.numbers grown.appends.kept.0,
+      length-map old.numbers (module_at old.modules),
+    ) in
+    ap (λ (modules : List ModuleVersion). drop start modules) appends.listed
+    ∙ drop-append-le start (modules_of old) more within
 
--- What the list was before stays, if modules are put to its end.
-same_before : (old new : NumberedList) (start known : ℕ) (more : List ModuleVersion) → IsLonger old start known
-    → Appends old new more → list_before new start known ≡ list_before old start known
-same_before old new start known more longer appends =
-    ap (λ (modules : List ModuleVersion). record { modules = modules; numbers = take start new.numbers })
-    (begun_as old.modules new.modules known longer.modules appends.numbered)
-    ∙ ap (λ (numbers : List ℕ). record { modules = take known old.modules; numbers = numbers })
-    (begun_as old.numbers new.numbers start longer.numbers appends.kept)
-
-still_longer : (old new : NumberedList) (start known : ℕ) (more : List ModuleVersion) → IsLonger old start known
-    → Appends old new more → IsLonger new start known
-still_longer old new start known more longer appends = record {
-  numbers = omega (arith, longer.numbers, length-BeginsWith old.numbers new.numbers appends.kept);
-  modules = omega (arith, longer.modules, length-BeginsWith old.modules new.modules appends.numbered);
-  below = subst (λ (list : NumberedList). AreModuleNumbers list.modules list.numbers)
-      (sym (same_before old new start known more longer appends)) longer.below;
+-- So the list has grown still.
+grown_more : {before : NumberedList} (old new : NumberedList) (start : ℕ) (more : List ModuleVersion)
+    → HasGrown before old start → Appends old new more → HasGrown before new start
+grown_more {before} old new start more grown appends = record {
+  starts = grown.starts;
+  appends = subst (λ (ms : List ModuleVersion). Appends before new ms) (sym (ends_with old new start more grown appends))
+      (appends_after before old new (drop start (modules_of old)) more grown.appends appends);
 }
 
--- What came after was put to the end of what the list was before.
-end_appends : (list : NumberedList) (start known : ℕ) → IsLonger list start known
-    → Appends (list_before list start known) list (drop start (modules_of list))
-end_appends list start known longer =
-    let begins : BeginsWith (take known list.modules) list.modules =
-    (drop known list.modules, sym (take-append-drop known list.modules)) in
+-- It has if it ends with one module more, or is the same.
+pub grown_if_known : {before : NumberedList} (old new : NumberedList) (start : ℕ) (pair : ModuleVersion) (is_known : Bool)
+    → HasGrown before old start → (is_known ≡ true → Appends old new (pair ∷ [])) → (is_known ≡ false → new ≡ old)
+    → HasGrown before new start
+grown_if_known old new start pair true grown pushed unknown =
+    grown_more old new start (pair ∷ []) grown (pushed refl)
+grown_if_known {before} old new start pair false grown pushed unknown =
+    subst (λ (list : NumberedList). HasGrown before list start) (sym (unknown refl)) grown
+
+-- It has too if one module was put to the end, or memory ran out and nothing was.
+pub grown_if_pushed : {T E : Type 0} {before : NumberedList} (old new : NumberedList) (start : ℕ) (pair : ModuleVersion)
+    (result : Result T E) → HasGrown before old start → OnOk result (Appends old new (pair ∷ []))
+    → OnErr result (Appends old new []) → HasGrown before new start
+grown_if_pushed old new start pair (Ok value) grown ok err = grown_more old new start (pair ∷ []) grown ok
+grown_if_pushed old new start pair (Err error) grown ok err = grown_more old new start [] grown err
+
+-- The beginning of a list, up to where it ended before, is what it was before.
+begun_as : {T : Type 0} (before list : List T) (n : ℕ) → n ≡ length before → BeginsWith before list → take n list ≡ before
+begun_as {T} before list n is begins =
+    ap (λ (all : List T). take n all) begins.1
+    ∙ take-append-le n before begins.0 (omega (arith, is))
+    ∙ take_all n before (omega (arith, is))
+
+-- A list that is cut to its old length has the numbers that it had before, and nothing comes after.
+numbers_if_cut : {before : NumberedList} (list cut : NumberedList) (start : ℕ) → HasGrown before list start
+    → cut.numbers ≡ take start list.numbers → cut.numbers ≡ before.numbers
+numbers_if_cut {before} list cut start grown numbers =
+    numbers ∙ begun_as before.numbers list.numbers start grown.starts grown.appends.kept
+
+pub nothing_if_cut : {before : NumberedList} (list cut : NumberedList) (start : ℕ) → HasGrown before list start
+    → cut.numbers ≡ take start list.numbers → drop start (modules_of cut) ≡ []
+nothing_if_cut {before} list cut start grown numbers =
+    ends_here cut start
+    (grown.starts ∙ sym (ap (λ (ns : List ℕ). length ns) (numbers_if_cut list cut start grown numbers)))
+
+-- It has grown by nothing.
+pub grown_if_cut : {before : NumberedList} (list cut : NumberedList) (start : ℕ) → HasGrown before list start
+    → cut.modules ≡ list.modules → cut.numbers ≡ take start list.numbers → HasGrown before cut start
+grown_if_cut {before} list cut start grown modules numbers =
+    let begins : BeginsWith (modules_of before) (modules_of list) = (drop start (modules_of list), grown.appends.listed) in
+    let count : start ≡ length (modules_of before) =
+    grown.starts ∙ sym (length-map before.numbers (module_at before.modules)) in
+    let same : modules_of cut ≡ modules_of before =
+    ap (λ (ms : List ModuleVersion). modules_at ms cut.numbers) modules
+    ∙ ap (λ (ns : List ℕ). modules_at list.modules ns) numbers
+    ∙ sym (take-map (module_at list.modules) start list.numbers)
+    ∙ begun_as (modules_of before) (modules_of list) start count begins in
     record {
-      numbered = begins;
-      kept = (drop start list.numbers, sym (take-append-drop start list.numbers));
-      listed = sym (take-append-drop start (modules_of list))
-          ∙ ap (λ (before : List ModuleVersion). before ++ drop start (modules_of list))
-          (take-map (module_at list.modules) start list.numbers
-          ∙ same_modules (take known list.modules) list.modules (take start list.numbers) begins longer.below);
+      starts = grown.starts;
+      appends = record {
+        numbered = subst (λ (ms : List ModuleVersion). BeginsWith before.modules ms) (sym modules) grown.appends.numbered;
+        kept = ([], numbers_if_cut list cut start grown numbers ∙ sym (append-nil before.numbers));
+        listed = same
+            ∙ sym (append-nil (modules_of before))
+            ∙ ap (λ (more : List ModuleVersion). modules_of before ++ more)
+            (sym (nothing_if_cut list cut start grown numbers));
+      };
     }
 
--- It is so in any list that is this one, if this is what stands before in the place.
-pub given_back : {requirements : Requirements} (list given before : NumberedList) (start known : ℕ)
-    → items_in (place.End list start known) ≡ requirements → IsLonger list start known
+-- What was put to the end of the list before is put to the end of it in any list that is this one.
+pub given_back : {requirements : Requirements} (list given before : NumberedList) (start : ℕ) (was : ListBefore)
+    → items_in (place.End list start was) ≡ requirements → HasGrown was.list list start
     → requirements.before ≡ Some before → given ≡ list → Appends before given requirements.items
-given_back list given before start known is longer has same =
+given_back list given before start was is grown has same =
     subst (λ (r : Requirements). r.before ≡ Some before → Appends before given r.items) is
     (λ there.
-    subst (λ (b : NumberedList). Appends b given (drop start (modules_of list)))
-    (same_Some (list_before list start known) before there)
-    (subst (λ (l : NumberedList). Appends (list_before list start known) l (drop start (modules_of list))) (sym same)
-    (end_appends list start known longer)))
+    subst (λ (b : NumberedList). Appends b given (drop start (modules_of list))) (same_Some was.list before there)
+    (subst (λ (l : NumberedList). Appends was.list l (drop start (modules_of list))) (sym same) grown.appends))
     has
-
--- Nothing was put to the end of the same list.
-nothing_appends : (list : NumberedList) → Appends list list []
-nothing_appends list = record {
-  numbered = ([], sym (append-nil list.modules));
-  kept = ([], sym (append-nil list.numbers));
-  listed = sym (append-nil (modules_of list));
-}
-
--- Either this module was put to the end of a list, or nothing was.
-appends_if_known : (old new : NumberedList) (pair : ModuleVersion) (is_known : Bool)
-    → (is_known ≡ true → Appends old new (pair ∷ [])) → (is_known ≡ false → new ≡ old)
-    → (more : List ModuleVersion) × Appends old new more
-appends_if_known old new pair true known unknown = (pair ∷ [], known refl)
-appends_if_known old new pair false known unknown =
-    ([], subst (λ (list : NumberedList). Appends old list []) (sym (unknown refl)) (nothing_appends old))
-
--- So the list is no shorter, and what it was before stays.
-pub stays_if_known : (old new : NumberedList) (start known : ℕ) (pair : ModuleVersion) (is_known : Bool) → IsLonger old start known
-    → (is_known ≡ true → Appends old new (pair ∷ [])) → (is_known ≡ false → new ≡ old)
-    → IsLonger new start known × (list_before new start known ≡ list_before old start known)
-stays_if_known old new start known pair is_known longer pushed unknown =
-    let more = appends_if_known old new pair is_known pushed unknown in (
-      still_longer old new start known more.0 longer more.1,
-      same_before old new start known more.0 longer more.1,
-    )
-
--- It is so too if one module was put to the end, or memory ran out and nothing was.
-pub stays_if_pushed : {T E : Type 0} (old new : NumberedList) (start known : ℕ) (pair : ModuleVersion) (result : Result T E)
-    → IsLonger old start known → OnOk result (Appends old new (pair ∷ [])) → OnErr result (Appends old new [])
-    → IsLonger new start known × (list_before new start known ≡ list_before old start known)
-stays_if_pushed old new start known pair (Ok value) longer ok err =
-    (still_longer old new start known (pair ∷ []) longer ok, same_before old new start known (pair ∷ []) longer ok)
-stays_if_pushed old new start known pair (Err error) longer ok err =
-    (still_longer old new start known [] longer err, same_before old new start known [] longer err)
-
--- A list that is cut to its old length is no shorter than that, what it was before stays, and nothing comes after.
-pub stays_if_cut : (list cut : NumberedList) (start known : ℕ) → IsLonger list start known → cut.modules ≡ list.modules
-    → cut.numbers ≡ take start list.numbers → IsLonger cut start known
-    × (list_before cut start known ≡ list_before list start known) × (drop start (modules_of cut) ≡ [])
-stays_if_cut list cut start known longer modules numbers =
-    let count : length cut.numbers ≡ start =
-    ap (λ (ns : List ℕ). length ns) numbers ∙ length-take-le start list.numbers longer.numbers in
-    let same : list_before cut start known ≡ list_before list start known =
-    ap (λ (ms : List ModuleVersion). record { modules = take known ms; numbers = take start cut.numbers }) modules
-    ∙ ap (λ (ns : List ℕ). record { modules = take known list.modules; numbers = ns })
-    (take_all start cut.numbers (omega (arith, count)) ∙ numbers) in (
-      record {
-        numbers = omega (arith, count);
-        modules = rw modules longer.modules;
-        below = subst (λ (l : NumberedList). AreModuleNumbers l.modules l.numbers) (sym same) longer.below;
-      },
-      same,
-      drop_all start (modules_of cut) (omega (arith, count, length-map cut.numbers (module_at cut.modules))),
-    )

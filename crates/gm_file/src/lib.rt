@@ -31,6 +31,7 @@ mod fault;
 mod fields;
 mod go_version;
 pub mod laws;
+mod list_before;
 mod listed_file;
 mod main_file;
 mod misreading;

@@ -7,6 +7,7 @@ ghost use Rattle.gm_file.specs.Faults.{pair_kinds};
 ghost use Rattle.gm_file.specs.Reading.{IsRead};
 
 use crate::fault::{DirectiveKind, LineFault};
+use crate::list_before::ListBefore;
 use crate::part::pair_of_texts;
 use gm_name::{KnownNames, ModVer, NoMemory};
 use gm_name_table::ModuleList;
@@ -18,12 +19,11 @@ use std::mem;
 enum Destination {
     /// A list of their own.
     Own(Vec<ModVer>),
-    /// The end of a list of modules. `start` is its length before, and `known` its number of distinct modules before,
-    /// which only contracts use.
+    /// The end of a list of modules, which was `before`, of the length `start`.
     End {
         list: ModuleList,
         start: usize,
-        known: usize,
+        before: ListBefore,
     },
 }
 
@@ -35,13 +35,13 @@ pub(crate) struct Required {
 }
 
 impl Model for Required {
-    ghost use Rattle.gm_file.specs.Requirements.{IsLongEnough, Requirements, items_in};
+    ghost use Rattle.gm_file.specs.Requirements.{IsGrownList, Requirements, items_in};
 
     ghost Value = { Requirements };
 
     ghost view = { λ r. items_in r.place };
 
-    ghost invariant = { λ r. IsLongEnough r.place };
+    ghost invariant = { λ r. IsGrownList r.place };
 }
 
 impl Required {
@@ -61,9 +61,13 @@ impl Required {
         ensures items { result.items ≡ [] }
     {
         let start = list.len();
-        let known = list.module_count();
+        let before = ListBefore::of(&list);
         Required {
-            place: Destination::End { list, start, known },
+            place: Destination::End {
+                list,
+                start,
+                before,
+            },
         }
     }
 

@@ -1,7 +1,4 @@
-use Rattle.std.proofs.Common.{◌∙◌, Some, ap, sym}
-use Rattle.gm_file.specs.Requirements.{Requirements, items_in}
-use Rattle.gm_file.specs.declared.required.Destination.{Destination}
-use Rattle.gm_file.proofs.ListEnds.{stays_if_cut}
+use Rattle.gm_file.proofs.ListEnds.{grown_if_cut, nothing_if_cut}
 use Rattle.gm_file.proofs.required.Required.clear.Goals as goal
 use Rattle.gm_file.proofs.required.Required.clear.Goals.{in-Own, in-End}
 
@@ -11,24 +8,8 @@ invariant_of-self c = elim c.match-self.branch [
   | in-End w ↦
       let here = w.in-End in
       rw w.self-inside-is
-      (stays_if_cut here.list w.truncate.new.self here.start here.known (rw here.is at c.self.invariant)
-      w.truncate.ensures.modules w.truncate.ensures.numbers).0
-]
-
-pub returns-clause-before : goal.returns-clause-before
-returns-clause-before c = elim c.match-self.branch [
-  | in-Own w ↦
-      rw w.self-inside-is
-      (sym (ap (λ (place : Destination). (items_in place).before) w.in-Own.is)
-      ∙ ap (λ (r : Requirements). r.before) c.self.view_is)
-  | in-End w ↦
-      let here = w.in-End in
-      let stays = stays_if_cut here.list w.truncate.new.self here.start here.known (rw here.is at c.self.invariant)
-      w.truncate.ensures.modules w.truncate.ensures.numbers in
-      rw w.self-inside-is
-      (ap Some stays.1
-      ∙ sym (ap (λ (place : Destination). (items_in place).before) here.is)
-      ∙ ap (λ (r : Requirements). r.before) c.self.view_is)
+      (grown_if_cut here.list w.truncate.new.self here.start (rw here.is at c.self.invariant)
+      w.truncate.ensures.modules w.truncate.ensures.numbers)
 ]
 
 pub returns-clause-items : goal.returns-clause-items
@@ -37,6 +18,5 @@ returns-clause-items c = elim c.match-self.branch [
   | in-End w ↦
       let here = w.in-End in
       rw w.self-inside-is
-      (stays_if_cut here.list w.truncate.new.self here.start here.known (rw here.is at c.self.invariant)
-      w.truncate.ensures.modules w.truncate.ensures.numbers).2
+      (nothing_if_cut here.list w.truncate.new.self here.start (rw here.is at c.self.invariant) w.truncate.ensures.numbers)
 ]
