@@ -1,8 +1,8 @@
 -- A store in memory whose device fails once.
-use Rattle.std.specs.Prelude.{ℕ, ◌-◌, List, map, Option, Some, None}
+use Rattle.std.specs.Prelude.{ℕ, ◌-◌, List, Option, Some, None}
 use Rattle.gm_store.specs.declared.files.failing.FailingFiles.{FailingFiles}
 use Rattle.gm_store.specs.declared.files.memory.MemoryFiles.{MemoryFiles}
-use Rattle.gm_store.specs.Asked.{Name, name_of}
+use Rattle.gm_store.specs.Asked.{Name}
 use Rattle.gm_store.specs.Memory.{pairs_of}
 use Rattle.gm_store.specs.States.{StoreState}
 
@@ -16,7 +16,7 @@ asks_left store = store.left
 
 -- the names whose requests were refused because the device failed, in order
 abbrev pub refusals_of : FailingFiles → List Name
-refusals_of store = map name_of store.refused.items
+refusals_of store = store.refusals.refused
 
 -- one request fewer, if the device has not failed yet
 abbrev pub one_fewer : Option ℕ → Option ℕ

@@ -1,10 +1,10 @@
 -- Views of a fallback store: its folders and marks, its requests with their answers, its refusals, and its counts.
-use Rattle.std.specs.Prelude.{ℕ, List, map}
+use Rattle.std.specs.Prelude.{ℕ, List}
 use Rattle.gm_store.specs.declared.fallback.store.FallbackStore.{FallbackStore}
 use Rattle.gm_store.specs.declared.fallback.proxy_list.Mark.{Mark}
 use Rattle.gm_store.specs.declared.files.keeping.Keeps.{Ghosts as Kept}
 use Rattle.gm_store.specs.declared.folders.FolderList.{Ghosts}
-use Rattle.gm_store.specs.Asked.{Name, Reply, name_of}
+use Rattle.gm_store.specs.Asked.{Name, Reply}
 use Rattle.gm_store.specs.Counted.{counts_in, inner_folders}
 use Rattle.gm_store.specs.States.{StoreState}
 use Rattle.gm_store.specs.Steps.{Counts}
@@ -23,7 +23,7 @@ asked_by {h = h} store = h.kept store.asked
 
 -- the names whose requests were refused because the device failed, in order
 abbrev pub refused_by : {F K : Type 0} {g : Ghosts F} {h : Kept K} → FallbackStore F K g h → List Name
-refused_by store = map name_of store.refused.items
+refused_by store = store.refusals.refused
 
 -- how often folders were looked into, and how often the device failed in that
 abbrev pub counts_of : {F K : Type 0} {g : Ghosts F} {h : Kept K} → FallbackStore F K g h → Counts

@@ -11,7 +11,8 @@ ghost use Rattle.gm_store.specs.FolderLookups.{marks_for};
 use crate::fallback::proxy_list::Mark;
 use crate::fallback::walk::walk;
 use crate::files::all_answers::AllAnswers;
-use crate::files::keeping::{Keeps, keep_name};
+use crate::files::history::History;
+use crate::files::keeping::Keeps;
 use crate::files::{Answer, AskFault, Asks, FileName, Files};
 use crate::folders::FolderList;
 use crate::folders::buffers::Buffers;
@@ -37,8 +38,8 @@ pub struct FallbackStore<F: FolderList, K: Keeps = AllAnswers> {
     marks: Vec<Mark>,
     /// What is kept of the answered requests.
     asked: K,
-    /// The names whose requests were refused because the device failed, in order.
-    refused: Vec<FileName>,
+    /// The names whose requests were refused because the device failed. It takes no memory, and only proofs read it.
+    refusals: History,
     // A folder follows each mark, for each name, so the walk can't leave the list.
     ghost between: { (name : Name) → length (marks_for name marks.items) < F.count_for (inner_folders folders) name },
 }
@@ -66,7 +67,7 @@ impl<F: FolderList, K: Keeps> FallbackStore<F, K> {
             buffers: Buffers::new(alloc),
             marks,
             asked: K::new(alloc),
-            refused: Vec::new(alloc),
+            refusals: History::new(),
         }
     }
 
@@ -124,7 +125,7 @@ impl<F: FolderList, K: Keeps> Asks for FallbackStore<F, K> {
                 Ok(())
             }
             None => {
-                keep_name(self.alloc, &mut self.refused, name)?;
+                self.refusals = self.refusals.and_refused(name);
                 Err(AskFault::Device)
             }
         }

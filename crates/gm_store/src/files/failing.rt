@@ -6,7 +6,7 @@ ghost use Rattle.std.specs.Prelude.{◌≡◌, [], Some, None, OnOk, IsErr};
 ghost use Rattle.gm_store.specs.Asked.{answer_in, name_of};
 ghost use Rattle.gm_store.specs.Requests.{IsRequest};
 
-use crate::files::keeping::keep_name;
+use crate::files::history::History;
 use crate::files::memory::MemoryFiles;
 use crate::files::{Answer, AskFault, Asks, FileName, Files};
 
@@ -17,8 +17,8 @@ pub struct FailingFiles {
     inside: MemoryFiles,
     /// How many requests pass before the failure, or `None` once it has happened.
     left: Option<u64>,
-    /// The name of the refused request, once there was one.
-    refused: Vec<FileName>,
+    /// The name of the refused request, once there was one. It takes no memory, and only proofs read it.
+    refusals: History,
 }
 
 impl FailingFiles {
@@ -34,11 +34,10 @@ impl FailingFiles {
         ensures left { asks_left result ≡ Some asks }
         ensures refused { refusals_of result ≡ [] }
     {
-        let refused = Vec::new(inside.alloc);
         FailingFiles {
             inside,
             left: Some(asks),
-            refused,
+            refusals: History::new(),
         }
     }
 }
@@ -65,7 +64,7 @@ impl Asks for FailingFiles {
     {
         match self.left {
             Some(0) => {
-                keep_name(self.inside.alloc, &mut self.refused, name)?;
+                self.refusals = self.refusals.and_refused(name);
                 self.left = None;
                 Err(AskFault::Device)
             }

@@ -1,9 +1,8 @@
-//! What a store keeps of its requests: answers, and the names that were refused.
+//! What a store keeps of the requests that it answered.
 
-ghost use Rattle.std.specs.Prelude.{◌≡◌, ◌<◌, [], ◌∷◌, ◌++◌, length, List, map, OnOk, OnErr};
-ghost use Rattle.gm_store.specs.Asked.{name_of};
+ghost use Rattle.std.specs.Prelude.{◌≡◌, ◌<◌, [], ◌∷◌, ◌++◌, length, List, OnOk, OnErr};
 
-use crate::files::{Answer, FileName, copy_name};
+use crate::files::{Answer, FileName};
 use gm_name::NoMemory;
 use std::alloc::Global;
 
@@ -31,18 +30,4 @@ pub trait Keeps {
         requires { 0 < length (kept self.now) }
         ensures value { IsLast (kept self.now) (reply_of result.now) }
         ensures within_limit { IsWithinLimit (reply_of result.now) };
-}
-
-/// Appends a refused name. The only refusal is `NoMemory`, which leaves the list unchanged.
-pub(crate) fn keep_name(
-    alloc: Global,
-    refused: &mut Vec<FileName>,
-    name: &FileName,
-) -> Result<(), NoMemory>
-    ensures ok { OnOk result (map name_of refused.new.items
-        ≡ map name_of refused.old.items ++ name_of name.now ∷ []) }
-    ensures err { OnErr result (refused.new.items ≡ refused.old.items) }
-{
-    refused.push(copy_name(alloc, name)?)?;
-    Ok(())
 }

@@ -1,5 +1,4 @@
 use Rattle.std.proofs.Common.{◌∙◌, List, Some, None, ap, arith, refl, subst}
-use Rattle.std.specs.Prelude.{map}
 use Rattle.gm_store.specs.Asked.{name_of, reply_of}
 use Rattle.gm_store.specs.Counted.{counts_in, inner_folders}
 use Rattle.gm_store.specs.FolderLookups.{MayAnswerFrom, marks_for}
@@ -26,13 +25,8 @@ returns-in_ok-keep-in-Some-clause-lookups g c =
     let marks = c.marks_for-marks.ensures ∙ ap (marks_for (name_of c.args.name.now)) c.deref.ensures.value in
     subst (λ (ms : List Mark). HasCounted (λ k seen. g.F.FolderList.may_find (inner_folders c.args.self.now.folders) k (name_of c.args.name.now) seen) ms (counts_in c.args.self.now.folders) (counts_in c.walk.new.folders)) marks c.walk.ensures.lookups
 
-pub returns-in_err-keep_name-in-None-clause-lookups : goal.returns-in_err-keep_name-in-None-clause-lookups
-returns-in_err-keep_name-in-None-clause-lookups g c =
-    let marks = c.marks_for-marks.ensures ∙ ap (marks_for (name_of c.args.name.now)) c.deref.ensures.value in
-    subst (λ (ms : List Mark). HasCounted (λ k seen. g.F.FolderList.may_find (inner_folders c.args.self.now.folders) k (name_of c.args.name.now) seen) ms (counts_in c.args.self.now.folders) (counts_in c.walk.new.folders)) marks c.walk.ensures.lookups
-
-pub returns-in_ok-keep_name-in-None-clause-lookups : goal.returns-in_ok-keep_name-in-None-clause-lookups
-returns-in_ok-keep_name-in-None-clause-lookups g c =
+pub returns-in-None-clause-lookups : goal.returns-in-None-clause-lookups
+returns-in-None-clause-lookups g c =
     let marks = c.marks_for-marks.ensures ∙ ap (marks_for (name_of c.args.name.now)) c.deref.ensures.value in
     subst (λ (ms : List Mark). HasCounted (λ k seen. g.F.FolderList.may_find (inner_folders c.args.self.now.folders) k (name_of c.args.name.now) seen) ms (counts_in c.args.self.now.folders) (counts_in c.walk.new.folders)) marks c.walk.ensures.lookups
 
@@ -43,9 +37,6 @@ returns-in_err-outcome-clause-device g c = λ e. cc (rw e at c.from_residual.ens
 
 pub returns-in_err-keep-in-Some-clause-device : goal.returns-in_err-keep-in-Some-clause-device
 returns-in_err-keep-in-Some-clause-device g c = λ e. cc (rw e at c.from_residual-in_err-keep-in-Some.ensures.1)
-
-pub returns-in_err-keep_name-in-None-clause-device : goal.returns-in_err-keep_name-in-None-clause-device
-returns-in_err-keep_name-in-None-clause-device g c = λ e. cc (rw e at c.from_residual-in_err-keep_name-in-None.ensures.1)
 
 pub returns-in_ok-keep-in-Some-clause-counted : goal.returns-in_ok-keep-in-Some-clause-counted
 returns-in_ok-keep-in-Some-clause-counted g c =
@@ -58,8 +49,8 @@ returns-in_ok-keep-in-Some-clause-counted g c =
       stop.2,
     )
 
-pub returns-in_ok-keep_name-in-None-clause-device : goal.returns-in_ok-keep_name-in-None-clause-device
-returns-in_ok-keep_name-in-None-clause-device g c = λ _.
+pub returns-in-None-clause-device : goal.returns-in-None-clause-device
+returns-in-None-clause-device g c = λ _.
     let stop = rw c.in-None.is at c.in_ok-outcome.ensures.stop in
     let marks = c.marks_for-marks.ensures ∙ ap (marks_for (name_of c.args.name.now)) c.deref.ensures.value in
     (stop.0, subst (λ (ms : List Mark). MayStop (λ k seen. g.F.FolderList.may_find (inner_folders c.args.self.now.folders) k (name_of c.args.name.now) seen) ms None stop.0) marks stop.1, stop.2)
@@ -75,11 +66,11 @@ returns-in_ok-keep-in-Some-clause-request g c =
     (stop.0, subst (λ (ms : List Mark). MayStop (λ k seen. g.F.FolderList.may_find (inner_folders c.args.self.now.folders) k (name_of c.args.name.now) seen) ms (Some (reply_of c.in-Some.answer)) stop.0) marks stop.1)
     small c.in_ok-keep-in-Some.ensures.ok refl
 
-pub returns-in_ok-keep_name-in-None-clause-request : goal.returns-in_ok-keep_name-in-None-clause-request
-returns-in_ok-keep_name-in-None-clause-request g c =
+pub returns-in-None-clause-request : goal.returns-in-None-clause-request
+returns-in-None-clause-request g c =
     let stop = c.in_ok-outcome.ensures.stop in
     request_refused _ _ _ _ (name_of c.args.name.now) (λ n r is. subst (λ folders. MayAnswerFrom (g.F.FolderList.may_find folders) c.args.self.now.marks.items n r) c.walk.ensures.folders is) (count_rises _ _ _ stop.2 (omega arith)) refl
-    c.in_ok-keep_name-in-None.ensures.ok (rw c.in-None.is at c.in_ok-outcome.ensures.cause)
+    c.and_refused-self.ensures.refused (rw c.in-None.is at c.in_ok-outcome.ensures.cause)
 
 pub returns-in_err-outcome-clause-request : goal.returns-in_err-outcome-clause-request
 returns-in_err-outcome-clause-request g c =
@@ -91,9 +82,3 @@ returns-in_err-keep-in-Some-clause-request g c =
     let stop = c.in_ok-outcome.ensures.stop in
     request_starved _ _ _ _ (name_of c.args.name.now) (λ n r is. subst (λ folders. MayAnswerFrom (g.F.FolderList.may_find folders) c.args.self.now.marks.items n r) c.walk.ensures.folders is) (count_rises _ _ _ stop.2 (omega arith))
     c.from_residual-in_err-keep-in-Some.result c.from_residual-in_err-keep-in-Some.ensures.1 c.in_err-keep-in-Some.ensures.err refl
-
-pub returns-in_err-keep_name-in-None-clause-request : goal.returns-in_err-keep_name-in-None-clause-request
-returns-in_err-keep_name-in-None-clause-request g c =
-    let stop = c.in_ok-outcome.ensures.stop in
-    request_starved _ _ _ _ (name_of c.args.name.now) (λ n r is. subst (λ folders. MayAnswerFrom (g.F.FolderList.may_find folders) c.args.self.now.marks.items n r) c.walk.ensures.folders is) (count_rises _ _ _ stop.2 (omega arith))
-    c.from_residual-in_err-keep_name-in-None.result c.from_residual-in_err-keep_name-in-None.ensures.1 refl (ap (map name_of) c.in_err-keep_name-in-None.ensures.err)

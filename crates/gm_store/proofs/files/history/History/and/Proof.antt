@@ -1,7 +1,8 @@
--- `and` makes the empty struct, with the items that its clause names.
+-- `and` makes the empty struct, with the lists that its clauses name. At the end it shows them, the last first.
 use Rattle.std.proofs.Common.{[], ◌∷◌, ◌++◌, refl}
 use Rattle.std.proofs.raw_atomic.Walks.{proved}
-use types.Kit.{raw, ‵, ◌⊛◌, ◌$◌, ◌∵◌, !, qed, keep, split, move, fjoin, suffices, done}
+use types.Kit.{raw, ‵, ◌⊛◌, ◌$◌, ◌∵◌, !, qed, keep, split, move, fjoin, group, frame, suffices, by}
+use contract.Fact.{fact_i}
 use types.Part.{agg}
 use types.Run.{enter, returns, no_more}
 use types.ByLocal.{alloc_all, pass_all, free_all, look_at, sets}
@@ -44,11 +45,11 @@ and_spec 𝓤 𝓛 𝓜 𝓡 wired =
     f.Key.name code.function (code.unfolded 𝓤 𝓛.H 𝓜 𝓡 wired)
     (λ κs. (shr_vals, (shr_vals, (shr_vals, tt)))) (λ κs. (λ x vs is. is.0, (λ x vs is. is.0, (λ x vs is. is.0, tt)))) (λ κs qs bounds a n are.
     let y : W.Ghost = ((κs, qs, bounds, a, (shr_vals a.0, (shr_vals a.1.0, (shr_vals a.1.1.0, tt)))), tt) in
-    let made : Value = record { items = a.0.now.items ++ (a.1.0.now, a.1.1.0.now) ∷ [] } in
+    let made : Value = record { items = a.0.now.items ++ (a.1.0.now, a.1.1.0.now) ∷ []; refused = a.0.now.refused } in
     qed 𝓛 ((raw (alive 𝓛 f.signature κs qs) ⊛ ‵ (owns (types_at f.signature.params κs) a y.0.4)) ∷ raw ((c κs a).requires tt) ∷ []) ∵
     keep ! (0 ∷ []) $ split ! $ keep ! (0 ∷ []) $
     enter ! _ _ _ _ _ $ alloc_all ! (λ l. pass_all ! refl ((tt, tt), ((tt, tt), ((tt, tt), tt))) $
     sets ! (agg ! (no_more !)) refl (tt, tt) $ nothing ! $ empty_made ! $ fjoin ! $
     returns ! (look_at ! 0 refl) $ free_all ! refl $
-    suffices ! _ (ends_at 𝓛 f.ended stayed c y empty made (tt, (tt, (tt, tt))) (tt, (tt, (tt, tt)))) $ says ! refl $
-    nothing ! $ nothing ! $ fjoin ! $ nothing ! $ fjoin ! $ nothing ! $ fjoin ! $ move ! (2 ∷ 0 ∷ 1 ∷ []) $ done !))
+    suffices ! _ (ends_at 𝓛 f.ended stayed c y empty made (tt, (tt, (tt, tt))) (tt, (tt, (tt, tt)))) $
+    nothing ! $ nothing ! $ fjoin ! $ nothing ! $ fjoin ! $ nothing ! $ fjoin ! $ move ! (2 ∷ 0 ∷ 1 ∷ []) $ group ! 3 $ frame ! $ says ! refl $ by ! (fact_i 𝓤 _ _ refl)))
