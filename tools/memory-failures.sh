@@ -41,7 +41,7 @@ gm_name/src/version.rt with: a text that is a pre-release was refused
 gm_name_table/src/module_table.rt number: the list has the greatest size
   if self.modules.len() >= MOST_PLACES as usize { return Err(AllocError)
 gm_store/src/file_system.rt read_file: the system says so
-  match system.open(path) { Err(error) if error.kind() == ErrorKind::OutOfMemory => Err(InputFault::NoMemory)
+  match system.open(path) { Err(error) if error.kind() == ErrorKind::OutOfMemory => Err(ReadFault::NoMemory)
 gm_store_sums/src/sum_lines.rt fault_of: no line is invalid, so reading stopped for memory
   match first_invalid_line(text) { None => SumFault::NoMemory
 gomod_run/src/program.rt ending_of: the list of words could not be made

@@ -149,7 +149,7 @@ def main(*names):
         names = ()
     tally = {it: {True: 0, False: 0} for it in ("examples", "pieces of code", "links")}
     skipped = collections.Counter()
-    for name in names or ["README.md", "CHANGELOG.md", *sorted(glob.glob("docs/*/*.md"))]:
+    for name in names or ["README.md", "CHANGELOG.md", *sorted(glob.glob("docs/**/*.md", recursive=True))]:
         with open(name, encoding="utf-8") as it:
             text = it.read()
         run_examples(name, text.split("\n"), program, tally, skipped)

@@ -68,7 +68,7 @@ import sys
 os.chdir(sys.argv[1])
 NOTE = (f"{sys.argv[2]} With `bin/gomod` of the archive on the `PATH`, the examples run in this folder, "
         "`share/doc/gomod`. Files that are named without a link are in the repository, at the commit of `RELEASE.txt`.")
-for name in ["README.md", "CHANGELOG.md", *glob.glob("docs/*/*.md")]:
+for name in ["README.md", "CHANGELOG.md", *glob.glob("docs/**/*.md", recursive=True)]:
     def linked(found):
         target = os.path.join(os.path.dirname(name), found[2].partition("#")[0])
         return found[0] if re.match("#|[a-z]+:", found[2]) or os.path.exists(target) else found[1]

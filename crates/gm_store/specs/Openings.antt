@@ -5,8 +5,8 @@ use Rattle.std.specs.IoError.{error_kind}
 use Rattle.std.specs.declared.io.Error.{Error}
 use Rattle.std.specs.declared.io.ErrorKind.{ErrorKind}
 use Rattle.std.specs.declared.io.ErrorKind.TheVariants.{NotFound, OutOfMemory}
-use Rattle.gm_store.specs.declared.reading.InputFault.{InputFault}
-use Rattle.gm_store.specs.declared.reading.InputFault.TheVariants.{NoMemory, Device}
+use Rattle.gm_store.specs.declared.reading.ReadFault.{ReadFault}
+use Rattle.gm_store.specs.declared.reading.ReadFault.TheVariants.{NoMemory, Device}
 use Rattle.gm_store.specs.Found.{result_for_bytes}
 use Rattle.gm_store.specs.Pieces.{IsReadingFault}
 use Rattle.gm_store.specs.Steps.{Seen, absent, failed}
@@ -30,7 +30,7 @@ pub record IsRefusedLookup (kind : ErrorKind) (seen : Seen) : Type 0 where
   pub memory : kind ≢ OutOfMemory
 
 -- the result if a file was opened and read like this: if memory ran out, there is none
-abbrev pub IsReadLookup : Result (Vec ℕ) InputFault → Seen → Type 0
+abbrev pub IsReadLookup : Result (Vec ℕ) ReadFault → Seen → Type 0
 IsReadLookup (Ok bytes) seen = seen ≡ result_for_bytes bytes.items
 IsReadLookup (Err Device) seen = seen ≡ failed
 IsReadLookup (Err NoMemory) seen = ⊥
@@ -51,7 +51,7 @@ MayLookUp may_open seen = (opening : Opening) × may_open opening × MayShow ope
 -- The results that reading a file up to one byte more than 16 MiB may have. A file that was opened can't be read only
 -- if a read of it may fail, or memory ran out. One that was not opened is not read, and that memory ran out is told
 -- apart from other errors.
-abbrev pub IsReadFrom : Opening → Result (Vec ℕ) InputFault → Type 0
+abbrev pub IsReadFrom : Opening → Result (Vec ℕ) ReadFault → Type 0
 IsReadFrom (opened known may_fail) (Ok bytes) = IfSome known (λ all. bytes.items ≡ take 16777217 all)
 IsReadFrom (opened known may_fail) (Err fault) = IsReadingFault may_fail fault
 IsReadFrom (refused kind) (Ok bytes) = ⊥
@@ -59,5 +59,5 @@ IsReadFrom (refused kind) (Err NoMemory) = kind ≡ OutOfMemory
 IsReadFrom (refused kind) (Err Device) = kind ≢ OutOfMemory
 
 -- one of them, given what may come of opening the file
-abbrev pub MayRead : (Opening → Type 0) → Result (Vec ℕ) InputFault → Type 0
+abbrev pub MayRead : (Opening → Type 0) → Result (Vec ℕ) ReadFault → Type 0
 MayRead may_open read = (opening : Opening) × may_open opening × IsReadFrom opening read

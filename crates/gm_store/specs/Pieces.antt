@@ -1,11 +1,11 @@
 -- The effect of one read of a reader, and why reading may fail.
 use Rattle.std.specs.Prelude.{◌≡◌, ◌<◌, ◌≤◌, ℕ, Bool, List, ◌++◌, length, Option, true}
 use Rattle.std.specs.Io.KnownBytes.{Consumes, IsAtEnd}
-use Rattle.gm_store.specs.declared.reading.InputFault.{InputFault}
-use Rattle.gm_store.specs.declared.reading.InputFault.TheVariants.{NoMemory, Device}
+use Rattle.gm_store.specs.declared.reading.ReadFault.{ReadFault}
+use Rattle.gm_store.specs.declared.reading.ReadFault.TheVariants.{NoMemory, Device}
 
 -- a fault that reading may have: memory ran out, or a read failed, if reads of the reader may fail
-abbrev pub IsReadingFault : Bool → InputFault → Type 0
+abbrev pub IsReadingFault : Bool → ReadFault → Type 0
 IsReadingFault may_fail NoMemory = Unit {0}
 IsReadingFault may_fail Device = may_fail ≡ true
 

@@ -3,7 +3,7 @@
 ghost use Rattle.gm_store.specs.Openings.{MayRead};
 
 use crate::byte_reader::ByteReader;
-use crate::reading::{InputFault, read_limited};
+use crate::reading::{ReadFault, read_limited};
 use std::alloc::Global;
 use std::io::ErrorKind;
 use std::{fs, io, rt};
@@ -45,12 +45,12 @@ pub fn read_file<S: FileSystem>(
     system: &S,
     alloc: Global,
     path: &str,
-) -> Result<Vec<u8>, InputFault>
+) -> Result<Vec<u8>, ReadFault>
     ensures { MayRead (S.may_open system.now path.now) result }
 {
     match system.open(path) {
         Ok(mut file) => read_limited(alloc, &mut file),
-        Err(error) if error.kind() == ErrorKind::OutOfMemory => Err(InputFault::NoMemory),
-        Err(_) => Err(InputFault::Device),
+        Err(error) if error.kind() == ErrorKind::OutOfMemory => Err(ReadFault::NoMemory),
+        Err(_) => Err(ReadFault::Device),
     }
 }

@@ -4,7 +4,7 @@
 //! calls.
 
 ghost use Rattle.gm_store.specs.Pieces.{AddsPiece, IsReadingFault};
-ghost use Rattle.gm_store.specs.declared.reading.InputFault.TheVariants as input_fault;
+ghost use Rattle.gm_store.specs.declared.reading.ReadFault.TheVariants as read_fault;
 ghost use Rattle.std.specs.Prelude.{◌≡◌, ◌+◌, ◌<◌, ◌≤◌, ℕ, length, take, drop, Some, IfErr, IfOk, IfSome, OnOk, vec_len};
 
 use crate::byte_reader::ByteReader;
@@ -25,7 +25,7 @@ const GROWTH: usize = 16;
 
 /// Why a file or standard input was not read.
 #[derive(Clone, Copy, Debug, PartialEq, Eq, Error)]
-pub enum InputFault {
+pub enum ReadFault {
     /// Memory ran out.
     #[error("out of memory")]
     NoMemory,
@@ -34,11 +34,11 @@ pub enum InputFault {
     Device,
 }
 
-impl From<AllocError> for InputFault {
-    ghost from_gives = { λ _ fault. fault ≡ input_fault.NoMemory };
+impl From<AllocError> for ReadFault {
+    ghost from_gives = { λ _ fault. fault ≡ read_fault.NoMemory };
 
-    fn from(_error: AllocError) -> InputFault {
-        InputFault::NoMemory
+    fn from(_error: AllocError) -> ReadFault {
+        ReadFault::NoMemory
     }
 }
 
@@ -57,14 +57,14 @@ fn read_piece<R: ByteReader>(
     reader: &mut R,
     room: &mut [u8],
     bytes: &mut Vec<u8>,
-) -> Result<usize, InputFault>
+) -> Result<usize, ReadFault>
     ensures adds { IfOk result (λ count. AddsPiece (R.remaining reader.old) (R.remaining reader.new)
         bytes.old.items bytes.new.items (length room.old) count) }
     ensures fault { IfErr result (IsReadingFault (R.may_fail reader.old)) }
     ensures may_fail { R.may_fail reader.new ≡ R.may_fail reader.old }
 {
     let Ok(count) = reader.read_once(room) else {
-        return Err(InputFault::Device);
+        return Err(ReadFault::Device);
     };
     bytes.extend_from_slice(&room[..count])?;
     Ok(count)
@@ -78,7 +78,7 @@ fn read_next<R: ByteReader>(
     reader: &mut R,
     piece: &mut Vec<u8>,
     bytes: &mut Vec<u8>,
-) -> Result<usize, InputFault>
+) -> Result<usize, ReadFault>
     requires short { length bytes.old.items ≤ LIMIT }
     requires room { 0 < vec_len piece.old }
     ensures adds { IfOk result (λ count. (room : ℕ) × (0 < room) × (length bytes.old.items + room ≤ LIMIT + 1)
@@ -101,7 +101,7 @@ fn read_next<R: ByteReader>(
 ///
 /// `Device` is returned if a read fails or is interrupted, and not otherwise; the bytes read before are lost.
 /// `NoMemory` is returned if memory runs out. Each read but the last yields at least one byte, so the loop ends.
-pub fn read_limited<R: ByteReader>(alloc: Global, reader: &mut R) -> Result<Vec<u8>, InputFault>
+pub fn read_limited<R: ByteReader>(alloc: Global, reader: &mut R) -> Result<Vec<u8>, ReadFault>
     ensures bytes { IfOk result (λ bytes. IfSome (R.remaining reader.old) (λ all. bytes.items ≡ take (LIMIT + 1) all)) }
     ensures short { IfOk result (λ bytes. length bytes.items ≤ LIMIT + 1) }
     ensures rest { OnOk result (IfSome (R.remaining reader.old)
@@ -119,7 +119,7 @@ pub(crate) fn read_by_pieces<R: ByteReader>(
     alloc: Global,
     reader: &mut R,
     piece: &mut Vec<u8>,
-) -> Result<Vec<u8>, InputFault>
+) -> Result<Vec<u8>, ReadFault>
     ensures bytes { IfOk result (λ bytes. IfSome (R.remaining reader.old) (λ all. bytes.items ≡ take (LIMIT + 1) all)) }
     ensures short { IfOk result (λ bytes. length bytes.items ≤ LIMIT + 1) }
     ensures rest { OnOk result (IfSome (R.remaining reader.old)

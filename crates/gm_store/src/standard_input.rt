@@ -3,7 +3,7 @@
 ghost use Rattle.gm_store.specs.Openings.{MayRead};
 
 use crate::byte_reader::ByteReader;
-use crate::reading::{InputFault, read_limited};
+use crate::reading::{ReadFault, read_limited};
 use std::alloc::Global;
 use std::io::Input;
 
@@ -37,7 +37,7 @@ impl<R: Input> StandardInput for R {
 /// Reads standard input, or its first `LIMIT + 1` bytes if there are more.
 ///
 /// `Device` is returned if a read of it fails, and not otherwise. `NoMemory` is returned if memory runs out.
-pub fn read_input<S: StandardInput>(system: &S, alloc: Global) -> Result<Vec<u8>, InputFault>
+pub fn read_input<S: StandardInput>(system: &S, alloc: Global) -> Result<Vec<u8>, ReadFault>
     ensures { MayRead (S.may_take system.now) result }
 {
     read_limited(alloc, &mut system.take_input())

@@ -9,8 +9,8 @@ use Rattle.gm_store.specs.Memory.{held_at}
 use Rattle.gm_store.specs.Openings.{IsReadFrom, MayRead, Opening, opened}
 use Rattle.gm_store.specs.Taken.{SinkState}
 use Rattle.gm_store.specs.declared.files.memory.MemoryFiles.{MemoryFiles}
-use Rattle.gm_store.specs.declared.reading.InputFault.{InputFault}
-use Rattle.gm_store.specs.declared.reading.InputFault.TheVariants.{Device, NoMemory}
+use Rattle.gm_store.specs.declared.reading.ReadFault.{ReadFault}
+use Rattle.gm_store.specs.declared.reading.ReadFault.TheVariants.{Device, NoMemory}
 use Rattle.gomod_run.specs.Outcome.{Outcome, failure_outcome, out_of_memory, text_outcome}
 use Rattle.gomod_run.proofs.Answered.{nothing_is_printed, version_is_printed}
 use Rattle.gomod_run.specs.Program.{IsOutcomeUnless, any_input, anything, usage_error}
@@ -96,7 +96,7 @@ unread_status outcome (Device, may, is) = ap (λ (o : Outcome). o.status) is
 unread_status outcome (NoMemory, may, is) = ap (λ (o : Outcome). o.status) is
 
 -- what reading it came to if it was taken
-read_of : (may_fail : Bool) (read : Result (Vec ℕ) InputFault) → MayRead (IsInput may_fail) read → IsReadFrom (opened (Some text) may_fail) read
+read_of : (may_fail : Bool) (read : Result (Vec ℕ) ReadFault) → MayRead (IsInput may_fail) read → IsReadFrom (opened (Some text) may_fail) read
 read_of may_fail read (opening, is, comes) = subst (λ (o : Opening). IsReadFrom o read) is comes
 
 no_device_line : ¬ (out_of_memory ≡ failure_outcome (codes "gomod: cannot read -\n"))

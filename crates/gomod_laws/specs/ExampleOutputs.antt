@@ -10,7 +10,7 @@ use Rattle.gm_store.specs.Memory.{held_at}
 use Rattle.gm_store.specs.Openings.{IsReadFrom, Opening, opened, refused as unopened}
 use Rattle.gm_store.specs.Taken.{SinkState}
 use Rattle.gm_store.specs.declared.files.memory.MemoryFiles.{MemoryFiles}
-use Rattle.gm_store.specs.declared.reading.InputFault.TheVariants.{Device, NoMemory}
+use Rattle.gm_store.specs.declared.reading.ReadFault.TheVariants.{Device, NoMemory}
 use Rattle.gomod_run.specs.Outcome.{Outcome, failure_outcome, out_of_memory, text_outcome, refusal_outcome}
 use Rattle.gomod_run.specs.Program.{IsProgramOutcome, any_input, anything, usage_error}
 use Rattle.gomod_run.specs.Taking.{TookAll, TookPrefix}

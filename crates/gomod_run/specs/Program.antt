@@ -8,8 +8,8 @@ use Rattle.gm_store.specs.Openings.{MayRead, Opening}
 use Rattle.gm_store.specs.Proxies.{folders_in, marks_in}
 use Rattle.gm_store.specs.Relative.{IsFolderOf}
 use Rattle.gm_store.specs.declared.fallback.proxy_list.ProxyList.{ProxyList}
-use Rattle.gm_store.specs.declared.reading.InputFault.{InputFault}
-use Rattle.gm_store.specs.declared.reading.InputFault.TheVariants as reading
+use Rattle.gm_store.specs.declared.reading.ReadFault.{ReadFault}
+use Rattle.gm_store.specs.declared.reading.ReadFault.TheVariants as reading
 use Rattle.gomod_words.specs.Given.{AreGiven, first_unreadable}
 use Rattle.gomod_words.specs.Usage.{AskFor, IsFaultOf, unreadable_text}
 use Rattle.gomod_words.specs.declared.usage.Command.{Command}
@@ -38,12 +38,12 @@ usage_outcome (usage.BadPath text) = usage_error (codes "gomod: bad path " ++ st
 usage_outcome (usage.BadProxy text) = usage_error (codes "gomod: bad proxy " ++ string_bytes text ++ codes "\n")
 
 -- the file or device with this name could not be read
-abbrev pub unread_outcome : List ℕ → InputFault → Outcome
+abbrev pub unread_outcome : List ℕ → ReadFault → Outcome
 unread_outcome name reading.NoMemory = out_of_memory
 unread_outcome name reading.Device = failure_outcome (cannot_read_line name)
 
 -- the result of reading the file or device with this name: the outcome over its bytes, or the report
-abbrev pub IsReadOutcome : List ℕ → (List ℕ → Outcome → Type 0) → Result (Vec ℕ) InputFault → Outcome → Type 0
+abbrev pub IsReadOutcome : List ℕ → (List ℕ → Outcome → Type 0) → Result (Vec ℕ) ReadFault → Outcome → Type 0
 IsReadOutcome name states (Ok content) outcome = states content.items outcome
 IsReadOutcome name states (Err fault) outcome = outcome ≡ unread_outcome name fault
 
@@ -88,7 +88,7 @@ IsStoreRun may_be_told command main sums outcome = (told : Told) × may_be_told 
 -- `versions PATH` without proxy folders: standard input is read as the module's list, or can't be
 abbrev pub IsInputServed : (Opening → Type 0) → Command → List ℕ → Outcome → Type 0
 IsInputServed may_take command path outcome =
-    (read : Result (Vec ℕ) InputFault)
+    (read : Result (Vec ℕ) ReadFault)
     × MayRead may_take read
     × IsReadOutcome (codes "-") (IsInputOutcome command path) read outcome
 
@@ -103,14 +103,14 @@ IsVersionsServed may_open may_take command path (Some folders) outcome =
 abbrev pub IsSumsServed : (List ℕ → Opening → Type 0) → (Told → Type 0) → Command → Option (List ℕ) → List ℕ
     → Outcome → Type 0
 IsSumsServed may_open may_be_told command None main outcome = IsStoreRun may_be_told command main None outcome
-IsSumsServed may_open may_be_told command (Some name) main outcome = (read : Result (Vec ℕ) InputFault)
+IsSumsServed may_open may_be_told command (Some name) main outcome = (read : Result (Vec ℕ) ReadFault)
     × MayRead (may_open name) read
     × IsReadOutcome name (λ sums outcome. IsStoreRun may_be_told command main (Some sums) outcome) read outcome
 
 -- the main file is read, then the go.sum
 abbrev pub IsMainServed : (List ℕ → Opening → Type 0) → (Told → Type 0) → Command → List ℕ → Option (List ℕ)
     → Outcome → Type 0
-IsMainServed may_open may_be_told command name sums outcome = (read : Result (Vec ℕ) InputFault)
+IsMainServed may_open may_be_told command name sums outcome = (read : Result (Vec ℕ) ReadFault)
     × MayRead (may_open name) read
     × IsReadOutcome name (λ main outcome. IsSumsServed may_open may_be_told command sums main outcome) read outcome
 
@@ -122,7 +122,7 @@ IsQueryServed may_open command places outcome = (folder : List ℕ) × IsFolderO
 
 -- `fmt` or `edit` over the bytes of the file that the words name
 abbrev pub IsFileServed : (List ℕ → Opening → Type 0) → Command → List ℕ → Outcome → Type 0
-IsFileServed may_open command name outcome = (read : Result (Vec ℕ) InputFault)
+IsFileServed may_open command name outcome = (read : Result (Vec ℕ) ReadFault)
     × MayRead (may_open name) read
     × IsReadOutcome name (λ main outcome. RunEnds command (given_of main None (answers_of [] [])) outcome) read outcome
 

@@ -8,7 +8,7 @@ use Rattle.gm_store.specs.Openings.{MayRead, Opening}
 use Rattle.gm_store.specs.Relative.{IsFolderOf}
 use Rattle.gm_store.specs.declared.files.memory.MemoryFiles.{MemoryFiles}
 use Rattle.gm_store.specs.declared.fallback.proxy_list.ProxyList.{ProxyList}
-use Rattle.gm_store.specs.declared.reading.InputFault.{InputFault}
+use Rattle.gm_store.specs.declared.reading.ReadFault.{ReadFault}
 use Rattle.gomod_run.specs.Outcome.{Outcome}
 use Rattle.gomod_words.specs.declared.usage.Command.{Command}
 use Rattle.gomod_words.specs.declared.usage.Command.TheVariants.{Fmt, Edit, Versions}
@@ -29,7 +29,7 @@ AreSumsInput may_open (Some name) None = ⊥
 
 -- the file or device with this name, given what may come of opening it, can't be read, which is reported
 abbrev pub IsUnread : (Opening → Type 0) → List ℕ → Outcome → Type 0
-IsUnread may_open name outcome = (fault : InputFault) × MayRead may_open (Err fault)
+IsUnread may_open name outcome = (fault : ReadFault) × MayRead may_open (Err fault)
     × (outcome ≡ unread_outcome name fault)
 
 -- the file with this name can't be read, which is reported

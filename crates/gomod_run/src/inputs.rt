@@ -9,7 +9,7 @@ ghost use Rattle.gomod_run.specs.Program.{unread_outcome};
 ghost use Rattle.gomod_run.specs.Reads.{AreBothRead, AreInputs, AreSumsInput, AreSumsUnread, IsFileUnread, IsMainInput, IsOneUnread, IsUnreadInput};
 
 use crate::reports::report::Report;
-use gm_store::{FileSystem, InputFault, read_file};
+use gm_store::{FileSystem, ReadFault, read_file};
 use gomod_words::{Command, Places};
 use std::alloc::Global;
 
@@ -35,12 +35,12 @@ impl Inputs {
 }
 
 /// The report of the file with this name, or of standard input, that can't be read.
-pub(crate) fn unread_report<'a>(name: &'a str, fault: InputFault) -> Report<'a>
+pub(crate) fn unread_report<'a>(name: &'a str, fault: ReadFault) -> Report<'a>
     ensures { report_outcome result ≡ unread_outcome name.now fault }
 {
     match fault {
-        InputFault::NoMemory => Report::NoMemory,
-        InputFault::Device => Report::Unreadable(name),
+        ReadFault::NoMemory => Report::NoMemory,
+        ReadFault::Device => Report::Unreadable(name),
     }
 }
 

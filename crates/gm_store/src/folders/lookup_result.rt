@@ -10,7 +10,7 @@ ghost use Rattle.gm_store.specs.Steps.{reply_in, result_of};
 
 use crate::byte_reader::ByteReader;
 use crate::folders::Looked;
-use crate::reading::{InputFault, LIMIT, read_by_pieces};
+use crate::reading::{ReadFault, LIMIT, read_by_pieces};
 use gm_name::NoMemory;
 use std::alloc::{AllocError, Global};
 use std::io;
@@ -53,15 +53,15 @@ fn open_error_result(kind: ErrorKind) -> Result<Looked, NoMemory>
 /// The result for a file that was opened: `Found` or `TooLong` if it could be read, `Failed` otherwise.
 ///
 /// The only refusal is `NoMemory`, if reading ran out of memory.
-fn read_result(read: Result<Vec<u8>, InputFault>) -> Result<Looked, NoMemory>
+fn read_result(read: Result<Vec<u8>, ReadFault>) -> Result<Looked, NoMemory>
     ensures read { IfOk result (λ looked. IsReadLookup read (result_of looked)) }
-    ensures no_memory { OnErr result (read ≡ Err InputFault.NoMemory) }
+    ensures no_memory { OnErr result (read ≡ Err ReadFault.NoMemory) }
     ensures within_limit { IfOk result (λ looked. IsWithinLimit (reply_in (result_of looked))) }
 {
     match read {
         Ok(bytes) if bytes.len() > LIMIT => Ok(Looked::TooLong),
         Ok(bytes) => Ok(Looked::Found(bytes)),
-        Err(InputFault::NoMemory) => Err(AllocError),
-        Err(InputFault::Device) => Ok(Looked::Failed),
+        Err(ReadFault::NoMemory) => Err(AllocError),
+        Err(ReadFault::Device) => Ok(Looked::Failed),
     }
 }

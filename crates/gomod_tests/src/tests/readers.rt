@@ -1,7 +1,7 @@
 //! Readers that fail once, that give few bytes per call, or that have more bytes than are read.
 
 use super::{OUT_OF_MEMORY, assert_same};
-use gm_store::{InputFault, LIMIT, read_limited};
+use gm_store::{ReadFault, LIMIT, read_limited};
 use std::alloc::Global;
 use std::io;
 use std::io::{ErrorKind, Read};
@@ -105,7 +105,7 @@ fn read_until(
     alloc: Global,
     fault: ErrorKind,
     calls: usize,
-    wanted: Result<usize, InputFault>,
+    wanted: Result<usize, ReadFault>,
 ) {
     let mut reader = LimitedReader {
         bytes: b"0123456789",
@@ -123,13 +123,13 @@ fn read_until(
 }
 
 /// The number of calls after which a reader fails, and what comes of it. The call after the fifth finds the end.
-const CALLS: &'static [(usize, Result<usize, InputFault>)] = &[
-    (0, Err(InputFault::Device)),
-    (1, Err(InputFault::Device)),
-    (2, Err(InputFault::Device)),
-    (3, Err(InputFault::Device)),
-    (4, Err(InputFault::Device)),
-    (5, Err(InputFault::Device)),
+const CALLS: &'static [(usize, Result<usize, ReadFault>)] = &[
+    (0, Err(ReadFault::Device)),
+    (1, Err(ReadFault::Device)),
+    (2, Err(ReadFault::Device)),
+    (3, Err(ReadFault::Device)),
+    (4, Err(ReadFault::Device)),
+    (5, Err(ReadFault::Device)),
     (6, Ok(10)),
     (7, Ok(10)),
 ];
