@@ -17,3 +17,4 @@ pub mod Stops
 pub mod Requesting
 pub mod Serving
 pub mod Answering
+mod Failing

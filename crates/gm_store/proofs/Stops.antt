@@ -6,7 +6,9 @@ use Rattle.gm_store.specs.declared.fallback.proxy_list.Mark.{Mark}
 use Rattle.gm_store.specs.declared.fallback.step.Next.{Next}
 use Rattle.gm_store.specs.declared.fallback.step.Next.TheVariants.{Take, Go, Fail}
 use Rattle.gm_store.specs.Asked.{Reply}
+use Rattle.gm_store.specs.DiskAnswers.{DeviceFailsByAFile}
 use Rattle.gm_store.specs.FolderLookups.{lookup_results}
+use Rattle.gm_store.specs.Openings.{Opening}
 use Rattle.gm_store.specs.Steps.{Seen, StopsAt, absent, failed, found, has_failed, outcome_of, step_of, too_long}
 use Rattle.gm_store.specs.Stops.{OutcomeExists, OutcomeIsUnique, OutcomeFollowsContents}
 
@@ -112,3 +114,24 @@ pub some_stop : OutcomeExists
 some_stop [] marks within = absurd (omega arith)
 some_stop (look ∷ looks) [] within = stop_here look looks [] (unmarked look)
 some_stop (look ∷ looks) (mark ∷ marks) within = stop_later look looks mark marks (step_of look (Some mark)) refl (some_stop looks marks (omega arith))
+
+-- ---- it stops without an answer only at a failure
+
+fails_last : (seen : Seen) (mark : Option Mark) → None ≡ outcome_of seen (step_of seen mark) → (step_of seen mark ≢ Go) → seen ≡ failed
+fails_last (found content) mark none stops = cc none
+fails_last too_long mark none stops = cc none
+fails_last absent None none stops = cc none
+fails_last absent (Some mark) none stops = absurd (stops refl)
+fails_last failed mark none stops = refl
+
+last_look : (passed : List Seen) (last : Seen) (rest : List Seen) → slice_get (passed ++ last ∷ rest) (length passed) ≡ Some last
+last_look [] last rest = refl
+last_look (look ∷ passed) last rest = last_look passed last rest
+
+pub fails_by_a_file : (may_open : List ℕ → Opening → Type 0) → DeviceFailsByAFile may_open
+fails_by_a_file may_open main proxies marks name (failures, (looks, possible, stop)) = (
+  length stop.passed,
+  possible (length stop.passed) failed
+      (ap (λ looks. slice_get looks (length stop.passed)) stop.in_order ∙ last_look stop.passed stop.last stop.rest
+      ∙ ap Some (fails_last stop.last _ stop.answers stop.stops)),
+)

@@ -1,9 +1,9 @@
 -- A store in memory whose device fails once.
-use Rattle.std.specs.Prelude.{ℕ, ◌-◌, List, Option, Some, None}
+use Rattle.std.specs.Prelude.{◌≡◌, ℕ, ◌-◌, List, Option, Some, None}
 use Rattle.gm_store.specs.declared.files.failing.FailingFiles.{FailingFiles}
 use Rattle.gm_store.specs.declared.files.memory.MemoryFiles.{MemoryFiles}
-use Rattle.gm_store.specs.Asked.{Name}
-use Rattle.gm_store.specs.Memory.{pairs_of}
+use Rattle.gm_store.specs.Asked.{Name, Reply}
+use Rattle.gm_store.specs.Memory.{may_give, pairs_of}
 use Rattle.gm_store.specs.States.{StoreState}
 
 -- the store that answers the requests that pass
@@ -17,6 +17,11 @@ asks_left store = store.left
 -- the names whose requests were refused because the device failed, in order
 abbrev pub refusals_of : FailingFiles → List Name
 refusals_of store = store.refusals.refused
+
+-- what may come of requesting a name: an answer of the store inside, or none if the device has not failed yet
+abbrev pub may_give_or_fail : FailingFiles → Name → Option Reply → Type 0
+may_give_or_fail store name (Some reply) = may_give (inside_of store) name (Some reply)
+may_give_or_fail store name None = (left : ℕ) × (asks_left store ≡ Some left)
 
 -- one request fewer, if the device has not failed yet
 abbrev pub one_fewer : Option ℕ → Option ℕ

@@ -1,6 +1,6 @@
--- Which folders and marks a name is looked up with, the answers that folders may give to it, and the results of all
+-- Which folders and marks a name is looked up with, what may come of a request for it, and the results of all
 -- lookups over folders in memory.
-use Rattle.std.specs.Prelude.{ℕ, List, [], ◌∷◌, map, Some}
+use Rattle.std.specs.Prelude.{ℕ, List, [], ◌∷◌, map, Option}
 use Rattle.gm_store.specs.declared.fallback.proxy_list.Mark.{Mark}
 use Rattle.gm_store.specs.declared.folders.in_memory.FoldersInMemory.{FoldersInMemory}
 use Rattle.gm_store.specs.Asked.{Name, Reply, mod_file, folder_file, list_file}
@@ -22,11 +22,11 @@ marks_for (mod_file path version) marks = marks
 marks_for (list_file path) marks = marks
 marks_for (folder_file text) marks = []
 
--- The answer is one that folders may give to a name: that of the folder at which the request stops. `may_find` says
--- what each folder may find, and the marks stand between the proxy folders.
-abbrev pub MayAnswerFrom : (ℕ → Name → Seen → Type 0) → List Mark → Name → Reply → Type 0
-MayAnswerFrom may_find marks name reply = (failures : ℕ)
-    × MayStop (λ k seen. may_find k name seen) (marks_for name marks) (Some reply) failures
+-- This may come of requesting a name from folders: the answer of the folder at which the request stops, or none if the
+-- device fails there. `may_find` says what each folder may find, and the marks stand between the proxy folders.
+abbrev pub MayAnswerFrom : (ℕ → Name → Seen → Type 0) → List Mark → Name → Option Reply → Type 0
+MayAnswerFrom may_find marks name outcome = (failures : ℕ)
+    × MayStop (λ k seen. may_find k name seen) (marks_for name marks) outcome failures
 
 -- the number of folders that a name may be looked up in, given the number of proxy folders
 abbrev pub count_for : ℕ → Name → ℕ

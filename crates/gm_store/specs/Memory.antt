@@ -1,5 +1,5 @@
 -- Views of a store in memory: its files, and its requests with their answers.
-use Rattle.std.specs.Prelude.{◌≡◌, ℕ, List, [], Option, if◌then◌else◌, Some}
+use Rattle.std.specs.Prelude.{◌≡◌, ℕ, List, [], Option, if◌then◌else◌, Some, None}
 use Rattle.std.specs.Option.{option_map}
 use Rattle.std.specs.Map.{lookup}
 use Rattle.gm_store.specs.declared.files.memory.MemoryFiles.{MemoryFiles}
@@ -20,9 +20,10 @@ abbrev pub held_at : MemoryFiles → Name → Option (List ℕ)
 held_at store name = option_map (λ content. content.items)
     (lookup (λ file. same_name name (name_of file)) store.held.entries)
 
--- the one answer that the store may give to a name: what it holds, up to 16 MiB
-abbrev pub may_give : MemoryFiles → Name → Reply → Type 0
-may_give store name reply = reply ≡ reply_for 16777216 (held_at store name)
+-- what may come of requesting a name: the one answer is what the store holds, up to 16 MiB, and its device never fails
+abbrev pub may_give : MemoryFiles → Name → Option Reply → Type 0
+may_give store name (Some reply) = reply ≡ reply_for 16777216 (held_at store name)
+may_give store name None = ⊥
 
 -- the new store has these bytes under this name, and the old store's files under all other names
 abbrev pub AddsFile : MemoryFiles → MemoryFiles → Name → List ℕ → Type 0

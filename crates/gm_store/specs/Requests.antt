@@ -1,5 +1,5 @@
 -- What one request does to a store.
-use Rattle.std.specs.Prelude.{◌≡◌, ◌≤◌, ◌∷◌, ◌++◌, [], List, OnErr, OnOk, Result, Ok, Err}
+use Rattle.std.specs.Prelude.{◌≡◌, ◌≤◌, ◌∷◌, ◌++◌, [], List, OnErr, OnOk, Option, Some, None, Result, Ok, Err}
 use Rattle.gm_store.specs.Asked.{IsWithinLimit, Name, Reply}
 use Rattle.gm_store.specs.States.{AddsAnswer, CountsFailure, MayLess, StoreState}
 use Rattle.gm_store.specs.declared.files.AskFault.{AskFault}
@@ -11,18 +11,20 @@ refused_for name (Ok value) = []
 refused_for name (Err NoMemory) = []
 refused_for name (Err Device) = name ∷ []
 
--- What a request for a name did to a store. `before` says which answers it might give before the request, `after`
--- which ones it may give after it.
-pub record IsRequest (before after : Name → Reply → Type 0) (old new : StoreState) (name : Name)
+-- What a request for a name did to a store. `before` says what might come of a request before this one, `after` what
+-- may come of one after it: an answer, or none if the device may fail at the name.
+pub record IsRequest (before after : Name → Option Reply → Type 0) (old new : StoreState) (name : Name)
     (result : Result (Unit {0}) AskFault) : Type 0 where
   -- If the store answered, the answer is one that it might give, of at most 16 MiB, and stands after the earlier ones.
-  pub answered : OnOk result ((reply : Reply) × before name reply × IsWithinLimit reply
+  pub answered : OnOk result ((reply : Reply) × before name (Some reply) × IsWithinLimit reply
       × AddsAnswer old new name reply)
   -- If it didn't answer, it has the answers that it had.
   pub unanswered : OnErr result (new.asked ≡ old.asked)
-  -- The name was refused if the device failed, and then a failure was counted, or the count was at its maximum.
+  -- The name was refused if the device failed. The device failed only if it might at this name, and then a failure was
+  -- counted, or the count was at its maximum.
   pub refused : new.refused ≡ old.refused ++ refused_for name result
+  pub fails : result ≡ Err Device → before name None
   pub cause : result ≡ Err Device → CountsFailure old new
-  -- No other answer became possible, and the count of failures didn't fall.
+  -- Nothing else became possible, and the count of failures didn't fall.
   pub no_more : MayLess after before
   pub later : old.faults ≤ new.faults

@@ -41,11 +41,7 @@ impl<R: rt::Files> FileSystem for R {
 ///
 /// `Device` is returned if the file can't be opened or a read of it fails, and not otherwise. `NoMemory` is returned if
 /// memory runs out.
-pub fn read_file<S: FileSystem>(
-    system: &S,
-    alloc: Global,
-    path: &str,
-) -> Result<Vec<u8>, ReadFault>
+pub fn read_file<S: FileSystem>(system: &S, alloc: Global, path: &str) -> Result<Vec<u8>, ReadFault>
     ensures { MayRead (S.may_open system.now path.now) result }
 {
     match system.open(path) {

@@ -86,6 +86,7 @@ impl<T: Drop> From<AllocFailed<T>> for AskFault {
 /// So the files of a run don't change while it lasts, and contracts can refer to all that was read. The store itself
 /// need not keep more than the last answer.
 pub trait Asks {
+    ghost use Rattle.std.specs.Prelude.{Option};
     ghost use Rattle.gm_store.specs.Asked.{IsLast, IsWithinLimit, Name, Reply, name_of, reply_of, answer_in};
     ghost use Rattle.gm_store.specs.Requests.{IsRequest};
     ghost use Rattle.gm_store.specs.States.{StoreState};
@@ -94,16 +95,17 @@ pub trait Asks {
     /// failed, and how often the device has failed. The count saturates at the greatest `u64`.
     ghost state: { Self → StoreState };
 
-    /// The answers that this store may give to a name. For a real device any answer is possible.
-    ghost may_answer: { Self → Name → Reply → Type 0 };
+    /// What may come of requesting a name: an answer, or none if the device may fail at it. For a real device anything
+    /// is possible.
+    ghost may_answer: { Self → Name → Option Reply → Type 0 };
 
     /// Requests a file that was not requested before. If the store answers, the answer stands after the earlier ones,
     /// and `last` gives it.
     ///
     /// `NoMemory` is returned if memory runs out, `Device` if the device fails. A refusal leaves the answers
     /// unchanged, so the file may be requested again. A failure of the device records the name, and is returned
-    /// only if a failure was counted, or if the count is at its maximum; the count never falls. No answer has more
-    /// than `LIMIT` bytes, and a request doesn't add possible answers.
+    /// only if the device might fail at the name, and a failure was counted, or the count is at its maximum; the count
+    /// never falls. No answer has more than `LIMIT` bytes, and a request makes nothing else possible.
     fn ask(&mut self, name: &FileName) -> Result<(), AskFault>
         requires { answer_in (state self.old).asked (name_of name.now) ≡ None }
         ensures { IsRequest (may_answer self.old) (may_answer self.new)

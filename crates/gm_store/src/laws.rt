@@ -6,10 +6,12 @@
 
 ghost use Rattle.std.specs.Prelude.{◌≡◌};
 ghost use Rattle.gm_store.specs.Asked.{name_of, same_name};
+ghost use Rattle.gm_store.specs.DiskAnswers.{DeviceFailsByAFile};
 ghost use Rattle.gm_store.specs.declared.files.FileName.{FileName};
 ghost use Rattle.gm_store.specs.Relative.{PathsAreLowercase, PathsDiffer};
 ghost use Rattle.gm_store.specs.Stops.{OutcomeExists, OutcomeIsUnique, OutcomeFollowsContents};
 
+use crate::file_system::FileSystem;
 use crate::files::FileName;
 
 /// Two names of files are equal exactly if they are the same: the same kind of file, with equal texts.
@@ -35,4 +37,10 @@ pub fn lookups_have_one_outcome()
 /// including the folders that are not reached.
 pub fn memory_folders_answer_by_contents()
     ensures { OutcomeFollowsContents }
+{}
+
+/// The device of a store over folders of a file system fails at a name only if opening or reading the file at the name's
+/// path in one of the folders fails. So if no file there can fail, the device doesn't.
+pub fn devices_fail_by_a_file<S: FileSystem>(system: &S)
+    ensures { DeviceFailsByAFile (S.may_open system.now) }
 {}

@@ -48,7 +48,7 @@ pub use crate::folders::main_folder::folder_of;
 pub use crate::folders::memory_folder::{Held, MemoryFolder};
 pub use crate::folders::on_disk::FoldersOnDisk;
 pub use crate::folders::relative_path::relative_name;
-pub use crate::reading::{ReadFault, LIMIT, read_limited};
+pub use crate::reading::{LIMIT, ReadFault, read_limited};
 pub use crate::sinks::memory::MemorySink;
 pub use crate::sinks::writer::StdSink;
 pub use crate::sinks::{Sink, WriteFault, write_all};

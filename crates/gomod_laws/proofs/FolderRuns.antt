@@ -218,7 +218,7 @@ more_folders_change_nothing command main sums folders others marks more asked to
     let alike : AnswerAlike asked told =
     λ name a b e f.
     let (content, is) = each_is_file main sums command asked one run.ends.0 run.in_turn prints name a e in
-    let may : FolderMayAnswer folders marks name (bytes content) = subst (FolderMayAnswer folders marks name) is (run.answers name a (answered_in asked name a e)) in
+    let may : FolderMayAnswer folders marks name (Some (bytes content)) = subst (λ (reply : Reply). FolderMayAnswer folders marks name (Some reply)) is (run.answers name a (answered_in asked name a e)) in
     is ∙ sym (found_again folders others marks more grows name content b may (again.answers name b (answered_in told name b f))) in
     let back : AnswerAlike told asked = alike_back asked told alike in
     let same : other ≡ one = same_outcome command main sums told asked other one back again.ends.0 run.ends.0 in

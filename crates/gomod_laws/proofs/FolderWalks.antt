@@ -86,7 +86,7 @@ module _ (folders others : FoldersInMemory) (marks more : List Mark) (one : HasO
       (subst (λ (shelf : MemoryFolder). StopsAt (result_at shelf name ∷ []) [] (Some reply) count) one.beside again)
 
   -- the one answer to the name of a file that was found is that file
-  pub found_again : (name : Name) (content : List ℕ) (reply : Reply) → FolderMayAnswer folders marks name (bytes content) → FolderMayAnswer others more name reply → reply ≡ bytes content
+  pub found_again : (name : Name) (content : List ℕ) (reply : Reply) → FolderMayAnswer folders marks name (Some (bytes content)) → FolderMayAnswer others more name (Some reply) → reply ≡ bytes content
   found_again (mod_file path version) content reply (failures, may) (count, could) =
       let name = mod_file path version in
       in_proxies name content reply failures count

@@ -11,10 +11,11 @@ use Rattle.gomod_words.specs.declared.usage.Command.{Command}
 use Rattle.gomod_run.specs.Runs.{Needs}
 use Rattle.gomod_laws.specs.Runs.{HasOutcome, HasPrinted}
 
--- the answers that folders in memory may give to a name, with these marks between the proxy folders
-abbrev pub FolderMayAnswer : FoldersInMemory → List Mark → Name → Reply → Type 0
-FolderMayAnswer folders marks name reply =
-    MayAnswerFrom (λ k name seen. slice_get (lookup_results folders name) k ≡ Some seen) marks name reply
+-- what may come of asking folders in memory for a name, with these marks between the proxy folders: an answer, or none
+-- if one of them has a file that can't be read
+abbrev pub FolderMayAnswer : FoldersInMemory → List Mark → Name → Option Reply → Type 0
+FolderMayAnswer folders marks name outcome =
+    MayAnswerFrom (λ k name seen. slice_get (lookup_results folders name) k ≡ Some seen) marks name outcome
 
 -- A run over folders in memory, none of which failed: it has this outcome, each file that was asked for was needed
 -- by the answers before it, and each answer is one that the folders may give.
@@ -22,7 +23,8 @@ pub record RunsOver (command : Command) (main : List ℕ) (sums : Option (List �
     (marks : List Mark) (asked : List (Name × Reply)) (outcome : Outcome) : Type 0 where
   pub ends : HasOutcome command main sums asked outcome
   pub in_turn : AskedInTurn (Needs command main sums) asked
-  pub answers : (name : Name) (reply : Reply) → Contains asked (name, reply) → FolderMayAnswer folders marks name reply
+  pub answers : (name : Name) (reply : Reply) → Contains asked (name, reply)
+      → FolderMayAnswer folders marks name (Some reply)
 
 -- The other folders are the same with one proxy folder more, which is the last, after the mark that is the last.
 pub record HasOneMore (folders others : FoldersInMemory) (marks more : List Mark) : Type 0 where

@@ -1,5 +1,6 @@
 //! A law of several proxy folders.
 
+ghost use Rattle.std.specs.Prelude.{Option};
 ghost use Rattle.gm_store.specs.Asked.{Name, Reply};
 ghost use Rattle.gm_store.specs.Views.{folders_under, marks_between};
 ghost use Rattle.gomod_laws.specs.FolderLaws.{FolderMayAnswer, MoreFoldersChangeNothing};
@@ -13,9 +14,9 @@ pub fn more_folders_change_nothing()
     ensures { MoreFoldersChangeNothing }
 {}
 
-/// Each answer that a store over folders in memory may give is one that its folders may give, in the words of the law
-/// above. So it speaks of each run of a command over such a store.
+/// What may come of asking a store over folders in memory is what its folders may give, in the words of the law above.
+/// So it speaks of each run of a command over such a store.
 pub fn folders_in_memory_may_answer(store: &MemoryFolders)
-    ensures { (name : Name) (reply : Reply) → ⟦<MemoryFolders as Asks>⟧.may_answer store.now name reply
-        → FolderMayAnswer (folders_under store.now) (marks_between store.now) name reply }
+    ensures { (name : Name) (outcome : Option Reply) → ⟦<MemoryFolders as Asks>⟧.may_answer store.now name outcome
+        → FolderMayAnswer (folders_under store.now) (marks_between store.now) name outcome }
 {}

@@ -95,7 +95,7 @@ written_done outcome out out' report report' status (inl whole) done = sym whole
 written_done outcome out out' report report' status (inr part) done = absurd (omega (arith, part.1, done))
 
 -- what holds of an outcome holds of its writing
-pub held_written : (command : Command) (main : List ℕ) (sums : Option (List ℕ)) (before after : Name → Reply → Type 0) (old new : StoreState) (outcome : Outcome) (out out' report report' : SinkState) (status : ℕ)
+pub held_written : (command : Command) (main : List ℕ) (sums : Option (List ℕ)) (before after : Name → Option Reply → Type 0) (old new : StoreState) (outcome : Outcome) (out out' report report' : SinkState) (status : ℕ)
     → IsWritten outcome out out' report report' status → HoldsAtAnyEnd command main sums before after old new outcome.status (λ reported. outcome ≡ reported)
     → HoldsAtAnyEnd command main sums before after old new status (λ reported. IsWritten reported out out' report report' status)
 held_written command main sums before after old new outcome out out' report report' status written holds = record {

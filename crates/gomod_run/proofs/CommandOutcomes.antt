@@ -207,7 +207,7 @@ no_versions Graph path all is = cc is
 no_versions (Rows after limit) path all is = cc is
 no_versions (Chain named) path all is = cc is
 
-pub query_comes : (query : Query) (file : List ℕ) (sums : Option (List ℕ)) (before after : Name → Reply → Type 0) (old new : StoreState) (outcome : Outcome)
+pub query_comes : (query : Query) (file : List ℕ) (sums : Option (List ℕ)) (before after : Name → Option Reply → Type 0) (old new : StoreState) (outcome : Outcome)
     → OrNoMemory (RunEnds (command_of query) (run_between file sums old new)) outcome → AskedInTurn (GraphNeeds file sums) new.asked → FailsInTurn (GraphNeeds file sums) old new
     → HasServed before after old new → ((name : Name) → new.refused ≡ old.refused ++ name ∷ [] → outcome ≡ failure_outcome (device_line name))
     → ComesTo (command_of query) file sums before after old new outcome
@@ -224,7 +224,7 @@ query_comes query file sums before after old new outcome ends turn fails served 
 }
 
 -- a run of `fmt` or `edit`, which needs no file
-pub bytes_come : (command : Command) (file : List ℕ) (sums : Option (List ℕ)) (may : Name → Reply → Type 0) (state : StoreState) (outcome : Outcome)
+pub bytes_come : (command : Command) (file : List ℕ) (sums : Option (List ℕ)) (may : Name → Option Reply → Type 0) (state : StoreState) (outcome : Outcome)
     → ((answers : AnswersByName) (name : Name) → Needs command file sums answers name → ⊥) → ((path : List ℕ) (all : Bool) → command ≡ Versions path all → ⊥)
     → state.asked ≡ [] → OrNoMemory (RunEnds command (run_between file sums state state)) outcome → ComesTo command file sums may may state state outcome
 bytes_come command file sums may state outcome needless other none ends = record {

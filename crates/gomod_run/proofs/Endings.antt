@@ -102,7 +102,7 @@ program_status may_open may_take given out out' report report' status ends = eli
 -- a store in memory has one file and never fails, so the outcome follows from its answers
 pub input_weaken : (command : Command) (path list : List ℕ) (store : MemoryFiles) (asked : List (Name × Reply)) (old new : StoreState) → new.asked ≡ asked
     → old.refused ≡ [] → new.refused ≡ [] → HoldsOne (list_file path) list store
-    → ((name : Name) (reply : Reply) → Contains asked (name, reply) → may_give store name reply)
+    → ((name : Name) (reply : Reply) → Contains asked (name, reply) → may_give store name (Some reply))
     → (outcome : Outcome) → RunEnds command (run_between [] None old new) outcome → IsInputOutcome command path list outcome
 input_weaken command path list store asked old new same none still held allowed outcome is = (
   asked,

@@ -18,6 +18,7 @@ pub mod TextLines
 pub mod MainMisreading
 pub mod InTurn
 pub mod CommandOutcomes
+pub mod Faulty
 pub mod FewOpened
 pub mod OneRead
 pub mod OneQueryStore

@@ -132,13 +132,13 @@ folders_served may_open (Chain path) places folders folder inputs old new read i
 
 -- an empty store says that a file is absent
 empty_told : (store : MemoryFiles) (asked : List (Name × Reply)) → ((name : Name) → held_at store name ≡ None)
-    → ((name : Name) (reply : Reply) → Contains asked (name, reply) → may_give store name reply) → (name : Name) (reply : Reply) → Contains asked (name, reply) → reply ≡ absent
+    → ((name : Name) (reply : Reply) → Contains asked (name, reply) → may_give store name (Some reply)) → (name : Name) (reply : Reply) → Contains asked (name, reply) → reply ≡ absent
 empty_told store asked empty allowed name reply k = allowed name reply k ∙ ap (reply_for longest) (empty name)
 
 -- a query over an empty store
 query_in_memory : (may_open : List ℕ → Opening → Type 0) (command : Command) (places : Places) (inputs : Inputs) (before after : MemoryFiles)
     → AreBothRead may_open places inputs → ((name : Name) → held_at before name ≡ None)
-    → ((name : Name) (reply : Reply) → Contains (pairs_of after) (name, reply) → may_give before name reply) → (folder : List ℕ)
+    → ((name : Name) (reply : Reply) → Contains (pairs_of after) (name, reply) → may_give before name (Some reply)) → (folder : List ℕ)
     → (outcome : Outcome) → RunEnds command (run_between inputs.main.items (option_map (λ sums. sums.items) inputs.sums) (memory_files_state before) (memory_files_state after)) outcome
     → IsMainServed may_open (MayBeTold may_open folder None) command (string_bytes places.main) (option_map string_bytes places.sums) outcome
 query_in_memory may_open command places inputs before after read empty allowed folder outcome runs = (
@@ -152,7 +152,7 @@ query_in_memory may_open command places inputs before after read empty allowed f
 -- a command but `versions`, over an empty store
 pub memory_served : (may_open : List ℕ → Opening → Type 0) (command : Command) (places : Places) (inputs : Inputs) (before after : MemoryFiles)
     → versions_path command ≡ None → AreInputs may_open command places inputs → HoldsNothing before
-    → ((name : Name) (reply : Reply) → Contains (pairs_of after) (name, reply) → may_give before name reply)
+    → ((name : Name) (reply : Reply) → Contains (pairs_of after) (name, reply) → may_give before name (Some reply))
     → (outcome : Outcome) → RunEnds command (run_between inputs.main.items (option_map (λ sums. sums.items) inputs.sums) (memory_files_state before) (memory_files_state after)) outcome
     → IsServed may_open untaken command (with_proxy places None) outcome
 memory_served may_open Fmt places inputs before after other read holds allowed outcome runs = (Ok inputs.main, read.0, runs)
@@ -167,7 +167,7 @@ memory_served may_open (Chain path) places inputs before after other read holds 
 
 -- `versions` over standard input
 pub input_served : (may_take : Opening → Type 0) (command : Command) (path : List ℕ) (before after : MemoryFiles) → versions_path command ≡ Some path → HoldsInput may_take path before
-    → ((name : Name) (reply : Reply) → Contains (pairs_of after) (name, reply) → may_give before name reply)
+    → ((name : Name) (reply : Reply) → Contains (pairs_of after) (name, reply) → may_give before name (Some reply))
     → (outcome : Outcome) → RunEnds command (run_between [] None (memory_files_state before) (memory_files_state after)) outcome → IsInputServed may_take command path outcome
 input_served may_take (Versions path all) own before after is holds allowed outcome runs =
     (Ok holds.0, holds.1, input_weaken (Versions path all) own holds.0.items before (pairs_of after) (memory_files_state before) (memory_files_state after) refl refl refl holds.2 allowed outcome runs)

@@ -339,7 +339,7 @@ module _ (path : List ℕ) (all : Bool) (old mid : StoreState) (first : old.aske
       (subst (λ (r : Reply). IsAnsweredAsk (list_file path) old mid r) same heard) outcome shown
 
 -- a run with such answers
-pub versions_come : (path : List ℕ) (all : Bool) (before after : Name → Reply → Type 0) (old new : StoreState) (outcome : Outcome) → IsVersionsRun path all old new outcome
+pub versions_come : (path : List ℕ) (all : Bool) (before after : Name → Option Reply → Type 0) (old new : StoreState) (outcome : Outcome) → IsVersionsRun path all old new outcome
     → HasServed before after old new → (main : List ℕ) (sums : Option (List ℕ)) → ComesTo (Versions path all) main sums before after old new outcome
 versions_come path all before after old new outcome is served main sums = record {
   ends = is.ends;

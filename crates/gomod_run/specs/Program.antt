@@ -72,13 +72,16 @@ any_input opening = Unit {0}
 abbrev pub untaken : Opening → Type 0
 untaken opening = ⊥
 
--- what proxy folders may answer, with this folder of the main file; their device may have failed. Without proxy folders
--- each file is absent, and no device fails.
+-- What proxy folders may answer, with this folder of the main file, and at which files their device may fail. Without
+-- proxy folders each file is absent, and no device fails.
 abbrev pub MayBeTold : (List ℕ → Opening → Type 0) → List ℕ → Option ProxyList → Told → Type 0
 MayBeTold may_open main None told =
     ((name : Name) (reply : Reply) → Contains told.asked (name, reply) → reply ≡ absent) × (told.failed ≡ [])
-MayBeTold may_open main (Some folders) told = (name : Name) (reply : Reply) → Contains told.asked (name, reply)
-    → MayAnswer may_open main (folders_in folders) (marks_in folders) name reply
+MayBeTold may_open main (Some folders) told =
+    ((name : Name) (reply : Reply) → Contains told.asked (name, reply)
+    → MayAnswer may_open main (folders_in folders) (marks_in folders) name (Some reply))
+    × ((name : Name) → Contains told.failed name
+    → MayAnswer may_open main (folders_in folders) (marks_in folders) name None)
 
 -- a command over the bytes of the main file, those of a go.sum if one is given, and what a store may answer
 abbrev pub IsStoreRun : (Told → Type 0) → Command → List ℕ → Option (List ℕ) → Outcome → Type 0

@@ -80,10 +80,11 @@ Needs (Edit operations) main sums answers name = ⊥
 Needs (Versions path all) main sums answers name = VersionsNeed path all answers name
 Needs _ main sums answers name = GraphNeeds main sums answers name
 
--- What holds however a run of a command ends, with this status and these reports. `before` says which answers its store
--- might give before the run, `after` which ones it may give after it.
+-- What holds however a run of a command ends, with this status and these reports. `before` says what might come of
+-- asking its store for a name before the run, `after` what may come of it after the run: an answer, or none if its device
+-- may fail.
 pub record HoldsAtAnyEnd (command : Command) (main : List ℕ) (sums : Option (List ℕ))
-    (before after : Name → Reply → Type 0) (old new : StoreState) (status : ℕ) (reports : Outcome → Type 0)
+    (before after : Name → Option Reply → Type 0) (old new : StoreState) (status : ℕ) (reports : Outcome → Type 0)
     : Type 0 where
   -- Each file is asked for once, and is needed by the answers before it.
   pub in_turn : AskedInTurn (Needs command main sums) new.asked
@@ -91,8 +92,9 @@ pub record HoldsAtAnyEnd (command : Command) (main : List ℕ) (sums : Option (L
   pub all_answered : status ≡ 0 → AnsweredAll (Needs command main sums) (answer_in new.asked)
   -- The device fails at one file at most, which is needed by the answers and is not among them.
   pub fails : FailsInTurn (Needs command main sums) old new
-  -- Each answer is one that the store may give, and no other becomes possible. The device fails only if the count of
-  -- its failures rises in this run, or stood at its maximum before it; the count never falls.
+  -- Each answer is one that the store may give, and nothing else becomes possible. The device fails only at a file at
+  -- which it may, and only if the count of its failures rises in this run, or stood at its maximum before it; the count
+  -- never falls.
   pub served : HasServed before after old new
   -- If the device failed at a file, that is reported, whatever the memory.
   pub device : (name : Name) → new.refused ≡ old.refused ++ name ∷ [] → reports (failure_outcome (device_line name))
@@ -102,7 +104,7 @@ pub record HoldsAtAnyEnd (command : Command) (main : List ℕ) (sums : Option (L
 
 -- a run of a command over a store that had not been asked before comes to this outcome
 pub record ComesTo (command : Command) (main : List ℕ) (sums : Option (List ℕ))
-    (before after : Name → Reply → Type 0) (old new : StoreState) (outcome : Outcome) : Type 0 where
+    (before after : Name → Option Reply → Type 0) (old new : StoreState) (outcome : Outcome) : Type 0 where
   pub ends : OrNoMemory (RunEnds command (run_between main sums old new)) outcome
   pub holds : HoldsAtAnyEnd command main sums before after old new outcome.status (λ reported. outcome ≡ reported)
 

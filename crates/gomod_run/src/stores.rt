@@ -1,11 +1,11 @@
 //! The store of a command: proxy folders on disk, or standard input as the list of a module.
 
-ghost use Rattle.std.specs.Prelude.{◌≡◌, IfErr, IfOk, Ok, [], codes};
+ghost use Rattle.std.specs.Prelude.{◌≡◌, IfErr, IfOk, Ok, Option, [], codes};
 ghost use Rattle.std.specs.Option.{option_map};
 ghost use Rattle.std.specs.String.{string_bytes};
 ghost use Rattle.gm_store.specs.Asked.{Name, Reply, list_file};
 ghost use Rattle.gm_store.specs.Memory.{pairs_of};
-ghost use Rattle.gm_store.specs.Views.{asked_by};
+ghost use Rattle.gm_store.specs.Views.{asked_by, refused_by};
 ghost use Rattle.gm_store.specs.DiskAnswers.{MayAnswer};
 ghost use Rattle.gm_store.specs.Openings.{MayRead};
 ghost use Rattle.gm_store.specs.Proxies.{folders_in, marks_in};
@@ -63,9 +63,10 @@ pub(crate) fn folders_of<S: FileSystem + Copy + Drop + Alloc<A = Global>>(
     folders: ProxyList,
 ) -> FolderReader<S>
     ensures asked { asked_by result ≡ [] }
-    ensures answers { (name : Name) (reply : Reply)
-        → ⟦<FolderReader<S> as Asks>⟧.may_answer result name reply
-        → MayAnswer (S.may_open rt.now) (string_bytes main) (folders_in folders) (marks_in folders) name reply }
+    ensures refused { refused_by result ≡ [] }
+    ensures answers { (name : Name) (outcome : Option Reply)
+        → ⟦<FolderReader<S> as Asks>⟧.may_answer result name outcome
+        → MayAnswer (S.may_open rt.now) (string_bytes main) (folders_in folders) (marks_in folders) name outcome }
 {
     FolderReader::new(*rt, rt.alloc(), main, folders)
 }

@@ -16,7 +16,7 @@ pub type FolderFiles<S> = FallbackStore<FoldersOnDisk<S>>;
 pub type FolderReader<S> = FallbackStore<FoldersOnDisk<S>, LastAnswer>;
 
 impl<S: FileSystem, K: Keeps> FallbackStore<FoldersOnDisk<S>, K> {
-    ghost use Rattle.std.specs.Prelude.{◌≡◌, [], string_bytes};
+    ghost use Rattle.std.specs.Prelude.{◌≡◌, [], Option, string_bytes};
     ghost use Rattle.gm_store.specs.Asked.{Name, Reply};
     ghost use Rattle.gm_store.specs.DiskAnswers.{MayAnswer};
     ghost use Rattle.gm_store.specs.Proxies.{folders_in, marks_in};
@@ -44,10 +44,11 @@ impl<S: FileSystem, K: Keeps> FallbackStore<FoldersOnDisk<S>, K> {
         ensures refused { refused_by result ≡ [] }
         ensures lookups { lookups_of result ≡ 0 }
         ensures faults { faults_of result ≡ 0 }
-        // An answer is that of the file at the path of the name in one of these folders.
-        ensures answers { (name : Name) (reply : Reply)
-            → ⟦<FallbackStore<FoldersOnDisk<S>, K> as Asks>⟧.may_answer result name reply
-            → MayAnswer (S.may_open system) (string_bytes main) (folders_in proxy) (marks_in proxy) name reply }
+        // An answer is that of the file at the path of the name in one of these folders, and the device fails only if
+        // opening or reading one of these files does.
+        ensures answers { (name : Name) (outcome : Option Reply)
+            → ⟦<FallbackStore<FoldersOnDisk<S>, K> as Asks>⟧.may_answer result name outcome
+            → MayAnswer (S.may_open system) (string_bytes main) (folders_in proxy) (marks_in proxy) name outcome }
     {
         let ProxyList {
             folders: proxies,

@@ -43,16 +43,15 @@ impl FailingFiles {
 }
 
 impl Asks for FailingFiles {
-    ghost use Rattle.gm_store.specs.Memory.{may_give};
-    ghost use Rattle.gm_store.specs.Failing.{asks_left, failing_files_state as state_of, inside_of, one_fewer};
+    ghost use Rattle.gm_store.specs.Failing.{asks_left, failing_files_state as state_of, may_give_or_fail, one_fewer};
 
     ghost state = { state_of };
 
-    ghost may_answer = { λ store. may_give (inside_of store) };
+    ghost may_answer = { may_give_or_fail };
 
     fn ask(&mut self, name: &FileName) -> Result<(), AskFault>
         requires { answer_in (state_of self.old).asked (name_of name.now) ≡ None }
-        ensures request { IsRequest (may_give (inside_of self.old)) (may_give (inside_of self.new))
+        ensures request { IsRequest (may_give_or_fail self.old) (may_give_or_fail self.new)
             (state_of self.old) (state_of self.new) (name_of name.now) result }
 
         // The device fails exactly once: when no request is left before the failure.

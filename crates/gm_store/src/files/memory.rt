@@ -55,7 +55,7 @@ impl MemoryFiles {
 
     /// The answer to a name: a copy of the file's bytes, `TooLong` or `Absent`. The only refusal is `NoMemory`.
     fn look_up(&self, name: &FileName) -> Result<Answer, NoMemory>
-        ensures content { IfOk result (λ answer. may_give self.now (name_of name.now) (reply_of answer)) }
+        ensures content { IfOk result (λ answer. may_give self.now (name_of name.now) (Some (reply_of answer))) }
         ensures within_limit { IfOk result (λ answer. IsWithinLimit (reply_of answer)) }
     {
         match self.held.get(name) {

@@ -4,7 +4,9 @@
 //! line doesn't hide the other versions.
 
 ghost use Rattle.std.specs.Prelude.{◌≡◌, ◌↔◌, ◌++◌, ◌∷◌, [], ℕ, List, IfOk, IfNone, IfSome, IsTrue, OnOk};
+ghost use Rattle.std.specs.List.Sorted.{IsPermutation, IsSorted};
 ghost use Rattle.gm_name.specs.Lines.{first_word};
+ghost use Rattle.gm_name.specs.Version.{version_cmp};
 ghost use Rattle.gm_store.specs.Listed.{AreListed, HoldsListable, IsListable};
 
 use gm_name::{
@@ -89,6 +91,14 @@ fn room_for(text: &[u8]) -> usize {
     line_ends.min(text.len() / SHORTEST) + 1
 }
 
+/// Puts versions into ascending order. Two that are equal have the same text.
+fn sort_versions<'a>(versions: &mut Vec<BorrowedVersion<'a>>)
+    ensures permutation { IsPermutation versions.old.items versions.new.items }
+    ensures sorted { IsSorted version_cmp versions.new.items }
+{
+    versions.sort_unstable();
+}
+
 /// The versions that a module's list file names, without duplicates, in ascending order (Go Modules Reference,
 /// GOPROXY protocol, `$base/$module/@v/list`). They borrow their texts from the list.
 ///
@@ -109,7 +119,7 @@ pub fn versions_of<'a>(
     for line in text.split(|byte| *byte == b'\n') {
         push_listable(alloc, path, line, &mut versions)?;
     }
-    versions.sort_unstable();
+    sort_versions(&mut versions);
     versions.dedup();
     Ok(versions)
 }

@@ -1,10 +1,12 @@
-use Rattle.std.proofs.Common.{ℕ, List, Some, inl, inr, option_map, refl, subst}
+use Rattle.std.proofs.Common.{ℕ, Contains, List, None, Some, drop, inl, inr, length, option_map, refl, subst}
 use Rattle.std.specs.String.{string_bytes}
+use Rattle.gm_store.specs.Asked.{Name}
 use Rattle.gm_store.specs.Views.{fallback_state}
-use Rattle.gm_store.proofs.Serving.{may_all}
+use Rattle.gm_store.proofs.Serving.{may_all, may_refuse_all}
 use Rattle.gomod_run.specs.Outcome.{report_outcome}
-use Rattle.gomod_run.specs.Program.{IsServed, untaken}
+use Rattle.gomod_run.specs.Program.{IsServed, MayBeTold, untaken}
 use Rattle.gomod_run.specs.Reads.{IsStoreFolder, with_proxy}
+use Rattle.gomod_run.specs.Runs.{told_between}
 use Rattle.gomod_run.specs.declared.reports.report.Report.TheVariants.{NoMemory}
 use Rattle.gomod_run.proofs.Endings.{ends_weaken}
 use Rattle.gomod_run.proofs.Served.{folders_served, input_unserved, same_run, stopped}
@@ -29,7 +31,13 @@ returns g c =
     let is = subst (λ (main : List ℕ). IsStoreFolder c.args.command.now main folder) c.as_str.ensures.value c.in_ok-folder.ensures in
     let old = fallback_state c.folders_of-files.result in
     let new = fallback_state c.run.new.files in
+    let told : MayBeTold may_open folder (Some c.args.folders) (told_between old new) = (
+      λ name reply k. c.folders_of-files.ensures.answers name (Some reply) (may_all _ _ old new c.folders_of-files.ensures.asked c.run.ensures.holds.served name reply k),
+      λ name k. c.folders_of-files.ensures.answers name None
+          (may_refuse_all _ _ old new c.folders_of-files.ensures.refused c.run.ensures.holds.served name
+          (subst (λ (names : List Name). Contains (drop (length names) new.refused) name) c.folders_of-files.ensures.refused k)),
+    ) in
     ends_weaken _ _ _ _ _ _ _ (λ outcome runs. folders_served may_open c.args.command.now c.args.places.now c.args.folders folder c.in_ok-read.read old new
-    c.in_ok-read.ensures is (λ name reply k. c.folders_of-files.ensures.answers name reply (may_all _ _ old new c.folders_of-files.ensures.asked c.run.ensures.holds.served name reply k)) outcome
+    c.in_ok-read.ensures is told outcome
     (same_run c.args.command.now c.in_ok-read.read c.as_slice-main.result.now (option_map (λ sums. sums.now) c.sums.result) old new c.as_slice-main.ensures.value c.sums.ensures outcome runs))
     c.run.ensures.ends

@@ -68,8 +68,11 @@ returns-in_ok-keep-in-Some-clause-request g c =
 
 pub returns-in-None-clause-request : goal.returns-in-None-clause-request
 returns-in-None-clause-request g c =
-    let stop = c.in_ok-outcome.ensures.stop in
-    request_refused _ _ _ _ (name_of c.args.name.now) (λ n r is. subst (λ folders. MayAnswerFrom (g.F.FolderList.may_find folders) c.args.self.now.marks.items n r) c.walk.ensures.folders is) (count_rises _ _ _ stop.2 (omega arith)) refl
+    let stop = rw c.in-None.is at c.in_ok-outcome.ensures.stop in
+    let marks = c.marks_for-marks.ensures ∙ ap (marks_for (name_of c.args.name.now)) c.deref.ensures.value in
+    request_refused _ _ _ _ (name_of c.args.name.now) (λ n r is. subst (λ folders. MayAnswerFrom (g.F.FolderList.may_find folders) c.args.self.now.marks.items n r) c.walk.ensures.folders is) (count_rises _ _ _ stop.2 (omega arith))
+    (stop.0, subst (λ (ms : List Mark). MayStop (λ k seen. g.F.FolderList.may_find (inner_folders c.args.self.now.folders) k (name_of c.args.name.now) seen) ms None stop.0) marks stop.1)
+    refl
     c.and_refused-self.ensures.refused (rw c.in-None.is at c.in_ok-outcome.ensures.cause)
 
 pub returns-in_err-outcome-clause-request : goal.returns-in_err-outcome-clause-request
