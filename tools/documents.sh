@@ -50,7 +50,7 @@ BUDGETS = """
  1500 docs/lib/CRATES.md
 13000 docs/dev/*.md
  1800 docs/dev/CASES.md
- 3000 docs/DECISIONS.md
+ 3100 docs/DECISIONS.md
  4500 docs/dev/PROOFS.md
   800 docs/dev/BENCHMARKS.md
 """

@@ -1,5 +1,5 @@
 -- The steps of reading a dependency's file from its bytes.
-use Rattle.std.proofs.Common.{◌≡◌, ℕ, ◌+◌, List, [], ◌∷◌, ◌++◌, length, Option, Some, None, Ok, Err, refl, sym, ap, subst, ◌∙◌, arith, Bor}
+use Rattle.std.proofs.Common.{◌≡◌, ℕ, ◌+◌, List, [], ◌∷◌, ◌++◌, length, Option, Some, None, Ok, Err, inl, inr, refl, sym, ap, subst, ◌∙◌, arith, Bor}
 use Rattle.std.proofs.lemmas.List.{length-append, length-map, map-append, map_push}
 use Rattle.std.specs.Prelude.{unwrap_or}
 use Rattle.std.specs.Option.{option_copied, option_map}
@@ -7,7 +7,7 @@ use Rattle.gm_syntax.specs.Words.{Word}
 use Rattle.gm_syntax.specs.Tokens.{Placed}
 use Rattle.gm_syntax.specs.Document.{Line}
 use Rattle.gm_syntax.specs.LineViews.{plain, plain_lines}
-use Rattle.gm_syntax.specs.Parsed.{IsParsedAs}
+use Rattle.gm_syntax.specs.Parsed.{IsFaultOrNoMemory, IsParsedAs}
 use Rattle.gm_syntax.specs.LineReading.{IsRestRead, Unread}
 use Rattle.gm_syntax.specs.declared.fault.SyntaxFault.{SyntaxFault}
 use Rattle.gm_syntax.specs.declared.fault.SyntaxFault.TheVariants as syntax
@@ -63,6 +63,11 @@ misread-syntax mode bytes syntax.NoMemory is = tt
 misread-syntax mode bytes syntax.TooMany is = (refl, is)
 misread-syntax mode bytes syntax.NotUtf8 is = (refl, is)
 misread-syntax mode bytes (syntax.Syntax number kind) is = is
+
+-- that fault, or that memory ran out
+pub misread-text : (mode : Mode) (bytes : List ℕ) (fault : SyntaxFault) → IsFaultOrNoMemory bytes fault → IsBytesFault mode bytes (fault_by_syntax fault)
+misread-text mode bytes fault (inl is) = misread-syntax mode bytes fault is
+misread-text mode bytes fault (inr none) = subst (λ (f : SyntaxFault). IsBytesFault mode bytes (fault_by_syntax f)) (sym none) tt
 
 -- a fault of the directives of bytes that are a document
 pub misread-file : (mode : Mode) (bytes : List ℕ) (lines : List (Line Placed)) (fault : FileFault) → IsParsedAs bytes (Ok lines) → ReportsFault mode (plain_lines lines) fault

@@ -5,7 +5,6 @@ use crate::editor::Editor;
 use crate::fault::EditFault;
 use crate::op::Op;
 use gm_file::MainFile;
-use std::alloc::Global;
 use std::mem;
 
 /// A file that operations are applied to: a `MainFile`, whose crate doesn't know operations.
@@ -26,10 +25,11 @@ pub trait Apply {
     /// requires or excludes, or the one in the left side of a `replace`. The right side of a `replace` isn't checked.
     /// The check comes before any allocation.
     ///
-    /// Fails with `NoMemory` if memory runs out. On any failure the file is unchanged.
+    /// Takes memory from the allocator of the file's lines. Fails with `NoMemory` if it runs out. On any failure the file
+    /// is unchanged.
     ///
     /// The whole file is read again. For more than one operation an `Editor` reads nothing between them.
-    fn apply(&mut self, alloc: Global, op: &Op) -> Result<(), EditFault>
+    fn apply(&mut self, op: &Op) -> Result<(), EditFault>
         ensures ok { OnOk result (lines self.new ≡ lines_after op.now (lines self.old)) }
         ensures err { OnErr result (lines self.new ≡ lines self.old) }
         ensures misfit { IsErrOf result EditFault.Misfit ↔ is_fit op.now ≡ false };
@@ -38,11 +38,11 @@ pub trait Apply {
 impl<'a> Apply for MainFile<'a> {
     ghost lines = { λ file. file };
 
-    fn apply(&mut self, alloc: Global, op: &Op) -> Result<(), EditFault> {
+    fn apply(&mut self, op: &Op) -> Result<(), EditFault> {
         if !is_fit(&op.change) {
             return Err(EditFault::Misfit);
         }
-        let mut editor = Editor::new(alloc, self)?;
+        let mut editor = Editor::new(self)?;
         editor.apply(op)?;
         let _before = mem::replace(self, editor.into_file()?);
         Ok(())

@@ -19,7 +19,7 @@ use std::alloc::{AllocError, Global};
 use std::marker::Model;
 
 /// The lines of a main module's file, which operations change in turn. They are always a document that strict reading
-/// accepts.
+/// accepts. Its methods take memory from the allocator of the lines.
 #[derive(Drop)]
 pub struct Editor<'a> {
     /// The allocator of the lines.
@@ -45,17 +45,19 @@ impl<'a> Model for Editor<'a> {
 
 impl<'a> Editor<'a> {
     /// An editor of a file's lines, which it takes. Fails only if memory runs out.
-    pub fn of(alloc: Global, file: MainFile<'a>) -> Result<Editor<'a>, AllocError>
+    pub fn of(file: MainFile<'a>) -> Result<Editor<'a>, AllocError>
         ensures { IfOk result (λ editor. editor ≡ file.entry) }
     {
+        let alloc = file.doc().allocator();
         let lines = KeyedLines::new(alloc, file.into_doc().into_lines())?;
         Ok(Editor { alloc, lines })
     }
 
     /// An editor of a copy of a file's lines. Fails only if memory runs out.
-    pub fn new(alloc: Global, file: &MainFile<'a>) -> Result<Editor<'a>, AllocError>
+    pub fn new(file: &MainFile<'a>) -> Result<Editor<'a>, AllocError>
         ensures { IfOk result (λ editor. editor ≡ file.now) }
     {
+        let alloc = file.doc().allocator();
         let lines = KeyedLines::new(alloc, file.doc().copy()?.into_lines())?;
         Ok(Editor { alloc, lines })
     }

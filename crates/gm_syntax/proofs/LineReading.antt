@@ -1,5 +1,5 @@
 -- The steps of a reader of lines.
-use Rattle.std.proofs.Common.{◌≡◌, ℕ, ◌+◌, ◌-◌, ◌<◌, ◌≤◌, true, false, List, [], ◌∷◌, ◌++◌, length, drop, Option, Some, None, Ok, Err, refl, sym, ap, subst, arith}
+use Rattle.std.proofs.Common.{◌≡◌, ℕ, ◌+◌, ◌-◌, ◌<◌, ◌≤◌, true, false, List, [], ◌∷◌, ◌++◌, length, drop, Option, Some, None, Ok, Err, inl, inr, refl, sym, ap, subst, arith}
 use Rattle.std.proofs.lemmas.List.{map_push, length-append}
 use Rattle.gm_syntax.specs.declared.fault.LineSyntaxFault.{LineSyntaxFault}
 use Rattle.gm_syntax.specs.declared.fault.LineSyntaxFault.TheVariants as faults
@@ -12,7 +12,7 @@ use Rattle.gm_syntax.specs.Tokens.{Placed, AreSlicesBetween, AreNumbered}
 use Rattle.gm_syntax.specs.Document.{Line, start, after, Place}
 use Rattle.gm_syntax.specs.LineViews.{line_of, plain, plain_lines, tokens_of, all_tokens}
 use Rattle.gm_syntax.specs.Placing.{FillsLine, FillLines}
-use Rattle.gm_syntax.specs.Parsed.{IsText, IsParsedAs}
+use Rattle.gm_syntax.specs.Parsed.{IsText, IsParsedAs, IsFaultOrNoMemory}
 use Rattle.gm_syntax.specs.Reader.{IsOnlyLine, IsLineReadAs}
 use Rattle.gm_syntax.specs.LineFaults.{fault_at}
 use Rattle.gm_syntax.specs.LineReading.{Unread, TextProgress, HasRead, IsReadDocument, IsNextRead}
@@ -62,9 +62,9 @@ module _ {left : Unread} {lines : List (Line Placed)} (so : HasRead left lines) 
 
   -- the next line has a fault
   pub read_fault : (front next : List ℕ) (fault : LineSyntaxFault) → lines_of left.rest ≡ front ∷ lines_of next → IsLineReadAs left.at.inside front (Err fault)
-      → IsParsedAs left.source (Err (fault_at left.at.number fault))
-  read_fault front next faults.Memory cut only = tt
-  read_fault front next (faults.Syntax kind) cut only = (so.is_text, plain_lines lines, text_fault so.progress front next kind cut only)
+      → IsFaultOrNoMemory left.source (fault_at left.at.number fault)
+  read_fault front next faults.Memory cut only = inr refl
+  read_fault front next (faults.Syntax kind) cut only = inl (so.is_text, plain_lines lines, text_fault so.progress front next kind cut only)
 
   -- there is no line left, and the last block is closed
   pub read_end : lines_of left.rest ≡ [] → left.at.inside ≡ false → IsReadDocument left.source lines

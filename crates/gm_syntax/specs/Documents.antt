@@ -1,6 +1,6 @@
 -- Documents, and the reading of a text, as a reader sees them: by the parts of a document, by what comes before
 -- a line, and by the pieces of a text.
-use Rattle.std.specs.Prelude.{◌≡◌, ◌≢◌, ◌⊎◌, ◌<◌, ◌≤◌, ◌+◌, ℕ, Bool, true, false, List, [], ◌∷◌, ◌++◌, length, nat_lt, slice_get, Option, Some, Result, Ok, Err, ⊤}
+use Rattle.std.specs.Prelude.{◌≡◌, ◌≢◌, ◌⊎◌, ◌<◌, ◌≤◌, ◌+◌, ℕ, Bool, true, false, List, [], ◌∷◌, ◌++◌, length, nat_lt, slice_get, Option, Some, Result, Ok, Err}
 use Rattle.std.specs.List.{AllByRecursion, list_all, filter, flat_map}
 use Rattle.std.specs.Str.{IsUtf8}
 use Rattle.gm_syntax.specs.declared.fault.SyntaxKind.{SyntaxKind}
@@ -136,11 +136,11 @@ pub record IsReading (text : List ℕ) (lines : List (Line Word)) (finish : Fini
   pub are_lines : AreLinesOf pieces lines
   pub ends : EndsAfter pieces lines finish
 
--- The document that the bytes are, or why they are none. Memory can run out in any case.
+-- the document that the bytes are, or why they are none
 abbrev pub IsReadingResult : List ℕ → Result (List (Line Placed)) SyntaxFault → Type 0
 IsReadingResult bytes (Ok doc) = IsText bytes × IsReading bytes (plain_lines doc) Whole
-IsReadingResult bytes (Err faults.NoMemory) = ⊤
 IsReadingResult bytes (Err faults.TooMany) = 16777216 < length bytes
 IsReadingResult bytes (Err faults.NotUtf8) = (length bytes ≤ 16777216) × ¬ IsUtf8 bytes
 IsReadingResult bytes (Err (faults.Syntax number kind)) = IsText bytes × (lines : List (Line Word))
     × IsReading bytes lines (Faulty number kind)
+IsReadingResult bytes (Err faults.NoMemory) = ⊥

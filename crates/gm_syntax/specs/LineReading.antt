@@ -8,7 +8,7 @@ use Rattle.gm_syntax.specs.Lines.{lines_of}
 use Rattle.gm_syntax.specs.Document.{Line, Finish, ReadsLines, AreLines, IsDocument, start, Place}
 use Rattle.gm_syntax.specs.LineViews.{line_of, plain_lines, all_tokens, AreLinesNumbered}
 use Rattle.gm_syntax.specs.Placing.{FillLines, IsPlacedIn}
-use Rattle.gm_syntax.specs.Parsed.{IsText, IsParsedAs}
+use Rattle.gm_syntax.specs.Parsed.{IsText, IsParsedAs, IsFaultOrNoMemory}
 
 -- what a reader of lines has still to read: the text from the next line on, and the place of that line
 pub record Unread : Type 0 where
@@ -48,15 +48,17 @@ pub record IsReadDocument (source : List ℕ) (lines : List (Line Placed)) : Typ
   pub numbered : AreLinesNumbered 1 lines
   pub stand : IsPlacedIn source lines
 
--- after these lines the result is one line more, or the end of the document, or the fault of the text
+-- After these lines the result is one line more, or the end of the document, or the fault of the text. Memory can run
+-- out in place of each.
 abbrev pub IsNextRead : Unread → List (Line Placed) → Result (Option declared.Line) SyntaxFault → Type 0
 IsNextRead left lines (Ok (Some line)) = HasRead left (lines ++ line_of line ∷ [])
 IsNextRead left lines (Ok None) = IsReadDocument left.source lines
-IsNextRead left lines (Err fault) = IsParsedAs left.source (Err fault)
+IsNextRead left lines (Err fault) = IsFaultOrNoMemory left.source fault
 
--- more lines have been read after these, and they are the document, or the result is the fault of the text
+-- More lines have been read after these, and they are the document, or the result is the fault of the text. Memory can
+-- run out in place of each.
 abbrev pub IsRestRead : Unread → List (Line Placed) → Result (Unit {0}) SyntaxFault → Type 0
 IsRestRead left lines (Ok u) = (more : List (Line Placed)) × HasRead left (lines ++ more)
     × IsParsedAs left.source (Ok (lines ++ more))
 IsRestRead left lines (Err fault) = (more : List (Line Placed)) × HasRead left (lines ++ more)
-    × IsParsedAs left.source (Err fault)
+    × IsFaultOrNoMemory left.source fault

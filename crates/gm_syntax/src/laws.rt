@@ -55,9 +55,9 @@ pub fn layout_is_stable()
     ensures { (doc : List (Line Word)) → IsDocument doc → (again : List (Line Word)) × IsStable doc again }
 {}
 
-/// Reading the layout of a document, in a string such as `Doc::format` returns, gives the same lines, blank ones
-/// aside, and they have the same layout. The reading can fail only if memory runs out, or if the layout is longer
-/// than `Doc::parse` accepts. The layout is UTF-8, and no line of it is faulty.
+/// The layout of a document, in a string such as `Doc::format` returns, has the same lines, blank ones aside, and they
+/// have the same layout. It has no fault but that it can be longer than `Doc::parse` accepts: it is UTF-8, and no line
+/// of it is faulty.
 pub fn layout_is_read_back()
     ensures { (lines : List (Line Word)) (text : String Global) (answer : Result (List (Line Placed)) SyntaxFault)
         → IsDocument lines → string_bytes text ≡ layout lines
@@ -208,7 +208,7 @@ pub fn texts_have_one_reading()
         → IsReading text lines finish → IsReading text others other → (others ≡ lines) × (other ≡ finish) }
 {}
 
-/// The result of `Doc::parse` is the reading of the bytes: the document that their pieces are, or the first fault.
+/// What `Doc::parse` says of bytes is their reading: the document that their pieces are, or the first fault.
 pub fn results_are_readings()
     ensures { (bytes : List ℕ) (answer : Result (List (Line Placed)) SyntaxFault)
         → IsParsedAs bytes answer ↔ IsReadingResult bytes answer }

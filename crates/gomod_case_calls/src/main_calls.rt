@@ -30,12 +30,11 @@ fn ask(
 ) -> Result<(), CallFault> {
     // what owns a main file is proved through all its fields, so this alone does
     let mut file = MainFile::read_bytes(alloc, bytes)?;
-    push_answer(alloc, text, &mut file, question)
+    push_answer(text, &mut file, question)
 }
 
 /// Appends what a main file answers.
 fn push_answer(
-    alloc: Global,
     text: &mut String,
     file: &mut MainFile<'_>,
     question: Question<'_>,
@@ -44,18 +43,13 @@ fn push_answer(
         Question::All => Ok(push_main(text, file)?),
         Question::Replacement(pair) => Ok(push_found(text, file.replacement(pair))?),
         Question::Excluded(pair) => push_test(text, file.excluded(pair)),
-        Question::Edited(op) => push_layout_after(alloc, text, file, op),
+        Question::Edited(op) => push_layout_after(text, file, op),
     }
 }
 
 /// Appends the layout of a main file after an operation.
-fn push_layout_after(
-    alloc: Global,
-    text: &mut String,
-    file: &mut MainFile<'_>,
-    op: &Op,
-) -> Result<(), CallFault> {
-    file.apply(alloc, op)?;
+fn push_layout_after(text: &mut String, file: &mut MainFile<'_>, op: &Op) -> Result<(), CallFault> {
+    file.apply(op)?;
     let layout = file.doc().format()?;
     Ok(text.push_str(layout.as_str())?)
 }

@@ -81,7 +81,7 @@ fn editor_of<'a, 'r>(alloc: Global, file: &'a [u8]) -> Result<Editor<'a>, Report
         × (outcome ≡ refusal_outcome (main_line place))) (report_outcome told)) }
 {
     let main = MainFile::read_bytes(alloc, file)?;
-    Ok(Editor::of(alloc, main)?)
+    Ok(Editor::of(main)?)
 }
 
 /// What `edit` ends with over the bytes of a main module's file: the layout after all operations, or the report of the

@@ -34,7 +34,7 @@ fn print_file(rt: &impl Print, file: &MainFile<'_>) -> io::Result<()> {
 /// Applies an operation of `gomod edit` to a file.
 fn edit(alloc: Global, file: &mut MainFile<'_>, operation: &str) -> anyhow::Result<()> {
     let op = Op::parse(alloc, operation)?;
-    file.apply(alloc, &op).map_err(anyhow::Error::from)
+    file.apply(&op).map_err(anyhow::Error::from)
 }
 
 /// Prints the layout of the example.

@@ -1,11 +1,11 @@
-use Rattle.std.proofs.Common.{ℕ, List, [], ◌∷◌, ◌++◌, Err, ap, subst, sym, ◌∙◌}
-use Rattle.gm_syntax.specs.Parsed.{IsParsedAs}
+use Rattle.std.proofs.Common.{ℕ, List, [], ◌∷◌, ◌++◌, ap, subst, sym, ◌∙◌}
+use Rattle.gm_syntax.specs.Parsed.{IsFaultOrNoMemory}
 use Rattle.gm_file.specs.declared.misreading.BytesFault.{BytesFault}
 use Rattle.gm_file.specs.BytesFaults.{fault_by_file}
 use Rattle.gm_file.specs.Directives.{Lax}
 use Rattle.gm_file.specs.Misreading.{IsBytesFault}
 use Rattle.gm_file.specs.Views.{file_fault_at}
-use Rattle.gm_file.proofs.DepReading.{misread-line, misread-syntax}
+use Rattle.gm_file.proofs.DepReading.{misread-line, misread-text}
 use Rattle.gm_file.proofs.dep_lines.fault_of_all.Goals as goal
 
 pub returns-in-Ok : goal.returns-in-Ok
@@ -18,5 +18,5 @@ returns-in-Ok c = λ lines here so told.
 
 pub returns-in-Err : goal.returns-in-Err
 returns-in-Err c = λ lines here so told.
-    let parsed = subst (λ (source : List ℕ). IsParsedAs source (Err c.in-Err.syntax)) c.in-Err.ensures.source (c.in-Err.ensures.rest (lines ++ here ∷ []) so).2 in
-    subst (λ (f : BytesFault). IsBytesFault Lax c.args.reader.now.source f) (sym c.from-in-Err.ensures) (misread-syntax Lax c.args.reader.now.source c.in-Err.syntax parsed)
+    let parsed = subst (λ (source : List ℕ). IsFaultOrNoMemory source c.in-Err.syntax) c.in-Err.ensures.source (c.in-Err.ensures.rest (lines ++ here ∷ []) so).2 in
+    subst (λ (f : BytesFault). IsBytesFault Lax c.args.reader.now.source f) (sym c.from-in-Err.ensures) (misread-text Lax c.args.reader.now.source c.in-Err.syntax parsed)

@@ -8,7 +8,7 @@ use Rattle.gomod_run.proofs.fmt.fmt_outcome.Goals as goal
 pub returns-in_err-doc : goal.returns-in_err-doc
 returns-in_err-doc c =
     let p = err_from_is_err_and c.from_residual.result c.from_residual.ensures.1 in
-    rw (p.1, p.2) (fmt_misread c.args.file.now c.in_err-doc.field-0.0 c.in_err-doc.ensures.read)
+    rw (p.1, p.2) (fmt_misread c.args.file.now c.in_err-doc.field-0.0 c.in_err-doc.ensures.fault)
 
 pub returns-in_err-format : goal.returns-in_err-format
 returns-in_err-format c = inr (no_memory c.from_residual-in_err-format.result c.from_residual-in_err-format.ensures.1)

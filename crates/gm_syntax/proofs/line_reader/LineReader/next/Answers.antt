@@ -1,4 +1,4 @@
-use Rattle.std.proofs.Common.{◌≡◌, ℕ, [], Err, ap, sym, subst, ◌∙◌}
+use Rattle.std.proofs.Common.{◌≡◌, ℕ, [], Err, inl, ap, sym, subst, ◌∙◌}
 use Rattle.std.proofs.lemmas.List.{nil_from_length}
 use Rattle.std.proofs.lemmas.Bool.{eqb-true}
 use Rattle.gm_syntax.specs.declared.fault.SyntaxFault.{SyntaxFault}
@@ -6,7 +6,7 @@ use Rattle.gm_syntax.specs.declared.fault.SyntaxFault.TheVariants.{Syntax}
 use Rattle.gm_syntax.specs.declared.fault.SyntaxKind.TheVariants.{OpenBlock}
 use Rattle.gm_syntax.specs.Lines.{lines_of}
 use Rattle.gm_syntax.specs.LineViews.{line_of}
-use Rattle.gm_syntax.specs.Parsed.{IsParsedAs}
+use Rattle.gm_syntax.specs.Parsed.{IsFaultOrNoMemory, IsParsedAs}
 use Rattle.gm_syntax.specs.LineFaults.{fault_at}
 use Rattle.gm_syntax.specs.LineReading.{Unread, HasRead, IsReadDocument}
 use Rattle.gm_syntax.proofs.Lines.{lines_nil}
@@ -17,7 +17,7 @@ pub returns-then-is_inside-clause-next : goal.returns-then-is_inside-clause-next
 returns-then-is_inside-clause-next c = λ lines so.
     let none : lines_of c.self.inside.rest.now ≡ [] = ap lines_of (nil_from_length c.self.inside.rest.now (eqb-true _ 0 (sym c.is_empty.ensures ∙ c.if-is_empty.true))) ∙ lines_nil in
     let old : HasRead (unread c.self.inside.text.now c.self.inside.rest.now c.self.inside.place) lines = subst (λ (u : Unread). HasRead u lines) (sym c.self.view_is) so in
-    rw c.opened.ensures (subst (λ (u : Unread). IsParsedAs u.source (Err (Syntax c.self.inside.place.opened OpenBlock))) c.self.view_is (read_open old none (sym c.is_inside.ensures ∙ c.if-is_inside.true)))
+    rw c.opened.ensures (inl (subst (λ (u : Unread). IsParsedAs u.source (Err (Syntax c.self.inside.place.opened OpenBlock))) c.self.view_is (read_open old none (sym c.is_inside.ensures ∙ c.if-is_inside.true))))
 
 pub returns-then-is_empty-clause-next : goal.returns-then-is_empty-clause-next
 returns-then-is_empty-clause-next c = λ lines so.
@@ -35,5 +35,5 @@ returns-in-Ok-clause-next c = λ lines so.
 pub returns-in-Err-clause-next : goal.returns-in-Err-clause-next
 returns-in-Err-clause-next c = λ lines so.
     let old : HasRead (unread c.self.inside.text.now c.self.inside.rest.now c.self.inside.place) lines = subst (λ (u : Unread). HasRead u lines) (sym c.self.view_is) so in
-    subst (λ (f : SyntaxFault). IsParsedAs c.self.inside.text.now (Err f)) (sym (c.at_line.ensures ∙ ap (λ (n : ℕ). fault_at n c.in-Err.fault) c.number.ensures))
+    subst (λ (f : SyntaxFault). IsFaultOrNoMemory c.self.inside.text.now f) (sym (c.at_line.ensures ∙ ap (λ (n : ℕ). fault_at n c.in-Err.fault) c.number.ensures))
     (read_fault old c.split_first_line.result.0.now c.split_first_line.result.1.now c.in-Err.fault c.split_first_line.ensures.lines c.in-Err.ensures.read)
