@@ -3,19 +3,31 @@
 #
 #   tools/cases.sh              as both compilers built it for the merge gate, in crates/run_cases/out
 #   tools/cases.sh PROGRAM..    these executables
+#   tools/cases.sh --all PROGRAM..
+#                               the same, after the cases that the gate runs
 #
 # The gate itself runs run_cases on the files that crates/run_cases/args names. What it leaves of the program runs here
 # on the folders sizes and wrong of crates/run_cases/data. In each of them `args` has the arguments, `stdout` and
-# `stderr` what the program has to write, and `status` its exit status: nothing and 0 without such a file.
+# `stderr` what the program has to write, and `status` its exit status: nothing and 0 without such a file. For the cases
+# of the gate crates/run_cases has these files.
 #
 # As in the gate, a program runs in a copy of the folder, as nobody if root starts it, and has 400 seconds. All programs
 # run side by side. What differs is printed, then how many runs passed and failed. The status is 1 if one failed, or if
-# a folder has a file of cases that its `args` doesn't name. .ci/run runs it after the gate.
+# a folder has a file of cases that its `args` doesn't name. .ci/run runs it after the gate, and with --all if --quick is
+# given.
 set -euo pipefail
 cd "$(dirname "$0")/.."
 # shellcheck source=tools/lib.sh
 . tools/lib.sh
 help_if_asked tools/cases.sh "$@"
+names=(sizes wrong)
+case $#:${1-} in
+  1:--all) refuse_arguments tools/cases.sh "--all takes programs" ;;
+  *:--all)
+    names=(gate sizes wrong)
+    shift
+    ;;
+esac
 case ${1-} in
   -*) refuse_arguments tools/cases.sh "there is no option $1" ;;
 esac
@@ -38,6 +50,10 @@ if [ "$(id -u)" -eq 0 ]; then
   as_user=(setpriv "--reuid=$NOBODY" "--regid=$NOBODY" --clear-groups --no-new-privs)
 fi
 
+# The folder with the cases of a name, and that with what is wanted of them.
+cases_of() { if [ "$1" = gate ]; then echo "$CRATE/data"; else echo "$CRATE/data/$1"; fi; }
+run_of() { if [ "$1" = gate ]; then echo "$CRATE"; else echo "$CRATE/data/$1"; fi; }
+
 # Prints the files of cases that a folder has, and the file of arguments doesn't name.
 unnamed() {
   local folder=$1 file
@@ -50,9 +66,9 @@ unnamed() {
 run_on() {
   local name=$1 at=$work/$1.$2 status=0 begun=$SECONDS words
   mkdir "$at"
-  cp -r "$CRATE/data/$name" "$at/data"
+  cp -r "$(cases_of "$name")" "$at/data"
   [ ${#as_user[@]} -eq 0 ] || chown -R "$NOBODY:$NOBODY" "$at/data"
-  mapfile -t words < "$at/data/args"
+  mapfile -t words < "$(run_of "$name")/args"
   (
     cd "$at/data"
     exec env -i PATH=/usr/local/bin:/usr/bin:/bin HOME="$PWD" TMPDIR="$PWD" LANG=C.UTF-8 \
@@ -65,7 +81,8 @@ run_on() {
 
 # The file of a folder that says what is wanted, or a file that says the same if there is none.
 wanted() {
-  local file=$CRATE/data/$1/$2
+  local file
+  file=$(run_of "$1")/$2
   if [ -e "$file" ]; then
     echo "$file"
   elif [ "$2" = status ]; then
@@ -94,8 +111,8 @@ for number in "${!programs[@]}"; do
 done
 passed=0 failed=0
 lacking=$(unnamed "$CRATE/data" "$CRATE/args")
-for name in sizes wrong; do
-  lacking+=$(unnamed "$CRATE/data/$name" "$CRATE/data/$name/args")
+for name in "${names[@]}"; do
+  [ "$name" = gate ] || lacking+=$(unnamed "$CRATE/data/$name" "$CRATE/data/$name/args")
   for number in "${!programs[@]}"; do
     run_on "$name" "$number" &
   done

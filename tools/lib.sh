@@ -30,16 +30,40 @@ newer_source() {
 # Whether bin/gomod is newer than every file that it is made of.
 is_built() { [ -x bin/gomod ] && [ -z "$(newer_source)" ]; }
 
+# Prints the names of the files that unproved programs are made of, with a NUL after each. Proofs aren't read.
+program_sources() {
+  find crates crates.txt \( -name out -o -name must-fail -o -name data -o -name proofs \) -prune -o -type f -print0
+}
+
+# Prints the checksum of all that an unproved program is made of, but for the toolchain.
+checksum_of_program() {
+  program_sources | sort -z | xargs -0 sha256sum -- tools/unproved.sh tools/unproved.py | sha256sum | cut -d ' ' -f 1
+}
+
+# Where a proof leaves the program, and how its version ends: tools/unproved.sh puts other words there.
+readonly PROVED_PROGRAM=crates/gomod/out/gomod PROVED_VERSION=' \(Rattle, logic [0-9a-f]{16}\)$'
+
+# Whether bin/gomod is the program that the last proof left.
+is_last_proved() {
+  [ -x bin/gomod ] && cmp -s bin/gomod "$PROVED_PROGRAM" && [[ $(bin/gomod --version) =~ $PROVED_VERSION ]]
+}
+
+# Warns, for a script, the first argument, if bin/gomod is older than a source.
+warn_if_older() {
+  local newer
+  newer=$(newer_source)
+  [ -z "$newer" ] || echo "$(basename "$1" .sh): bin/gomod is older than $newer: ./build makes it anew" >&2
+}
+
 # Ends a script, the first argument, with status 1 if there is no bin/gomod, and warns if that is older than a source.
 need_gomod() {
-  local name newer
+  local name
   name=$(basename "$1" .sh)
   if [ ! -x bin/gomod ]; then
     echo "$name: there is no bin/gomod: ./build makes it, which can take an hour (./build --help)" >&2
     exit 1
   fi
-  newer=$(newer_source)
-  [ -z "$newer" ] || echo "$name: bin/gomod is older than $newer: ./build makes it anew" >&2
+  warn_if_older "$1"
 }
 
 # A folder that stands for / where the next functions read /proc and /sys: a test gives one with its own files.
@@ -130,6 +154,15 @@ was_killed() {
   local by_rt='was killed, most likely|\(SIGKILL\)|stopped by signal 9\b'
   local by_tools='memory allocation of .* failed|out of memory$'
   [ "$1" -eq 137 ] || [ "$1" -eq 247 ] || grep -qE "$by_rt|$by_tools" "$2"
+}
+
+# Ends all processes that one has started: a killed shell would leave them running.
+end_below() {
+  local child
+  for child in $(ps -o pid= --ppid "$1"); do
+    end_below "$child"
+    kill "$child" 2> /dev/null || true
+  done
 }
 
 # Copies the program, its man page and its completions to their usual places below a folder, and prints each.

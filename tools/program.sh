@@ -3,6 +3,8 @@
 #
 #   tools/program.sh                      the cases of crates/run_cases/data and its folders sizes and program
 #   tools/program.sh FILE.txt.. TITLE..   those of these files, or those whose titles have one of these texts
+#   tools/program.sh --unproved ..        the same with a program that tools/unproved.sh made: where a case has the version
+#                                         of a proved one, what it prints has to say that nothing is proved
 #
 # The merge gate runs the same cases inside a process, with outputs in memory; of the program itself it compares what
 # one stored run writes to standard output. What this adds is standard error and the whole way from the words to the
@@ -48,6 +50,8 @@ FOLDERS = DATA, os.path.join(DATA, "sizes"), os.path.join(DATA, "program")
 ESCAPE = re.compile(rb'\\(?:(n|r|t|0|\\|"|x[0-9a-fA-F]{2})|\*([0-9]+)\*(?:\(([^)]*)\)|(.)))', re.S)
 SIMPLE = {b"n": b"\n", b"r": b"\r", b"t": b"\t", b"0": b"\0", b"\\": b"\\", b'"': b'"'}
 NO_LINE_END = b"\\ No newline at end of file"
+# what the version of a proved program has, and that of an unproved one in its place
+PROVED, UNPROVED = re.compile(rb"(\(Rattle, )logic [0-9a-f]{16}\)"), rb"\1nothing is proved)"
 REFUSE_MEMORY = os.environ.pop("REFUSE_MEMORY", None)
 # the name that each command is called by, as from a folder whose name is not UTF-8
 NAME = b"b\xff/gomod"
@@ -119,6 +123,7 @@ def stack_with(words, environment):
 
 class Run:
     refusals = 0  # how many runs had an allocation refused
+    is_proved = True  # whether the program says that it is
     cut_runs = set()  # the commands that were tried with a stream that takes nothing, each with the stream's name
 
     def __init__(self, line, text):
@@ -143,7 +148,8 @@ class Run:
             self.status = int(line[2:])
 
     def wanted(self):
-        return self.out, self.report, self.status
+        out = self.out if Run.is_proved else PROVED.sub(UNPROVED, self.out)
+        return out, self.report, self.status
 
     def stream_to_cut(self):
         """The stream that the run writes to, if any, unless the same command was tried with that stream cut."""
@@ -372,6 +378,8 @@ def passes(program, path, case):
 
 
 def main(program, *words):
+    if words[:1] == ("--unproved",):
+        Run.is_proved, words = False, words[1:]
     files = [it for it in words if it.endswith(".txt")]
     files = files or [
         os.path.join(data, it) for data in FOLDERS for it in sorted(os.listdir(data)) if it.endswith(".txt")

@@ -5,6 +5,7 @@
 #   tools/release.sh FOLDER --gate LINE  after ./build; LINE is the last line of the gate on the same sources
 #                                        elsewhere, 'N passed, 0 failed'
 #   tools/release.sh --check             makes the archive of bin/gomod as it is, checks it and removes it
+#   tools/release.sh --check --unproved  the same with a program that tools/unproved.sh made
 #
 # Into FOLDER, which it makes if there is none, it writes gomod-VERSION-x86_64-linux.tar.gz and beside it a file with
 # its sha256. The archive has one folder with bin/ and share/, to be unpacked into a folder such as ~/.local (`tar
@@ -15,9 +16,9 @@
 # Before it leaves an archive it unpacks it, follows all links of its documents and runs all their examples with its
 # program (tools/readme.sh), and compares the glibc that they name with the one that the program needs.
 #
-# It refuses an archive that fails this check. Unless --check is given, it also refuses a program that is older than its
-# sources or that isn't the one that the last proof left at crates/gomod/out/gomod, a gate that failed or ran with
-# another program, and changes that aren't committed.
+# It refuses an archive that fails this check and, without --unproved, a program whose version doesn't say that it is
+# proved. Unless --check is given, it also refuses a program that isn't the one that the last proof left at
+# crates/gomod/out/gomod, a gate that failed or ran with another program, and changes that aren't committed.
 #
 # It needs bin/gomod, git, GNU tar, gzip and python3. It prints what the check found, the names of the files, the gate's
 # last line and the sha256. The status is 1 if it refuses, and 2 for wrong arguments. .ci/run runs --check at its end.
@@ -96,9 +97,10 @@ check_archive() {
   echo "glibc: $least is the least"
 }
 
-to=$from gate='' check=''
+to=$from gate='' check='' unproved=''
 case $#:${1-}:${2-} in
   1:--check:) check=yes ;;
+  2:--check:--unproved) check=yes unproved=yes ;;
   1:*:) to=$1 ;;
   3:*:--gate) to=$1 gate=$3 ;;
   *) refuse_arguments tools/release.sh "it takes --check, or a folder and possibly --gate and a line" ;;
@@ -111,9 +113,7 @@ esac
 
 need_gomod tools/release.sh
 if [ -z "$check" ]; then
-  is_built || refuse "run ./build or .ci/run first"
-  cmp -s bin/gomod crates/gomod/out/gomod ||
-    refuse "bin/gomod isn't the program that the last proof left at crates/gomod/out/gomod: run .ci/run"
+  is_last_proved || refuse "bin/gomod isn't the program that the last proof left at $PROVED_PROGRAM: run .ci/run"
   if [ -z "$gate" ]; then
     [ -f bin/gate.txt ] || refuse "there is no bin/gate.txt: run .ci/run, or give the gate's last line with --gate"
     gate=$(head -n 1 bin/gate.txt)
@@ -124,6 +124,7 @@ if [ -z "$check" ]; then
 fi
 
 version=$(bin/gomod --version)
+[[ -n $unproved || $version =~ $PROVED_VERSION ]] || refuse "bin/gomod isn't proved: its version is '$version'"
 version=${version#gomod }
 name=gomod-${version%% *}-x86_64-linux
 work=$(mktemp -d)
