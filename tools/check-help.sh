@@ -5,10 +5,12 @@
 #   tools/check-help.sh
 #
 # Of share/man/gomod.1 it reads the forms of SYNOPSIS and the lists of COMMANDS, OPTIONS and OPERATIONS. It calls the
-# completion for bash, and reads those for zsh and fish, so neither of them has to be installed.
+# completion for bash, and reads those for zsh and fish, so neither of them has to be installed. Then it completes lines
+# in bash, and in zsh and fish where they are installed (tools/completions.py): folders, also after a comma, go's cache,
+# and the paths of a go.mod.
 #
-# It needs bin/gomod (./build makes it), bash and python3. It prints each difference, and what was compared. The status
-# is 1 if there is a difference. .ci/run runs it after the merge gate.
+# It needs bin/gomod (./build makes it), bash and python3. It prints each difference, what was compared, and what was
+# skipped for want of which shell. The status is 1 if there is a difference. .ci/run runs it after the merge gate.
 set -euo pipefail
 cd "$(dirname "$0")/.."
 # shellcheck source=tools/lib.sh
@@ -16,7 +18,8 @@ cd "$(dirname "$0")/.."
 help_if_asked tools/check-help.sh "$@"
 [ $# -eq 0 ] || refuse_arguments tools/check-help.sh "unknown argument '$1'"
 need_gomod tools/check-help.sh
-exec python3 - << 'PYTHON'
+status=0
+python3 - << 'PYTHON' || status=1
 import re
 import shlex
 import subprocess
@@ -135,7 +138,7 @@ def from_zsh():
 
 def from_fish(commands):
     known = Known()
-    for line in text_of(FISH).replace("\\\n", "").split("\n"):
+    for line in re.findall(r"(?m)^complete .*", text_of(FISH).replace("\\\n", "")):
         words = shlex.split(line, comments=True)
         given = [(name, value) for name, value in zip(words, words[1:]) if name in ("-n", "-l", "-s", "-a")]
         condition = dict(given).get("-n", "")
@@ -184,3 +187,5 @@ counts = len(wanted.commands), sum(map(len, wanted.options.values())), len(wante
 print("%d commands, %d options and %d operations, in the man page and three completions: " % counts + f"{wrong} wrong")
 sys.exit(1 if wrong else 0)
 PYTHON
+python3 -B tools/completions.py || status=1
+exit $status

@@ -1,12 +1,34 @@
 # Completion of gomod for bash, kept by hand: `source` this file, or put it, named gomod, where bash-completion looks
 # (~/.local/share/bash-completion/completions). tools/check-help.sh compares it with `gomod --help`.
 
+# The folders of --proxy, of a list the last one: those here, and go's cache if nothing is typed of it.
+_gomod_folders() {
+    local last=${1##*[,|]} cache=${GOPATH:-$HOME/go}
+    local list=${1%"$last"}
+    cache=${GOMODCACHE:-${cache%%:*}/pkg/mod}/cache/download
+    mapfile -t COMPREPLY < <(compgen -d -P "$list" -- "$last")
+    [[ -z $last && -d $cache ]] && COMPREPLY+=("$list$cache")
+    compopt -o filenames 2> /dev/null
+}
+
+# The modules that the go.mod of this folder requires.
+_gomod_paths() {
+    local paths
+    paths=$(awk '
+        { gsub(/["`]|\/\/.*/, "") }
+        block && $1 == ")" { block = 0 }
+        block && NF { print $1 }
+        $1 == "require" && $2 != "(" { print $2 }
+        /^[ \t]*require[ \t]*\(/ { block = 1 }' go.mod 2> /dev/null)
+    mapfile -t COMPREPLY < <(compgen -W "$paths" -- "$1")
+}
+
 _gomod() {
     local current=${COMP_WORDS[COMP_CWORD]} before=${COMP_WORDS[COMP_CWORD - 1]}
     local commands='list graph chain versions fmt edit help'
     local operations='module= go= require= droprequire= exclude= dropexclude= replace= dropreplace='
     operations+=' retract= dropretract='
-    local command='' options='' list='' word at plain=0 is_value=''
+    local command='' options='' word at plain=0 is_value=''
     COMPREPLY=()
 
     # bash makes three words of --mod=FILE, and of an operation
@@ -33,10 +55,7 @@ _gomod() {
 
     case $before in
         --proxy)
-            # of a list the last folder
-            [[ $current == *,* ]] && list=${current%,*},
-            mapfile -t COMPREPLY < <(compgen -d -P "$list" -- "${current#"$list"}")
-            compopt -o filenames 2> /dev/null
+            _gomod_folders "$current"
             return
             ;;
         --mod | --sum)
@@ -44,7 +63,11 @@ _gomod() {
             compopt -o filenames 2> /dev/null
             return
             ;;
-        --after | --limit) return ;;
+        --after)
+            _gomod_paths "$current"
+            return
+            ;;
+        --limit) return ;;
     esac
     [[ -z $is_value ]] || return
 
@@ -61,6 +84,8 @@ _gomod() {
         mapfile -t COMPREPLY < <(compgen -W "$options" -- "$current")
     elif [[ -z $command || ($command == help && $plain -eq 0) ]]; then
         mapfile -t COMPREPLY < <(compgen -W "$commands" -- "$current")
+    elif [[ $command == chain || $command == versions ]] && [[ $plain -eq 0 ]]; then
+        _gomod_paths "$current"
     elif [[ $command == fmt || $command == edit ]] && [[ $plain -eq 0 ]]; then
         mapfile -t COMPREPLY < <(compgen -f -- "$current")
         compopt -o filenames 2> /dev/null

@@ -1,6 +1,35 @@
 # Completion of gomod for fish, kept by hand: put it into ~/.config/fish/completions. tools/check-help.sh compares it
 # with `gomod --help`: the commands of an option are those that its condition names.
 
+# The folders of --proxy, of a list the last one: those here, and go's cache if nothing is typed of it.
+function __gomod_folders
+    set -l word (commandline -ct | string replace -r '^--proxy=' '')
+    set -l list (string match -r '^.*[,|]' -- $word)
+    set -l last (string replace -r '^.*[,|]' '' -- $word)
+    for it in (__fish_complete_directories $last Folder)
+        printf '%s%s\n' "$list" $it
+    end
+    set -l cache $GOMODCACHE
+    if not set -q cache[1]
+        set -l go (string split -m 1 : -- $GOPATH)
+        set -q go[1]; or set go $HOME/go
+        set cache $go[1]/pkg/mod
+    end
+    if test -z "$last" -a -d $cache[1]/cache/download
+        printf "%s%s\tGo's cache\n" "$list" $cache[1]/cache/download
+    end
+end
+
+# The modules that the go.mod of this folder requires.
+function __gomod_paths
+    awk '
+        { gsub(/["`]|\/\/.*/, "") }
+        block && $1 == ")" { block = 0 }
+        block && NF { print $1 }
+        $1 == "require" && $2 != "(" { print $2 }
+        /^[ \t]*require[ \t]*\(/ { block = 1 }' go.mod 2>/dev/null
+end
+
 complete -c gomod -f
 
 complete -c gomod -n __fish_use_subcommand -a list -d 'Print the build list'
@@ -16,12 +45,15 @@ complete -c gomod -n __fish_use_subcommand -s V -l version -d 'Print version'
 complete -c gomod -n '__fish_seen_subcommand_from list graph chain versions fmt edit' -s h -l help -d 'Print help'
 
 complete -c gomod -n '__fish_seen_subcommand_from list graph chain versions' -l proxy -x \
-    -a '(__fish_complete_directories)' -d 'Folders with the files of modules'
+    -a '(__gomod_folders)' -d 'Folders with the files of modules'
 complete -c gomod -n '__fish_seen_subcommand_from list graph chain' -l mod -r -F -d 'The main go.mod file'
 complete -c gomod -n '__fish_seen_subcommand_from list graph chain' -l sum -r -F -d 'The go.sum to check against'
-complete -c gomod -n '__fish_seen_subcommand_from list' -l after -x -d 'Print only the rows after this module'
+complete -c gomod -n '__fish_seen_subcommand_from list' -l after -x -a '(__gomod_paths)' \
+    -d 'Print only the rows after this module'
 complete -c gomod -n '__fish_seen_subcommand_from list' -l limit -x -d 'Print at most N rows'
 complete -c gomod -n '__fish_seen_subcommand_from versions' -l retracted -d 'Print retracted versions too'
+
+complete -c gomod -n '__fish_seen_subcommand_from chain versions' -d Module -a '(__gomod_paths)'
 
 # the first word after edit is the file, the others are operations
 complete -c gomod -n '__fish_seen_subcommand_from fmt' -F
