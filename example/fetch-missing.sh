@@ -1,26 +1,18 @@
 #!/usr/bin/env bash
 # Fills a folder with the go.mod files that gomod needs for a main file, without go: gomod says which are missing, and
-# curl gets these from a module proxy, until none is. Then it prints the build list.
+# curl gets these from a module proxy, many at a time, until none is. Then it prints the build list.
 #
 #   fetch-missing.sh GO.MOD FOLDER URL     URL as in GOPROXY, such as https://proxy.golang.org or file:///a/folder
 #
-# It needs gomod and curl on the PATH, and GNU sed. `gomod list --sum` checks the files afterwards. The status is 1,
-# and gomod's report is printed, if a round gets none of the files that are missing.
+# It needs gomod and curl (7.75 or newer) on the PATH, and GNU sed. `gomod list --sum` checks the files afterwards. Each
+# URL that fails is named once. The status is 1, and gomod's report is printed, if a round gets none of the files that
+# are missing.
 set -euo pipefail
 export LC_ALL=C
 help() { awk 'NR > 1 { if (!/^#/) exit; print substr($0, 3) }' "$0" && exit "$1"; }
 case $#:${1-} in 3:*) ;; 1:-h | 1:--help) help 0 ;; *) help 2 >&2 ;; esac
 mod=$1 folder=$2 url=$3
-
-# Fetches the file of a path and a version. It fails if the file is there already, or if the proxy hasn't it.
-get() {
-  local file
-  file=$(printf '%s/@v/%s.mod' "$1" "$2" | sed 's/[A-Z]/!\L&/g')
-  [ ! -e "$folder/$file" ] || return 1
-  mkdir -p "$folder/${file%/*}"
-  # a transfer that breaks off leaves no file
-  curl -fsSL "$url/$file" -o "$folder/$file.part" < /dev/null && mv "$folder/$file.part" "$folder/$file"
-}
+declare -A failed=()
 
 # The modules that are missing, and those that replace others: a report names the replaced module.
 wanted() {
@@ -28,11 +20,44 @@ wanted() {
   gomod fmt "$mod" | tr -d '"`' | sed 's|//.*||' | awk 'NF > 2 && $(NF - 2) == "=>" { print $(NF - 1), $NF }'
 }
 
+# The files of these modules, as a proxy names them, that are neither there nor failed before.
+files() {
+  local file
+  wanted | sed 's|\(.*\) \(.*\)|\1/@v/\2.mod|; s/[A-Z]/!\L&/g' | sort -u | while IFS= read -r file; do
+    [ -e "$folder/$file" ] || [ -n "${failed[$file]-}" ] || printf '%s\n' "$file"
+  done
+}
+
+# Lines for a curl that gets these files. A transfer that breaks off leaves no file without .part.
+transfers() {
+  local file
+  for file; do printf 'url = "%s"\noutput = "%s"\n' "$url/$file" "$folder/$file.part"; done
+}
+
+# Gets files, and sets `got` to how many.
+get() {
+  local code file why
+  got=0
+  [ $# -gt 0 ] || return 0
+  while IFS=$'\t' read -r code file why; do
+    file=${file#"$url/"}
+    if [ "$code" -eq 0 ]; then
+      mv "$folder/$file.part" "$folder/$file"
+      got=$((got + 1))
+    else
+      failed[$file]=yes
+      echo "$url/$file: $why" >&2
+    fi
+  done < <(transfers "$@" | curl --parallel --create-dirs --fail --location --globoff --no-progress-meter \
+    --write-out '%{exitcode}\t%{url}\t%{errormsg}\n' --config - 2> /dev/null)
+}
+
 for ((round = 1; ; round++)); do
   if report=$(gomod list --mod "$mod" --proxy "$folder" 2>&1); then break; fi
   got=0
   if grep -q ': Missing$' <<< "$report"; then
-    while read -r path version; do if get "$path" "$version"; then got=$((got + 1)); fi; done < <(wanted)
+    mapfile -t missing < <(files)
+    get "${missing[@]}"
   fi
   if [ "$got" -eq 0 ]; then echo "$report" >&2 && exit 1; fi
   echo "round $round: $got files" >&2

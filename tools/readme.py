@@ -1,0 +1,266 @@
+"""What tools/readme.sh does: it runs the examples of documents, and compares what they print.
+
+    readme.py [--quick] [FILE..]      README.md, CHANGELOG.md and all documents of docs/ if there is no FILE
+    readme.py --archive FOLDER        the documents of a release that was unpacked into FOLDER, with its program
+
+It runs in the root of the repository. tools/readme.sh --help says what an example is, and what is compared.
+"""
+
+import collections
+import contextlib
+import glob
+import os
+import re
+import shutil
+import subprocess
+import sys
+import tempfile
+
+SECONDS = 300
+OPTIONAL = ("curl", "dot", "git", "jq")
+COPIED = ("README.md", "CHANGELOG.md", "docs", "example", "share")
+# The passes over a document: what they are called, the shell, and whether its blocks run from the last to the first.
+PASSES = (("in order", ["bash", "-c"], False), ("backwards", ["bash", "-c"], True), ("in zsh", ["zsh", "-f", "-c"], False))
+PROGRAM_SECTION = "A whole program"
+PROGRAM_LINES = 40
+
+
+def blocks(lines):
+    """The blocks of examples: the number of the first line, and the lines without their indent."""
+    block, begins = [], 0
+    for number, line in enumerate([*lines, "end"], 1):
+        if line.startswith("    ") or (block and not line.strip()):
+            begins = begins if block else number
+            block.append(line[4:])
+            continue
+        while block and not block[-1].strip():
+            block.pop()
+        if block and block[0].startswith("$ "):
+            yield begins, block
+        block = []
+
+
+def examples(begins, block):
+    """The commands of a block: line, command and what it prints."""
+    found = []
+    for number, line in enumerate(block, begins):
+        if line.startswith("$ "):
+            found.append([number, line[2:], ""])
+        else:
+            found[-1][2] += line + "\n"
+    return found
+
+
+def is_set_up(commands):
+    """Whether a block only makes the scratch folder of its page, so that it comes first in any order."""
+    return all(re.fullmatch(r"\w+=\$\(mktemp -d\)", command) for _, command, _ in commands)
+
+
+def absent(commands):
+    """The optional commands that these, or scripts which they run, call and that aren't there."""
+    words = set(re.findall(r"[\w./-]+", "\n".join(commands)))
+    for script in [it for it in words if it.endswith(".sh") and os.path.isfile(it)]:
+        with open(script, encoding="utf-8") as it:
+            words |= set(re.findall(r"[\w./-]+", re.sub(r"(?m)^\s*#.*", "", it.read())))
+    return [it for it in OPTIONAL if it in words and not shutil.which(it)]
+
+
+def lay_room(room):
+    """Lays the files of the current folder: those that examples may read are copied, others are links."""
+    for name in os.listdir():
+        if name in COPIED and os.path.isdir(name):
+            shutil.copytree(name, f"{room}/{name}", symlinks=True)
+        elif name in COPIED:
+            shutil.copy2(name, f"{room}/{name}")
+        elif name != ".git":
+            os.symlink(os.path.abspath(name), f"{room}/{name}")
+
+
+def files_in(room):
+    """What a folder has: each folder, link and file below it, with its bytes."""
+    found = {}
+    for folder, folders, names in os.walk(room):
+        for name in [*folders, *names]:
+            path = os.path.join(folder, name)
+            at = os.path.relpath(path, room)
+            if os.path.islink(path):
+                found[at] = os.readlink(path)
+            elif os.path.isdir(path):
+                found[at] = "a folder"
+            else:
+                with open(path, "rb") as it:
+                    found[at] = it.read()
+    return found
+
+
+@contextlib.contextmanager
+def scratch_room():
+    """A scratch folder with the files of this one in `top`, and a folder for temporary files beside it."""
+    with tempfile.TemporaryDirectory(prefix="gomod-readme-") as folder:
+        os.makedirs(f"{folder}/top")
+        os.makedirs(f"{folder}/tmp")
+        lay_room(f"{folder}/top")
+        yield folder
+
+
+def printed(commands, shell, program, folder):
+    """What each command prints, in one shell, with the folder of the program on its PATH."""
+    script = "".join(f"ended=$?; printf '\\036'; (exit $ended)\n{it}\n" for it in commands)
+    path = f"{program}:{os.environ['PATH']}"
+    ran = subprocess.run([*shell, script], cwd=f"{folder}/top", stdin=subprocess.DEVNULL, stdout=subprocess.PIPE,
+                         stderr=subprocess.STDOUT, timeout=SECONDS,
+                         env={**os.environ, "PATH": path, "TMPDIR": f"{folder}/tmp"})
+    return ran.stdout.decode("utf-8", "replace").split("\036")[1:]
+
+
+def quoted(text):
+    """A text as it stands in a report."""
+    return "".join(f"      {line}\n" for line in text.splitlines()) or "      (nothing)\n"
+
+
+class Documents:
+    """The documents, what was right and wrong in them, and what was skipped."""
+
+    def __init__(self, program):
+        self.program = program
+        self.tally = collections.defaultdict(lambda: {True: 0, False: 0})
+        self.skipped = collections.Counter()
+
+    def run_examples(self, name, lines):
+        """Runs the examples of a document, all in one shell, in each of the passes."""
+        found = []
+        for begins, block in blocks(lines):
+            commands = examples(begins, block)
+            lacking = absent([command for _, command, _ in commands])
+            if lacking:
+                self.skipped[", ".join(lacking)] += len(commands)
+            else:
+                found.append(commands)
+        set_up = [it for it in found if is_set_up(it)]
+        others = [it for it in found if not is_set_up(it)]
+        wrong = set()
+        for title, shell, is_backwards in PASSES if found else ():
+            if not shutil.which(shell[0]):
+                self.skipped[shell[0]] += sum(map(len, found))
+                continue
+            order = [*set_up, *(reversed(others) if is_backwards else others)]
+            wrong |= self.run_pass(f"{name} ({title})", [it for block in order for it in block], shell)
+        count = sum(map(len, found))
+        self.tally["examples"][True] += count - len(wrong)
+        self.tally["examples"][False] += len(wrong)
+
+    def run_pass(self, name, commands, shell):
+        """Runs commands in a shell. It gives the lines of those that print something else."""
+        wrong = set()
+        with scratch_room() as folder:
+            before = files_in(f"{folder}/top")
+            got = printed([command for _, command, _ in commands], shell, self.program, folder)
+            after = files_in(f"{folder}/top")
+        got += ["(it did not run)\n"] * (len(commands) - len(got))
+        for (number, command, wanted), came in zip(commands, got):
+            if came != wanted:
+                wrong.add(number)
+                print(f"{name}:{number}: $ {command}\n    prints\n{quoted(came)}", end="")
+                print(f"    and should print\n{quoted(wanted)}", end="")
+        changed = sorted(it for it in {*before, *after} if before.get(it) != after.get(it))
+        self.tally["folders left as they were"][not changed] += 1
+        for it in changed:
+            print(f"{name}: the examples leave {it} changed")
+        return wrong
+
+    def compare_code(self, name, text):
+        """Whether each piece of code, but for the whole program, is in a source of library_example."""
+        sources = ""
+        for file in glob.glob("crates/library_example/src/*.rt"):
+            with open(file, encoding="utf-8") as it:
+                sources += it.read() + "\n"
+        for found in re.finditer(r"(?ms)^```rust\n(.*?)^```$", text):
+            is_right = found[1] in sources or found[1].startswith("//!")
+            self.tally["pieces of code"][is_right] += 1
+            if not is_right:
+                number = text.count("\n", 0, found.start()) + 1
+                print(f"{name}:{number}: this code is in no source of crates/library_example")
+
+    def follow_links(self, name, text):
+        """Whether each link to a file, or to a heading of one, leads there."""
+        for found in re.finditer(r"\]\(([^)#\s]*)(?:#([^)\s]*))?\)", text):
+            if re.match(r"[a-z]+:", found[1]):
+                continue
+            path = os.path.join(os.path.dirname(name), found[1]) if found[1] else name
+            is_right = os.path.exists(path) and (found[2] is None or found[2] in anchors(path))
+            self.tally["links"][is_right] += 1
+            if not is_right:
+                number = text.count("\n", 0, found.start()) + 1
+                print(f"{name}:{number}: there is no {found[0][2:-1]}")
+
+    def compile_program(self, name, text):
+        """Does what a page says of its whole program, and compares what that prints."""
+        wrong = problem_of(text)
+        self.tally["programs"][not wrong] += 1
+        if wrong:
+            print(f"{name}: {PROGRAM_SECTION}: {wrong}")
+
+
+def anchors(path):
+    """The anchors of the headings of a document."""
+    if not path.endswith(".md"):
+        return set()
+    with open(path, encoding="utf-8") as it:
+        headings = re.findall(r"(?m)^#+ (.*)", re.sub(r"(?ms)^```.*?^```", "", it.read()))
+    return {re.sub(r"[^\w\- ]", "", it.lower()).replace(" ", "-") for it in headings}
+
+
+def problem_of(text):
+    """What is wrong with the whole program of a page, or an empty text.
+
+    Its section has three parts: indented commands that make a crate, the program, and an example that runs it, of which
+    standard output is compared. They run in a folder outside the repository, in which gomod is a link to it.
+    """
+    section = re.search(rf"(?ms)^## {PROGRAM_SECTION}\n(.*?)(?=^## |\Z)", text)
+    parts = section and re.search(r"(?ms)((?:^    [^\n]*\n)+).*?^```rust\n(//!.*?)^```$.*?((?:^    [^\n]*\n)+)", section[1])
+    if not parts:
+        return "there are no commands, no program or no run"
+    make, program, run = (re.sub(r"(?m)^    ", "", it) for it in (parts[1], parts[2], parts[3]))
+    code = [it for it in parts[2].split("\n") if it.strip() and not re.match(r"\s*//|(?:ghost )?use ", it)]
+    if len(code) > PROGRAM_LINES:
+        return f"the program has {len(code)} lines outside use, blank lines and comments, and at most {PROGRAM_LINES} should"
+    command, _, wanted = run.partition("\n")
+    with tempfile.TemporaryDirectory(prefix="gomod-library-") as folder:
+        os.symlink(os.path.abspath("."), f"{folder}/gomod")
+        steps = f"set -eu\n{make}cat > crates/hello/src/main.rt\n{command.removeprefix('$ ')}\n"
+        ran = subprocess.run(["bash", "-c", steps], cwd=folder, input=parts[2], text=True, capture_output=True,
+                             env={**os.environ, "TMPDIR": folder})
+    return "" if (ran.returncode, ran.stdout) == (0, wanted) else f"it prints\n{quoted(ran.stdout + ran.stderr)}"
+
+
+def main(*names):
+    """Tries the documents that the words name."""
+    if names in (("-h",), ("--help",)):
+        print(__doc__, end="")
+        return 0
+    is_quick = names[:1] == ("--quick",)
+    names = names[1:] if is_quick else names
+    program = os.path.abspath("bin")
+    if names[:1] == ("--archive",):
+        program = os.path.abspath(f"{names[1]}/bin")
+        os.chdir(f"{names[1]}/share/doc/gomod")
+        names = ()
+    documents = Documents(program)
+    for name in names or ["README.md", "CHANGELOG.md", *sorted(glob.glob("docs/**/*.md", recursive=True))]:
+        with open(name, encoding="utf-8") as it:
+            text = it.read()
+        documents.run_examples(name, text.split("\n"))
+        if os.path.basename(name) == "LIBRARY.md" and os.path.isdir("crates"):
+            documents.compare_code(name, text)
+            if not is_quick:
+                documents.compile_program(name, text)
+        documents.follow_links(name, text)
+    for what, counts in documents.tally.items():
+        print(f"{what}: {counts[True]} right, {counts[False]} wrong")
+    for tools, number in sorted(documents.skipped.items()):
+        print(f"skipped, for want of {tools}: {number} examples")
+    return 1 if any(it[False] for it in documents.tally.values()) else 0
+
+
+if __name__ == "__main__":
+    sys.exit(main(*sys.argv[1:]))
