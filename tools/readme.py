@@ -21,7 +21,8 @@ OPTIONAL = ("curl", "dot", "git", "jq")
 COPIED = ("README.md", "CHANGELOG.md", "docs", "example", "share")
 # The passes over a document: what they are called, the shell, and whether its blocks run from the last to the first.
 PASSES = (("in order", ["bash", "-c"], False), ("backwards", ["bash", "-c"], True), ("in zsh", ["zsh", "-f", "-c"], False))
-PROGRAM_SECTION = "A whole program"
+# The section whose program is compiled, and how many lines that may have.
+PROGRAM_SECTION = r"(?ms)^## A whole program\n.*?(?=^## |\Z)"
 PROGRAM_LINES = 40
 
 
@@ -198,7 +199,7 @@ class Documents:
         wrong = problem_of(text)
         self.tally["programs"][not wrong] += 1
         if wrong:
-            print(f"{name}: {PROGRAM_SECTION}: {wrong}")
+            print(f"{name}: the whole program: {wrong}")
 
 
 def anchors(path):
@@ -216,19 +217,19 @@ def problem_of(text):
     Its section has three parts: indented commands that make a crate, the program, and an example that runs it, of which
     standard output is compared. They run in a folder outside the repository, in which gomod is a link to it.
     """
-    section = re.search(rf"(?ms)^## {PROGRAM_SECTION}\n(.*?)(?=^## |\Z)", text)
-    parts = section and re.search(r"(?ms)((?:^    [^\n]*\n)+).*?^```rust\n(//!.*?)^```$.*?((?:^    [^\n]*\n)+)", section[1])
+    section = re.search(PROGRAM_SECTION, text)
+    parts = section and re.search(r"(?ms)((?:^    [^\n]*\n)+).*?^```rust\n(//!.*?)^```$.*?((?:^    [^\n]*\n)+)", section[0])
     if not parts:
         return "there are no commands, no program or no run"
-    make, program, run = (re.sub(r"(?m)^    ", "", it) for it in (parts[1], parts[2], parts[3]))
-    code = [it for it in parts[2].split("\n") if it.strip() and not re.match(r"\s*//|(?:ghost )?use ", it)]
+    make, program, run = re.sub(r"(?m)^    ", "", parts[1]), parts[2], re.sub(r"(?m)^    ", "", parts[3])
+    code = [it for it in program.split("\n") if it.strip() and not re.match(r"\s*//|(?:ghost )?use ", it)]
     if len(code) > PROGRAM_LINES:
         return f"the program has {len(code)} lines outside use, blank lines and comments, and at most {PROGRAM_LINES} should"
     command, _, wanted = run.partition("\n")
     with tempfile.TemporaryDirectory(prefix="gomod-library-") as folder:
         os.symlink(os.path.abspath("."), f"{folder}/gomod")
-        steps = f"set -eu\n{make}cat > crates/hello/src/main.rt\n{command.removeprefix('$ ')}\n"
-        ran = subprocess.run(["bash", "-c", steps], cwd=folder, input=parts[2], text=True, capture_output=True,
+        steps = f"set -eu\nexec 3>&1 > /dev/null\n{make}cat > crates/hello/src/main.rt\nexec >&3\n{command.removeprefix('$ ')}\n"
+        ran = subprocess.run(["bash", "-c", steps], cwd=folder, input=program, text=True, capture_output=True,
                              env={**os.environ, "TMPDIR": folder})
     return "" if (ran.returncode, ran.stdout) == (0, wanted) else f"it prints\n{quoted(ran.stdout + ran.stderr)}"
 
@@ -249,7 +250,9 @@ def main(*names):
     for name in names or ["README.md", "CHANGELOG.md", *sorted(glob.glob("docs/**/*.md", recursive=True))]:
         with open(name, encoding="utf-8") as it:
             text = it.read()
-        documents.run_examples(name, text.split("\n"))
+        # the whole program runs elsewhere, and leaves its lines here, so that others keep their numbers
+        rest = re.sub(PROGRAM_SECTION, lambda it: "\n" * it[0].count("\n"), text)
+        documents.run_examples(name, rest.split("\n"))
         if os.path.basename(name) == "LIBRARY.md" and os.path.isdir("crates"):
             documents.compare_code(name, text)
             if not is_quick:
