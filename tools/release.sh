@@ -11,7 +11,8 @@
 # its sha256. The archive has one folder with bin/ and share/, to be unpacked into a folder such as ~/.local (`tar
 # --strip-components=1`); share/doc/gomod/ has README.md, CHANGELOG.md, docs/, example/, and RELEASE.txt: the version, the
 # commit, the gate's last line, what the program needs and its sha256. In these documents a link to a file that isn't in
-# the archive is its text alone, and examples call `gomod`. The same files give the same archive.
+# the archive is its text alone, and examples call `gomod`; README.md tells how to try this program instead of how to
+# make one (tools/release.py). The same files give the same archive.
 #
 # Before it leaves an archive it unpacks it, follows all links of its documents and runs all their examples with its
 # program (tools/readme.sh), and compares the glibc that they name with the one that the program needs.
@@ -44,7 +45,7 @@ lay_release() {
   install -D -m 644 -t "$documents" README.md CHANGELOG.md
   cp -r docs example "$documents"
   glibc=$(least_glibc bin/gomod) || refuse "bin/gomod names no version of glibc"
-  adapt_documents "$documents" "Release ${2%% *}, for x86-64 Linux with glibc $glibc or later."
+  python3 -B tools/release.py "$documents" "Release ${2%% *}, for x86-64 Linux with glibc $glibc or later." "$name"
   {
     echo "gomod $2"
     echo "commit $(git rev-parse HEAD)"
@@ -56,33 +57,6 @@ lay_release() {
   find "$to" -type d -exec chmod 755 {} +
   find "$documents" -type f -exec chmod 644 {} +
   chmod 755 "$documents"/example/*.sh
-}
-
-# Makes the documents in a folder those of a release, which a sentence describes.
-adapt_documents() {
-  python3 - "$@" << 'PYTHON'
-import glob
-import os
-import re
-import sys
-
-os.chdir(sys.argv[1])
-NOTE = (f"{sys.argv[2]} With `bin/gomod` of the archive on the `PATH`, the examples run in this folder, "
-        "`share/doc/gomod`. Files that are named without a link are in the repository, at the commit of `RELEASE.txt`.")
-for name in ["README.md", "CHANGELOG.md", *glob.glob("docs/**/*.md", recursive=True)]:
-    def linked(found):
-        target = os.path.join(os.path.dirname(name), found[2].partition("#")[0])
-        return found[0] if re.match("#|[a-z]+:", found[2]) or os.path.exists(target) else found[1]
-
-    with open(name, encoding="utf-8") as it:
-        text = re.sub(r"\[([^\]]+)\]\(([^)\s]+)\)", linked, it.read())
-    text = re.sub(r"(?m)^    \$ .*", lambda it: it[0].replace("bin/gomod", "gomod"), text)
-    if name == "README.md":
-        head, _, rest = text.partition("\n")
-        text = f"{head}\n\n{NOTE}\n{rest}"
-    with open(name, "w", encoding="utf-8") as it:
-        it.write(text)
-PYTHON
 }
 
 # Unpacks an archive, and tries its documents with its program.
