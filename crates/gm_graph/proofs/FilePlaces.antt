@@ -1,6 +1,6 @@
 -- The places of files: noted for the numbers of modules, and of their names.
-use Rattle.std.proofs.Common.{◌≡◌, ◌∙◌, ◌<◌, ◌≤◌, ◌++◌, ℕ, zero, suc, Bool, true, false, cond, List, [], ◌∷◌, Option, Some, None, length, get_or, ap, ap₂, arith, refl, subst, sym}
-use Rattle.std.specs.List.{All, IsDistinct}
+use Rattle.std.proofs.Common.{◌≡◌, ◌∙◌, ◌<◌, ◌≤◌, ◌++◌, ℕ, suc, Bool, true, false, cond, List, [], ◌∷◌, Option, Some, None, length, get_or, ap, ap₂, arith, refl, subst, sym}
+use Rattle.std.specs.List.{All}
 use Rattle.std.specs.Map.{lookup, values_of}
 use Rattle.std.specs.Option.{IsSome, option_and_then, option_map, option_or, unwrap_or}
 use Rattle.std.specs.Prelude.{slice_get}

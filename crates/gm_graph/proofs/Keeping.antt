@@ -1,8 +1,8 @@
 -- What stays when more is asked for, and when a cache returns requirements.
 use Rattle.std.proofs.Common.{◌≡◌, ◌∙◌, ◌<◌, ℕ, zero, suc, List, [], ◌∷◌, ◌++◌, Option, Some, None, Result, Ok, Err, append-nil, arith, inl, inr, length, length-append, sym, ap, ap₂, subst, refl}
-use Rattle.std.specs.Prelude.{IsErrAnd, IsSome, OnErr, slice_get}
+use Rattle.std.specs.Prelude.{IsErrAnd, OnErr, slice_get}
 use Rattle.std.specs.Option.{option_map}
-use Rattle.gm_store.specs.Asked.{Name, Reply, name_of}
+use Rattle.gm_store.specs.Asked.{Name, Reply}
 use Rattle.gm_store.specs.Requests.{refused_for}
 use Rattle.gm_store.specs.States.{StoreState}
 use Rattle.gm_store.specs.declared.files.AskFault.{AskFault}
@@ -19,9 +19,9 @@ use Rattle.gm_file.specs.Main.{Main, main_of}
 use Rattle.gm_graph.specs.Reading.{IsFileReading, file_of}
 use Rattle.gm_graph.specs.FileTable.{KeepsFiles, kept_at}
 use Rattle.gm_graph.specs.Summaries.{Grows, IsKept, summary_reading}
-use Rattle.gm_graph.specs.Cached.{HoldsSame, KeepsSound, Knows, LendsKept, LentSame, held_of, kept_file, main_in, run_in, summary_at, sums_in, table_in}
+use Rattle.gm_graph.specs.Cached.{HasMadeKnown, HoldsSame, IsPlaceFor, KeepsSound, Knows, LendsKept, LentSame, held_of, kept_file, main_in, run_in, summary_at, sums_in, table_in}
 use Rattle.gm_graph.specs.Run.{KeepsSayings, Run, Says, run_of}
-use Rattle.gm_graph.specs.Asking.{AsksFor, FailsFor, StillLacks}
+use Rattle.gm_graph.specs.Asking.{AsksFor}
 use Rattle.gm_graph.specs.Refusals.{IsLoadFaultOf, refused_in, refused_names}
 use Rattle.gm_graph.specs.declared.cache.load_fault.LoadFault.{LoadFault}
 use Rattle.gm_graph.specs.declared.cache.load_fault.LoadFault.TheVariants as load
@@ -162,6 +162,16 @@ pub sound_same : (old new : Cache) (pairs : List (Name × Reply)) → HoldsSame 
 sound_same old new pairs same =
     subst (λ (r : Run). KeepsSound old (run_in old pairs) new r) (sym (same_run old new pairs same.main same.sums)) (same.sound (run_in old pairs))
 
+-- The file was known already, or none may be asked for.
+pub known_same : (old new : Cache) (pairs : List (Name × Reply)) (x : ModuleVersion) (place : Option ℕ) → HoldsSame old new → Knows old pairs
+    → IsPlaceFor new x place → HasMadeKnown old pairs new pairs x place
+known_same old new pairs x place same knows is = record {
+  knows = knows_still old new pairs same knows;
+  place_is = is;
+  numbered = same.numbered;
+  sound = sound_same old new pairs same;
+}
+
 pub lent_after : (old mid new : Cache) → LentSame old mid → LentSame mid new → LentSame old new
 lent_after old mid new one two = record { main = two.main ∙ one.main; sums = two.sums ∙ one.sums; turns = two.turns ∙ one.turns }
 
@@ -194,30 +204,6 @@ pub none_refused_for : (T : Type 0) (result : Result T AskFault) (old new : List
 none_refused_for T (Ok value) old new name given same = absurd given
 none_refused_for T (Err fault) old new name given same =
     same ∙ sym (append-nil old) ∙ ap (λ (names : List Name). old ++ names) (sym (names_for_none T name fault given))
-
--- ---- the name at which the device failed
-
-module _ (main : Main) (before after : StoreState) (x : ModuleVersion) where
-  pub failed_there : (failed : Option FileName) → FailsFor main before after x failed → IsSome failed
-  failed_there None fails = absurd fails
-  failed_there (Some there) fails = refl
-
-  pub device_failed : (fault : AskFault) (failed : Option FileName) (result : LoadFault) (name : FileName)
-      → (fault ≡ ask.Device → FailsFor main before after x failed) → IsLoadFaultOf fault failed result → result ≡ load.Device name
-      → StillLacks main before after x (name_of name)
-  device_failed ask.NoMemory failed result name fails is e = let never = sym is ∙ e in absurd (cc never)
-  device_failed ask.Device None result name fails is e = absurd is
-  device_failed ask.Device (Some there) result name fails is e =
-      let both = sym is ∙ e in
-      let same : there ≡ name = cc both in
-      subst (λ (n : FileName). StillLacks main before after x (name_of n)) same (fails refl)
-
-  pub refused_failed : (T : Type 0) (fault : AskFault) (failed : Option FileName) (result : LoadFault)
-      → (fault ≡ ask.Device → FailsFor main before after x failed) → IsLoadFaultOf fault failed result
-      → refused_for {T = T} (file_of main x) (Err fault) ≡ refused_names result
-  refused_failed T ask.NoMemory failed result fails is = sym (ap refused_names is)
-  refused_failed T ask.Device None result fails is = absurd is
-  refused_failed T ask.Device (Some there) result fails is = ap (λ (n : Name). n ∷ []) (sym (fails refl).1) ∙ sym (ap refused_names is)
 
 pub never_many : (fault : AskFault) (failed : Option FileName) (result : LoadFault) → IsLoadFaultOf fault failed result → result ≡ load.TooMany → ⊥
 never_many ask.NoMemory failed result is e = cc (sym is ∙ e)

@@ -11,6 +11,7 @@ pub mod Sources
 pub mod Turning
 pub mod Visited
 pub mod VisitSteps
+pub mod TurnEnds
 pub mod FirstGraph
 pub mod Caching
 pub mod FilledPlaces

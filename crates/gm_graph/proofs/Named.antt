@@ -1,11 +1,10 @@
 -- The calls of a cache that name modules and files.
-use Rattle.std.proofs.Common.{◌≡◌, ◌∙◌, ◌∷◌, [], ℕ, List, Option, None, Some, Result, Ok, Err, ap, refl, subst, sym}
+use Rattle.std.proofs.Common.{◌≡◌, ◌∙◌, ◌∷◌, [], ℕ, List, Option, None, Some, Result, Ok, Err, ap, subst, sym}
 use Rattle.std.specs.Prelude.{MatchResult}
 use Rattle.std.specs.Option.{option_map}
 use Rattle.gm_name.specs.ModuleVersion.{ModuleVersion}
 use Rattle.gm_name_table.specs.Listed.{NumberedList, modules_of}
 use Rattle.gm_store.specs.Asked.{Name, Reply}
-use Rattle.gm_store.specs.States.{StoreState}
 use Rattle.gm_graph.specs.declared.cache.Cache.{Cache}
 use Rattle.gm_graph.specs.declared.cache.by_name.Known.{Known}
 use Rattle.gm_graph.specs.declared.cache.by_name.Known.TheVariants as known
@@ -13,10 +12,8 @@ use Rattle.gm_graph.specs.declared.cache.depth.Turn.{Turn}
 use Rattle.gm_graph.specs.declared.cache.file_table.FileTable.{FileTable}
 use Rattle.gm_graph.specs.Held.{HoldsAnswers}
 use Rattle.gm_graph.specs.Cached.{HasMoreTurns, HasSoundFile, IsKnownAs, IsLender, IsLenderNamed, Knows, KnowsLender, file_known, held_of, main_in, run_in, summary_at, table_in}
-use Rattle.gm_graph.specs.Asking.{AsksFor}
 use Rattle.gm_graph.specs.FileTable.{IsPlaceOf}
-use Rattle.gm_graph.specs.Run.{KeepsSayings, Run}
-use Rattle.gm_file.specs.Main.{Main, main_of}
+use Rattle.gm_graph.specs.Run.{Run}
 use Rattle.gm_graph.specs.Reading.{file_of}
 use Rattle.gm_graph.specs.Summaries.{summary_reading}
 use Rattle.gm_graph.proofs.Holding.{held_sound}
@@ -77,9 +74,3 @@ pub lender_still : {T E : Type 0} (result : Result T E) (old new : Cache) (one :
     → MatchResult result (λ _. HasMoreTurns old new (one ∷ [])) (λ _. HasMoreTurns old new []) → KnowsLender old x name → KnowsLender new x name
 lender_still (Ok lent) old new one x name has lender = lender_by old new (one ∷ []) x name has lender
 lender_still (Err fault) old new one x name has lender = lender_by old new [] x name has lender
-
--- What is asked for is the file of the same vertex.
-pub asks_named : (old mid : Cache) (before after : StoreState) (x y : ModuleVersion) → mid.main.now ≡ old.main.now → y ≡ x
-    → AsksFor (main_in mid) before after y → AsksFor (main_in old) before after x
-asks_named old mid before after x y main is asks =
-    subst (λ (m : Main). AsksFor m before after x) (ap main_of main) (subst (λ (v : ModuleVersion). AsksFor (main_in mid) before after v) is asks)

@@ -14,11 +14,9 @@ use Rattle.gm_file.specs.Main.{Main, main_of}
 use Rattle.gm_graph.specs.Reading.{IsFileReading}
 use Rattle.gm_graph.specs.FileTable.{PutsFile, kept_at}
 use Rattle.gm_graph.proofs.HeldFiles.{IsAnswerOf, kept_with, map_cond, one_answer}
-use Rattle.gm_graph.specs.Held.{HoldsAnswers}
-use Rattle.gm_graph.proofs.Keeping.{knows_still, main_same, same_run, says_later, sound_still}
+use Rattle.gm_graph.proofs.Keeping.{knows_still, main_same, says_later, sound_still}
 use Rattle.gm_graph.specs.Summaries.{IsKept, summary_reading}
 use Rattle.gm_graph.specs.Cached.{HoldsSame, KeepsSound, Knows, LentSame, held_of, main_in, run_in, summary_at, sums_in, table_in}
-use Rattle.gm_graph.specs.Run.{Run}
 
 known_of : (cache : Cache) (pairs : List (Name × Reply)) → Knows cache pairs → (name : Name)
     → IsAnswerOf (sums_in cache) name (answer_in pairs name) (held_of cache name)

@@ -1,16 +1,11 @@
 -- What a store is asked for.
-use Rattle.std.specs.Prelude.{◌≡◌, ◌⊎◌, true, Option, None, Some}
+use Rattle.std.specs.Prelude.{◌≡◌, ◌⊎◌, ◌∷◌, ◌++◌, [], List, true, Option, None, Some}
 use Rattle.gm_name.specs.ModuleVersion.{ModuleVersion}
 use Rattle.gm_store.specs.Asked.{Name, Reply, answer_in, name_of}
 use Rattle.gm_store.specs.declared.files.FileName.{FileName}
-use Rattle.gm_store.specs.States.{AddsAnswer, StoreState}
+use Rattle.gm_store.specs.States.{AddsAnswer, HasServed, StoreState}
 use Rattle.gm_file.specs.Main.{Main}
 use Rattle.gm_graph.specs.Reading.{file_of, is_askable}
-
--- Nothing was asked for, or only this name, which was not asked for before.
-abbrev pub AsksAtMost : StoreState → StoreState → Name → Type 0
-AsksAtMost old new name = (new.asked ≡ old.asked)
-    ⊎ ((reply : Reply) × (answer_in old.asked name ≡ None) × AddsAnswer old new name reply)
 
 -- Nothing was asked for, or only the file of this vertex, which may be asked for and was not asked for before.
 abbrev pub AsksFor : Main → StoreState → StoreState → ModuleVersion → Type 0
@@ -23,7 +18,25 @@ abbrev pub StillLacks : Main → StoreState → StoreState → ModuleVersion →
 StillLacks main old new x name = (new.asked ≡ old.asked) × (name ≡ file_of main x) × (is_askable name ≡ true)
     × (answer_in old.asked name ≡ None)
 
--- The device failed when the store was asked for the file of this vertex, and this is the file's name.
-abbrev pub FailsFor : Main → StoreState → StoreState → ModuleVersion → Option FileName → Type 0
-FailsFor main old new x None = ⊥
-FailsFor main old new x (Some name) = StillLacks main old new x (name_of name)
+-- this is the name of the vertex's file, which may be asked for
+abbrev pub IsFileOf : Main → ModuleVersion → Name → Type 0
+IsFileOf main x name = (name ≡ file_of main x) × (is_askable name ≡ true)
+
+-- What a call did to a store that asks for one of these names at most. `before` says what might come of a request
+-- before the call, `after` what may come of one after it, and the names in `failed` were refused.
+pub record AsksOne (May : Name → Type 0) (before after : Name → Option Reply → Type 0) (old new : StoreState)
+    (failed : List Name) : Type 0 where
+  -- Nothing was asked for, or only such a name, which was not asked for before.
+  pub asks : (new.asked ≡ old.asked)
+      ⊎ ((name : Name) × May name × (answer_in old.asked name ≡ None)
+      × ((reply : Reply) × AddsAnswer old new name reply))
+  -- If a name was refused, it is such a one, and nothing was asked for.
+  pub device : (name : Name) → failed ≡ name ∷ []
+      → (new.asked ≡ old.asked) × May name × (answer_in old.asked name ≡ None)
+  pub refused : new.refused ≡ old.refused ++ failed
+  pub served : HasServed before after old new
+
+-- what is given has this name
+abbrev pub HasName : Option FileName → Name → Type 0
+HasName None name = ⊥
+HasName (Some there) name = name_of there ≡ name

@@ -17,10 +17,10 @@ use Rattle.gm_graph.specs.declared.cache.depth.Depth.{Depth}
 use Rattle.gm_graph.specs.declared.cache.visit.Required.{Required}
 use Rattle.gm_graph.specs.declared.cache.visit.Visit.{Visit}
 use Rattle.gm_graph.specs.declared.cache.visit.Visit.TheVariants as visit
-use Rattle.gm_graph.specs.Asking.{FailsFor}
+use Rattle.gm_graph.specs.Asking.{HasName}
 use Rattle.gm_graph.specs.Cached.{IsSound, KeepsSound, Knows, file_count, main_in, module_numbered, run_in, sums_in, table_in, turns_in}
 use Rattle.gm_graph.specs.Lent.{lent_modules, lent_table}
-use Rattle.gm_graph.specs.Reading.{leads_on}
+use Rattle.gm_graph.specs.Reading.{file_of, leads_on}
 use Rattle.gm_graph.specs.Run.{KeepsSayings, Run, Says}
 use Rattle.gm_graph.specs.contracts.cache.Cache.{the_row}
 use Rattle.gm_graph.specs.Turns.{turn}
@@ -81,10 +81,13 @@ pub record HasVisited (old : Cache) (earlier : List (Name × Reply)) (new : Cach
   pub turns : turns_in new ≡ turns_in old ++ turn (module_numbered old number) d ∷ []
   pub visit_is : IsVisit new (run_in new pairs) (module_numbered old number) d visit
 
--- Once the borrow of what a visit got ends, the cache has visited the vertex. After a refusal its list of turns is the
--- same, and if the device failed, it has the name of the file.
+-- After a refusal the list of turns is the same, and if the device failed, the cache has the name of the file.
+abbrev pub KeepsTurns : Cache → Cache → ℕ → AskFault → Type 0
+KeepsTurns old new number fault = (turns_in new ≡ turns_in old)
+    × (fault ≡ Device → HasName new.failed (file_of (main_in old) (module_numbered old number)))
+
+-- Once the borrow of what a visit got ends, the cache has visited the vertex, or a refusal left its turns.
 abbrev pub Visits : MutBor Cache → StoreState → StoreState → ℕ → Depth → Result Visit AskFault → Fml
 Visits cache before after number d result = Rests (the_row (record { mir = named 1; lft = [] })) cache
     (λ end. MatchResult result (λ visit. HasVisited cache.now before.asked end after.asked number d visit)
-    (λ fault. (turns_in end ≡ turns_in cache.now)
-    × (fault ≡ Device → FailsFor (main_in cache.now) before after (module_numbered cache.now number) end.failed)))
+    (λ fault. KeepsTurns cache.now end number fault))

@@ -149,6 +149,15 @@ pub record LentSame (old new : Cache) : Type 0 where
   pub sums : sums_in new ≡ sums_in old
   pub turns : turns_in new ≡ turns_in old
 
+-- The file of a vertex was made known, and is kept at this place: the cache knows the answers, and what had a number
+-- or a place has it still.
+pub record HasMadeKnown (old : Cache) (earlier : List (Name × Reply)) (new : Cache) (pairs : List (Name × Reply))
+    (x : ModuleVersion) (place : Option ℕ) : Type 0 where
+  pub knows : Knows new pairs
+  pub place_is : IsPlaceFor new x place
+  pub numbered : BeginsWith (table_in old) (table_in new)
+  pub sound : KeepsSound old (run_in old earlier) new (run_in new pairs)
+
 -- The list has these turns more at its end, and nothing else is new: no more modules have numbers.
 pub record HasMoreTurns (old new : Cache) (more : List Turn) : Type 0 where
   pub turns : turns_in new ≡ turns_in old ++ more

@@ -7,6 +7,7 @@ pub mod Builder
 pub mod EdgeLists
 pub mod CacheVisits
 pub mod Visiting
+pub mod TurnVisits
 pub mod FileLists
 pub mod Followed
 pub mod Outcome

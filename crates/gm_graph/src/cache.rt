@@ -32,11 +32,11 @@ ghost use Rattle.gm_name.specs.OptionalPlaces.{place_in};
 ghost use Rattle.gm_name_table.specs.Listed.{modules_of};
 ghost use Rattle.gm_store.specs.Asked.{IsWithinLimit, Name, Reply, answer_in, name_of, reply_of};
 ghost use Rattle.gm_store.specs.Requests.{refused_for};
-ghost use Rattle.gm_store.specs.States.{AddsAnswer, HasServed};
+ghost use Rattle.gm_store.specs.States.{AddsAnswer};
 ghost use Rattle.gm_store.specs.declared.files.FileName.{FileName};
 ghost use Rattle.gm_file.specs.Listed.{with_requirements};
 ghost use Rattle.gm_file.specs.Main.{main_of, without_excluded};
-ghost use Rattle.gm_graph.specs.Asking.{AsksAtMost, AsksFor, FailsFor};
+ghost use Rattle.gm_graph.specs.Asking.{AsksOne, HasName, IsFileOf};
 ghost use Rattle.gm_graph.specs.Reading.{IsFileReading, file_of, is_askable as may_be_asked, leads_on};
 ghost use Rattle.gm_graph.specs.Refusals.{IsLoadFaultOf};
 ghost use Rattle.gm_graph.specs.FileTable.{PutsFile, HasReplacing, NotesFiles, replacing_place};
@@ -157,7 +157,7 @@ impl<'a> Cache<'a> {
     ghost use Rattle.std.specs.List.{IsDistinct};
     ghost use Rattle.gm_name.specs.ModuleVersion.{pair_eq};
     ghost use Rattle.gm_name_table.specs.Listed.{BeginsWith};
-    ghost use Rattle.gm_graph.specs.Cached.{HasFileAt, HoldsSame, IsPlaceFor, KeepsSound, Knows, LendsKept, LentSame, file_count, main_in, module_numbered, run_in, summary_at, sums_in, table_in, turns_in};
+    ghost use Rattle.gm_graph.specs.Cached.{HasFileAt, HasMadeKnown, HoldsSame, IsPlaceFor, KeepsSound, Knows, LendsKept, LentSame, file_count, main_in, module_numbered, run_in, summary_at, sums_in, table_in, turns_in};
     ghost use Rattle.gm_graph.specs.Lent.{lent_table};
     ghost use Rattle.gm_graph.specs.declared.cache.Cache.{Cache};
     ghost use Rattle.gm_graph.specs.CacheVisits.{Continues, IsVisit, LendsOver, Visits};
@@ -206,13 +206,8 @@ impl<'a> Cache<'a> {
         ensures holds { HoldsSame self.old self.new }
         ensures lent { LentSame self.old self.new }
         ensures files { self.new.files ≡ self.old.files }
-        ensures asks { AsksAtMost (F.state files.old) (F.state files.new) (name_of name.now) }
-        ensures device { result ≡ Err AskFault.Device
-            → (F.state files.new).asked ≡ (F.state files.old).asked }
-        ensures refused { (F.state files.new).refused
-            ≡ (F.state files.old).refused ++ refused_for (name_of name.now) result }
-        ensures served { HasServed (F.may_answer files.old) (F.may_answer files.new)
-            (F.state files.old) (F.state files.new) }
+        ensures asks { AsksOne (λ n. n ≡ name_of name.now) (F.may_answer files.old) (F.may_answer files.new)
+            (F.state files.old) (F.state files.new) (refused_for (name_of name.now) result) }
     {
         files.ask(name)?;
         let kept = summarize(
@@ -289,21 +284,15 @@ impl<'a> Cache<'a> {
         requires vertex { number < length (table_in self.old) }
         requires few { file_count self.old < 4294967295 }
         ensures count { file_count self.new ≤ file_count self.old + 1 }
-        ensures knows { OnOk result (Knows self.new (F.state files.new).asked) }
-        ensures place { IfOk result (IsPlaceFor self.new (module_numbered self.old number)) }
+        ensures known { IfOk result (HasMadeKnown self.old (F.state files.old).asked self.new (F.state files.new).asked
+            (module_numbered self.old number)) }
         ensures lent { LentSame self.old self.new }
-        ensures numbered { BeginsWith (table_in self.old) (table_in self.new) }
-        ensures sound { OnOk result (KeepsSound self.old (run_in self.old (F.state files.old).asked)
-            self.new (run_in self.new (F.state files.new).asked)) }
         ensures err { OnErr result (HoldsSame self.old self.new) }
-        ensures asks { AsksFor (main_in self.old) (F.state files.old) (F.state files.new)
-            (module_numbered self.old number) }
-        ensures device { result ≡ Err AskFault.Device → FailsFor (main_in self.old) (F.state files.old)
-            (F.state files.new) (module_numbered self.old number) self.new.failed }
-        ensures refused { (F.state files.new).refused ≡ (F.state files.old).refused
-            ++ refused_for (file_of (main_in self.old) (module_numbered self.old number)) result }
-        ensures served { HasServed (F.may_answer files.old) (F.may_answer files.new)
-            (F.state files.old) (F.state files.new) }
+        ensures asks { AsksOne (IsFileOf (main_in self.old) (module_numbered self.old number))
+            (F.may_answer files.old) (F.may_answer files.new) (F.state files.old) (F.state files.new)
+            (refused_for (file_of (main_in self.old) (module_numbered self.old number)) result) }
+        ensures failed { result ≡ Err AskFault.Device
+            → HasName self.new.failed (file_of (main_in self.old) (module_numbered self.old number)) }
     {
         if let Some(place) = self.files.noted_place(number) {
             return Ok(Some(place));
@@ -388,12 +377,9 @@ impl<'a> Cache<'a> {
         requires vertex { number < length (table_in self.old) }
         requires few { file_count self.old < 4294967295 }
         ensures lends { IfOk result (LendsOver self.old (run_in self.old (F.state files.old).asked)) }
-        ensures asks { AsksFor (main_in self.old) (F.state files.old) (F.state files.new)
-            (module_numbered self.old number) }
-        ensures refused { (F.state files.new).refused ≡ (F.state files.old).refused
-            ++ refused_for (file_of (main_in self.old) (module_numbered self.old number)) result }
-        ensures served { HasServed (F.may_answer files.old) (F.may_answer files.new)
-            (F.state files.old) (F.state files.new) }
+        ensures asks { AsksOne (IsFileOf (main_in self.old) (module_numbered self.old number))
+            (F.may_answer files.old) (F.may_answer files.new) (F.state files.old) (F.state files.new)
+            (refused_for (file_of (main_in self.old) (module_numbered self.old number)) result) }
         ensures* after { sem 𝓛 (Visits self.entry (F.state files.old) (F.state files.new) number depth result) }
     {
         let place = self.known_at(files, number)?;

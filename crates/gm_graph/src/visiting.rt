@@ -1,20 +1,18 @@
 //! One visit of the worklist: what reading one vertex adds to the worklist and to the graph.
 
-ghost use Rattle.std.specs.Prelude.{◌≡◌, ◌<◌, ◌≤◌, ◌+◌, ◌++◌, ◌∷◌, [], List, OnOk, Contains, Err, None, Some, length, true};
+ghost use Rattle.std.specs.Prelude.{◌≡◌, ◌<◌, [], List, OnOk, Contains, Err, None, Some, length, true};
 ghost use Rattle.gm_name.specs.ModuleVersion.{ModuleVersion, module_at};
-ghost use Rattle.gm_store.specs.Asked.{name_of};
-ghost use Rattle.gm_store.specs.States.{HasServed};
-ghost use Rattle.gm_store.specs.declared.files.FileName.{FileName};
-ghost use Rattle.gm_graph.specs.Asking.{AsksFor, StillLacks};
-ghost use Rattle.gm_graph.specs.Cached.{Knows, file_count, main_in, module_numbered, run_in, table_in, turns_in};
-ghost use Rattle.gm_graph.specs.CacheVisits.{Continues, SaysRequired, required_by, table_of};
+ghost use Rattle.gm_graph.specs.Asking.{AsksOne, IsFileOf};
+ghost use Rattle.gm_graph.specs.Cached.{Knows, file_count, main_in, module_numbered, run_in, table_in};
+ghost use Rattle.gm_graph.specs.CacheVisits.{SaysRequired, required_by, table_of};
 ghost use Rattle.gm_graph.specs.Refusals.{refused_in};
-ghost use Rattle.gm_graph.specs.Builder.{IsBuilder, KeepsTurns, graph_of, turn_of, turns_of};
+ghost use Rattle.gm_graph.specs.Builder.{IsBuilder, KeepsTurns, graph_of, turns_of};
 ghost use Rattle.gm_graph.specs.EdgeLists.{AreLists, KeepsLists};
 ghost use Rattle.gm_graph.specs.FileLists.{AddsFileList, HasNumbersOf, HaveFiles};
 ghost use Rattle.gm_graph.specs.Followed.{AreFollowedIn, FollowsFile, followed_at};
 ghost use Rattle.gm_graph.specs.Run.{Run, Says};
 ghost use Rattle.gm_graph.specs.Turns.{turn, OverflowsWith};
+ghost use Rattle.gm_graph.specs.TurnVisits.{IsTurnVisited};
 ghost use Rattle.gm_graph.specs.Visiting.{IsVisited, OverflowsAt};
 ghost use Rattle.gm_graph.specs.declared.cache.depth.Depth.TheVariants.{Deep};
 
@@ -109,29 +107,12 @@ pub(crate) fn visit<F: Asks>(
     requires followed { AreFollowedIn cache.old (run_in cache.old (F.state files.old).asked)
         (turns_of (table_in cache.old) builder.old) followed.old }
     requires few { file_count cache.old < 4294967295 }
-    ensures count { OnOk result (file_count cache.new ≤ file_count cache.old + 1) }
-    ensures knows { OnOk result (Knows cache.new (F.state files.new).asked) }
-    ensures continues { OnOk result (Continues cache.old cache.new) }
-    ensures turns { OnOk result (turns_in cache.new
-        ≡ turns_in cache.old ++ turn_of (table_in cache.old) one ∷ []) }
-    ensures builder { OnOk result (IsBuilder (table_in cache.new) builder.new) }
-    ensures files { OnOk result
-        (HaveFiles cache.new (run_in cache.new (F.state files.new).asked) builder.new.edges) }
-    ensures followed { OnOk result (AreFollowedIn cache.new (run_in cache.new (F.state files.new).asked)
-        (turns_of (table_in cache.new) builder.new) followed.new) }
-    ensures visited { OnOk result (IsVisited (run_in cache.new (F.state files.new).asked)
-        (graph_of (table_in cache.old) builder.old) (graph_of (table_in cache.new) builder.new)
-        (module_numbered cache.old one.number) one.depth) }
+    ensures visited { OnOk result (IsTurnVisited cache.old cache.new (F.state files.old).asked (F.state files.new).asked
+        builder.old builder.new followed.new one) }
     ensures too_many { result ≡ Err LoadFault.TooMany → OverflowsAt (run_in cache.old (F.state files.new).asked)
         (turns_of (table_in cache.old) builder.old) (module_numbered cache.old one.number) one.depth }
-    ensures asks { AsksFor (main_in cache.old) (F.state files.old) (F.state files.new)
-        (module_numbered cache.old one.number) }
-    ensures device { (name : FileName) → result ≡ Err (LoadFault.Device name)
-        → StillLacks (main_in cache.old) (F.state files.old) (F.state files.new)
-        (module_numbered cache.old one.number) (name_of name) }
-    ensures refused { (F.state files.new).refused ≡ (F.state files.old).refused ++ refused_in result }
-    ensures served { HasServed (F.may_answer files.old) (F.may_answer files.new)
-        (F.state files.old) (F.state files.new) }
+    ensures asks { AsksOne (IsFileOf (main_in cache.old) (module_numbered cache.old one.number))
+        (F.may_answer files.old) (F.may_answer files.new) (F.state files.old) (F.state files.new) (refused_in result) }
 {
     match cache.visit(files, one.number, one.depth) {
         Ok(Visit::Fault(vertex, class)) => add_fault(builder, one, vertex, class),

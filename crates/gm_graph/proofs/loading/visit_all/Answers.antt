@@ -1,6 +1,6 @@
-use Rattle.std.proofs.Common.{◌∙◌, ◌++◌, sym, ap, subst, Err, arith, refl, List, append-nil}
+use Rattle.std.proofs.Common.{◌∙◌, ◌++◌, sym, ap, subst, Err, arith, refl, List}
 use Rattle.gm_file.specs.Main.{Main}
-use Rattle.gm_store.specs.Asked.{Name, Reply}
+use Rattle.gm_store.specs.Asked.{Name, Reply, name_of}
 use Rattle.gm_store.proofs.Serving.{nothing_served, served_both}
 use Rattle.gm_graph.specs.Builder.{turns_of}
 use Rattle.gm_graph.specs.Cached.{main_in, module_numbered, run_in, sums_in, table_in}
@@ -9,6 +9,7 @@ use Rattle.gm_graph.specs.Reading.{file_of}
 use Rattle.gm_graph.specs.Refusals.{refused_names}
 use Rattle.gm_graph.specs.Run.{Run}
 use Rattle.gm_graph.specs.Visiting.{OverflowsAt}
+use Rattle.gm_graph.proofs.AskedFile.{asks_for, lacks_still, refused_still}
 use Rattle.gm_graph.proofs.Dues.{AddsFile, asks_more, due_here, many_here, refused_same}
 use Rattle.gm_graph.proofs.Rounds.{few_turns}
 use Rattle.gm_graph.proofs.Stepping.{by_run, first_step, last_step, number_here, past_all, read_by, step, turn_below, turn_here}
@@ -39,14 +40,15 @@ turns-preserved g c =
     let x = module_numbered c.turns.cache one.number in
     let below = turn_below modules c.turns.builder c.turns.at (omega arith) in
     let here = turn_here modules c.turns.builder c.turns.at one (omega arith) c.index-one.ensures in
+    let visited = c.in_ok-visit.ensures.visited in
     record {
       state = step (main_in c.args.cache.now) (sums_in c.args.cache.now) c.turns.cache c.visit.new.cache (g.F.Asks.state c.turns.files).asked (g.F.Asks.state c.visit.new.files).asked c.turns.builder c.visit.new.builder c.turns.at x one.depth
-          c.turns.invariant.state below here c.in_ok-visit.ensures.knows c.in_ok-visit.ensures.continues c.in_ok-visit.ensures.turns c.in_ok-visit.ensures.builder c.in_ok-visit.ensures.visited c.visit.ensures.asks;
-      files = c.in_ok-visit.ensures.files;
-      few = omega (arith, c.turns.invariant.few, c.in_ok-visit.ensures.count);
-      followed = c.in_ok-visit.ensures.followed;
-      served = served_both _ _ _ (g.F.Asks.state c.args.files.now) (g.F.Asks.state c.turns.files) (g.F.Asks.state c.visit.new.files) c.turns.invariant.served c.visit.ensures.served;
-      refused = c.in_ok-visit.ensures.refused ∙ append-nil _ ∙ c.turns.invariant.refused;
+          c.turns.invariant.state below here visited.knows visited.continues visited.turns visited.builder visited.visited (asks_for (main_in c.turns.cache) x c.visit.ensures.asks);
+      files = visited.files;
+      few = omega (arith, c.turns.invariant.few, visited.count);
+      followed = visited.followed;
+      served = served_both _ _ _ (g.F.Asks.state c.args.files.now) (g.F.Asks.state c.turns.files) (g.F.Asks.state c.visit.new.files) c.turns.invariant.served c.visit.ensures.asks.served;
+      refused = refused_still c.in_ok-visit.ensures.asks.refused c.turns.invariant.refused;
     }
 
 pub returns-clause-opened : goal.returns-clause-opened
@@ -82,7 +84,7 @@ returns-in_err-visit-clause-asks g c =
     let here = turn_here modules c.turns.builder c.turns.at one (omega arith) c.index-one.ensures in
     let state = c.turns.invariant.state in
     asks_more main sums pairs (read_by main sums c.turns.cache pairs state.sums_are state.knows) (turns_of modules c.turns.builder) c.turns.at x one.depth state.queue.valid below here
-    longer state.asks (subst (λ (m : Main). AddsFile m pairs longer x) state.main_is c.visit.ensures.asks)
+    longer state.asks (subst (λ (m : Main). AddsFile m pairs longer x) state.main_is (asks_for (main_in c.turns.cache) x c.visit.ensures.asks))
 
 pub returns-in_err-visit-clause-too_many : goal.returns-in_err-visit-clause-too_many
 returns-in_err-visit-clause-too_many g c = λ e.
@@ -99,7 +101,7 @@ returns-in_err-visit-clause-too_many g c = λ e.
     let turns = turns_of modules c.turns.builder in
     let over = c.in_err-visit.ensures.too_many (ap Err (sym (rw e at c.from_residual.ensures.1))) in
     many_here main sums pairs (read_by main sums c.turns.cache pairs state.sums_are state.knows) turns c.turns.at x one.depth state.queue.valid below here
-    longer (subst (λ (m : Main). AddsFile m pairs longer x) state.main_is c.visit.ensures.asks)
+    longer (subst (λ (m : Main). AddsFile m pairs longer x) state.main_is (asks_for (main_in c.turns.cache) x c.visit.ensures.asks))
     (by_run (λ (run : Run). OverflowsAt run turns x one.depth) main sums c.turns.cache longer state.main_is state.sums_are over)
 
 pub returns-in_err-visit-clause-device : goal.returns-in_err-visit-clause-device
@@ -114,17 +116,18 @@ returns-in_err-visit-clause-device g c = λ name e.
     let below = turn_below modules c.turns.builder c.turns.at (omega arith) in
     let here = turn_here modules c.turns.builder c.turns.at one (omega arith) c.index-one.ensures in
     let state = c.turns.invariant.state in
-    let said = c.in_err-visit.ensures.device name (ap Err (sym (rw e at c.from_residual.ensures.1))) in
+    let fault = c.in_err-visit.field-0.0 in
+    let said = lacks_still {failed = refused_names fault} (main_in c.turns.cache) x c.in_err-visit.ensures.asks (name_of name) (ap refused_names (sym (rw e at c.from_residual.ensures.1))) in
     due_here main sums pairs (read_by main sums c.turns.cache pairs state.sums_are state.knows) (turns_of modules c.turns.builder) c.turns.at x one.depth state.queue.valid below here
     longer _ said.0 (said.1 ∙ ap (λ (m : Main). file_of m x) state.main_is) said.2 said.3
 
 pub returns-in_err-visit-clause-served : goal.returns-in_err-visit-clause-served
 returns-in_err-visit-clause-served g c =
-    served_both _ _ _ (g.F.Asks.state c.args.files.now) (g.F.Asks.state c.turns.files) (g.F.Asks.state c.visit.new.files) c.turns.invariant.served c.visit.ensures.served
+    served_both _ _ _ (g.F.Asks.state c.args.files.now) (g.F.Asks.state c.turns.files) (g.F.Asks.state c.visit.new.files) c.turns.invariant.served c.visit.ensures.asks.served
 
 pub returns-in_err-visit-clause-refused : goal.returns-in_err-visit-clause-refused
 returns-in_err-visit-clause-refused g c =
     let same = refused_same c.from_residual.result c.in_err-visit.field-0.0 (λ f e. rw e at c.from_residual.ensures.1) c.from_residual.ensures.0 in
-    c.in_err-visit.ensures.refused
+    c.in_err-visit.ensures.asks.refused
     ∙ ap (λ (ns : List Name). ns ++ refused_names c.in_err-visit.field-0.0) c.turns.invariant.refused
     ∙ ap (λ (ns : List Name). (g.F.Asks.state c.args.files.now).refused ++ ns) (sym same)

@@ -1,37 +1,21 @@
-use Rattle.std.proofs.Common.{◌≡◌, ◌∙◌, ◌++◌, ℕ, List, Option, None, Some, Err, ap, inl, refl, subst, sym}
+use Rattle.std.proofs.Common.{◌≡◌, ◌∙◌, ℕ, Option, Some, ap, inl, refl, subst, sym}
 use Rattle.gm_name.specs.ModuleVersion.{ModuleVersion}
-use Rattle.gm_store.specs.Asked.{Name, name_of}
+use Rattle.gm_store.specs.Asked.{name_of}
 use Rattle.gm_graph.specs.declared.cache.load_fault.LoadFault.TheVariants as load
-use Rattle.gm_store.specs.States.{StoreState}
-use Rattle.gm_store.specs.declared.files.FileName.{FileName}
-use Rattle.gm_graph.specs.Asking.{FailsFor, StillLacks}
+use Rattle.gm_graph.specs.Asking.{AsksOne, IsFileOf}
+use Rattle.gm_graph.specs.Refusals.{refused_names}
+use Rattle.gm_graph.proofs.AskedFile.{asks_for, asks_same, lacks_still, refused_failed}
 use Rattle.gm_graph.specs.Cached.{IsKnownAs, IsPlaceFor, main_in, module_numbered, run_in, table_in}
-use Rattle.gm_file.specs.Main.{Main, main_of}
+use Rattle.gm_file.specs.Main.{main_of}
 use Rattle.gm_graph.specs.Reading.{file_of}
 use Rattle.gm_graph.proofs.Growing.{number_below, number_stays}
-use Rattle.gm_graph.proofs.Keeping.{device_failed, holds_after, knows_still, lent_after, never_many, refused_failed, says_still}
-use Rattle.gm_graph.proofs.Named.{asks_named, named_known}
+use Rattle.gm_graph.proofs.Keeping.{holds_after, knows_still, lent_after, never_many, says_still}
+use Rattle.gm_graph.proofs.Named.{named_known}
+use Rattle.gm_graph.proofs.cache.Cache.known.Given.{Over}
 use Rattle.gm_graph.proofs.cache.Cache.known.Goals as goal
-
--- If the device failed when the store was asked for a vertex's file, each name of that file is still lacking.
-fails_named : (main : Main) (before after : StoreState) (x : ModuleVersion) (failed : Option FileName) (name : FileName)
-    → name_of name ≡ file_of main x → FailsFor main before after x failed → FailsFor main before after x (Some name)
-fails_named main before after x None name is fails = absurd fails
-fails_named main before after x (Some there) name is fails =
-    subst (λ (n : Name). StillLacks main before after x n) (fails.1 ∙ sym is) fails
 
 pub known_at-requires-clause-knows : goal.known_at-requires-clause-knows
 known_at-requires-clause-knows g c = knows_still c.args.self.now c.number.new.self (g.F.Asks.state c.args.files.now).asked c.number.ensures.holds c.requires.knows
-
-pub returns-in-Ok-clause-asks : goal.returns-in-Ok-clause-asks
-returns-in-Ok-clause-asks g c =
-    asks_named c.args.self.now c.number.new.self (g.F.Asks.state c.args.files.now) (g.F.Asks.state c.known_at.new.files) c.args.vertex.now
-    (module_numbered c.number.new.self c.in_ok-number.number) c.number.ensures.holds.main c.in_ok-number.ensures.module c.known_at.ensures.asks
-
-pub returns-in-Err-clause-asks : goal.returns-in-Err-clause-asks
-returns-in-Err-clause-asks g c =
-    asks_named c.args.self.now c.number.new.self (g.F.Asks.state c.args.files.now) (g.F.Asks.state c.known_at.new.files) c.args.vertex.now
-    (module_numbered c.number.new.self c.in_ok-number.number) c.number.ensures.holds.main c.in_ok-number.ensures.module c.known_at.ensures.asks
 
 pub returns-in-Err-clause-lent : goal.returns-in-Err-clause-lent
 returns-in-Err-clause-lent g c =
@@ -40,6 +24,37 @@ returns-in-Err-clause-lent g c =
 pub returns-in-Err-clause-err : goal.returns-in-Err-clause-err
 returns-in-Err-clause-err g c =
     holds_after c.args.self.now c.number.new.self c.known_at.new.self c.number.ensures.holds c.in-Err.ensures.err
+
+-- ---- what was asked for
+
+pub returns-in-Ok-clause-asks : goal.returns-in-Ok-clause-asks
+returns-in-Ok-clause-asks g c =
+    let mid = c.number.new.self in
+    asks_for (main_in c.args.self.now) c.args.vertex.now
+    (asks_same (main_in mid) (main_in c.args.self.now) (module_numbered mid c.in_ok-number.number) c.args.vertex.now
+    (ap main_of c.number.ensures.holds.main) c.in_ok-number.ensures.module refl c.in-Ok.ensures.asks)
+
+asked : (g : Over) (c : goal.After-of_request g)
+    → AsksOne (IsFileOf (main_in c.args.self.now) c.args.vertex.now) (g.F.Asks.may_answer c.args.files.now) (g.F.Asks.may_answer c.known_at.new.files)
+    (g.F.Asks.state c.args.files.now) (g.F.Asks.state c.known_at.new.files) (refused_names c.of_request.result)
+asked g c =
+    let mid = c.number.new.self in
+    let x = module_numbered mid c.in_ok-number.number in
+    asks_same (main_in mid) (main_in c.args.self.now) x c.args.vertex.now (ap main_of c.number.ensures.holds.main) c.in_ok-number.ensures.module
+    (refused_failed (Option ℕ) (file_of (main_in mid) x) c.in-Err.fault (Some c.in_ok-name.name) c.of_request.result
+    (λ _. c.in_ok-name.ensures ∙ ap (file_of (main_in mid)) (sym c.in_ok-number.ensures.module)) c.of_request.ensures)
+    c.in-Err.ensures.asks
+
+pub returns-in-Err-clause-asks : goal.returns-in-Err-clause-asks
+returns-in-Err-clause-asks g c = asks_for (main_in c.args.self.now) c.args.vertex.now (asked g c)
+
+pub returns-in-Err-clause-device : goal.returns-in-Err-clause-device
+returns-in-Err-clause-device g c = λ name e.
+    let same : c.of_request.result ≡ load.Device name = cc e in
+    lacks_still (main_in c.args.self.now) c.args.vertex.now (asked g c) (name_of name) (ap refused_names same)
+
+pub returns-in-Err-clause-refused : goal.returns-in-Err-clause-refused
+returns-in-Err-clause-refused g c = (asked g c).refused
 
 -- ---- what files said
 
@@ -67,9 +82,9 @@ returns-in-Ok-clause-known g c =
     let number = c.in_ok-number.number in
     let pairs = (g.F.Asks.state c.known_at.new.files).asked in
     subst (λ (v : ModuleVersion). IsKnownAs (run_in new pairs) v c.known_by.result)
-    (number_stays (table_in c.number.new.self) (table_in new) number c.known_at.ensures.numbered c.in_ok-number.ensures.number
+    (number_stays (table_in c.number.new.self) (table_in new) number c.in-Ok.ensures.known.numbered c.in_ok-number.ensures.number
     ∙ c.in_ok-number.ensures.module)
-    (c.known_by.ensures pairs c.in-Ok.ensures.knows)
+    (c.known_by.ensures pairs c.in-Ok.ensures.known.knows)
 
 pub returns-in-Ok-clause-lender : goal.returns-in-Ok-clause-lender
 returns-in-Ok-clause-lender g c = λ pairs knows.
@@ -77,7 +92,7 @@ returns-in-Ok-clause-lender g c = λ pairs knows.
     let number = c.in_ok-number.number in
     named_known (run_in new pairs) c.args.vertex.now c.known_by.result
     (subst (λ (v : ModuleVersion). IsKnownAs (run_in new pairs) v c.known_by.result)
-    (number_stays (table_in c.number.new.self) (table_in new) number c.known_at.ensures.numbered c.in_ok-number.ensures.number
+    (number_stays (table_in c.number.new.self) (table_in new) number c.in-Ok.ensures.known.numbered c.in_ok-number.ensures.number
     ∙ c.in_ok-number.ensures.module)
     (c.known_by.ensures pairs knows))
 
@@ -86,48 +101,21 @@ known_by-requires-clause-name g c =
     let new = c.known_at.new.self in
     let number = c.in_ok-number.number in
     c.in_ok-name.ensures
-    ∙ ap (file_of (main_in c.number.new.self)) (sym (number_stays (table_in c.number.new.self) (table_in new) number c.known_at.ensures.numbered c.in_ok-number.ensures.number
+    ∙ ap (file_of (main_in c.number.new.self)) (sym (number_stays (table_in c.number.new.self) (table_in new) number c.in-Ok.ensures.known.numbered c.in_ok-number.ensures.number
     ∙ c.in_ok-number.ensures.module))
     ∙ ap (λ m. file_of (main_of m) (module_numbered new number)) (sym c.known_at.ensures.lent.main)
 
 pub known_by-requires-clause-vertex : goal.known_by-requires-clause-vertex
 known_by-requires-clause-vertex g c =
-    number_below (table_in c.number.new.self) (table_in c.known_at.new.self) c.in_ok-number.number c.known_at.ensures.numbered c.in_ok-number.ensures.number
+    number_below (table_in c.number.new.self) (table_in c.known_at.new.self) c.in_ok-number.number c.in-Ok.ensures.known.numbered c.in_ok-number.ensures.number
 
 pub known_by-requires-clause-place : goal.known_by-requires-clause-place
 known_by-requires-clause-place g c =
     subst (λ (v : ModuleVersion). IsPlaceFor c.known_at.new.self v c.in-Ok.place)
-    (sym (number_stays (table_in c.number.new.self) (table_in c.known_at.new.self) c.in_ok-number.number c.known_at.ensures.numbered c.in_ok-number.ensures.number))
-    c.in-Ok.ensures.place
+    (sym (number_stays (table_in c.number.new.self) (table_in c.known_at.new.self) c.in_ok-number.number c.in-Ok.ensures.known.numbered c.in_ok-number.ensures.number))
+    c.in-Ok.ensures.known.place_is
 
 pub returns-in-Err-clause-not_too_many : goal.returns-in-Err-clause-not_too_many
 returns-in-Err-clause-not_too_many g c = λ e.
     let same : c.of_request.result ≡ load.TooMany = cc e in
     never_many c.in-Err.fault (Some c.in_ok-name.name) c.of_request.result c.of_request.ensures same
-
-pub returns-in-Err-clause-device : goal.returns-in-Err-clause-device
-returns-in-Err-clause-device g c = λ name e.
-    let mid = c.number.new.self in
-    let before = g.F.Asks.state c.args.files.now in
-    let after = g.F.Asks.state c.known_at.new.files in
-    let x = module_numbered mid c.in_ok-number.number in
-    let same : c.of_request.result ≡ load.Device name = cc e in
-    subst (λ (m : Main). StillLacks m before after c.args.vertex.now (name_of name)) (ap main_of c.number.ensures.holds.main)
-    (subst (λ (v : ModuleVersion). StillLacks (main_in mid) before after v (name_of name)) c.in_ok-number.ensures.module
-    (device_failed (main_in mid) before after x c.in-Err.fault (Some c.in_ok-name.name) c.of_request.result name
-    (λ is. fails_named (main_in mid) before after x c.known_at.new.self.failed c.in_ok-name.name
-    (c.in_ok-name.ensures ∙ ap (file_of (main_in mid)) (sym c.in_ok-number.ensures.module)) (c.in-Err.ensures.device (ap Err is)))
-    c.of_request.ensures same))
-
-pub returns-in-Err-clause-refused : goal.returns-in-Err-clause-refused
-returns-in-Err-clause-refused g c =
-    let mid = c.number.new.self in
-    let before = g.F.Asks.state c.args.files.now in
-    let after = g.F.Asks.state c.known_at.new.files in
-    let x = module_numbered mid c.in_ok-number.number in
-    c.in-Err.ensures.refused
-    ∙ ap (λ (ns : List Name). before.refused ++ ns)
-    (refused_failed (main_in mid) before after x (Option ℕ) c.in-Err.fault (Some c.in_ok-name.name) c.of_request.result
-    (λ is. fails_named (main_in mid) before after x c.known_at.new.self.failed c.in_ok-name.name
-    (c.in_ok-name.ensures ∙ ap (file_of (main_in mid)) (sym c.in_ok-number.ensures.module)) (c.in-Err.ensures.device (ap Err is)))
-    c.of_request.ensures)

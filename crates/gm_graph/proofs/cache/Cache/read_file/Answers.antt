@@ -1,29 +1,14 @@
-use Rattle.std.proofs.Common.{◌≡◌, ◌∙◌, append-nil, inl, inr, refl, subst}
+use Rattle.std.proofs.Common.{◌≡◌, Ok, Err, refl, subst}
 use Rattle.gm_name_table.specs.Listed.{modules_of}
 use Rattle.gm_store.specs.Asked.{Reply, name_of, reply_of}
-use Rattle.gm_store.proofs.Serving.{request_served}
 use Rattle.gm_graph.specs.Cached.{main_in, sums_in, table_in}
 use Rattle.gm_graph.specs.Reading.{IsFileReading}
 use Rattle.gm_graph.specs.Summaries.{summary_reading}
+use Rattle.gm_graph.proofs.AskedFile.{asked_one, asks_passed, asks_still}
 use Rattle.gm_graph.proofs.HeldFiles.{grown_some}
-use Rattle.gm_graph.proofs.Keeping.{holds_grown, holds_itself, none_refused_for}
+use Rattle.gm_graph.proofs.Keeping.{holds_grown, holds_itself}
 use Rattle.gm_graph.proofs.PuttingPlaces.{notes_if_more}
 use Rattle.gm_graph.proofs.cache.Cache.read_file.Goals as goal
-
-pub returns-in_err-ask-clause-served : goal.returns-in_err-ask-clause-served
-returns-in_err-ask-clause-served g c = request_served _ _ (g.F.Asks.state c.args.files.now) (g.F.Asks.state c.ask.new.self) (name_of c.args.name.now) c.ask.result c.ask.ensures
-
-pub returns-in_err-kept-clause-served : goal.returns-in_err-kept-clause-served
-returns-in_err-kept-clause-served g c = request_served _ _ (g.F.Asks.state c.args.files.now) (g.F.Asks.state c.ask.new.self) (name_of c.args.name.now) c.ask.result c.ask.ensures
-
-pub returns-clause-served : goal.returns-clause-served
-returns-clause-served g c = request_served _ _ (g.F.Asks.state c.args.files.now) (g.F.Asks.state c.ask.new.self) (name_of c.args.name.now) c.ask.result c.ask.ensures
-
-pub returns-in_err-kept-clause-asks : goal.returns-in_err-kept-clause-asks
-returns-in_err-kept-clause-asks g c = let (reply, _, _, adds) = c.in_ok-ask.ensures.answered in inr (reply, c.requires.fresh, adds)
-
-pub returns-clause-asks : goal.returns-clause-asks
-returns-clause-asks g c = let (reply, _, _, adds) = c.in_ok-ask.ensures.answered in inr (reply, c.requires.fresh, adds)
 
 pub invariant_of-self-clause-holds_some : goal.invariant_of-self-clause-holds_some
 invariant_of-self-clause-holds_some g c =
@@ -56,16 +41,16 @@ returns-clause-reading g c =
           (c.in_ok-kept.ensures.reading c.last.ensures.within_limit),
     )
 
-pub returns-clause-refused : goal.returns-clause-refused
-returns-clause-refused g c = c.in_ok-ask.ensures.refused
-
 pub returns-in_err-ask-clause-asks : goal.returns-in_err-ask-clause-asks
-returns-in_err-ask-clause-asks g c = inl c.in_err-ask.ensures.unanswered
+returns-in_err-ask-clause-asks g c =
+    asks_passed (Unit {0}) _ c.in_err-ask.field-0.0 c.from_residual.result c.from_residual.ensures.1
+    (asked_one (g.F.Asks.state c.args.files.now) _ (name_of c.args.name.now) c.requires.fresh (Err _) c.in_err-ask.ensures)
 
-pub returns-in_err-kept-clause-device : goal.returns-in_err-kept-clause-device
-returns-in_err-kept-clause-device g c = λ e. absurd (cc (rw e at c.from_residual-in_err-kept.ensures.1))
+pub returns-in_err-kept-clause-asks : goal.returns-in_err-kept-clause-asks
+returns-in_err-kept-clause-asks g c =
+    asks_still _ c.from_residual-in_err-kept.result c.from_residual-in_err-kept.ensures.1
+    (asked_one (g.F.Asks.state c.args.files.now) _ (name_of c.args.name.now) c.requires.fresh (Ok _) c.in_ok-ask.ensures)
 
-pub returns-in_err-kept-clause-refused : goal.returns-in_err-kept-clause-refused
-returns-in_err-kept-clause-refused g c =
-    none_refused_for _ c.from_residual-in_err-kept.result (g.F.Asks.state c.args.files.now).refused _ _ c.from_residual-in_err-kept.ensures.1
-    (c.in_ok-ask.ensures.refused ∙ append-nil _)
+pub returns-clause-asks : goal.returns-clause-asks
+returns-clause-asks g c =
+    asked_one (g.F.Asks.state c.args.files.now) _ (name_of c.args.name.now) c.requires.fresh (Ok _) c.in_ok-ask.ensures
