@@ -5,9 +5,11 @@
 #   tools/walks.sh          prints the walks
 #   tools/walks.sh --check  prints only what is wrong
 #
-# The lists stand in this script. It checks in the sources that the body of each function names the next one. The status
-# is 1 if one doesn't, or if more than nine are on the stack when `load` is called, fourteen, from `load` on, when a
-# requirement is put into the list, or twelve at the first change of a line. .ci/run runs it before the merge gate. It needs python3.
+# The lists stand in this script. It checks in the sources that the body of each function names the next one, and that
+# the requirements of a vertex are lent, and a turn is appended, in `lend_at` alone, in which `lend` and `visit` end. The
+# status is 1 if not, or if more than nine are on the stack when `load` is called, fourteen, from `load` on, when a
+# requirement is put into the list, or twelve at the first change of a line. .ci/run runs it before the merge gate. It
+# needs python3.
 set -euo pipefail
 cd "$(dirname "$0")/.."
 # shellcheck source=tools/lib.sh
@@ -66,6 +68,14 @@ WALKS = [
     """),
 ]
 
+# what stands in some functions of gm_graph alone, each time once: what it does, the text, and the functions
+ALONE = [
+    ("makes a Lent", r"\bLent::at\(", ["cache.rt first_requirements", "cache.rt lend_at"]),
+    ("makes a Lent by its fields", r"\bLent \{", ["cache/lent.rt at"]),
+    ("appends a turn", r"(\.|TurnHistory::)and\(", ["cache.rt lend_at"]),
+    ("lends what a vertex requires", r"\blend_at\(", ["cache.rt visit", "cache/by_name.rt lend"]),
+]
+
 
 def functions(listed):
     """The functions of a list, each with its file."""
@@ -88,6 +98,18 @@ def body_of(path, function):
     return None, ""
 
 
+def places_of(pattern):
+    """The functions of gm_graph in whose bodies a text stands, each with its file, as often as it does."""
+    root = pathlib.Path("crates/gm_graph/src")
+    for path in sorted(root.rglob("*.rt")):
+        function = None
+        for line in path.read_text().split("\n"):
+            code = line.split("//")[0]
+            head = re.match(r"\s*(?:pub(?:\([a-z]+\))? )?fn (\w+)", code)
+            function = head[1] if head else function
+            yield from (f"{path.relative_to(root)} {function}" for _ in re.findall(pattern, code) if not head)
+
+
 def main():
     status = 0
     tell = print if len(sys.argv) == 1 else lambda line: None
@@ -105,6 +127,11 @@ def main():
                 status = 1
         if len(steps) - 1 > most:
             print(f"walks: more than {most} functions before the last")
+            status = 1
+    for what, pattern, wanted in ALONE:
+        found = sorted(places_of(pattern))
+        if found != wanted:
+            print(f"walks: {what}: {', '.join(found) or 'nothing'} of gm_graph, and not {', '.join(wanted)}")
             status = 1
     return status
 

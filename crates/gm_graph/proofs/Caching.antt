@@ -8,6 +8,7 @@ use Rattle.gm_graph.specs.declared.cache.Cache.{Cache}
 use Rattle.gm_graph.specs.declared.cache.depth.Depth.{Depth}
 use Rattle.gm_graph.specs.declared.cache.depth.Turn.{Turn}
 use Rattle.gm_graph.specs.declared.cache.visit.Visit.{Visit}
+use Rattle.gm_graph.specs.declared.cache.visit.Visit.TheVariants as visit
 use Rattle.gm_graph.specs.Cached.{HoldsSame, KeepsSound, Knows, LentSame, file_count, module_numbered, run_in, table_in, turns_in}
 use Rattle.gm_file.specs.Main.{main_of}
 use Rattle.gm_graph.specs.CacheVisits.{Continues, HasVisited, IsVisit}
@@ -35,6 +36,15 @@ module _ (old mid new : Cache) (lent : LentSame old mid) (numbered_by : BeginsWi
     sound_both keeps = subst (λ (r : Run). KeepsSound old (run_in old earlier) new r) (sym (same_run mid new pairs holds.main holds.sums))
         (λ x place at. holds.sound (run_in mid pairs) x place (keeps x place at))
 
+    -- What a visit gets of a cache is what it gets of one that holds the same.
+    pub visit_still : (x : ModuleVersion) (d : Depth) (got : Visit) → IsVisit mid (run_in mid pairs) x d got → IsVisit new (run_in new pairs) x d got
+    visit_still x d got is =
+        subst (λ (r : Run). IsVisit new r x d got) (sym (same_run mid new pairs holds.main holds.sums)) (by_visit got is)
+      where
+        by_visit : (v : Visit) → IsVisit mid (run_in mid pairs) x d v → IsVisit new (run_in mid pairs) x d v
+        by_visit (visit.Fault vertex class) got_is = got_is
+        by_visit (visit.Required required) got_is = (holds.sound (run_in mid pairs) x required.file got_is.0, got_is.1, got_is.2 ∙ sym modules)
+
     pub has_visited : (number : ℕ) (d : Depth) (got : Visit) → number < length (table_in old) → Knows mid pairs
         → KeepsSayings (run_in old earlier) (run_in mid pairs) → KeepsSound old (run_in old earlier) mid (run_in mid pairs)
         → file_count mid ≤ file_count old + 1 → file_count new ≡ file_count mid
@@ -53,10 +63,3 @@ module _ (old mid new : Cache) (lent : LentSame old mid) (numbered_by : BeginsWi
               ∙ ap (λ (v : ModuleVersion). turns_in old ++ turn v d ∷ []) same;
           visit_is = subst (λ (v : ModuleVersion). IsVisit new (run_in new pairs) v d got) same is;
         }
-
-    -- What follows of a cache that continues the old one, and knows the answers.
-    pub known_both : {P : Type 0} → (Knows new pairs → Continues old new → KeepsSayings (run_in old earlier) (run_in new pairs)
-        → KeepsSound old (run_in old earlier) new (run_in new pairs) → P)
-        → Knows mid pairs → KeepsSayings (run_in old earlier) (run_in mid pairs)
-        → KeepsSound old (run_in old earlier) mid (run_in mid pairs) → P
-    known_both follows knows stays keeps = follows (knows_still mid new pairs holds knows) continues_both (stays_both stays) (sound_both keeps)

@@ -1,11 +1,11 @@
 -- What is found of a vertex, and which requirements are returned for it.
-use Rattle.std.proofs.Common.{◌≡◌, ◌<◌, ◌∙◌, ℕ, List, Option, Some, None, Result, Ok, sym, ap, refl, subst}
-use Rattle.std.specs.Prelude.{IfSome, slice_get}
+use Rattle.std.proofs.Common.{◌≡◌, ◌<◌, ◌∙◌, ℕ, List, Option, Some, None, Result, Ok, Err, sym, ap, refl, subst}
+use Rattle.std.specs.Prelude.{IfSome}
 use Rattle.std.specs.List.{IsDistinct}
-use Rattle.std.specs.Option.{option_and_then, option_map}
+use Rattle.std.specs.Option.{option_map}
 use Rattle.std.proofs.Math.Logic.{∥∥₁_elim}
 use Rattle.std.proofs.Props.{props}
-use Rattle.gm_name.specs.ModuleVersion.{ModuleVersion, pair_eq}
+use Rattle.gm_name.specs.ModuleVersion.{ModuleVersion, module_at, pair_eq}
 use Rattle.gm_name_table.specs.Listed.{BeginsWith, modules_of}
 use Rattle.gm_file.specs.Fields.{Dependency}
 use Rattle.gm_file.specs.Listed.{with_requirements}
@@ -14,15 +14,19 @@ use Rattle.gm_graph.specs.declared.cache.class.Class.{Class}
 use Rattle.gm_graph.specs.declared.cache.depth.Depth.{Depth}
 use Rattle.gm_graph.specs.declared.cache.summary.Kept.{Kept}
 use Rattle.gm_graph.specs.declared.cache.summary.Kept.TheVariants.{Valid, Faulty}
-use Rattle.gm_graph.specs.declared.cache.summary.ListSpan.{ListSpan}
+use Rattle.gm_graph.specs.declared.cache.lent.Lent.{Lent}
+use Rattle.gm_graph.specs.declared.cache.visit.Required.{Required}
+use Rattle.gm_graph.specs.declared.cache.visit.Said.{Said}
+use Rattle.gm_graph.specs.declared.cache.visit.Said.TheVariants as said
 use Rattle.gm_graph.specs.declared.cache.visit.Visit.{Visit}
 use Rattle.gm_graph.specs.declared.cache.visit.Visit.TheVariants as visit
 use Rattle.gm_graph.specs.declared.cache.Cache.{Cache}
 use Rattle.gm_file.specs.Main.{Main, without_excluded}
 use Rattle.gm_graph.specs.Reading.{file_of}
 use Rattle.gm_graph.specs.Summaries.{IsKept, IsWithinList, at_span, span_found, summary_reading}
-use Rattle.gm_graph.specs.Cached.{AreRequirements, HasFileAt, IsLender, IsSound, KeepsSound, Knows, LendsKept, file_count, its_requirements, kept_file, main_in, no_requirements, run_in, table_in}
-use Rattle.gm_graph.specs.CacheVisits.{Continues, IsVisit, LendsOver}
+use Rattle.gm_graph.specs.Cached.{AreRequirements, HasFileAt, IsLender, IsSound, KeepsSound, Knows, LendsKept, file_count, its_requirements, kept_file, main_in, module_numbered, no_requirements, run_in, span_at, table_in}
+use Rattle.gm_graph.specs.CacheVisits.{Continues, IsSaid, IsVisit, IsVisitOf, LendsOver, file_said}
+use Rattle.gm_graph.specs.Lent.{lent_modules, lent_table}
 use Rattle.gm_graph.specs.Run.{FileSays, KeepsSayings, Run, Says}
 use Rattle.gm_graph.proofs.Holding.{held_says, held_sound}
 use Rattle.gm_graph.proofs.Spans.{span_within}
@@ -49,9 +53,6 @@ held_there : (cache : Cache) (pairs : List (Name × Reply)) (x : ModuleVersion) 
 held_there cache pairs x place file knows at says =
     ap (option_map (summary_reading (modules_of cache.modules))) at.kept ∙ held_sound cache pairs knows x file says
 
-abbrev span_at : Cache → Option ℕ → ListSpan
-span_at cache place = span_found (option_and_then (slice_get cache.files.files.items) place)
-
 -- The requirements returned from the place of a vertex's file, or from none if the vertex has a fault, are its
 -- requirements.
 pub lent_kept : (cache : Cache) (pairs : List (Name × Reply)) (x : ModuleVersion) (place : Option ℕ) → Knows cache pairs
@@ -65,11 +66,53 @@ lent_kept cache pairs x (Some place) knows lender =
     (its_requirements lender.says)
 
 -- Where these requirements are is within the list of modules.
-lent_within : (cache : Cache) (run : Run) (x : ModuleVersion) (place : Option ℕ) → LendsKept cache → IsLender cache run x place
+pub lent_within : (cache : Cache) (run : Run) (x : ModuleVersion) (place : Option ℕ) → LendsKept cache → IsLender cache run x place
     → IsWithinList (modules_of cache.modules) (span_at cache place)
 lent_within cache run x None lends lender = span_within (main_in cache) (modules_of cache.modules) None (λ one e. absurd (cc e))
 lent_within cache run x (Some place) lends lender =
     span_within (main_in cache) (modules_of cache.modules) (kept_file cache place) (λ one e. lends (file_of (main_in cache) x) one (sym lender.kept ∙ e))
+
+-- ---- what a visit gets
+
+module _ (cache : Cache) (pairs : List (Name × Reply)) (number : ℕ) (d : Depth) where
+  -- What is said of a vertex gives the place of its requirements.
+  pub lender_said : (says : Said) → IsSaid cache (run_in cache pairs) (module_numbered cache number) d says
+      → IsLender cache (run_in cache pairs) (module_numbered cache number) (file_said says)
+  lender_said (said.Fault class) is = (class, is)
+  lender_said (said.Sound file leads) is = is.0
+
+  pub place_said : (says : Said) → IsSaid cache (run_in cache pairs) (module_numbered cache number) d says
+      → IfSome (file_said says) (λ place. place < file_count cache)
+  place_said (said.Fault class) is = tt
+  place_said (said.Sound file leads) is = is.0.within
+
+  -- What a visit gets is what is said, and what is lent from that place.
+  pub visit_got : (says : Said) (list : Lent) (got : Visit) → Knows cache pairs
+      → IsSaid cache (run_in cache pairs) (module_numbered cache number) d says
+      → lent_modules list ≡ at_span (modules_of cache.modules) (span_at cache (file_said says)) → lent_table list ≡ table_in cache
+      → IsVisitOf says number list got → IsVisit cache (run_in cache pairs) (module_numbered cache number) d got
+  visit_got (said.Fault class) list (visit.Fault vertex fault) knows is modules table of = (
+    of.0 ∙ ap (λ (ms : List ModuleVersion). module_at ms number) table,
+    subst (λ (c : Class). Says (run_in cache pairs) (module_numbered cache number) (Err c)) (sym of.1) is,
+  )
+  visit_got (said.Fault class) list (visit.Required required) knows is modules table of = absurd of
+  visit_got (said.Sound file leads) list (visit.Fault vertex fault) knows is modules table of = absurd of
+  visit_got (said.Sound file leads) list (visit.Required required) knows is modules table of =
+      let x = module_numbered cache number in
+      let run = run_in cache pairs in
+      subst (λ (r : Required). IsVisit cache run x d (visit.Required r)) (sym of) (
+        is.0,
+        record {
+          file = is.0.file;
+          says = is.0.says;
+          leads = is.1;
+          modules = modules ∙ lent_one (main_in cache) (modules_of cache.modules) (kept_file cache file) is.0.file
+              (λ one e. knows.lends (file_of (main_in cache) x) one (sym is.0.kept ∙ e)) (held_there cache pairs x file is.0.file knows is.0 is.0.says);
+        },
+        table,
+      )
+
+-- ---- what all known answers say
 
 -- Some answers are known, so what holds by all that the cache knows holds by some.
 module _ (cache : Cache) (x : ModuleVersion) where

@@ -1,10 +1,10 @@
 -- What a visit gets from the cache, and what changes in the cache.
-use Rattle.std.specs.Prelude.{◌≡◌, ◌≤◌, ◌+◌, ◌++◌, ◌∷◌, [], ⊤, ℕ, List, Result, Ok, Err, MatchResult}
+use Rattle.std.specs.Prelude.{◌≡◌, ◌≤◌, ◌+◌, ◌++◌, ◌∷◌, [], ⊤, ℕ, List, Option, Some, None, Result, Ok, Err, MatchResult}
 use Rattle.std.specs.Borrow.{Fml, MutBor}
 use Rattle.std.specs.Io.BufRead.{Rests}
 use mir.Syntax.{named}
 use Rattle.std.specs.List.{IsDistinct}
-use Rattle.gm_name.specs.ModuleVersion.{ModuleVersion, pair_eq}
+use Rattle.gm_name.specs.ModuleVersion.{ModuleVersion, module_at, pair_eq}
 use Rattle.gm_name_table.specs.Listed.{BeginsWith}
 use Rattle.gm_file.specs.Fields.{Dependency}
 use Rattle.gm_file.specs.Main.{without_excluded}
@@ -14,7 +14,10 @@ use Rattle.gm_store.specs.declared.files.AskFault.{AskFault}
 use Rattle.gm_store.specs.declared.files.AskFault.TheVariants.{Device}
 use Rattle.gm_graph.specs.declared.cache.Cache.{Cache}
 use Rattle.gm_graph.specs.declared.cache.depth.Depth.{Depth}
+use Rattle.gm_graph.specs.declared.cache.lent.Lent.{Lent}
 use Rattle.gm_graph.specs.declared.cache.visit.Required.{Required}
+use Rattle.gm_graph.specs.declared.cache.visit.Said.{Said}
+use Rattle.gm_graph.specs.declared.cache.visit.Said.TheVariants as said
 use Rattle.gm_graph.specs.declared.cache.visit.Visit.{Visit}
 use Rattle.gm_graph.specs.declared.cache.visit.Visit.TheVariants as visit
 use Rattle.gm_graph.specs.Asking.{HasName}
@@ -49,6 +52,25 @@ pub record SaysRequired (run : Run) (x : ModuleVersion) (d : Depth) (required : 
   pub says : Says run x (Ok file)
   pub leads : required.leads ≡ leads_on file d
   pub modules : required_by required ≡ without_excluded run.main file.requirements
+
+-- What a cache says of a vertex: its fault, or the place of its file, and whether a visit to this depth leads on.
+abbrev pub IsSaid : Cache → Run → ModuleVersion → Depth → Said → Type 0
+IsSaid cache run x d (said.Fault class) = Says run x (Err class)
+IsSaid cache run x d (said.Sound file leads) = (sound : IsSound cache run x file) × (leads ≡ leads_on sound.file d)
+
+-- the place of the vertex's file, if the vertex has no fault
+abbrev pub file_said : Said → Option ℕ
+file_said (said.Fault class) = None
+file_said (said.Sound file leads) = Some file
+
+-- What a visit gets of the vertex with a number: the fault that the cache says, or the file and what was lent.
+abbrev pub IsVisitOf : Said → ℕ → Lent → Visit → Type 0
+IsVisitOf (said.Fault class) number list (visit.Fault vertex fault) =
+    (vertex.now ≡ module_at (lent_table list) number) × (fault ≡ class)
+IsVisitOf (said.Fault class) number list (visit.Required required) = ⊥
+IsVisitOf (said.Sound file leads) number list (visit.Fault vertex fault) = ⊥
+IsVisitOf (said.Sound file leads) number list (visit.Required required) =
+    required ≡ record { file = file; leads = leads; list = list }
 
 -- What a visit to this depth gets of a vertex: its fault, or the place of its file and what that requires.
 abbrev pub IsVisit : Cache → Run → ModuleVersion → Depth → Visit → Type 0

@@ -1,6 +1,6 @@
 -- What a cache holds, what it finds of a vertex, and which requirements it returns.
 use Rattle.std.specs.Prelude.{◌≡◌, ◌<◌, ℕ, true, false, List, [], ◌∷◌, ◌++◌, Option, Some, None, MatchResult, Result, Ok, Err, length, slice_get}
-use Rattle.std.specs.Option.{option_copied}
+use Rattle.std.specs.Option.{option_and_then, option_copied}
 use Rattle.std.specs.Borrow.{Fml, MutBor}
 use Rattle.std.specs.Io.BufRead.{Rests}
 use Rattle.gm_name.specs.ModuleVersion.{ModuleVersion, module_at}
@@ -13,12 +13,14 @@ use Rattle.gm_graph.specs.declared.cache.by_name.Known.TheVariants as known
 use Rattle.gm_graph.specs.declared.cache.class.Class.{Class}
 use Rattle.gm_graph.specs.declared.cache.depth.Turn.{Turn}
 use Rattle.gm_graph.specs.declared.cache.summary.Kept.{Kept}
+use Rattle.gm_graph.specs.declared.cache.summary.ListSpan.{ListSpan}
 use Rattle.gm_graph.specs.declared.cache.Cache.{Cache}
 use Rattle.gm_file.specs.Main.{Main, main_of, without_excluded}
 use Rattle.gm_graph.specs.FileTable.{kept_at}
 use Rattle.gm_graph.specs.Held.{AreKept, HoldsAnswers, held_under}
 use Rattle.gm_graph.specs.Reading.{file_of, is_askable}
 use Rattle.gm_graph.specs.Run.{Run, Says, run_of}
+use Rattle.gm_graph.specs.Summaries.{span_found}
 use mir.Syntax.{named}
 use Rattle.gm_graph.specs.contracts.cache.Cache.{the_row}
 
@@ -56,6 +58,11 @@ kept_file cache place = slice_get cache.files.files.items place
 -- what is held of the file of a name: its contents or its fault
 abbrev pub held_of : Cache → Name → Option (Result Dependency Class)
 held_of cache name = held_under (main_in cache) cache.modules cache.files name
+
+-- where the requirements of the file at a place are in the list of modules, without the excluded ones: nowhere if there
+-- is no place, or the file has a fault
+abbrev pub span_at : Cache → Option ℕ → ListSpan
+span_at cache place = span_found (option_and_then (slice_get cache.files.files.items) place)
 
 -- The run of a cache whose store gave these answers.
 abbrev pub run_in : Cache → List (Name × Reply) → Run
@@ -164,6 +171,11 @@ pub record HasMoreTurns (old new : Cache) (more : List Turn) : Type 0 where
   pub holds : HoldsSame old new
   pub modules : new.modules ≡ old.modules
   pub files : new.files ≡ old.files
+
+-- Once the borrow of the requirements ends, the cache has these turns more.
+abbrev pub LendsTurns : MutBor Cache → List Turn → Fml
+LendsTurns cache more =
+    Rests (the_row (record { mir = named 1; lft = [] })) cache (λ end. HasMoreTurns cache.now end more)
 
 -- Once the borrow of the requirements ends, the cache has one more turn. If the call was refused, it has the same.
 abbrev pub LendsNamed : {T E : Type 0} → MutBor Cache → Turn → Result T E → Fml

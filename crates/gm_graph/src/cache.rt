@@ -25,7 +25,7 @@ pub(crate) mod summary;
 pub(crate) mod turn_history;
 pub(crate) mod visit;
 
-ghost use Rattle.std.specs.Prelude.{◌≡◌, ◌≤◌, ◌<◌, ◌+◌, ◌++◌, [], List, IfOk, OnOk, OnErr, IsSome, None, Some, Err, length, take, true};
+ghost use Rattle.std.specs.Prelude.{◌≡◌, ◌≤◌, ◌<◌, ◌+◌, ◌++◌, [], List, IfOk, IfSome, OnOk, OnErr, IsSome, None, Some, Err, length, take, true};
 ghost use Rattle.std.specs.Option.{option_and_then, option_copied};
 ghost use Rattle.gm_name.specs.ModuleVersion.{ModuleVersion};
 ghost use Rattle.gm_name.specs.OptionalPlaces.{place_in};
@@ -37,7 +37,7 @@ ghost use Rattle.gm_store.specs.declared.files.FileName.{FileName};
 ghost use Rattle.gm_file.specs.Listed.{with_requirements};
 ghost use Rattle.gm_file.specs.Main.{main_of, without_excluded};
 ghost use Rattle.gm_graph.specs.Asking.{AsksOne, HasName, IsFileOf};
-ghost use Rattle.gm_graph.specs.Reading.{IsFileReading, file_of, is_askable as may_be_asked, leads_on};
+ghost use Rattle.gm_graph.specs.Reading.{IsFileReading, file_of, is_askable as may_be_asked};
 ghost use Rattle.gm_graph.specs.Refusals.{IsLoadFaultOf};
 ghost use Rattle.gm_graph.specs.FileTable.{PutsFile, HasReplacing, NotesFiles, replacing_place};
 ghost use Rattle.gm_graph.specs.Held.{HoldsSome};
@@ -52,9 +52,9 @@ use crate::cache::load_fault::LoadFault;
 use crate::cache::naming::{file_name, is_askable};
 use crate::cache::paths::is_right_path;
 use crate::cache::reading::{ListedReading, read_answer};
-use crate::cache::summary::{Kept, ListSpan, Summary, summary_of};
+use crate::cache::summary::{Kept, ListSpan, summary_of};
 use crate::cache::turn_history::TurnHistory;
-use crate::cache::visit::{Required, Visit};
+use crate::cache::visit::{Said, Visit};
 use gm_file::MainFile;
 use gm_name::{KnownNames, ModVer, NoMemory};
 use gm_name_table::ModuleList;
@@ -157,10 +157,10 @@ impl<'a> Cache<'a> {
     ghost use Rattle.std.specs.List.{IsDistinct};
     ghost use Rattle.gm_name.specs.ModuleVersion.{pair_eq};
     ghost use Rattle.gm_name_table.specs.Listed.{BeginsWith};
-    ghost use Rattle.gm_graph.specs.Cached.{HasFileAt, HasMadeKnown, HoldsSame, IsPlaceFor, KeepsSound, Knows, LendsKept, LentSame, file_count, main_in, module_numbered, run_in, summary_at, sums_in, table_in, turns_in};
+    ghost use Rattle.gm_graph.specs.Cached.{HasFileAt, HasMadeKnown, HoldsSame, IsPlaceFor, KeepsSound, Knows, LendsKept, LentSame, LendsTurns, file_count, main_in, module_numbered, run_in, span_at, summary_at, sums_in, table_in, turns_in};
     ghost use Rattle.gm_graph.specs.Lent.{lent_table};
     ghost use Rattle.gm_graph.specs.declared.cache.Cache.{Cache};
-    ghost use Rattle.gm_graph.specs.CacheVisits.{Continues, IsVisit, LendsOver, Visits};
+    ghost use Rattle.gm_graph.specs.CacheVisits.{IsSaid, LendsOver, Visits};
     ghost use Rattle.gm_graph.specs.Run.{KeepsSayings};
 
     /// A cache for a main file, without files. If there is a go.sum, the files that come from proxies are checked
@@ -314,50 +314,47 @@ impl<'a> Cache<'a> {
         }
     }
 
-    /// What a visit to this depth gets of a vertex without a fault, whose valid file is kept at this place.
-    fn required(&self, place: u32, summary: &Summary, depth: Depth) -> Required<'_>
-        requires within { IsWithinList (modules_of self.now.modules) summary.now.kept }
-        ensures file { result.file ≡ place }
-        ensures leads { (requirements : List ModuleVersion)
-            → result.leads ≡ leads_on (with_requirements summary.now.file requirements) depth }
-        ensures modules { lent_modules result.list ≡ at_span (modules_of self.now.modules) summary.now.kept }
-        ensures table { lent_table result.list ≡ table_in self.now }
-    {
-        Required {
-            file: place,
-            leads: summary.leads_on(depth),
-            list: Lent::at(&self.modules, summary.kept),
-        }
-    }
-
-    /// What a visit to this depth gets of the vertex with a number, whose file is kept at this place. There is no place
+    /// What the cache says of the vertex with a number, whose file is kept at this place, at this depth. There is no place
     /// if the file comes from a proxy and its path isn't fetchable.
-    fn said(&self, number: u32, depth: Depth, place: Option<u32>) -> Visit<'_>
+    fn said(&self, number: u32, depth: Depth, place: Option<u32>) -> Said
         requires vertex { number < length (table_in self.now) }
         requires place { IsPlaceFor self.now (module_numbered self.now number) place }
-        requires lends { LendsKept self.now }
-        ensures visit { (pairs : List (Name × Reply)) → Knows self.now pairs
-            → IsVisit self.now (run_in self.now pairs) (module_numbered self.now number) depth result }
-        ensures lends { (old : Cache) (earlier pairs : List (Name × Reply)) → Knows self.now pairs
-            → Continues old self.now → KeepsSayings (run_in old earlier) (run_in self.now pairs)
-            → KeepsSound old (run_in old earlier) self.now (run_in self.now pairs)
-            → LendsOver old (run_in old earlier) result }
-        ensures distinct { IsDistinct pair_eq (table_in self.now) }
+        ensures { (pairs : List (Name × Reply)) → Knows self.now pairs
+            → IsSaid self.now (run_in self.now pairs) (module_numbered self.now number) depth result }
     {
-        let vertex = self.modules.module(number);
-        let Some(place) = place else {
-            return Visit::Fault(vertex, Class::NotFetchable);
+        let Some(file) = place else {
+            return Said::Fault(Class::NotFetchable);
         };
-        match self.files.at(place) {
-            Kept::Faulty(class) => Visit::Fault(vertex, *class),
+        match self.files.at(file) {
+            Kept::Faulty(class) => Said::Fault(*class),
             Kept::Valid(summary) => {
-                if is_right_path(self.main, vertex, &summary.file) {
-                    Visit::Required(self.required(place, summary, depth))
+                if is_right_path(self.main, self.modules.module(number), &summary.file) {
+                    Said::Sound {
+                        file,
+                        leads: summary.leads_on(depth),
+                    }
                 } else {
-                    Visit::Fault(vertex, Class::WrongPath)
+                    Said::Fault(Class::WrongPath)
                 }
             }
         }
+    }
+
+    /// Lends what the file at a place requires, without the excluded ones, and appends a turn. For a vertex with a fault
+    /// there is no place, and nothing is required.
+    ///
+    /// All that is lent of a vertex is lent here, and a turn is appended here alone. The call takes the number of a place,
+    /// since a vertex itself may have none.
+    pub(crate) fn lend_at(&mut self, place: Option<u32>, turn: TurnHistory) -> Lent<'_>
+        requires place { IfSome place (λ place. place < file_count self.old) }
+        requires within { IsWithinList (modules_of self.old.modules) (span_at self.old place) }
+        ensures modules { lent_modules result ≡ at_span (modules_of self.old.modules) (span_at self.old place) }
+        ensures table { lent_table result ≡ table_in self.old }
+        ensures* after { sem 𝓛 (LendsTurns self.entry turn.items) }
+    {
+        let span = self.files.span_of(place);
+        self.turns = self.turns.and(&turn);
+        Lent::at(&self.modules, span)
     }
 
     /// Visits the vertex with a number: makes its file known, appends the vertex and the depth to the list of turns, and
@@ -383,8 +380,11 @@ impl<'a> Cache<'a> {
         ensures* after { sem 𝓛 (Visits self.entry (F.state files.old) (F.state files.new) number depth result) }
     {
         let place = self.known_at(files, number)?;
-        self.turns = self.turns.and(self.modules.module(number), &depth);
-        Ok(self.said(number, depth, place))
+        // This is read first, since a reference that one branch alone borrows is not covered by the borrow checker.
+        let said = self.said(number, depth, place);
+        let turn = TurnHistory::of(self.modules.module(number), &depth);
+        let list = self.lend_at(said.file(), turn);
+        Ok(Visit::of(said, number, list))
     }
 
     /// Why loading stops after this fault of a request. The name of the file is given once.

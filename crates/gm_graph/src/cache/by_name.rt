@@ -19,7 +19,8 @@ use crate::cache::depth::Depth;
 use crate::cache::lent::Lent;
 use crate::cache::load_fault::LoadFault;
 use crate::cache::naming::file_name;
-use crate::cache::visit::Visit;
+use crate::cache::turn_history::TurnHistory;
+use crate::cache::visit::Said;
 use gm_name::{ModVer, NoMemory};
 use gm_store::{Asks, FileName};
 
@@ -89,14 +90,13 @@ impl<'a> Cache<'a> {
     fn known_by(&self, number: u32, place: Option<u32>, name: FileName) -> Known
         requires vertex { number < length (table_in self.now) }
         requires place { IsPlaceFor self.now (module_numbered self.now number) place }
-        requires lends { LendsKept self.now }
         requires name { name_of name ≡ file_of (main_in self.now) (module_numbered self.now number) }
         ensures { (pairs : List (Name × Reply)) → Knows self.now pairs
             → IsKnownAs (run_in self.now pairs) (module_numbered self.now number) result }
     {
         match self.said(number, Depth::Deep, place) {
-            Visit::Fault(_, class) => Known::Fault(class),
-            Visit::Required(_) => Known::Sound(name),
+            Said::Fault(class) => Known::Fault(class),
+            Said::Sound { .. } => Known::Sound(name),
         }
     }
 
@@ -134,8 +134,7 @@ impl<'a> Cache<'a> {
         ensures* after { sem 𝓛 (LendsNamed self.entry (turn vertex.now depth) result) }
     {
         let place = self.lender(vertex, name);
-        let span = self.files.span_of(place);
-        self.turns = self.turns.and(vertex, &depth);
-        Ok(Lent::at(&self.modules, span))
+        let turn = TurnHistory::of(vertex, &depth);
+        Ok(self.lend_at(place, turn))
     }
 }

@@ -4,6 +4,7 @@ ghost use Rattle.gm_name_table.specs.Listed.{modules_of};
 ghost use Rattle.gm_graph.specs.Summaries.{IsWithinList};
 
 use crate::cache::summary::ListSpan;
+use gm_name::ModVer;
 use gm_name_table::{ModuleList, Modules};
 
 /// Requirements that a cache returned: a part of its list of modules.
@@ -17,9 +18,9 @@ pub struct Lent<'a> {
 }
 
 impl<'a> Lent<'a> {
-    ghost use Rattle.std.specs.Prelude.{◌≡◌, length};
+    ghost use Rattle.std.specs.Prelude.{◌≡◌, ◌<◌, length};
     ghost use Rattle.std.specs.List.{IsDistinct};
-    ghost use Rattle.gm_name.specs.ModuleVersion.{pair_eq};
+    ghost use Rattle.gm_name.specs.ModuleVersion.{module_at, pair_eq};
     ghost use Rattle.gm_name_table.specs.Listed.{AreModuleNumbers, modules_at};
     ghost use Rattle.gm_graph.specs.Lent.{lent_modules, lent_table};
     ghost use Rattle.gm_graph.specs.Summaries.{at_span};
@@ -39,6 +40,14 @@ impl<'a> Lent<'a> {
         ensures distinct { IsDistinct pair_eq (lent_table self.entry) }
     {
         self.modules.module_count()
+    }
+
+    /// The module with a number.
+    pub(crate) fn module(self, number: u32) -> &'a ModVer
+        requires { number < length (lent_table self) }
+        ensures { result.now ≡ module_at (lent_table self.entry) number }
+    {
+        self.modules.module(number)
     }
 
     /// The numbers of the requirements, in order.

@@ -30,9 +30,16 @@ impl TurnHistory {
         TurnHistory {}
     }
 
-    /// These turns and one more.
-    pub(crate) fn and(&self, vertex: &ModVer, depth: &Depth) -> TurnHistory
-        ensures { result.items ≡ self.now.items ++ turn vertex.now depth.now ∷ [] }
+    /// One turn.
+    pub(crate) fn of(vertex: &ModVer, depth: &Depth) -> TurnHistory
+        ensures { result.items ≡ turn vertex.now depth.now ∷ [] }
+    {
+        TurnHistory {}
+    }
+
+    /// These turns, and others after them.
+    pub(crate) fn and(&self, more: &TurnHistory) -> TurnHistory
+        ensures { result.items ≡ self.now.items ++ more.now.items }
     {
         TurnHistory {}
     }

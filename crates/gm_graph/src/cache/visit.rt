@@ -1,8 +1,39 @@
 //! What a visit of a vertex gets from the cache.
 
+ghost use Rattle.std.specs.Prelude.{◌≡◌, ◌<◌, length};
+ghost use Rattle.gm_graph.specs.Lent.{lent_table};
+
 use crate::cache::class::Class;
 use crate::cache::lent::Lent;
 use gm_name::ModVer;
+
+/// What a cache says of a vertex.
+#[derive(Clone, Copy)]
+pub(crate) enum Said {
+    /// The vertex has this fault.
+    Fault(Class),
+    /// The vertex has no fault.
+    Sound {
+        /// The place of its file in the cache.
+        file: u32,
+        /// Whether the visit also opens what the vertex requires.
+        leads: bool,
+    },
+}
+
+impl Said {
+    ghost use Rattle.gm_graph.specs.CacheVisits.{file_said};
+
+    /// The place of the vertex's file, if the vertex has no fault.
+    pub(crate) fn file(self) -> Option<u32>
+        ensures { result ≡ file_said self }
+    {
+        match self {
+            Said::Fault(_) => None,
+            Said::Sound { file, .. } => Some(file),
+        }
+    }
+}
 
 /// What a vertex without a fault requires.
 #[derive(Clone, Copy)]
@@ -22,4 +53,19 @@ pub(crate) enum Visit<'a> {
     Fault(&'a ModVer, Class),
     /// The vertex has no fault, and requires this.
     Required(Required<'a>),
+}
+
+impl<'a> Visit<'a> {
+    ghost use Rattle.gm_graph.specs.CacheVisits.{IsVisitOf};
+
+    /// What a visit gets of the vertex with a number, from what the cache says of it, and what it lent.
+    pub(crate) fn of(said: Said, number: u32, list: Lent<'a>) -> Visit<'a>
+        requires { number < length (lent_table list) }
+        ensures { IsVisitOf said number list.entry result }
+    {
+        match said {
+            Said::Fault(class) => Visit::Fault(list.module(number), class),
+            Said::Sound { file, leads } => Visit::Required(Required { file, leads, list }),
+        }
+    }
 }

@@ -1,6 +1,6 @@
 use Rattle.gm_graph.proofs.cache.Cache.known_by.Goals as goal
 
-pub returns-in-Required : goal.returns-in-Required
-returns-in-Required c = λ pairs knows.
-    let says = (c.in-Required.ensures.visit pairs knows).1 in
-    record { name_is = c.requires.name; file = says.file; says = says.says }
+pub returns-in-Sound : goal.returns-in-Sound
+returns-in-Sound c = λ pairs knows.
+    let at = (rw c.in-Sound.is at c.said.ensures pairs knows).0 in
+    record { name_is = c.requires.name; file = at.file; says = at.says }

@@ -1,36 +1,67 @@
-use Rattle.std.proofs.Common.{◌≡◌, ◌++◌, ◌∷◌, [], append-nil, refl, subst, sym}
-use Rattle.gm_name.specs.ModuleVersion.{ModuleVersion}
-use Rattle.gm_graph.specs.Cached.{main_in, module_numbered}
+use Rattle.std.proofs.Common.{◌<◌, ◌∙◌, ◌++◌, ◌∷◌, [], ℕ, List, Option, ap, append-nil, length, refl, subst, sym}
+use Rattle.std.specs.Prelude.{IfSome}
+use Rattle.std.specs.List.{IsDistinct}
+use Rattle.gm_name.specs.ModuleVersion.{ModuleVersion, pair_eq}
+use Rattle.gm_name_table.specs.Listed.{NumberedList, modules_of}
+use Rattle.gm_graph.specs.declared.cache.depth.Turn.{Turn}
+use Rattle.gm_graph.specs.declared.cache.file_table.FileTable.{FileTable}
+use Rattle.gm_graph.specs.Cached.{file_count, main_in, module_numbered, run_in, span_at}
+use Rattle.gm_graph.specs.CacheVisits.{file_said}
+use Rattle.gm_graph.specs.Summaries.{IsWithinList, at_span}
 use Rattle.gm_graph.specs.Turns.{turn}
 use Rattle.gm_graph.proofs.AskedFile.{asks_for}
-use Rattle.gm_graph.proofs.Caching.{has_visited, known_both}
+use Rattle.gm_graph.proofs.Caching.{continues_both, has_visited, visit_still}
 use Rattle.gm_graph.proofs.Keeping.{holds_listed, says_still}
+use Rattle.gm_graph.proofs.Lending.{lender_said, lends_over, lent_within, place_said, visit_got}
 use Rattle.gm_graph.proofs.cache.Cache.visit.Goals as goal
+
+pub lend_at-list-requires-clause-place : goal.lend_at-list-requires-clause-place
+lend_at-list-requires-clause-place g c =
+    let mid = c.known_at.new.self in
+    let pairs = (g.F.Asks.state c.known_at.new.files).asked in
+    subst (λ (p : Option ℕ). IfSome p (λ place. place < file_count mid)) (sym c.file.ensures)
+    (place_said mid pairs c.args.number c.args.depth c.said-said.result (c.said-said.ensures pairs c.in_ok-place.ensures.known.knows))
+
+pub lend_at-list-requires-clause-within : goal.lend_at-list-requires-clause-within
+lend_at-list-requires-clause-within g c =
+    let mid = c.known_at.new.self in
+    let pairs = (g.F.Asks.state c.known_at.new.files).asked in
+    let knows = c.in_ok-place.ensures.known.knows in
+    subst (λ (p : Option ℕ). IsWithinList (modules_of mid.modules) (span_at mid p)) (sym c.file.ensures)
+    (lent_within mid (run_in mid pairs) (module_numbered mid c.args.number) (file_said c.said-said.result) knows.lends
+    (lender_said mid pairs c.args.number c.args.depth c.said-said.result (c.said-said.ensures pairs knows)))
 
 pub returns : goal.returns
 returns g c =
     let old = c.args.self.now in
     let mid = c.known_at.new.self in
+    let end = c.lend_at-list.follows.lender-at-none in
+    let has = c.lend_at-list.follows.holds-at-none in
+    let number = c.args.number in
+    let d = c.args.depth in
     let known = c.known_at.ensures in
     let made = c.in_ok-place.ensures.known in
     let before = g.F.Asks.state c.args.files.now in
     let after = g.F.Asks.state c.known_at.new.files in
-    let stays = says_still old mid before after (module_numbered old c.args.number) known.lent (asks_for (main_in old) (module_numbered old c.args.number) c.in_ok-place.ensures.asks) in (
+    let stays = says_still old mid before after (module_numbered old number) known.lent (asks_for {failed = []} (main_in old) (module_numbered old number) c.in_ok-place.ensures.asks) in
+    let got = visit_got mid after.asked number d c.said-said.result c.lend_at-list.result c.of.result made.knows (c.said-said.ensures after.asked made.knows)
+    (c.lend_at-list.ensures.modules ∙ ap (λ (p : Option ℕ). at_span (modules_of mid.modules) (span_at mid p)) c.file.ensures)
+    c.lend_at-list.ensures.table c.of.ensures in
+    let table = ap (λ (list : NumberedList). list.modules) has.modules in (
       (
         refl,
         λ _. tt,
-        has_visited old mid _ known.lent made.numbered
-            (holds_listed mid _ refl refl (λ _. refl) ([], sym (append-nil mid.files.files.items)) refl) refl
-            before.asked after.asked c.args.number c.args.depth c.said.result c.requires.vertex
-            made.knows stays made.sound known.count refl
-            (subst (λ (x : ModuleVersion). c.and-self.result.items ≡ mid.turns.items ++ turn x c.args.depth ∷ []) c.module.ensures.module c.and-self.ensures)
-            c.said.ensures.distinct
-            (c.said.ensures.visit after.asked made.knows),
+        has_visited old mid end known.lent made.numbered has.holds table before.asked after.asked number d c.of.result c.requires.vertex
+            made.knows stays made.sound known.count (ap (λ (files : FileTable). length files.files.items) has.files)
+            (has.turns ∙ ap (λ (ts : List Turn). mid.turns.items ++ ts) (c.of-turn.ensures ∙ ap (λ (x : ModuleVersion). turn x d ∷ []) c.module.ensures.module))
+            (subst (λ (ms : List ModuleVersion). IsDistinct pair_eq ms) (sym table) c.module.ensures.distinct)
+            (visit_still old mid end known.lent made.numbered has.holds table before.asked after.asked (module_numbered mid number) d c.of.result got),
       ),
       record {
-        lends = known_both old mid _ known.lent made.numbered
-            (holds_listed mid _ refl refl (λ _. refl) ([], sym (append-nil mid.files.files.items)) refl) refl before.asked after.asked
-            (c.said.ensures.lends old before.asked after.asked) made.knows stays made.sound;
+        lends = lends_over old mid before.asked after.asked (module_numbered mid number) d c.of.result made.knows
+            (continues_both old mid mid known.lent made.numbered
+            (holds_listed mid mid refl refl (λ _. refl) ([], sym (append-nil mid.files.files.items)) refl) refl)
+            stays made.sound c.module.ensures.distinct got;
         asks = c.in_ok-place.ensures.asks;
         after = tt;
       },
