@@ -38,8 +38,9 @@ import sys
 import tempfile
 
 PARTS = ("src", "specs", "proofs")
-# what antt says of an answer that names what is no longer there
+# what antt says of an answer that names what is no longer there, and what follows its goal here
 GONE = re.compile(r"is not in scope|has no field|has no `|was not admitted")
+IS_GONE = " (its answer names what is gone)"
 
 
 def crates_below(name, lines):
@@ -99,8 +100,8 @@ def check(room, texts, only=None):
         # where an answer fails, too, the goals that the search left open are told by file alone
         told_by_file = re.match(r"note: src/(\S+)\.rt:\d+:\d+: it is not proved .*\(`([^`]*)`\)", line)
         if answered:
-            goal = f"{answered[2]} (its answer names what is gone)" if GONE.search(answered[3]) else answered[2]
-            goals.append((answered[1].replace("/", "::"), goal))
+            is_gone = IS_GONE if GONE.search(answered[3]) else ""
+            goals.append((answered[1].replace("/", "::"), answered[2] + is_gone))
         elif searched:
             goals += [(searched[1], goal) for goal in re.findall(r"`([^`]*)`", searched[2])]
         elif told_by_file:
@@ -112,9 +113,10 @@ def check(room, texts, only=None):
 
 
 def is_at(clause, goals):
-    """Whether one of the goals is that of the named function and clause."""
+    """Whether one of the goals is that of the named function and clause, and its answer names nothing that is gone."""
     function, name = clause[0], clause[1]
-    at_function = [goal for at, goal in goals if at == function or at.endswith(f"::{function}")]
+    at_function = [goal for at, goal in goals
+                   if (at == function or at.endswith(f"::{function}")) and not goal.endswith(IS_GONE)]
     if name == "returns":
         return any(goal.startswith("returns") and "-clause-" not in goal for goal in at_function)
     return any(goal == name or goal.endswith(f"-clause-{name}") for goal in at_function)

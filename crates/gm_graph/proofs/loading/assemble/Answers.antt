@@ -1,4 +1,4 @@
-use Rattle.std.proofs.Common.{List, sym, subst}
+use Rattle.std.proofs.Common.{List, sym, subst, ◌∙◌}
 use Rattle.gm_file.specs.Main.{main_of}
 use Rattle.gm_graph_select.specs.declared.step.Edge.{Edge}
 use Rattle.gm_graph_select.specs.Adjacency.{left_by}
@@ -31,6 +31,9 @@ new-requires-2 c =
     are_reached (main_of c.args.main.now).path (main_of c.args.main.now).replaces graph.edges (entries_of_rows c.in_ok-rows.rows.items)
     (sorted_rooted (edges_in modules builder) graph.edges told.edges c.requires.rooted)
     (c.in_ok-rows.ensures (ends_are graph.vertices (sources_in modules builder) (edges_in modules builder) graph.edges told.edges told.vertices c.requires.sources)) told.ascending
+
+pub returns-clause-faults : goal.returns-clause-faults
+returns-clause-faults c = c.new-2.ensures.faults ∙ c.in_ok-faults.ensures.faults
 
 pub returns-clause-ascending : goal.returns-clause-ascending
 returns-clause-ascending c = subst (λ (es : List Edge). IsAscending edge_cmp es) (sym c.new-2.ensures.edges) c.in_ok-graph.ensures.ascending
