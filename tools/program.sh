@@ -25,6 +25,10 @@
 # Of each command the first run that prints is tried once more with /dev/full as its output, and the first that reports
 # with it as its report: the status must be 3, and the other stream empty.
 #
+# What a usage error says to type is given to bash. In a case with a go.mod it is run in a copy of the folder, whose `~`
+# is the home folder, and must exit with 0; otherwise, and if it is a command of go, bash reads its words alone. Each word
+# of the command must be among the words to type or those that are left out, or have its place in ACCOUNTED below.
+#
 # If REFUSE_MEMORY names the library that tools/refuse-memory.sh makes, each command runs again with each of its
 # allocations refused in turn: it then has to say that memory ran out, or to have the result of the case.
 #
@@ -55,6 +59,13 @@ PROVED, UNPROVED = re.compile(rb"(\(Rattle, )logic [0-9a-f]{16}\)"), rb"\1nothin
 REFUSE_MEMORY = os.environ.pop("REFUSE_MEMORY", None)
 # the name that each command is called by, as from a folder whose name is not UTF-8
 NAME = b"b\xff/gomod"
+# what a usage error says to type, and what it says is left out of that
+TIP = re.compile(rb"\n\n  tip: ((?:gomod|go|\(cd) .*?)(?=\n       |\n\nUsage: )(?:.*\n       left out: (.*)\n\nUsage: )?", re.S)
+# words that what is to be typed has no word of its own for: commands, and options that it does without
+ACCOUNTED = re.compile(
+    rb"(?i:mod|ls|list|all|why|get|fmt|edit|version|graph|help|chain|versions)|-(m|versions|v|print|fmt|proxy|C)|--proxy=?|--?modfile"
+    rb"|-?-json|json|--format|-o|-(d|l|w|i)|--(check|diff|write|in-place|retracted(=.*)?|)"
+)
 NO_MEMORY = b"", b"gomod: no memory\n", 3
 PASSED = b"all allocations passed\n"
 # how many seconds a command has
@@ -114,6 +125,19 @@ def at_size(lines, size):
     return text.split(b"\n")
 
 
+def shell_words(line, folder):
+    """The words of a command line, as bash reads them, up to what is done with its output."""
+    line = re.sub(rb"^\(|\)$| && |( > | \| ).*", b" ", line)
+    read = subprocess.run([b"bash", b"-c", b"printf '%s\\0' " + line], cwd=folder, stdin=subprocess.DEVNULL, capture_output=True)
+    return read.stdout.split(b"\0")[:-1] if read.returncode == 0 else []
+
+
+def parts_of(word):
+    """What may stand in the place of a word: without its dashes, its value, what stands before a version."""
+    bare = word.lstrip(b"-")
+    return [it for it in (bare + b"=", bare if bare != word else b"", bare.partition(b"=")[2], word.partition(b"@")[0]) if it]
+
+
 def stack_with(words, environment):
     """The stack for a command. Its arguments lie there too, and Linux gives them no more than a fourth of it."""
     texts = [*words, *map(os.fsencode, environment), *map(os.fsencode, environment.values())]
@@ -159,6 +183,21 @@ class Run:
             return None
         Run.cut_runs.add(tried)
         return stream
+
+    def tip(self):
+        """What the report says to type, and the words that it says are left out."""
+        found = TIP.search(self.report)
+        return (found[1], found[2] or b"") if found else None
+
+    def lost(self, tip, left, folder):
+        """The words of the command that are neither to be typed nor left out."""
+        read = shell_words(tip, folder) + shell_words(left, folder)
+        if not shell_words(tip, folder):
+            return [b"(unreadable)"]
+        text = b"\0".join(read)
+        read += [piece for it in read for piece in it.split(b",")]
+        lost = [it for it in self.words[1:] if it not in read and not ACCOUNTED.fullmatch(it)]
+        return [it for it in lost if not any(part in read or (len(part) > 1 and part in text) for part in parts_of(it))]
 
     def reads_input(self):
         return self.words[1:2] == [b"versions"] and not any(it.startswith(b"--proxy") for it in self.words)
@@ -334,6 +373,34 @@ def told(what, out, report, status):
     print(f"? {status}")
 
 
+def pasted(program, tip, folder, root):
+    """The status and the report of a command line that is typed in bash, in a copy of the folder of its case."""
+    copy, home = os.path.join(root, b"pasted"), os.path.join(root, b"home")
+    shutil.copytree(folder, copy, symlinks=True)
+    try:
+        places = os.fsencode(os.path.dirname(program)) + b":" + os.environb.get(b"PATH", b"")
+        own = os.path.join(copy, b"~")
+        environment = {**os.environb, b"PATH": places, b"HOME": own if os.path.isdir(own) else home}
+        got = subprocess.run([b"bash", b"-c", tip], cwd=copy, env=environment, stdin=subprocess.DEVNULL, capture_output=True)
+        return got.returncode, got.stderr
+    finally:
+        shutil.rmtree(copy)
+
+
+def tip_fault(program, run, case, folder, root):
+    """What is wrong with what a run says to type, if anything is."""
+    tip = run.tip()
+    if tip is None or case.is_sized:
+        return None
+    lost = run.lost(*tip, root)
+    if lost:
+        return f"lost: {b' '.join(lost).decode('utf-8', 'replace')}"
+    if tip[0].startswith(b"go ") or not any(it.name == b"go.mod" for it in case.pieces):
+        return None
+    status, report = pasted(program, tip[0], folder, root)
+    return f"status {status}: {report.decode('utf-8', 'replace')}" if status or report else None
+
+
 def passes(program, path, case):
     root = tempfile.mkdtemp(prefix="gomod-case-").encode()
     folder = os.path.join(root, b"main")
@@ -354,6 +421,12 @@ def passes(program, path, case):
             if got == wanted and REFUSE_MEMORY and not case.is_sized:
                 number, got = run.refused(program, folder, stdin) or (0, got)
                 over = f", allocation {number} refused"
+            fault = tip_fault(program, run, case, folder, root) if got == wanted and not REFUSE_MEMORY else None
+            if fault:
+                if good:
+                    print(f"{path}:{case.line}: {case.title}")
+                good = False
+                print(f"  line {run.line}, what is to be typed: $ {run.text.decode()}\n  {fault}")
             stream = run.stream_to_cut()
             if got == wanted and stream:
                 over, wanted = f", {stream} is /dev/full", CUT
