@@ -61,8 +61,9 @@ gomod_words/src/given.rt word_at: the buffer has the greatest size
   Err(FillError::NotPresent) => return Ok(None), Err(FillError::TooLong) => room = room.saturating_mul(2), } }
   Err(AllocError) where FIRST_ROOM is 256
 gomod_words/src/query.rt bad_limit: the message could not be made
-  match format!(in alloc; "error: invalid value '{text}' for '--limit <N>': not a number from 1 to 4294967295" ) {
-  Err(_) => UsageFault::NoMemory
+  match format!(in alloc; "error: invalid value '{text}' for '--limit <N>': not a number from 1 to 4294967295{ABOUT_LIMIT}" ) {
+  Err(_) => UsageFault::NoMemory where ABOUT_LIMIT is "\n\n tip: without --limit all rows
+  are printed"
 gomod_words/src/usage.rt fault_of: the parser says so
   if matches!(kind, ErrorKind::OutOfMemory) { return UsageFault::NoMemory
 gomod_words/src/usage.rt fault_of: its text could not be made

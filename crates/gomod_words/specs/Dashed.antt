@@ -65,3 +65,20 @@ operations_in word = option_map_or (λ operation. operation ∷ []) (operation_i
 -- what to type after `edit`: the file, which is `go.mod` if the words name none, then the operations without dashes
 abbrev pub edit_words : List Text → List Text
 edit_words words = unwrap_or (free_from false words) (codes "go.mod") ∷ flat_map operations_in words
+
+-- the word is the file, where the flags say that it is the value of an option, and that there is a file before it
+abbrev pub is_file : Bool → Bool → Text → Bool
+is_file is_value has_file word = not is_value && (not has_file && is_free word)
+
+-- the words that are neither the file nor an operation, where the flags say that the first word is the value of an
+-- option, and that there is a file before it
+abbrev pub left_from : Bool → Bool → List Text → List Text
+left_from is_value has_file [] = []
+left_from is_value has_file (word ∷ words) =
+    if is_file is_value has_file word || is_some (operation_in word)
+    then left_from (takes_value word) (has_file || is_file is_value has_file word) words
+    else word ∷ left_from (takes_value word) (has_file || is_file is_value has_file word) words
+
+-- the words that are left out of what to type after `edit`
+abbrev pub left_words : List Text → List Text
+left_words words = left_from false false words

@@ -1,5 +1,5 @@
 -- How words are typed in a shell.
-use Rattle.std.specs.Prelude.{ℕ, ◌==◌, ◌&&◌, ◌||◌, ◌++◌, nat_le, nat_lt, Bool, List, codes, encode_utf8, flat_map, length, if◌then◌else◌}
+use Rattle.std.specs.Prelude.{ℕ, ◌==◌, ◌&&◌, ◌||◌, ◌++◌, ◌∷◌, nat_le, nat_lt, Bool, List, [], codes, encode_utf8, flat_map, length, if◌then◌else◌}
 use Rattle.std.specs.Char.{is_ascii_alphanumeric}
 use Rattle.std.specs.List.{list_all}
 use Rattle.std.specs.Str.{chars}
@@ -25,3 +25,8 @@ typed_word word = if nat_lt 0 (length word) && list_all is_unquoted_byte word th
 -- words after others: a space before each
 abbrev pub typed_words : List Text → List ℕ
 typed_words words = flat_map (λ word. codes " " ++ typed_word word) words
+
+-- what a tip says of the words that it leaves out, if there are any
+abbrev pub left_text : List Text → List ℕ
+left_text [] = []
+left_text (word ∷ words) = codes "\n       left out:" ++ typed_words (word ∷ words)

@@ -21,9 +21,9 @@ use Rattle.clap.specs.declared.error.kind.ErrorKind.TheVariants.{DisplayHelp, Di
 use Rattle.gm_name.specs.Path.{IsPath}
 use Rattle.gm_store.specs.Proxies.{folders_in, folders_of, is_folder, marks_in, marks_of}
 use Rattle.gm_store.specs.declared.fallback.proxy_list.ProxyList.{ProxyList}
-use Rattle.gomod_words.specs.Dashed.{dashed_in, edit_words}
+use Rattle.gomod_words.specs.Dashed.{dashed_in, edit_words, left_words}
 use Rattle.gomod_words.specs.Limits.{limit_of}
-use Rattle.gomod_words.specs.Typed.{typed_words}
+use Rattle.gomod_words.specs.Typed.{left_text, typed_words}
 use Rattle.gomod_words.specs.declared.usage.Command.{Command}
 use Rattle.gomod_words.specs.declared.usage.Command.TheVariants.{Versions, Fmt, Edit, Graph, List as Rows, Chain}
 use Rattle.gomod_words.specs.declared.usage.Places.{Places}
@@ -278,12 +278,12 @@ IsLineOf text NoMemory = Unit {0}
 IsLineOf text (Line line) = string_bytes line ≡ text
 IsLineOf text _ = ⊥
 
--- what is wrong with an operation that was written with a dash in front, among these words after `edit`, and what to
--- type instead
+-- what is wrong with an operation that was written with a dash in front, among these words after `edit`, what to type
+-- instead, and which words that leaves out
 abbrev pub dashed_message : List ℕ → List Text → List ℕ
 dashed_message operation words =
     codes "error: operations have no dash: " ++ operation
-    ++ codes "\n\n  tip: gomod edit" ++ typed_words (edit_words words)
+    ++ codes "\n\n  tip: gomod edit" ++ typed_words (edit_words words) ++ left_text (left_words words)
 
 -- the words after the program's name and a command's
 abbrev pub words_after : List Text → List Text

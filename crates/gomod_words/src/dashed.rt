@@ -8,10 +8,10 @@ ghost use Rattle.std.specs.String.{string_bytes};
 ghost use Rattle.clap.specs.Lexer.{strip_byte, without_minus};
 ghost use Rattle.gomod_words.specs.Typed.{typed_words};
 ghost use Rattle.gomod_words.specs.Usage.{IsLineOf, dashed_message, dashed_text, words_after};
-ghost use Rattle.gomod_words.specs.Dashed.{begins_with_dash, dashed_in, edit_words, free_from, is_free, is_operation, names_value, operation_in, operations_in, takes_value, without_dashes};
+ghost use Rattle.gomod_words.specs.Dashed.{begins_with_dash, dashed_in, edit_words, free_from, is_file, is_free, is_operation, left_from, left_words, names_value, operation_in, operations_in, takes_value, without_dashes};
 
 use crate::help::usage_of;
-use crate::typed::followed;
+use crate::typed::{followed, push_left};
 use crate::usage::{UsageFault, line};
 use std::alloc::{AllocError, Global};
 
@@ -164,6 +164,32 @@ pub(crate) fn edit_words<'a>(alloc: Global, words: &[&'a str]) -> Result<Vec<&'a
     Ok(typed)
 }
 
+/// The words after `edit` that are neither the file nor an operation.
+fn left_words<'a>(alloc: Global, words: &[&'a str]) -> Result<Vec<&'a str>, AllocError>
+    ensures { IfOk result (λ left. map (λ word. word.now) left.items ≡ left_words (map (λ word. word.now) words.now)) }
+{
+    let mut left = Vec::new(alloc);
+    let mut is_value = false;
+    let mut has_file = false;
+    for word in words {
+        let is_file = is_file(is_value, has_file, *word);
+        if !is_file && operation_in(*word).is_none() {
+            left.push(*word)?;
+        }
+        has_file = has_file || is_file;
+        is_value = takes_value(*word);
+    }
+    Ok(left)
+}
+
+/// Whether a word is the file. The flags say whether it is the value of an option, and whether there is a file before
+/// it.
+fn is_file(is_value: bool, has_file: bool, word: &str) -> bool
+    ensures { result ≡ is_file is_value has_file word.now }
+{
+    !is_value && !has_file && is_free(word)
+}
+
 /// The words after the program's name and a command's.
 pub(crate) fn words_after<'w, 'a>(words: &'w [&'a str]) -> &'w [&'a str]
     ensures { map (λ word. word.now) result.now ≡ words_after (map (λ word. word.now) words.now) }
@@ -174,17 +200,20 @@ pub(crate) fn words_after<'w, 'a>(words: &'w [&'a str]) -> &'w [&'a str]
     }
 }
 
-/// What is wrong with an operation that was written with a dash in front, among these words after `edit`, and what to
-/// type instead.
+/// What is wrong with an operation that was written with a dash in front, among these words after `edit`, what to type
+/// instead, and which words that leaves out.
 fn dashed_message(alloc: Global, operation: &str, words: &[&str]) -> Result<String, AllocError>
     ensures { IfOk result (λ message. string_bytes message
         ≡ dashed_message operation.now (map (λ word. word.now) words.now)) }
 {
     let typed = edit_words(alloc, words)?;
-    typed_message(alloc, operation, typed.as_slice())
+    let left = left_words(alloc, words)?;
+    let mut message = typed_message(alloc, operation, typed.as_slice())?;
+    push_left(&mut message, left.as_slice())?;
+    Ok(message)
 }
 
-/// The same, if these words are to be typed after `edit`.
+/// What is wrong with it, if these words are to be typed after `edit`.
 fn typed_message(alloc: Global, operation: &str, typed: &[&str]) -> Result<String, AllocError>
     ensures { IfOk result (λ message. string_bytes message
         ≡ codes "error: operations have no dash: " ++ operation.now

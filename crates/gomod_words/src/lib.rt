@@ -14,10 +14,14 @@
 mod advice;
 mod command;
 mod dashed;
+mod draft;
 mod given;
 mod help;
+mod items;
 pub mod laws;
 mod query;
+mod refusal;
+mod rows;
 mod table;
 mod typed;
 mod usage;

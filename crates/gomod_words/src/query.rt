@@ -14,9 +14,12 @@ use gm_name::{ModPath, has_only_digits};
 use gm_store::ProxyList;
 use std::alloc::{AllocError, Global};
 
+/// What to do instead of giving a `--limit` that is no number.
+const ABOUT_LIMIT: &str = "\n\n  tip: without --limit all rows are printed";
+
 /// The number of rows that a text stands for, or `None` if it is not one or more ASCII digits that form a
 /// number from 1 to 4,294,967,295.
-fn limit_in(text: &str) -> Option<u32>
+pub(crate) fn limit_in(text: &str) -> Option<u32>
     ensures { result ≡ limit_of text.now }
 {
     // `parse` also accepts a sign, which a limit must not have.
@@ -36,7 +39,7 @@ fn bad_limit(alloc: Global, text: &str, usage: &str) -> UsageFault
     ensures usage { ShowsLine usage.now result }
 {
     match format!(in alloc;
-        "error: invalid value '{text}' for '--limit <N>': not a number from 1 to 4294967295"
+        "error: invalid value '{text}' for '--limit <N>': not a number from 1 to 4294967295{ABOUT_LIMIT}"
     ) {
         Ok(message) => line(alloc, message.as_str(), usage),
         Err(_) => UsageFault::NoMemory,

@@ -4,7 +4,7 @@ ghost use Rattle.std.specs.Prelude.{◌≡◌, ◌++◌, IfOk, OnOk, flat_map, m
 ghost use Rattle.std.specs.List.{list_all};
 ghost use Rattle.std.specs.Str.{chars};
 ghost use Rattle.std.specs.String.{string_bytes};
-ghost use Rattle.gomod_words.specs.Typed.{is_unquoted_byte, quoted_text, quoted_char, typed_word, typed_words};
+ghost use Rattle.gomod_words.specs.Typed.{is_unquoted_byte, left_text, quoted_text, quoted_char, typed_word, typed_words};
 
 use std::alloc::{AllocError, Global};
 
@@ -68,7 +68,7 @@ fn push_typed(text: &mut String, word: &str) -> Result<(), AllocError>
 }
 
 /// Appends words as they are typed, each after a space.
-fn push_all_typed(text: &mut String, words: &[&str]) -> Result<(), AllocError>
+pub(crate) fn push_all_typed(text: &mut String, words: &[&str]) -> Result<(), AllocError>
     ensures { OnOk result (string_bytes text.new
         ≡ string_bytes text.old ++ typed_words (map (λ word. word.now) words.now)) }
 {
@@ -87,4 +87,17 @@ pub(crate) fn followed(alloc: Global, text: &str, words: &[&str]) -> Result<Stri
     let mut line = String::from_str(alloc, text)?;
     push_all_typed(&mut line, words)?;
     Ok(line)
+}
+
+/// Appends the words that a tip leaves out, if there are any.
+pub(crate) fn push_left(text: &mut String, left: &[&str]) -> Result<(), AllocError>
+    ensures { OnOk result (string_bytes text.new
+        ≡ string_bytes text.old ++ left_text (map (λ word. word.now) left.now)) }
+{
+    if left.is_empty() {
+        return Ok(());
+    }
+    text.push_str("\n       left out:")?;
+    push_all_typed(text, left)?;
+    Ok(())
 }

@@ -1,0 +1,173 @@
+//! The words of a command line as they were meant: options, each with its value, and other words.
+
+ghost use Rattle.std.specs.Prelude.{◌≡◌, ◌∷◌, ◌++◌, IfOk, List, [], OnOk, map};
+ghost use Rattle.gomod_words.specs.Items.{waiting, words_in, words_of};
+
+use crate::dashed::{begins_with_dash, without_dashes};
+use std::alloc::{AllocError, Global};
+
+/// An option with its value, or another word.
+#[derive(Clone, Copy)]
+pub(crate) enum Item<'a> {
+    /// A word that is no option.
+    Word(&'a str),
+    /// An option without a value.
+    Flag(&'a str),
+    /// An option and its value in one word.
+    Joined(&'a str, &'a str, &'a str),
+    /// An option, and its value in the next word.
+    Pair(&'a str, &'a str),
+}
+
+/// The name of an option, without its dashes. Another word has none.
+pub(crate) fn name_in<'a>(item: Item<'a>) -> Option<&'a str> {
+    match item {
+        Item::Word(_) => None,
+        Item::Flag(option) => Some(without_dashes(option)),
+        Item::Joined(_, name, _) => Some(name),
+        Item::Pair(option, _) => Some(without_dashes(option)),
+    }
+}
+
+/// The value of an option, if it is not empty.
+pub(crate) fn value_in<'a>(item: Item<'a>) -> Option<&'a str> {
+    match item {
+        Item::Joined(_, _, value) => not_empty(value),
+        Item::Pair(_, value) => not_empty(value),
+        _ => None,
+    }
+}
+
+/// The text, unless it is empty.
+fn not_empty(text: &str) -> Option<&str> {
+    if text.is_empty() { None } else { Some(text) }
+}
+
+/// The first word of an item.
+pub(crate) fn word_in<'a>(item: Item<'a>) -> &'a str {
+    match item {
+        Item::Word(word) => word,
+        Item::Flag(option) => option,
+        Item::Joined(word, _, _) => word,
+        Item::Pair(option, _) => option,
+    }
+}
+
+/// Appends the words of an item, as they were typed.
+pub(crate) fn push_words<'a>(words: &mut Vec<&'a str>, item: Item<'a>) -> Result<(), AllocError>
+    ensures { OnOk result (map (λ word. word.now) words.new.items
+        ≡ map (λ word. word.now) words.old.items ++ words_of item.entry) }
+{
+    match item {
+        Item::Word(word) => words.push(word)?,
+        Item::Flag(option) => words.push(option)?,
+        Item::Joined(word, _, _) => words.push(word)?,
+        Item::Pair(option, value) => words.extend_from_slice(&[option, value])?,
+    }
+    Ok(())
+}
+
+/// Appends the words of items, as they were typed.
+pub(crate) fn push_all_words<'a>(
+    words: &mut Vec<&'a str>,
+    items: &[Item<'a>],
+) -> Result<(), AllocError>
+    ensures { OnOk result (map (λ word. word.now) words.new.items
+        ≡ map (λ word. word.now) words.old.items ++ words_in items.now) }
+{
+    for item in items {
+        push_words(words, *item)?;
+    }
+    Ok(())
+}
+
+/// The items that words are. Together they have all words, in order.
+pub(crate) fn items<'a>(alloc: Global, words: &[&'a str]) -> Result<Vec<Item<'a>>, AllocError>
+    ensures { IfOk result (λ items. words_in items.items ≡ map (λ word. word.now) words.now) }
+{
+    let mut items = Vec::new(alloc);
+    let mut option = None;
+    for word in words {
+        option = push_item(&mut items, option, *word)?;
+    }
+    push_flag(&mut items, option)?;
+    Ok(items)
+}
+
+/// Appends an option that has no value, if there is one.
+fn push_flag<'a>(items: &mut Vec<Item<'a>>, option: Option<&'a str>) -> Result<(), AllocError>
+    ensures { OnOk result (words_in items.new.items ≡ words_in items.old.items ++ waiting option.entry) }
+{
+    if let Some(option) = option {
+        items.push(Item::Flag(option))?;
+    }
+    Ok(())
+}
+
+/// Appends a word, after an option whose value it may be. Gives the word instead if it is such an option.
+fn push_item<'a>(
+    items: &mut Vec<Item<'a>>,
+    option: Option<&'a str>,
+    word: &'a str,
+) -> Result<Option<&'a str>, AllocError>
+    ensures { IfOk result (λ next. words_in items.new.items ++ waiting next
+        ≡ words_in items.old.items ++ waiting option.entry ++ (word.now ∷ [])) }
+{
+    if let Some(option) = option {
+        if !begins_with_dash(word) {
+            items.push(Item::Pair(option, word))?;
+            return Ok(None);
+        }
+    }
+    push_flag(items, option)?;
+    if takes_value(word) {
+        return Ok(Some(word));
+    }
+    items.push(alone(word))?;
+    Ok(None)
+}
+
+/// The item that a word is alone.
+fn alone(word: &str) -> Item<'_>
+    ensures { words_of result ≡ word.now ∷ [] }
+{
+    if !begins_with_dash(word) {
+        return Item::Word(word);
+    }
+    match without_dashes(word).split_once('=') {
+        Some((name, value)) => Item::Joined(word, name, value),
+        None => Item::Flag(word),
+    }
+}
+
+/// Whether a word is an option, of gomod or of go, that takes the next word as its value.
+fn takes_value(word: &str) -> bool {
+    begins_with_dash(word) && names_value(without_dashes(word))
+}
+
+/// Whether this is the name of an option that takes a value.
+fn names_value(name: &str) -> bool {
+    match name {
+        "proxy" | "mod" | "modfile" | "sum" | "after" | "limit" => true,
+        "C" | "color" | "f" | "format" | "o" | "output" | "reuse" | "tags" => true,
+        _ => names_operation(name) || names_operation_of_go(name),
+    }
+}
+
+/// Whether this is the name of an operation.
+pub(crate) fn names_operation(name: &str) -> bool {
+    match name {
+        "module" | "go" | "require" | "replace" | "exclude" | "retract" => true,
+        "droprequire" | "dropreplace" | "dropexclude" | "dropretract" => true,
+        _ => false,
+    }
+}
+
+/// Whether this is the name of an operation of `go mod edit` that gomod does not have.
+pub(crate) fn names_operation_of_go(name: &str) -> bool {
+    match name {
+        "toolchain" | "godebug" | "tool" | "ignore" => true,
+        "dropgodebug" | "droptool" | "dropignore" => true,
+        _ => false,
+    }
+}
