@@ -2,11 +2,11 @@
 //! options and operands that a command does not take. Each word is kept, or becomes what the table of rows says, or is
 //! named as left out.
 
-ghost use Rattle.std.specs.Prelude.{◌≡◌, ◌++◌, IfOk, Some, map, option_map, true};
+ghost use Rattle.std.specs.Prelude.{◌≡◌, ◌++◌, IfOk, IfSome, Some, map, option_map, true};
 ghost use Rattle.std.specs.String.{string_bytes};
 ghost use Rattle.gomod_words.specs.Items.{words_in};
-ghost use Rattle.gomod_words.specs.Typed.{left_text, typed_words};
-ghost use Rattle.gomod_words.specs.Usage.{ShowsLine, is_line_or_memory, usage_of};
+ghost use Rattle.gomod_words.specs.Typed.{EndsWith, left_text, typed_words};
+ghost use Rattle.gomod_words.specs.Usage.{AskForSomething, ShowsLine, is_line_or_memory, usage_of};
 
 use crate::draft::{Draft, drafted};
 use crate::help::usage_of;
@@ -493,7 +493,11 @@ fn push_part<'a>(
 
 /// The command line with these words and this end, what is said of it, and the words that it leaves out, if it asks
 /// for something.
-fn finished(alloc: Global, words: &[&str], end: &str, notes: &[&str], draft: &Draft<'_>) -> Tip {
+fn finished(alloc: Global, words: &[&str], end: &str, notes: &[&str], draft: &Draft<'_>) -> Tip
+    ensures asks { IfOk result (λ tip. IfSome tip (λ _. AskForSomething (map (λ word. word.now) words.now))) }
+    ensures left { IfOk result (λ tip. IfSome tip (λ text.
+        EndsWith (left_text (map (λ word. word.now) draft.now.left.items)) (string_bytes text))) }
+{
     if !is_command(alloc, words)? {
         return Ok(None);
     }
