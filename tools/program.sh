@@ -30,7 +30,8 @@
 # of the command must be among the words to type or those that are left out, or have its place in ACCOUNTED below.
 #
 # If REFUSE_MEMORY names the library that tools/refuse-memory.sh makes, each command runs again with each of its
-# allocations refused in turn: it then has to say that memory ran out, or to have the result of the case.
+# allocations refused in turn: it then has to say that memory ran out, or to have the result of the case. If REFUSE_LATER
+# is set too, each is refused alone and then with all later ones, and the command has to say that memory ran out.
 #
 # It needs bin/gomod (./build makes it) and python3, and prints each difference and how many cases passed and failed.
 # The status is 1 if one failed.
@@ -41,6 +42,9 @@ cd "$(dirname "$0")/.."
 help_if_asked tools/program.sh "$@"
 need_gomod tools/program.sh
 exec python3 - "$PWD/bin/gomod" "$@" << 'PYTHON'
+import concurrent.futures
+import itertools
+import math
 import os
 import re
 import resource
@@ -57,6 +61,13 @@ NO_LINE_END = b"\\ No newline at end of file"
 # what the version of a proved program has, and that of an unproved one in its place
 PROVED, UNPROVED = re.compile(rb"(\(Rattle, )logic [0-9a-f]{16}\)"), rb"\1nothing is proved)"
 REFUSE_MEMORY = os.environ.pop("REFUSE_MEMORY", None)
+REFUSE_LATER = os.environ.pop("REFUSE_LATER", None)
+# the variables for each way to refuse an allocation, and what is then said of it
+ALONE = {"allocation {} refused": {}}
+EACH_WAY = {**ALONE, "allocation {} and all later ones refused": {"REFUSE_LATER": "yes"}}
+# how many refused runs there are side by side, and how many are begun before the first result is looked at
+AT_ONCE = len(os.sched_getaffinity(0))
+BATCH = 8 * AT_ONCE
 # the name that each command is called by, as from a folder whose name is not UTF-8
 NAME = b"b\xff/gomod"
 # what a usage error says to type, and what it says is left out of that
@@ -79,6 +90,9 @@ FULL = open("/dev/full", "wb")
 CUT = b"", b"", 3
 with open("README.md", encoding="utf-8") as file:
     STACK = 1024 * int(re.search(r"`ulimit -s (\d+)`", file.read())[1])
+# the stack that a command has without a limit of ours
+USUAL_STACK = resource.getrlimit(resource.RLIMIT_STACK)[0]
+USUAL_STACK = math.inf if USUAL_STACK == resource.RLIM_INFINITY else USUAL_STACK
 
 
 def meant(escape):
@@ -202,10 +216,12 @@ class Run:
     def reads_input(self):
         return self.words[1:2] == [b"versions"] and not any(it.startswith(b"--proxy") for it in self.words)
 
-    def comes_to(self, program, folder, stdin, refused=0, file_bytes=None, memory=None, cut=None):
-        environment = {**os.environ, "LD_PRELOAD": REFUSE_MEMORY, "REFUSE_AT": str(refused)} if refused else os.environ
+    def comes_to(self, program, folder, stdin, refused=None, file_bytes=None, memory=None, cut=None):
+        environment = {**os.environ, "LD_PRELOAD": REFUSE_MEMORY, **refused} if refused else os.environ
         words = [NAME, *self.words[1:]]
         stack = stack_with(words, environment)
+        # a refused run takes no more stack than the one before it, and a limit makes its start three times as long
+        is_limited = not refused or stack > USUAL_STACK
         most = resource.RLIM_INFINITY
         if file_bytes is not None:
             most = SPARE + FACTOR * (file_bytes + sum(map(len, words)))
@@ -226,7 +242,7 @@ class Run:
                 executable=program,
                 cwd=folder,
                 env=environment,
-                preexec_fn=limit,
+                preexec_fn=limit if is_limited else None,
                 timeout=LIMIT,
                 **streams,
                 **given,
@@ -236,15 +252,31 @@ class Run:
         return got.stdout or b"", got.stderr or b"", got.returncode
 
     def refused(self, program, folder, stdin):
-        """The result of the command at the first refused allocation that changes it, if there is one."""
-        for number in range(1, 1_000_000):
-            out, report, status = self.comes_to(program, folder, stdin, number)
-            Run.refusals += not report.endswith(PASSED)
-            got = out, report.removesuffix(PASSED), status
-            if got not in (self.wanted(), NO_MEMORY):
-                return number, got
-            if report.endswith(PASSED):
-                return None
+        """What was refused when the result was wrong for the first time, and that result, or None."""
+        allowed = [NO_MEMORY] if REFUSE_LATER else [NO_MEMORY, self.wanted()]
+        for words, variables in (EACH_WAY if REFUSE_LATER else ALONE).items():
+            for number, got in self.each_refused(program, folder, stdin, variables):
+                if got not in allowed:
+                    return words.format(number), got
+        return None
+
+    def each_refused(self, program, folder, stdin, variables):
+        """The number of each allocation that the command makes, with the result if it is refused. Ends the script if a
+        run without a refusal differs from the case, or is the first, so that nothing was tried."""
+
+        def refused_at(number):
+            return self.comes_to(program, folder, stdin, {**variables, "REFUSE_AT": str(number)})
+
+        with concurrent.futures.ThreadPoolExecutor(AT_ONCE) as pool:
+            for first in itertools.count(1, BATCH):
+                numbers = range(first, first + BATCH)
+                for number, (out, report, status) in zip(numbers, pool.map(refused_at, numbers)):
+                    if report.endswith(PASSED):
+                        if number == 1 or (out, report.removesuffix(PASSED), status) != self.wanted():
+                            sys.exit(f"program: line {self.line}: no allocation was refused: $ {self.text.decode()}")
+                        return
+                    Run.refusals += 1
+                    yield number, (out, report, status)
 
     def cut(self, mark):
         if mark == b">":
@@ -419,8 +451,7 @@ def passes(program, path, case):
             got = run.comes_to(program, folder, stdin, file_bytes=file_bytes, memory=case.memory)
             over, wanted = "", run.wanted()
             if got == wanted and REFUSE_MEMORY and not case.is_sized:
-                number, got = run.refused(program, folder, stdin) or (0, got)
-                over = f", allocation {number} refused"
+                over, got = run.refused(program, folder, stdin) or ("", got)
             fault = tip_fault(program, run, case, folder, root) if got == wanted and not REFUSE_MEMORY else None
             if fault:
                 if good:
@@ -429,13 +460,13 @@ def passes(program, path, case):
                 print(f"  line {run.line}, what is to be typed: $ {run.text.decode()}\n  {fault}")
             stream = run.stream_to_cut()
             if got == wanted and stream:
-                over, wanted = f", {stream} is /dev/full", CUT
+                over, wanted = f"{stream} is /dev/full", CUT
                 got = run.comes_to(program, folder, stdin, memory=case.memory, cut=stream)
             if got != wanted:
                 if good:
                     print(f"{path}:{case.line}: {case.title}")
                 good = False
-                print(f"  line {run.line}{over}: $ {run.text.decode()}")
+                print(f"  line {run.line}{over and ', '}{over}: $ {run.text.decode()}")
                 told("got", *got)
                 told("wanted", *wanted)
         after = files_below(root)

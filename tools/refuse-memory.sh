@@ -1,7 +1,9 @@
 #!/usr/bin/env bash
 # Refuses each allocation of each command of the cases and of each test in turn, and lists what goes wrong then.
 #
-#   tools/refuse-memory.sh                     all cases but the large ones, and the tests of every crate that has some
+#   tools/refuse-memory.sh                     all below: before a release
+#   tools/refuse-memory.sh --check             the cases of tools/refused_cases.txt: what .ci/run runs
+#   tools/refuse-memory.sh --cases             all cases but the large ones
 #   tools/refuse-memory.sh --cases FILE.txt..  the cases of these files, but the large ones
 #   tools/refuse-memory.sh --cases TITLE..     the cases whose titles have one of these texts
 #   tools/refuse-memory.sh NAME..              the tests of these crates
@@ -12,50 +14,52 @@
 # allocation. The status is 1 if that happened, and 0 if all stood every refusal. The merge gate runs the same
 # cases and tests with none refused.
 #
-# It needs a C compiler (`cc`), bin/gomod (./build makes it) and python3 for the cases, and `rt` for a crate whose
-# tests are not built: `rt test` leaves them in out/NAME_tests.
+# --check refuses each allocation alone and then together with all later ones, until a run meets no refusal. In each run
+# before that one the output has to be empty, the report `gomod: no memory` and the status 3. It takes 55 s of CPU
+# time, on all processors.
+#
+# It needs a C compiler (`cc`, or what CC names), bin/gomod (./build makes it) and python3 for the cases, and `rt` for a
+# crate whose tests are not built: `rt test` leaves them in out/NAME_tests.
 set -euo pipefail
 cd "$(dirname "$0")/.."
 # shellcheck source=tools/lib.sh
 . tools/lib.sh
 help_if_asked tools/refuse-memory.sh "$@"
 
-most=200000 # more allocations than any test makes: a guard against a count that doesn't end
+readonly DATA=crates/run_cases/data LISTED=tools/refused_cases.txt
+readonly MOST=200000 # more allocations than any test makes: a guard against a count that doesn't end
 
+refuse() {
+  echo "refuse-memory: $1" >&2
+  exit 1
+}
+
+command -v "${CC:-cc}" > /dev/null || refuse "there is no command ${CC:-cc}: install a C compiler, or name one by CC"
 work=$(mktemp -d)
 trap 'rm -rf "$work"' EXIT
-cc -O1 -shared -fPIC -o "$work/refuse_memory.so" tools/refuse_memory.c
+"${CC:-cc}" -O1 -shared -fPIC -o "$work/refuse_memory.so" tools/refuse_memory.c
+
+runs=0 failures=0
 
 # The commands of cases. Those whose files are made large are left out, unless their titles are given.
 refuse_in_cases() {
-  REFUSE_MEMORY=$work/refuse_memory.so tools/program.sh "$@"
+  local count
+  REFUSE_MEMORY=$work/refuse_memory.so tools/program.sh "$@" | tee "$work/said" || failures=$((failures + 1))
+  count=$(sed -n '$s/.*, \([0-9]*\) runs .*/\1/p' "$work/said")
+  runs=$((runs + ${count:-0}))
 }
-if [ "${1-}" = --cases ]; then
-  shift
-  refuse_in_cases "$@"
-  exit
-fi
-cases_stand=0
-if [ $# -eq 0 ]; then
-  refuse_in_cases crates/run_cases/data/*.txt || cases_stand=1
-fi
 
-# The tests to leave out: `large_` for those that ask for memory more often than the guard allows.
-but=
-if [ "${1-}" = --but ]; then
-  but=$2
-  shift 2
-fi
-
-# The crates to go over: those named, or all that have tests.
-crates=("$@")
-if [ ${#crates[@]} -eq 0 ]; then
-  while read -r name; do
-    if grep -qsr '#\[test\]' "crates/$name/src"; then
-      crates+=("$name")
-    fi
-  done < <(sed -n 's/^ *\([a-z0-9_]*\).*:.*/\1/p' crates.txt)
-fi
+# The cases of the list, whose lines are the name of a file and a title, with a colon between them.
+refuse_in_listed() {
+  local line file files=() titles=()
+  while IFS= read -r line; do
+    file=$DATA/${line%%: *}
+    grep -sqxF -- "=== ${line#*: }" "$file" || refuse "$LISTED names a case that is not there: $line"
+    files+=("$file") titles+=("${line#*: }")
+  done < "$LISTED"
+  mapfile -t files < <(printf '%s\n' "${files[@]}" | sort -u)
+  REFUSE_LATER=yes refuse_in_cases "${files[@]}" "${titles[@]}"
+}
 
 # Whether a test that ended with this status failed, and not by a crash or a time limit, and says that memory ran out:
 # in words, or by the name of the fault that it got. An assertion ends a test by SIGABRT (134).
@@ -63,10 +67,11 @@ says_no_memory() {
   { [ "$1" -lt 124 ] || [ "$1" -eq 134 ]; } && grep -qE 'out of memory|NoMemory' "$work/out" "$work/err"
 }
 
-# Runs one test of a binary with allocation N refused, for N from 1 until none is met. Prints each failure.
+# Runs a test of a binary, the second argument, with allocation N refused, for N from 1 until none is met. Prints each
+# failure, with the name of the crate.
 refuse_each() {
-  local binary=$1 test=$2 n status bad=0
-  for ((n = 1; n <= most; n++)); do
+  local crate=$1 binary=$2 test=$3 n status bad=0
+  for ((n = 1; n <= MOST; n++)); do
     status=0
     (
       cd "$work" && REFUSE_AT=$n LD_PRELOAD=$work/refuse_memory.so timeout 60 "$binary" "$test" >out 2>err
@@ -83,29 +88,66 @@ refuse_each() {
     fi
   done
   failures=$((failures + 1))
-  echo "$crate: $test: still asks for memory after $most allocations"
+  echo "$crate: $test: still asks for memory after $MOST allocations"
 }
 
-failures=0
-for crate in "${crates[@]}"; do
-  binary=$PWD/crates/$crate/out/${crate}_tests
+# The tests of a crate, but for those whose names have the word in `but`.
+refuse_in_tests() {
+  local crate=$1 binary=$PWD/crates/$1/out/${1}_tests before=$runs tests=0 test
   if [ ! -x "$binary" ]; then
     (cd "crates/$crate" && rt test)
   fi
-  runs=0
-  tests=0
   for test in $("$binary" --list | sed -n 's/: test$//p'); do
     if [ -n "$but" ] && [[ $test == *"$but"* ]]; then
       echo "$crate: $test: left out"
       continue
     fi
     tests=$((tests + 1))
-    refuse_each "$binary" "$test"
+    refuse_each "$crate" "$binary" "$test"
   done
-  echo "$crate: $tests tests, $runs runs"
-done
+  echo "$crate: $tests tests, $((runs - before)) runs"
+}
+
+# The crates that have tests.
+crates_with_tests() {
+  local name
+  sed -n 's/^ *\([a-z0-9_]*\).*:.*/\1/p' crates.txt | while read -r name; do
+    ! grep -qsr '#\[test\]' "crates/$name/src" || echo "$name"
+  done
+}
+
+# All of it.
+refuse_everywhere() {
+  local crate
+  refuse_in_listed
+  refuse_in_cases "$DATA"/*.txt
+  for crate in $(crates_with_tests); do refuse_in_tests "$crate"; done
+}
+
+but=
+case ${1-} in
+  "") refuse_everywhere ;;
+  --check)
+    [ $# -eq 1 ] || refuse_arguments tools/refuse-memory.sh "--check takes nothing"
+    refuse_in_listed
+    ;;
+  --cases)
+    shift
+    [ $# -gt 0 ] || set -- "$DATA"/*.txt
+    refuse_in_cases "$@"
+    ;;
+  *)
+    if [ "$1" = --but ]; then
+      # `large_` for those that ask for memory more often than the guard allows
+      but=$2
+      shift 2
+    fi
+    # shellcheck disable=SC2046
+    [ $# -gt 0 ] || set -- $(crates_with_tests)
+    for crate in "$@"; do refuse_in_tests "$crate"; done
+    ;;
+esac
 if [ "$failures" -ne 0 ]; then
   echo "$failures failures"
   exit 1
 fi
-exit $cases_stand

@@ -1,7 +1,7 @@
-/* Refuses one allocation of a program: the Nth, where REFUSE_AT is N. It is loaded before the C library by
-   tools/refuse-memory.sh, and linked into nothing.
+/* Refuses one allocation of a program, the Nth if REFUSE_AT is N, and all later ones too if REFUSE_LATER is set. It is
+   loaded before the C library by tools/refuse-memory.sh, and linked into nothing.
 
-   At the end of the program it writes "all allocations passed" to the standard error, where the program asked for memory less
+   At the end of the program it writes "all allocations passed" to the standard error if the program asked for memory less
    than N times, so that the script knows when to stop counting. */
 #define _GNU_SOURCE
 #include <stdlib.h>
@@ -15,19 +15,20 @@ extern void *__libc_memalign(size_t, size_t);
 
 static long refuse_at = -1;
 static long seen;
-static int is_ready;
+static int is_ready, refuses_later;
 
 static void read_place(void) {
     if (!is_ready) {
         is_ready = 1;
         const char *text = getenv("REFUSE_AT");
         refuse_at = text ? atol(text) : -1;
+        refuses_later = getenv("REFUSE_LATER") != NULL;
     }
 }
 
 static int is_refused(void) {
     read_place();
-    return refuse_at > 0 && ++seen == refuse_at;
+    return refuse_at > 0 && (++seen == refuse_at || (refuses_later && seen > refuse_at));
 }
 
 void *malloc(size_t size) {
