@@ -18,6 +18,9 @@
 # before that one the output has to be empty, the report `gomod: no memory` and the status 3. It takes 55 s of CPU
 # time, on all processors.
 #
+# Without arguments it removes bin/refused.txt, and if nothing goes wrong makes it anew for tools/release.sh: the number of
+# runs, the day and the commit, and the sha256 of bin/gomod.
+#
 # It needs a C compiler (`cc`, or what CC names), bin/gomod (./build makes it) and python3 for the cases, and `rt` for a
 # crate whose tests are not built: `rt test` leaves them in out/NAME_tests.
 set -euo pipefail
@@ -26,7 +29,7 @@ cd "$(dirname "$0")/.."
 . tools/lib.sh
 help_if_asked tools/refuse-memory.sh "$@"
 
-readonly DATA=crates/run_cases/data LISTED=tools/refused_cases.txt
+readonly DATA=crates/run_cases/data LISTED=tools/refused_cases.txt RECORD=bin/refused.txt
 readonly MOST=200000 # more allocations than any test makes: a guard against a count that doesn't end
 
 refuse() {
@@ -116,12 +119,20 @@ crates_with_tests() {
   done
 }
 
-# All of it.
+# All of it, and the record.
 refuse_everywhere() {
-  local crate
+  local crate program commit
+  need_gomod tools/refuse-memory.sh
+  rm -f "$RECORD"
+  program=$(sha256sum bin/gomod) commit=$(git rev-parse HEAD)
+  [ -z "$(git status --porcelain)" ] || commit+=" with changes"
   refuse_in_listed
   refuse_in_cases "$DATA"/*.txt
   for crate in $(crates_with_tests); do refuse_in_tests "$crate"; done
+  [ "$failures" -eq 0 ] || return 0
+  sha256sum --check --status <<< "$program" || refuse "bin/gomod isn't the program that it was at the start"
+  echo "$runs runs, none wrong, on $(date --utc +%F) at commit $commit" | tee "$RECORD"
+  echo "$program" >> "$RECORD"
 }
 
 but=

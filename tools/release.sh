@@ -10,9 +10,9 @@
 # Into FOLDER, which it makes if there is none, it writes gomod-VERSION-x86_64-linux.tar.gz and beside it a file with
 # its sha256. The archive has one folder with bin/ and share/, to be unpacked into a folder such as ~/.local (`tar
 # --strip-components=1`); share/doc/gomod/ has README.md, CHANGELOG.md, docs/, example/, and RELEASE.txt: the version, the
-# commit, the gate's last line, what the program needs and its sha256. In these documents a link to a file that isn't in
-# the archive is its text alone, and examples call `gomod`; README.md tells how to try this program instead of how to
-# make one (tools/release.py). The same files give the same archive.
+# commit, the gate's last line, when allocations were last refused, what the program needs and its sha256. In these
+# documents a link to a file that isn't in the archive is its text alone, and examples call `gomod`; README.md tells how
+# to try this program instead of how to make one (tools/release.py). The same files give the same archive.
 #
 # Before it leaves an archive it unpacks it, follows all links of its documents and runs all their examples with its
 # program (tools/readme.sh), and compares the glibc that they name with the one that the program needs.
@@ -20,6 +20,9 @@
 # It refuses an archive that fails this check and, without --unproved, a program whose version doesn't say that it is
 # proved. Unless --check is given, it also refuses a program that isn't the one that the last proof left at
 # crates/gomod/out/gomod, a gate that failed or ran with another program, and changes that aren't committed.
+#
+# Nor does it release a program with which tools/refuse-memory.sh didn't refuse each allocation and find nothing wrong:
+# that script leaves bin/refused.txt, whose first line this one prints.
 #
 # It needs bin/gomod, git, GNU tar, gzip and python3. It prints what the check found, the names of the files, the gate's
 # last line and the sha256. The status is 1 if it refuses, and 2 for wrong arguments. .ci/run runs --check at its end.
@@ -38,7 +41,7 @@ refuse() {
 # The least version of glibc that a program needs: the greatest of those whose symbols it names.
 least_glibc() { grep -aoE 'GLIBC_[0-9]+(\.[0-9]+)+' "$1" | cut -d _ -f 2 | sort -uV | tail -n 1; }
 
-# Lays the files of a release below a folder: its version, the gate's last line.
+# Lays the files of a release below a folder: its version, the gate's last line, when allocations were refused.
 lay_release() {
   local to=$1 documents=$1/share/doc/gomod glibc
   install_files "$to" > /dev/null
@@ -50,6 +53,7 @@ lay_release() {
     echo "gomod $2"
     echo "commit $(git rev-parse HEAD)"
     echo "gate: $3"
+    echo "each allocation refused: $4"
     echo "needs: x86-64 Linux, glibc $glibc or later"
     sha256sum bin/gomod
   } > "$documents/RELEASE.txt"
@@ -71,7 +75,7 @@ check_archive() {
   echo "glibc: $least is the least"
 }
 
-to=$from gate='' check='' unproved=''
+to=$from gate='' refusals='' check='' unproved=''
 case $#:${1-}:${2-} in
   1:--check:) check=yes ;;
   2:--check:--unproved) check=yes unproved=yes ;;
@@ -95,6 +99,10 @@ if [ -z "$check" ]; then
   fi
   [[ $gate =~ ^[1-9][0-9]*\ passed,\ 0\ failed$ ]] || refuse "this is no gate that passed: '$gate'"
   [ -z "$(git status --porcelain)" ] || refuse "there are changes that aren't committed"
+  [ -f bin/refused.txt ] || refuse "there is no bin/refused.txt: run tools/refuse-memory.sh"
+  refusals=$(head -n 1 bin/refused.txt)
+  tail -n 1 bin/refused.txt | sha256sum --check --status ||
+    refuse "allocations were refused of another program ($refusals): run tools/refuse-memory.sh"
 fi
 
 version=$(bin/gomod --version)
@@ -103,7 +111,7 @@ version=${version#gomod }
 name=gomod-${version%% *}-x86_64-linux
 work=$(mktemp -d)
 trap 'rm -rf "$work"' EXIT
-lay_release "$work/$name" "$version" "${gate:-none}"
+lay_release "$work/$name" "$version" "${gate:-none}" "${refusals:-none}"
 # what depends on the moment or the user is left out
 tar --create --directory "$work" --sort=name --owner=0 --group=0 --numeric-owner \
   --mtime="@$(git log -1 --format=%ct)" "$name" | gzip -9n > "$work/$name.tar.gz"
@@ -116,4 +124,5 @@ cp "$work/$name.tar.gz" "$to"
 echo "$to/$name.tar.gz"
 echo "$to/$name.tar.gz.sha256"
 echo "gate: $gate"
+echo "each allocation refused: $refusals"
 echo "sha256: $(cut -d ' ' -f 1 "$to/$name.tar.gz.sha256")"
