@@ -452,6 +452,7 @@ def passes(program, path, case):
             over, wanted = "", run.wanted()
             if got == wanted and REFUSE_MEMORY and not case.is_sized:
                 over, got = run.refused(program, folder, stdin) or ("", got)
+                wanted = NO_MEMORY if over and REFUSE_LATER else wanted
             fault = tip_fault(program, run, case, folder, root) if got == wanted and not REFUSE_MEMORY else None
             if fault:
                 if good:
