@@ -1,0 +1,284 @@
+"""Makes each open, read, write and close of some command lines of gomod fail in turn, and then two calls at once.
+
+    faults.py PROGRAM LIBRARY SECONDS SEED
+
+LIBRARY is what tools/faults.c becomes; tools/faults.sh says what is tried. What is right follows from the run without a
+fault, whose calls the library tells: which file each open and read is of, and how much was written before each write.
+"""
+
+import concurrent.futures
+import errno
+import itertools
+import os
+import random
+import re
+import shutil
+import subprocess
+import sys
+import tempfile
+import time
+from typing import NamedTuple
+
+# the errors that the manual pages of Linux name for each call: open(2), read(2), write(2), close(2)
+ERRORS = {
+    "open": """EACCES EBADF EBUSY EDQUOT EEXIST EFAULT EFBIG EINTR EINVAL EISDIR ELOOP EMFILE ENAMETOOLONG ENFILE ENODEV
+        ENOENT ENOMEM ENOSPC ENOTDIR ENXIO EOPNOTSUPP EOVERFLOW EPERM EROFS ETXTBSY EAGAIN""".split(),
+    "read": "EAGAIN EBADF EFAULT EINTR EINVAL EIO EISDIR".split(),
+    "write": "EAGAIN EBADF EDESTADDRREQ EDQUOT EFAULT EFBIG EINTR EINVAL EIO ENOSPC EPERM EPIPE".split(),
+    "close": "EBADF EDQUOT EINTR EIO ENOSPC".split(),
+}
+# how few bytes a read or write may move; a read of none is the end of a file, so only writes may move none
+LENGTHS = {"read": range(1, 20), "write": range(20)}
+# two command lines or more of each command, each with its standard input. E is example/, D and V are of the cases.
+LINES = [
+    ("fmt E/hand-written.mod", b""),
+    ("fmt D/go.mod", b""),
+    ("edit E/go.mod go=1.22 require=example.com/q@v1.3.0 droprequire=rsc.io/quote", b""),
+    ("edit D/go.mod go=1.22 require=example.com/q@v2.3.0", b""),
+    ("graph --mod D/go.mod --proxy D/proxy", b""),
+    ("graph --mod E/go.mod --proxy E/cache/download --sum E/go.sum", b""),
+    ("list --mod E/go.mod --proxy E/cache/download --sum E/go.sum", b""),
+    ("list --mod E/go.mod --proxy E/cache/download|E/cache/download", b""),
+    ("list --mod E/go.mod --proxy E/none", b""),
+    ("chain rsc.io/sampler --mod E/go.mod --proxy E/none,E/cache/download", b""),
+    ("chain example.com/Upper --mod D/go.mod --proxy D/proxy", b""),
+    ("versions example.com/p", b"v1.10.0\nv1.9.0\n\njunk\nv2.0.0\n"),
+    ("versions example.com/p --proxy V/cache,V/mirror", b""),
+]
+FOLDERS = {"E": "example", "D": "crates/run_cases/data/example", "V": "crates/run_cases/data/versions"}
+# the modules of the main file in D that a folder and another module replace
+REPLACED = {"./local": "example.com/local@v0.0.0", "example.com/fork@v1.1.0": "example.com/c@v1.9.0"}
+NO_MEMORY = b"", b"gomod: no memory\n", 3
+# how many seconds a run has, and how many runs there are side by side
+LIMIT = 60
+AT_ONCE = len(os.sched_getaffinity(0))
+
+
+class Fault(NamedTuple):
+    """The call with a number fails with an error, with all later ones if `later` is 1; with a length that isn't negative
+    it moves no more bytes instead."""
+
+    call: str
+    at: int
+    later: int
+    error: int
+    length: int
+
+    def __str__(self):
+        return ":".join(map(str, self))
+
+    def does_nothing(self):
+        """Whether the program must do as without it: the file is closed all the same, a further read or write moves the
+        rest, and the standard library opens a file again if it was interrupted. An interrupted read or write failed."""
+        return self.call == "close" or self.length > 0 or (self.call == "open" and self.error == errno.EINTR)
+
+
+class Call(NamedTuple):
+    """A call of the run without a fault: the file of an open, read or close, or the stream of a write, and the result."""
+
+    call: str
+    file: str
+    result: int
+
+
+def unescaped(text):
+    """A module path or version, given its text in the names of files."""
+    return re.sub("!([a-z])", lambda it: it[1].upper(), text)
+
+
+class Line:
+    """A command line, the result that it has without a fault, and its calls."""
+
+    def __init__(self, trial, text, stdin):
+        self.trial, self.text, self.words, self.stdin = trial, text, text.split(), stdin
+        *self.plain, told = trial.run(self, [])
+        self.plain, self.calls, files = tuple(self.plain), [], {"0": "-"}
+        for call, argument, result in (it.rsplit(" ", 1)[0].split(" ", 1) + [it.rsplit(" ", 1)[1]] for it in told[:-1]):
+            if call == "open" and int(result) >= 0:
+                files[result] = argument
+            self.calls.append(Call(call, argument if call == "open" else files.get(argument, argument), int(result)))
+
+    def value_of(self, option):
+        """The value of an option, or an empty text."""
+        return self.words[self.words.index(option) + 1] if option in self.words else ""
+
+    def name_of(self, file):
+        """How a report names a file that is not named by the words."""
+        for proxy in re.split("[,|]", self.value_of("--proxy")):
+            found = re.fullmatch(rf"{re.escape(proxy)}/(.*)/@v/(?:(list)|(.*)\.mod)", file)
+            if found:
+                path, is_list, version = found.groups()
+                return unescaped(path) + (" list" if is_list else "@" + unescaped(version or ""))
+        return os.path.dirname(file).partition("/")[2]
+
+    def is_named(self, file):
+        """Whether the words name a file, or it is standard input."""
+        return file in (self.words[1], self.value_of("--mod"), self.value_of("--sum"), "-")
+
+    def refusal(self, file):
+        """The result if a file can't be read."""
+        told = f"cannot read {file}" if self.is_named(file) else f"device at {self.name_of(file)}"
+        return b"", f"gomod: {told}\n".encode(), 3
+
+    def missing(self, file):
+        """The line on a file that isn't there."""
+        name = self.name_of(file).removesuffix(" list")
+        return f"{REPLACED.get(name, name)}: Missing".encode()
+
+    def of_kind(self, call):
+        """The calls of a kind."""
+        return [it for it in self.calls if it.call == call]
+
+    def cut(self, number):
+        """The result if the write with a number fails."""
+        before = self.of_kind("write")[: number - 1]
+        out, report = (sum(it.result for it in before if it.file == stream) for stream in "12")
+        return self.plain[0][:out], self.plain[1][:report], 3
+
+    def is_right(self, fault, got):
+        """Whether a result is right with one fault."""
+        calls = self.of_kind(fault.call)[fault.at - 1 :]
+        file = calls[0].file
+        falls_back = "|" in self.value_of("--proxy") and not self.is_named(file) and not fault.later
+        if fault.does_nothing():
+            return got == self.plain
+        if fault.call == "write":
+            return got == self.cut(fault.at)
+        if fault.error == errno.ENOMEM:
+            return got == NO_MEMORY
+        if falls_back:
+            return got == self.plain
+        if fault.error == errno.ENOENT and not self.is_named(file):
+            return self.is_missing(calls if fault.later else calls[:1], got)
+        return got == self.refusal(file)
+
+    def is_missing(self, calls, got):
+        """Whether a result is right if these opens find nothing: the first file is reported, and then only others."""
+        if all(it.result < 0 for it in calls):
+            return got == self.plain
+        lines = set(got[1].splitlines())
+        wanted = {self.missing(it.file) for it in calls}
+        return got[0] == b"" and got[2] == 1 and lines <= wanted and (self.missing(calls[0].file) in lines)
+
+    def is_right_with_two(self, faults, got):
+        """Whether a result is right with several faults, of which none is an ENOENT: that of one of them or of none, or
+        a beginning of it if a write fails."""
+        right = [self.plain]
+        if any(it.call == "memory" or it.error == errno.ENOMEM for it in faults):
+            right.append(NO_MEMORY)
+        if any(it.call in ("open", "read") for it in faults):
+            right += [self.refusal(it.file) for it in self.calls if it.call in ("open", "read")]
+        if any(it.call == "write" and not it.does_nothing() for it in faults) and got[2] == 3:
+            return any(it[0].startswith(got[0]) and it[1].startswith(got[1]) for it in right)
+        return got in right
+
+    def faults(self):
+        """Each fault that is tried alone."""
+        for call, errors in ERRORS.items():
+            for at, later in itertools.product(range(1, len(self.of_kind(call)) + 1), (0, 1)):
+                for name in errors:
+                    # an open that is interrupted for ever is tried for ever
+                    if not (later and call == "open" and name == "EINTR"):
+                        yield Fault(call, at, later, getattr(errno, name), -1)
+                for length in LENGTHS.get(call, ()):
+                    yield Fault(call, at, later, 0, length)
+
+    def some_fault(self, chance):
+        """A fault at random, for a pair."""
+        call = chance.choice(["memory", "open", "read", "write", "close"])
+        at = chance.randint(1, 300 if call == "memory" else max(1, len(self.of_kind(call))))
+        error = "ENOMEM" if call == "memory" else chance.choice([it for it in ERRORS[call] if it != "ENOENT"])
+        later = chance.randint(0, 0 if call == "open" and error == "EINTR" else 1)
+        length = chance.choice(LENGTHS[call]) if call in LENGTHS and chance.random() < 0.5 else -1
+        return Fault(call, at, later, getattr(errno, error), length)
+
+
+class Trial:
+    """The program with its library, in a scratch folder, and what was found."""
+
+    def __init__(self, program, library, folder):
+        self.program, self.folder, self.runs, self.wrong = program, folder, 0, 0
+        self.environment = {**os.environ, "LD_PRELOAD": library}
+        self.pool = concurrent.futures.ThreadPoolExecutor(AT_ONCE)
+
+    def run(self, line, faults):
+        """The output, the report and the status of a command line with these faults, and what the library told."""
+        told = os.memfd_create("told")
+        try:
+            got = subprocess.run(
+                ["gomod", *line.words],
+                executable=self.program,
+                cwd=self.folder,
+                env={**self.environment, "FAULTS": " ".join(map(str, faults)), "FAULTS_TOLD": str(told)},
+                pass_fds=[told],
+                input=line.stdin,
+                capture_output=True,
+                timeout=LIMIT,
+            )
+            text = os.pread(told, os.fstat(told).st_size, 0).decode()
+            return got.stdout, got.stderr, got.returncode, text.splitlines()
+        except subprocess.TimeoutExpired:
+            return b"", f"not ended after {LIMIT} seconds".encode(), -1, ["changed 1"]
+        finally:
+            os.close(told)
+
+    def judge(self, line, faults, is_right):
+        """Runs a command line with faults, and prints it if the result is wrong, or if no call was changed."""
+        *got, told = self.run(line, faults)
+        self.runs += 1
+        is_met = len(faults) > 1 or told[-1:] != ["changed 0"]
+        if is_right(tuple(got)) and is_met:
+            return
+        self.wrong += 1
+        print(f"gomod {line.text}\n  FAULTS='{' '.join(map(str, faults))}'{'' if is_met else ': no call was changed'}")
+        print(f"  output {got[0][:300]}, report {got[1][:300]}, status {got[2]}", flush=True)
+
+    def all_at(self, jobs):
+        """Judges each job, many at once: a line, its faults, and what is right."""
+        for _ in self.pool.map(lambda job: self.judge(*job), jobs):
+            pass
+
+    def try_each(self, lines):
+        """Each fault of each line alone."""
+        self.all_at(
+            (line, [fault], lambda got, line=line, fault=fault: line.is_right(fault, got))
+            for line in lines
+            for fault in line.faults()
+        )
+
+    def try_pairs(self, lines, seconds, seed):
+        """Two faults at once for so many seconds. Lines whose proxy folders fall back are left out: there two failures
+        have a result that none of them has alone."""
+        chance, end = random.Random(seed), time.monotonic() + seconds
+        lines = [it for it in lines if "|" not in it.text]
+        while time.monotonic() < end:
+            jobs = []
+            for _ in range(16 * AT_ONCE):
+                line = chance.choice(lines)
+                faults = [line.some_fault(chance), line.some_fault(chance)]
+                jobs.append((line, faults, lambda got, line=line, two=faults: line.is_right_with_two(two, got)))
+            self.all_at(jobs)
+
+
+def main(program, library, seconds, seed):
+    """Tries all, and returns the status."""
+    folder = tempfile.mkdtemp(prefix="gomod-faults-")
+    try:
+        for name, place in FOLDERS.items():
+            shutil.copytree(place, os.path.join(folder, name))
+        trial = Trial(program, library, folder)
+        lines = [Line(trial, *it) for it in LINES]
+        trial.try_each(lines)
+        single = trial.runs
+        trial.try_pairs(lines, float(seconds), int(seed))
+        print(f"{single} runs with a fault, {trial.runs - single} with two, {trial.wrong} wrong")
+        return 1 if trial.wrong else 0
+    finally:
+        shutil.rmtree(folder)
+
+
+if __name__ == "__main__":
+    if sys.argv[1:2] in (["-h"], ["--help"]):
+        print(__doc__.strip())
+        sys.exit()
+    sys.exit(main(*sys.argv[1:]))
