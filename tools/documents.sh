@@ -45,8 +45,8 @@ MADE = "crates/hello"
 BUDGETS = """
  6500 docs/use/*.md
  1150 docs/use/GO.md
-10550 docs/proof/*.md
- 5000 docs/proof/SPEC.md
+10600 docs/proof/*.md
+ 5070 docs/proof/SPEC.md
  3000 docs/lib/*.md
  1500 docs/lib/LIBRARY.md
  1500 docs/lib/CRATES.md
