@@ -4,6 +4,7 @@
 #   tools/compare-go.sh [WORLDS [SEED]]     random worlds SEED, SEED + 1, .. (100 from 1)
 #   tools/compare-go.sh --cache DIR --mod FILE [EDITS [SEED]]
 #                                           a cache/download folder, and a go.mod with random edits (100)
+#   tools/compare-go.sh --rows [ROW]        the worlds of tools/go_rows.py, for each row of docs/use/GO.md or this one
 #   tools/compare-go.sh --go COMMAND ..     with this go, as /usr/lib/go-1.19/bin/go
 #   tools/compare-go.sh --check             the check of this script that .ci/run runs, which needs no go
 #   tools/compare-go.sh --record COMMAND    writes what go answers in that check anew
@@ -19,10 +20,14 @@
 # and for each command how many results were the same, refused by both, or differ in a way that has a row in the table
 # of docs/use/GO.md; a result can differ in several. The status is 1 if there is a difference without a name.
 #
-# --check compares a tidy module with the cache that `go mod download` filled, example/go.mod and example/tidy.mod.
-# Instead of go there is tools/recorded_go.py, which gives the answers of go 1.19.8 in tools/go_answers.json. The status
-# is 1 unless there is no difference without a name, each one is named if gomod leaves out a line of a command, and a
-# proxy without the .info of a pruned-out module is found.
+# --rows asks both in worlds made by hand. The status is 1 unless each row of the table of docs/use/GO.md has a world,
+# each world has a difference of its row and of no other, and both programs say what tools/go_rows.py has of them.
+#
+# --check compares a tidy module with the cache that `go mod download` filled, example/go.mod, example/tidy.mod, and the
+# worlds of --rows. Instead of go there is tools/recorded_go.py, which gives the answers of go 1.19.8 in
+# tools/go_answers.json. The status is 1 unless there is no difference without a name, each one is named if gomod leaves
+# out a line of a command, and a proxy without the .info of a pruned-out module is found, and so are a row taken out of
+# docs/use/GO.md, one without a world, and a world with a difference that has no row.
 #
 # It needs bin/gomod (./build makes it), a go command of 1.19 or later (in Debian: apt-get install golang-go) and
 # python3. 300 worlds take about 35 s of CPU time.

@@ -5,11 +5,13 @@ import json
 import os
 import random
 import re
+import shlex
 import shutil
 import subprocess
 import sys
 import tempfile
 
+import go_rows
 from go_worlds import UNFETCHABLE, World, escaped, fits, lay_tidy_world, operations, order_of, read, write
 
 TOP = os.path.dirname(os.path.dirname(os.path.abspath(__file__)))
@@ -32,8 +34,23 @@ EXCLUDED = "Versions that the main file excludes"
 TWICE = "A version that stands twice in a list"
 DROPPED = "What `go mod edit` drops as it formats"
 TWO_REPLACES = "Two `replace` of one left side"
-IN_ONE_CALL = ("`retract` of what is there already; `dropretract`, or `dropreplace`, of what the same call added or "
-               "rewrote")
+RETRACT_IN_ONE_CALL = "`retract` of what is there already; `dropretract` of what the same call added"
+NEWER = "`go` and `toolchain` lines of newer graphs"
+REPLACE_IN_ONE_CALL = "An operation on `P@V` after `replace=P=..` in one call"
+# What go says of a file that gomod reads, or refuses for another reason; what gomod says of one that go reads.
+GO_ALONE = [
+    (r"invalid go version", go_rows.TO_GOMOD),
+    (r"unknown (directive|block type): (toolchain|godebug|tool|ignore)\b", NEWER),
+    (r"unexpected input character '\\u", go_rows.MARKS),
+    (r'version "\S+" invalid', go_rows.UNFIT),
+    (r"appears to be Windows path", "Windows"),
+]
+GOMOD_ALONE = [
+    (r" NotUtf8$", go_rows.COMMENTS),
+    (r" (BadGo|WrongArguments)$", go_rows.BLOCK),
+    (r" Misfit$", go_rows.INCOMPATIBLE),
+    (r" (BadByte|BadEscape|NestedOpen|BadPath|TooLong|TooMany)$", go_rows.PROFILE),
+]
 
 
 class Differences:
@@ -41,7 +58,7 @@ class Differences:
 
     def __init__(self):
         with open(os.path.join(TOP, "docs", "use", "GO.md"), encoding="utf-8") as file:
-            self.names = {line.split("|")[1].strip() for line in file if line.startswith("| ")}
+            self.names = {line.split("|")[1].strip() for line in file if line.startswith("| ")} - {"What"}
         self.counts = collections.defaultdict(collections.Counter)
         self.unexplained = 0
 
@@ -49,6 +66,11 @@ class Differences:
         if kind not in (SAME, BOTH) and kind not in self.names:
             raise SystemExit(f"compare-go: docs/use/GO.md has no row '{kind}'")
         self.counts[command][kind] += number
+
+    def add(self, others):
+        self.unexplained += others.unexplained
+        for command, counts in others.counts.items():
+            self.counts[command].update(counts)
 
     def report(self, where, command, came, wanted, note=""):
         self.unexplained += 1
@@ -69,7 +91,8 @@ class Differences:
 
 class Result:
     def __init__(self, ran):
-        self.status, self.out, self.err = ran.returncode, ran.stdout.decode(), ran.stderr.decode("utf-8", "replace")
+        self.status, self.out = ran.returncode, ran.stdout.decode("utf-8", "surrogateescape")
+        self.err = ran.stderr.decode("utf-8", "replace")
 
     def text(self):
         return self.out if self.status == 0 else f"{self.err}status {self.status}\n"
@@ -80,6 +103,7 @@ class Commands:
 
     def __init__(self, go, room, proxy):
         self.go, self.proxy, self.cache = go, proxy, f"{room}/cache"
+        self.said = {"go": "", "gomod": ""}  # all that the two printed
         self.environment = {
             "PATH": os.path.dirname(go) + ":/usr/bin:/bin", "HOME": room, "GOPATH": f"{room}/gopath",
             "GOMODCACHE": self.cache, "GOCACHE": f"{room}/build", "GOENV": "off", "GOWORK": "off",
@@ -87,14 +111,18 @@ class Commands:
             "GOTOOLCHAIN": "local", "GOVCS": "*:off", "GO111MODULE": "on", "GOTELEMETRY": "off",
         }
 
-    def ask_go(self, folder, *words, mod="readonly"):
-        flags = {"GOFLAGS": f"-mod={mod}"} if mod else {"GOFLAGS": ""}
-        return Result(subprocess.run([self.go, *words], cwd=folder, capture_output=True, timeout=SECONDS,
-                                     stdin=subprocess.DEVNULL, env={**self.environment, **flags}))
+    def ask_go(self, folder, *words, mod="readonly", flags=None):
+        flags = {"GOFLAGS": flags if flags is not None else f"-mod={mod}" if mod else ""}
+        return self.run("go", [self.go, *words], folder, {**self.environment, **flags})
 
     def ask(self, folder, *words):
-        return Result(subprocess.run([GOMOD, *words], cwd=folder, capture_output=True, timeout=SECONDS,
-                                     stdin=subprocess.DEVNULL))
+        return self.run("gomod", [GOMOD, *words], folder, None)
+
+    def run(self, program, words, folder, environment):
+        ran = Result(subprocess.run(words, cwd=folder, capture_output=True, timeout=SECONDS, stdin=subprocess.DEVNULL,
+                                    env=environment))
+        self.said[program] += ran.out + ran.err
+        return ran
 
     def ask_graph(self, folder, *words, sums=False):
         return self.ask(folder, *words, "--proxy", self.proxy, *(["--sum", "go.sum"] if sums else []))
@@ -165,7 +193,7 @@ class Comparison:
             newer = [it for it in theirs if re.search(r"(^| )(go|toolchain)@\S+", it)]
             theirs = sorted(set(theirs) - set(newer), key=lambda it: it.encode())
             if newer:
-                self.found.count("graph", "`go` and `toolchain` lines of newer graphs")
+                self.found.count("graph", NEWER)
             return sorted(set(ours), key=lambda it: it.encode()) == theirs and len(set(ours)) == len(ours)
         return ours == theirs
 
@@ -206,9 +234,11 @@ class Comparison:
         if self.same_lines(came, wanted, command == "graph"):
             self.found.count(command, SAME)
             return True
-        kind = None
+        kind = read_by_one(came, wanted)
         if came.status and wanted.status and self.both_refuse(came, wanted):
             kind = BOTH
+        elif kind:
+            pass
         elif re.search(r"^(\S+@\S+: Malformed|go\.mod:)[ \d]+:? BadVersion$", came.err, re.M):
             kind = NOT_CANONICAL
         elif came.status == 0 and self.is_untidy(command, main, wanted):
@@ -339,9 +369,7 @@ class Comparison:
         if wanted.status:
             if "invalid -go" in wanted.err and any(re.fullmatch(r"go=.*(\..*\.|rc).*", it) for it in operations):
                 return ["A go version in `go mod edit -go`"]
-            if re.search(r"retract.*should be", wanted.err):
-                return ["An operation `retract` of a version that does not fit the path"]
-            return []
+            return [read_by_one(came, wanted)]
         return self.kinds_of_texts(read(f"{main}/go.mod"), came.out, wanted.out, operations) or [SAME]
 
     def kinds_of_texts(self, before, came, wanted, operations):
@@ -364,14 +392,18 @@ class Comparison:
             left = left_of(args)
             kept = [them for it, them, _ in theirs if it == verb and them[:len(left)] == left]
             again = [us for it, us, _ in ours.elements() if it == verb and us[:len(left)] == left]
-            if verb in ("exclude", "replace") and len(again) > 1 and kept:
+            if verb == "replace" and is_rewritten(left[0], operations):
+                kinds.add(REPLACE_IN_ONE_CALL)
+            elif verb in ("exclude", "replace") and len(again) > 1 and kept:
                 kinds.add(DROPPED if args in kept else TWO_REPLACES)
             else:
-                kinds.add(IN_ONE_CALL if verb == "replace" and is_rewritten(left[0], operations) else None)
+                kinds.add(None)
         for verb, args, _ in theirs - ours:
-            is_named = verb == "retract" and any("retract=" in it for it in operations)
-            is_named |= verb == "replace" and is_rewritten(args[0], operations)
-            kinds.add(IN_ONE_CALL if is_named else None)
+            if verb == "retract":
+                kinds.add(RETRACT_IN_ONE_CALL if any("retract=" in it for it in operations) else None)
+            else:
+                is_named = verb == "replace" and is_rewritten(args[0], operations)
+                kinds.add(REPLACE_IN_ONE_CALL if is_named else None)
         return [None] if None in kinds else sorted(kinds)
 
     def compare_layout(self, main, is_laid_out):
@@ -385,6 +417,8 @@ class Comparison:
                 return self.found.count("fmt", "`fmt` of a file with a faulty directive")
             if came.status == 0 and re.match(r"go\.mod:\d+: BadVersion$", strict.err, re.M):
                 return self.found.count("fmt", NOT_CANONICAL)
+            if read_by_one(came, wanted):
+                return self.found.count("fmt", read_by_one(came, wanted))
         elif came.out == wanted.out:
             return self.found.count("fmt", SAME)
         elif not is_laid_out:
@@ -392,6 +426,15 @@ class Comparison:
             if None not in kinds:
                 return [self.found.count("fmt", kind) for kind in kinds]
         return self.found.report(self.where, "fmt", came.text(), wanted.text(), read(f"{main}/go.mod"))
+
+
+def read_by_one(came, wanted):
+    """The row of a file that only one of the two reads, or that they refuse for reasons that differ."""
+    if wanted.status:
+        return next((row for pattern, row in GO_ALONE if re.search(pattern, wanted.err)), None)
+    if came.status:
+        return next((row for pattern, row in GOMOD_ALONE if re.search(pattern, came.err, re.M)), None)
+    return None
 
 
 def is_rewritten(path, operations):
@@ -521,6 +564,52 @@ def compare_tidy(go, room, found):
     compare_cache(go, f"{commands.cache}/cache/download", f"{main}/go.mod", 0, 1, room, found)
 
 
+def compare_row_world(go, row, room, found):
+    """The world of a row of docs/use/GO.md, whose difference has to show there, and no other."""
+    proxy, main = f"{room}/proxy", f"{room}/main"
+    go_rows.lay(row, proxy, main)
+    commands, seen = Commands(go, room, proxy), Differences()
+    at = Comparison(f"the world of '{row.name}', {row.ask}", commands, seen)
+    command, *words = shlex.split(row.ask.replace("{proxy}", proxy).replace("\\", "\\\\"))
+    if row.words:
+        wanted = commands.ask_go(f"{main}/{row.folder}", *shlex.split(row.words), flags=row.flags)
+        came = commands.ask(f"{main}/{row.folder}", command, *words)
+        seen.count(command, row.name if came.text() != wanted.text() else SAME)
+    elif command == "edit":
+        at.compare_edit(main, words)
+    elif command == "fmt":
+        at.compare_layout(main, False)
+    elif command == "versions":
+        excludes = [args for verb, args, _ in pieces_of(row.main)[0] if verb == "exclude"]
+        at.compare_versions(f"{room}/asker", words, excludes)
+    else:
+        at.compare_graph(main, "go.sum" in row.files)
+    found.add(seen)
+    kinds = {kind for counts in seen.counts.values() for kind in counts} - {SAME, BOTH}
+    faults = [f"{at.where}: it has a difference of the row '{it}'" for it in sorted(kinds - {row.name})]
+    faults += [f"{at.where}: it has no difference of that row"] * (row.name not in kinds)
+    for program, text in ("go", row.go), ("gomod", row.gomod):
+        if text not in commands.said[program]:
+            faults.append(f"{at.where}: {program} doesn't say {text!r}, but {commands.said[program][:600]!r}")
+    found.unexplained += len(faults)
+    for it in faults:
+        print(it, flush=True)
+
+
+def compare_rows(go, name, found):
+    """The worlds of tools/go_rows.py, or those of one row: each row of docs/use/GO.md has one, and each is of a row."""
+    named = {it.name for it in go_rows.ROWS}
+    for it in sorted(found.names - named):
+        print(f"docs/use/GO.md: tools/go_rows.py has no world that shows the row '{it}'")
+    for it in sorted(named - found.names):
+        print(f"tools/go_rows.py: docs/use/GO.md has no row '{it}'")
+    if found.names != named:
+        raise SystemExit("compare-go: docs/use/GO.md has other rows than tools/go_rows.py has worlds for")
+    for row in go_rows.ROWS:
+        if name in ("", row.name):
+            in_scratch(compare_row_world, go, row, found)
+
+
 def in_scratch(compare, *words):
     room = tempfile.mkdtemp(prefix="gomod-world-")
     try:
@@ -536,6 +625,7 @@ def main():
     parser.add_argument("worlds", nargs="?", type=int, default=100)
     parser.add_argument("seed", nargs="?", type=int, default=1)
     parser.add_argument("--go", default="go")
+    parser.add_argument("--rows", nargs="?", const="")
     parser.add_argument("--cache")
     parser.add_argument("--mod", default="go.mod")
     asked = parser.parse_args()
@@ -544,7 +634,9 @@ def main():
         raise SystemExit(f"compare-go: there is no command '{asked.go}': install go, or name one with --go")
     go, found = os.path.realpath(go), Differences()
     print(subprocess.run([go, "version"], capture_output=True, text=True, check=True).stdout.strip())
-    if asked.cache:
+    if asked.rows is not None:
+        compare_rows(go, asked.rows, found)
+    elif asked.cache:
         in_scratch(compare_cache, go, asked.cache, asked.mod, asked.worlds, asked.seed, found)
     else:
         tidy = Differences()

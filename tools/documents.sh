@@ -44,8 +44,8 @@ MADE = "crates/hello"
 # How many words documents may have together: a number, and the documents or patterns of their names.
 BUDGETS = """
  6500 docs/use/*.md
- 1150 docs/use/GO.md
-10600 docs/proof/*.md
+ 1435 docs/use/GO.md
+10635 docs/proof/*.md
  5070 docs/proof/SPEC.md
  3000 docs/lib/*.md
  1500 docs/lib/LIBRARY.md

@@ -31,12 +31,12 @@ def escaped(name):
 
 def write(name, text):
     os.makedirs(os.path.dirname(name), exist_ok=True)
-    with open(name, "w", encoding="utf-8", newline="") as file:
+    with open(name, "w", encoding="utf-8", errors="surrogateescape", newline="") as file:
         file.write(text)
 
 
 def read(name):
-    with open(name, encoding="utf-8", newline="") as file:
+    with open(name, encoding="utf-8", errors="surrogateescape", newline="") as file:
         return file.read()
 
 

@@ -23,20 +23,25 @@ import tempfile
 TOP = os.path.dirname(os.path.dirname(os.path.abspath(__file__)))
 ANSWERS = os.path.join(TOP, "tools", "go_answers.json")
 # What a comparison reads of the repository.
-FILES = [f"tools/{it}" for it in ("compare-go.sh", "compare_go.py", "go_worlds.py", "lib.sh")] + ["docs/use/GO.md"]
+TOOLS = ("compare-go.sh", "compare_go.py", "go_rows.py", "go_worlds.py", "lib.sh")
+FILES = [f"tools/{it}" for it in TOOLS] + ["docs/use/GO.md"]
 SECONDS = 300
-# What lays the .info of modules that are pruned out, and a mistake in its place.
-LAID, NOT_LAID = "named |= named_versions(file.read())", "file.read()"
+# Mistakes: without the .info of modules that are pruned out; a row with no world; none, where a difference has one.
+NOT_LAID = ("tools/compare_go.py", "named |= named_versions(file.read())", "file.read()")
+ROW, PAGE = "A comment that is not UTF-8", "docs/use/GO.md"
+ONE_MORE = (PAGE, f"| {ROW} |", f"| Another | | |\n| {ROW} |")
+ONE_LESS = (PAGE, f"| {ROW} |", "")
+NO_NAME = ("tools/compare_go.py", r'(r" NotUtf8$", go_rows.COMMENTS),', "")
 
 
 def read(name):
-    with open(name, encoding="utf-8", newline="") as file:
+    with open(name, encoding="utf-8", errors="surrogateescape", newline="") as file:
         return file.read()
 
 
 def write(name, text, mode=0o644):
     os.makedirs(os.path.dirname(name), exist_ok=True)
-    with open(name, "w", encoding="utf-8", newline="") as file:
+    with open(name, "w", encoding="utf-8", errors="surrogateescape", newline="") as file:
         file.write(text)
     os.chmod(name, mode)
 
@@ -132,17 +137,18 @@ class Check:
         stand_in = [sys.executable, "-B", os.path.abspath(__file__), "--answer", file, real]
         write(f"{room}/go/go", f"#!/bin/sh\nexec {shlex.join(stand_in)} \"$@\"\n", 0o755)
 
-    def run(self, *words, gomod="", mistake=False):
+    def run(self, *words, gomod="", mistake=None):
         """The status and the output of a comparison, with what a shell makes of the output of gomod, or with a mistake
-        in compare_go.py."""
+        in a file: what stands there, and what comes in its place."""
         top = tempfile.mkdtemp(dir=self.room)
         for name in FILES:
             write(f"{top}/{name}", read(f"{TOP}/{name}"), 0o755)
         if mistake:
-            text = read(f"{top}/tools/compare_go.py")
-            if text.count(LAID) != 1:
-                sys.exit(f"compare-go: tools/compare_go.py hasn't once '{LAID}', which --check changes")
-            write(f"{top}/tools/compare_go.py", text.replace(LAID, NOT_LAID))
+            name, old, new = mistake
+            text = read(f"{top}/{name}")
+            if text.count(old) != 1:
+                sys.exit(f"compare-go: {name} hasn't once '{old}', which --check changes")
+            write(f"{top}/{name}", text.replace(old, new))
         program = shlex.quote(f"{TOP}/bin/gomod")
         write(f"{top}/bin/gomod", f"#!/usr/bin/env bash\nset -o pipefail\n{program} \"$@\" {gomod}\n", 0o755)
         ran = subprocess.run([f"{top}/tools/compare-go.sh", "--go", f"{self.room}/go/go", *words], cwd=TOP, text=True,
@@ -179,8 +185,15 @@ def run_all(check):
     for command in commands:
         ran = check.run(*example, gomod=f"| if [ $1 = {command} ]; then sed '/rsc.io.sampler/d'; else cat; fi")
         check.expect(f"gomod {command} without a line", ran, 1, f": {command}", ": a difference that docs/use/GO.md")
-    pruned = check.run("0", mistake=True)
+    pruned = check.run("0", mistake=NOT_LAID)
     check.expect("a proxy without the .info of a pruned-out module", pruned, 1, ": list: a difference", ".info: ")
+    check.expect("the worlds of the rows", check.run("--rows"), 0, none)
+    for what, mistake, says in (
+        ("a row without a world", ONE_MORE, "has no world that shows the row 'Another'"),
+        ("a world without a row", ONE_LESS, f"docs/use/GO.md has no row '{ROW}'"),
+        ("a difference that has no row", NO_NAME, ": a difference that docs/use/GO.md"),
+    ):
+        check.expect(what, check.run("--rows", ROW, mistake=mistake), 1, says)
 
 
 def real_go(command):
