@@ -21,7 +21,7 @@ use Rattle.gomod_run.specs.Outcome.{OrNoMemory, Outcome, code_of, report_outcome
 use Rattle.gomod_run.specs.declared.reports.report.Report.{Report}
 use Rattle.gomod_run.specs.declared.reports.status.Status.{Status}
 use Rattle.gomod_run.specs.declared.inputs.Inputs.{Inputs}
-use Rattle.gomod_run.specs.Program.{IsInputServed, IsMainServed, IsServed, IsStoreRun, IsSumsServed, IsVersionsServed, MayBeTold, untaken}
+use Rattle.gomod_run.specs.Program.{FileGives, IsInputServed, IsMainServed, IsServed, IsStoreRun, IsSumsServed, MayBeTold}
 use Rattle.gomod_run.specs.Reads.{AreBothRead, AreInputs, AreSumsInput, AreSumsUnread, HoldsInput, HoldsNothing, IsOneUnread, IsStoreFolder, IsUnreadInput, IsUnreadList, versions_path, with_proxy}
 use Rattle.gomod_run.specs.Runs.{RunEnds, run_between, told_between}
 use Rattle.gomod_run.specs.Written.{EndsAsStated, EndsOrStops, IsWritten}
@@ -30,34 +30,34 @@ use Rattle.gomod_run.proofs.Endings.{ends_weaken, input_weaken, store_weaken}
 -- ---- the inputs
 
 -- a go.sum that can't be read, where `?` passes that on
-pub sums_passed_on : (may_open : List ℕ → Opening → Type 0) (places : Places) (main : Vec ℕ) (told : Report) (result : Result Inputs Report)
-    → IsErr result → IsErrAnd result (λ passed. passed ≡ told) → MayRead (may_open (string_bytes places.main)) (Ok main)
-    → AreSumsUnread may_open (option_map string_bytes places.sums) (report_outcome told)
-    → MatchResult result (AreBothRead may_open places) (λ told. IsOneUnread may_open places (report_outcome told))
-sums_passed_on may_open places main told (Err passed) none same may is =
-    inr (main, may, subst (λ (told : Report). AreSumsUnread may_open (option_map string_bytes places.sums) (report_outcome told)) (sym same) is)
-sums_passed_on may_open places main told (Ok inputs) none same may is = absurd (cc none)
+pub sums_passed_on : (may_give : List ℕ → Opening → Type 0) (places : Places) (main : Vec ℕ) (told : Report) (result : Result Inputs Report)
+    → IsErr result → IsErrAnd result (λ passed. passed ≡ told) → MayRead (may_give (string_bytes places.main)) (Ok main)
+    → AreSumsUnread may_give (option_map string_bytes places.sums) (report_outcome told)
+    → MatchResult result (AreBothRead may_give places) (λ told. IsOneUnread may_give places (report_outcome told))
+sums_passed_on may_give places main told (Err passed) none same may is =
+    inr (main, may, subst (λ (told : Report). AreSumsUnread may_give (option_map string_bytes places.sums) (report_outcome told)) (sym same) is)
+sums_passed_on may_give places main told (Ok inputs) none same may is = absurd (cc none)
 
 -- a query that runs with what was read of the named go.sum
-sums_served : (may_open : List ℕ → Opening → Type 0) (may_be_told : Answers → Type 0) (command : Command) (name : Option (List ℕ)) (main : List ℕ) (sums : Option (Vec ℕ)) (outcome : Outcome)
-    → AreSumsInput may_open name sums → IsStoreRun may_be_told command main (option_map (λ sums. sums.items) sums) outcome → IsSumsServed may_open may_be_told command name main outcome
-sums_served may_open may_be_told command None main None outcome read runs = runs
-sums_served may_open may_be_told command (Some name) main (Some sums) outcome read runs = (Ok sums, read, runs)
-sums_served may_open may_be_told command None main (Some sums) outcome read runs = absurd read
-sums_served may_open may_be_told command (Some name) main None outcome read runs = absurd read
+sums_served : (may_give : List ℕ → Opening → Type 0) (may_be_told : Answers → Type 0) (command : Command) (name : Option (List ℕ)) (main : List ℕ) (sums : Option (Vec ℕ)) (outcome : Outcome)
+    → AreSumsInput may_give name sums → IsStoreRun may_be_told command main (option_map (λ sums. sums.items) sums) outcome → IsSumsServed may_give may_be_told command name main outcome
+sums_served may_give may_be_told command None main None outcome read runs = runs
+sums_served may_give may_be_told command (Some name) main (Some sums) outcome read runs = (Ok sums, read, runs)
+sums_served may_give may_be_told command None main (Some sums) outcome read runs = absurd read
+sums_served may_give may_be_told command (Some name) main None outcome read runs = absurd read
 
 -- a query that ends because the named go.sum can't be read
-sums_unserved : (may_open : List ℕ → Opening → Type 0) (may_be_told : Answers → Type 0) (command : Command) (name : Option (List ℕ)) (main : List ℕ) (outcome : Outcome)
-    → AreSumsUnread may_open name outcome → IsSumsServed may_open may_be_told command name main outcome
-sums_unserved may_open may_be_told command None main outcome is = absurd is
-sums_unserved may_open may_be_told command (Some name) main outcome (fault, may, is) = (Err fault, may, is)
+sums_unserved : (may_give : List ℕ → Opening → Type 0) (may_be_told : Answers → Type 0) (command : Command) (name : Option (List ℕ)) (main : List ℕ) (outcome : Outcome)
+    → AreSumsUnread may_give name outcome → IsSumsServed may_give may_be_told command name main outcome
+sums_unserved may_give may_be_told command None main outcome is = absurd is
+sums_unserved may_give may_be_told command (Some name) main outcome (fault, may, is) = (Err fault, may, is)
 
 -- a query that ends because one of its files can't be read
-one_unserved : (may_open : List ℕ → Opening → Type 0) (may_be_told : Answers → Type 0) (command : Command) (places : Places) (outcome : Outcome)
-    → IsOneUnread may_open places outcome → IsMainServed may_open may_be_told command (string_bytes places.main) (option_map string_bytes places.sums) outcome
-one_unserved may_open may_be_told command places outcome (inl (fault, may, is)) = (Err fault, may, is)
-one_unserved may_open may_be_told command places outcome (inr both) =
-    (Ok both.0, both.1, sums_unserved may_open may_be_told command (option_map string_bytes places.sums) both.0.items outcome both.2)
+one_unserved : (may_give : List ℕ → Opening → Type 0) (may_be_told : Answers → Type 0) (command : Command) (places : Places) (outcome : Outcome)
+    → IsOneUnread may_give places outcome → IsMainServed may_give may_be_told command (string_bytes places.main) (option_map string_bytes places.sums) outcome
+one_unserved may_give may_be_told command places outcome (inl (fault, may, is)) = (Err fault, may, is)
+one_unserved may_give may_be_told command places outcome (inr both) =
+    (Ok both.0, both.1, sums_unserved may_give may_be_told command (option_map string_bytes places.sums) both.0.items outcome both.2)
 
 -- ---- the folder of the main file
 
@@ -90,42 +90,42 @@ same_run command inputs main sums old new same_main same_sums outcome runs =
     (subst (λ (main : List ℕ). RunEnds command (run_between main sums old new) outcome) same_main runs)
 
 -- a command over proxy folders
-pub folders_served : (may_open : List ℕ → Opening → Type 0) (command : Command) (places : Places) (folders : ProxyList) (folder : List ℕ) (inputs : Inputs) (old new : StoreState)
-    → AreInputs may_open command places inputs → IsStoreFolder command (string_bytes places.main) folder
+pub folders_served : (may_open : List ℕ → Opening → Type 0) (may_take : Opening → Type 0) (command : Command) (places : Places) (folders : ProxyList) (folder : List ℕ) (inputs : Inputs) (old new : StoreState)
+    → AreInputs (FileGives may_open may_take) command places inputs → IsStoreFolder command (string_bytes places.main) folder
     → MayBeTold may_open folder (Some folders) (told_between old new)
-    → (outcome : Outcome) → RunEnds command (run_between inputs.main.items (option_map (λ sums. sums.items) inputs.sums) old new) outcome → IsServed may_open untaken command (with_proxy places (Some folders)) outcome
-folders_served may_open Fmt places folders folder inputs old new read is told outcome runs = (Ok inputs.main, read.0, runs)
-folders_served may_open (Edit operations) places folders folder inputs old new read is told outcome runs = (Ok inputs.main, read.0, runs)
-folders_served may_open (Versions path all) places folders folder inputs old new read is told outcome runs =
+    → (outcome : Outcome) → RunEnds command (run_between inputs.main.items (option_map (λ sums. sums.items) inputs.sums) old new) outcome → IsServed may_open may_take command (with_proxy places (Some folders)) outcome
+folders_served may_open may_take Fmt places folders folder inputs old new read is told outcome runs = (Ok inputs.main, read.0, runs)
+folders_served may_open may_take (Edit operations) places folders folder inputs old new read is told outcome runs = (Ok inputs.main, read.0, runs)
+folders_served may_open may_take (Versions path all) places folders folder inputs old new read is told outcome runs =
     store_weaken (MayBeTold may_open (codes ".") (Some folders)) (Versions path all) [] None old new
     (subst (λ (folder : List ℕ). MayBeTold may_open folder (Some folders) (told_between old new)) is told) outcome runs
-folders_served may_open Graph places folders folder inputs old new read is told outcome runs = (
+folders_served may_open may_take Graph places folders folder inputs old new read is told outcome runs = (
   folder,
   is,
   (
     Ok inputs.main,
     read.0,
-    sums_served may_open (MayBeTold may_open folder (Some folders)) Graph (option_map string_bytes places.sums) inputs.main.items inputs.sums outcome read.1
+    sums_served (FileGives may_open may_take) (MayBeTold may_open folder (Some folders)) Graph (option_map string_bytes places.sums) inputs.main.items inputs.sums outcome read.1
         (store_weaken (MayBeTold may_open folder (Some folders)) Graph inputs.main.items (option_map (λ sums. sums.items) inputs.sums) old new told outcome runs),
   ),
 )
-folders_served may_open (Rows after limit) places folders folder inputs old new read is told outcome runs = (
+folders_served may_open may_take (Rows after limit) places folders folder inputs old new read is told outcome runs = (
   folder,
   is,
   (
     Ok inputs.main,
     read.0,
-    sums_served may_open (MayBeTold may_open folder (Some folders)) (Rows after limit) (option_map string_bytes places.sums) inputs.main.items inputs.sums outcome read.1
+    sums_served (FileGives may_open may_take) (MayBeTold may_open folder (Some folders)) (Rows after limit) (option_map string_bytes places.sums) inputs.main.items inputs.sums outcome read.1
         (store_weaken (MayBeTold may_open folder (Some folders)) (Rows after limit) inputs.main.items (option_map (λ sums. sums.items) inputs.sums) old new told outcome runs),
   ),
 )
-folders_served may_open (Chain path) places folders folder inputs old new read is told outcome runs = (
+folders_served may_open may_take (Chain path) places folders folder inputs old new read is told outcome runs = (
   folder,
   is,
   (
     Ok inputs.main,
     read.0,
-    sums_served may_open (MayBeTold may_open folder (Some folders)) (Chain path) (option_map string_bytes places.sums) inputs.main.items inputs.sums outcome read.1
+    sums_served (FileGives may_open may_take) (MayBeTold may_open folder (Some folders)) (Chain path) (option_map string_bytes places.sums) inputs.main.items inputs.sums outcome read.1
         (store_weaken (MayBeTold may_open folder (Some folders)) (Chain path) inputs.main.items (option_map (λ sums. sums.items) inputs.sums) old new told outcome runs),
   ),
 )
@@ -136,34 +136,34 @@ empty_told : (store : MemoryFiles) (asked : List (Name × Reply)) → ((name : N
 empty_told store asked empty allowed name reply k = allowed name reply k ∙ ap (reply_for longest) (empty name)
 
 -- a query over an empty store
-query_in_memory : (may_open : List ℕ → Opening → Type 0) (command : Command) (places : Places) (inputs : Inputs) (before after : MemoryFiles)
-    → AreBothRead may_open places inputs → ((name : Name) → held_at before name ≡ None)
+query_in_memory : (may_open : List ℕ → Opening → Type 0) (may_take : Opening → Type 0) (command : Command) (places : Places) (inputs : Inputs) (before after : MemoryFiles)
+    → AreBothRead (FileGives may_open may_take) places inputs → ((name : Name) → held_at before name ≡ None)
     → ((name : Name) (reply : Reply) → Contains (pairs_of after) (name, reply) → may_give before name (Some reply)) → (folder : List ℕ)
     → (outcome : Outcome) → RunEnds command (run_between inputs.main.items (option_map (λ sums. sums.items) inputs.sums) (memory_files_state before) (memory_files_state after)) outcome
-    → IsMainServed may_open (MayBeTold may_open folder None) command (string_bytes places.main) (option_map string_bytes places.sums) outcome
-query_in_memory may_open command places inputs before after read empty allowed folder outcome runs = (
+    → IsMainServed (FileGives may_open may_take) (MayBeTold may_open folder None) command (string_bytes places.main) (option_map string_bytes places.sums) outcome
+query_in_memory may_open may_take command places inputs before after read empty allowed folder outcome runs = (
   Ok inputs.main,
   read.0,
-  sums_served may_open (MayBeTold may_open folder None) command (option_map string_bytes places.sums) inputs.main.items inputs.sums outcome read.1
+  sums_served (FileGives may_open may_take) (MayBeTold may_open folder None) command (option_map string_bytes places.sums) inputs.main.items inputs.sums outcome read.1
       (store_weaken (MayBeTold may_open folder None) command inputs.main.items (option_map (λ sums. sums.items) inputs.sums) (memory_files_state before) (memory_files_state after)
       (empty_told before (pairs_of after) empty allowed, refl) outcome runs),
 )
 
 -- a command but `versions`, over an empty store
-pub memory_served : (may_open : List ℕ → Opening → Type 0) (command : Command) (places : Places) (inputs : Inputs) (before after : MemoryFiles)
-    → versions_path command ≡ None → AreInputs may_open command places inputs → HoldsNothing before
+pub memory_served : (may_open : List ℕ → Opening → Type 0) (may_take : Opening → Type 0) (command : Command) (places : Places) (inputs : Inputs) (before after : MemoryFiles)
+    → versions_path command ≡ None → AreInputs (FileGives may_open may_take) command places inputs → HoldsNothing before
     → ((name : Name) (reply : Reply) → Contains (pairs_of after) (name, reply) → may_give before name (Some reply))
     → (outcome : Outcome) → RunEnds command (run_between inputs.main.items (option_map (λ sums. sums.items) inputs.sums) (memory_files_state before) (memory_files_state after)) outcome
-    → IsServed may_open untaken command (with_proxy places None) outcome
-memory_served may_open Fmt places inputs before after other read holds allowed outcome runs = (Ok inputs.main, read.0, runs)
-memory_served may_open (Edit operations) places inputs before after other read holds allowed outcome runs = (Ok inputs.main, read.0, runs)
-memory_served may_open (Versions path all) places inputs before after other read holds allowed outcome runs = cc other
-memory_served may_open Graph places inputs before after other read holds allowed outcome runs =
-    let folder = a_folder (string_bytes places.main) in (folder.0, folder.1, query_in_memory may_open Graph places inputs before after read holds allowed folder.0 outcome runs)
-memory_served may_open (Rows after' limit) places inputs before after other read holds allowed outcome runs =
-    let folder = a_folder (string_bytes places.main) in (folder.0, folder.1, query_in_memory may_open (Rows after' limit) places inputs before after read holds allowed folder.0 outcome runs)
-memory_served may_open (Chain path) places inputs before after other read holds allowed outcome runs =
-    let folder = a_folder (string_bytes places.main) in (folder.0, folder.1, query_in_memory may_open (Chain path) places inputs before after read holds allowed folder.0 outcome runs)
+    → IsServed may_open may_take command (with_proxy places None) outcome
+memory_served may_open may_take Fmt places inputs before after other read holds allowed outcome runs = (Ok inputs.main, read.0, runs)
+memory_served may_open may_take (Edit operations) places inputs before after other read holds allowed outcome runs = (Ok inputs.main, read.0, runs)
+memory_served may_open may_take (Versions path all) places inputs before after other read holds allowed outcome runs = cc other
+memory_served may_open may_take Graph places inputs before after other read holds allowed outcome runs =
+    let folder = a_folder (string_bytes places.main) in (folder.0, folder.1, query_in_memory may_open may_take Graph places inputs before after read holds allowed folder.0 outcome runs)
+memory_served may_open may_take (Rows after' limit) places inputs before after other read holds allowed outcome runs =
+    let folder = a_folder (string_bytes places.main) in (folder.0, folder.1, query_in_memory may_open may_take (Rows after' limit) places inputs before after read holds allowed folder.0 outcome runs)
+memory_served may_open may_take (Chain path) places inputs before after other read holds allowed outcome runs =
+    let folder = a_folder (string_bytes places.main) in (folder.0, folder.1, query_in_memory may_open may_take (Chain path) places inputs before after read holds allowed folder.0 outcome runs)
 
 -- `versions` over standard input
 pub input_served : (may_take : Opening → Type 0) (command : Command) (path : List ℕ) (before after : MemoryFiles) → versions_path command ≡ Some path → HoldsInput may_take path before
@@ -191,17 +191,17 @@ input_is_served may_open may_take (Chain path) own places is outcome served = cc
 -- ---- what can't be read
 
 -- the report of a file that can't be read is an outcome of the command
-pub input_unserved : (may_open : List ℕ → Opening → Type 0) (command : Command) (places : Places) (proxy : Option ProxyList) (outcome : Outcome) → IsUnreadInput may_open command places outcome
-    → IsServed may_open untaken command (with_proxy places proxy) outcome
-input_unserved may_open Fmt places proxy outcome (fault, may, is) = (Err fault, may, is)
-input_unserved may_open (Edit operations) places proxy outcome (fault, may, is) = (Err fault, may, is)
-input_unserved may_open (Versions path all) places proxy outcome is = absurd is
-input_unserved may_open Graph places proxy outcome is =
-    let folder = a_folder (string_bytes places.main) in (folder.0, folder.1, one_unserved may_open (MayBeTold may_open folder.0 proxy) Graph places outcome is)
-input_unserved may_open (Rows after limit) places proxy outcome is =
-    let folder = a_folder (string_bytes places.main) in (folder.0, folder.1, one_unserved may_open (MayBeTold may_open folder.0 proxy) (Rows after limit) places outcome is)
-input_unserved may_open (Chain path) places proxy outcome is =
-    let folder = a_folder (string_bytes places.main) in (folder.0, folder.1, one_unserved may_open (MayBeTold may_open folder.0 proxy) (Chain path) places outcome is)
+pub input_unserved : (may_open : List ℕ → Opening → Type 0) (may_take : Opening → Type 0) (command : Command) (places : Places) (proxy : Option ProxyList) (outcome : Outcome) → IsUnreadInput (FileGives may_open may_take) command places outcome
+    → IsServed may_open may_take command (with_proxy places proxy) outcome
+input_unserved may_open may_take Fmt places proxy outcome (fault, may, is) = (Err fault, may, is)
+input_unserved may_open may_take (Edit operations) places proxy outcome (fault, may, is) = (Err fault, may, is)
+input_unserved may_open may_take (Versions path all) places proxy outcome is = absurd is
+input_unserved may_open may_take Graph places proxy outcome is =
+    let folder = a_folder (string_bytes places.main) in (folder.0, folder.1, one_unserved (FileGives may_open may_take) (MayBeTold may_open folder.0 proxy) Graph places outcome is)
+input_unserved may_open may_take (Rows after limit) places proxy outcome is =
+    let folder = a_folder (string_bytes places.main) in (folder.0, folder.1, one_unserved (FileGives may_open may_take) (MayBeTold may_open folder.0 proxy) (Rows after limit) places outcome is)
+input_unserved may_open may_take (Chain path) places proxy outcome is =
+    let folder = a_folder (string_bytes places.main) in (folder.0, folder.1, one_unserved (FileGives may_open may_take) (MayBeTold may_open folder.0 proxy) (Chain path) places outcome is)
 
 -- and so is the report of standard input
 pub input_unread : (may_take : Opening → Type 0) (command : Command) (path : List ℕ) (outcome : Outcome) → IsUnreadList may_take outcome → IsInputServed may_take command path outcome
@@ -222,31 +222,10 @@ pub stopped : (stated : Outcome → Type 0) (out report : SinkState) (told : Rep
 stopped stated out report told (Err passed) same is = (subst (λ (told : Report). OrNoMemory stated (report_outcome told)) (sym same) is, refl, refl)
 stopped stated out report told (Ok status) same is = absurd same
 
--- a run of `versions` that took no standard input was one over proxy folders
-untaken_versions : (may_open : List ℕ → Opening → Type 0) (may_take : Opening → Type 0) (command : Command) (path : List ℕ) (proxy : Option ProxyList) (outcome : Outcome)
-    → IsVersionsServed may_open untaken command path proxy outcome → IsVersionsServed may_open may_take command path proxy outcome
-untaken_versions may_open may_take command path None outcome (read, may, is) = absurd may.1
-untaken_versions may_open may_take command path (Some folders) outcome served = served
-
--- a run that took no standard input is one whatever comes of taking it
-untaken_served : (may_open : List ℕ → Opening → Type 0) (may_take : Opening → Type 0) (command : Command) (places : Places) (outcome : Outcome)
-    → IsServed may_open untaken command places outcome → IsServed may_open may_take command places outcome
-untaken_served may_open may_take Fmt places outcome served = served
-untaken_served may_open may_take (Edit operations) places outcome served = served
-untaken_served may_open may_take (Versions path all) places outcome served = untaken_versions may_open may_take (Versions path all) path places.proxy outcome served
-untaken_served may_open may_take Graph places outcome served = served
-untaken_served may_open may_take (Rows after limit) places outcome served = served
-untaken_served may_open may_take (Chain path) places outcome served = served
-
 module _ (may_open : List ℕ → Opening → Type 0) (may_take : Opening → Type 0) (command : Command) (places : Places) where
   -- what a run over a store gives its caller
   abbrev pub ServedRun : Option ProxyList → SinkState → SinkState → SinkState → SinkState → Result Status Report → Type 0
   ServedRun proxy out out' report report' served = EndsOrStops (IsServed may_open may_take command (with_proxy places proxy)) out out' report report' served
-
-  pub untaken_run : (proxy : Option ProxyList) (out out' report report' : SinkState) (served : Result Status Report)
-      → EndsOrStops (IsServed may_open untaken command (with_proxy places proxy)) out out' report report' served → ServedRun proxy out out' report report' served
-  untaken_run proxy out out' report report' served run =
-      stops_weaken _ _ out out' report report' served (untaken_served may_open may_take command (with_proxy places proxy)) run
 
   -- a run of `versions` over standard input is one without proxy folders
   pub input_run : (path : List ℕ) (out out' report report' : SinkState) (served : Result Status Report) → versions_path command ≡ Some path

@@ -1,5 +1,5 @@
 -- The outcomes of the whole program, from its words to its exit status.
-use Rattle.std.specs.Prelude.{◌≡◌, ◌⊎◌, ◌++◌, ◌∷◌, ℕ, Contains, List, [], Option, Some, None, Result, Ok, Err, codes, option_map, if◌then◌else◌}
+use Rattle.std.specs.Prelude.{◌≡◌, ◌≢◌, ◌⊎◌, ◌++◌, ◌∷◌, ℕ, Contains, List, [], Option, Some, None, Result, Ok, Err, codes, option_map, if◌then◌else◌}
 use Rattle.std.specs.Global.{Vec}
 use Rattle.std.specs.String.{string_bytes}
 use Rattle.gm_store.specs.Asked.{Name, Reply, absent, list_file, reply_for, same_name}
@@ -68,9 +68,10 @@ anything path opening = Unit {0}
 abbrev pub any_input : Opening → Type 0
 any_input opening = Unit {0}
 
--- Standard input is not taken.
-abbrev pub untaken : Opening → Type 0
-untaken opening = ⊥
+-- what a FILE of the command line may give: standard input if it is `-`, otherwise the file with that name
+abbrev pub FileGives : (List ℕ → Opening → Type 0) → (Opening → Type 0) → List ℕ → Opening → Type 0
+FileGives may_open may_take name opening =
+    ((name ≡ codes "-") × may_take opening) ⊎ ((name ≢ codes "-") × may_open name opening)
 
 -- What proxy folders may answer, with this folder of the main file, and at which files their device may fail. Without
 -- proxy folders each file is absent, and no device fails.
@@ -102,41 +103,46 @@ IsVersionsServed may_open may_take command path None outcome = IsInputServed may
 IsVersionsServed may_open may_take command path (Some folders) outcome =
     IsStoreRun (MayBeTold may_open (codes ".") (Some folders)) command [] None outcome
 
+-- In what follows `may_give` relates a FILE to what it may give.
+
 -- the go.sum is read if one is named
 abbrev pub IsSumsServed : (List ℕ → Opening → Type 0) → (Told → Type 0) → Command → Option (List ℕ) → List ℕ
     → Outcome → Type 0
-IsSumsServed may_open may_be_told command None main outcome = IsStoreRun may_be_told command main None outcome
-IsSumsServed may_open may_be_told command (Some name) main outcome = (read : Result (Vec ℕ) ReadFault)
-    × MayRead (may_open name) read
+IsSumsServed may_give may_be_told command None main outcome = IsStoreRun may_be_told command main None outcome
+IsSumsServed may_give may_be_told command (Some name) main outcome = (read : Result (Vec ℕ) ReadFault)
+    × MayRead (may_give name) read
     × IsReadOutcome name (λ sums outcome. IsStoreRun may_be_told command main (Some sums) outcome) read outcome
 
 -- the main file is read, then the go.sum
 abbrev pub IsMainServed : (List ℕ → Opening → Type 0) → (Told → Type 0) → Command → List ℕ → Option (List ℕ)
     → Outcome → Type 0
-IsMainServed may_open may_be_told command name sums outcome = (read : Result (Vec ℕ) ReadFault)
-    × MayRead (may_open name) read
-    × IsReadOutcome name (λ main outcome. IsSumsServed may_open may_be_told command sums main outcome) read outcome
+IsMainServed may_give may_be_told command name sums outcome = (read : Result (Vec ℕ) ReadFault)
+    × MayRead (may_give name) read
+    × IsReadOutcome name (λ main outcome. IsSumsServed may_give may_be_told command sums main outcome) read outcome
 
--- the same with the answers that the named proxy folders may give
-abbrev pub IsQueryServed : (List ℕ → Opening → Type 0) → Command → Places → Outcome → Type 0
-IsQueryServed may_open command places outcome = (folder : List ℕ) × IsFolderOf (string_bytes places.main) folder
-    × IsMainServed may_open (MayBeTold may_open folder places.proxy) command
+-- The same with the answers that the named proxy folders may give. The folder of `-` is the current one, as that of any
+-- name without a slash.
+abbrev pub IsQueryServed : (List ℕ → Opening → Type 0) → (Opening → Type 0) → Command → Places → Outcome → Type 0
+IsQueryServed may_open may_take command places outcome =
+    (folder : List ℕ) × IsFolderOf (string_bytes places.main) folder
+    × IsMainServed (FileGives may_open may_take) (MayBeTold may_open folder places.proxy) command
     (string_bytes places.main) (option_map string_bytes places.sums) outcome
 
--- `fmt` or `edit` over the bytes of the file that the words name
+-- `fmt` or `edit` over the bytes of the FILE that the words name
 abbrev pub IsFileServed : (List ℕ → Opening → Type 0) → Command → List ℕ → Outcome → Type 0
-IsFileServed may_open command name outcome = (read : Result (Vec ℕ) ReadFault)
-    × MayRead (may_open name) read
+IsFileServed may_give command name outcome = (read : Result (Vec ℕ) ReadFault)
+    × MayRead (may_give name) read
     × IsReadOutcome name (λ main outcome. RunEnds command (given_of main None (answers_of [] [])) outcome) read outcome
 
--- a command over the files that the words name, or over standard input
+-- a command over the FILEs that the words name, or over standard input
 abbrev pub IsServed : (List ℕ → Opening → Type 0) → (Opening → Type 0) → Command → Places → Outcome → Type 0
-IsServed may_open may_take Fmt places outcome = IsFileServed may_open Fmt (string_bytes places.main) outcome
+IsServed may_open may_take Fmt places outcome =
+    IsFileServed (FileGives may_open may_take) Fmt (string_bytes places.main) outcome
 IsServed may_open may_take (Edit operations) places outcome =
-    IsFileServed may_open (Edit operations) (string_bytes places.main) outcome
+    IsFileServed (FileGives may_open may_take) (Edit operations) (string_bytes places.main) outcome
 IsServed may_open may_take (Versions path all) places outcome =
     IsVersionsServed may_open may_take (Versions path all) path places.proxy outcome
-IsServed may_open may_take query places outcome = IsQueryServed may_open query places outcome
+IsServed may_open may_take query places outcome = IsQueryServed may_open may_take query places outcome
 
 -- the outcome for these words: their usage error, or the outcome of their command over the files that they name, or
 -- over standard input

@@ -17,59 +17,59 @@ use Rattle.gomod_run.specs.declared.inputs.Inputs.{Inputs}
 use Rattle.gomod_run.specs.Held.{HoldsOne}
 use Rattle.gomod_run.specs.Program.{unread_outcome}
 
--- In what follows `may_open` says what may come of opening the file at a path, and `may_take` what may come of taking
--- standard input.
+-- In what follows `may_give` says what a FILE of the command line may give (`FileGives`), and `may_take` what may come of
+-- taking standard input.
 
 -- the go.sum was read, if one is named
 abbrev pub AreSumsInput : (List ℕ → Opening → Type 0) → Option (List ℕ) → Option (Vec ℕ) → Type 0
-AreSumsInput may_open None None = Unit {0}
-AreSumsInput may_open (Some name) (Some sums) = MayRead (may_open name) (Ok sums)
-AreSumsInput may_open None (Some sums) = ⊥
-AreSumsInput may_open (Some name) None = ⊥
+AreSumsInput may_give None None = Unit {0}
+AreSumsInput may_give (Some name) (Some sums) = MayRead (may_give name) (Ok sums)
+AreSumsInput may_give None (Some sums) = ⊥
+AreSumsInput may_give (Some name) None = ⊥
 
--- the file or device with this name, given what may come of opening it, can't be read, which is reported
+-- the file or device with this name, given what it may give, can't be read, which is reported
 abbrev pub IsUnread : (Opening → Type 0) → List ℕ → Outcome → Type 0
-IsUnread may_open name outcome = (fault : ReadFault) × MayRead may_open (Err fault)
+IsUnread may_give name outcome = (fault : ReadFault) × MayRead may_give (Err fault)
     × (outcome ≡ unread_outcome name fault)
 
 -- the file with this name can't be read, which is reported
 abbrev pub IsFileUnread : (List ℕ → Opening → Type 0) → List ℕ → Outcome → Type 0
-IsFileUnread may_open name outcome = IsUnread (may_open name) name outcome
+IsFileUnread may_give name outcome = IsUnread (may_give name) name outcome
 
 -- a go.sum is named, and can't be read
 abbrev pub AreSumsUnread : (List ℕ → Opening → Type 0) → Option (List ℕ) → Outcome → Type 0
-AreSumsUnread may_open None outcome = ⊥
-AreSumsUnread may_open (Some name) outcome = IsFileUnread may_open name outcome
+AreSumsUnread may_give None outcome = ⊥
+AreSumsUnread may_give (Some name) outcome = IsFileUnread may_give name outcome
 
 -- the main file with this name was read, and no go.sum
 abbrev pub IsMainInput : (List ℕ → Opening → Type 0) → List ℕ → Inputs → Type 0
-IsMainInput may_open name inputs = MayRead (may_open name) (Ok inputs.main) × (inputs.sums ≡ None)
+IsMainInput may_give name inputs = MayRead (may_give name) (Ok inputs.main) × (inputs.sums ≡ None)
 
 -- the main file was read, and the go.sum if one is named
 abbrev pub AreBothRead : (List ℕ → Opening → Type 0) → Places → Inputs → Type 0
-AreBothRead may_open places inputs = MayRead (may_open (string_bytes places.main)) (Ok inputs.main)
-    × AreSumsInput may_open (option_map string_bytes places.sums) inputs.sums
+AreBothRead may_give places inputs = MayRead (may_give (string_bytes places.main)) (Ok inputs.main)
+    × AreSumsInput may_give (option_map string_bytes places.sums) inputs.sums
 
 -- the main file can't be read, or it was read and the go.sum can't be
 abbrev pub IsOneUnread : (List ℕ → Opening → Type 0) → Places → Outcome → Type 0
-IsOneUnread may_open places outcome =
-    IsFileUnread may_open (string_bytes places.main) outcome
-    ⊎ ((main : Vec ℕ) × MayRead (may_open (string_bytes places.main)) (Ok main)
-    × AreSumsUnread may_open (option_map string_bytes places.sums) outcome)
+IsOneUnread may_give places outcome =
+    IsFileUnread may_give (string_bytes places.main) outcome
+    ⊎ ((main : Vec ℕ) × MayRead (may_give (string_bytes places.main)) (Ok main)
+    × AreSumsUnread may_give (option_map string_bytes places.sums) outcome)
 
 -- what a command reads before it runs
 abbrev pub AreInputs : (List ℕ → Opening → Type 0) → Command → Places → Inputs → Type 0
-AreInputs may_open Fmt places inputs = IsMainInput may_open (string_bytes places.main) inputs
-AreInputs may_open (Edit operations) places inputs = IsMainInput may_open (string_bytes places.main) inputs
-AreInputs may_open (Versions path all) places inputs = inputs.sums ≡ None
-AreInputs may_open _ places inputs = AreBothRead may_open places inputs
+AreInputs may_give Fmt places inputs = IsMainInput may_give (string_bytes places.main) inputs
+AreInputs may_give (Edit operations) places inputs = IsMainInput may_give (string_bytes places.main) inputs
+AreInputs may_give (Versions path all) places inputs = inputs.sums ≡ None
+AreInputs may_give _ places inputs = AreBothRead may_give places inputs
 
 -- what it can't read of it, which is reported
 abbrev pub IsUnreadInput : (List ℕ → Opening → Type 0) → Command → Places → Outcome → Type 0
-IsUnreadInput may_open Fmt places outcome = IsFileUnread may_open (string_bytes places.main) outcome
-IsUnreadInput may_open (Edit operations) places outcome = IsFileUnread may_open (string_bytes places.main) outcome
-IsUnreadInput may_open (Versions path all) places outcome = ⊥
-IsUnreadInput may_open _ places outcome = IsOneUnread may_open places outcome
+IsUnreadInput may_give Fmt places outcome = IsFileUnread may_give (string_bytes places.main) outcome
+IsUnreadInput may_give (Edit operations) places outcome = IsFileUnread may_give (string_bytes places.main) outcome
+IsUnreadInput may_give (Versions path all) places outcome = ⊥
+IsUnreadInput may_give _ places outcome = IsOneUnread may_give places outcome
 
 -- the module whose versions a command lists: no other than `versions` lists any
 abbrev pub versions_path : Command → Option (List ℕ)

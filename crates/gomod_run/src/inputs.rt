@@ -1,17 +1,21 @@
-//! Reading the files that a command works on: the main file, then the go.sum if one is named.
+//! Reading the files that a command works on: the main file, then the go.sum if one is named. Either may be standard
+//! input, whose name is `-`.
 
 ghost use Rattle.std.specs.Prelude.{◌≡◌, IfErr, IfOk, MatchResult, Ok, Err};
 ghost use Rattle.std.specs.Option.{option_map};
 ghost use Rattle.std.specs.String.{string_bytes};
 ghost use Rattle.gm_store.specs.Openings.{MayRead};
 ghost use Rattle.gomod_run.specs.Outcome.{report_outcome};
-ghost use Rattle.gomod_run.specs.Program.{unread_outcome};
+ghost use Rattle.gomod_run.specs.Program.{FileGives, unread_outcome};
 ghost use Rattle.gomod_run.specs.Reads.{AreBothRead, AreInputs, AreSumsInput, AreSumsUnread, IsFileUnread, IsMainInput, IsOneUnread, IsUnreadInput};
 
 use crate::reports::report::Report;
-use gm_store::{FileSystem, ReadFault, read_file};
+use gm_store::{FileSystem, ReadFault, StandardInput, read_file, read_input};
 use gomod_words::{Command, Places};
 use std::alloc::Global;
+
+/// The name of standard input, where a file is named.
+pub(crate) const STANDARD_INPUT: &str = "-";
 
 /// The bytes of the files that a command works on, besides those that it asks its store for.
 #[derive(Drop)]
@@ -44,25 +48,42 @@ pub(crate) fn unread_report<'a>(name: &'a str, fault: ReadFault) -> Report<'a>
     }
 }
 
-/// The bytes of the file with this name.
-fn read_named<'a, S: FileSystem + Alloc<A = Global>>(
+/// The bytes of a FILE: of standard input if it is `-`, otherwise of the file with this name.
+fn read_bytes<S: StandardInput + FileSystem + Alloc<A = Global>>(
+    rt: &S,
+    name: &str,
+) -> Result<Vec<u8>, ReadFault>
+    ensures { MayRead (FileGives (S.may_open rt.now) (S.may_take rt.now) name.now) result }
+{
+    match name {
+        STANDARD_INPUT => read_input(rt, rt.alloc()),
+        _ => read_file(rt, rt.alloc(), name),
+    }
+}
+
+/// The bytes of a FILE, or the report that it can't be read.
+fn read_named<'a, S: StandardInput + FileSystem + Alloc<A = Global>>(
     rt: &S,
     name: &'a str,
 ) -> Result<Vec<u8>, Report<'a>>
-    ensures read { IfOk result (λ bytes. MayRead (S.may_open rt.now name.now) (Ok bytes)) }
-    ensures unread { IfErr result (λ told. IsFileUnread (S.may_open rt.now) name.now (report_outcome told)) }
+    ensures read { IfOk result (λ bytes. MayRead (FileGives (S.may_open rt.now) (S.may_take rt.now) name.now)
+        (Ok bytes)) }
+    ensures unread { IfErr result (λ told.
+        IsFileUnread (FileGives (S.may_open rt.now) (S.may_take rt.now)) name.now (report_outcome told)) }
 {
-    read_file(rt, rt.alloc(), name).map_err(|fault| unread_report(name, fault))
+    read_bytes(rt, name).map_err(|fault| unread_report(name, fault))
 }
 
 /// The bytes of the go.sum, if one is named.
-fn read_sums<'a, S: FileSystem + Alloc<A = Global>>(
+fn read_sums<'a, S: StandardInput + FileSystem + Alloc<A = Global>>(
     rt: &S,
     places: &'a Places,
 ) -> Result<Option<Vec<u8>>, Report<'a>>
     ensures { MatchResult result
-        (AreSumsInput (S.may_open rt.now) (option_map string_bytes places.now.sums))
-        (λ told. AreSumsUnread (S.may_open rt.now) (option_map string_bytes places.now.sums) (report_outcome told)) }
+        (AreSumsInput (FileGives (S.may_open rt.now) (S.may_take rt.now))
+            (option_map string_bytes places.now.sums))
+        (λ told. AreSumsUnread (FileGives (S.may_open rt.now) (S.may_take rt.now))
+            (option_map string_bytes places.now.sums) (report_outcome told)) }
 {
     match &places.sums {
         Some(name) => Ok(Some(read_named(rt, name.as_str())?)),
@@ -71,26 +92,28 @@ fn read_sums<'a, S: FileSystem + Alloc<A = Global>>(
 }
 
 /// The main file alone.
-fn read_main<'a, S: FileSystem + Alloc<A = Global>>(
+fn read_main<'a, S: StandardInput + FileSystem + Alloc<A = Global>>(
     rt: &S,
     places: &'a Places,
 ) -> Result<Inputs, Report<'a>>
     ensures { MatchResult result
-        (IsMainInput (S.may_open rt.now) (string_bytes places.now.main))
-        (λ told. IsFileUnread (S.may_open rt.now) (string_bytes places.now.main) (report_outcome told)) }
+        (IsMainInput (FileGives (S.may_open rt.now) (S.may_take rt.now)) (string_bytes places.now.main))
+        (λ told. IsFileUnread (FileGives (S.may_open rt.now) (S.may_take rt.now)) (string_bytes places.now.main)
+            (report_outcome told)) }
 {
     let main = read_named(rt, places.main.as_str())?;
     Ok(Inputs { main, sums: None })
 }
 
 /// The main file, then the go.sum if one is named.
-fn read_both<'a, S: FileSystem + Alloc<A = Global>>(
+fn read_both<'a, S: StandardInput + FileSystem + Alloc<A = Global>>(
     rt: &S,
     places: &'a Places,
 ) -> Result<Inputs, Report<'a>>
     ensures { MatchResult result
-        (AreBothRead (S.may_open rt.now) places.now)
-        (λ told. IsOneUnread (S.may_open rt.now) places.now (report_outcome told)) }
+        (AreBothRead (FileGives (S.may_open rt.now) (S.may_take rt.now)) places.now)
+        (λ told. IsOneUnread (FileGives (S.may_open rt.now) (S.may_take rt.now)) places.now
+            (report_outcome told)) }
 {
     let main = read_named(rt, places.main.as_str())?;
     let sums = read_sums(rt, places)?;
@@ -98,14 +121,15 @@ fn read_both<'a, S: FileSystem + Alloc<A = Global>>(
 }
 
 /// The files that a command works on. `versions` has none.
-pub(crate) fn read_inputs<'a, S: FileSystem + Alloc<A = Global>>(
+pub(crate) fn read_inputs<'a, S: StandardInput + FileSystem + Alloc<A = Global>>(
     rt: &S,
     command: &Command,
     places: &'a Places,
 ) -> Result<Inputs, Report<'a>>
     ensures { MatchResult result
-        (AreInputs (S.may_open rt.now) command.now places.now)
-        (λ told. IsUnreadInput (S.may_open rt.now) command.now places.now (report_outcome told)) }
+        (AreInputs (FileGives (S.may_open rt.now) (S.may_take rt.now)) command.now places.now)
+        (λ told. IsUnreadInput (FileGives (S.may_open rt.now) (S.may_take rt.now)) command.now places.now
+            (report_outcome told)) }
 {
     match command {
         Command::Fmt => read_main(rt, places),

@@ -62,10 +62,12 @@ pub fn ending_of<
 ///
 /// | Command | Reads |
 /// |---|---|
-/// | `fmt`, `edit` | the file that the words name |
+/// | `fmt`, `edit` | the FILE that the words name |
 /// | `versions` with proxy folders | the folders |
 /// | `versions` without | standard input, as the module's list |
 /// | `graph`, `list`, `chain` | the main file, then the go.sum if one is named, then the proxy folders if any |
+///
+/// FILE, the main file and the go.sum are standard input if the words name them `-`.
 ///
 /// | Status | Output | When |
 /// |---|---|---|
@@ -73,7 +75,7 @@ pub fn ending_of<
 /// | 0 | help on `out` | the words ask for help |
 /// | 0 | the version on `out` | the words ask for the version |
 /// | 2 | the usage error on `report` | the words are invalid (`gomod_words::read_words` says which error) |
-/// | 3 | `gomod: cannot read NAME` on `report` | a named file can't be read, or for `versions` standard input (`-`) |
+/// | 3 | `gomod: cannot read NAME` on `report` | a named file or standard input (`-`) can't be read |
 ///
 /// The first file that can't be read is reported, and no go.mod is parsed then. At most 16,777,217 bytes of a file
 /// or of standard input are read: one more than a command accepts, so that the command sees that there are too

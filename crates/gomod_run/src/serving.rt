@@ -3,7 +3,7 @@
 
 ghost use Rattle.std.specs.Prelude.{◌≡◌, IfErr, IfOk, None, Some};
 ghost use Rattle.gomod_run.specs.Outcome.{code_of, report_outcome};
-ghost use Rattle.gomod_run.specs.Program.{IsInputServed, IsServed, untaken};
+ghost use Rattle.gomod_run.specs.Program.{IsInputServed, IsServed};
 ghost use Rattle.gomod_run.specs.Reads.{versions_path, with_proxy};
 ghost use Rattle.gm_store.specs.Taken.{SinkState};
 ghost use Rattle.gomod_run.specs.Written.{EndsAsStated, EndsOrStops, IsWritten};
@@ -20,7 +20,12 @@ use gomod_words::{Command, Places};
 use std::alloc::Global;
 
 /// Runs a command over proxy folders. If something can't be read, nothing is written.
-fn over_folders<'a, S: FileSystem + Copy + Drop + Alloc<A = Global>, O: Sink, R: Sink>(
+fn over_folders<
+    'a,
+    S: StandardInput + FileSystem + Copy + Drop + Alloc<A = Global>,
+    O: Sink,
+    R: Sink,
+>(
     rt: &S,
     command: &Command,
     places: &'a Places,
@@ -29,7 +34,7 @@ fn over_folders<'a, S: FileSystem + Copy + Drop + Alloc<A = Global>, O: Sink, R:
     report: &mut R,
 ) -> Result<Status, Report<'a>>
     ensures { EndsOrStops
-        (IsServed (S.may_open rt.now) untaken command.now (with_proxy places.now (Some folders)))
+        (IsServed (S.may_open rt.now) (S.may_take rt.now) command.now (with_proxy places.now (Some folders)))
         (O.state out.old) (O.state out.new) (R.state report.old) (R.state report.new) result }
 {
     let read = read_inputs(rt, command, places)?;
@@ -48,7 +53,7 @@ fn over_folders<'a, S: FileSystem + Copy + Drop + Alloc<A = Global>, O: Sink, R:
 }
 
 /// Runs a command but `versions` over an empty store. If something can't be read, nothing is written.
-fn over_memory<'a, S: FileSystem + Alloc<A = Global>, O: Sink, R: Sink>(
+fn over_memory<'a, S: StandardInput + FileSystem + Alloc<A = Global>, O: Sink, R: Sink>(
     rt: &S,
     command: &Command,
     places: &'a Places,
@@ -56,7 +61,8 @@ fn over_memory<'a, S: FileSystem + Alloc<A = Global>, O: Sink, R: Sink>(
     report: &mut R,
 ) -> Result<Status, Report<'a>>
     requires { versions_path command.now ≡ None }
-    ensures { EndsOrStops (IsServed (S.may_open rt.now) untaken command.now (with_proxy places.now None))
+    ensures { EndsOrStops
+        (IsServed (S.may_open rt.now) (S.may_take rt.now) command.now (with_proxy places.now None))
         (O.state out.old) (O.state out.new) (R.state report.old) (R.state report.new) result }
 {
     let read = read_inputs(rt, command, places)?;

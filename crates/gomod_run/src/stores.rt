@@ -13,7 +13,7 @@ ghost use Rattle.gomod_run.specs.Outcome.{OrNoMemory, report_outcome};
 ghost use Rattle.gomod_run.specs.Held.{HoldsOne};
 ghost use Rattle.gomod_run.specs.Reads.{HoldsInput, IsStoreFolder, IsUnreadList, versions_path};
 
-use crate::inputs::unread_report;
+use crate::inputs::{STANDARD_INPUT, unread_report};
 use crate::reports::report::Report;
 use gm_name::{ModPath, NoMemory};
 use gm_store::{
@@ -89,7 +89,7 @@ fn read_list<S: StandardInput + Alloc<A = Global>>(rt: &S) -> Result<Vec<u8>, Re
 {
     match read_input(rt, rt.alloc()) {
         Ok(bytes) => Ok(bytes),
-        Err(fault) => Err(unread_report("-", fault)),
+        Err(fault) => Err(unread_report(STANDARD_INPUT, fault)),
     }
 }
 
