@@ -16,8 +16,11 @@
 # a command that reserves more runs out of memory. A case with a line `% memory N` gives N MiB instead. All commands run
 # with the stack that README.md names, and room for their arguments.
 #
-# The standard input of each command but `versions` without --proxy stays open, so one that reads it doesn't end. If a
-# command hasn't ended after 100 seconds, the script ends.
+# The standard input of each command but `versions` without --proxy, and those with a file `-`, stays open, so one that
+# reads it doesn't end. If a command hasn't ended after 100 seconds, the script ends.
+#
+# After the cases `fmt -` reads a pipe, a file, a socket, as a child of Node has it, and a standard input that is closed
+# or a folder, which can't be read.
 #
 # Each command is called by a name that is not UTF-8, which it may not look at. The folder of a case and the one above
 # must have the same files after its commands as before.
@@ -49,6 +52,7 @@ import os
 import re
 import resource
 import shutil
+import socket
 import subprocess
 import sys
 import tempfile
@@ -214,7 +218,9 @@ class Run:
         return [it for it in lost if not any(part in read or (len(part) > 1 and part in text) for part in parts_of(it))]
 
     def reads_input(self):
-        return self.words[1:2] == [b"versions"] and not any(it.startswith(b"--proxy") for it in self.words)
+        if self.words[1:2] == [b"versions"]:
+            return not any(it.startswith(b"--proxy") for it in self.words)
+        return any(it in (b"-", b"--mod=-", b"--sum=-") for it in self.words[2:])
 
     def comes_to(self, program, folder, stdin, refused=None, file_bytes=None, memory=None, cut=None):
         environment = {**os.environ, "LD_PRELOAD": REFUSE_MEMORY, **refused} if refused else os.environ
@@ -482,6 +488,39 @@ def passes(program, path, case):
     return good
 
 
+def standard_inputs(text):
+    """Each kind of standard input, with what it gives a child: the text, or nothing that can be read."""
+    with tempfile.TemporaryFile() as file:
+        file.write(text)
+        file.seek(0)
+        yield "a file", {"stdin": file}, True
+    one, other = socket.socketpair()
+    with one, other:
+        one.sendall(text)
+        one.shutdown(socket.SHUT_WR)
+        yield "a socket", {"stdin": other}, True
+    yield "a pipe", {"input": text}, True
+    folder = os.open("/", os.O_RDONLY)
+    yield "a folder", {"stdin": folder}, False
+    os.close(folder)
+    yield "closed", {"preexec_fn": lambda: os.close(0)}, False
+
+
+def reads_each_input(program):
+    """Whether `fmt -` prints what each kind of standard input gives, and reports one that can't be read."""
+    good = True
+    printed, unread = (b"module example.com/m\n", b"", 0), (b"", b"gomod: cannot read -\n", 3)
+    for kind, given, is_readable in standard_inputs(b"module   example.com/m\n"):
+        done = subprocess.run([program, "fmt", "-"], capture_output=True, timeout=LIMIT, **given)
+        got, wanted = (done.stdout, done.stderr, done.returncode), printed if is_readable else unread
+        if got != wanted:
+            good = False
+            print(f"standard input is {kind}: $ gomod fmt -")
+            told("got", *got)
+            told("wanted", *wanted)
+    return good
+
+
 def main(program, *words):
     if words[:1] == ("--unproved",):
         Run.is_proved, words = False, words[1:]
@@ -496,6 +535,8 @@ def main(program, *words):
             chosen = any(it in case.title for it in titles) if titles else not (REFUSE_MEMORY and case.is_large())
             if chosen and not case.is_left_out() and any(it.words[0] == b"gomod" for it in case.runs):
                 counts[passes(program, path, case)] += 1
+    if not words and not REFUSE_MEMORY:
+        counts[reads_each_input(program)] += 1
     refused = f", {Run.refusals} runs with an allocation refused" if REFUSE_MEMORY else ""
     print(f"{counts[True]} passed, {counts[False]} failed{refused}")
     return 1 if counts[False] else 0

@@ -1,22 +1,24 @@
 //! What command lines ask the program for.
 
-use gomod_case_files::{Case, Run, texts_of, tidied};
+use gomod_case_files::{Case, Run, STDIN, texts_of, tidied};
 use gomod_run::{Command, Places, UsageFault, read_words};
 use std::alloc::{AllocError, Global};
 
 /// What a command line asks for, and the files that it names: the main file and the go.sum by the shortest spelling of
-/// their places.
+/// their places, or by the name of a case's standard input.
 #[derive(Drop)]
 pub(crate) struct Parsed {
     pub(crate) command: Command,
     pub(crate) places: Places,
+    /// Whether the command reads standard input.
+    takes_input: bool,
 }
 
 impl Parsed {
     /// What words ask for, or none if they are a usage error or a request for help.
     fn of(alloc: Global, words: &[&str]) -> Result<Option<Parsed>, AllocError> {
         match read_words(alloc, words) {
-            Ok((command, places)) => tidied_parsed(alloc, Parsed { command, places }),
+            Ok((command, places)) => tidied_parsed(alloc, command, places),
             Err(UsageFault::NoMemory) => Err(AllocError),
             Err(_) => Ok(None),
         }
@@ -31,20 +33,59 @@ impl Parsed {
     }
 }
 
-/// The same, with the places of its files in their shortest spelling.
-fn tidied_parsed(alloc: Global, parsed: Parsed) -> Result<Option<Parsed>, AllocError> {
-    let mut parsed = parsed;
-    tidy(alloc, &mut parsed.places)?;
-    Ok(Some(parsed))
+/// Whether a command reads standard input: `versions` does so without proxy folders, and any command if it is one of the
+/// files that are named.
+fn takes_input(command: &Command, places: &Places) -> bool {
+    match command {
+        Command::Versions { .. } => places.proxy.is_none(),
+        _ => is_input(places.main.as_str()) || names_input(&places.sums),
+    }
+}
+
+/// Whether the go.sum is standard input.
+fn names_input(sums: &Option<String>) -> bool {
+    match sums {
+        Some(place) => is_input(place.as_str()),
+        None => false,
+    }
+}
+
+/// Whether a place that is named is standard input.
+fn is_input(place: &str) -> bool {
+    place == "-"
+}
+
+/// A command, with the places of its files in their shortest spelling.
+fn tidied_parsed(
+    alloc: Global,
+    command: Command,
+    places: Places,
+) -> Result<Option<Parsed>, AllocError> {
+    let takes_input = takes_input(&command, &places);
+    let mut places = places;
+    tidy(alloc, &mut places)?;
+    Ok(Some(Parsed {
+        command,
+        places,
+        takes_input,
+    }))
 }
 
 /// Brings the places of the main file and of the go.sum into their shortest spelling.
 fn tidy(alloc: Global, places: &mut Places) -> Result<(), AllocError> {
-    places.main = tidied(alloc, places.main.as_str())?;
+    places.main = tidied_place(alloc, places.main.as_str())?;
     if let Some(sums) = &mut places.sums {
-        *sums = tidied(alloc, sums.as_str())?;
+        *sums = tidied_place(alloc, sums.as_str())?;
     }
     Ok(())
+}
+
+/// A place in its shortest spelling. Standard input is a file of the case.
+fn tidied_place(alloc: Global, place: &str) -> Result<String, AllocError> {
+    if is_input(place) {
+        return String::from_str(alloc, STDIN);
+    }
+    tidied(alloc, place)
 }
 
 /// A command of a case, and what it asks the program for.
@@ -56,12 +97,10 @@ pub(crate) struct ParsedRun<'a> {
 }
 
 impl<'a> ParsedRun<'a> {
-    /// Whether the command reads standard input: `versions` does so without proxy folders, and no other command.
+    /// Whether the command reads standard input.
     pub(crate) fn takes_input(&self) -> bool {
         match &self.parsed {
-            Some(parsed) => {
-                matches!(parsed.command, Command::Versions { .. }) && parsed.places.proxy.is_none()
-            }
+            Some(parsed) => parsed.takes_input,
             None => false,
         }
     }
