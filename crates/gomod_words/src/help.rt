@@ -195,10 +195,10 @@ path and other words are skipped.",
 };
 
 /// The help of FILE of `fmt`.
-pub(crate) const FMT_FILE: Help = alike!("The go.mod file to format, such as go.mod or /dev/stdin");
+pub(crate) const FMT_FILE: Help = alike!("The go.mod file to format, or - for standard input");
 
 /// The help of FILE of `edit`.
-pub(crate) const EDIT_FILE: Help = alike!("The go.mod file to edit, such as go.mod or /dev/stdin");
+pub(crate) const EDIT_FILE: Help = alike!("The go.mod file to edit, or - for standard input");
 
 /// The help of OP.
 pub(crate) const OPERATION: Help = alike!("An operation, such as go=1.22, without a dash in front");
