@@ -1,6 +1,6 @@
 -- What the words of a command line mean: the table of commands that the parser is given, the command that its
 -- entries stand for, and the faults of words that have no meaning.
-use Rattle.std.specs.Prelude.{◌≡◌, ◌≢◌, ◌⊎◌, ◌||◌, ◌∷◌, ◌++◌, not, ℕ, Bool, IfSome, List, [], Option, Some, None, true, false, codes, encode_utf8_all, flat_map, is_some, map, option_map, unwrap_or, if◌then◌else◌, String}
+use Rattle.std.specs.Prelude.{◌≡◌, ◌≢◌, ◌⊎◌, ◌&&◌, ◌||◌, ◌∷◌, ◌++◌, not, ℕ, Bool, IfSome, List, [], Option, Some, None, true, false, codes, encode_utf8_all, flat_map, is_some, map, option_map, unwrap_or, if◌then◌else◌, String}
 use Rattle.std.specs.Char.Escape.{escape_ascii}
 use Rattle.std.specs.List.{list_all}
 use Rattle.std.specs.Option.{option_map_or}
@@ -122,13 +122,23 @@ IsProxy (Some value) None = ⊥
 IsProxy (Some value) (Some list) =
     (is_proxy value ≡ true) × (folders_in list ≡ folders_of value) × (marks_in list ≡ marks_of value)
 
+-- whether a value is the name of standard input
+abbrev pub is_input : Option Text → Bool
+is_input value = option_map_or (λ name. bytes_eq name (codes "-")) value false
+
+-- whether standard input is both the main file and the go.sum
+abbrev pub is_input_twice : List Row → Bool
+is_input_twice rows = is_input (first_of (codes "mod") rows) && is_input (first_of (codes "sum") rows)
+
 -- The places of a command over a module graph: the proxy folders, which must be given; the main file, which
--- is `go.mod` if `--mod` is not given; and the go.sum, which is `None` if `--sum` is not given.
+-- is `go.mod` if `--mod` is not given; and the go.sum, which is `None` if `--sum` is not given. Standard input is at most
+-- one of the two files.
 abbrev pub ArePlaces : List Row → Places → Type 0
 ArePlaces rows places =
     IsProxy (first_of (codes "proxy") rows) places.proxy × (is_some places.proxy ≡ true)
     × (string_bytes places.main ≡ unwrap_or (first_of (codes "mod") rows) (codes "go.mod"))
     × (option_map string_bytes places.sums ≡ first_of (codes "sum") rows)
+    × (is_input_twice rows ≡ false)
 
 -- the number of rows that the value of `--limit` stands for, or `None` if it is not given
 abbrev pub IsLimit : Option Text → Option ℕ → Type 0
@@ -340,12 +350,19 @@ IsProxyFault value NoMemory = Unit {0}
 IsProxyFault value (BadProxy text) = (value ≡ Some (string_bytes text)) × (is_proxy (string_bytes text) ≡ false)
 IsProxyFault value _ = ⊥
 
--- the value is missing although it must be given, or it is not a valid list of folders, or memory ran out
-abbrev pub IsPlacesFault : Option Text → UsageFault → Type 0
-IsPlacesFault value NoMemory = Unit {0}
-IsPlacesFault value (Line text) = value ≡ None
-IsPlacesFault value (BadProxy text) = (value ≡ Some (string_bytes text)) × (is_proxy (string_bytes text) ≡ false)
-IsPlacesFault value _ = ⊥
+-- the folders of `--proxy` are valid
+abbrev pub HasProxy : List Row → Type 0
+HasProxy rows = (value : Text) × (first_of (codes "proxy") rows ≡ Some value) × (is_proxy value ≡ true)
+
+-- `--proxy` is missing although it must be given, or its value is not a valid list of folders; or it is valid, and
+-- standard input is both the main file and the go.sum; or memory ran out
+abbrev pub IsPlacesFault : List Row → UsageFault → Type 0
+IsPlacesFault rows NoMemory = Unit {0}
+IsPlacesFault rows (Line text) =
+    (first_of (codes "proxy") rows ≡ None) ⊎ (HasProxy rows × (is_input_twice rows ≡ true))
+IsPlacesFault rows (BadProxy text) = (first_of (codes "proxy") rows ≡ Some (string_bytes text))
+    × (is_proxy (string_bytes text) ≡ false)
+IsPlacesFault rows _ = ⊥
 
 -- the value is given and is not a path, or memory ran out
 abbrev pub IsAfterFault : Option Text → UsageFault → Type 0

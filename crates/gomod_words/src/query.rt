@@ -2,11 +2,12 @@
 //! module graph comes from, so these are read in one place.
 
 ghost use Rattle.std.specs.Prelude.{◌≡◌, ℕ, IfErr, IfOk, IfSome, List, Some, codes, option_map, true, unwrap_or};
+ghost use Rattle.std.specs.Option.{option_copied};
 ghost use Rattle.std.specs.String.{string_bytes};
 ghost use Rattle.clap.specs.Words.{first_of, found_of, rows_of};
 ghost use Rattle.gm_name.specs.Path.{IsPath};
 ghost use Rattle.gomod_words.specs.Limits.{limit_of};
-ghost use Rattle.gomod_words.specs.Usage.{ArePlaces, IsAfterFault, IsEntriesFault, IsLimit, IsLimitFault, IsPlacesFault, IsProxy, Means, ShowsLine, is_line_or_memory};
+ghost use Rattle.gomod_words.specs.Usage.{ArePlaces, IsAfterFault, IsEntriesFault, IsLimit, IsLimitFault, IsPlacesFault, IsProxy, Means, ShowsLine, is_input, is_input_twice, is_line_or_memory};
 
 use crate::usage::{Command, Places, UsageFault, line, read_path, read_proxy, value_of};
 use clap::ArgMatches;
@@ -89,7 +90,7 @@ fn proxy_given<'a>(
 ) -> Result<ProxyList, UsageFault>
     ensures proxy { IfOk result (λ list.
         IsProxy (first_of (codes "proxy") (rows_of (found_of found.now))) (Some list)) }
-    ensures fault { IfErr result (IsPlacesFault (first_of (codes "proxy") (rows_of (found_of found.now)))) }
+    ensures fault { IfErr result (IsPlacesFault (rows_of (found_of found.now))) }
     ensures usage { IfErr result (ShowsLine usage.now) }
 {
     match value_of(found, "proxy") {
@@ -120,13 +121,38 @@ fn sums_given<'a>(alloc: Global, found: &ArgMatches<'a>) -> Result<Option<String
     }
 }
 
-/// The files and folders of a command over a module graph with this usage line.
+/// Whether a name that is given is that of standard input.
+fn is_input(name: Option<&str>) -> bool
+    ensures { result ≡ is_input (option_copied name.entry) }
+{
+    match name {
+        Some(name) => name == "-",
+        None => false,
+    }
+}
+
+/// Whether standard input is named twice, as the main file and as the go.sum.
+fn is_input_twice<'a>(found: &ArgMatches<'a>) -> bool
+    ensures { result ≡ is_input_twice (rows_of (found_of found.now)) }
+{
+    is_input(value_of(found, "mod")) && is_input(value_of(found, "sum"))
+}
+
+/// The files and folders of a command over a module graph with this usage line. That standard input is both files is
+/// refused with `Line`, after what is wrong with the folders.
 fn read_places<'a>(alloc: Global, found: &ArgMatches<'a>, usage: &str) -> Result<Places, UsageFault>
     ensures places { IfOk result (ArePlaces (rows_of (found_of found.now))) }
-    ensures fault { IfErr result (IsPlacesFault (first_of (codes "proxy") (rows_of (found_of found.now)))) }
+    ensures fault { IfErr result (IsPlacesFault (rows_of (found_of found.now))) }
     ensures usage { IfErr result (ShowsLine usage.now) }
 {
     let proxy = proxy_given(alloc, found, usage)?;
+    if is_input_twice(found) {
+        return Err(line(
+            alloc,
+            "error: standard input can't be both --mod and --sum",
+            usage,
+        ));
+    }
     let main = main_given(alloc, found)?;
     let sums = sums_given(alloc, found)?;
     Ok(Places {
