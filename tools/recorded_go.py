@@ -25,7 +25,7 @@ ANSWERS = os.path.join(TOP, "tools", "go_answers.json")
 # What a comparison reads of the repository.
 TOOLS = ("compare-go.sh", "compare_go.py", "go_rows.py", "go_worlds.py", "lib.sh")
 FILES = [f"tools/{it}" for it in TOOLS] + ["docs/use/GO.md"]
-SECONDS = 300
+SECONDS = 900
 # Mistakes: without the .info of modules that are pruned out; a row with no world; none, where a difference has one.
 NOT_LAID = ("tools/compare_go.py", "named |= named_versions(file.read())", "file.read()")
 ROW, PAGE = "A comment that is not UTF-8", "docs/use/GO.md"
