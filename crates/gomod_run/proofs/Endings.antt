@@ -1,5 +1,5 @@
 -- Facts about how the program ends.
-use Rattle.std.proofs.Common.{◌≡◌, ◌∙◌, ◌∷◌, ℕ, Bor, List, [], Option, None, Contains, ap, codes, inl, inr, map, subst, sym, Global, String, refl}
+use Rattle.std.proofs.Common.{◌≡◌, ◌∙◌, ◌∷◌, ℕ, Bor, List, [], Option, Some, None, Contains, ap, codes, inl, inr, map, subst, sym, Global, String, refl}
 use Rattle.std.proofs.lemmas.Str.{IsUtf8-nil}
 use Rattle.gm_store.specs.Asked.{Name, Reply, list_file, reply_for}
 use Rattle.std.specs.String.{string_bytes}
