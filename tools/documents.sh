@@ -45,7 +45,7 @@ MADE = "crates/hello"
 BUDGETS = """
  6500 docs/use/*.md
  1435 docs/use/GO.md
-10635 docs/proof/*.md
+12135 docs/proof/*.md
  5070 docs/proof/SPEC.md
  3000 docs/lib/*.md
  1500 docs/lib/LIBRARY.md

@@ -1,5 +1,5 @@
--- How a run without a go.sum ends, computed from a table of what its modules say.
-use Rattle.std.proofs.Common.{◌≡◌, ◌∙◌, ◌++◌, ◌⊎◌, ◌&&◌, ◌||◌, ◌≤◌, ℕ, Bool, true, false, List, [], ◌∷◌, None, Result, Ok, Err, Contains, ap, inl, inr, length, map, nat_eq, not, refl, subst, sym}
+-- How a run ends, computed from a table of what its modules say.
+use Rattle.std.proofs.Common.{Option, ◌≡◌, ◌∙◌, ◌++◌, ◌⊎◌, ◌&&◌, ◌||◌, ◌≤◌, ℕ, Bool, true, false, List, [], ◌∷◌, Result, Ok, Err, Contains, ap, inl, inr, length, map, nat_eq, not, refl, subst, sym}
 use Rattle.std.specs.Cmp.Lexicographic.{pointwise, same_text}
 use Rattle.std.specs.List.{AllByRecursion, IsDistinct}
 use Rattle.std.specs.Ordering.{is_gt}
@@ -15,22 +15,21 @@ use Rattle.page.specs.ModuleVersion.{ModuleVersion, pair_cmp, pair_eq}
 use Rattle.page.specs.Outcomes.{AreFound}
 use Rattle.page.specs.Reading.{file_of, is_askable}
 use Rattle.page.specs.Run.{AreFaults, AreRows, IsDeep, IsEdge, IsFault, IsNeeded, IsOpened, IsTop, Requires, Run, Says, from_deep, from_main, from_top, run_of}
-use Rattle.page.specs.Types.{Class, Fault, Main as FromMain, Of}
+use Rattle.page.specs.Types.{AreSums, Class, Fault, Main as FromMain, Of, Sums}
 use Rattle.page.specs.Version.{version_cmp}
-use Rattle.page.specs.Worlds.{given_by}
-use Rattle.page.proofs.Alone.{member_head, member_tail}
+use Rattle.page.specs.Worlds.{given_with}
 use Rattle.page.proofs.Ending.{IsReadable, settled}
-use Rattle.page.proofs.Members.{Pairs, each_member, member_cases, no_member, pair_same, pairs_of, text_itself}
+use Rattle.page.proofs.Members.{Pairs, each_member, member_cases, member_head, member_tail, no_member, pair_same, pairs_of, text_itself}
 use Rattle.page.proofs.Saying.{class_is, file_is, has_no_fault, required_in, requires_nothing, says}
 
 -- ---- lists
 
 module _ {T : Type 0} where
-  abbrev every : (T → Bool) → List T → Bool
+  abbrev pub every : (T → Bool) → List T → Bool
   every p [] = true
   every p (x ∷ xs) = p x && every p xs
 
-  abbrev some : (T → Bool) → List T → Bool
+  abbrev pub some : (T → Bool) → List T → Bool
   some p [] = false
   some p (x ∷ xs) = p x || some p xs
 
@@ -47,25 +46,25 @@ module _ {T : Type 0} where
       → (x : T) × Contains (y ∷ ys) x × (p x ≡ true)
   some_later p y ys (x, there, is) = (x, member_tail y x ys there, is)
 
-  some_one : (p : T → Bool) (xs : List T) → some p xs ≡ true → (x : T) × Contains xs x × (p x ≡ true)
+  pub some_one : (p : T → Bool) (xs : List T) → some p xs ≡ true → (x : T) × Contains xs x × (p x ≡ true)
   some_one p [] h = absurd (false≢true h)
   some_one p (y ∷ ys) h = elim (or_cases (p y) (some p ys) h) [
     | inl is ↦ (y, member_head y ys, is)
     | inr later ↦ some_later p y ys (some_one p ys later)
   ]
 
-  in_left : (x : T) (xs ys : List T) → Contains xs x → Contains (xs ++ ys) x
+  pub in_left : (x : T) (xs ys : List T) → Contains xs x → Contains (xs ++ ys) x
   in_left x [] ys there = absurd (no_member x there)
   in_left x (z ∷ xs) ys there = elim (member_cases z x xs there) [
     | inl same ↦ subst (Contains (z ∷ xs ++ ys)) same (member_head z (xs ++ ys))
     | inr later ↦ member_tail z x (xs ++ ys) (in_left x xs ys later)
   ]
 
-  in_right : (x : T) (xs ys : List T) → Contains ys x → Contains (xs ++ ys) x
+  pub in_right : (x : T) (xs ys : List T) → Contains ys x → Contains (xs ++ ys) x
   in_right x [] ys there = there
   in_right x (z ∷ xs) ys there = member_tail z x (xs ++ ys) (in_right x xs ys there)
 
-  either_side : (x : T) (xs ys : List T) → Contains (xs ++ ys) x → Contains xs x ⊎ Contains ys x
+  pub either_side : (x : T) (xs ys : List T) → Contains (xs ++ ys) x → Contains xs x ⊎ Contains ys x
   either_side x [] ys there = inr there
   either_side x (z ∷ xs) ys there = elim (member_cases z x (xs ++ ys) there) [
     | inl same ↦ inl (subst (Contains (z ∷ xs)) same (member_head z xs))
@@ -79,16 +78,16 @@ module _ {T : Type 0} where
   changed P Q f [] h = tt
   changed P Q f (x ∷ xs) h = (f x h.0, changed P Q f xs h.1)
 
-abbrev has : List ModuleVersion → ModuleVersion → Bool
+abbrev pub has : List ModuleVersion → ModuleVersion → Bool
 has ys x = some (λ (y : ModuleVersion). pair_eq y x) ys
 
-abbrev are_in : List ModuleVersion → List ModuleVersion → Bool
+abbrev pub are_in : List ModuleVersion → List ModuleVersion → Bool
 are_in xs ys = every (has ys) xs
 
 has_member : (ys : List ModuleVersion) (x : ModuleVersion) → has ys x ≡ true → Contains ys x
 has_member ys x h = let found = some_one (λ (y : ModuleVersion). pair_eq y x) ys h in subst (Contains ys) (pair_same found.0 x found.2) found.1
 
-are_members : (xs ys : List ModuleVersion) → are_in xs ys ≡ true → (x : ModuleVersion) → Contains xs x → Contains ys x
+pub are_members : (xs ys : List ModuleVersion) → are_in xs ys ≡ true → (x : ModuleVersion) → Contains xs x → Contains ys x
 are_members xs ys h x there = has_member ys x (every_one (has ys) xs h x there)
 
 -- ---- tables
@@ -97,7 +96,7 @@ are_members xs ys h x there = has_member ys x (every_one (has ys) xs h x there)
 abbrev pub Row : Type 0
 Row = ModuleVersion × Result Dependency Class
 
-abbrev firsts : List Row → List ModuleVersion
+abbrev pub firsts : List Row → List ModuleVersion
 firsts = map (λ (row : Row). row.0)
 
 first_of : (rows : List Row) (x : ModuleVersion) → Contains (firsts rows) x → (row : Row) × Contains rows row × (row.0 ≡ x)
@@ -114,7 +113,7 @@ first_in (one ∷ rows) row there = elim (member_cases one row rows there) [
   | inr later ↦ member_tail one.0 row.0 (firsts rows) (first_in rows row later)
 ]
 
-abbrev is_shallow : Result Dependency Class → Bool
+abbrev pub is_shallow : Result Dependency Class → Bool
 is_shallow (Ok file) = is_pruned_by file.go
 is_shallow (Err class) = true
 
@@ -122,7 +121,7 @@ abbrev kept : Main → Result Dependency Class → List ModuleVersion
 kept main (Ok file) = without_excluded main file.requirements
 kept main (Err class) = []
 
-abbrev gathered : Main → List Row → List ModuleVersion
+abbrev pub gathered : Main → List Row → List ModuleVersion
 gathered main [] = []
 gathered main (row ∷ rows) = kept main row.1 ++ gathered main rows
 
@@ -143,7 +142,7 @@ in_gathered main (one ∷ rows) row there y is = elim (member_cases one row rows
 ]
 
 -- the module is among the deep ones, or what the row requires need not be
-abbrev is_bounded : Main → List Row → List Row → Bool
+abbrev pub is_bounded : Main → List Row → List Row → Bool
 is_bounded main tops deep =
     (is_pruned_by main.go || are_in (firsts tops) (firsts deep))
     && (every (λ (row : Row). is_shallow row.1 || are_in (kept main row.1) (firsts deep)) tops
@@ -156,7 +155,7 @@ is_led main tops found y =
     || some (λ (row : Row). has (kept main row.1) y) found)
 
 -- each is required by the main file, by a row at the top, or by a row before it
-abbrev is_reached : Main → List Row → List Row → List Row → Bool
+abbrev pub is_reached : Main → List Row → List Row → List Row → Bool
 is_reached main tops found [] = true
 is_reached main tops found (row ∷ rows) = is_led main tops found row.0 && is_reached main tops (row ∷ found) rows
 
@@ -189,24 +188,26 @@ IsReported faults (x, Ok file) = Unit {0}
 IsReported faults (x, Err class) = Contains faults (fault_with x class)
 
 -- what the rows at the top and the deep rows say is all that is opened
-pub record IsTable (content : List ℕ) (main : Main) (asked : List (Name × Reply)) (tops deep : List Row) : Type 0 where
+pub record IsTable (content : List ℕ) (text : Option (List ℕ)) (main : Main) (sums : Option Sums) (asked : List (Name × Reply)) (tops deep : List Row) : Type 0 where
   pub is_main : main_in content ≡ Ok main
+  pub are_sums : AreSums text sums
   pub tops_are : firsts tops ≡ without_excluded main main.requirements
-  pub tells : AllByRecursion (λ (row : Row). Says (run_of main None asked) row.0 row.1) (tops ++ deep)
+  pub tells : AllByRecursion (λ (row : Row). Says (run_of main sums asked) row.0 row.1) (tops ++ deep)
   pub bounded : is_bounded main tops deep ≡ true
   pub reached : is_reached main tops [] deep ≡ true
   pub few : length (firsts (tops ++ deep)) ≤ 65536
 
 -- the answers are those to the files of these rows
-pub record IsAsked (main : Main) (asked : List (Name × Reply)) (rows : List Row) : Type 0 where
-  pub readable : AllByRecursion IsReadable asked
+pub record IsAsked (main : Main) (sums : Option Sums) (asked : List (Name × Reply)) (rows : List Row) : Type 0 where
+  pub readable : AllByRecursion (IsReadable sums) asked
   pub once : IsDistinct same_name (names_in asked)
   pub needed : AllByRecursion (λ (name : Name). (row : Row) × Contains rows row × (file_of main row.0 ≡ name) × (is_askable name ≡ true)) (names_in asked)
   pub were : AllByRecursion (λ (x : ModuleVersion). is_askable (file_of main x) ≡ true → Contains (names_in asked) (file_of main x)) (firsts rows)
 
-module _ (content : List ℕ) (main : Main) (asked : List (Name × Reply)) (tops deep : List Row) (table : IsTable content main asked tops deep) where
+module _ (content : List ℕ) (text : Option (List ℕ)) (main : Main) (sums : Option Sums) (asked : List (Name × Reply)) (tops deep : List Row)
+    (table : IsTable content text main sums asked tops deep) where
   abbrev run : Run
-  run = run_of main None asked
+  run = run_of main sums asked
 
   abbrev rows : List Row
   rows = tops ++ deep
@@ -220,8 +221,8 @@ module _ (content : List ℕ) (main : Main) (asked : List (Name × Reply)) (tops
   -- ---- what a row requires
 
   requires_in : (x : ModuleVersion) (said : Result Dependency Class) → Says run x said → (y : ModuleVersion) → Requires run x y → Contains (kept main said) y
-  requires_in x (Ok file) tells y is = required_in main asked x file (says main asked x (Ok file) tells) y is
-  requires_in x (Err class) tells y is = absurd (requires_nothing main asked x class (says main asked x (Err class) tells) y is)
+  requires_in x (Ok file) tells y is = required_in main sums asked x file (says main sums asked x (Ok file) tells) y is
+  requires_in x (Err class) tells y is = absurd (requires_nothing main sums asked x class (says main sums asked x (Err class) tells) y is)
 
   requires_out : (x : ModuleVersion) (said : Result Dependency Class) → Says run x said → (y : ModuleVersion) → Contains (kept main said) y → Requires run x y
   requires_out x (Ok file) tells y there = (file, tells, there)
@@ -241,11 +242,11 @@ module _ (content : List ℕ) (main : Main) (asked : List (Name × Reply)) (tops
       → is_pruned_by file.go ≡ false → Contains (without_excluded main file.requirements) y → Contains (firsts deep) y
   leads_deep x (Ok own) tells h file y also unpruned there = elim (or_cases (is_pruned_by own.go) (are_in (kept main (Ok own)) (firsts deep)) h) [
     | inl pruned ↦
-        absurd (false≢true (sym unpruned ∙ ap (λ (f : Dependency). is_pruned_by f.go) (sym (file_is main asked x own (says main asked x (Ok own) tells) file also)) ∙ pruned))
+        absurd (false≢true (sym unpruned ∙ ap (λ (f : Dependency). is_pruned_by f.go) (sym (file_is main sums asked x own (says main sums asked x (Ok own) tells) file also)) ∙ pruned))
     | inr within ↦ are_members (kept main (Ok own)) (firsts deep) within y (requires_in x (Ok own) tells y (file, also, there))
   ]
   leads_deep x (Err class) tells h file y also unpruned there =
-      absurd (requires_nothing main asked x class (says main asked x (Err class) tells) y (file, also, there))
+      absurd (requires_nothing main sums asked x class (says main sums asked x (Err class) tells) y (file, also, there))
 
   abbrev bounds : (is_pruned_by main.go || are_in (firsts tops) (firsts deep)) ≡ true
   bounds = (and_parts _ _ table.bounded).0
@@ -342,9 +343,9 @@ module _ (content : List ℕ) (main : Main) (asked : List (Name × Reply)) (tops
 
   reported : (faults : List Fault) (x : ModuleVersion) (said : Result Dependency Class) → Says run x said → IsReported faults (x, said)
       → (class : Class) → Says run x (Err class) → Contains faults (fault_with x class)
-  reported faults x (Ok file) tells is class also = absurd (has_no_fault main asked x file (says main asked x (Ok file) tells) class also)
+  reported faults x (Ok file) tells is class also = absurd (has_no_fault main sums asked x file (says main sums asked x (Ok file) tells) class also)
   reported faults x (Err own) tells is class also =
-      subst (λ (c : Class). Contains faults (fault_with x c)) (class_is main asked x own (says main asked x (Err own) tells) class also) is
+      subst (λ (c : Class). Contains faults (fault_with x c)) (class_is main sums asked x own (says main sums asked x (Err own) tells) class also) is
 
   reported_in : (faults : List Fault) → AllByRecursion (IsReported faults) rows → (one : Fault)
       → (row : Row) × Contains rows row × (row.0 ≡ one.vertex) → Says run one.vertex (Err one.class) → Contains faults one
@@ -371,12 +372,12 @@ module _ (content : List ℕ) (main : Main) (asked : List (Name × Reply)) (tops
   needed_by : (name : Name) → (row : Row) × Contains rows row × (file_of main row.0 ≡ name) × (is_askable name ≡ true) → IsNeeded run name
   needed_by name (row, there, is, askable) = (row.0, opens row there, is, askable)
 
-  pub found_with : IsAsked main asked rows → (faults : List Fault) → Pairs (λ (a b : Fault). pair_cmp a.vertex b.vertex ≡ Less) faults
+  pub found_with : IsAsked main sums asked rows → (faults : List Fault) → Pairs (λ (a b : Fault). pair_cmp a.vertex b.vertex ≡ Less) faults
       → AllByRecursion (λ (one : Fault). Contains rows (one.vertex, Err one.class)) faults → AllByRecursion (IsReported faults) rows
-      → AreFound (given_by content asked) main None faults
+      → AreFound (given_with content text asked) main sums faults
   found_with are faults ascend there every = record {
-    read = record { main_file = table.is_main; sums = tt };
-    settled = settled main asked (firsts rows) opened_in are.readable are.once (changed _ _ needed_by (names_in asked) are.needed) are.were table.few;
+    read = record { main_file = table.is_main; sums = table.are_sums };
+    settled = settled main sums asked (firsts rows) opened_in are.readable are.once (changed _ _ needed_by (names_in asked) are.needed) are.were table.few;
     faults_are = faults_from faults ascend there every;
     none_failed = refl;
   }
@@ -453,8 +454,3 @@ module _ (content : List ℕ) (main : Main) (asked : List (Name × Reply)) (tops
           λ is. placed selected x (every_one (is_placed main ends selected) ends parts.1 x (end_in x is.is_end)) is,
         );
       }
-
-  -- ---- without a fault
-
-  pub sound_by : AreFaults run [] → (x : ModuleVersion) (class : Class) → IsOpened run x → Says run x (Err class) → ⊥
-  sound_by none x class opens_x also = no_member _ ((none.each (fault_with x class)).1 (opens_x, also))

@@ -1,13 +1,13 @@
 -- The files of the worlds and what they say, a stand-in for docs/proof/DIRECTIVES.md.
 use Rattle.std.specs.Prelude.{◌≡◌, ◌++◌, ℕ, if◌then◌else◌, List, [], ◌∷◌, Option, Some, None, Result, Ok, Err, codes}
 use Rattle.std.specs.Str.{bytes_eq}
-use Rattle.page.specs.Asked.{Name}
-use Rattle.page.specs.Directives.{Folder, Lax, Mode, Module, Strict, left_with, left_without}
+use Rattle.page.specs.Asked.{Name, mod_file}
+use Rattle.page.specs.Directives.{Folder, Lax, Mode, Module, Strict}
 use Rattle.page.specs.Fields.{Dependency}
-use Rattle.page.specs.Files.RowFiles.{main_of_rows, said_of_rows}
+use Rattle.page.specs.Files.RowFiles.{every_of, main_of_rows, one_of, said_of_rows}
 use Rattle.page.specs.Main.{Main}
 use Rattle.page.specs.ModuleVersion.{ModuleVersion}
-use Rattle.page.specs.Types.{Class, Misreading, Sums}
+use Rattle.page.specs.Types.{Class, Misreading, Sums, hash_fault}
 pub mod RowFiles
 
 -- ---- modules
@@ -52,8 +52,8 @@ main_file = record {
   go = (1, 17);
   requirements = top_one ∷ mid_nine ∷ low_ten ∷ [];
   excludes = low_ten ∷ [];
-  replaces = (left_with (codes "mid.org") (codes "v1.10.0"), Folder (codes "./mid"))
-      ∷ (left_without (codes "mid.org"), Module (codes "fork.org") (codes "v1.9.0")) ∷ [];
+  replaces = (one_of (codes "mid.org") (codes "v1.10.0"), Folder (codes "./mid"))
+      ∷ (every_of (codes "mid.org"), Module (codes "fork.org") (codes "v1.9.0")) ∷ [];
 }
 
 -- It is not pruned.
@@ -153,6 +153,7 @@ abbrev pub IsMisread : Mode → List ℕ → ℕ → Misreading → Type 0
 IsMisread Strict content line kind = main_in content ≡ Err (line, kind)
 IsMisread Lax content line kind = said_in content ≡ Err (line, kind)
 
--- No world has a go.sum, so none finds a fault.
+-- A module's file has the hash that the go.sum lists, if there is one.
 abbrev pub sum_fault : Option Sums → Name → List ℕ → Option Class
-sum_fault sums name content = None
+sum_fault (Some table) (mod_file path version) content = hash_fault table path version content
+sum_fault _ _ content = None

@@ -1,8 +1,7 @@
 -- Stand-ins for what docs/proof/HEADLINE.md takes from the code, from REPORTS.md and from the crate semver. The copies
 -- beside this file are of the definitions themselves.
-use Rattle.std.specs.Prelude.{ℕ, if◌then◌else◌, List, [], Option, None, ⊤, codes}
-use Rattle.std.specs.Cmp.Lexicographic.{slice_cmp}
-use Rattle.std.specs.Ordering.{nat_cmp}
+use Rattle.std.specs.Prelude.{◌≡◌, ◌&&◌, ℕ, if◌then◌else◌, List, [], ◌∷◌, ◌++◌, Option, Some, None, Result, Ok, Err, ⊤, codes}
+use Rattle.std.specs.Ordering.{nat_cmp, on}
 use Rattle.std.specs.Str.{bytes_eq}
 use Rattle.std.specs.declared.cmp.Ordering.{Ordering}
 
@@ -14,12 +13,14 @@ pub data Misreading : Type 0 where
   NoModule : Misreading
   WrongArguments : Misreading
   Unknown : Misreading
+  BadVersion : Misreading
 
 abbrev pub misreading_word : Misreading → List ℕ
 misreading_word TooMany = codes "TooMany"
 misreading_word NoModule = codes "NoModule"
 misreading_word WrongArguments = codes "WrongArguments"
-misreading_word Unknown = codes "Unknown"
+misreading_word Unknown = codes "UnknownVerb"
+misreading_word BadVersion = codes "BadVersion"
 
 -- what is wrong with a module's file
 pub data Class : Type 0 where
@@ -48,30 +49,60 @@ abbrev pub Parts : Type 0
 Parts = ℕ × ℕ × ℕ × List ℕ × List ℕ
 
 -- the parts of the versions of the worlds
+abbrev pub known_versions : List (List ℕ × Parts)
+known_versions =
+    (codes "v0.0.0", (0, 0, 0, [], [])) ∷ (codes "v0.9.0", (0, 9, 0, [], []))
+    ∷ (codes "v1.0.0-9", (1, 0, 0, codes "9", [])) ∷ (codes "v1.0.0-10", (1, 0, 0, codes "10", []))
+    ∷ (codes "v1.0.9", (1, 0, 9, [], [])) ∷ (codes "v1.0.10", (1, 0, 10, [], []))
+    ∷ (codes "v1.1.0-9", (1, 1, 0, codes "9", [])) ∷ (codes "v1.1.0", (1, 1, 0, [], []))
+    ∷ (codes "v1.2.0", (1, 2, 0, [], [])) ∷ (codes "v1.9.0", (1, 9, 0, [], [])) ∷ (codes "v1.10.0", (1, 10, 0, [], [])) ∷ []
+
+abbrev pub parts_among : List (List ℕ × Parts) → List ℕ → Parts
+parts_among [] text = (1, 0, 0, [], [])
+parts_among (one ∷ others) text = if bytes_eq text one.0 then one.1 else parts_among others text
+
 abbrev pub parts_in : List ℕ → Parts
-parts_in text =
-    if bytes_eq text (codes "v1.10.0") then (1, 10, 0, [], [])
-    else (if bytes_eq text (codes "v1.9.0") then (1, 9, 0, [], [])
-    else (if bytes_eq text (codes "v1.2.0") then (1, 2, 0, [], [])
-    else (if bytes_eq text (codes "v1.1.0") then (1, 1, 0, [], [])
-    else (if bytes_eq text (codes "v0.9.0") then (0, 9, 0, [], [])
-    else (if bytes_eq text (codes "v0.0.0") then (0, 0, 0, [], [])
-    else (1, 0, 0, [], []))))))
+parts_in = parts_among known_versions
 
--- No world has a pre-release.
+-- The pre-releases of the worlds: 9 and 10 are numbers, and none comes after both.
+abbrev pub pre_rank : List ℕ → ℕ
+pre_rank pre = if bytes_eq pre (codes "9") then 9 else (if bytes_eq pre (codes "10") then 10 else 11)
+
 abbrev pub pre_cmp : List ℕ → List ℕ → Ordering
-pre_cmp = slice_cmp nat_cmp
+pre_cmp = on pre_rank nat_cmp
 
--- ---- the go.sum: the worlds have none
+-- ---- the go.sum
 
+-- the text of the file that has the hash of a path and a version
 abbrev pub Sums : Type 0
 Sums = List (List ℕ × List ℕ × List ℕ)
+
+-- Both lines have the hash of the text `module example.com/a` with its line feed.
+abbrev pub sums_text : List ℕ
+sums_text = codes "example.com/a v1.0.0/go.mod h1:NeOsx/KTizj35klXP3wYh3O0751aAtYrRoX+a6YAye8=\n"
+    ++ codes "example.com/c v1.0.0/go.mod h1:NeOsx/KTizj35klXP3wYh3O0751aAtYrRoX+a6YAye8=\n"
+
+abbrev pub sums_table : Sums
+sums_table = (codes "example.com/a", codes "v1.0.0", codes "module example.com/a\n")
+    ∷ (codes "example.com/c", codes "v1.0.0", codes "module example.com/a\n") ∷ []
+
+-- what the bytes of a go.sum say, or the report
+abbrev pub sums_in : List ℕ → Result Sums (List ℕ)
+sums_in text = if bytes_eq text sums_text then Ok sums_table else Err (codes "go.sum:1: BadSum\n")
 
 -- Without a go.sum there is no table.
 abbrev pub AreSums : Option (List ℕ) → Option Sums → Type 0
 AreSums None None = ⊤
+AreSums (Some text) (Some table) = sums_in text ≡ Ok table
 AreSums _ _ = ⊥
 
--- No go.sum is invalid.
 abbrev pub AreInvalidSums : Option (List ℕ) → List ℕ → Type 0
-AreInvalidSums text report = ⊥
+AreInvalidSums None report = ⊥
+AreInvalidSums (Some text) report = sums_in text ≡ Err report
+
+-- the fault of a file of these contents
+abbrev pub hash_fault : Sums → List ℕ → List ℕ → List ℕ → Option Class
+hash_fault [] path version content = Some NoSum
+hash_fault (one ∷ others) path version content =
+    if bytes_eq one.0 path && bytes_eq one.1 version
+    then (if bytes_eq one.2 content then None else Some SumDiffers) else hash_fault others path version content

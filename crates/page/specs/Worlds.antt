@@ -1,9 +1,10 @@
 -- How `list` ends in a few worlds, by the definitions beside this file.
-use Rattle.std.specs.Prelude.{◌≡◌, ℕ, List, [], ◌∷◌, Some, None, codes}
+use Rattle.std.specs.Prelude.{◌≡◌, ℕ, List, [], ◌∷◌, Option, Some, None, codes}
 use Rattle.page.specs.Asked.{Name, Reply, bytes, folder_file, mod_file}
 use Rattle.page.specs.Files.{end_text, folder_text, local_text, low_text, main_text, mid_text, old_text, short_text, top_text}
-use Rattle.page.specs.Outcome.{Outcome, failure_outcome, text_outcome, refusal_outcome}
+use Rattle.page.specs.Outcome.{Outcome}
 use Rattle.page.specs.Outcomes.{Given, ListEnds}
+pub mod Parts
 pub mod Rows
 
 abbrev pub asked_top : Name
@@ -24,9 +25,40 @@ asked_low = mod_file (codes "low.org") (codes "v1.9.0")
 abbrev pub asked_end : Name
 asked_end = mod_file (codes "end.org") (codes "v1.0.0")
 
--- a run over the bytes of a main file without a go.sum, with these answers
+-- ---- runs and outcomes
+
+-- a run over the bytes of a main file, and of a go.sum if there is one, with these answers
+abbrev pub given_with : List ℕ → Option (List ℕ) → List (Name × Reply) → Given
+given_with file sums asked = record { file = file; sums = sums; told = record { asked = asked; failed = [] } }
+
+-- a run without a go.sum
 abbrev pub given_by : List ℕ → List (Name × Reply) → Given
-given_by file asked = record { file = file; sums = None; told = record { asked = asked; failed = [] } }
+given_by file asked = given_with file None asked
+
+-- The device fails on a name.
+abbrev pub failing : List ℕ → List (Name × Reply) → Name → Given
+failing file asked name = record { file = file; sums = None; told = record { asked = asked; failed = name ∷ [] } }
+
+-- Outcomes that are written out: what is printed, with status 0, and what is reported, with status 1 or 3.
+abbrev pub printing : List ℕ → Outcome
+printing text = record { text = text; report = []; status = 0 }
+
+abbrev pub reporting : List ℕ → Outcome
+reporting report = record { text = []; report = report; status = 1 }
+
+abbrev pub failing_with : List ℕ → Outcome
+failing_with report = record { text = []; report = report; status = 3 }
+
+-- A run has no second outcome: the worlds say what is printed or reported, and this says that nothing else is.
+abbrev pub OneOutcome : Type 0
+OneOutcome = (after : Option (List ℕ)) (limit : Option ℕ) (run : Given) (one other : Outcome)
+    → ListEnds after limit run one → ListEnds after limit run other → one ≡ other
+
+-- No run with `list` reads these bytes and gets these answers.
+abbrev pub HasNoOutcome : Given → Type 0
+HasNoOutcome run = (outcome : Outcome) → ListEnds None None run outcome → ⊥
+
+-- ---- worlds
 
 -- the answers to what the pruned main file needs
 abbrev pub pruned_answers : List (Name × Reply)
@@ -48,32 +80,25 @@ unpruned_text = codes "m\nlow.org v1.9.0\nmid.org v1.9.0\n"
 abbrev pub wrong_answers : List (Name × Reply)
 wrong_answers = (asked_mid, bytes top_text) ∷ []
 
--- The whole list and nothing else, its first two rows, what follows a row, and the report on a path without a row.
+-- The whole list, its first two rows, what follows a row, and the report on a path without a row.
 pub record PrunedIsListed : Type 0 where
-  pub whole : ListEnds None None (given_by main_text pruned_answers) (text_outcome pruned_text)
-  pub only : (outcome : Outcome) → ListEnds None None (given_by main_text pruned_answers) outcome
-      → outcome ≡ text_outcome pruned_text
-  pub limited : ListEnds None (Some 2) (given_by main_text pruned_answers) (text_outcome (codes "m\nend.org v1.0.0\n"))
-  pub after : ListEnds (Some (codes "low.org")) None (given_by main_text pruned_answers) (text_outcome
+  pub whole : ListEnds None None (given_by main_text pruned_answers) (printing pruned_text)
+  pub limited : ListEnds None (Some 2) (given_by main_text pruned_answers) (printing (codes "m\nend.org v1.0.0\n"))
+  pub after : ListEnds (Some (codes "low.org")) None (given_by main_text pruned_answers) (printing
       (codes "mid.org v1.10.0 => ./mid\ntop.org v1.0.0\n"))
-  pub unlisted : ListEnds (Some (codes "b.org")) None (given_by main_text pruned_answers) (refusal_outcome
+  pub unlisted : ListEnds (Some (codes "b.org")) None (given_by main_text pruned_answers) (reporting
       (codes "b.org: NotListed\n"))
 
 -- Below an unpruned main file a pruned file is opened deeply.
-pub record UnprunedIsListed : Type 0 where
-  pub whole : ListEnds None None (given_by old_text unpruned_answers) (text_outcome unpruned_text)
-  pub only : (outcome : Outcome) → ListEnds None None (given_by old_text unpruned_answers) outcome
-      → outcome ≡ text_outcome unpruned_text
+abbrev pub UnprunedIsListed : Type 0
+UnprunedIsListed = ListEnds None None (given_by old_text unpruned_answers) (printing unpruned_text)
 
 -- A path that no proxy has is a fault, and its file is not asked for; so is a file that declares another path.
 abbrev pub FaultsAreReported : Type 0
-FaultsAreReported = ListEnds None None (given_by local_text wrong_answers) (refusal_outcome
+FaultsAreReported = ListEnds None None (given_by local_text wrong_answers) (reporting
     (codes "local@v1.0.0: NotFetchable\nmid.org@v1.9.0: WrongPath\n"))
 
--- The device fails on the file of the required module, before anything was answered.
-abbrev pub device_failed : Given
-device_failed = record { file = old_text; sums = None; told = record { asked = []; failed = asked_mid ∷ [] } }
-
--- That is reported, with status 3.
+-- The device fails on the file of the required module, before anything was answered. That is reported, with status 3.
 abbrev pub DeviceIsReported : Type 0
-DeviceIsReported = ListEnds None None device_failed (failure_outcome (codes "gomod: device at mid.org@v1.9.0\n"))
+DeviceIsReported = ListEnds None None (failing old_text [] asked_mid) (failing_with
+    (codes "gomod: device at mid.org@v1.9.0\n"))

@@ -4,22 +4,38 @@
 //! `pruned_is_listed` is followed there to the last byte that is printed.
 #![tactic(auto)]
 
-ghost use Rattle.page.specs.Worlds.{DeviceIsReported, FaultsAreReported, PrunedIsListed, UnprunedIsListed};
+ghost use Rattle.page.specs.Worlds.{DeviceIsReported, FaultsAreReported, OneOutcome, PrunedIsListed, UnprunedIsListed};
+ghost use Rattle.page.specs.Worlds.Parts.{PartsAreShown};
 ghost use Rattle.page.specs.Worlds.Rows.{
   DeepIsOpened,
+  EachPartCounts,
   EmptyMainIsReported,
   ExcludedIsLeftOut,
+  FolderDeviceIsReported,
   FolderIsListed,
+  FoldersAreListed,
   ForkIsListed,
   ForkIsReported,
   GreaterVersionIsListed,
+  HostsAreReported,
+  LaterGoIsListed,
   MainAloneIsListed,
   MalformedIsReported,
+  OneFileIsReported,
+  OthersHaveNone,
   OwnPathIsLeftOut,
+  SumsAreReported,
+  TooManyAreReported,
   TopIsOpenedDeeply,
+  TwoFaultsAreReported,
   UnfetchableIsReported,
   UnopenedIsListed,
 };
+
+/// A run has no second outcome, so what a world prints or reports is all.
+pub fn outcomes_are_one()
+    ensures { OneOutcome }
+{}
 
 /// Below a main file of go 1.17: an unpruned and a pruned file, a folder, an excluded version, and v1.10.0 above
 /// v1.9.0; all rows, the first two, and those after a path.
@@ -42,7 +58,7 @@ pub fn device_is_reported()
     ensures { DeviceIsReported }
 {}
 
-/// Two modules require v1.9.0 and v1.10.0 of a third: numbers, not texts, order them. Nothing else is printed.
+/// Two modules require v1.9.0 and v1.10.0 of a third: numbers, not texts, order them.
 pub fn greater_version_is_listed()
     ensures { GreaterVersionIsListed }
 {}
@@ -52,7 +68,7 @@ pub fn main_alone_is_listed()
     ensures { MainAloneIsListed }
 {}
 
-/// A main file of no bytes is reported with line 0 and a kind, and nothing else; nothing is asked.
+/// A main file of no bytes is reported with line 0 and a kind, a directive with its line; nothing is asked.
 pub fn empty_main_is_reported()
     ensures { EmptyMainIsReported }
 {}
@@ -107,4 +123,60 @@ pub fn malformed_is_reported()
 /// and the first of them.
 pub fn own_path_is_left_out()
     ensures { OwnPathIsLeftOut }
+{}
+
+/// Files of go 1.18, 1.22 and 2.0 are pruned.
+pub fn later_go_is_listed()
+    ensures { LaterGoIsListed }
+{}
+
+/// Patch and major number, and pre-releases with numbers.
+pub fn each_part_counts()
+    ensures { EachPartCounts }
+{}
+
+/// A replace of a version and one of its path, in either order; a folder's file declares another path.
+pub fn folders_are_listed()
+    ensures { FoldersAreListed }
+{}
+
+/// Two versions of a path have faults, one of them a file that is too long.
+pub fn two_faults_are_reported()
+    ensures { TwoFaultsAreReported }
+{}
+
+/// A file without a module line, and a fault on line 12; an empty path is not a module's.
+pub fn one_file_is_reported()
+    ensures { OneFileIsReported }
+{}
+
+/// Paths that begin with a dash and with a capital letter, and one with a digit and a dash.
+pub fn hosts_are_reported()
+    ensures { HostsAreReported }
+{}
+
+/// The device fails on a folder's file, and can't fail on a file that was answered.
+pub fn folder_device_is_reported()
+    ensures { FolderDeviceIsReported }
+{}
+
+/// A go.sum without a line for a file, with another hash, and an invalid one.
+pub fn sums_are_reported()
+    ensures { SumsAreReported }
+{}
+
+/// A needed file that wasn't asked for, one that isn't needed or was asked for twice, or a device that failed on none of
+/// the needed files: no run has these.
+pub fn others_have_none()
+    ensures { OthersHaveNone }
+{}
+
+/// A main file that requires 65,537 modules.
+pub fn too_many_are_reported()
+    ensures { TooManyAreReported }
+{}
+
+/// What single definitions say in these worlds, each from its own rules.
+pub fn parts_are_shown()
+    ensures { PartsAreShown }
 {}

@@ -1,4 +1,4 @@
-use Rattle.page.proofs.Rows.{empty_main_is_reported}
+use Rattle.page.proofs.Reported.{empty_main_is_reported}
 use Rattle.page.proofs.empty_main_is_reported.Goals as goal
 
 pub returns : goal.returns

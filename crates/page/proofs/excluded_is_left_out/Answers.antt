@@ -1,4 +1,4 @@
-use Rattle.page.proofs.RowsOpened.{excluded_is_left_out}
+use Rattle.page.proofs.Listed.{excluded_is_left_out}
 use Rattle.page.proofs.excluded_is_left_out.Goals as goal
 
 pub returns : goal.returns

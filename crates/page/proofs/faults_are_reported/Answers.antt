@@ -1,4 +1,4 @@
-use Rattle.page.proofs.Faults.{faults_are_reported}
+use Rattle.page.proofs.Reported.{faults_are_reported}
 use Rattle.page.proofs.faults_are_reported.Goals as goal
 
 pub returns : goal.returns

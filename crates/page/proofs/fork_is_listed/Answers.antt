@@ -1,4 +1,4 @@
-use Rattle.page.proofs.RowsReplaced.{fork_is_listed}
+use Rattle.page.proofs.Listed.{fork_is_listed}
 use Rattle.page.proofs.fork_is_listed.Goals as goal
 
 pub returns : goal.returns

@@ -1,4 +1,4 @@
-use Rattle.page.proofs.Rows.{main_alone_is_listed}
+use Rattle.page.proofs.Listed.{main_alone_is_listed}
 use Rattle.page.proofs.main_alone_is_listed.Goals as goal
 
 pub returns : goal.returns

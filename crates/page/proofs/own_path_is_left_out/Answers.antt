@@ -1,4 +1,4 @@
-use Rattle.page.proofs.RowsAfter.{own_path_is_left_out}
+use Rattle.page.proofs.Listed.{own_path_is_left_out}
 use Rattle.page.proofs.own_path_is_left_out.Goals as goal
 
 pub returns : goal.returns

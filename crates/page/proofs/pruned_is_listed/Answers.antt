@@ -1,4 +1,4 @@
-use Rattle.page.proofs.Pruned.{pruned_is_listed}
+use Rattle.page.proofs.Listed.{pruned_is_listed}
 use Rattle.page.proofs.pruned_is_listed.Goals as goal
 
 pub returns : goal.returns

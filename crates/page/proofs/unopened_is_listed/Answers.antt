@@ -1,4 +1,4 @@
-use Rattle.page.proofs.RowsOpened.{unopened_is_listed}
+use Rattle.page.proofs.Listed.{unopened_is_listed}
 use Rattle.page.proofs.unopened_is_listed.Goals as goal
 
 pub returns : goal.returns

@@ -1,4 +1,4 @@
-use Rattle.page.proofs.Unpruned.{unpruned_is_listed}
+use Rattle.page.proofs.Listed.{unpruned_is_listed}
 use Rattle.page.proofs.unpruned_is_listed.Goals as goal
 
 pub returns : goal.returns

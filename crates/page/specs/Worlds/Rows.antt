@@ -1,21 +1,22 @@
 -- More worlds, each of which shows one thing that `list` does.
-use Rattle.std.specs.Prelude.{◌≡◌, ℕ, List, [], ◌∷◌, Option, Some, None, codes}
-use Rattle.page.specs.Asked.{Name, Reply, absent, bytes, folder_file, mod_file}
+use Rattle.std.specs.Prelude.{◌≡◌, ◌++◌, ℕ, false, List, [], ◌∷◌, Option, Some, None, codes}
+use Rattle.page.specs.Asked.{Name, Reply, absent, bytes, folder_file, mod_file, too_long}
 use Rattle.page.specs.Files.RowFiles.{alone_text, both_text, ends_text, excluding_text, forking_text, going}
 use Rattle.page.specs.Files.RowFiles.{malformed_text, module_line, one_text, path_of, replacing_text, requiring}
 use Rattle.page.specs.Files.RowFiles.{three_text, two_text, unfetchable_text}
-use Rattle.page.specs.Outcome.{Outcome, refusal_outcome, text_outcome}
+use Rattle.page.specs.Files.RowFiles.{folders_text, greater_text, hosts_text, late_text, later_text, lesser_text, many_text, nine_text, unknown_text}
 use Rattle.page.specs.Outcomes.{ListEnds}
-use Rattle.page.specs.Worlds.{given_by}
+use Rattle.page.specs.Reading.{declares}
+use Rattle.page.specs.Types.{sums_text}
+use Rattle.page.specs.Worlds.{HasNoOutcome, failing, failing_with, given_by, given_with, printing, reporting}
 
--- The text is printed, and nothing else may be.
-pub record IsListedAs (file : List ℕ) (asked : List (Name × Reply)) (text : List ℕ) : Type 0 where
-  pub whole : ListEnds None None (given_by file asked) (text_outcome text)
-  pub only : (outcome : Outcome) → ListEnds None None (given_by file asked) outcome → outcome ≡ text_outcome text
+-- the text is printed
+abbrev pub IsListedAs : List ℕ → List (Name × Reply) → List ℕ → Type 0
+IsListedAs file asked text = ListEnds None None (given_by file asked) (printing text)
 
 -- nothing is printed, and this is reported
 abbrev pub IsReportedAs : List ℕ → List (Name × Reply) → List ℕ → Type 0
-IsReportedAs file asked report = ListEnds None None (given_by file asked) (refusal_outcome report)
+IsReportedAs file asked report = ListEnds None None (given_by file asked) (reporting report)
 
 -- ---- answers
 
@@ -31,20 +32,25 @@ answer name text = (name_at name (codes "v1.0.0"), bytes text)
 abbrev pub bare_answer : List ℕ → List ℕ → Name × Reply
 bare_answer name version = (name_at name version, bytes (module_line name))
 
+abbrev pub a_name : Name
+a_name = name_at (codes "a") (codes "v1.0.0")
+
+abbrev pub a_bare : Name × Reply
+a_bare = bare_answer (codes "a") (codes "v1.0.0")
+
 -- ---- rows
 
 -- A main file that requires nothing.
 abbrev pub MainAloneIsListed : Type 0
 MainAloneIsListed = IsListedAs alone_text [] (codes "example.com/m\n")
 
-abbrev pub no_module_report : List ℕ
-no_module_report = codes "go.mod:0: NoModule\n"
-
--- A main file of no bytes has no module line; nothing else is reported.
+-- A main file of no bytes has no module line, and an unknown directive may stand on a late line. In such a run no file
+-- was asked for, and the device failed on none.
 pub record EmptyMainIsReported : Type 0 where
-  pub whole : IsReportedAs [] [] no_module_report
-  pub only : (outcome : Outcome) → ListEnds None None (given_by [] []) outcome
-      → outcome ≡ refusal_outcome no_module_report
+  pub empty : IsReportedAs [] [] (codes "go.mod:0: NoModule\n")
+  pub late : IsReportedAs unknown_text [] (codes "go.mod:12: UnknownVerb\n")
+  pub unasked : HasNoOutcome (given_by [] ((a_name, absent) ∷ []))
+  pub unfailed : HasNoOutcome (failing [] [] a_name)
 
 abbrev pub versions_answers : List (Name × Reply)
 versions_answers =
@@ -79,7 +85,7 @@ DeepIsOpened = IsListedAs one_text deep_answers
 abbrev pub both_ways_answers : List (Name × Reply)
 both_ways_answers =
     answer (codes "a") (going (codes "a") (codes "1.17") (codes "c") (codes "v1.0.0"))
-    ∷ answer (codes "b") (requiring (codes "b") (codes "a") (codes "v1.0.0"))
+    ∷ answer (codes "b") (going (codes "b") (codes "1.15") (codes "a") (codes "v1.0.0"))
     ∷ answer (codes "c") (going (codes "c") (codes "1.17") (codes "d") (codes "v1.0.0"))
     ∷ bare_answer (codes "d") (codes "v1.0.0") ∷ []
 
@@ -145,7 +151,7 @@ own_answers =
 
 -- what is printed after a path, up to a limit
 abbrev pub OwnPrints : Option (List ℕ) → Option ℕ → List ℕ → Type 0
-OwnPrints after limit text = ListEnds after limit (given_by ends_text own_answers) (text_outcome text)
+OwnPrints after limit text = ListEnds after limit (given_by ends_text own_answers) (printing text)
 
 -- A requirement on the main module's own path has no row, and what it requires has one. The rows after a path may be
 -- none; a limit counts from the first of them.
@@ -158,3 +164,91 @@ pub record OwnPathIsLeftOut : Type 0 where
   pub after_last : OwnPrints (Some (codes "example.com/z")) None []
   pub limited : OwnPrints None (Some 2) (codes "example.com/m\nexample.com/a v1.0.0\n")
   pub both : OwnPrints (Some (codes "example.com/m")) (Some 1) (codes "example.com/a v1.0.0\n")
+
+-- ---- go versions, versions and replacements
+
+abbrev pub go_answers : List (Name × Reply)
+go_answers =
+    answer (codes "a") (going (codes "a") (codes "1.18") (codes "d") (codes "v1.0.0"))
+    ∷ answer (codes "b") (going (codes "b") (codes "1.22") (codes "d") (codes "v1.0.0"))
+    ∷ answer (codes "c") (going (codes "c") (codes "2.0") (codes "d") (codes "v1.0.0")) ∷ []
+
+-- Files of go 1.18, 1.22 and 2.0 are pruned.
+abbrev pub LaterGoIsListed : Type 0
+LaterGoIsListed = IsListedAs later_text go_answers
+    (codes "example.com/m\nexample.com/a v1.0.0\nexample.com/b v1.0.0\nexample.com/c v1.0.0\nexample.com/d v1.0.0\n")
+
+abbrev pub parts_answers : List (Name × Reply)
+parts_answers = answer (codes "a") lesser_text ∷ answer (codes "b") greater_text ∷ []
+
+abbrev pub parts_text : List ℕ
+parts_text = codes "example.com/m\nexample.com/a v1.0.0\nexample.com/b v1.0.0\nexample.com/c v1.0.10\n"
+    ++ codes "example.com/d v1.0.0\nexample.com/e v1.0.0-10\nexample.com/f v1.0.0\nexample.com/g v1.1.0-9\n"
+
+-- Each number of a version counts, the first most, and at last the pre-release.
+abbrev pub EachPartCounts : Type 0
+EachPartCounts = IsListedAs two_text parts_answers parts_text
+
+abbrev pub folders_answers : List (Name × Reply)
+folders_answers =
+    (folder_file (codes "../a"), bytes (module_line (codes "z"))) ∷ (folder_file (codes "../b"), bytes (module_line (codes "b"))) ∷ []
+
+-- A replace of a version counts, whether it stands before or after one of the path. A folder's file may declare any path.
+abbrev pub FoldersAreListed : Type 0
+FoldersAreListed = IsListedAs folders_text folders_answers
+    (codes "example.com/m\nexample.com/a v1.0.0 => ../a\nexample.com/b v1.0.0 => ../b\n")
+
+-- ---- faults
+
+abbrev pub nine_answers : List (Name × Reply)
+nine_answers =
+    (name_at (codes "a") (codes "v1.9.0"), absent) ∷ answer (codes "b") (requiring (codes "b") (codes "a") (codes "v1.10.0"))
+    ∷ (name_at (codes "a") (codes "v1.10.0"), too_long) ∷ []
+
+-- Faults of one path come in the order of versions.
+abbrev pub TwoFaultsAreReported : Type 0
+TwoFaultsAreReported = IsReportedAs nine_text nine_answers
+    (codes "example.com/a@v1.9.0: Missing\nexample.com/a@v1.10.0: TooLong\n")
+
+-- A file without a module line declares no path, and an empty path is none. A line has two digits.
+pub record OneFileIsReported : Type 0 where
+  pub undeclared : IsReportedAs one_text (answer (codes "a") [] ∷ []) (codes "example.com/a@v1.0.0: WrongPath\n")
+  pub late : IsReportedAs one_text (answer (codes "a") late_text ∷ []) (codes "example.com/a@v1.0.0: Malformed 12 BadVersion\n")
+  pub no_path : declares (path_of (codes "a")) (Some []) ≡ false
+
+-- No host name begins with a dash or has a capital letter; it may have digits and dashes.
+abbrev pub HostsAreReported : Type 0
+HostsAreReported = IsReportedAs hosts_text ((mod_file (codes "a-1.org") (codes "v1.0.0"), absent) ∷ [])
+    (codes "-a.org@v1.0.0: NotFetchable\nA.org@v1.0.0: NotFetchable\na-1.org@v1.0.0: Missing\n")
+
+-- The device fails on a folder's file. It can't fail on a file that was answered.
+pub record FolderDeviceIsReported : Type 0 where
+  pub folder : ListEnds None None (failing replacing_text [] (folder_file (codes "../local"))) (failing_with
+      (codes "gomod: device at ../local\n"))
+  pub answered : HasNoOutcome (failing one_text (a_bare ∷ []) a_name)
+
+-- A run has no outcome if a needed file was not asked for, if another was, or the same one twice; if the device failed
+-- on a file that is not needed; or if a file was asked for beside a go.sum that is invalid.
+pub record OthersHaveNone : Type 0 where
+  pub unasked : HasNoOutcome (given_by one_text [])
+  pub unneeded : HasNoOutcome (given_by alone_text (a_bare ∷ []))
+  pub twice : HasNoOutcome (given_by one_text (a_bare ∷ a_bare ∷ []))
+  pub failed : HasNoOutcome (failing alone_text [] a_name)
+  pub beside_sums : HasNoOutcome (given_with alone_text (Some (codes "a b\n")) (a_bare ∷ []))
+
+-- ---- the go.sum, and too many modules
+
+abbrev pub sums_answers : List (Name × Reply)
+sums_answers =
+    bare_answer (codes "a") (codes "v1.0.0") ∷ bare_answer (codes "b") (codes "v1.1.0")
+    ∷ bare_answer (codes "c") (codes "v1.0.0") ∷ []
+
+-- A go.sum lists a file, does not list the second, and lists another hash of the third. One that is invalid is reported.
+pub record SumsAreReported : Type 0 where
+  pub checked : ListEnds None None (given_with three_text (Some sums_text) sums_answers) (reporting
+      (codes "example.com/b@v1.1.0: NoSum\nexample.com/c@v1.0.0: SumDiffers\n"))
+  pub invalid : ListEnds None None (given_with alone_text (Some (codes "a b\n")) []) (reporting (codes "go.sum:1: BadSum\n"))
+
+-- Its main file requires one module too many.
+abbrev pub TooManyAreReported : Type 0
+TooManyAreReported = IsReportedAs many_text [] (codes "gomod: TooMany\n")

@@ -1,0 +1,110 @@
+-- The worlds in which something is reported, and those without an outcome.
+use Rattle.std.proofs.Common.{◌≡◌, ℕ, List, [], ◌∷◌, Option, None, Some, arith, codes, inl, refl, subst, sym}
+use Rattle.std.specs.Fmt.{digits}
+use Rattle.page.specs.Asked.{Name, Reply, answer_in, folder_file}
+use Rattle.page.specs.Files.{local_file, local_text, mid_nine, old_file}
+use Rattle.page.specs.Files.RowFiles.{alone_file, forking_file, forking_text, hosts_file, hosts_text, late_text, local_zero, nine_file, nine_text, one_file, one_text, replacing_file, three_file, three_text, unfetchable_file, unfetchable_text}
+use Rattle.page.specs.Main.{Main}
+use Rattle.page.specs.Outcomes.{bad_main, bad_sums, device, faulty, no_fault, too_many}
+use Rattle.page.specs.Path.{is_fetchable}
+use Rattle.page.specs.Run.{IsDue, run_of}
+use Rattle.page.specs.Types.{Misreading, NoModule, Sums, Unknown, sums_table, sums_text}
+use Rattle.page.specs.Worlds.{DeviceIsReported, FaultsAreReported, HasNoOutcome, asked_mid, failing, wrong_answers}
+use Rattle.page.specs.Worlds.Rows.{EmptyMainIsReported, FolderDeviceIsReported, ForkIsReported, HostsAreReported, MalformedIsReported, OneFileIsReported, SumsAreReported, TwoFaultsAreReported, UnfetchableIsReported, a_bare, a_name, answer, malformed_answers, nine_answers, sums_answers, wrong_fork_answers}
+use Rattle.page.proofs.Checked.{ends_so}
+use Rattle.page.proofs.Ending.{all_read}
+use Rattle.page.proofs.Nothing.{no_cons, no_main, same_one, some_not_none}
+use Rattle.page.proofs.OneOutcome.{not_both}
+
+-- ---- faults
+
+pub faults_are_reported : FaultsAreReported
+unfolding is_fetchable digits
+faults_are_reported = ends_so local_text None local_file None wrong_answers refl tt refl None None _ refl
+
+pub unfetchable_is_reported : UnfetchableIsReported
+unfolding is_fetchable digits
+unfetchable_is_reported = ends_so unfetchable_text None unfetchable_file None [] refl tt refl None None _ refl
+
+pub fork_is_reported : ForkIsReported
+unfolding is_fetchable digits
+fork_is_reported = ends_so forking_text None forking_file None wrong_fork_answers refl tt refl None None _ refl
+
+pub malformed_is_reported : MalformedIsReported
+unfolding is_fetchable digits
+malformed_is_reported = ends_so three_text None three_file None malformed_answers refl tt refl None None _ refl
+
+pub two_faults_are_reported : TwoFaultsAreReported
+unfolding is_fetchable digits
+two_faults_are_reported = ends_so nine_text None nine_file None nine_answers refl tt refl None None _ refl
+
+pub hosts_are_reported : HostsAreReported
+unfolding is_fetchable digits
+hosts_are_reported = ends_so hosts_text None hosts_file None _ refl tt refl None None _ refl
+
+pub one_file_is_reported : OneFileIsReported
+unfolding is_fetchable digits
+one_file_is_reported = record {
+  undeclared = ends_so one_text None one_file None (answer (codes "a") [] ∷ []) refl tt refl None None _ refl;
+  late = ends_so one_text None one_file None (answer (codes "a") late_text ∷ []) refl tt refl None None _ refl;
+  no_path = refl;
+}
+
+pub sums_are_reported : SumsAreReported
+unfolding is_fetchable digits
+sums_are_reported = record {
+  checked = ends_so three_text (Some sums_text) three_file (Some sums_table) sums_answers refl refl refl None None _ refl;
+  invalid = bad_sums alone_file _ refl refl (refl, refl) refl;
+}
+
+-- ---- the device
+
+mid_is_due : IsDue (run_of old_file None []) asked_mid
+unfolding is_fetchable
+mid_is_due = record {
+  calls = record { read = all_read old_file None [] tt; needed = (mid_nine, inl (0, omega arith, refl), refl, refl) };
+  unasked = refl;
+}
+
+pub device_is_reported : DeviceIsReported
+device_is_reported = device old_file None asked_mid (record { main_file = refl; sums = tt }) mid_is_due refl refl
+
+folder_is_due : IsDue (run_of replacing_file None []) (folder_file (codes "../local"))
+folder_is_due = record {
+  calls = record { read = all_read replacing_file None [] tt; needed = (local_zero, inl (0, omega arith, refl), refl, refl) };
+  unasked = refl;
+}
+
+-- ---- no outcome
+
+abbrev empty_place : ℕ × Misreading
+empty_place = (0, NoModule)
+
+abbrev a_answer : List (Name × Reply)
+a_answer = a_bare ∷ []
+
+not_due : (main : Main) (table : Option Sums) (name : Name) → a_name ≡ name → IsDue (run_of main table a_answer) name → ⊥
+not_due main table name same due = some_not_none _ (subst (λ (n : Name). answer_in a_answer n ≡ None) (sym same) due.unasked)
+
+none_answered : HasNoOutcome (failing one_text a_answer a_name)
+none_answered outcome (bad_main place misread unasked is) = not_both one_file place misread
+none_answered outcome (bad_sums main report is bad unasked reported) = bad
+none_answered outcome (device main table name read due failed is) = not_due main table name (same_one a_name name failed) due
+none_answered outcome (too_many main table read readable over unfailed is) = no_cons a_name [] unfailed
+none_answered outcome (faulty main table first others found is) = no_cons a_name [] found.none_failed
+none_answered outcome (no_fault main table found prints) = no_cons a_name [] found.none_failed
+
+pub folder_device_is_reported : FolderDeviceIsReported
+folder_device_is_reported = record {
+  folder = device replacing_file None (folder_file (codes "../local")) (record { main_file = refl; sums = tt }) folder_is_due refl refl;
+  answered = none_answered;
+}
+
+pub empty_main_is_reported : EmptyMainIsReported
+unfolding digits
+empty_main_is_reported = record {
+  empty = bad_main empty_place refl (refl, refl) refl;
+  late = bad_main (12, Unknown) refl (refl, refl) refl;
+  unasked = no_main _ empty_place refl refl (λ unasked. no_cons _ [] unasked.0);
+  unfailed = no_main _ empty_place refl refl (λ unasked. no_cons _ [] unasked.1);
+}
