@@ -15,7 +15,9 @@ from go_worlds import hash_of, order_of, write
 
 MAIN = "example.com/m"
 PATHS = [f"example.com/{name}" for name in "abcdef"]
-VERSIONS = ["v1.0.0", "v1.2.0", "v1.9.0", "v1.10.0", "v1.10.0-rc.1"]
+VERSIONS = ["v0.9.0", "v1.0.0", "v1.9.9", "v1.9.10", "v1.10.0", "v1.10.0-rc.9", "v1.10.0-rc.10"]
+GO = [(1, 15), (1, 16), (1, 16), (1, 17), (1, 17), (1, 18), (1, 21), (1, 22), (2, 0)]
+ODD = ["local", "-a.org/x", "Example.com/a", MAIN, MAIN, MAIN]  # no proxy has the module of the first three
 FOLDERS = ["./x", "./y"]
 MALFORMED = "require example.com/a\n"
 
@@ -172,6 +174,9 @@ class Page:
         at = [row[0] for row in rows].index(path)
         return rows[at + 1:]
 
+    def printed(self, rows, path, limit):
+        return self.rest_after(rows, path)[:limit]
+
     # the text of the list (REPORTS.md)
     def row_text(self, x):
         right = self.replacement(x) if len(x) == 2 else None
@@ -190,7 +195,7 @@ class Page:
         rows = [(self.main.declared,), *self.selected()]
         if after is not None and after not in [row[0] for row in rows]:
             return "", f"{after}: NotListed\n", 1
-        return "".join(map(self.row_text, self.rest_after(rows, after)[:limit])), "", 0
+        return "".join(map(self.row_text, self.printed(rows, after, limit))), "", 0
 
 
 class World:
@@ -219,15 +224,15 @@ class World:
         return self.random.random() < share
 
     def go(self):
-        return self.random.choice([(1, 16), (1, 15), (1, 17), (1, 21)])
+        return self.random.choice(GO)
 
     def module(self):
         if self.chance(0.05):
-            return self.random.choice(["local", MAIN]), "v1.0.0"
+            return self.random.choice(ODD), "v1.0.0"
         return self.random.choice(PATHS), self.random.choice(VERSIONS)
 
     def module_text(self, path):
-        declared = path if self.chance(0.98) else self.random.choice(PATHS)
+        declared = path if self.chance(0.98) else self.random.choice([None, *PATHS])
         file = File(declared, self.go(), [self.module() for _ in range(self.random.choice([0, 1, 1, 2]))])
         return file.text() + (MALFORMED if self.chance(0.02) else "")
 
@@ -284,6 +289,7 @@ READ = {
     "is_greater": "version_cmp",
     "selected": "IsSelected",
     "rest_after": "IsRestAfter",
+    "printed": "PrintsRows",
     "faults": "AreFaults",
 }
 
@@ -293,8 +299,28 @@ def wrong(title, **rules):
     return type(title, (Page,), {**rules, "read": [READ.get(it, it) for it in rules]})
 
 
-def later_faults(self):
-    return [x for x in Page.faults(self) if x not in self.top()] or Page.faults(self)
+def sum_fault_of_replaced(self, x, name):
+    """The fault, if the go.sum is asked for the replaced module."""
+    if self.sums is None or self.is_folder(name) or name not in self.answers or not self.is_askable(x):
+        return Page.first_that_applies(self, x, name)
+    return self.sum_fault(x, self.answers[name]) or Page.first_that_applies(self, x, name)
+
+
+def replaced_twice(self, x):
+    right = self.replacement(x) or x
+    return right if self.is_folder(right) else self.replacement(right) or right
+
+
+def path_before_sum(self, x, name):
+    said = self.content(self.answers.get(name, MALFORMED))
+    is_wrong = isinstance(said, File) and not self.is_right_path(x, said.declared)
+    return "WrongPath" if is_wrong and self.is_askable(x) else Page.first_that_applies(self, x, name)
+
+
+def required_first(self):
+    """The main file's own requirements have precedence over greater versions."""
+    own = {x[0]: x for x in sorted(self.top(), key=lambda x: order_of(x[1]))}
+    return sorted({own.get(x[0], x) for x in Page.selected(self)})
 
 
 WRONG = [
@@ -337,6 +363,50 @@ WRONG = [
     wrong("edges lead to opened modules alone", edge_ends=lambda self: self.opened()),
     wrong("edges leave deep modules alone", edge_ends=lambda self: self.top() | {
         y for x in self.deep() for y in self.requirements(x)}),
+    wrong("go 1.18 to 1.20 are not pruned", is_pruned=lambda self, go: go == (1, 17) or go >= (1, 21)),
+    wrong("go 1.22 and later are not pruned", is_pruned=lambda self, go: (1, 17) <= go < (1, 22)),
+    wrong("go 2.0 is not pruned", is_pruned=lambda self, go: go[0] == 1 and go >= (1, 17)),
+    wrong("a .mod file without a module line is right", is_right_path=lambda self, x, declared: declared is None
+          or Page.is_right_path(self, x, declared)),
+    wrong("a host name may begin with a dash", is_fetchable=lambda self, path: Page.is_fetchable(self, path.lstrip("-"))),
+    wrong("a host name may have capital letters", is_fetchable=lambda self, path: Page.is_fetchable(self, path.lower())),
+    wrong("the first replace that matches counts", replacement=lambda self, x: next(
+        (right for left, right in self.main.replaces.items() if left[0] == x[0] and left[1] in (None, x[1])), None)),
+    wrong("the patch number does not count", is_greater=lambda self, version, other: [
+        order_of(version)[0][:2], *order_of(version)[1:]] > [order_of(other)[0][:2], *order_of(other)[1:]]),
+    wrong("the major number does not count", is_greater=lambda self, version, other: [
+        order_of(version)[0][1:], *order_of(version)[1:]] > [order_of(other)[0][1:], *order_of(other)[1:]]),
+    wrong("pre-releases are ordered as texts", is_greater=lambda self, version, other: [
+        *order_of(version)[:2], version] > [*order_of(other)[:2], other]),
+    wrong("go 1.15 is pruned", is_pruned=lambda self, go: go >= (1, 17) or go == (1, 15)),
+    wrong("go 1.18 and later are not pruned", is_pruned=lambda self, go: go == (1, 17)),
+    wrong("a path without a dot may be asked for", is_fetchable=lambda self, path: bool(
+        re.fullmatch(r"[a-z0-9.][a-z0-9.-]*", path.split("/")[0]))),
+    wrong("a path that may not be asked for is missing", first_that_applies=lambda self, x, name: Page.first_that_applies(
+        self, x, name) if self.is_askable(x) else "Missing"),
+    wrong("the go.sum is asked for the replaced module", first_that_applies=sum_fault_of_replaced),
+    wrong("a wrong path comes before a wrong hash", first_that_applies=path_before_sum),
+    wrong("a replacement is replaced itself", file_of=replaced_twice),
+    wrong("both folders are one", file_of=lambda self, x: ("./x",)
+          if len(self.replacement(x) or x) == 1 else self.replacement(x) or x),
+    wrong("an exclude of the replacement excludes", without_excluded=lambda self, modules: [
+        x for x in modules if not {x, self.file_of(x)} & set(self.main.excludes)]),
+    wrong("an exclude excludes lower versions too", without_excluded=lambda self, modules: [
+        x for x in modules if not any(y[0] == x[0] and order_of(y[1]) >= order_of(x[1]) for y in self.main.excludes)]),
+    wrong("only the first exclude counts", without_excluded=lambda self, modules: [
+        x for x in modules if x not in self.main.excludes[:1]]),
+    wrong("the main file's requirements are not excluded", top=lambda self: set(self.main.requirements)),
+    wrong("a version of the main module requires nothing", requirements=lambda self, x: []
+          if x[0] == self.main.declared else Page.requirements(self, x)),
+    wrong("a version that has no row has no fault", faults=lambda self: [
+        x for x in Page.faults(self) if x in self.selected()]),
+    wrong("the main file's requirements have precedence over greater versions", selected=required_first),
+    wrong("a limit counts before the path", printed=lambda self, rows, path, limit: [
+        row for row in self.rest_after(rows, path) if row in rows[:limit]]),
+    wrong("a limit does not count the main module", printed=lambda self, rows, path, limit: self.rest_after(rows, path)[
+        :limit and limit + (path is None)]),
+    wrong("a limit does not count after a path", printed=lambda self, rows, path, limit: self.rest_after(rows, path)[
+        :limit if path is None else None]),
     wrong("versions are ordered as texts", is_greater=lambda self, version, other: version > other),
     wrong("the least version is selected", is_greater=lambda self, version, other: order_of(version) < order_of(other)),
     wrong("a pre-release is greater than its release", is_greater=lambda self, version, other: (
