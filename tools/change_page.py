@@ -16,9 +16,9 @@ import tempfile
 PAGE = pathlib.Path("crates/page")
 CHANGES = pathlib.Path("tools/page_changes.txt")
 EQUAL = "== equal forms\n\n"
-# What a proof of the law, and of runs without an outcome, is in.
-LAW = {"OneOutcome"}
-NONE = {"Nothing"}
+# What the proofs of the law, and of runs without an outcome, are in: files, and how lemmas of other files begin.
+LAW = {"OneOutcome"}, ("same_lists",)
+NONE = {"Nothing"}, ("none_", "not_")
 VALUE, LAWFUL, NOTHING, SHAPE, PROVED, UNREAD = "value", "law", "no outcome", "proof", "proved", "not read"
 REFUSED = {
     VALUE: "refuted by a value",
@@ -93,11 +93,11 @@ def verdict(said, names):
         return UNREAD, found[0][3] if found else said[-300:]
     for _, file, name, message in found:
         for expected, other in differing(message):
-            if file not in LAW and expected != other and is_value(expected, names) and is_value(other, names):
+            if file not in LAW[0] and expected != other and is_value(expected, names) and is_value(other, names):
                 return VALUE, f"{name}: {short(expected)} is expected, and it is {short(other)}"
-    for kind, files in ((LAWFUL, LAW), (NOTHING, NONE)):
+    for kind, (files, names_begin) in ((LAWFUL, LAW), (NOTHING, NONE)):
         for _, file, name, message in found:
-            if file in files or (kind == NOTHING and name.startswith("none_")):
+            if file in files or name.startswith(names_begin):
                 return kind, f"{name}: {first_line(message)}"
     return SHAPE, f"{found[0][2]}: {first_line(found[0][3])}"
 

@@ -204,9 +204,10 @@ class World:
     def __init__(self, seed):
         self.random = random.Random(seed)
         self.answers, self.faulty = {}, None
+        gone = self.random.choice([None, None, None, *PATHS])
         for path in PATHS:
             for version in VERSIONS:
-                if self.chance(0.96):
+                if self.chance(0.5 if path == gone else 0.96):
                     self.answers[path, version] = self.module_text(path)
         for folder in FOLDERS:
             if self.chance(0.9):
@@ -216,6 +217,8 @@ class World:
         self.main = File(MAIN, self.go(), [self.module() for _ in range(self.random.randint(1, 3))])
         self.main.excludes = [self.module() for _ in range(self.random.choice([0, 0, 1, 2]))]
         self.add_replaces()
+        if self.chance(0.2):
+            self.main.excludes += [it for it in self.main.replaces.values() if len(it) == 2]
         self.add_sums()
         self.after = self.random.choice([None, None, MAIN, *self.random.sample(PATHS, 2)])
         self.limit = self.random.choice([None, None, 1, 2])
@@ -232,7 +235,7 @@ class World:
         return self.random.choice(PATHS), self.random.choice(VERSIONS)
 
     def module_text(self, path):
-        declared = path if self.chance(0.98) else self.random.choice([None, *PATHS])
+        declared = path if self.chance(0.97) else self.random.choice([None, None, *PATHS])
         file = File(declared, self.go(), [self.module() for _ in range(self.random.choice([0, 1, 1, 2]))])
         return file.text() + (MALFORMED if self.chance(0.02) else "")
 
@@ -251,7 +254,8 @@ class World:
         if self.chance(0.4):
             self.sums = {name: [hash_of(text)] for name, text in self.answers.items() if len(name) == 2}
         for name in self.sums or {}:
-            if self.chance(0.4 if self.answers[name].endswith(MALFORMED) else 0.03):
+            is_odd = self.answers[name].endswith(MALFORMED) or f"module {name[0]}\n" not in self.answers[name]
+            if self.chance(0.4 if is_odd else 0.03):
                 self.sums[name] = self.random.choice([[], [hash_of("other")], [*self.sums[name], hash_of("other")]])
 
     def lay(self, room):
