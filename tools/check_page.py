@@ -15,7 +15,7 @@ from go_worlds import hash_of, order_of, write
 
 MAIN = "example.com/m"
 PATHS = [f"example.com/{name}" for name in "abcdef"]
-VERSIONS = ["v0.9.0", "v1.0.0", "v1.9.9", "v1.9.10", "v1.10.0", "v1.10.0-rc.9", "v1.10.0-rc.10"]
+VERSIONS = ["v0.12.0", "v1.0.0", "v1.9.9", "v1.9.10", "v1.10.0", "v1.10.0-rc.9", "v1.10.0-rc.10"]
 GO = [(1, 15), (1, 16), (1, 16), (1, 17), (1, 17), (1, 18), (1, 21), (1, 22), (2, 0)]
 ODD = ["local", "-a.org/x", "Example.com/a", MAIN, MAIN, MAIN]  # no proxy has the module of the first three
 FOLDERS = ["./x", "./y"]
@@ -246,6 +246,8 @@ class World:
                 path, version = self.main.requirements[0]
             right = self.random.choice([(self.random.choice(FOLDERS),), self.module()])
             self.main.replaces[path, self.random.choice([None, version])] = right
+            if self.chance(0.3):
+                self.main.replaces[path, version] = (self.random.choice(FOLDERS),)
             if right in self.answers and len(right) == 2 and self.chance(0.5):
                 self.answers[right] = self.answers[right].replace(f"module {right[0]}\n", f"module {path}\n")
 

@@ -7,6 +7,11 @@
 #
 #   tools/documents.sh           README.md, all documents of docs/, crates/run_cases/MISTAKES.md, budgets and figures
 #   tools/documents.sh FILE..    these, and neither budgets nor figures
+#   tools/documents.sh --accept NAME..  writes the checksums anew of the sentences bound to these laws, or to `all`
+#
+# Beside each sentence of README.md on what is verified, and each of docs/proof/PROVED.md that names a law, a comment has
+# a checksum of the sentence and one of what the law states (tools/sentences.py). If one is no longer right, both texts
+# are printed. Who changes one compares them before --accept.
 #
 # What is looked at is what stands in the notation of docs/dev/DEVELOPING.md ("What a document names"); anything else
 # isn't. The other budgets are a table below, of single documents and of several together. Their words are what blanks
@@ -21,7 +26,13 @@ cd "$(dirname "$0")/.."
 # shellcheck source=tools/lib.sh
 . tools/lib.sh
 help_if_asked tools/documents.sh "$@"
-exec python3 - "$@" << 'PYTHON'
+if [ "${1-}" = --accept ]; then
+  [ $# -ge 2 ] || refuse_arguments tools/documents.sh "--accept takes names of laws, or all"
+  exec python3 -B tools/sentences.py "$@"
+fi
+status=0
+[ $# -gt 0 ] || python3 -B tools/sentences.py || status=1
+python3 - "$@" << 'PYTHON' || status=1
 import collections
 import fnmatch
 import glob
@@ -446,7 +457,7 @@ def budgets():
 
 def words_in(lines):
     """How many words these lines have, outside examples, tables and comments."""
-    return sum(len(it.split()) for it in lines if not it.startswith(("    ", "|", "<!--")))
+    return sum(len(it.split()) for it in lines if not it.startswith(("    ", "|")) and not it.strip().startswith("<!--"))
 
 
 def sections_of(path):
@@ -530,3 +541,4 @@ def main(*names):
 
 sys.exit(main(*sys.argv[1:]))
 PYTHON
+exit "$status"

@@ -1,0 +1,43 @@
+"""What the check of gomod says that it trusts, for tools/trusted.sh: from a log into docs/proof/PROVED.md."""
+import pathlib
+import re
+import sys
+
+PAGE = pathlib.Path("docs/proof/PROVED.md")
+MARKS = re.compile(r"(?ms)^<!-- show trusted -->\n(.*?)^<!-- end -->$")
+
+
+def said(log):
+    """The `axioms` lines and the verdict of gomod's check, or None if the log has none."""
+    parts = re.split(r"(?m)^== (\S+).*\n", log)
+    sections = dict(zip(parts[1::2], parts[2::2])) or {"gomod": log}
+    lines = sections.get("gomod", "").split("\n")
+    verdict = next((it for it in reversed(lines) if it.startswith("logic=proved")), None)
+    if verdict is None or "target=" not in verdict:
+        return None
+    axioms = [it for it in lines if re.match(r"axioms \w+: ", it)]
+    return [*axioms, verdict.replace(" incremental=trusted", "").replace(" cache=trusted", "")]
+
+
+def main(log, option=""):
+    text, lines = PAGE.read_text(), said(pathlib.Path(log).read_text(errors="replace"))
+    shown = MARKS.search(text)
+    if shown is None:
+        print(f"trusted: {PAGE} has no marks `<!-- show trusted -->`")
+        return 1
+    if lines is None:
+        print("trusted: the log has no verdict of gomod, so nothing was compared")
+        return 0
+    new = "\n".join(["```", *lines, "```", ""])
+    if new == shown[1]:
+        print(f"trusted: {PAGE} has what the check of gomod says, {len(lines)} lines")
+        return 0
+    if option == "--check":
+        print(f"trusted: {PAGE} does not have what the check of gomod says; tools/trusted.sh LOG writes it:\n{new}", end="")
+        return 1
+    PAGE.write_text(text[: shown.start(1)] + new + text[shown.end(1):])
+    return 0
+
+
+if __name__ == "__main__":
+    sys.exit(main(*sys.argv[1:]))
