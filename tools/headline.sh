@@ -20,7 +20,7 @@
 # The copies in crates/page are of all definitions that `ListEnds` reaches, but for those that the crate defines itself:
 # specs/Types.antt and Files.antt, written by hand, stand in for types of the code, for what bytes say, and for the go.sum.
 #
-# From `ListEnds` to the leaves HEADLINE.md may have 45 definitions and 170 lines, or --check fails. A leaf is what another
+# Each definition that the contract of `run` reaches must be on one of the pages. From `ListEnds` to the leaves HEADLINE.md may have 45 definitions and 170 lines, or --check fails. A leaf is what another
 # page defines: names, their order and answers (NAMES.md), what bytes and answers say (DIRECTIVES.md), texts, the limit,
 # the rest after a path and the go.sum (REPORTS.md); or what the code or the standard library does.
 #
@@ -541,14 +541,24 @@ def renew_copies(option):
     return wrong
 
 
-def counts(option):
+def unshown(found, pages):
+    """The definitions that these names reach and that no page shows."""
+    shown = {at for it in pages for at in it.defined}
+    return [it for at, it in reached_from(found)[0].items() if at not in shown]
+
+
+def counts(option, pages):
+    """Prints how much the contract of `run` reaches, and gives how many definitions of it are on no page."""
     clauses = clauses_of(RUNNING, "run")
     scope = Scope((CRATES / RUNNING).read_text())
     ends = list(used_in(*clauses_named(RUNNING, "run", ["ends"]), scope, {}).values())
     every = [it for clause in clauses.values() for it in used_in(clause, scope, {}).values()]
     for title, found in (("`list`", [place(*it) for it in LIST]), ("clause `ends`", ends), ("all clauses", every)):
         _, size, private = size_of(found)
-        print(f"gomod_run::run, {title}: {size}; {len(private)} private types of the code")
+        left = unshown(found, pages)
+        print(f"gomod_run::run, {title}: {size}, {len(left)} on no page; {len(private)} private types of the code")
+        for it in left:
+            print(f"  {it.name} of {it.file} is on no page")
     rows, types = [], set()
     for name, clauses, scope in exported():
         used = [it for clause in clauses.values() for it in used_in(clause, scope, {}).values()]
@@ -564,6 +574,7 @@ def counts(option):
     if option == "--names":
         for name, files in sorted(found.items()):
             print(f"  {name}: {' '.join(files)}")
+    return len(unshown(every, pages))
 
 
 def main():
@@ -591,7 +602,7 @@ def main():
         size = sum(it.lines() for it in page.defined.values())
         print(f"{page.path}: {len(page.defined)} definitions, {size} lines")
     wrong += keep_short(pages[0], pages[1:]) + renew_copies(option)
-    counts(option)
+    wrong += counts(option, pages)
     sys.exit(1 if wrong else 0)
 
 
