@@ -57,10 +57,12 @@ def changes():
 
 
 def constructors():
-    """The names of all constructors of the crate, and of those of the library that values have."""
+    """The names of all constructors of the crate, of those of the library that values have, and of the worlds' modules."""
     names = set("true false None Some Ok Err Less Equal Greater zero suc codes ◌∷◌".split())
     for path in [*PAGE.glob("specs/*.antt"), PAGE / "proofs/Checked.antt"]:
         names |= set(re.findall(r"(?m)^  (\w+) : ", path.read_text()))
+    for path in [PAGE / "specs/Files.antt", *PAGE.glob("specs/Files/*.antt")]:
+        names |= set(re.findall(r"(?m)^abbrev pub (\w+) : ", path.read_text()))
     return names
 
 
@@ -81,7 +83,9 @@ def errors(said):
 
 def differing(message):
     """The pairs of terms in which an error says that two types differ."""
-    return re.findall(r"one has `([^`]*)`\s*\(expected\)[^`]*(?:`[^`]*`[^`]*)??and the other has `([^`]*)`\s*\(found\)", message)
+    sides = re.match(r"`\w+`: expected type `(.*) ≡ (.*)`, but this has type `(.*) ≡ (.*)`$", message.split("\n")[0])
+    yield from zip(sides.groups()[:2], sides.groups()[2:]) if sides else ()
+    yield from re.findall(r"one has `([^`]*)`\s*\(expected\)[^`]*(?:`[^`]*`[^`]*)??and the other has `([^`]*)`\s*\(found\)", message)
 
 
 def verdict(said, names):
@@ -186,6 +190,9 @@ def in_turn(numbered):
 
 
 def main(*words):
+    if words in (("-h",), ("--help",)):
+        print(__doc__, end="")
+        return 0
     numbered = [*enumerate(changes(), 1)]
     wrong = unreadable(numbered)
     if wrong or not words:

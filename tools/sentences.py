@@ -186,6 +186,9 @@ def accept(names):
 
 
 def main(*words):
+    if words in (("-h",), ("--help",)):
+        print(__doc__, end="")
+        return 0
     if words[:1] == ("--accept",):
         return int(accept(list(words[1:])) > 0)
     if words == ("--pairs",):

@@ -20,6 +20,9 @@ def said(log):
 
 
 def main(log, option=""):
+    if log in ("-h", "--help"):
+        print(__doc__)
+        return 0
     text, lines = PAGE.read_text(), said(pathlib.Path(log).read_text(errors="replace"))
     shown = MARKS.search(text)
     if shown is None:

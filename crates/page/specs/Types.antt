@@ -55,7 +55,8 @@ known_versions =
     ∷ (codes "v1.0.0-9", (1, 0, 0, codes "9", [])) ∷ (codes "v1.0.0-10", (1, 0, 0, codes "10", []))
     ∷ (codes "v1.0.9", (1, 0, 9, [], [])) ∷ (codes "v1.0.10", (1, 0, 10, [], []))
     ∷ (codes "v1.1.0-9", (1, 1, 0, codes "9", [])) ∷ (codes "v1.1.0", (1, 1, 0, [], []))
-    ∷ (codes "v1.2.0", (1, 2, 0, [], [])) ∷ (codes "v1.9.0", (1, 9, 0, [], [])) ∷ (codes "v1.10.0", (1, 10, 0, [], [])) ∷ []
+    ∷ (codes "v1.2.0", (1, 2, 0, [], [])) ∷ (codes "v1.9.0", (1, 9, 0, [], []))
+    ∷ (codes "v1.10.0", (1, 10, 0, [], [])) ∷ []
 
 abbrev pub parts_among : List (List ℕ × Parts) → List ℕ → Parts
 parts_among [] text = (1, 0, 0, [], [])

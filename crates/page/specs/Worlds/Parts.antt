@@ -23,7 +23,8 @@ pub record PartsAreShown : Type 0 where
   -- a fault of the go.sum comes before the contents, which are read laxly
   pub first : IsReadUnless (Some NoSum) malformed_text (Err NoSum)
   pub lax : IsContentReading malformed_text (Err (Malformed 3 WrongArguments))
-  pub unlisted : FileSays (run_of three_file (Some sums_table) sums_answers) (name_at (codes "b") (codes "v1.1.0")) (Err NoSum)
+  pub unlisted : FileSays (run_of three_file (Some sums_table) sums_answers) (name_at (codes "b") (codes "v1.1.0"))
+      (Err NoSum)
   -- a file of a wrong path
   pub wrong : Says (run_of local_file None wrong_answers) mid_nine (Err WrongPath)
   -- what is opened deeply: from an unpruned main file, from an unpruned file at the top, and from there

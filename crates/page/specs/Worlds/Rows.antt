@@ -191,9 +191,11 @@ EachPartCounts = IsListedAs two_text parts_answers parts_text
 
 abbrev pub folders_answers : List (Name × Reply)
 folders_answers =
-    (folder_file (codes "../a"), bytes (module_line (codes "z"))) ∷ (folder_file (codes "../b"), bytes (module_line (codes "b"))) ∷ []
+    (folder_file (codes "../a"), bytes (module_line (codes "z")))
+    ∷ (folder_file (codes "../b"), bytes (module_line (codes "b"))) ∷ []
 
--- A replace of a version counts, whether it stands before or after one of the path. A folder's file may declare any path.
+-- A replace of a version counts, whether it stands before or after one of the path. A folder's file may declare any
+-- path.
 abbrev pub FoldersAreListed : Type 0
 FoldersAreListed = IsListedAs folders_text folders_answers
     (codes "example.com/m\nexample.com/a v1.0.0 => ../a\nexample.com/b v1.0.0 => ../b\n")
@@ -202,7 +204,8 @@ FoldersAreListed = IsListedAs folders_text folders_answers
 
 abbrev pub nine_answers : List (Name × Reply)
 nine_answers =
-    (name_at (codes "a") (codes "v1.9.0"), absent) ∷ answer (codes "b") (requiring (codes "b") (codes "a") (codes "v1.10.0"))
+    (name_at (codes "a") (codes "v1.9.0"), absent)
+    ∷ answer (codes "b") (requiring (codes "b") (codes "a") (codes "v1.10.0"))
     ∷ (name_at (codes "a") (codes "v1.10.0"), too_long) ∷ []
 
 -- Faults of one path come in the order of versions.
@@ -213,7 +216,8 @@ TwoFaultsAreReported = IsReportedAs nine_text nine_answers
 -- A file without a module line declares no path, and an empty path is none. A line has two digits.
 pub record OneFileIsReported : Type 0 where
   pub undeclared : IsReportedAs one_text (answer (codes "a") [] ∷ []) (codes "example.com/a@v1.0.0: WrongPath\n")
-  pub late : IsReportedAs one_text (answer (codes "a") late_text ∷ []) (codes "example.com/a@v1.0.0: Malformed 12 BadVersion\n")
+  pub late : IsReportedAs one_text (answer (codes "a") late_text ∷ [])
+      (codes "example.com/a@v1.0.0: Malformed 12 BadVersion\n")
   pub no_path : declares (path_of (codes "a")) (Some []) ≡ false
 
 -- No host name begins with a dash or has a capital letter; it may have digits and dashes.
@@ -243,11 +247,13 @@ sums_answers =
     bare_answer (codes "a") (codes "v1.0.0") ∷ bare_answer (codes "b") (codes "v1.1.0")
     ∷ bare_answer (codes "c") (codes "v1.0.0") ∷ []
 
--- A go.sum lists a file, does not list the second, and lists another hash of the third. One that is invalid is reported.
+-- A go.sum lists a file, does not list the second, and lists another hash of the third. One that is invalid is
+-- reported.
 pub record SumsAreReported : Type 0 where
   pub checked : ListEnds None None (given_with three_text (Some sums_text) sums_answers) (reporting
       (codes "example.com/b@v1.1.0: NoSum\nexample.com/c@v1.0.0: SumDiffers\n"))
-  pub invalid : ListEnds None None (given_with alone_text (Some (codes "a b\n")) []) (reporting (codes "go.sum:1: BadSum\n"))
+  pub invalid : ListEnds None None (given_with alone_text (Some (codes "a b\n")) [])
+      (reporting (codes "go.sum:1: BadSum\n"))
 
 -- Its main file requires one module too many.
 abbrev pub TooManyAreReported : Type 0
