@@ -81,9 +81,9 @@ fn read_sums<'a, S: StandardInput + FileSystem + Alloc<A = Global>>(
 ) -> Result<Option<Vec<u8>>, Report<'a>>
     ensures { MatchResult result
         (AreSumsInput (FileGives (S.may_open rt.now) (S.may_take rt.now))
-            (option_map string_bytes places.now.sums))
+        (option_map string_bytes places.now.sums))
         (λ told. AreSumsUnread (FileGives (S.may_open rt.now) (S.may_take rt.now))
-            (option_map string_bytes places.now.sums) (report_outcome told)) }
+        (option_map string_bytes places.now.sums) (report_outcome told)) }
 {
     match &places.sums {
         Some(name) => Ok(Some(read_named(rt, name.as_str())?)),
@@ -99,7 +99,7 @@ fn read_main<'a, S: StandardInput + FileSystem + Alloc<A = Global>>(
     ensures { MatchResult result
         (IsMainInput (FileGives (S.may_open rt.now) (S.may_take rt.now)) (string_bytes places.now.main))
         (λ told. IsFileUnread (FileGives (S.may_open rt.now) (S.may_take rt.now)) (string_bytes places.now.main)
-            (report_outcome told)) }
+        (report_outcome told)) }
 {
     let main = read_named(rt, places.main.as_str())?;
     Ok(Inputs { main, sums: None })
@@ -113,7 +113,7 @@ fn read_both<'a, S: StandardInput + FileSystem + Alloc<A = Global>>(
     ensures { MatchResult result
         (AreBothRead (FileGives (S.may_open rt.now) (S.may_take rt.now)) places.now)
         (λ told. IsOneUnread (FileGives (S.may_open rt.now) (S.may_take rt.now)) places.now
-            (report_outcome told)) }
+        (report_outcome told)) }
 {
     let main = read_named(rt, places.main.as_str())?;
     let sums = read_sums(rt, places)?;
@@ -129,7 +129,7 @@ pub(crate) fn read_inputs<'a, S: StandardInput + FileSystem + Alloc<A = Global>>
     ensures { MatchResult result
         (AreInputs (FileGives (S.may_open rt.now) (S.may_take rt.now)) command.now places.now)
         (λ told. IsUnreadInput (FileGives (S.may_open rt.now) (S.may_take rt.now)) command.now places.now
-            (report_outcome told)) }
+        (report_outcome told)) }
 {
     match command {
         Command::Fmt => read_main(rt, places),

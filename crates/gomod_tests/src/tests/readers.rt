@@ -1,7 +1,7 @@
 //! Readers that fail once, that give few bytes per call, or that have more bytes than are read.
 
 use super::{OUT_OF_MEMORY, assert_same};
-use gm_store::{ReadFault, LIMIT, read_limited};
+use gm_store::{LIMIT, ReadFault, read_limited};
 use std::alloc::Global;
 use std::io;
 use std::io::{ErrorKind, Read};
