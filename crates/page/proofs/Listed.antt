@@ -3,7 +3,7 @@ use Rattle.std.proofs.Common.{[], None, Some, codes, refl}
 use Rattle.page.specs.Files.{main_file, main_text, old_file, old_text}
 use Rattle.page.specs.Files.RowFiles.{alone_file, alone_text, both_file, both_text, ends_file, ends_text, excluding_file, excluding_text, folders_file, folders_text, forking_file, forking_text, later_file, later_text, one_file, one_text, replacing_file, replacing_text, two_file, two_text}
 use Rattle.page.specs.Path.{is_fetchable}
-use Rattle.page.specs.Worlds.{PrunedIsListed, UnprunedIsListed, pruned_answers, unpruned_answers}
+use Rattle.page.specs.Worlds.{PrunedIsListed, UnprunedIsListed, printing, pruned_answers, unpruned_answers}
 use Rattle.page.specs.Worlds.Rows.{DeepIsOpened, EachPartCounts, ExcludedIsLeftOut, FolderIsListed, FoldersAreListed, ForkIsListed, GreaterVersionIsListed, LaterGoIsListed, MainAloneIsListed, OwnPathIsLeftOut, TopIsOpenedDeeply, UnopenedIsListed, both_ways_answers, deep_answers, excluded_answers, folder_answers, folders_answers, fork_answers, go_answers, own_answers, parts_answers, unopened_answers, versions_answers}
 use Rattle.page.proofs.Checked.{ends_so}
 
@@ -41,7 +41,8 @@ folder_is_listed = ends_so replacing_text None replacing_file None folder_answer
 
 pub fork_is_listed : ForkIsListed
 unfolding is_fetchable
-fork_is_listed = ends_so forking_text None forking_file None fork_answers refl tt refl None None _ refl
+fork_is_listed = ends_so forking_text None forking_file None fork_answers refl tt refl None None
+    (printing (codes "example.com/m\nexample.com/a v1.0.0 => example.com/fork v1.1.0\nexample.com/fork v1.1.0\n")) refl
 
 pub later_go_is_listed : LaterGoIsListed
 unfolding is_fetchable
