@@ -4,7 +4,8 @@
 #   tools/change-page.sh                  lists the changes, each with its number, its definition and its file
 #   tools/change-page.sh NUMBER..         tries these
 #   tools/change-page.sh --all            tries all, which takes some 12 s of CPU time each
-#   tools/change-page.sh --some SECONDS   tries as many as fit into so many seconds of CPU time, others for each commit
+#   tools/change-page.sh --some SECONDS   tries as many as fit into so many seconds of CPU time, others for each commit,
+#                                         of those that are marked as seen to be as they should be
 #
 # tools/page_changes.txt has the changes, which keep the shape of their definitions; a change must be refused by one of:
 #

@@ -1,8 +1,9 @@
 """Tries changes of definitions in a copy of crates/page, for tools/change-page.sh.
 
 tools/page_changes.txt has the changes, in blocks: a title, which begins with the name of the definition, its file, the
-text that goes, the one that comes (`¶` is a line's end), and import lines, if it needs any. After `== equal forms` come
-changes that say the same in other words, which must still be proved.
+text that goes, the one that comes (`¶` is a line's end), and import lines, if it needs any. A last line `seen` says that
+the change was tried, and was as it should be; --some tries such changes alone. After `== equal forms` come changes that
+say the same in other words, which must still be proved.
 """
 import dataclasses
 import pathlib
@@ -16,6 +17,7 @@ import tempfile
 PAGE = pathlib.Path("crates/page")
 CHANGES = pathlib.Path("tools/page_changes.txt")
 EQUAL = "== equal forms\n\n"
+SEEN = "seen"
 # What the proofs of the law, and of runs without an outcome, are in: files, and how lemmas of other files begin.
 LAW = {"OneOutcome"}, ("same_lists",)
 NONE = {"Nothing"}, ("none_", "not_")
@@ -38,6 +40,7 @@ class Change:
     new: str
     uses: list
     is_equal: bool
+    is_seen: bool
 
     def path(self):
         return f"specs/{self.file}.antt"
@@ -52,8 +55,10 @@ def changes():
     """All changes, those of the meaning first."""
     for is_equal, part in enumerate(CHANGES.read_text().split(EQUAL)):
         for block in part.strip().split("\n\n"):
-            title, file, old, new, *uses = block.split("\n")
-            yield Change(title, file, old[2:].replace("¶", "\n"), new[2:].replace("¶", "\n"), uses, bool(is_equal))
+            title, file, old, new, *more = block.split("\n")
+            uses = [line for line in more if line != SEEN]
+            texts = (it[2:].replace("¶", "\n") for it in (old, new))
+            yield Change(title, file, *texts, uses, bool(is_equal), SEEN in more)
 
 
 def constructors():
@@ -199,7 +204,7 @@ def main(*words):
         for number, change in numbered:
             print(f"{number} {change.title} ({change.path()}{', an equal form' if change.is_equal else ''})")
     elif words[0] == "--some":
-        wrong = try_all(in_turn(numbered), int(words[1]))
+        wrong = try_all(in_turn([it for it in numbered if it[1].is_seen]), int(words[1]))
     else:
         chosen = {int(it) for it in words if it != "--all"}
         wrong = try_all([it for it in numbered if it[0] in chosen or words == ("--all",)], 0)
