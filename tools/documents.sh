@@ -5,7 +5,8 @@
 # each; a release has at most 500 words in CHANGELOG.md. And it checks that each figure that README.md shows of speed is
 # the one of docs/dev/BENCHMARKS.md, and that both name the commit that was measured, which changed a source.
 #
-#   tools/documents.sh           README.md, all documents of docs/, crates/run_cases/MISTAKES.md, budgets and figures
+#   tools/documents.sh           README.md, all documents of docs/, PROOFS.md and MISTAKES.md of crates, budgets and
+#                                figures
 #   tools/documents.sh FILE..    these, and neither budgets nor figures
 #   tools/documents.sh --accept NAME..  writes the checksums anew of the sentences bound to these laws, or to `all`
 #
@@ -64,7 +65,8 @@ BUDGETS = """
 13000 docs/dev/*.md
  1800 docs/dev/CASES.md
  3200 docs/DECISIONS.md
- 4500 docs/dev/PROOFS.md
+ 1800 docs/dev/PROOFS.md
+ 4900 docs/dev/PROOFS.md crates/*/PROOFS.md
   800 docs/dev/BENCHMARKS.md
 """
 NUMBERS = "one two three four five six seven eight nine ten eleven twelve".split()
@@ -419,8 +421,9 @@ class Document:
         for found in re.finditer(r"\blogic (?:is )?`?([0-9a-f]{16})\b", line):
             self.tell("versions", found[1] in version, f"gomod --version has not the logic {found[1]}")
         for found in re.finditer(r'\b([A-Z]+\.md), "([^"]+)"', line):
-            path = next((it for it in self.sources.files if os.path.basename(it) == found[1]), None)
-            is_right = bool(path) and any(re.fullmatch(rf"#+ {re.escape(found[2])}", it) for it in lines_of(path))
+            paths = [it for it in self.sources.files if os.path.basename(it) == found[1]]
+            heading = rf"#+ {re.escape(found[2])}"
+            is_right = any(re.fullmatch(heading, it) for path in paths for it in lines_of(path))
             self.tell("headings", is_right, f'{found[1]} has no section "{found[2]}"')
 
     def read_cell(self, name, cell, line):
@@ -527,7 +530,8 @@ def keep_figures(tally):
 
 def main(*names):
     tally = collections.defaultdict(lambda: {True: 0, False: 0})
-    for name in names or ["README.md", *sorted(glob.glob("docs/**/*.md", recursive=True)), MISTAKES]:
+    of_crates = sorted(glob.glob("crates/*/PROOFS.md"))
+    for name in names or ["README.md", *sorted(glob.glob("docs/**/*.md", recursive=True)), *of_crates, MISTAKES]:
         Document(name, SOURCES, tally).read()
     if not names:
         keep_budgets(tally)
