@@ -1,0 +1,525 @@
+"""Checks what the documents name, and how long they are, for tools/documents.sh, which says what it looks at.
+
+    documents.py           all documents, budgets and figures
+    documents.py FILE..    these documents alone
+
+It runs in the root of a repository of git. It prints what is wrong and how many things of each kind it looked at. The
+status is 1 if one was wrong.
+"""
+import collections
+import fnmatch
+import glob
+import os
+import re
+import subprocess
+import sys
+
+# Names of the toolchain and of its crates that documents have and no source imports.
+ELSEWHERE = set("""
+Abort AllocError BTreeSet by_true CowStr get_or_insert get_or_insert_with index_mut into_iter not-source or_else
+PartialEq PartialOrd partition_point RefCell reserved-name rotate_left RT_JOBS saturating_add sort_unstable split_first
+split_once
+then_with thiserror
+""".split())
+# What a path of names may begin with that is none of ours.
+OTHER_ROOTS = set("Env Rc String Vec anyhow env mem std str A".split())
+# The crate that LIBRARY.md makes.
+MADE = "crates/hello"
+# How many words documents may have together: a number, and the documents or patterns of their names.
+BUDGETS = """
+ 6500 docs/use/*.md
+ 1435 docs/use/GO.md
+12135 docs/proof/*.md
+ 5070 docs/proof/SPEC.md
+ 3000 docs/lib/*.md
+ 1500 docs/lib/LIBRARY.md
+ 1500 docs/lib/CRATES.md
+13000 docs/dev/*.md
+ 1800 docs/dev/CASES.md
+ 3200 docs/DECISIONS.md
+ 1800 docs/dev/PROOFS.md
+ 4900 docs/dev/PROOFS.md crates/*/PROOFS.md
+  800 docs/dev/BENCHMARKS.md
+"""
+NUMBERS = "one two three four five six seven eight nine ten eleven twelve".split()
+
+MISTAKES = "crates/run_cases/MISTAKES.md"
+FIGURES = "docs/dev/BENCHMARKS.md"
+
+TICKED = r"`([^`]+)`"
+LIST = r"`\w+`(?: \([^()]*\))?(?:(?:, and |, | and )`\w+`(?: \([^()]*\))?)*"
+CALL = r"`(\w+(?:::\w+)*)`"
+SHOWN = r"^<!-- show [^\n]*? -->\n.*?^<!-- end -->$"
+
+
+def lines_of(path):
+    with open(path, encoding="utf-8") as it:
+        return it.read().split("\n")
+
+
+def words_of(path):
+    """How many words a document has, without bars of tables, fenced code, comments, and what other files say."""
+    text = re.sub(rf"(?ms)^```.*?^```$|{SHOWN}|<!--.*?-->|^>[^\n]*$", "", "\n".join(lines_of(path)))
+    rows = re.sub(r"(?m)^\|[-:| ]+\|$", "", text).split("\n")
+    return sum(len((re.sub(r"(?<!\\)\|", " ", it) if it.startswith("|") else it).split()) for it in rows)
+
+
+def git(*words):
+    return subprocess.run(["git", *words], capture_output=True, text=True)
+
+
+class Sources:
+    """What the repository has."""
+
+    def __init__(self):
+        listed = git("ls-files", "-co", "--exclude-standard").stdout.split("\n")
+        self.files = {it for it in listed if it and os.path.lexists(it)}
+        self.folders = {"/".join(it.split("/")[:n]) for it in self.files for n in range(1, it.count("/") + 1)}
+        self.bases = {os.path.basename(it) for it in self.files}
+        self.roots = {it for it in self.folders if "/" not in it}
+        self.crates = {it.split("/")[1] for it in self.files if it.startswith("crates/") and it.count("/") > 1}
+        self.edits = {(it.split("/")[1], it.split("/")[3][:-5]) for it in self.files if it.endswith(".edit")}
+        self.modules = collections.defaultdict(set)  # module: crates
+        self.owners = set()  # types and traits
+        self.items = collections.defaultdict(set)  # name: (crate, module or type)
+        self.clauses = collections.defaultdict(set)  # (crate, module or type, function): names
+        self.passed_on = collections.defaultdict(set)  # crate: what its lib.rt exports
+        self.tests, self.laws, self.defined = set(), set(), set()
+        self.inner = set()  # names of lemmas, parameters and variables
+        self.imported = set()  # names that src/ and specs/ import, those of the toolchain among them
+        self.titles = collections.defaultdict(set)  # file: titles of cases
+        self.public = collections.defaultdict(set)  # (crate, module or type): public functions
+        self.of_traits = collections.defaultdict(set)  # (crate, type): functions of traits
+        self.version = re.search(r'VERSION: &str = "(.*)"', "\n".join(lines_of("crates/gomod_words/src/help.rt")))[1]
+        for path in sorted(self.files):
+            crate = path.split("/")[1] if path.startswith("crates/") else ""
+            if path.endswith((".rt", ".antt")):
+                for found in re.finditer(r"(?m)^\s*(?:ghost )?use Rattle[^{\n]*\{([^}]*)\}", "\n".join(lines_of(path))):
+                    names = self.inner if "/proofs/" in path else self.imported
+                    names |= set(re.findall(r"[^\s,]+", found[1]))
+            if path.endswith(".rt"):
+                self.read_code(crate, path)
+            elif path.endswith(".antt") and crate:
+                self.read_definitions(path)
+            elif re.fullmatch(r"crates/run_cases/data/(sizes/|program/)?\w+\.txt", path):
+                self.titles[os.path.basename(path)] |= {it[4:] for it in lines_of(path) if it.startswith("=== ")}
+        self.counted = self.counts()
+        self.is_shallow = is_shallow()
+
+    def read_code(self, crate, path):
+        module = os.path.basename(path)[:-3]
+        parts = path.split("/")[3:-1] + [module]
+        for it in parts:
+            self.modules[it].add(crate)
+        owners, kind, function, is_test = [], "", "", False
+        text = "\n".join(lines_of(path))
+        if module == "lib":
+            for found in re.finditer(r"(?m)^pub (?:use (?:\w+::)*([^;:]+);|mod (?!laws)(\w+))", text):
+                self.passed_on[crate] |= set(re.findall(r"\w+", found[1] or found[2]))
+        for line in text.split("\n"):
+            if re.match(r"\s*//", line):
+                continue
+            head = re.match(r"impl(?:<.*?>+)? (?:(\w[\w:]*)(?:<.*?>+)? for )?&?(?:'\w+ )?(\w+)", line)
+            item = re.match(r"\s*(?:pub(?:\([a-z]+\))? )?(struct|enum|trait|type|const|static|mod) (\w+)", line)
+            called = re.match(r"(\s*)(pub )?(?:pub\([a-z]+\) )?(?:const )?fn (\w+)", line)
+            if head:
+                owners, kind = [it.split("::")[-1] for it in head.groups() if it], "impl" if not head[1] else "for"
+            elif item:
+                self.items[item[2]].add((crate, module))
+                # an indented `type` is a trait's own
+                if item[1] in ("struct", "enum", "trait") or item[1] == "type" and line.startswith(("pub", "type")):
+                    self.owners.add(item[2])
+                    owners, kind = ([item[2]], item[1]) if not line.rstrip().endswith(";") else ([], "")
+            elif line.startswith("}"):
+                owners, kind = [], ""
+            if called:
+                function = called[3]
+                within = owners if called[1] and owners else parts
+                for it in {*within, *parts}:
+                    self.items[function].add((crate, it))
+                    self.clauses[crate, it, function] |= set()
+                if called[2] or kind == "trait":
+                    for it in within:
+                        self.public[crate, it].add(function)
+                if kind == "for":
+                    for it in within:
+                        self.of_traits[crate, it].add(function)
+                if is_test:
+                    self.tests.add(function)
+                if "laws" in parts or crate == "gomod_laws":
+                    self.laws.add(function)
+            is_test = line.strip() == "#[test]" or (is_test and line.strip().startswith("#["))
+            clause = re.match(r"\s+(?:ensures|requires)\*? ([a-z]\w*)", line)
+            if clause and function:
+                for it in {*owners, *parts}:
+                    self.clauses[crate, it, function].add(clause[1])
+                self.defined.add(clause[1])
+            ghost = re.match(r"\s+ghost (\w+)", line)
+            if ghost:
+                self.defined.add(ghost[1])
+                self.clauses[crate, owners[0] if owners else module, "ghost"].add(ghost[1])
+            variant = re.match(r"    ([A-Z]\w*)\b", line) if kind == "enum" else None
+            field = re.match(r"    (?:pub(?:\([a-z]+\))? )?(\w+):", line) if kind == "struct" else None
+            for it in filter(None, (variant, field)):
+                self.items[it[1]].add((crate, owners[0]))
+            self.inner |= set(re.findall(r"(\w+):", line)) | set(re.findall(r"\blet (?:mut )?(\w+)", line))
+
+    def read_definitions(self, path):
+        word = r"[^\s:(){},;.]+"
+        names = self.defined if path.split("/")[2] == "specs" else self.inner
+        self.defined.add(os.path.basename(path)[:-5])
+        for line in lines_of(path):
+            if line.startswith("--"):
+                continue
+            found = re.match(rf"\s*(?:(?:abbrev|unfoldable|pub|record|data|module|returns)\s+)*((?:{word}\s+)+):", line)
+            if found:
+                names |= set(found[1].split())
+            found = re.match(rf"\s*(?:pub )?(?:record|data|module) ({word})", line)
+            if found:
+                names.add(found[1])
+
+    def is_declared(self, name):
+        return (name in self.items or name in self.defined or name in self.crates or name in self.modules
+                or any(name in it for it in self.passed_on.values()) or any(name == edit for _, edit in self.edits))
+
+    def is_name(self, name, is_inner):
+        return self.is_declared(name) or name in ELSEWHERE | self.imported or (is_inner and name in self.inner)
+
+    def leads(self, path, crates, is_public):
+        """Whether a path of names, as `Type::function` or `crate::module::function`, leads to something (public)."""
+        parts = path.split("::")
+        if parts[0] in self.crates:
+            crates, parts = {parts[0]}, parts[1:]
+        if len(parts) == 1:
+            named = {crate for crate, _ in self.items.get(parts[0], ())} | self.modules.get(parts[0], set())
+            return bool(named & crates) or any(parts[0] in self.passed_on[it] for it in crates)
+        places = {(crate, it) for crate, it in self.items.get(parts[-1], ()) if it == parts[-2]}
+        if is_public and parts[-1][0].islower():
+            places = {it for it in places if parts[-1] in self.public[it] | self.of_traits[it]}
+        if not places:
+            return bool(crates & self.modules.get(parts[-1], set()) & self.modules.get(parts[-2], set()))
+        return any(crate in crates or any(parts[-2] in self.passed_on[it] for it in crates) for crate, _ in places)
+
+    def clauses_of(self, call, crates):
+        """The names of the clauses of the functions that a call may be, or None if there is no such function."""
+        parts = call.split("::")
+        if parts[0] in self.crates:
+            crates, parts = {parts[0]}, parts[1:]
+        within = parts[-2] if len(parts) > 1 else None
+        for among in (crates, self.crates):
+            found = [clauses for (crate, it, function), clauses in self.clauses.items()
+                     if function == parts[-1] and crate in among and within in (None, it)]
+            if found:
+                return set().union(*found)
+        return None
+
+    def counts(self):
+        """What can be counted, by its name in a document."""
+        cases = re.match(r"(\d+) passed, 0 failed, (\d+) runs", "\n".join(lines_of("crates/run_cases/stdout")))
+        return {
+            "cases": int(cases[1]),
+            "runs": int(cases[2]),
+            "edits": len(self.edits),
+            "crates": len(self.crates),
+            "programs": sum(f"crates/{it}/src/main.rt" in self.files for it in self.crates),
+            "libraries": sum(f"crates/{it}/src/lib.rt" in self.files for it in self.crates),
+            "tests": len(self.tests),
+            "commands": sum(("gomod_words", "Command") in it for it in self.items.values()),
+            "operations": sum(("gm_file_edit", "Name") in it for it in self.items.values()),
+        }
+
+
+class Document:
+    """One document, and what was found in it."""
+
+    def __init__(self, name, sources, tally):
+        self.name, self.sources, self.tally = name, sources, tally
+        self.number, self.section, self.header = 0, set(), []
+
+    def tell(self, kind, is_right, message):
+        self.tally[kind][is_right] += 1
+        if not is_right:
+            print(f"{self.name}:{self.number}: {message}")
+
+    def crates_for(self, line):
+        """The crates that a line may speak of: those of the section and those that it names, or else all."""
+        named = {it for it in re.findall(r"\w+", line) if it in self.sources.crates}
+        return (self.section | named) if self.section else self.sources.crates
+
+    def read(self):
+        is_fenced, lines = False, lines_of(self.name)
+        for self.number, line in enumerate(lines, 1):
+            if line.startswith("```"):
+                is_fenced = not is_fenced
+            if is_fenced:
+                continue
+            if line.startswith("## ") or (line.startswith("### ") and self.section):
+                named = {it for it in re.findall(r"\w+", line.split(":")[0]) if it in self.sources.crates}
+                self.section = named if line.startswith("## ") or named else self.section
+            if line.startswith("    "):
+                self.read_files(line, True)
+                continue
+            if line.startswith("|") and self.number < len(lines) and lines[self.number].startswith("|---"):
+                self.header = []
+                self.read_line(line)
+                self.header = [it.strip() for it in line.strip().strip("|").split(" | ")]
+                continue
+            if not line.startswith("|"):
+                self.header = []
+            self.read_line(line)
+
+    def read_line(self, line):
+        self.read_files(line)
+        self.read_names(line)
+        self.read_clauses(line)
+        self.read_edits(line)
+        self.read_commits(line)
+        self.read_titles(line)
+        self.read_counts(line)
+        self.read_others(line)
+        for name, cell in self.cells(line):
+            self.read_cell(name, cell, line)
+
+    def cells(self, line):
+        if not line.startswith("|") or line.startswith("|---"):
+            return []
+        return list(zip(self.header, re.split(r"(?<!\\)\|", line.strip()[1:-1])))
+
+    def read_files(self, line, is_block=False):
+        sources = self.sources
+        for found in re.finditer(r"(?<![\w/.@:~$!-])\.?\w[\w.-]*(?:/[\w.*-]+)*/?", line):
+            word = found[0].rstrip(".").rstrip("/")
+            parts = word.split("/")
+            if word in ("proofs", "specs", "src") or "out" in parts or f"{word}/".startswith(f"{MADE}/"):
+                continue
+            if parts[0] in sources.roots and len(parts) > 1:
+                self.tell("files", self.is_file(word), f"there is no file {word}")
+            elif parts[0] in sources.crates and len(parts) > 1 and parts[1] in ("src", "specs", "proofs", "data"):
+                self.tell("files", self.is_file(f"crates/{word}"), f"there is no file {word}")
+            elif parts[0] in ("src", "specs", "proofs") and len(parts) > 1:
+                crates = self.crates_for(line)
+                is_right = any(self.is_file(f"crates/{it}/{word}") for it in crates)
+                where = "" if crates == sources.crates else f" in {', '.join(sorted(crates))}"
+                self.tell("files", is_right, f"there is no file {word}{where}")
+            elif len(parts) == 1 and not is_block and re.fullmatch(r"[\w-]+\.(?:rt|antt|sh|py|rs|txt|md)", word):
+                self.tell("files", word in sources.bases, f"there is no file {word}")
+
+    def is_file(self, path):
+        sources = self.sources
+        path = "/".join(re.sub(r"^[A-Z]+(?=\.|$)", "*", it) for it in path.split("/"))
+        names = (path, f"{path}.antt", f"{path}.rt")
+        if "*" in path:
+            return any(fnmatch.fnmatch(it, name) for it in sources.files | sources.folders for name in names)
+        return any(it in sources.files or it in sources.folders for it in names)
+
+    def read_names(self, line):
+        sources = self.sources
+        is_inner = os.path.basename(self.name) == "PROOFS.md" or "proofs/" in line
+        for found in re.finditer(TICKED, line):
+            text = found[1]
+            if re.fullmatch(r"\w+(?:::\w+)+", text):
+                if text.split("::")[0] not in OTHER_ROOTS:
+                    is_public = os.path.basename(self.name) in ("README.md", "LIBRARY.md")
+                    is_right = sources.leads(text, sources.crates, is_public)
+                    self.tell("paths of names", is_right, f"`{text}` leads to nothing")
+            elif re.fullmatch(r"[a-z]\w*_\w*|[A-Z][a-z]\w*[A-Z]\w*", text):
+                self.tell("names", sources.is_name(text, is_inner), f"there is no `{text}`")
+            elif os.path.basename(self.name) == "PROOFS.md" and re.fullmatch(r"[a-z]\w*(?:-\w+)+", text):
+                self.tell("names", sources.is_name(text, True), f"there is no `{text}`")
+        for found in re.finditer(r"(?<![\w/.@])(?:gm|gomod)_\w+", line):
+            self.tell("crates", sources.is_declared(found[0]), f"there is no crate {found[0]}")
+        for found in re.finditer(rf"\b(law|test)s? ({LIST})", line):
+            known = sources.laws if found[1] == "law" else sources.tests
+            for name in re.findall(r"`(\w+)`", re.sub(r" \([^()]*\)", "", found[2])):
+                self.tell(f"{found[1]}s", name in known, f"there is no {found[1]} `{name}`")
+
+    def read_clauses(self, line):
+        crates = self.crates_for(line)
+        form = rf"{CALL}(?: \([^()]*\))?,? \(?(?:and )?clauses? ({LIST})(?! of `)"
+        forms = [(it[1], it[2]) for it in re.finditer(form, line)]
+        forms += [(it[2], it[1]) for it in re.finditer(rf"clauses? ({LIST}) of {CALL}", line)]
+        forms += [(it[2], it[1]) for name, cell in self.cells(line) if name == "Clause"
+                  for it in re.finditer(rf"({LIST}) of {CALL}", cell)]
+        for call, names in forms:
+            known = self.sources.clauses_of(call, crates)
+            for name in re.findall(r"`(\w+)`", re.sub(r" \([^()]*\)", "", names)):
+                self.tell("clauses", known is not None and name in known, f"`{call}` has no clause `{name}`")
+
+    def read_edits(self, line):
+        sources = self.sources
+        went = bool(self.header) and self.header[0] == "Edit that went"
+        for found in re.finditer(r"(?<![\w/])(\w+)/([a-z]\w*)(?![\w/.])", line):
+            if found[1] in sources.crates and f"crates/{found[0]}" not in sources.folders | sources.files:
+                is_there = (found[1], found[2]) in sources.edits
+                self.tell("edits", is_there != went, f"the edit {found[0]} is {'still' if went else 'not'} there")
+        for found in re.finditer(rf"\bedits? ({LIST})", line):
+            for name in re.findall(r"`(\w+)`", found[1]):
+                if "_" in name:
+                    is_right = any(name == edit for _, edit in sources.edits)
+                    self.tell("edits", is_right, f"there is no edit `{name}`")
+
+    def read_commits(self, line):
+        for found in re.finditer(r"(?<![\w.=-])(?:[0-9a-f]{40}|[0-9a-f]{7,12})(?![\w-])", line):
+            if re.search("[a-f]", found[0]) and re.search("[0-9]", found[0]):
+                if self.sources.is_shallow:
+                    self.tally["commits not looked for"][True] += 1
+                else:
+                    is_right = git("merge-base", "--is-ancestor", found[0], "HEAD").returncode == 0
+                    self.tell("commits", is_right, f"there is no commit {found[0]} before this one")
+
+    def read_titles(self, line):
+        known = set().union(*self.sources.titles.values())
+        after = set()
+        for found in re.finditer(r'\b([a-z_]+\.txt), ("[^"]+"(?:(?:, and |, | and )"[^"]+")*)', line):
+            for title in re.findall(r'"([^"]+)"', found[2]):
+                after.add(title)
+                is_right = title in self.sources.titles.get(found[1], ())
+                self.tell("titles of cases", is_right, f'{found[1]} has no case "{title}"')
+        for name, cell in self.cells(line):
+            if re.search(r"\bcase|\bfails\b", name, re.I):
+                for title in re.findall(r'"([^"]+)"', cell):
+                    if title not in after:
+                        self.tell("titles of cases", title in known, f'there is no case "{title}"')
+
+    def read_counts(self, line):
+        names = "|".join(self.sources.counted)
+        for found in re.finditer(rf"\b[Aa]ll (\d[\d,]*|{'|'.join(NUMBERS)}) ({names})\b", line):
+            number = NUMBERS.index(found[1]) + 1 if found[1] in NUMBERS else int(found[1].replace(",", ""))
+            there = self.sources.counted[found[2]]
+            self.tell("counts", number == there, f"there are {there:,} {found[2]}, not {found[1]}")
+
+    def read_others(self, line):
+        version = self.sources.version
+        for found in re.finditer(r"gomod (\d+\.\d+\.\d+ \([^()]*\))", line):
+            self.tell("versions", found[1] == version, f"gomod --version prints {version}")
+        for found in re.finditer(r"\blogic (?:is )?`?([0-9a-f]{16})\b", line):
+            self.tell("versions", found[1] in version, f"gomod --version has not the logic {found[1]}")
+        for found in re.finditer(r'\b([A-Z]+\.md), "([^"]+)"', line):
+            paths = [it for it in self.sources.files if os.path.basename(it) == found[1]]
+            heading = rf"#+ {re.escape(found[2])}"
+            is_right = any(re.fullmatch(heading, it) for path in paths for it in lines_of(path))
+            self.tell("headings", is_right, f'{found[1]} has no section "{found[2]}"')
+
+    def read_cell(self, name, cell, line):
+        sources = self.sources
+        is_looked_up = re.search(r"\bCalls?\b|\bLaws?\b|\bClause\b|\bCarried by\b", name)
+        if is_looked_up and os.path.basename(self.name) != "CASES.md":
+            for text in re.findall(r"`([a-z]+|[A-Z][a-z]+)`", re.sub(r"\([^()]*\)", "", cell)):
+                is_right = text in ("ensures", "requires") or sources.is_declared(text)
+                self.tell("names", is_right, f"there is no `{text}`")
+        if name == "Crate" and re.fullmatch(r" *\w+(?:, \w+)* *", cell):
+            for it in re.findall(r"\w+", cell):
+                self.tell("crates", it in sources.crates, f"there is no crate {it}")
+
+
+def is_shallow():
+    """Whether this is a clone without its whole history."""
+    return git("rev-parse", "--is-shallow-repository").stdout.strip() == "true"
+
+
+def budgets():
+    """Whether each budget holds; it prints those that don't."""
+    for budget, *patterns in (it.split() for it in BUDGETS.strip().split("\n")):
+        found = [sorted(glob.glob(it)) for it in patterns]
+        missing = [pattern for pattern, names in zip(patterns, found) if not names]
+        count = sum(map(words_of, set().union(*found)))
+        for it in missing:
+            print(f"{it}: it has a budget, but isn't there")
+        if count > int(budget):
+            print(f"{' '.join(patterns)}: {count:,} words, {int(budget):,} are allowed")
+        yield not missing and count <= int(budget)
+
+
+def words_in(lines):
+    """How many words these lines have, outside examples, tables and comments."""
+    return sum(len(it.split()) for it in lines if not it.startswith(("    ", "|")) and not it.strip().startswith("<!--"))
+
+
+def sections_of(path):
+    """The lines of each section of a document, by its heading."""
+    sections, heading = collections.defaultdict(list), ""
+    for line in lines_of(path):
+        heading = line[3:] if line.startswith("## ") else heading
+        sections[heading].append(line)
+    return sections
+
+
+def keep_budgets(tally):
+    """Whether README.md and CHANGELOG.md are as short as they should be."""
+    readme = sections_of("README.md")
+    sentences = [it[2:] for it in readme["What is verified"] if it.startswith("- ")]
+    budgets = [("README.md", sum(map(words_in, readme.values())), 800, "words"),
+               ("README.md, What is verified", len(sentences), 8, "sentences")]
+    budgets += [(f"README.md, '{it}'", len(it.split()), 30, "words") for it in sentences]
+    budgets += [(f"CHANGELOG.md, {heading}", words_in(lines), 500, "words")
+                for heading, lines in sections_of("CHANGELOG.md").items()]
+    for what, number, most, unit in budgets:
+        tally["budgets"][number <= most] += 1
+        if number > most:
+            print(f"{what}: there are {number} {unit}, and at most {most} should be")
+
+
+def shown_in(path):
+    """The lines that a script wrote into a document."""
+    return [line for it in re.findall(f"(?ms){SHOWN}", "\n".join(lines_of(path))) for line in it.split("\n")[1:-1]]
+
+
+def cells_of(lines):
+    """The cells of tables, with the titles of their rows and columns."""
+    cells, head = set(), []
+    for line in lines:
+        row = [it.strip() for it in line.strip("|").split("|")] if line.startswith("|") else []
+        if not row or not head:
+            head = row
+        elif not set(line) <= set("|-: "):
+            cells |= {f"{row[0]}, {column}: {cell}" for column, cell in zip(head[1:], row[1:])}
+    return cells
+
+
+def keep_figures(tally):
+    """Whether README.md shows of speed what docs/dev/BENCHMARKS.md has, and both name a commit that was measured."""
+    readme, page = shown_in("README.md"), shown_in(FIGURES)
+    figures = [(it, it in cells_of(page)) for it in sorted(cells_of(readme))]
+    figures += [(it, it in page) for it in readme if it and not it.startswith("|")]
+    for what, is_right in figures:
+        tally["figures"][is_right] += 1
+        if not is_right:
+            print(f"README.md: {FIGURES} has no '{what}'; bench/tables.sh --write writes both")
+    for needed in "| `gomod list` |", "Measured at `":
+        tally["figures"][any(needed in it for it in readme)] += 1
+        if not any(needed in it for it in readme):
+            print(f"README.md: between its marks there is no '{needed}'")
+    for commit in re.findall(r"(?m)^Measured at `(\w+)`\.$", "\n".join(page)) if not is_shallow() else []:
+        last = git("log", "-1", "--format=%H", commit, "--", "*.rt").stdout.strip()
+        is_right = last.startswith(commit)
+        tally["figures"][is_right] += 1
+        later = git("log", "--format=%h", f"{commit}..HEAD", "--", "*.rt").stdout.split()
+        if not is_right:
+            print(f"{FIGURES}: {commit} is no commit that changed a .rt file")
+        elif later:
+            print(f"{FIGURES}: measured at {commit}, before {len(later)} commits that changed .rt files")
+
+
+def main(*names):
+    if names in (("-h",), ("--help",)):
+        print(__doc__, end="")
+        return 0
+    if git("rev-parse", "HEAD").returncode:
+        sys.exit("documents: this is no repository of git, so nothing can be looked up")
+    sources = Sources()
+    tally = collections.defaultdict(lambda: {True: 0, False: 0})
+    of_crates = sorted(glob.glob("crates/*/PROOFS.md"))
+    for name in names or ["README.md", *sorted(glob.glob("docs/**/*.md", recursive=True)), *of_crates, MISTAKES]:
+        Document(name, sources, tally).read()
+    if not names:
+        keep_budgets(tally)
+        keep_figures(tally)
+        for is_right in budgets():
+            tally["budgets"][is_right] += 1
+    for what, counts in tally.items():
+        print(f"{what}: {counts[True]} right, {counts[False]} wrong")
+    return 1 if any(it[False] for it in tally.values()) else 0
+
+
+if __name__ == "__main__":
+    sys.exit(main(*sys.argv[1:]))

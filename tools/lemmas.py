@@ -1,0 +1,83 @@
+"""Compares the lemmas of the crates with those of the standard library and each other, for tools/lemmas.sh.
+
+    lemmas.py KIT WORD..    KIT is the folder of the toolchain; the words are those of tools/lemmas.sh
+"""
+import collections
+import pathlib
+import re
+import sys
+
+MOST_SHARED = 20
+DECLARED = re.compile(r"(?:pub )?([^\s:(){}]+) : (.+)")
+NAME = re.compile(r"[^\s(){}\[\],;.]+")
+# variables that a type binds: `(x y : T)`, `{x y : T}`, `λ (x : T).`, `λ x y.`
+BINDER = re.compile(r"[({]((?:[^\s(){}:]+ )+):|λ ((?:[^\s().]+ ?)+)\.")
+
+
+def lemmas_of(path):
+    """The declarations at the margin of a file, or of a page's examples: (name, type)."""
+    found, now = [], None
+    for line in path.read_text(encoding="utf-8").split("\n"):
+        if now and line.startswith((" ", "\t")) and line.strip():
+            now[1] += " " + line.strip()
+            continue
+        if now:
+            found.append(tuple(now))
+            now = None
+        if line.startswith(("use ", "pub use ", "abbrev ", "record ", "data ", "--", "mod ", "pub mod ", "unfolding")):
+            continue
+        if declared := DECLARED.fullmatch(line):
+            now = [declared[1], declared[2]]
+    return found + ([tuple(now)] if now else [])
+
+
+def plain(statement):
+    """A type without what doesn't change its sense: names of variables, blanks, and which arguments are implicit."""
+    bound = [name for binder in BINDER.finditer(statement) for name in (binder[1] or binder[2]).split()]
+    renamed = {}
+    for word in NAME.findall(statement):
+        if word in bound:
+            renamed.setdefault(word, f"v{len(renamed)}")
+    words = NAME.sub(lambda word: renamed.get(word[0], word[0]), statement)
+    return re.sub(r"[\s(){}]+", " ", words).strip()
+
+
+def main(kit, *words):
+    if kit in ("-h", "--help"):
+        print(__doc__, end="")
+        return
+    is_checked = "--check" in words
+    is_listed = is_checked or "--list" in words
+    chosen = [word for word in words if word not in ("--check", "--list")]
+    for word in chosen:
+        if not pathlib.Path("crates", word).is_dir():
+            sys.exit(f"lemmas: there is no crate {word}")
+    known = {}
+    pages = pathlib.Path(kit, "rattle", "std", "lemmas")
+    for path in sorted(pages.rglob("*.md")):
+        for name, statement in lemmas_of(path):
+            known.setdefault(plain(statement), f"{name} ({path.relative_to(pages)})")
+    restated, meanings = [], collections.defaultdict(set)
+    for path in sorted(pathlib.Path("crates").glob("*/proofs/*.antt")):
+        crate = path.parts[1]
+        if chosen and crate not in chosen:
+            continue
+        for name, statement in lemmas_of(path):
+            said = plain(statement)
+            meanings[name].add(said)
+            if said in known:
+                restated.append((crate, path.stem, name, known[said]))
+    shared = sorted((-len(said), name) for name, said in meanings.items() if len(said) >= 3)
+    if is_listed:
+        for crate, file, name, of in restated:
+            print(f"{crate}/proofs/{file}: {name} restates {of}")
+        for many, name in shared:
+            print(f"{name}: {-many} different lemmas")
+    print(f"{len(restated)} lemmas restate one of the standard library")
+    print(f"{len(shared)} names have three or more lemmas that differ")
+    if is_checked and (restated or len(shared) > MOST_SHARED):
+        sys.exit(f"lemmas: cite the standard library's lemmas, and let at most {MOST_SHARED} names be shared")
+
+
+if __name__ == "__main__":
+    main(*sys.argv[1:])

@@ -1,0 +1,125 @@
+"""Prints the walks of docs/dev/WALKS.md call by call, for tools/walks.sh, and checks them in the sources.
+
+    walks.py [--check]    --check prints only what is wrong; the status is 1 if something is
+"""
+import pathlib
+import re
+import sys
+
+# a walk: its title, the most functions before its last one, and its functions, each after its file below crates/ where
+# that isn't the file of the one before
+WALKS = [
+    ("list, to where the graph is loaded", 9, """
+        gomod/src/main.rt main
+        gomod_run/src/program.rt exit_code ending_of ending_of_words
+        gomod_run/src/serving.rt serve over_folders
+        gomod_run/src/running.rt run
+        gomod_run/src/outcome.rt outcome
+        gomod_run/src/listing/answering.rt answer
+        gm_graph/src/loading.rt load
+    """),
+    ("list, from `load` to a requirement that is known", 14, """
+        gm_graph/src/loading.rt load visit_all
+        gm_graph/src/visiting.rt visit
+        gm_graph/src/cache.rt visit known_at read_file summarize
+        gm_graph/src/cache/reading.rt read_answer
+        gm_file/src/dep_file.rt read_listed
+        gm_file/src/dep_lines.rt read_all read_simple_lines read_simple
+        gm_file/src/required.rt read push_known
+        gm_name_table/src/module_list.rt push_known
+    """),
+    ("list, from `load` to a new requirement", 14, """
+        gm_graph/src/loading.rt load visit_all
+        gm_graph/src/visiting.rt visit
+        gm_graph/src/cache.rt visit known_at read_file summarize
+        gm_graph/src/cache/reading.rt read_answer
+        gm_file/src/dep_file.rt read_listed
+        gm_file/src/dep_lines.rt read_all read_simple_lines read_simple
+        gm_file/src/required.rt read push
+        gm_name_table/src/module_list.rt push
+    """),
+    ("edit, to the first change of a line", 12, """
+        gomod/src/main.rt main
+        gomod_run/src/program.rt exit_code ending_of ending_of_words
+        gomod_run/src/serving.rt serve over_memory
+        gomod_run/src/running.rt run
+        gomod_run/src/outcome.rt outcome
+        gomod_run/src/edit.rt edit_outcome apply_text
+        gm_file_edit/src/editor.rt apply
+        gm_file_edit/src/applying.rt edit_lines change_lines
+    """),
+]
+
+# what stands in some functions of gm_graph alone, each time once: what it does, the text, and the functions
+ALONE = [
+    ("makes a Lent", r"\bLent::at\(", ["cache.rt first_requirements", "cache.rt lend_at"]),
+    ("makes a Lent by its fields", r"\bLent \{", ["cache/lent.rt at"]),
+    ("appends a turn", r"(\.|TurnHistory::)and\(", ["cache.rt lend_at"]),
+    ("lends what a vertex requires", r"\blend_at\(", ["cache.rt visit", "cache/by_name.rt lend"]),
+]
+
+
+def functions(listed):
+    """The functions of a list, each with its file."""
+    path = None
+    for word in listed.split():
+        if "/" in word:
+            path = pathlib.Path("crates", word)
+        else:
+            yield path, word
+
+
+def body_of(path, function):
+    """The line of a function in a file, and its text up to the brace that closes it."""
+    lines = path.read_text().split("\n")
+    for number, line in enumerate(lines, 1):
+        head = re.match(rf"(\s*)(?:pub(?:\([a-z]+\))? )?fn {function}\b", line)
+        if head:
+            end = lines.index(head[1] + "}", number)
+            return number, "\n".join(lines[number:end])
+    return None, ""
+
+
+def places_of(pattern):
+    """The functions of gm_graph in whose bodies a text stands, each with its file, as often as it does."""
+    root = pathlib.Path("crates/gm_graph/src")
+    for path in sorted(root.rglob("*.rt")):
+        function = None
+        for line in path.read_text().split("\n"):
+            code = line.split("//")[0]
+            head = re.match(r"\s*(?:pub(?:\([a-z]+\))? )?fn (\w+)", code)
+            function = head[1] if head else function
+            yield from (f"{path.relative_to(root)} {function}" for _ in re.findall(pattern, code) if not head)
+
+
+def main(*words):
+    if words in (("-h",), ("--help",)):
+        print(__doc__, end="")
+        return 0
+    status = 0
+    tell = (lambda line: None) if words else print
+    for title, most, listed in WALKS:
+        steps = list(functions(listed))
+        tell(f"{title}: {len(steps) - 1}")
+        for (path, function), after in zip(steps, steps[1:] + [None]):
+            line, body = body_of(path, function)
+            tell(f"  {path}:{line}: {function}")
+            if line is None:
+                print(f"walks: there is no function {function} in {path}")
+                status = 1
+            elif after is not None and not re.search(rf"\b{after[1]}\(", body):
+                print(f"walks: {function} doesn't call {after[1]}")
+                status = 1
+        if len(steps) - 1 > most:
+            print(f"walks: more than {most} functions before the last")
+            status = 1
+    for what, pattern, wanted in ALONE:
+        found = sorted(places_of(pattern))
+        if found != wanted:
+            print(f"walks: {what}: {', '.join(found) or 'nothing'} of gm_graph, and not {', '.join(wanted)}")
+            status = 1
+    return status
+
+
+if __name__ == "__main__":
+    sys.exit(main(*sys.argv[1:]))
