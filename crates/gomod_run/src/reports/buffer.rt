@@ -1,7 +1,7 @@
 //! Lines on their way to a sink. They wait in a buffer of fixed size, so that many short lines take few writes and no
 //! memory.
 
-ghost use Rattle.std.specs.Prelude.{◌≡◌, [], OnOk};
+ghost use Rattle.std.specs.Prelude.{◌≡◌, ◌-◌, ◌^◌, [], OnOk, length, min};
 ghost use Rattle.std.specs.List.{flat_map};
 ghost use Rattle.gomod_run.specs.Giving.{IsGiven, IsEnded};
 ghost use Rattle.gomod_run.specs.ReportTexts.{line};
@@ -80,7 +80,9 @@ impl LineBuffer {
 }
 
 /// How many bytes a line of these pieces has, with its line feed. Saturates.
-fn length_of(pieces: &[&str]) -> usize {
+fn length_of(pieces: &[&str]) -> usize
+    ensures { result ≡ min (length (line (flat_map (λ piece. piece.now) pieces.now))) (2 ^ 64 - 1) }
+{
     let mut total = 1_usize;
     for piece in pieces {
         total = total.saturating_add(piece.len());
