@@ -76,7 +76,7 @@ pub record AreOpened (run : Run) (xs : List ModuleVersion) : Type 0 where
   pub once : IsDistinct pair_eq xs
   pub each : (x : ModuleVersion) → Contains xs x → IsOpened run x
 
--- More than 65,536 modules are opened.
+-- More than 65,536 module versions are opened.
 abbrev pub AreTooMany : Run → Type 0
 AreTooMany run = (xs : List ModuleVersion) × (65536 < length xs) × AreOpened run xs
 
@@ -152,7 +152,7 @@ pub data AskedInTurn (needs : (Name → Option Reply) → Name → Type 0) : Lis
   more : {pairs : List (Name × Reply)} {name : Name} (reply : Reply) → AskedInTurn needs pairs
       → needs (answer_in pairs) name → answer_in pairs name ≡ None → AskedInTurn needs (pairs ++ (name, reply) ∷ [])
 
--- Exactly the needed files were asked for, each once, and at most 65,536 modules are opened.
+-- Exactly the needed files were asked for, each once, and at most 65,536 module versions are opened.
 pub record IsSettled (run : Run) (asked : List Name) : Type 0 where
   pub read : IsRead run
   pub once : IsDistinct same_name asked

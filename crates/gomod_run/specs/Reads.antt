@@ -17,8 +17,8 @@ use Rattle.gomod_run.specs.declared.inputs.Inputs.{Inputs}
 use Rattle.gomod_run.specs.Held.{HoldsOne}
 use Rattle.gomod_run.specs.Program.{unread_outcome}
 
--- In what follows `may_give` says what a FILE of the command line may give (`FileGives`), and `may_take` what may come of
--- taking standard input.
+-- In what follows `may_give` says what a FILE of the command line may give (`FileGives`), and `may_take` what may come
+-- of taking standard input.
 
 -- the go.sum was read, if one is named
 abbrev pub AreSumsInput : (List ℕ → Opening → Type 0) → Option (List ℕ) → Option (Vec ℕ) → Type 0

@@ -97,7 +97,7 @@ not_listed_line path = list_line path (codes "NotListed")
 abbrev pub no_memory_line : List ℕ
 no_memory_line = line (codes "gomod: no memory")
 
--- more than 65,536 modules are opened
+-- more than 65,536 module versions are opened
 abbrev pub too_many_line : List ℕ
 too_many_line = line (codes "gomod: TooMany")
 

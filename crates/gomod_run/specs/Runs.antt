@@ -81,8 +81,8 @@ Needs (Versions path all) main sums answers name = VersionsNeed path all answers
 Needs _ main sums answers name = GraphNeeds main sums answers name
 
 -- What holds however a run of a command ends, with this status and these reports. `before` says what might come of
--- asking its store for a name before the run, `after` what may come of it after the run: an answer, or none if its device
--- may fail.
+-- asking its store for a name before the run, `after` what may come of it after the run: an answer, or none if its
+-- device may fail.
 pub record HoldsAtAnyEnd (command : Command) (main : List ℕ) (sums : Option (List ℕ))
     (before after : Name → Option Reply → Type 0) (old new : StoreState) (status : ℕ) (reports : Outcome → Type 0)
     : Type 0 where

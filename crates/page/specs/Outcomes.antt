@@ -34,8 +34,8 @@ pub record FilesReadAs (file : List ℕ) (sums_text : Option (List ℕ)) (main :
 abbrev pub IsUnasked : Answers → Type 0
 IsUnasked told = (told.asked ≡ []) × (told.failed ≡ [])
 
--- Both files are valid, and exactly the needed files of modules were asked for, each once. At most 65,536 modules are
--- opened, these are the faults, and the device did not fail.
+-- Both files are valid, and exactly the needed files of modules were asked for, each once. At most 65,536 module
+-- versions are opened, these are the faults, and the device did not fail.
 pub record AreFound (run : Given) (main : Main) (table : Option Sums) (faults : List Fault) : Type 0 where
   pub read : FilesReadAs run.file run.sums main table
   pub settled : IsSettled (run_of main table run.told.asked) (names_in run.told.asked)
@@ -59,7 +59,7 @@ pub data QueryEnds (prints : Prints) (run : Given) (outcome : Outcome) : Type 0 
   device : (main : Main) (table : Option Sums) (name : Name) → FilesReadAs run.file run.sums main table
       → IsDue (run_of main table run.told.asked) name → run.told.failed ≡ name ∷ []
       → outcome ≡ failure_outcome (device_line name) → QueryEnds prints run outcome
-  -- more than 65,536 modules are opened
+  -- more than 65,536 module versions are opened
   too_many : (main : Main) (table : Option Sums) → FilesReadAs run.file run.sums main table
       → IsRead (run_of main table run.told.asked) → AreTooMany (run_of main table run.told.asked)
       → run.told.failed ≡ [] → outcome ≡ refusal_outcome too_many_line → QueryEnds prints run outcome

@@ -49,7 +49,7 @@ list_line path kind = line (path ++ codes ": " ++ kind)
 abbrev pub not_listed_line : List ℕ → List ℕ
 not_listed_line path = list_line path (codes "NotListed")
 
--- more than 65,536 modules are opened
+-- more than 65,536 module versions are opened
 abbrev pub too_many_line : List ℕ
 too_many_line = line (codes "gomod: TooMany")
 

@@ -58,7 +58,7 @@ pub record AreOpened (run : Run) (xs : List ModuleVersion) : Type 0 where
   pub once : IsDistinct pair_eq xs
   pub each : (x : ModuleVersion) → Contains xs x → IsOpened run x
 
--- More than 65,536 modules are opened.
+-- More than 65,536 module versions are opened.
 abbrev pub AreTooMany : Run → Type 0
 AreTooMany run = (xs : List ModuleVersion) × (65536 < length xs) × AreOpened run xs
 
@@ -100,7 +100,7 @@ pub record IsDue (run : Run) (name : Name) : Type 0 where
   pub calls : CallsFor run name
   pub unasked : run.answers name ≡ None
 
--- Exactly the needed files were asked for, each once, and at most 65,536 modules are opened.
+-- Exactly the needed files were asked for, each once, and at most 65,536 module versions are opened.
 pub record IsSettled (run : Run) (asked : List Name) : Type 0 where
   pub read : IsRead run
   pub once : IsDistinct same_name asked

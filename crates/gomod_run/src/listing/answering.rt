@@ -54,7 +54,7 @@ fn read_files<'a, 'r>(
 ///
 /// - the first fault of the main file,
 /// - the first fault of the go.sum,
-/// - that more than 65,536 modules are opened, or the file on which the store's device failed,
+/// - that more than 65,536 module versions are opened, or the file on which the store's device failed,
 /// - each opened module that has a fault.
 ///
 /// If one of the two files is invalid, the store is asked for nothing. Otherwise it is asked for the files of

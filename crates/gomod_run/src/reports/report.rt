@@ -47,7 +47,7 @@ pub enum Report<'a> {
     Sums(usize),
     /// `go.sum:0: TooMany`: the go.sum is longer than 16,777,216 bytes.
     LongSums,
-    /// `gomod: TooMany`: more than 65,536 modules would be opened.
+    /// `gomod: TooMany`: more than 65,536 module versions would be opened.
     TooMany,
     /// `gomod: device at NAME`: the store's device failed on this file. `NAME` is `PATH@VERSION`, `FOLDER` or
     /// `PATH list`.
