@@ -1,5 +1,6 @@
 pub mod SmallNumbers
 pub mod GoTexts
+pub mod Keeping
 pub mod PartKinds
 pub mod Arrows
 pub mod Words

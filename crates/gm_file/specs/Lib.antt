@@ -5,6 +5,7 @@ pub mod Faults
 pub mod Fields
 pub mod Main
 pub mod Reading
+pub mod Names
 pub mod Requirements
 pub mod Views
 pub mod Held

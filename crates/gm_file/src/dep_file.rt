@@ -4,6 +4,7 @@ ghost use Rattle.std.specs.Prelude.{◌≡◌, [], IfOk, IfErr, OnErr, None, unw
 ghost use Rattle.std.specs.Option.{option_copied};
 ghost use Rattle.gm_syntax.specs.LineReading.{HasRead};
 ghost use Rattle.gm_syntax.specs.LineViews.{line_views, plain_lines};
+ghost use Rattle.gm_name.specs.Kept.{IsWithinRoom, KeepsAll};
 ghost use Rattle.gm_name_table.specs.Listed.{Appends};
 ghost use Rattle.gm_file.specs.DepLines.{AreRetractedIn, IsDependencyIn};
 ghost use Rattle.gm_file.specs.Directives.{Lax};
@@ -11,6 +12,7 @@ ghost use Rattle.gm_file.specs.Faults.{fault_of};
 ghost use Rattle.gm_file.specs.Fields.{dependency_of, lax_retracts_of};
 ghost use Rattle.gm_file.specs.Listed.{IsListedFrom};
 ghost use Rattle.gm_file.specs.Misreading.{IsBytesFault};
+ghost use Rattle.gm_file.specs.Names.{KeepsNames};
 ghost use Rattle.gm_file.specs.Views.{ReportsFault, interval_views};
 
 use crate::dep_lines::{DepLines, read_all, read_document};
@@ -84,6 +86,7 @@ impl DepFile {
         names: &mut KnownNames,
         lines: &[Line],
     ) -> Result<DepFile, FileFault>
+        ensures kept { KeepsNames names.old names.new }
         ensures ok { IfOk result (λ file. (file.dependency ≡ dependency_of (plain_lines (line_views lines.now)))
             × (fault_of Lax (plain_lines (line_views lines.now)) ≡ None)) }
         ensures retracts { IfOk result (λ file. file.retracts ≡ lax_retracts_of (plain_lines (line_views lines.now))) }
@@ -113,6 +116,8 @@ impl DepFile {
         names: &mut KnownNames,
         bytes: &[u8],
     ) -> Result<DepFile, BytesFault>
+        ensures kept { KeepsAll names.old names.new }
+        ensures within { IsWithinRoom names.old → IsWithinRoom names.new }
         ensures ok { IfOk result (λ file. IsDependencyIn bytes.now file.dependency) }
         ensures retracts { IfOk result (λ file. AreRetractedIn bytes.now file.retracts) }
         ensures fault { IfErr result (IsBytesFault Lax bytes.now) }
@@ -131,6 +136,7 @@ impl DepFile {
     ) -> Result<DepFile, BytesFault>
         requires start { HasRead reader.old [] }
         requires source { reader.old.source ≡ bytes.now }
+        ensures kept { KeepsNames names.old names.new }
         ensures ok { IfOk result (λ file. IsDependencyIn bytes.now file.dependency) }
         ensures retracts { IfOk result (λ file. AreRetractedIn bytes.now file.retracts) }
         ensures fault { IfErr result (IsBytesFault Lax bytes.now) }
@@ -157,6 +163,8 @@ impl DepFile {
         modules: &mut ModuleList,
         bytes: &[u8],
     ) -> Result<ListedFile, BytesFault>
+        ensures kept { KeepsAll names.old names.new }
+        ensures within { IsWithinRoom names.old → IsWithinRoom names.new }
         ensures ok { IfOk result (IsListedFrom bytes.now modules.old modules.new) }
         ensures fault { IfErr result (IsBytesFault Lax bytes.now) }
         ensures err { OnErr result (Appends modules.old modules.new []) }

@@ -12,6 +12,7 @@ ghost use Rattle.gm_file.specs.DepLines.{AreAllRead, AreDepLines, HasNextFault, 
 ghost use Rattle.gm_file.specs.Directives.{Lax, block_after_line};
 ghost use Rattle.gm_file.specs.Holding.{AreFound};
 ghost use Rattle.gm_file.specs.Misreading.{IsBytesFault};
+ghost use Rattle.gm_file.specs.Names.{KeepsNames};
 ghost use Rattle.gm_file.specs.SimpleLines.{AreReadSofar, IsLineSaid, TakesSimple};
 ghost use Rattle.gm_file.specs.Views.{ReportsFault};
 
@@ -79,6 +80,7 @@ impl<'a> DepLines<'a> {
         line: &Line<'a>,
     ) -> Result<(), LineFault>
         requires { AreFound self.old.fields }
+        ensures kept { KeepsNames names.old names.new }
         ensures before { self.new.fields.requirements.before ≡ self.old.fields.requirements.before }
         ensures found { OnOk result (AreFound self.new.fields) }
         ensures read { (lines : List (LineOf Word)) → AreDepLines lines self.old
@@ -106,6 +108,7 @@ impl<'a> DepLines<'a> {
     fn read_simple(&mut self, names: &mut KnownNames, line: SimpleLine<'a>) -> Result<(), LineFault>
         requires block { TakesSimple self.old }
         requires found { AreFound self.old.fields }
+        ensures kept { KeepsNames names.old names.new }
         ensures block { (lines : List (LineOf Placed)) (left : Unread)
             → IsSimpleRead left lines (codes "require") line.entry → OnOk result (TakesSimple self.new) }
         ensures before { self.new.fields.requirements.before ≡ self.old.fields.requirements.before }
@@ -161,6 +164,7 @@ fn read_simple_lines<'a>(
 ) -> Result<(), BytesFault>
     requires found { AreFound said.old.fields }
     requires read { AreReadSofar reader.old said.old }
+    ensures kept { KeepsNames names.old names.new }
     ensures before { said.new.fields.requirements.before ≡ said.old.fields.requirements.before }
     ensures found { OnOk result (AreFound said.new.fields) }
     ensures read { OnOk result (AreReadSofar reader.new said.new) }
@@ -190,6 +194,7 @@ pub(crate) fn read_all<'a>(
     requires start { HasRead reader.old [] }
     requires lines { AreDepLines [] said.old }
     requires found { AreFound said.old.fields }
+    ensures kept { KeepsNames names.old names.new }
     ensures before { said.new.fields.requirements.before ≡ said.old.fields.requirements.before }
     ensures ok { OnOk result (AreAllRead reader.old.source said.new) }
     ensures fault { IfErr result (IsBytesFault Lax reader.old.source) }
@@ -216,6 +221,7 @@ pub(crate) fn read_document<'a>(
 ) -> Result<(), FileFault>
     requires lines { AreDepLines [] said.old }
     requires found { AreFound said.old.fields }
+    ensures kept { KeepsNames names.old names.new }
     ensures before { said.new.fields.requirements.before ≡ said.old.fields.requirements.before }
     ensures ok { OnOk result (AreDepLines (plain_lines (line_views lines.now)) said.new) }
     ensures fault { IfErr result (ReportsFault Lax (plain_lines (line_views lines.now))) }

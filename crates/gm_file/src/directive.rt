@@ -5,6 +5,7 @@ ghost use Rattle.gm_syntax.specs.LineViews.{line_of, plain};
 ghost use Rattle.gm_syntax.specs.Tokens.{words_of};
 ghost use Rattle.gm_file.specs.Directives.{directive_of, item_at, one_of, Opening, Saying};
 ghost use Rattle.gm_file.specs.Faults.{path_kinds, malformed_entry_kind};
+ghost use Rattle.gm_file.specs.Names.{KeepsNames};
 ghost use Rattle.gm_file.specs.Reading.{IsRead, own_kinds};
 ghost use Rattle.gm_file.specs.DirectiveViews.{IsLineRead, directive_view};
 ghost use Rattle.gm_file.specs.VerbViews.{mode_view};
@@ -40,7 +41,8 @@ pub enum Directive {
 
 /// The path of a `module` entry with these arguments.
 fn read_module(alloc: Global, names: &mut KnownNames, words: &[Token]) -> Result<ModPath, LineFault>
-    ensures { IsRead (λ path. path) DirectiveKind.WrongArguments path_kinds (one_of (words_of words.now)) result }
+    ensures kept { KeepsNames names.old names.new }
+    ensures read { IsRead (λ path. path) DirectiveKind.WrongArguments path_kinds (one_of (words_of words.now)) result }
 {
     let path = borrowed_one(alloc, words)?;
     read_path(names, path.as_str())
@@ -54,7 +56,8 @@ fn read_entry(
     verb: Verb,
     words: &[Token],
 ) -> Result<Directive, LineFault>
-    ensures { IsRead directive_view (malformed_entry_kind verb) own_kinds
+    ensures kept { KeepsNames names.old names.new }
+    ensures read { IsRead directive_view (malformed_entry_kind verb) own_kinds
         (directive_of verb (words_of words.now)) result }
 {
     match verb {
@@ -79,7 +82,8 @@ fn read_verb_entry(
     verb: &Token,
     words: &[Token],
 ) -> Result<Option<Directive>, LineFault>
-    ensures { IsLineRead (mode_view mode) (Saying verb.now.word.spelling (words_of words.now)) result }
+    ensures kept { KeepsNames names.old names.new }
+    ensures read { IsLineRead (mode_view mode) (Saying verb.now.word.spelling (words_of words.now)) result }
 {
     Ok(Some(read_entry(alloc, names, verb_in(mode, verb.spelling()), words)?))
 }
@@ -108,7 +112,8 @@ pub(crate) fn read_line_with_names(
     block: Option<&Token>,
     line: &Line,
 ) -> Result<Option<Directive>, LineFault>
-    ensures { IsLineRead (mode_view mode)
+    ensures kept { KeepsNames names.old names.new }
+    ensures read { IsLineRead (mode_view mode)
         (item_at (option_map (λ t. t.now.word) block.entry, plain (line_of line.now))) result }
 {
     match line {

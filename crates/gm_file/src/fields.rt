@@ -8,6 +8,7 @@ ghost use Rattle.gm_file.specs.Directives.{Mode as ModeOf, Strict, Lax, Declares
 ghost use Rattle.gm_file.specs.DirectiveViews.{directive_view};
 ghost use Rattle.gm_file.specs.Faults.{go_in, path_kinds};
 ghost use Rattle.gm_file.specs.Holding.{AreFound, AreRead, Holds, IsAdded, IsLineAdded};
+ghost use Rattle.gm_file.specs.Names.{KeepsNames};
 ghost use Rattle.gm_file.specs.Reading.{own_kinds};
 ghost use Rattle.gm_file.specs.SimpleLines.{single_item};
 ghost use Rattle.gm_file.specs.VerbViews.{mode_view};
@@ -148,6 +149,7 @@ impl Fields {
         value: &str,
     ) -> Result<(), LineFault>
         requires { AreFound self.old }
+        ensures kept { KeepsNames names.old names.new }
         ensures before { self.new.requirements.before ≡ self.old.requirements.before }
         ensures found { OnOk result (AreFound self.new) }
         ensures added { IsLineAdded Lax self.old self.new (single_item verb.now value.now) result }
@@ -175,6 +177,7 @@ impl Fields {
         line: &Line,
     ) -> Result<(), LineFault>
         requires { AreFound self.old }
+        ensures kept { KeepsNames names.old names.new }
         ensures before { self.new.requirements.before ≡ self.old.requirements.before }
         ensures found { OnOk result (AreFound self.new) }
         ensures added { IsLineAdded (mode_view mode) self.old self.new
@@ -211,6 +214,7 @@ pub(crate) fn read_lines(
     names: &mut KnownNames,
     lines: &[Line],
 ) -> Result<Fields, FileFault>
+    ensures kept { KeepsNames names.old names.new }
     ensures own { IfOk result (λ fields. fields.requirements.before ≡ None) }
     ensures ok { IfOk result (AreRead Strict (plain_lines (line_views lines.now))) }
     ensures fault { IfErr result (ReportsFault Strict (plain_lines (line_views lines.now))) }

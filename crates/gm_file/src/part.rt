@@ -7,6 +7,7 @@ ghost use Rattle.std.specs.Cow.{cow_str_bytes};
 ghost use Rattle.std.specs.String.{string_bytes};
 ghost use Rattle.gm_syntax.specs.Tokens.{words_of};
 ghost use Rattle.gm_syntax.specs.Values.{value_of};
+ghost use Rattle.gm_file.specs.Names.{KeepsNames};
 ghost use Rattle.gm_file.specs.Values.{argument, both};
 ghost use Rattle.gm_file.specs.Directives.{ends_of, is_empty_block, one_of, pair, pair_of};
 ghost use Rattle.gm_file.specs.Faults.{ends_kinds, pair_kinds, path_kinds, version_kinds};
@@ -67,14 +68,16 @@ pub(crate) fn one_value(alloc: Global, words: &[Token]) -> Result<String, LineFa
 
 /// The module path that a text spells. Any other text is refused with `BadPath`.
 pub(crate) fn read_path(names: &mut KnownNames, text: &str) -> Result<ModPath, LineFault>
-    ensures { IsRead (λ path. path) DirectiveKind.WrongArguments path_kinds (Some text.now) result }
+    ensures kept { KeepsNames names.old names.new }
+    ensures read { IsRead (λ path. path) DirectiveKind.WrongArguments path_kinds (Some text.now) result }
 {
     Ok(names.path(text)?)
 }
 
 /// The canonical version that a text spells. Any other text is refused with `BadVersion`.
 pub(crate) fn read_version(names: &mut KnownNames, text: &str) -> Result<ModVersion, LineFault>
-    ensures { IsRead (λ version. version) DirectiveKind.WrongArguments version_kinds (Some text.now) result }
+    ensures kept { KeepsNames names.old names.new }
+    ensures read { IsRead (λ version. version) DirectiveKind.WrongArguments version_kinds (Some text.now) result }
 {
     Ok(names.version(text)?)
 }
@@ -86,7 +89,8 @@ pub(crate) fn pair_of_texts(
     path: &str,
     version: &str,
 ) -> Result<ModVer, LineFault>
-    ensures { IsRead (λ pair. pair) DirectiveKind.WrongArguments pair_kinds (Some (path.now, version.now)) result }
+    ensures kept { KeepsNames names.old names.new }
+    ensures read { IsRead (λ pair. pair) DirectiveKind.WrongArguments pair_kinds (Some (path.now, version.now)) result }
 {
     Ok(names.pair(path, version)?)
 }
@@ -98,7 +102,8 @@ fn pair_of_words(
     path: &Token,
     version: &Token,
 ) -> Result<ModVer, LineFault>
-    ensures { IsRead (λ pair. pair) DirectiveKind.WrongArguments pair_kinds
+    ensures kept { KeepsNames names.old names.new }
+    ensures read { IsRead (λ pair. pair) DirectiveKind.WrongArguments pair_kinds
         (both pair (argument path.now.word) (argument version.now.word)) result }
 {
     let path = borrowed_argument(alloc, path)?;
@@ -113,7 +118,8 @@ pub(crate) fn read_pair(
     names: &mut KnownNames,
     words: &[Token],
 ) -> Result<ModVer, LineFault>
-    ensures { IsRead (λ pair. pair) DirectiveKind.WrongArguments pair_kinds (pair_of (words_of words.now)) result }
+    ensures kept { KeepsNames names.old names.new }
+    ensures read { IsRead (λ pair. pair) DirectiveKind.WrongArguments pair_kinds (pair_of (words_of words.now)) result }
 {
     match words {
         [path, version] => pair_of_words(alloc, names, path, version),
@@ -127,7 +133,8 @@ pub(crate) fn interval_of_texts(
     low: &str,
     high: &str,
 ) -> Result<Interval, LineFault>
-    ensures { IsRead interval_view DirectiveKind.WrongArguments ends_kinds (Some (low.now, high.now)) result }
+    ensures kept { KeepsNames names.old names.new }
+    ensures read { IsRead interval_view DirectiveKind.WrongArguments ends_kinds (Some (low.now, high.now)) result }
 {
     let low = read_version(names, low)?;
     let high = read_version(names, high)?;
@@ -151,7 +158,8 @@ fn single_interval(
     names: &mut KnownNames,
     version: &Token,
 ) -> Result<Interval, LineFault>
-    ensures { IsRead interval_view DirectiveKind.WrongArguments ends_kinds
+    ensures kept { KeepsNames names.old names.new }
+    ensures read { IsRead interval_view DirectiveKind.WrongArguments ends_kinds
         (option_map (λ w. pair w w) (argument version.now.word)) result }
 {
     let text = borrowed_argument(alloc, version)?;
@@ -165,7 +173,8 @@ fn interval_between(
     low: &Token,
     high: &Token,
 ) -> Result<Interval, LineFault>
-    ensures { IsRead interval_view DirectiveKind.WrongArguments ends_kinds
+    ensures kept { KeepsNames names.old names.new }
+    ensures read { IsRead interval_view DirectiveKind.WrongArguments ends_kinds
         (both pair (argument low.now.word) (argument high.now.word)) result }
 {
     let low = borrowed_argument(alloc, low)?;
@@ -180,7 +189,8 @@ pub(crate) fn read_interval(
     names: &mut KnownNames,
     words: &[Token],
 ) -> Result<Interval, LineFault>
-    ensures { IsRead interval_view DirectiveKind.WrongArguments ends_kinds (ends_of (words_of words.now)) result }
+    ensures kept { KeepsNames names.old names.new }
+    ensures read { IsRead interval_view DirectiveKind.WrongArguments ends_kinds (ends_of (words_of words.now)) result }
 {
     match words {
         [version] => single_interval(alloc, names, version),

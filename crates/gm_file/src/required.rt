@@ -4,6 +4,7 @@ ghost use Rattle.std.specs.Prelude.{◌≡◌, ◌++◌, ◌∷◌, [], None, Ok
 ghost use Rattle.gm_name.specs.Readings.{PairReading};
 ghost use Rattle.gm_name_table.specs.Listed.{Appends, NumberedList};
 ghost use Rattle.gm_file.specs.Faults.{pair_kinds};
+ghost use Rattle.gm_file.specs.Names.{KeepsNames};
 ghost use Rattle.gm_file.specs.Reading.{IsRead};
 
 use crate::fault::{DirectiveKind, LineFault};
@@ -104,6 +105,7 @@ impl Required {
         path: &str,
         version: &str,
     ) -> Result<(), LineFault>
+        ensures kept { KeepsNames names.old names.new }
         ensures before { self.new.before ≡ self.old.before }
         ensures items { OnOk result (self.new.items ≡ self.old.items ++ (path.now, version.now) ∷ []) }
         ensures read { IsRead (λ _. (path.now, version.now)) DirectiveKind.WrongArguments pair_kinds

@@ -12,6 +12,7 @@ ghost use Rattle.gm_file.specs.DepLines.{AreRetractedIn};
 ghost use Rattle.gm_file.specs.Directives.{Lax, item_at};
 ghost use Rattle.gm_file.specs.Fields.{lax_retracts_of};
 ghost use Rattle.gm_file.specs.Misreading.{IsBytesFault};
+ghost use Rattle.gm_file.specs.Names.{KeepsNames};
 ghost use Rattle.gm_file.specs.Retracting.{AreRetractionsOf, IsEntryRead, retraction_at, retraction_in};
 ghost use Rattle.gm_file.specs.Views.{interval_view, interval_views};
 
@@ -55,7 +56,8 @@ fn interval_in(
     names: &mut KnownNames,
     words: &[Token],
 ) -> Result<Option<Interval>, AllocError>
-    ensures { IfOk result (λ interval. option_map interval_view interval ≡ retraction_in (words_of words.now)) }
+    ensures kept { KeepsNames names.old names.new }
+    ensures read { IfOk result (λ interval. option_map interval_view interval ≡ retraction_in (words_of words.now)) }
 {
     match read_interval(alloc, names, words) {
         Ok(interval) => Ok(Some(interval)),
@@ -71,7 +73,8 @@ fn retraction_at(
     block: Option<&Token>,
     line: &Line,
 ) -> Result<Option<Interval>, AllocError>
-    ensures { IfOk result (λ interval. option_map interval_view interval
+    ensures kept { KeepsNames names.old names.new }
+    ensures read { IfOk result (λ interval. option_map interval_view interval
         ≡ retraction_at (item_at (option_map (λ t. t.now.word) block.entry, plain (line_of line.now)))) }
 {
     let Some((verb, words)) = entry_of(block, line) else {
@@ -91,7 +94,8 @@ fn add_retraction(
     block: Option<&Token>,
     line: &Line,
 ) -> Result<(), AllocError>
-    ensures { OnOk result (interval_views intervals.new.items
+    ensures kept { KeepsNames names.old names.new }
+    ensures read { OnOk result (interval_views intervals.new.items
         ≡ interval_views intervals.old.items ++ option_to_list
         (retraction_at (item_at (option_map (λ t. t.now.word) block.entry, plain (line_of line.now))))) }
 {
@@ -128,7 +132,8 @@ impl<'a> Retractions<'a> {
         names: &mut KnownNames,
         line: &Line<'a>,
     ) -> Result<(), AllocError>
-        ensures { (lines : List (LineOf Word)) → AreRetractionsOf lines self.old
+        ensures kept { KeepsNames names.old names.new }
+        ensures read { (lines : List (LineOf Word)) → AreRetractionsOf lines self.old
             → OnOk result (AreRetractionsOf (lines ++ plain (line_of line.now) ∷ []) self.new) }
     {
         let block = self.block.as_ref();
@@ -144,7 +149,8 @@ pub(crate) fn retractions_of_lines(
     names: &mut KnownNames,
     lines: &[Line],
 ) -> Result<Vec<Interval>, AllocError>
-    ensures { IfOk result (λ intervals. interval_views intervals.items
+    ensures kept { KeepsNames names.old names.new }
+    ensures read { IfOk result (λ intervals. interval_views intervals.items
         ≡ lax_retracts_of (plain_lines (line_views lines.now))) }
 {
     let mut said = Retractions::none(alloc);
@@ -161,6 +167,7 @@ pub(crate) fn retractions_of_bytes(
     names: &mut KnownNames,
     bytes: &[u8],
 ) -> Result<Vec<Interval>, BytesFault>
+    ensures kept { KeepsNames names.old names.new }
     ensures ok { IfOk result (λ intervals. AreRetractedIn bytes.now (interval_views intervals.items)) }
     ensures fault { IfErr result (IsBytesFault Lax bytes.now) }
 {
@@ -175,6 +182,7 @@ fn retractions_left<'a>(
     reader: &mut LineReader<'a>,
 ) -> Result<Vec<Interval>, BytesFault>
     requires { HasRead reader.old [] }
+    ensures kept { KeepsNames names.old names.new }
     ensures ok { IfOk result (λ intervals. AreRetractedIn reader.old.source (interval_views intervals.items)) }
     ensures fault { IfErr result (IsBytesFault Lax reader.old.source) }
 {

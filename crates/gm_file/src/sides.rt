@@ -7,6 +7,7 @@ ghost use Rattle.std.specs.List.{after_first, before_first};
 ghost use Rattle.std.specs.String.{string_bytes};
 ghost use Rattle.gm_syntax.specs.Tokens.{words_of};
 ghost use Rattle.gm_file.specs.Directives.{folder_right, is_arrow, left_of, left_with, left_without, module_right, pair, replacing, replacing_of, right_of, Folder, Module};
+ghost use Rattle.gm_file.specs.Names.{KeepsNames};
 ghost use Rattle.gm_file.specs.Values.{argument, both};
 ghost use Rattle.gm_file.specs.Faults.{does_left_fit, left_version_kinds};
 ghost use Rattle.gm_file.specs.Reading.{IsRead, no_kinds, replacing_kinds};
@@ -140,7 +141,8 @@ fn read_left_version(
     names: &mut KnownNames,
     version: &Option<String>,
 ) -> Result<Option<ModVersion>, LineFault>
-    ensures { IsRead (λ version. version) DirectiveKind.WrongArguments left_version_kinds
+    ensures kept { KeepsNames names.old names.new }
+    ensures read { IsRead (λ version. version) DirectiveKind.WrongArguments left_version_kinds
         (Some (option_map string_bytes version.now)) result }
 {
     match version {
@@ -166,7 +168,8 @@ fn replace_by_folder(
     left: &LeftText,
     folder: String,
 ) -> Result<Replace, LineFault>
-    ensures { IsRead replace_view DirectiveKind.WrongArguments replacing_kinds
+    ensures kept { KeepsNames names.old names.new }
+    ensures read { IsRead replace_view DirectiveKind.WrongArguments replacing_kinds
         (Some (replacing (left_text_view left.now) (Folder (string_bytes folder)))) result }
 {
     let path = read_path(names, left.path.as_str())?;
@@ -189,7 +192,8 @@ fn replace_by_module(
     path: &str,
     version: &str,
 ) -> Result<Replace, LineFault>
-    ensures { IsRead replace_view DirectiveKind.WrongArguments replacing_kinds
+    ensures kept { KeepsNames names.old names.new }
+    ensures read { IsRead replace_view DirectiveKind.WrongArguments replacing_kinds
         (Some (replacing (left_text_view left.now) (Module path.now version.now))) result }
 {
     let left_path = read_path(names, left.path.as_str())?;
@@ -212,7 +216,8 @@ fn replace_of_texts(
     left: &LeftText,
     right: RightText,
 ) -> Result<Replace, LineFault>
-    ensures { IsRead replace_view DirectiveKind.WrongArguments replacing_kinds
+    ensures kept { KeepsNames names.old names.new }
+    ensures read { IsRead replace_view DirectiveKind.WrongArguments replacing_kinds
         (Some (replacing (left_text_view left.now) (right_text_view right))) result }
 {
     match right {
@@ -230,7 +235,8 @@ pub(crate) fn read_replace(
     names: &mut KnownNames,
     words: &[Token],
 ) -> Result<Replace, LineFault>
-    ensures { IsRead replace_view DirectiveKind.WrongArguments replacing_kinds
+    ensures kept { KeepsNames names.old names.new }
+    ensures read { IsRead replace_view DirectiveKind.WrongArguments replacing_kinds
         (replacing_of (words_of words.now)) result }
 {
     let Some((before, after)) = split_at_arrow(words) else {

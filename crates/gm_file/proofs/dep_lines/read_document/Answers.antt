@@ -4,6 +4,7 @@ use Rattle.gm_syntax.specs.LineViews.{line_views, plain_lines}
 use Rattle.gm_syntax.specs.Words.{Word}
 use Rattle.gm_file.specs.Directives.{Lax}
 use Rattle.gm_file.specs.Views.{ReportsFault, file_fault_at}
+use Rattle.gm_file.proofs.Keeping.{keeps_both}
 use Rattle.gm_file.proofs.Lines.{length-before, lines-all, lines-next, lines-split}
 use Rattle.gm_file.proofs.dep_lines.read_document.Goals as goal
 
@@ -12,10 +13,14 @@ loop-n-preserved c =
     let lines = c.args.lines.now in
     let before = take c.loop-n.n (plain_lines (line_views lines)) in
     record {
+      kept = keeps_both c.loop-n.invariant.kept c.read_line.ensures.kept;
       before = c.read_line.ensures.before ∙ c.loop-n.invariant.before;
       found = c.in_default.ensures.found;
       read = rw (lines-next lines c.loop-n.n c.index-lines-n.result c.loop-n-test.true c.index-lines-n.is) (c.in_default.ensures.read before c.loop-n.invariant.read);
     }
+
+pub returns-in-Err-clause-kept : goal.returns-in-Err-clause-kept
+returns-in-Err-clause-kept c = keeps_both c.loop-n.invariant.kept c.read_line.ensures.kept
 
 pub returns-in-Err-clause-fault : goal.returns-in-Err-clause-fault
 returns-in-Err-clause-fault c =

@@ -1,6 +1,7 @@
 use Rattle.std.proofs.Common.{ℕ, List, subst, ◌∙◌, arith}
 use Rattle.gm_file.specs.Directives.{Lax}
 use Rattle.gm_file.specs.Misreading.{IsBytesFault}
+use Rattle.gm_file.proofs.Keeping.{keeps_both}
 use Rattle.gm_file.proofs.SimpleLines.{sofar-more}
 use Rattle.gm_file.proofs.dep_lines.read_simple_lines.Goals as goal
 
@@ -10,6 +11,7 @@ loop-line-preserved c =
     let left = c.next_simple.new.self in
     let simple = c.in-Some.ensures.read so.0 so.1 in
     record {
+      kept = keeps_both c.loop-line.invariant.kept c.read_simple.ensures.kept;
       source = c.in-Some.ensures.source ∙ c.loop-line.invariant.source;
       no_longer = omega (arith, c.in-Some.ensures.shorter, c.loop-line.invariant.no_longer);
       block = c.in_default-read_simple.ensures.block so.0 left simple;
@@ -17,6 +19,9 @@ loop-line-preserved c =
       found = c.in_default-read_simple.ensures.found;
       read = sofar-more left so.0 c.read_simple.new.self (c.in_default-read_simple.ensures.read so.0 left so.2 simple);
     }
+
+pub returns-in-Err-clause-kept : goal.returns-in-Err-clause-kept
+returns-in-Err-clause-kept c = keeps_both c.loop-line.invariant.kept c.read_simple.ensures.kept
 
 pub returns-in-Err-clause-fault : goal.returns-in-Err-clause-fault
 returns-in-Err-clause-fault c =

@@ -1,10 +1,12 @@
 use Rattle.std.proofs.Common.{◌≡◌, ◌≤◌, length}
 use Rattle.gm_file.specs.Holding.{AreFound}
+use Rattle.gm_file.specs.Names.{KeepsNames}
 use Rattle.gm_file.specs.SimpleLines.{AreReadSofar, TakesSimple}
 use Rattle.gm_file.proofs.dep_lines.read_simple_lines.Given as goal
 
 abbrev pub invariant-loop-line : goal.invariant-loop-line
 invariant-loop-line l = record {
+  kept : KeepsNames l.initial.names l.names;
   source : l.reader.source ≡ l.initial.reader.source;
   no_longer : length l.reader.rest ≤ length l.initial.reader.rest;
   block : TakesSimple l.said;

@@ -10,16 +10,16 @@ use Rattle.gm_file.specs.Views.{interval_view, replace_view}
 use Rattle.gm_file.proofs.Entries.{map-fault}
 use Rattle.gm_file.proofs.directive.read_entry.Goals as goal
 
-pub returns-in_err-read_replace-in-Replace : goal.returns-in_err-read_replace-in-Replace
+pub returns-in_err-read_replace-in-Replace-clause-read : goal.returns-in_err-read_replace-in-Replace-clause-read
 unfolding directive_of
-returns-in_err-read_replace-in-Replace c =
+returns-in_err-read_replace-in-Replace-clause-read c =
     let p = err_from_is_err_and c.from_residual-in_err-read_replace-in-Replace.result c.from_residual-in_err-read_replace-in-Replace.ensures.1 in
     rw (c.in-Replace.is, p.1, p.2) (map-fault replace_view directive_view WrongArguments replacing_kinds own_kinds Replaces (replacing_of (words_of c.args.words.now))
-    c.in_err-read_replace-in-Replace.field-0.0 (λ _. refl) c.in_err-read_replace-in-Replace.ensures)
+    c.in_err-read_replace-in-Replace.field-0.0 (λ _. refl) c.in_err-read_replace-in-Replace.ensures.read)
 
-pub returns-in_err-read_interval-in-Retract : goal.returns-in_err-read_interval-in-Retract
+pub returns-in_err-read_interval-in-Retract-clause-read : goal.returns-in_err-read_interval-in-Retract-clause-read
 unfolding directive_of
-returns-in_err-read_interval-in-Retract c =
+returns-in_err-read_interval-in-Retract-clause-read c =
     let p = err_from_is_err_and c.from_residual-in_err-read_interval-in-Retract.result c.from_residual-in_err-read_interval-in-Retract.ensures.1 in
     rw (c.in-Retract.is, p.1, p.2) (map-fault interval_view directive_view WrongArguments ends_kinds own_kinds Retracts (ends_of (words_of c.args.words.now))
-    c.in_err-read_interval-in-Retract.field-0.0 (λ _. refl) c.in_err-read_interval-in-Retract.ensures)
+    c.in_err-read_interval-in-Retract.field-0.0 (λ _. refl) c.in_err-read_interval-in-Retract.ensures.read)

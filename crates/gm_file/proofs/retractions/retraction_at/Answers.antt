@@ -10,13 +10,13 @@ use Rattle.gm_file.specs.Views.{interval_view}
 use Rattle.gm_file.proofs.Retracted.{other-retracts, retract-retracts}
 use Rattle.gm_file.proofs.retractions.retraction_at.Goals as goal
 
-pub returns-then-ne : goal.returns-then-ne
-returns-then-ne c =
+pub returns-then-ne-clause-read : goal.returns-then-ne-clause-read
+returns-then-ne-clause-read c =
     other-retracts _ c.in-Some.verb.now.word.spelling (words_of c.in-Some.words.now) c.in-Some.ensures
     (ap (λ (t : List ℕ). bytes_eq t (codes "retract")) (sym c.spelling.ensures) ∙ not_true _ (sym c.ne.ensures ∙ c.if-ne.true))
 
-pub returns : goal.returns
-returns c =
+pub returns-clause-read : goal.returns-clause-read
+returns-clause-read c =
     subst (λ (o : Option VersionInterval). IfOk c.interval_in.result (λ interval. option_map interval_view interval ≡ o))
     (retract-retracts _ c.in-Some.verb.now.word.spelling (words_of c.in-Some.words.now) c.in-Some.ensures
-    (ap (λ (t : List ℕ). bytes_eq t (codes "retract")) (sym c.spelling.ensures) ∙ not-false _ (sym c.ne.ensures ∙ c.if-ne.false))) c.interval_in.ensures
+    (ap (λ (t : List ℕ). bytes_eq t (codes "retract")) (sym c.spelling.ensures) ∙ not-false _ (sym c.ne.ensures ∙ c.if-ne.false))) c.interval_in.ensures.read

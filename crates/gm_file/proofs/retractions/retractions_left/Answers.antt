@@ -4,6 +4,7 @@ use Rattle.gm_syntax.specs.LineViews.{line_of, plain_lines}
 use Rattle.gm_syntax.specs.Parsed.{IsFaultOrNoMemory}
 use Rattle.gm_file.specs.Directives.{Lax}
 use Rattle.gm_file.proofs.DepReading.{misread-text}
+use Rattle.gm_file.proofs.Keeping.{keeps_both}
 use Rattle.gm_file.proofs.Retracted.{retracted-sofar}
 use Rattle.gm_file.proofs.retractions.retractions_left.Goals as goal
 
@@ -20,7 +21,8 @@ pub loop-said-preserved : goal.loop-said-preserved
 loop-said-preserved c =
     let so = c.loop-said.invariant.read in
     rw c.recycle.ensures (record {
+      kept = keeps_both c.loop-said.invariant.kept c.read_line-read.ensures.kept;
       source = c.in_ok-line.ensures.source ∙ c.loop-said.invariant.source;
       read = retracted-sofar c.next.new.self so.0 (line_of c.in-Some.line) c.read_line-read.new.self (rw c.in-Some.is at c.in_ok-line.ensures.next so.0 so.1)
-          (c.in_ok-read.ensures (plain_lines so.0) so.2);
+          (c.in_ok-read.ensures.read (plain_lines so.0) so.2);
     })

@@ -12,12 +12,12 @@ use Rattle.gm_file.proofs.fields.Fields.read_single.Goals as goal
 pub returns-in_err-path-clause-added : goal.returns-in_err-path-clause-added
 returns-in_err-path-clause-added c =
     let p = err_from_is_err_and c.from_residual.result c.from_residual.ensures.1 in
-    rw (p.1, p.2) (single-bad c.args.self.now c.args.self.now c.args.verb.now c.args.value.now c.in_err-path.field-0.0 (sym c.eq.ensures ∙ c.if-eq.true) c.in_err-path.ensures)
+    rw (p.1, p.2) (single-bad c.args.self.now c.args.self.now c.args.verb.now c.args.value.now c.in_err-path.field-0.0 (sym c.eq.ensures ∙ c.if-eq.true) c.in_err-path.ensures.read)
 
 pub returns-then-eq-clause-added : goal.returns-then-eq-clause-added
 returns-then-eq-clause-added c =
     line-added Lax c.args.self.now c.add_module.new.self (single_item c.args.verb.now c.args.value.now) (DeclaresModule c.in_ok-path.path) c.add_module.result
-    (single-module c.args.verb.now c.args.value.now (sym c.eq.ensures ∙ c.if-eq.true) ∙ ap (λ (o : Option (List ℕ)). option_map DeclaresModule o) c.in_ok-path.ensures.0) (c.add_module.ensures.added Lax)
+    (single-module c.args.verb.now c.args.value.now (sym c.eq.ensures ∙ c.if-eq.true) ∙ ap (λ (o : Option (List ℕ)). option_map DeclaresModule o) c.in_ok-path.ensures.read.0) (c.add_module.ensures.added Lax)
 
 pub returns-then-eq-2-clause-added : goal.returns-then-eq-2-clause-added
 returns-then-eq-2-clause-added c =
