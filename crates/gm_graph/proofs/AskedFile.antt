@@ -1,5 +1,5 @@
 -- What is asked for is the file of a vertex.
-use Rattle.std.proofs.Common.{◌≡◌, ◌∙◌, List, [], ◌∷◌, ◌++◌, Option, None, Some, Result, Ok, Err, ap, ap₂, append-nil, refl, sym, subst, inl, inr}
+use Rattle.std.proofs.Common.{◌≡◌, ◌∙◌, List, [], ◌∷◌, Option, None, Some, Result, Ok, Err, ap, ap₂, refl, sym, subst, inl, inr}
 use Rattle.std.specs.Prelude.{IsErrAnd, IsSome}
 use Rattle.gm_name.specs.ModuleVersion.{ModuleVersion}
 use Rattle.gm_store.specs.Asked.{Name, Reply, answer_in}
@@ -106,8 +106,3 @@ pub refused_failed : (T : Type 0) (name : Name) (fault : AskFault) (failed : Opt
 refused_failed T name ask.NoMemory failed result has is = sym (ap refused_names is)
 refused_failed T name ask.Device None result has is = absurd is
 refused_failed T name ask.Device (Some there) result has is = ap (λ (n : Name). n ∷ []) (sym (has refl)) ∙ sym (ap refused_names is)
-
--- ---- refused names
-
-pub refused_still : {old mid new : List Name} → new ≡ mid ++ [] → mid ≡ old → new ≡ old
-refused_still {old} {mid} {new} none same = none ∙ append-nil mid ∙ same

@@ -28,6 +28,7 @@ pub mod Mapped
 pub mod Rooted
 pub mod Exactly
 pub mod Loads
+pub mod InTurn
 pub mod LawProofs
 pub mod RunLemmas
 pub mod Excluding

@@ -15,13 +15,13 @@ use Rattle.gm_graph.specs.declared.graph_builder.NumberedTurn.{NumberedTurn}
 use Rattle.gm_graph.specs.Builder.{Built, IsBuilder, graph_of, turn_of, turns_of}
 use Rattle.gm_graph.specs.Cached.{Knows, main_in, run_in, sums_in, table_in, turns_in}
 use Rattle.gm_graph.specs.CacheVisits.{Continues}
-use Rattle.gm_graph.specs.Run.{AskedInTurn, IsOpened, IsRead, LoadingNeeds, Run, run_of}
+use Rattle.gm_graph.specs.Run.{IsOpened, IsRead, Run, run_of}
 use Rattle.gm_graph.specs.Turns.{turn}
 use Rattle.gm_graph.specs.Visiting.{IsFirstGraph, IsOpenedIn, IsVisited}
 use Rattle.gm_graph.proofs.Holding.{answers_read}
 use Rattle.gm_graph.proofs.BuiltEdges.{IsGatheredTo, edges_exactly, faults_exactly, gathered_more}
 use Rattle.gm_graph.proofs.Deepening.{IsValidTurn-kept}
-use Rattle.gm_graph.proofs.Dues.{AddsFile, asks_more, none_in_turn, knows_nothing, lent_more, says_still}
+use Rattle.gm_graph.proofs.Dues.{AddsFile, knows_nothing, lent_more, says_still}
 use Rattle.gm_graph.proofs.Queueing.{IsQueue, queue_all, queue_more, queue_none}
 use Rattle.gm_graph.proofs.Rounds.{are_turns, opened_from, opened_known}
 use Rattle.gm_graph.proofs.Sources.{AreSources, front_turn, not_before, sources_more, sources_none}
@@ -60,7 +60,6 @@ pub record IsAt (main : Main) (sums : Option Sums) (cache : Cache) (pairs : List
   pub queue : IsQueue (run_of main sums pairs) (built_by cache builder).turns at
   pub harvest : IsGatheredTo (run_of main sums pairs) (built_by cache builder).turns (built_by cache builder).edges (built_by cache builder).faults at
   pub sources : AreSources (built_by cache builder).turns (turns_in cache) (built_by cache builder).sources
-  pub asks : AskedInTurn (LoadingNeeds main sums) pairs
 
 -- What a cache's run is, if its main file and its go.sum are these.
 pub read_by : (main : Main) (sums : Option Sums) (cache : Cache) (pairs : List (Name × Reply)) → sums_in cache ≡ sums → Knows cache pairs
@@ -72,11 +71,6 @@ pub by_run : (P : Run → Type 0) (main : Main) (sums : Option Sums) (cache : Ca
 by_run P main sums cache pairs main_is sums_are holds =
     subst (λ (m : Main). P (run_of m sums pairs)) main_is
     (subst (λ (s : Option Sums). P (run_of (main_in cache) s pairs)) sums_are holds)
-
-pub asks_by : (main : Main) (sums : Option Sums) (cache : Cache) (pairs : List (Name × Reply)) → main_in cache ≡ main → sums_in cache ≡ sums
-    → AskedInTurn (LoadingNeeds (main_in cache) (sums_in cache)) pairs → AskedInTurn (LoadingNeeds main sums) pairs
-asks_by main sums cache pairs main_is sums_are asks =
-    by_run (λ (run : Run). AskedInTurn (LoadingNeeds run.main run.sums) pairs) main sums cache pairs main_is sums_are asks
 
 pub first_step : (cache : Cache) (pairs : List (Name × Reply)) (builder : GraphBuilder) → pairs ≡ [] → Knows cache [] → turns_in cache ≡ []
     → IsFirstGraph (run_in cache []) (table_in cache) builder → IsAt (main_in cache) (sums_in cache) cache pairs builder 0
@@ -94,7 +88,6 @@ first_step cache pairs builder none knows lent nothing =
       queue = queue_none (run_in cache pairs) made.turns first.turns;
       harvest = record { are = first.gathered; each = λ k d h. absurd (omega arith) };
       sources = subst (λ (ts : List Turn). AreSources made.turns ts made.sources) (sym lent) (sources_none made.turns made.sources first.sources);
-      asks = none_in_turn (LoadingNeeds (main_in cache) (sums_in cache)) pairs none;
     }
 
 pub step : (main : Main) (sums : Option Sums) (old new : Cache) (pairs longer : List (Name × Reply)) (before after : GraphBuilder) (at : ℕ) (x : ModuleVersion) (depth : Depth)
@@ -133,7 +126,6 @@ step main sums old new pairs longer before after at x depth is below here knows 
           (at, below, here)
           (λ h. not_before was.turns at (turn x depth) is.builder_is.turns.turns_once below here (subst (λ (ts : List Turn). Contains ts (turn x depth)) is.lent h))
           is.sources done.source);
-      asks = asks_more main sums pairs (read_by main sums old pairs is.sums_are is.knows) was.turns at x depth is.queue.valid below here longer is.asks for;
     }
 
 -- All turns were visited.

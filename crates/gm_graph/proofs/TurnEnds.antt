@@ -1,7 +1,8 @@
 -- How the visit of one turn ends.
-use Rattle.std.proofs.Common.{◌≡◌, ◌∙◌, ◌<◌, List, None, Some, Result, Ok, Err, ap, length, map, subst, sym}
+use Rattle.std.proofs.Common.{◌≡◌, ◌∙◌, List, None, Some, Result, Ok, Err, ap, map, refl, subst, sym}
 use Rattle.std.specs.Prelude.{[], MatchResult, OnOk, ℕ}
-use Rattle.gm_name.specs.ModuleVersion.{ModuleVersion, module_at}
+use Rattle.gm_name.specs.ModuleVersion.{ModuleVersion}
+use Rattle.gm_file.specs.Main.{without_excluded}
 use Rattle.gm_store.specs.Asked.{Name, Reply}
 use Rattle.gm_store.specs.declared.files.AskFault.{AskFault}
 use Rattle.gm_graph.specs.declared.cache.Cache.{Cache}
@@ -15,19 +16,23 @@ use Rattle.gm_graph.specs.declared.cache.visit.Visit.TheVariants as visit
 use Rattle.gm_graph.specs.declared.followed.Followed.{Followed}
 use Rattle.gm_graph.specs.declared.graph_builder.GraphBuilder.{GraphBuilder}
 use Rattle.gm_graph.specs.declared.graph_builder.NumberedTurn.{NumberedTurn}
-use Rattle.gm_graph.specs.Builder.{IsBuilder, KeepsTurns, graph_of, turn_of, turns_of}
+use Rattle.gm_graph.specs.declared.edge_lists.EdgeLists.{EdgeLists}
+use Rattle.gm_graph.specs.Builder.{IsBuilder, KeepsTurns, faults_by_vertex, graph_of, turn_of, turns_of}
+use Rattle.gm_graph.specs.Building.{faults_with, gathers}
 use Rattle.gm_graph.specs.Cached.{module_numbered, run_in, table_in}
-use Rattle.gm_graph.specs.CacheVisits.{HasVisited, KeepsTurns as KeptTurns, SaysRequired, required_by, table_of}
+use Rattle.gm_graph.specs.CacheVisits.{HasVisited, IsVisit, KeepsTurns as KeptTurns, required_by, table_of}
 use Rattle.gm_graph.specs.EdgeLists.{KeepsLists}
-use Rattle.gm_graph.specs.FileLists.{AddsFileList, HaveFiles}
+use Rattle.gm_graph.specs.FileLists.{AddsFileList}
 use Rattle.gm_graph.specs.Followed.{AreFollowedIn, FollowsFile}
 use Rattle.gm_graph.specs.Run.{Run, Says}
-use Rattle.gm_graph.specs.TurnVisits.{IsTurnVisited}
+use Rattle.gm_graph.specs.TurnVisits.{AddsTurn, IsReady, IsTurnVisited}
+use Rattle.gm_graph.specs.Turns.{turn}
 use Rattle.gm_graph.specs.Visiting.{IsVisited}
 use Rattle.gm_graph.proofs.FileLists.{have_files_known, have_files_more, have_files_still}
 use Rattle.gm_graph.proofs.FollowedFiles.{followed_known, followed_more}
 use Rattle.gm_graph.proofs.Growing.{builder_over, number_below}
-use Rattle.gm_graph.proofs.VisitSteps.{same_module, visited_by}
+use Rattle.gm_graph.proofs.Visited.{AddsIf, Opens, notes_fault, notes_none, opens_leaf, required_of, requires_none, visited}
+use Rattle.gm_graph.proofs.VisitSteps.{same_module}
 
 -- What a visit got, and what the cache became.
 pub got : (old new : Cache) (earlier pairs : List (Name × Reply)) (number : ℕ) (d : Depth) {result : Result Visit AskFault} {seen v : Visit}
@@ -38,89 +43,89 @@ got old new earlier pairs number d is same ends =
     subst (λ (one : Visit). HasVisited old earlier new pairs number d one) same
     (subst (λ (r : Result Visit AskFault). MatchResult r (λ one. HasVisited old earlier new pairs number d one) (λ fault. KeptTurns old new number fault)) is ends)
 
-module _ (old new : Cache) (earlier pairs : List (Name × Reply)) (before after : GraphBuilder) (followed : Followed) (one : NumberedTurn)
-    (below : one.number < length (table_in old)) (builder : IsBuilder (table_in old) before)
-    (files : HaveFiles old (run_in old earlier) before.edges)
-    (are : AreFollowedIn old (run_in old earlier) (turns_of (table_in old) before) followed)
-    (result : Result (Unit {0}) LoadFault) where
-  -- the vertex has a fault
-  pub fault_visited : {seen : Visit} (v : ModuleVersion) (class : Class) → HasVisited old earlier new pairs one.number one.depth seen
-      → (v ≡ module_numbered old one.number) × Says (run_in new pairs) (module_numbered old one.number) (Err class)
-      → ((ms : List ModuleVersion) → IsBuilder ms before → one.number < length ms → OnOk result (IsBuilder ms after))
-      → ((ms : List ModuleVersion) (run : Run) → IsBuilder ms before → one.number < length ms → v ≡ module_at ms one.number
-      → Says run v (Err class) → OnOk result (IsVisited run (graph_of ms before) (graph_of ms after) v one.depth))
-      → OnOk result (KeepsTurns before after) → OnOk result (KeepsLists before.edges after.edges None [])
-      → OnOk result (IsTurnVisited old new earlier pairs before after followed one)
-  fault_visited v class has is builds visits same keeps =
-      let ms = table_in new in
-      let run = run_in new pairs in
-      let over = builder_over (table_in old) ms before builder has.continues.numbered has.distinct in
-      let there = number_below (table_in old) ms one.number has.continues.numbered below in
-      by_result result (builds ms over there)
-      (visits ms run over there (is.0 ∙ same_module old new one.number has.continues below)
-      (subst (λ (x : ModuleVersion). Says run x (Err class)) (sym is.0) is.1))
-      same keeps
-    where
-      by_result : (r : Result (Unit {0}) LoadFault) → OnOk r (IsBuilder (table_in new) after)
-          → OnOk r (IsVisited (run_in new pairs) (graph_of (table_in new) before) (graph_of (table_in new) after) v one.depth)
-          → OnOk r (KeepsTurns before after) → OnOk r (KeepsLists before.edges after.edges None [])
-          → OnOk r (IsTurnVisited old new earlier pairs before after followed one)
-      by_result (Err fault) b v t k = tt
-      by_result (Ok u) built visited turns lists =
-          let ms = table_in new in
-          let run = run_in new pairs in
-          record {
-            knows = has.knows;
-            count = has.count;
-            continues = has.continues;
-            turns = has.turns;
-            builder = built;
-            files = have_files_still new run before.edges after.edges
-                (have_files_known old new (run_in old earlier) run before.edges has.continues has.continues.main has.stays has.sound files) lists;
-            followed = subst (λ (ts : List Turn). AreFollowedIn new run ts followed)
-                (sym (ap (λ (ts : List NumberedTurn). map (turn_of ms) ts) turns))
-                (followed_known old new (run_in old earlier) run before followed builder has.continues has.continues.main has.stays has.sound are);
-            visited = visited_by old new before one has.continues builder run after
-                (subst (λ (x : ModuleVersion). IsVisited run (graph_of ms before) (graph_of ms after) x one.depth) is.0 visited);
-          }
+-- ---- what the visit of a turn adds to the graph builder
 
+module _ (old new : Cache) (earlier pairs : List (Name × Reply)) (before : GraphBuilder) (marks : Followed) (one : NumberedTurn)
+    (ready : IsReady old (run_in old earlier) before marks one) where
+  -- The cache may have numbered more modules.
+  pub ready_after : {seen : Visit} → HasVisited old earlier new pairs one.number one.depth seen → IsReady new (run_in new pairs) before marks one
+  ready_after has =
+      let run = run_in new pairs in
+      record {
+        builder_is = builder_over (table_in old) (table_in new) before ready.builder_is has.continues.numbered has.distinct;
+        below = number_below (table_in old) (table_in new) one.number has.continues.numbered ready.below;
+        files = have_files_known old new (run_in old earlier) run before.edges has.continues has.continues.main has.stays has.sound ready.files;
+        followed = followed_known old new (run_in old earlier) run before marks ready.builder_is has.continues has.continues.main has.stays has.sound ready.followed;
+      }
+
+  pub here_after : {seen : Visit} → HasVisited old earlier new pairs one.number one.depth seen
+      → module_numbered old one.number ≡ module_numbered new one.number
+  here_after has = same_module old new one.number has.continues ready.below
+
+module _ (cache : Cache) (run : Run) (old : GraphBuilder) (marks : Followed) (one : NumberedTurn) (ready : IsReady cache run old marks one) where
+  abbrev modules : List ModuleVersion
+  modules = table_in cache
+
+  -- the vertex has a fault
+  pub fault_added : (noted new : GraphBuilder) (class : Class) → Says run (module_numbered cache one.number) (Err class) → KeepsTurns old noted
+      → noted.edges ≡ old.edges → ((y : ModuleVersion) → faults_by_vertex noted y ≡ faults_with (Some class) (module_numbered cache one.number) (faults_by_vertex old) y)
+      → IsBuilder modules new → KeepsTurns noted new → KeepsLists noted.edges new.edges None []
+      → AddsIf (gathers (turns_of modules old) (turn_of modules one)) (graph_of modules noted) (graph_of modules new) (module_numbered cache one.number) []
+      → AddsTurn cache run old new marks one
+  fault_added noted new class says same_turns same_edges faults built keeps lists adds =
+      let x = module_numbered cache one.number in
+      let d = one.depth in
+      record {
+        builder_is = built;
+        files = have_files_still cache run old.edges new.edges ready.files (subst (λ (edges : EdgeLists). KeepsLists edges new.edges None []) same_edges lists);
+        followed = subst (λ (ts : List Turn). AreFollowedIn cache run ts marks)
+            (sym (ap (λ (ts : List NumberedTurn). map (turn_of modules) ts) (keeps ∙ same_turns))) ready.followed;
+        visited = visited run x d (Err class) says [] (requires_none run x class says)
+            (graph_of modules old) (graph_of modules noted) (graph_of modules noted) (graph_of modules new)
+            (notes_fault modules old noted x (Some class) same_turns same_edges faults)
+            (opens_leaf modules noted noted run x d class says (record { edges = refl; faults = refl }) refl) adds;
+      }
+
+-- What a visit leads to was added to the worklist, if it leads further.
+pub record LeadsOn (run : Run) (modules : List ModuleVersion) (old new : GraphBuilder) (before after : Followed) (x : ModuleVersion) (d : Depth) (file : ℕ) (xs : List ModuleVersion) : Type 0 where
+  pub builder_is : IsBuilder modules new
+  pub edges : new.edges ≡ old.edges
+  pub opens : Opens run (graph_of modules old) (graph_of modules new) x d
+  pub follows : FollowsFile before after file (turns_of modules new) xs
+
+module _ (cache : Cache) (run : Run) (old : GraphBuilder) (marks after : Followed) (one : NumberedTurn) (ready : IsReady cache run old marks one)
+    (required : Required) (is : IsVisit cache run (module_numbered cache one.number) one.depth (visit.Required required)) where
   -- it has none
-  pub required_visited : (required : Required) (marks : Followed) → HasVisited old earlier new pairs one.number one.depth (visit.Required required)
-      → OnOk result (IsBuilder (table_of required) after)
-      → ((run : Run) (x : ModuleVersion) → x ≡ module_at (table_of required) one.number → SaysRequired run x one.depth required
-      → OnOk result (IsVisited run (graph_of (table_of required) before) (graph_of (table_of required) after) x one.depth))
-      → OnOk result (AddsFileList before.edges after.edges (Some required.file) (table_of required) (required_by required))
-      → OnOk result (FollowsFile followed marks required.file (turns_of (table_of required) after) (required_by required))
-      → OnOk result (IsTurnVisited old new earlier pairs before after marks one)
-  required_visited required marks has builds visits adds follows =
-      by_result result builds
-      (visits (run_in new pairs) (module_numbered old one.number)
-      (same_module old new one.number has.continues below ∙ ap (λ (ms : List ModuleVersion). module_at ms one.number) (sym has.visit_is.2))
-      has.visit_is.1) adds follows
-    where
-      by_result : (r : Result (Unit {0}) LoadFault) → OnOk r (IsBuilder (table_of required) after)
-          → OnOk r (IsVisited (run_in new pairs) (graph_of (table_of required) before) (graph_of (table_of required) after) (module_numbered old one.number) one.depth)
-          → OnOk r (AddsFileList before.edges after.edges (Some required.file) (table_of required) (required_by required))
-          → OnOk r (FollowsFile followed marks required.file (turns_of (table_of required) after) (required_by required))
-          → OnOk r (IsTurnVisited old new earlier pairs before after marks one)
-      by_result (Err fault) b v a f = tt
-      by_result (Ok u) built visited lists file =
-          let x = module_numbered old one.number in
-          let run = run_in new pairs in
-          let table = table_of required in
-          record {
-            knows = has.knows;
-            count = has.count;
-            continues = has.continues;
-            turns = has.turns;
-            builder = subst (λ (ms : List ModuleVersion). IsBuilder ms after) has.visit_is.2 built;
-            files = have_files_more new run before.edges after.edges x one.depth required has.visit_is
-                (have_files_known old new (run_in old earlier) run before.edges has.continues has.continues.main has.stays has.sound files) lists;
-            followed = subst (λ (ms : List ModuleVersion). AreFollowedIn new run (turns_of ms after) marks) has.visit_is.2
-                (followed_more new run (turns_of table before) (turns_of table after) followed marks x one.depth required has.visit_is
-                visited.follows.extends
-                (subst (λ (ms : List ModuleVersion). AreFollowedIn new run (turns_of ms before) followed) (sym has.visit_is.2)
-                (followed_known old new (run_in old earlier) run before followed builder has.continues has.continues.main has.stays has.sound are)) file);
-            visited = visited_by old new before one has.continues builder run after
-                (subst (λ (ms : List ModuleVersion). IsVisited run (graph_of ms before) (graph_of ms after) x one.depth) has.visit_is.2 visited);
-          }
+  pub required_added : (turned new : GraphBuilder)
+      → LeadsOn run (table_of required) old turned marks after (module_numbered cache one.number) one.depth required.file (required_by required)
+      → IsBuilder (table_of required) new → KeepsTurns turned new
+      → AddsFileList turned.edges new.edges (Some required.file) (table_of required) (required_by required)
+      → AddsIf (gathers (turns_of (table_of required) old) (turn (module_numbered cache one.number) one.depth)) (graph_of (table_of required) turned)
+      (graph_of (table_of required) new) (module_numbered cache one.number) (without_excluded run.main is.1.file.requirements)
+      → AddsTurn cache run old new after one
+  required_added turned new leads built keeps lists adds =
+      let x = module_numbered cache one.number in
+      let d = one.depth in
+      let file = is.1.file in
+      let table = table_of required in
+      let does = visited run x d (Ok file) is.1.says (without_excluded run.main file.requirements) (required_of run x file is.1.says)
+      (graph_of table old) (graph_of table old) (graph_of table turned) (graph_of table new) (notes_none (graph_of table old) x) leads.opens adds in
+      record {
+        builder_is = subst (λ (ms : List ModuleVersion). IsBuilder ms new) is.2 built;
+        files = have_files_more cache run old.edges new.edges x d required is ready.files
+            (subst (λ (edges : EdgeLists). AddsFileList edges new.edges (Some required.file) table (required_by required)) leads.edges lists);
+        followed = subst (λ (ms : List ModuleVersion). AreFollowedIn cache run (turns_of ms new) after) is.2
+            (followed_more cache run (turns_of table old) (turns_of table new) marks after x d required is does.follows.extends
+            (subst (λ (ms : List ModuleVersion). AreFollowedIn cache run (turns_of ms old) marks) (sym is.2) ready.followed)
+            (subst (λ (ts : List Turn). FollowsFile marks after required.file ts (required_by required))
+            (sym (ap (λ (ts : List NumberedTurn). map (turn_of table) ts) keeps)) leads.follows));
+        visited = subst (λ (ms : List ModuleVersion). IsVisited run (graph_of ms old) (graph_of ms new) x d) is.2 does;
+      }
+
+-- So the turn was visited.
+pub turn_visited : (old new : Cache) (earlier pairs : List (Name × Reply)) (before after : GraphBuilder) (marks : Followed) (one : NumberedTurn) {seen : Visit}
+    (result : Result (Unit {0}) LoadFault) → HasVisited old earlier new pairs one.number one.depth seen
+    → OnOk result (AddsTurn new (run_in new pairs) before after marks one) → OnOk result (IsTurnVisited old new earlier pairs before after marks one)
+turn_visited old new earlier pairs before after marks one (Err fault) has adds = tt
+turn_visited old new earlier pairs before after marks one (Ok u) has adds =
+    record { knows = has.knows; count = has.count; continues = has.continues; turns = has.turns; adds = adds }

@@ -4,8 +4,10 @@ use Rattle.gm_name.specs.ModuleVersion.{ModuleVersion}
 use Rattle.gm_store.specs.Asked.{Name, Reply, answer_in, name_of}
 use Rattle.gm_store.specs.declared.files.FileName.{FileName}
 use Rattle.gm_store.specs.States.{AddsAnswer, HasServed, StoreState}
+use Rattle.gm_store_sums.specs.Sums.{Sums}
 use Rattle.gm_file.specs.Main.{Main}
 use Rattle.gm_graph.specs.Reading.{file_of, is_askable}
+use Rattle.gm_graph.specs.Run.{AskedInTurn, IsDue, LoadingNeeds, run_of}
 
 -- Nothing was asked for, or only the file of this vertex, which may be asked for and was not asked for before.
 abbrev pub AsksFor : Main → StoreState → StoreState → ModuleVersion → Type 0
@@ -33,6 +35,16 @@ pub record AsksOne (May : Name → Type 0) (before after : Name → Option Reply
   -- If a name was refused, it is such a one, and nothing was asked for.
   pub device : (name : Name) → failed ≡ name ∷ []
       → (new.asked ≡ old.asked) × May name × (answer_in old.asked name ≡ None)
+  pub refused : new.refused ≡ old.refused ++ failed
+  pub served : HasServed before after old new
+
+-- What loading did to a store of which nothing was asked before it. The names in `failed` were refused.
+pub record AsksInTurn (main : Main) (sums : Option Sums) (before after : Name → Option Reply → Type 0)
+    (old new : StoreState) (failed : List Name) : Type 0 where
+  -- Each name was needed by the answers before it.
+  pub asks : AskedInTurn (LoadingNeeds main sums) new.asked
+  -- If a name was refused, it is needed by the answers, and is not among them.
+  pub device : (name : Name) → failed ≡ name ∷ [] → IsDue (run_of main sums new.asked) name
   pub refused : new.refused ≡ old.refused ++ failed
   pub served : HasServed before after old new
 

@@ -39,7 +39,7 @@ ghost use Rattle.gm_file.specs.Main.{main_of, without_excluded};
 ghost use Rattle.gm_graph.specs.Asking.{AsksOne, HasName, IsFileOf};
 ghost use Rattle.gm_graph.specs.Reading.{IsFileReading, file_of, is_askable as may_be_asked};
 ghost use Rattle.gm_graph.specs.Refusals.{IsLoadFaultOf};
-ghost use Rattle.gm_graph.specs.FileTable.{PutsFile, HasReplacing, NotesFiles, replacing_place};
+ghost use Rattle.gm_graph.specs.FileTable.{PutsFile, HasReplacing, IsNewFile, NotesFiles, replacing_place};
 ghost use Rattle.gm_graph.specs.Held.{HoldsSome};
 ghost use Rattle.gm_graph.specs.Lent.{lent_modules};
 ghost use Rattle.gm_graph.specs.Summaries.{Grows, IsKept, IsWithinList, at_span, summary_reading};
@@ -157,7 +157,7 @@ impl<'a> Cache<'a> {
     ghost use Rattle.std.specs.List.{IsDistinct};
     ghost use Rattle.gm_name.specs.ModuleVersion.{pair_eq};
     ghost use Rattle.gm_name_table.specs.Listed.{BeginsWith};
-    ghost use Rattle.gm_graph.specs.Cached.{HasFileAt, HasMadeKnown, HoldsSame, IsPlaceFor, KeepsSound, Knows, LendsKept, LentSame, LendsTurns, file_count, main_in, module_numbered, run_in, span_at, summary_at, sums_in, table_in, turns_in};
+    ghost use Rattle.gm_graph.specs.Cached.{HasFileAt, HasMadeKnown, HoldsSame, IsPlaceFor, KeepsSound, Knows, LendsKept, LentSame, LendsTurns, file_count, main_in, module_numbered, run_in, span_at, sums_in, table_in, turns_in};
     ghost use Rattle.gm_graph.specs.Lent.{lent_table};
     ghost use Rattle.gm_graph.specs.declared.cache.Cache.{Cache};
     ghost use Rattle.gm_graph.specs.CacheVisits.{IsSaid, LendsOver, Visits};
@@ -225,10 +225,7 @@ impl<'a> Cache<'a> {
     /// Keeps what was read of the file of the vertex with a number, of which nothing was kept, and returns the place.
     /// The only refusal is `NoMemory`, which leaves the cache unchanged.
     fn keep(&mut self, number: u32, name: &FileName, kept: Kept) -> Result<u32, NoMemory>
-        requires vertex { number < length (table_in self.old) }
-        requires file { name_of name.now ≡ file_of (main_in self.old) (module_numbered self.old number) }
-        requires askable { may_be_asked (name_of name.now) ≡ true }
-        requires none { summary_at self.old (name_of name.now) ≡ None }
+        requires new { IsNewFile (main_in self.old) (table_in self.old) self.old.files number (name_of name.now) }
         requires few { file_count self.old < 4294967295 }
         requires reading { (reply : Reply) × IsFileReading (sums_in self.old) (name_of name.now) reply
             (summary_reading (modules_of self.old.modules) kept) }

@@ -5,6 +5,7 @@ ghost use Rattle.std.specs.Option.{option_copied};
 ghost use Rattle.gm_store.specs.Asked.{name_of, names_in};
 ghost use Rattle.gm_store.specs.States.{HasServed};
 ghost use Rattle.gm_store.specs.declared.files.FileName.{FileName};
+ghost use Rattle.gm_graph.specs.Asking.{AsksInTurn};
 ghost use Rattle.gm_graph.specs.Cached.{Knows, file_count, main_in, run_in, sums_in, table_in, turns_in};
 ghost use Rattle.gm_graph.specs.Refusals.{refused_in};
 ghost use Rattle.gm_file.specs.Main.{main_of};
@@ -55,12 +56,8 @@ fn visit_all<F: Asks>(
     ensures opened { OnOk result (IsOpenedIn (run_in cache.old (F.state files.new).asked) cache.new builder.new) }
     ensures too_many { result ≡ Err LoadFault.TooMany → IsRead (run_in cache.old (F.state files.new).asked)
         × AreTooMany (run_in cache.old (F.state files.new).asked) }
-    ensures asks { AskedInTurn (LoadingNeeds (main_in cache.old) (sums_in cache.old)) (F.state files.new).asked }
-    ensures device { (name : FileName) → result ≡ Err (LoadFault.Device name)
-        → IsDue (run_in cache.old (F.state files.new).asked) (name_of name) }
-    ensures refused { (F.state files.new).refused ≡ (F.state files.old).refused ++ refused_in result }
-    ensures served { HasServed (F.may_answer files.old) (F.may_answer files.new)
-        (F.state files.old) (F.state files.new) }
+    ensures asks { AsksInTurn (main_in cache.old) (sums_in cache.old) (F.may_answer files.old) (F.may_answer files.new)
+        (F.state files.old) (F.state files.new) (refused_in result) }
 {
     let mut followed = Followed::new(builder.alloc);
     let mut at = 0;

@@ -1,19 +1,19 @@
 //! One visit of the worklist: what reading one vertex adds to the worklist and to the graph.
 
-ghost use Rattle.std.specs.Prelude.{◌≡◌, ◌<◌, [], List, OnOk, Contains, Err, None, Some, length, true};
-ghost use Rattle.gm_name.specs.ModuleVersion.{ModuleVersion, module_at};
+ghost use Rattle.std.specs.Prelude.{◌≡◌, ◌<◌, [], OnOk, Contains, Err, Some, length, true};
+ghost use Rattle.gm_name.specs.ModuleVersion.{ModuleVersion};
 ghost use Rattle.gm_graph.specs.Asking.{AsksOne, IsFileOf};
 ghost use Rattle.gm_graph.specs.Cached.{Knows, file_count, main_in, module_numbered, run_in, table_in};
-ghost use Rattle.gm_graph.specs.CacheVisits.{SaysRequired, required_by, table_of};
+ghost use Rattle.gm_graph.specs.CacheVisits.{IsVisit, required_by, table_of};
 ghost use Rattle.gm_graph.specs.Refusals.{refused_in};
-ghost use Rattle.gm_graph.specs.Builder.{IsBuilder, KeepsTurns, graph_of, turns_of};
-ghost use Rattle.gm_graph.specs.EdgeLists.{AreLists, KeepsLists};
-ghost use Rattle.gm_graph.specs.FileLists.{AddsFileList, HasNumbersOf, HaveFiles};
-ghost use Rattle.gm_graph.specs.Followed.{AreFollowedIn, FollowsFile, followed_at};
+ghost use Rattle.gm_graph.specs.Builder.{IsBuilder, turns_of};
+ghost use Rattle.gm_graph.specs.EdgeLists.{AreLists};
+ghost use Rattle.gm_graph.specs.FileLists.{HasNumbersOf};
+ghost use Rattle.gm_graph.specs.Followed.{followed_at};
 ghost use Rattle.gm_graph.specs.Run.{Run, Says};
 ghost use Rattle.gm_graph.specs.Turns.{turn, OverflowsWith};
-ghost use Rattle.gm_graph.specs.TurnVisits.{IsTurnVisited};
-ghost use Rattle.gm_graph.specs.Visiting.{IsVisited, OverflowsAt};
+ghost use Rattle.gm_graph.specs.TurnVisits.{AddsTurn, IsReady, IsTurnVisited};
+ghost use Rattle.gm_graph.specs.Visiting.{OverflowsAt};
 ghost use Rattle.gm_graph.specs.declared.cache.depth.Depth.TheVariants.{Deep};
 
 use crate::cache::Cache;
@@ -33,14 +33,9 @@ fn add_fault(
     class: Class,
 ) -> Result<(), LoadFault>
     requires lists { AreLists builder.old.edges }
-    ensures builder { (modules : List ModuleVersion) → IsBuilder modules builder.old → one.number < length modules
-        → OnOk result (IsBuilder modules builder.new) }
-    ensures visited { (modules : List ModuleVersion) (run : Run) → IsBuilder modules builder.old
-        → one.number < length modules → vertex.now ≡ module_at modules one.number → Says run vertex.now (Err class)
-        → OnOk result (IsVisited run (graph_of modules builder.old) (graph_of modules builder.new)
-        vertex.now one.depth) }
-    ensures turns { OnOk result (KeepsTurns builder.old builder.new) }
-    ensures files { OnOk result (KeepsLists builder.old.edges builder.new.edges None []) }
+    ensures adds { (cache : Cache) (run : Run) (marks : Followed) → IsReady cache run builder.old marks one
+        → vertex.now ≡ module_numbered cache one.number → Says run (module_numbered cache one.number) (Err class)
+        → OnOk result (AddsTurn cache run builder.old builder.new marks one) }
     ensures not_refused { refused_in result ≡ [] }
     ensures not_too_many { result ≡ Err LoadFault.TooMany → ⊥ }
 {
@@ -65,14 +60,9 @@ fn add_requirements(
     requires edges { HasNumbersOf builder.old.edges (Some required.file) (table_of required) (required_by required) }
     requires followed { followed_at followed.old required.file ≡ true → (y : ModuleVersion)
         → Contains (required_by required) y → Contains (turns_of (table_of required) builder.old) (turn y Deep) }
-    ensures builder { OnOk result (IsBuilder (table_of required.entry) builder.new) }
-    ensures visited { (run : Run) (x : ModuleVersion) → x ≡ module_at (table_of required.entry) one.number
-        → SaysRequired run x one.depth required.entry → OnOk result (IsVisited run
-        (graph_of (table_of required.entry) builder.old) (graph_of (table_of required.entry) builder.new) x one.depth) }
-    ensures files { OnOk result (AddsFileList builder.old.edges builder.new.edges (Some required.entry.file)
-        (table_of required.entry) (required_by required.entry)) }
-    ensures followed { OnOk result (FollowsFile followed.old followed.new required.entry.file
-        (turns_of (table_of required.entry) builder.new) (required_by required.entry)) }
+    ensures adds { (cache : Cache) (run : Run) → IsReady cache run builder.old followed.old one
+        → IsVisit cache run (module_numbered cache one.number) one.depth (Visit.Required required.entry)
+        → OnOk result (AddsTurn cache run builder.old builder.new followed.new one) }
     ensures too_many { result ≡ Err LoadFault.TooMany → (required.entry.leads ≡ true)
         × OverflowsWith (turns_of (table_of required.entry) builder.old) (required_by required.entry) }
     ensures not_refused { refused_in result ≡ [] }
@@ -101,11 +91,7 @@ pub(crate) fn visit<F: Asks>(
     one: NumberedTurn,
 ) -> Result<(), LoadFault>
     requires knows { Knows cache.old (F.state files.old).asked }
-    requires builder { IsBuilder (table_in cache.old) builder.old }
-    requires below { one.number < length (table_in cache.old) }
-    requires files { HaveFiles cache.old (run_in cache.old (F.state files.old).asked) builder.old.edges }
-    requires followed { AreFollowedIn cache.old (run_in cache.old (F.state files.old).asked)
-        (turns_of (table_in cache.old) builder.old) followed.old }
+    requires ready { IsReady cache.old (run_in cache.old (F.state files.old).asked) builder.old followed.old one }
     requires few { file_count cache.old < 4294967295 }
     ensures visited { OnOk result (IsTurnVisited cache.old cache.new (F.state files.old).asked (F.state files.new).asked
         builder.old builder.new followed.new one) }

@@ -1,14 +1,14 @@
 use Rattle.std.proofs.Common.{length, refl}
 use Rattle.gm_store.specs.Asked.{name_of}
 use Rattle.gm_graph.specs.Cached.{main_in, module_numbered, sums_in, table_in}
-use Rattle.gm_graph.proofs.OwnFiles.{added_there, has_file, if_ok_both, new_file, on_err_weaker}
+use Rattle.gm_graph.proofs.OwnFiles.{added_there, has_file, if_ok_both, on_err_weaker}
 use Rattle.gm_graph.proofs.HeldFiles.{added_some}
 use Rattle.gm_graph.proofs.Keeping.{holds_listed}
 use Rattle.gm_graph.proofs.cache.Cache.keep.Goals as goal
 
 pub invariant_of-self-clause-places_within : goal.invariant_of-self-clause-places_within
 invariant_of-self-clause-places_within c =
-    c.add.ensures.within (length (table_in c.args.self.now)) c.requires.vertex c.args.self.now.places_within
+    c.add.ensures.within (length (table_in c.args.self.now)) c.requires.new.within c.args.self.now.places_within
 
 pub invariant_of-self-clause-has_replacing : goal.invariant_of-self-clause-has_replacing
 invariant_of-self-clause-has_replacing c = c.add.ensures.replacing (main_in c.args.self.now) c.args.self.now.has_replacing
@@ -18,15 +18,12 @@ invariant_of-self-clause-holds_some c =
     let cache = c.args.self.now in
     let name = name_of c.args.name.now in
     added_some (main_in cache) (sums_in cache) cache.modules cache.files c.add.new.self c.add.result name c.args.kept c.requires.reading c.requires.kept
-    (c.add.ensures.adds (main_in cache) (table_in cache)
-    (new_file cache c.args.number name c.requires.vertex c.requires.file c.requires.askable c.requires.none))
+    (c.add.ensures.adds (main_in cache) (table_in cache) c.requires.new)
     (c.add.ensures.err (main_in cache) (table_in cache)) cache.holds_some
 
 pub invariant_of-self-clause-notes : goal.invariant_of-self-clause-notes
 invariant_of-self-clause-notes c =
-    let cache = c.args.self.now in
-    c.add.ensures.notes (main_in cache) (table_in cache)
-    (new_file cache c.args.number (name_of c.args.name.now) c.requires.vertex c.requires.file c.requires.askable c.requires.none) cache.notes
+    let cache = c.args.self.now in c.add.ensures.notes (main_in cache) (table_in cache) c.requires.new cache.notes
 
 pub returns-clause-err : goal.returns-clause-err
 returns-clause-err c =
@@ -35,17 +32,13 @@ returns-clause-err c =
 
 pub returns-clause-adds : goal.returns-clause-adds
 returns-clause-adds c =
-    let cache = c.args.self.now in
-    c.add.ensures.adds (main_in cache) (table_in cache)
-    (new_file cache c.args.number (name_of c.args.name.now) c.requires.vertex c.requires.file c.requires.askable c.requires.none)
+    let cache = c.args.self.now in c.add.ensures.adds (main_in cache) (table_in cache) c.requires.new
 
 pub returns-clause-place : goal.returns-clause-place
 returns-clause-place c =
     let cache = c.args.self.now in
     let name = name_of c.args.name.now in
     if_ok_both c.add.result
-    (λ place there puts. has_file _ (module_numbered cache c.args.number) name c.args.kept place c.requires.file c.requires.askable there
+    (λ place there puts. has_file _ (module_numbered cache c.args.number) name c.args.kept place c.requires.new.named c.requires.new.askable there
     (added_there (main_in cache) (table_in cache) cache.files c.add.new.self name c.args.kept puts))
-    c.add.ensures.place
-    (c.add.ensures.adds (main_in cache) (table_in cache)
-    (new_file cache c.args.number name c.requires.vertex c.requires.file c.requires.askable c.requires.none))
+    c.add.ensures.place (c.add.ensures.adds (main_in cache) (table_in cache) c.requires.new)

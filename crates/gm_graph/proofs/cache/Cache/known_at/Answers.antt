@@ -10,9 +10,9 @@ use Rattle.gm_graph.specs.FileTable.{replacing_place}
 use Rattle.gm_graph.specs.Summaries.{IsKept, summary_reading}
 use Rattle.gm_graph.specs.Cached.{HasFileAt, main_in, module_numbered, table_in}
 use Rattle.gm_graph.specs.Reading.{IsFileReading, file_of, is_askable}
-use Rattle.gm_graph.proofs.Growing.{number_stays}
+use Rattle.gm_graph.proofs.Growing.{number_below, number_stays}
 use Rattle.gm_graph.proofs.Keeping.{any_err, holds_after, holds_failed, holds_itself, known_same, lent_after}
-use Rattle.gm_graph.proofs.OwnFiles.{has_noted, nothing_kept}
+use Rattle.gm_graph.proofs.OwnFiles.{has_noted, new_file, nothing_kept}
 use Rattle.gm_graph.proofs.Telling.{knows_read, none_still, not_asked, sound_read}
 use Rattle.gm_graph.proofs.cache.Cache.known_at.Goals as goal
 
@@ -21,11 +21,21 @@ read_file-requires-clause-fresh g c =
     not_asked c.args.self.now (g.F.Asks.state c.args.files.now).asked (name_of c.in_ok-name.name) c.requires.knows (nothing_kept c.args.self.now c.args.number (name_of c.in_ok-name.name) c.module.result.now c.module.ensures.distinct c.requires.vertex
     c.in_ok-name.ensures c.module.ensures.module (sym c.in_default.ensures) (sym c.in_default-replacing_place.ensures))
 
-pub keep-requires-clause-none : goal.keep-requires-clause-none
-keep-requires-clause-none g c =
-    none_still c.args.self.now c.read_file.new.self (name_of c.in_ok-name.name) c.read_file.ensures.holds
-    (nothing_kept c.args.self.now c.args.number (name_of c.in_ok-name.name) c.module.result.now c.module.ensures.distinct c.requires.vertex
-    c.in_ok-name.ensures c.module.ensures.module (sym c.in_default.ensures) (sym c.in_default-replacing_place.ensures))
+pub keep-requires-clause-new : goal.keep-requires-clause-new
+keep-requires-clause-new g c =
+    let old = c.args.self.now in
+    let mid = c.read_file.new.self in
+    let number = c.args.number in
+    let name = name_of c.in_ok-name.name in
+    let numbered = c.read_file.ensures.holds.numbered in
+    new_file mid number name (number_below (table_in old) (table_in mid) number numbered c.requires.vertex)
+    (c.in_ok-name.ensures ∙ ap (file_of (main_in old)) (c.module.ensures.module
+    ∙ sym (number_stays (table_in old) (table_in mid) number numbered c.requires.vertex))
+    ∙ ap (λ m. file_of (main_of m) (module_numbered mid number)) (sym c.read_file.ensures.lent.main))
+    (sym c.is_askable.ensures ∙ c.if-not-is_askable.false)
+    (none_still old mid name c.read_file.ensures.holds
+    (nothing_kept old number name c.module.result.now c.module.ensures.distinct c.requires.vertex
+    c.in_ok-name.ensures c.module.ensures.module (sym c.in_default.ensures) (sym c.in_default-replacing_place.ensures)))
 
 pub keep-requires-clause-reading : goal.keep-requires-clause-reading
 keep-requires-clause-reading g c =
@@ -77,14 +87,6 @@ note-requires-clause-askable g c =
     ∙ sym c.is_askable.ensures ∙ c.if-not-is_askable.false
 
 -- ---- the file was asked for
-
-pub keep-requires-clause-file : goal.keep-requires-clause-file
-keep-requires-clause-file g c =
-    let cache = c.args.self.now in
-    let read = c.read_file.new.self in
-    c.in_ok-name.ensures ∙ ap (file_of (main_in cache)) (c.module.ensures.module
-    ∙ sym (number_stays (table_in cache) (table_in read) c.args.number c.read_file.ensures.holds.numbered c.requires.vertex))
-    ∙ ap (λ m. file_of (main_of m) (module_numbered read c.args.number)) (sym c.read_file.ensures.lent.main)
 
 pub returns-in-Err-clause-lent : goal.returns-in-Err-clause-lent
 returns-in-Err-clause-lent g c =
