@@ -1,5 +1,5 @@
 -- What is held of files stays if the list of modules grows, and when one more file is kept.
-use Rattle.std.proofs.Common.{◌≡◌, ◌∙◌, ◌≤◌, Bool, true, false, cond, List, [], ◌∷◌, Option, Some, None, Result, Ok, Err, length, ap, append-nil, refl, sym, subst}
+use Rattle.std.proofs.Common.{◌≡◌, ◌∙◌, Bool, true, false, cond, List, [], ◌∷◌, Option, Some, None, Result, Ok, Err, ap, append-nil, refl, sym, subst}
 use Rattle.std.specs.Prelude.{OnErr, OnOk}
 use Rattle.std.specs.Option.{option_map}
 use Rattle.std.proofs.lemmas.Option.{same_Some}
@@ -21,12 +21,11 @@ use Rattle.gm_graph.specs.Held.{AreKept, HoldsAnswers, HoldsSome, held_under}
 use Rattle.gm_graph.specs.Reading.{IsFileReading}
 use Rattle.gm_graph.specs.Run.{run_of}
 use Rattle.gm_graph.specs.Summaries.{Grows, IsKept, summary_reading}
-use Rattle.gm_graph.proofs.FilePlaces.{kept_if_more}
 use Rattle.gm_graph.proofs.Spans.{kept_still, readings_still}
 
 -- If nothing is kept, no answers say so.
 pub none_some : (main : Main) (sums : Option Sums) (list : NumberedList) (files : FileTable)
-    → ((name : Name) → kept_at main list.modules files name ≡ None) → ∥ HoldsSome main sums list files ∥₁
+    → ((name : Name) → kept_at files name ≡ None) → ∥ HoldsSome main sums list files ∥₁
 none_some main sums list files none = ∣ (
   [],
   record {
@@ -50,21 +49,16 @@ numbered_more old new pair only numbers list = (
   },
 )
 
-module _ (main : Main) (old new : NumberedList) (files : FileTable) (few : length files.places.items ≤ length old.modules) (grows : Grows old new) where
+module _ (main : Main) (old new : NumberedList) (files : FileTable) (grows : Grows old new) where
   begins : BeginsWith (modules_of old) (modules_of new)
   begins = (grows.0, grows.1.listed)
 
-  pub grown_kept : (name : Name) → kept_at main new.modules files name ≡ kept_at main old.modules files name
-  grown_kept name = ap (λ (modules : List ModuleVersion). kept_at main modules files name) grows.1.numbered.1
-      ∙ sym (kept_if_more main old.modules grows.1.numbered.0 files name few)
-
   module _ (lends : AreKept main old files) where
-    pub grown_held : (name : Name) → held_under main new files name ≡ held_under main old files name
-    grown_held name = ap (option_map (summary_reading (modules_of new))) (grown_kept name)
-        ∙ readings_still main (modules_of old) (modules_of new) (kept_at main old.modules files name) begins (lends name)
+    pub grown_held : (name : Name) → held_under new files name ≡ held_under old files name
+    grown_held name = readings_still main (modules_of old) (modules_of new) (kept_at files name) begins (lends name)
 
     pub grown_lends : AreKept main new files
-    grown_lends name one e = kept_still main (modules_of old) (modules_of new) one begins (lends name one (sym (grown_kept name) ∙ e))
+    grown_lends name one e = kept_still main (modules_of old) (modules_of new) one begins (lends name one e)
 
   grown_holds : (sums : Option Sums) (pairs : List (Name × Reply)) → HoldsAnswers (run_of main sums pairs) old files
       → HoldsAnswers (run_of main sums pairs) new files
@@ -113,28 +107,28 @@ answer_put true sums name other reply reading answer held is reads before =
 answer_put false sums name other reply reading answer held is reads before = before
 
 module _ (main : Main) (sums : Option Sums) (list : NumberedList) (old new : FileTable) where
-  module _ (name : Name) (reply : Reply) (one : Kept) (puts : PutsFile main list.modules old new name one)
+  module _ (name : Name) (reply : Reply) (one : Kept) (puts : PutsFile old new name one)
       (reads : IsFileReading sums name reply (summary_reading (modules_of list) one)) (is : IsKept main (modules_of list) one) where
-    put_held : (other : Name) → held_under main list new other ≡ cond (same_name other name) (Some (summary_reading (modules_of list) one)) (held_under main list old other)
+    put_held : (other : Name) → held_under list new other ≡ cond (same_name other name) (Some (summary_reading (modules_of list) one)) (held_under list old other)
     put_held other = ap (option_map (summary_reading (modules_of list))) (puts other)
-        ∙ map_cond (summary_reading (modules_of list)) (same_name other name) one (kept_at main list.modules old other)
+        ∙ map_cond (summary_reading (modules_of list)) (same_name other name) one (kept_at old other)
 
     put_answers : (pairs : List (Name × Reply)) → HoldsAnswers (run_of main sums pairs) list old → (other : Name)
-        → IsAnswerOf sums other (answer_in ((name, reply) ∷ pairs) other) (held_under main list new other)
+        → IsAnswerOf sums other (answer_in ((name, reply) ∷ pairs) other) (held_under list new other)
     put_answers pairs holds other =
         subst (λ (held : Option (Result Dependency Class)). IsAnswerOf sums other (answer_in ((name, reply) ∷ pairs) other) held) (sym (put_held other))
-        (answer_put (same_name other name) sums name other reply (summary_reading (modules_of list) one) (answer_in pairs other) (held_under main list old other) refl reads
+        (answer_put (same_name other name) sums name other reply (summary_reading (modules_of list) one) (answer_in pairs other) (held_under list old other) refl reads
         (record { kept = holds.kept other; only = holds.only other }))
 
     put_holds : (pairs : List (Name × Reply)) → HoldsAnswers (run_of main sums pairs) list old → HoldsAnswers (run_of main sums ((name, reply) ∷ pairs)) list new
     put_holds pairs holds = record {
       kept = λ other. (put_answers pairs holds other).kept;
       only = λ other. (put_answers pairs holds other).only;
-      lends = λ other some e. kept_with (same_name other name) main (modules_of list) (kept_at main list.modules old other) one some (holds.lends other) is
+      lends = λ other some e. kept_with (same_name other name) main (modules_of list) (kept_at old other) one some (holds.lends other) is
           (sym (puts other) ∙ e);
     }
 
-  same_holds : (pairs : List (Name × Reply)) → KeepsFiles main list.modules old new → HoldsAnswers (run_of main sums pairs) list old
+  same_holds : (pairs : List (Name × Reply)) → KeepsFiles old new → HoldsAnswers (run_of main sums pairs) list old
       → HoldsAnswers (run_of main sums pairs) list new
   same_holds pairs keeps holds = record {
     kept = λ name reply e.
@@ -143,13 +137,13 @@ module _ (main : Main) (sums : Option Sums) (list : NumberedList) (old new : Fil
     lends = λ name one e. holds.lends name one (sym (keeps name) ∙ e);
   }
 
-  pub kept_some : KeepsFiles main list.modules old new → ∥ HoldsSome main sums list old ∥₁ → ∥ HoldsSome main sums list new ∥₁
+  pub kept_some : KeepsFiles old new → ∥ HoldsSome main sums list old ∥₁ → ∥ HoldsSome main sums list new ∥₁
   kept_some keeps some = ∥∥₁_map some (λ it. (it.0, same_holds it.0 keeps it.1))
 
   -- So some answers say what is held after a file was added, or after there was no memory for it.
   pub added_some : {T E : Type 0} (result : Result T E) (name : Name) (one : Kept)
       → (reply : Reply) × IsFileReading sums name reply (summary_reading (modules_of list) one) → IsKept main (modules_of list) one
-      → OnOk result (PutsFile main list.modules old new name one) → OnErr result (KeepsFiles main list.modules old new)
+      → OnOk result (PutsFile old new name one) → OnErr result (KeepsFiles old new)
       → ∥ HoldsSome main sums list old ∥₁ → ∥ HoldsSome main sums list new ∥₁
   added_some (Ok t) name one says is puts keeps some =
       ∥∥₁_map some (λ it. ((name, says.0) ∷ it.0, put_holds name says.0 one puts says.1 is it.0 it.1))

@@ -28,7 +28,7 @@ use Rattle.gm_graph.specs.declared.cache.load_fault.LoadFault.TheVariants as loa
 use Rattle.gm_graph.proofs.Sayings.{says_more}
 use Rattle.gm_graph.proofs.PuttingPlaces.{front_stays}
 use Rattle.gm_graph.specs.Held.{AreKept, held_under}
-use Rattle.gm_graph.proofs.HeldFiles.{grown_held, grown_kept, grown_lends}
+use Rattle.gm_graph.proofs.HeldFiles.{grown_held, grown_lends}
 
 -- ---- the runs of a cache
 
@@ -97,19 +97,15 @@ knows_still old new pairs same knows =
 pub holds_grown : (old new : Cache) → new.main.now ≡ old.main.now → sums_in new ≡ sums_in old → new.files ≡ old.files
     → Grows old.modules new.modules → LendsKept old → HoldsSame old new
 holds_grown old new main sums files grows lends =
-    let found : (name : Name) → summary_at new name ≡ summary_at old name =
-    λ name. ap (λ (m : Main). kept_at m (table_in new) new.files name) (ap main_of main)
-    ∙ ap (λ (kept : FileTable). kept_at (main_in old) (table_in new) kept name) files
-    ∙ grown_kept (main_in old) old.modules new.modules old.files old.places_within grows name in
+    let found : (name : Name) → summary_at new name ≡ summary_at old name = λ name. ap (λ (kept : FileTable). kept_at kept name) files in
     record {
       main = main;
       sums = sums;
-      held = λ name. ap (λ (m : Main). held_under m new.modules new.files name) (ap main_of main)
-          ∙ ap (λ (kept : FileTable). held_under (main_in old) new.modules kept name) files
-          ∙ grown_held (main_in old) old.modules new.modules old.files old.places_within grows lends name;
+      held = λ name. ap (λ (kept : FileTable). held_under new.modules kept name) files
+          ∙ grown_held (main_in old) old.modules new.modules old.files grows lends name;
       lends = λ _. subst (λ (m : Main). AreKept m new.modules new.files) (ap main_of (sym main))
           (subst (λ (kept : FileTable). AreKept (main_in old) new.modules kept) (sym files)
-          (grown_lends (main_in old) old.modules new.modules old.files old.places_within grows lends));
+          (grown_lends (main_in old) old.modules new.modules old.files grows lends));
       numbered = grows.1.numbered;
       sound = λ run. sound_still old new run run main ([], ap (λ (kept : FileTable). kept.files.items) files ∙ sym (append-nil old.files.files.items))
           (λ name one e. found name ∙ e) (λ x said says. says);
@@ -117,23 +113,20 @@ holds_grown old new main sums files grows lends =
 
 -- So does one with the same list of modules, whose files begin with the old ones.
 pub holds_listed : (old new : Cache) → new.main.now ≡ old.main.now → sums_in new ≡ sums_in old
-    → KeepsFiles (main_in old) (table_in old) old.files new.files → BeginsWith old.files.files.items new.files.files.items
+    → KeepsFiles old.files new.files → BeginsWith old.files.files.items new.files.files.items
     → new.modules ≡ old.modules → HoldsSame old new
 holds_listed old new main sums keeps files modules =
-    let found : (name : Name) → summary_at new name ≡ summary_at old name =
-    λ name. ap (λ (m : Main). kept_at m (table_in new) new.files name) (ap main_of main)
-    ∙ ap (λ (list : NumberedList). kept_at (main_in old) list.modules new.files name) modules ∙ keeps name in
     let held : (name : Name) → held_of new name ≡ held_of old name =
     λ name. ap (λ (list : NumberedList). option_map (summary_reading (modules_of list)) (summary_at new name)) modules
-    ∙ ap (option_map (summary_reading (modules_of old.modules))) (found name) in
+    ∙ ap (option_map (summary_reading (modules_of old.modules))) (keeps name) in
     record {
       main = main;
       sums = sums;
       held = held;
       numbered = ([], ap (λ (list : NumberedList). list.modules) modules ∙ sym (append-nil (table_in old)));
-      sound = λ run. sound_still old new run run main files (λ name one e. found name ∙ e) (λ x said says. says);
+      sound = λ run. sound_still old new run run main files (λ name one e. keeps name ∙ e) (λ x said says. says);
       lends = λ lends name one e. subst (λ (m : Main). IsKept m (modules_of new.modules) one) (ap main_of (sym main))
-          (subst (λ (list : NumberedList). IsKept (main_in old) (modules_of list) one) (sym modules) (lends name one (sym (found name) ∙ e)));
+          (subst (λ (list : NumberedList). IsKept (main_in old) (modules_of list) one) (sym modules) (lends name one (sym (keeps name) ∙ e)));
     }
 
 -- The same cache holds the same.
@@ -179,7 +172,7 @@ lent_after old mid new one two = record { main = two.main ∙ one.main; sums = t
 pub holds_failed : (old mid new : Cache) → HoldsSame old mid → new.main.now ≡ mid.main.now → sums_in new ≡ sums_in mid
     → new.files ≡ mid.files → new.modules ≡ mid.modules → HoldsSame old new
 holds_failed old mid new same main sums files modules = holds_after old mid new same
-    (holds_listed mid new main sums (λ name. ap (λ (kept : FileTable). kept_at (main_in mid) (table_in mid) kept name) files)
+    (holds_listed mid new main sums (λ name. ap (λ (kept : FileTable). kept_at kept name) files)
     ([], ap (λ (kept : FileTable). kept.files.items) files ∙ sym (append-nil mid.files.files.items)) modules)
 
 -- ---- refusals

@@ -11,7 +11,7 @@ use Rattle.gm_graph.specs.declared.cache.by_name.Known.TheVariants as known
 use Rattle.gm_graph.specs.declared.cache.depth.Turn.{Turn}
 use Rattle.gm_graph.specs.declared.cache.file_table.FileTable.{FileTable}
 use Rattle.gm_graph.specs.Held.{HoldsAnswers}
-use Rattle.gm_graph.specs.Cached.{HasMoreTurns, HasSoundFile, IsKnownAs, IsLender, IsLenderNamed, Knows, KnowsLender, file_known, held_of, main_in, run_in, summary_at, table_in}
+use Rattle.gm_graph.specs.Cached.{HasMoreTurns, HasSoundFile, IsKnownAs, IsLender, IsLenderNamed, Knows, KnowsLender, file_known, held_of, main_in, run_in, summary_at}
 use Rattle.gm_graph.specs.FileTable.{IsPlaceOf}
 use Rattle.gm_graph.specs.Run.{Run}
 use Rattle.gm_graph.specs.Reading.{file_of}
@@ -32,7 +32,7 @@ module _ (cache : Cache) (pairs : List (Name × Reply)) (x : ModuleVersion) (nam
       cc (sym empty ∙ here)
 
   -- The place at which it is found is that of the vertex's file.
-  pub lender_named : (place : Option ℕ) → IsPlaceOf (main_in cache) (table_in cache) cache.files name place → IsLender cache (run_in cache pairs) x place
+  pub lender_named : (place : Option ℕ) → IsPlaceOf cache.files name place → IsLender cache (run_in cache pairs) x place
   lender_named None none = absurd (named_kept none)
   lender_named (Some place) at = record {
     within = at.0;

@@ -1,52 +1,29 @@
--- The files of modules, and what was added of them.
-use Rattle.std.proofs.Common.{◌≡◌, ◌∙◌, ◌<◌, ℕ, Bool, cond, true, List, Option, None, Some, Result, Ok, Err, ap, ap₂, length, refl, sym}
+-- The files of modules in a cache, and what was added of them.
+use Rattle.std.proofs.Common.{◌≡◌, ◌∙◌, ◌<◌, ℕ, cond, true, Bool, Option, None, Some, Result, Ok, Err, ap, ap₂, length, refl, sym}
 use Rattle.std.specs.Prelude.{IfOk, OnErr, OnOk, slice_get}
-use Rattle.std.specs.BTreeMap.{BTreeMap}
-use Rattle.std.specs.Map.{lookup}
-use Rattle.std.specs.Option.{option_and_then, option_map, option_or, unwrap_or}
-use Rattle.std.proofs.Common.{Global, Vec}
+use Rattle.std.specs.Option.{option_and_then, option_or}
 use Rattle.std.proofs.lemmas.Option.{slice_get_within}
 use Rattle.std.specs.List.{IsDistinct}
 use Rattle.gm_name.specs.ModuleVersion.{ModuleVersion, pair_eq}
 use Rattle.gm_name.specs.OptionalPlaces.{place_in}
 use Rattle.gm_name.specs.declared.place.OptionalPlace.{OptionalPlace}
 use Rattle.gm_store.proofs.NameOrder.{name_itself}
-use Rattle.gm_store.specs.Asked.{Name, name_of, same_name}
-use Rattle.gm_store.specs.declared.files.FileName.{FileName}
+use Rattle.gm_store.specs.Asked.{Name}
 use Rattle.gm_graph.specs.declared.cache.file_table.FileTable.{FileTable}
 use Rattle.gm_graph.specs.declared.cache.summary.Kept.{Kept}
 use Rattle.gm_graph.specs.declared.cache.Cache.{Cache}
 use Rattle.gm_graph.specs.Cached.{HasFileAt, kept_file, main_in, module_numbered, summary_at, table_in}
-use Rattle.gm_graph.specs.FileTable.{PutsFile, IsFileOf, IsNewFile, KeepsFiles, KeepsNoted, KeepsOthers, KeepsPlaces, KeepsReplacing, NotesFiles, NotesFor, kept_at, noted_for, place_beside, place_of, replacing_place}
-use Rattle.gm_file.specs.Main.{Main}
+use Rattle.gm_graph.specs.FileTable.{PutsFile, IsFileOf, IsNewFile, IsPlacedAt, KeepsNoted, KeepsOthers, NotesFiles, NotesFor, kept_at, noted_for, place_of, replacing_place}
 use Rattle.gm_graph.specs.Reading.{file_of, is_askable}
-use Rattle.gm_graph.proofs.FilePlaces.{place_by, place_within}
+use Rattle.gm_graph.proofs.FilePlaces.{place_by}
 use Rattle.gm_graph.proofs.Keeping.{file_there}
-use Rattle.gm_graph.proofs.PuttingPlaces.{notes_again, notes_kept, places_again, places_kept}
+use Rattle.gm_graph.proofs.PuttingPlaces.{notes_again, notes_kept}
 
 -- The file of a module, in a cache.
 pub is_file_of : (cache : Cache) (number : ℕ) (name : Name) → IsDistinct pair_eq (table_in cache)
     → number < length (table_in cache) → name ≡ file_of (main_in cache) (module_numbered cache number)
     → IsFileOf (main_in cache) (table_in cache) cache.files number name
-is_file_of cache number name distinct within named = record {
-  distinct = distinct;
-  within = within;
-  named = named;
-  has_replacing = cache.has_replacing;
-  notes = cache.notes;
-}
-
--- Nothing is kept of a name without a place.
-pub no_place_of : (main : Main) (modules : List ModuleVersion) (files : FileTable) (name : Name) → kept_at main modules files name ≡ None
-    → place_of main modules files name ≡ None
-no_place_of main modules files name none = by (place_of main modules files name) (place_within main modules files name) none
-  where
-    by : (o : Option ℕ) → ((place : ℕ) → o ≡ Some place → place < length files.files.items)
-        → option_and_then (slice_get files.files.items) o ≡ None → o ≡ None
-    by None within none = refl
-    by (Some place) within none =
-        let there = file_there files.files.items place (within place refl) in
-        absurd (cc (sym none ∙ there.1))
+is_file_of cache number name distinct within named = record { distinct = distinct; within = within; named = named; notes = cache.notes }
 
 -- Nothing is kept of a module's file if no place is noted for the module, and none for a replacement's file with that name.
 pub nothing_kept : (cache : Cache) (number : ℕ) (name : Name) (x : ModuleVersion) → IsDistinct pair_eq (table_in cache)
@@ -63,33 +40,32 @@ nothing_kept cache number name x distinct within named is nowhere none =
 pub new_file : (cache : Cache) (number : ℕ) (name : Name) → number < length (table_in cache)
     → name ≡ file_of (main_in cache) (module_numbered cache number) → is_askable name ≡ true → summary_at cache name ≡ None
     → IsNewFile (main_in cache) (table_in cache) cache.files number name
-new_file cache number name within named askable none = record {
-  within = within;
-  named = named;
-  askable = askable;
-  none = no_place_of (main_in cache) (table_in cache) cache.files name none;
-}
+new_file cache number name within named askable none =
+    record { within = within; named = named; askable = askable; none = by (place_of cache.files name) (cache.files.within name) none }
+  where
+    by : (o : Option ℕ) → ((place : ℕ) → o ≡ Some place → place < length cache.files.files.items)
+        → option_and_then (slice_get cache.files.files.items) o ≡ None → o ≡ None
+    by None within none = refl
+    by (Some place) within none =
+        let there = file_there cache.files.files.items place (within place refl) in
+        absurd (cc (sym none ∙ there.1))
 
 -- What was added is kept of its file.
-pub added_there : (main : Main) (modules : List ModuleVersion) (old new : FileTable) (name : Name) (one : Kept)
-    → PutsFile main modules old new name one → kept_at main modules new name ≡ Some one
-added_there main modules old new name one adds =
-    adds name ∙ ap (λ (b : Bool). cond b (Some one) (kept_at main modules old name)) (name_itself name)
+pub added_there : (old new : FileTable) (name : Name) (one : Kept) → PutsFile old new name one → kept_at new name ≡ Some one
+added_there old new name one adds = adds name ∙ ap (λ (b : Bool). cond b (Some one) (kept_at old name)) (name_itself name)
 
 -- A vertex's file is at its place.
-pub has_placed : (cache : Cache) (x : ModuleVersion) (place : ℕ) → place_of (main_in cache) (table_in cache) cache.files (file_of (main_in cache) x) ≡ Some place
-    → is_askable (file_of (main_in cache) x) ≡ true → HasFileAt cache x place
-has_placed cache x place is askable = record {
-  within = place_within (main_in cache) (table_in cache) cache.files (file_of (main_in cache) x) place is;
-  kept = ap (option_and_then (slice_get cache.files.files.items)) (sym is);
-  askable = askable;
+pub has_placed : (cache : Cache) (x : ModuleVersion) (place : ℕ) → IsPlacedAt (main_in cache) cache.files x place → HasFileAt cache x place
+has_placed cache x place is = record {
+  within = cache.files.within (file_of (main_in cache) x) place is.placed;
+  kept = ap (option_and_then (slice_get cache.files.files.items)) (sym is.placed);
+  askable = is.askable;
 }
 
 -- So it is at the place that is noted for its number.
 pub has_noted : (cache : Cache) (number place : ℕ) → noted_for cache.files number ≡ Some place
     → HasFileAt cache (module_numbered cache number) place
-has_noted cache number place noted =
-    let at = cache.notes number place noted in has_placed cache (module_numbered cache number) place at.placed at.askable
+has_noted cache number place noted = has_placed cache (module_numbered cache number) place (cache.notes.modules_noted number place noted)
 
 -- What is kept under a vertex's file name at a place.
 pub has_file : (cache : Cache) (x : ModuleVersion) (name : Name) (one : Kept) (place : ℕ)
@@ -118,40 +94,20 @@ on_either : {T E P Q R : Type 0} (r : Result T E) → (P → R) → (Q → R) �
 on_either (Ok t) f g p q = f p
 on_either (Err e) f g p q = g q
 
-pub same_replacing : (old new : FileTable) → KeepsOthers old new → KeepsReplacing old new
-same_replacing old new others = λ name.
-    ap (λ (map : BTreeMap FileName OptionalPlace). lookup (λ file. same_name name (name_of file)) map.entries) others.1
-
-pub same_files : (main : Main) (modules : List ModuleVersion) (old new : FileTable) → KeepsOthers old new → KeepsPlaces main modules old new
-    → KeepsFiles main modules old new
-same_files main modules old new others places = λ name.
-    ap₂ (λ (files : Vec Kept Global) (place : Option ℕ). option_and_then (slice_get files.items) place) others.0 (places name)
-
--- All places stay, and each that is noted is that of a file, whether it was noted or memory ran out.
-pub noted_again : {T E : Type 0} (cache : Cache) (new : FileTable) (number place : ℕ) (r : Result T E)
-    → option_and_then place_in (replacing_place cache.files (file_of (main_in cache) (module_numbered cache number))) ≡ Some place
-    → is_askable (file_of (main_in cache) (module_numbered cache number)) ≡ true → KeepsOthers cache.files new
-    → OnOk r (NotesFor cache.files new number place) → OnErr r (KeepsNoted cache.files new)
-    → KeepsPlaces (main_in cache) (table_in cache) cache.files new × NotesFiles (main_in cache) (table_in cache) new
-noted_again cache new number place r at askable others ok err =
-    let main = main_in cache in
-    let modules = table_in cache in
-    let replacing = same_replacing cache.files new others in
-    on_either r
-    (λ notes. (
-      places_again main modules cache.files new number place notes replacing at,
-      notes_again main modules cache.files new number place notes replacing at askable cache.notes,
-    ))
-    (λ noted. let places = places_kept main modules cache.files new noted replacing in
-    (places, notes_kept main modules cache.files new noted places cache.notes))
-    ok err
-
 -- The place of a file that is noted for a replacement is that of its name.
-pub replacing_at : (main : Main) (modules : List ModuleVersion) (files : FileTable) (name : Name) (place : ℕ)
-    → option_and_then place_in (replacing_place files name) ≡ Some place → place_of main modules files name ≡ Some place
-replacing_at main modules files name place at = by (replacing_place files name) at
+pub replacing_at : (cache : Cache) (name : Name) (place : ℕ) → option_and_then place_in (replacing_place cache.files name) ≡ Some place
+    → place_of cache.files name ≡ Some place
+replacing_at cache name place at = by (replacing_place cache.files name) refl at
   where
-    by : (o : Option OptionalPlace) → option_and_then place_in o ≡ Some place
-        → unwrap_or (option_map place_in o) (place_beside main modules files.places.items name) ≡ Some place
-    by None e = absurd (cc e)
-    by (Some held) e = e
+    by : (o : Option OptionalPlace) → replacing_place cache.files name ≡ o → option_and_then place_in o ≡ Some place → place_of cache.files name ≡ Some place
+    by None none e = absurd (cc e)
+    by (Some held) some e = sym (cache.notes.replacing_noted name held some) ∙ e
+
+-- Each place that is noted is that of a file, whether it was noted or memory ran out.
+pub noted_again : {T E : Type 0} (cache : Cache) (new : FileTable) (number place : ℕ) (r : Result T E)
+    → IsPlacedAt (main_in cache) cache.files (module_numbered cache number) place → KeepsOthers cache.files new
+    → OnOk r (NotesFor cache.files new number place) → OnErr r (KeepsNoted cache.files new) → NotesFiles (main_in cache) (table_in cache) new
+noted_again cache new number place r is others ok err = on_either r
+    (λ notes. notes_again (main_in cache) (table_in cache) cache.files new others number place notes is cache.notes)
+    (λ noted. notes_kept (main_in cache) (table_in cache) cache.files new others noted cache.notes)
+    ok err

@@ -12,11 +12,11 @@ use Rattle.gm_graph.specs.declared.cache.summary.Kept.{Kept}
 use Rattle.gm_graph.specs.declared.cache.Cache.{Cache}
 use Rattle.gm_file.specs.Main.{Main, main_of}
 use Rattle.gm_graph.specs.Reading.{IsFileReading}
-use Rattle.gm_graph.specs.FileTable.{PutsFile, kept_at}
+use Rattle.gm_graph.specs.FileTable.{PutsFile}
 use Rattle.gm_graph.proofs.HeldFiles.{IsAnswerOf, kept_with, map_cond, one_answer}
 use Rattle.gm_graph.proofs.Keeping.{knows_still, main_same, says_later, sound_still}
 use Rattle.gm_graph.specs.Summaries.{IsKept, summary_reading}
-use Rattle.gm_graph.specs.Cached.{HoldsSame, KeepsSound, Knows, LentSame, held_of, main_in, run_in, summary_at, sums_in, table_in}
+use Rattle.gm_graph.specs.Cached.{HoldsSame, KeepsSound, Knows, LentSame, held_of, main_in, run_in, summary_at, sums_in}
 
 known_of : (cache : Cache) (pairs : List (Name × Reply)) → Knows cache pairs → (name : Name)
     → IsAnswerOf (sums_in cache) name (answer_in pairs name) (held_of cache name)
@@ -68,32 +68,24 @@ answer_with false old pairs held name reply reading other is knows fresh reads e
 
 -- ---- a cache with one more file
 
-found_with : (old new : Cache) (name : Name) (one : Kept) → new.main.now ≡ old.main.now → new.modules ≡ old.modules
-    → PutsFile (main_in old) (table_in old) old.files new.files name one
-    → (other : Name) → summary_at new other ≡ cond (same_name other name) (Some one) (summary_at old other)
-found_with old new name one main modules keeps other =
-    ap (λ (m : Main). kept_at m (table_in new) new.files other) (ap main_of main)
-    ∙ ap (λ (list : NumberedList). kept_at (main_in old) list.modules new.files other) modules ∙ keeps other
-
-held_with : (old new : Cache) (name : Name) (one : Kept) → new.main.now ≡ old.main.now → new.modules ≡ old.modules
-    → PutsFile (main_in old) (table_in old) old.files new.files name one
+held_with : (old new : Cache) (name : Name) (one : Kept) → new.modules ≡ old.modules → PutsFile old.files new.files name one
     → (other : Name) → held_of new other ≡ cond (same_name other name) (Some (summary_reading (modules_of old.modules) one)) (held_of old other)
-held_with old new name one main modules keeps other =
+held_with old new name one modules keeps other =
     ap (λ (list : NumberedList). option_map (summary_reading (modules_of list)) (summary_at new other)) modules
-    ∙ ap (option_map (summary_reading (modules_of old.modules))) (found_with old new name one main modules keeps other)
+    ∙ ap (option_map (summary_reading (modules_of old.modules))) (keeps other)
     ∙ map_cond (summary_reading (modules_of old.modules)) (same_name other name) one (summary_at old other)
 
 -- The cache knows the pairs and one more.
 pub knows_more : (old new : Cache) (pairs : List (Name × Reply)) (name : Name) (reply : Reply) (one : Kept)
     → Knows old pairs → answer_in pairs name ≡ None → new.main.now ≡ old.main.now → sums_in new ≡ sums_in old → new.modules ≡ old.modules
-    → PutsFile (main_in old) (table_in old) old.files new.files name one
+    → PutsFile old.files new.files name one
     → IsFileReading (sums_in old) name reply (summary_reading (modules_of old.modules) one) → IsKept (main_in old) (modules_of old.modules) one
     → Knows new (pairs ++ (name, reply) ∷ [])
 knows_more old new pairs name reply one knows none same_main same_sums modules keeps reads is =
     let all : List (Name × Reply) = pairs ++ (name, reply) ∷ [] in
     let answers : (other : Name) → IsAnswerOf (sums_in old) other (answer_in all other) (held_of new other) =
     λ other. answer_with (same_name other name) old pairs (held_of new other) name reply (summary_reading (modules_of old.modules) one) other refl knows none reads
-    (held_with old new name one same_main modules keeps other) in
+    (held_with old new name one modules keeps other) in
     let said : (other : Name) → IsAnswerOf (sums_in new) other (answer_in all other) (held_of new other) =
     λ other. subst (λ (s : Option Sums). IsAnswerOf s other (answer_in all other) (held_of new other)) (sym same_sums) (answers other) in
     record {
@@ -102,13 +94,13 @@ knows_more old new pairs name reply one knows none same_main same_sums modules k
       lends = λ other some e. subst (λ (m : Main). IsKept m (modules_of new.modules) some) (ap main_of (sym same_main))
           (subst (λ (list : NumberedList). IsKept (main_in old) (modules_of list) some) (sym modules)
           (kept_with (same_name other name) (main_in old) (modules_of old.modules) (summary_at old other) one some (λ any f. knows.lends other any f) is
-          (sym (found_with old new name one same_main modules keeps other) ∙ e)));
+          (sym (keeps other) ∙ e)));
     }
 
 -- A cache that adds what was read of one more file knows all answers.
 pub knows_read : (old mid new : Cache) (pairs all : List (Name × Reply)) (name : Name) (reply : Reply) (one : Kept)
     → Knows old pairs → HoldsSame old mid → LentSame mid new → new.modules ≡ mid.modules → summary_at old name ≡ None
-    → PutsFile (main_in mid) (table_in mid) mid.files new.files name one
+    → PutsFile mid.files new.files name one
     → all ≡ pairs ++ (name, reply) ∷ [] → IsFileReading (sums_in old) name reply (summary_reading (modules_of mid.modules) one) → IsKept (main_in old) (modules_of mid.modules) one → Knows new all
 knows_read old mid new pairs all name reply one knows same lent modules none adds e reads is =
     subst (λ (ps : List (Name × Reply)). Knows new ps) (sym e)
@@ -133,13 +125,13 @@ none_still old mid name same none =
 -- those that were kept.
 pub sound_read : (old mid new : Cache) (pairs all : List (Name × Reply)) (name : Name) (reply : Reply) (one : Kept) → HoldsSame old mid
     → LentSame mid new → new.modules ≡ mid.modules → summary_at old name ≡ None
-    → PutsFile (main_in mid) (table_in mid) mid.files new.files name one → BeginsWith mid.files.files.items new.files.files.items → all ≡ pairs ++ (name, reply) ∷ []
+    → PutsFile mid.files new.files name one → BeginsWith mid.files.files.items new.files.files.items → all ≡ pairs ++ (name, reply) ∷ []
     → KeepsSound old (run_in old pairs) new (run_in new all)
 sound_read old mid new pairs all name reply one same lent modules none adds files asked x place sound =
     let none_more : summary_at mid name ≡ None = none_still old mid name same none in
     sound_still mid new (run_in old pairs) (run_in new all) lent.main files
     (λ other some e. stays (same_name other name) one some (summary_at mid other) (summary_at new other)
-    (found_with mid new name one lent.main modules adds other)
+    (adds other)
     (λ is. ap (summary_at mid) (names_equal other name is) ∙ none_more) e)
     (says_later old new pairs ((name, reply) ∷ []) all (lent.main ∙ same.main) (lent.sums ∙ same.sums) asked) x place
     (same.sound (run_in old pairs) x place sound)

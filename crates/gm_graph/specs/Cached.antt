@@ -46,7 +46,7 @@ module_numbered cache number = module_at (table_in cache) number
 
 -- what is kept of the file of a name
 abbrev pub summary_at : Cache → Name → Option Kept
-summary_at cache name = kept_at (main_in cache) (table_in cache) cache.files name
+summary_at cache name = kept_at cache.files name
 
 -- how many files are kept, and what is kept of the one at a place
 abbrev pub file_count : Cache → ℕ
@@ -57,7 +57,7 @@ kept_file cache place = slice_get cache.files.files.items place
 
 -- what is held of the file of a name: its contents or its fault
 abbrev pub held_of : Cache → Name → Option (Result Dependency Class)
-held_of cache name = held_under (main_in cache) cache.modules cache.files name
+held_of cache name = held_under cache.modules cache.files name
 
 -- where the requirements of the file at a place are in the list of modules, without the excluded ones: nowhere if there
 -- is no place, or the file has a fault

@@ -15,20 +15,20 @@ use Rattle.gm_graph.specs.Run.{Run, run_of}
 use Rattle.gm_graph.specs.Summaries.{IsKept, summary_reading}
 
 -- what is held of the file of a name: its contents or its fault
-abbrev pub held_under : Main → NumberedList → FileTable → Name → Option (Result Dependency Class)
-held_under main list files name = option_map (summary_reading (modules_of list)) (kept_at main list.modules files name)
+abbrev pub held_under : NumberedList → FileTable → Name → Option (Result Dependency Class)
+held_under list files name = option_map (summary_reading (modules_of list)) (kept_at files name)
 
 -- Each summary has the requirements of its file, without the excluded ones, and the list of modules has both.
 abbrev pub AreKept : Main → NumberedList → FileTable → Type 0
-AreKept main list files = (name : Name) (one : Kept) → kept_at main list.modules files name ≡ Some one
+AreKept main list files = (name : Name) (one : Kept) → kept_at files name ≡ Some one
     → IsKept main (modules_of list) one
 
 -- Of each name that a run answers, what the answer says is held, and of other names nothing.
 pub record HoldsAnswers (run : Run) (list : NumberedList) (files : FileTable) : Type 0 where
   pub kept : (name : Name) (reply : Reply) → run.answers name ≡ Some reply
-      → (said : Result Dependency Class) × (held_under run.main list files name ≡ Some said)
+      → (said : Result Dependency Class) × (held_under list files name ≡ Some said)
       × IsFileReading run.sums name reply said
-  pub only : (name : Name) → run.answers name ≡ None → held_under run.main list files name ≡ None
+  pub only : (name : Name) → run.answers name ≡ None → held_under list files name ≡ None
   pub lends : AreKept run.main list files
 
 -- Some answers say what is held.

@@ -20,6 +20,7 @@ pub(crate) mod lent;
 pub(crate) mod load_fault;
 pub(crate) mod naming;
 pub(crate) mod paths;
+pub(crate) mod place_history;
 pub(crate) mod reading;
 pub(crate) mod summary;
 pub(crate) mod turn_history;
@@ -39,7 +40,7 @@ ghost use Rattle.gm_file.specs.Main.{main_of, without_excluded};
 ghost use Rattle.gm_graph.specs.Asking.{AsksOne, HasName, IsFileOf};
 ghost use Rattle.gm_graph.specs.Reading.{IsFileReading, file_of, is_askable as may_be_asked};
 ghost use Rattle.gm_graph.specs.Refusals.{IsLoadFaultOf};
-ghost use Rattle.gm_graph.specs.FileTable.{PutsFile, HasReplacing, IsNewFile, NotesFiles, replacing_place};
+ghost use Rattle.gm_graph.specs.FileTable.{PutsFile, IsNewFile, NotesFiles, replacing_place};
 ghost use Rattle.gm_graph.specs.Held.{HoldsSome};
 ghost use Rattle.gm_graph.specs.Lent.{lent_modules};
 ghost use Rattle.gm_graph.specs.Summaries.{Grows, IsKept, IsWithinList, at_span, summary_reading};
@@ -89,7 +90,6 @@ pub struct Cache<'a> {
     ghost first_are: { take first (modules_of modules)
         ≡ without_excluded (main_of main.now) (main_of main.now).requirements },
     ghost places_within: { length files.places.items ≤ length modules.modules },
-    ghost has_replacing: { HasReplacing (main_of main.now) files },
     ghost holds_some: { ∥ HoldsSome (main_of main.now) (option_copied sums) modules files ∥₁ },
     ghost notes: { NotesFiles (main_of main.now) modules.modules files },
 }
@@ -231,8 +231,7 @@ impl<'a> Cache<'a> {
             (summary_reading (modules_of self.old.modules) kept) }
         requires kept { IsKept (main_in self.old) (modules_of self.old.modules) kept }
         ensures count { file_count self.new ≤ file_count self.old + 1 }
-        ensures adds { OnOk result (PutsFile (main_in self.old) (table_in self.old) self.old.files self.new.files
-            (name_of name.now) kept) }
+        ensures adds { OnOk result (PutsFile self.old.files self.new.files (name_of name.now) kept) }
         ensures modules { self.new.modules ≡ self.old.modules }
         ensures files { BeginsWith self.old.files.files.items self.new.files.files.items }
         ensures place { IfOk result (HasFileAt self.new (module_numbered self.old number)) }

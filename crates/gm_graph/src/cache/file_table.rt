@@ -3,11 +3,11 @@
 //! A module's file is found by the module's number once its place is noted for that, without a search. Until then a file
 //! that a replacement names is found by its name: a folder is no module, and two modules may have one replacement.
 
-ghost use Rattle.std.specs.Prelude.{◌≤◌, All, length};
-ghost use Rattle.std.specs.BTreeMap.{values};
-ghost use Rattle.gm_graph.specs.Places.{IsPlace};
+ghost use Rattle.std.specs.Prelude.{◌≤◌, length};
+ghost use Rattle.gm_graph.specs.Places.{AreWithin};
 
 use crate::cache::naming::right_name;
+use crate::cache::place_history::PlaceHistory;
 use crate::cache::summary::{Kept, ListSpan};
 use gm_file::MainFile;
 use gm_name::{NoMemory, OptionalPlace};
@@ -20,41 +20,46 @@ use std::collections::BTreeMap;
 pub(crate) struct FileTable {
     /// What is kept of each file, in the order in which they were read.
     files: Vec<Kept>,
+    /// Their names, with their places in `files`.
+    names: PlaceHistory,
     /// For each module, by its number, the place of its file in `files`, if it is noted. The last ones may be left out.
     places: Vec<OptionalPlace>,
     /// The names of the files of all replacements, with their places in `files`, if any.
     replacing: BTreeMap<FileName, OptionalPlace>,
     ghost few: { length files.items ≤ 4294967295 },
-    ghost noted_places: { All (IsPlace (length files.items)) places.items },
-    ghost replacing_places: { All (IsPlace (length files.items)) (values replacing) },
+    ghost within: { AreWithin (length files.items) names.items },
 }
 
 impl FileTable {
-    ghost use Rattle.std.specs.Prelude.{◌≡◌, ◌<◌, ◌+◌, IfOk, IfSome, List, ℕ, None, OnErr, OnOk, Some, slice_get};
-    ghost use Rattle.std.specs.Option.{IsSome, option_and_then};
+    ghost use Rattle.std.specs.Prelude.{◌≡◌, ◌<◌, ◌+◌, ◌∷◌, IfOk, IfSome, List, None, OnErr, OnOk, Some, slice_get};
+    ghost use Rattle.std.specs.Option.{option_and_then};
     ghost use Rattle.gm_name_table.specs.Listed.{BeginsWith};
     ghost use Rattle.gm_store.specs.Asked.{Name, name_of};
-    ghost use Rattle.gm_graph.specs.FileTable.{PutsFile, HasReplacing, IsFileOf, IsNewFile, IsPlaceOf, KeepsFiles, KeepsNoted, KeepsOthers, KeepsPlaces, KeepsReplacing, NotesFiles, NotesFor, NotesPlace, PutsReplacing, ReachesAtMost, kept_at, noted_for, replacing_place};
+    ghost use Rattle.gm_graph.specs.FileTable.{PutsFile, IsFileOf, IsNewFile, IsPlaceOf, KeepsFiles, KeepsNoted, KeepsOthers, NotesFiles, NotesFor, PutsReplacing, ReachesAtMost, kept_at, noted_for, replacing_place};
     ghost use Rattle.gm_file.specs.Main.{Main, main_of};
     ghost use Rattle.gm_name.specs.ModuleVersion.{ModuleVersion};
     ghost use Rattle.gm_name.specs.OptionalPlaces.{place_in};
+    ghost use Rattle.gm_name.specs.declared.place.OptionalPlace.{OptionalPlace};
     ghost use Rattle.gm_graph.specs.Summaries.{span_found};
 
     /// No files, for a main file with these replacements. The only refusal is `NoMemory`.
     pub(crate) fn new(alloc: Global, main: &MainFile) -> Result<FileTable, NoMemory>
-        ensures none { IfOk result (λ files. (modules : List ModuleVersion) (name : Name)
-            → kept_at (main_of main.now) modules files name ≡ None) }
+        ensures none { IfOk result (λ files. (name : Name) → kept_at files name ≡ None) }
         ensures files { IfOk result (λ files. length files.files.items ≡ 0) }
         ensures places { IfOk result (λ files. length files.places.items ≡ 0) }
-        ensures replacing { IfOk result (HasReplacing (main_of main.now)) }
+        ensures notes { IfOk result (λ files. (modules : List ModuleVersion)
+            → NotesFiles (main_of main.now) modules files) }
     {
         let mut replacing = BTreeMap::new(alloc);
         for replace in main.replaces() {
             replacing.insert(right_name(alloc, &replace.right)?, OptionalPlace::none())?;
         }
+        let names = PlaceHistory::new();
+        let places = Vec::new(alloc);
         Ok(FileTable {
             files: Vec::new(alloc),
-            places: Vec::new(alloc),
+            names,
+            places,
             replacing,
         })
     }
@@ -83,7 +88,7 @@ impl FileTable {
     /// the file.
     pub(crate) fn place_of(&self, name: &FileName, number: u32) -> Option<u32>
         ensures { (main : Main) (modules : List ModuleVersion) → IsFileOf main modules self.now number (name_of name.now)
-            → IsPlaceOf main modules self.now (name_of name.now) result }
+            → IsPlaceOf self.now (name_of name.now) result }
     {
         match self.noted_place(number) {
             None => self.replacing_place(name),
@@ -142,11 +147,9 @@ impl FileTable {
 
     /// Notes the place of the file of a replacement, if the name is that of one.
     fn put_replacing(&mut self, name: &FileName, place: OptionalPlace)
-        requires { IsPlace (length self.old.files.items) place }
-        ensures puts { IsSome (replacing_place self.old (name_of name.now))
-            → PutsReplacing self.old self.new (name_of name.now) place }
-        ensures keeps { replacing_place self.old (name_of name.now) ≡ None → KeepsReplacing self.old self.new }
+        ensures puts { PutsReplacing self.old self.new (name_of name.now) place }
         ensures files { self.new.files ≡ self.old.files }
+        ensures names { self.new.names.items ≡ self.old.names.items }
         ensures places { self.new.places ≡ self.old.places }
     {
         if let Some(noted) = self.replacing.get_mut(name) {
@@ -154,24 +157,23 @@ impl FileTable {
         }
     }
 
-    /// Notes the place of the file of a name, as `place_of` finds it. The only refusal is `NoMemory`, after which no
-    /// place was noted.
+    /// Notes the place of the file of a name, which is that of the module with this number. The only refusal is
+    /// `NoMemory`, after which no place was noted.
     fn put(&mut self, name: &FileName, number: u32, place: u32) -> Result<(), NoMemory>
         requires { place < length self.old.files.items }
-        ensures puts { (main : Main) (modules : List ModuleVersion)
-            → IsNewFile main modules self.old number (name_of name.now)
-            → OnOk result (NotesPlace main modules self.old self.new (name_of name.now) place) }
+        ensures names { OnOk result ((noted : OptionalPlace) × (place_in noted ≡ Some place)
+            × (self.new.names.items ≡ (name_of name.now, noted) ∷ self.old.names.items)) }
         ensures notes { (main : Main) (modules : List ModuleVersion)
             → IsNewFile main modules self.old number (name_of name.now)
             → NotesFiles main modules self.old → NotesFiles main modules self.new }
-        ensures err { (main : Main) (modules : List ModuleVersion)
-            → OnErr result (KeepsPlaces main modules self.old self.new) }
+        ensures err { OnErr result (self.new.names.items ≡ self.old.names.items) }
         ensures files { self.new.files ≡ self.old.files }
         ensures within { ReachesAtMost number self.old self.new }
-        ensures replacing { (main : Main) → HasReplacing main self.old → HasReplacing main self.new }
     {
         self.note(number, place)?;
-        self.put_replacing(name, OptionalPlace::some(place));
+        let noted = OptionalPlace::some(place);
+        self.put_replacing(name, noted);
+        self.names = self.names.with(name, &noted);
         Ok(())
     }
 
@@ -181,19 +183,15 @@ impl FileTable {
     /// The only refusal is `NoMemory`. What is kept of other files stays in any case.
     pub(crate) fn add(&mut self, name: &FileName, number: u32, kept: Kept) -> Result<u32, NoMemory>
         requires few { length self.old.files.items < 4294967295 }
-        ensures adds { (main : Main) (modules : List ModuleVersion)
-            → IsNewFile main modules self.old number (name_of name.now)
-            → OnOk result (PutsFile main modules self.old self.new (name_of name.now) kept) }
+        ensures adds { OnOk result (PutsFile self.old self.new (name_of name.now) kept) }
         ensures notes { (main : Main) (modules : List ModuleVersion)
             → IsNewFile main modules self.old number (name_of name.now)
             → NotesFiles main modules self.old → NotesFiles main modules self.new }
         ensures place { IfOk result (λ place. slice_get self.new.files.items place ≡ Some kept) }
         ensures files { BeginsWith self.old.files.items self.new.files.items }
         ensures count { length self.new.files.items ≤ length self.old.files.items + 1 }
-        ensures err { (main : Main) (modules : List ModuleVersion)
-            → OnErr result (KeepsFiles main modules self.old self.new) }
+        ensures err { OnErr result (KeepsFiles self.old self.new) }
         ensures within { ReachesAtMost number self.old self.new }
-        ensures replacing { (main : Main) → HasReplacing main self.old → HasReplacing main self.new }
     {
         let place = self.files.len() as u32;
         self.files.push(kept)?;

@@ -10,16 +10,12 @@ pub invariant_of-self-clause-places_within : goal.invariant_of-self-clause-place
 invariant_of-self-clause-places_within c =
     c.add.ensures.within (length (table_in c.args.self.now)) c.requires.new.within c.args.self.now.places_within
 
-pub invariant_of-self-clause-has_replacing : goal.invariant_of-self-clause-has_replacing
-invariant_of-self-clause-has_replacing c = c.add.ensures.replacing (main_in c.args.self.now) c.args.self.now.has_replacing
-
 pub invariant_of-self-clause-holds_some : goal.invariant_of-self-clause-holds_some
 invariant_of-self-clause-holds_some c =
     let cache = c.args.self.now in
     let name = name_of c.args.name.now in
     added_some (main_in cache) (sums_in cache) cache.modules cache.files c.add.new.self c.add.result name c.args.kept c.requires.reading c.requires.kept
-    (c.add.ensures.adds (main_in cache) (table_in cache) c.requires.new)
-    (c.add.ensures.err (main_in cache) (table_in cache)) cache.holds_some
+    c.add.ensures.adds c.add.ensures.err cache.holds_some
 
 pub invariant_of-self-clause-notes : goal.invariant_of-self-clause-notes
 invariant_of-self-clause-notes c =
@@ -27,12 +23,7 @@ invariant_of-self-clause-notes c =
 
 pub returns-clause-err : goal.returns-clause-err
 returns-clause-err c =
-    on_err_weaker c.add.result (λ keeps. holds_listed c.args.self.now _ refl refl keeps c.add.ensures.files refl)
-    (c.add.ensures.err (main_in c.args.self.now) (table_in c.args.self.now))
-
-pub returns-clause-adds : goal.returns-clause-adds
-returns-clause-adds c =
-    let cache = c.args.self.now in c.add.ensures.adds (main_in cache) (table_in cache) c.requires.new
+    on_err_weaker c.add.result (λ keeps. holds_listed c.args.self.now _ refl refl keeps c.add.ensures.files refl) c.add.ensures.err
 
 pub returns-clause-place : goal.returns-clause-place
 returns-clause-place c =
@@ -40,5 +31,5 @@ returns-clause-place c =
     let name = name_of c.args.name.now in
     if_ok_both c.add.result
     (λ place there puts. has_file _ (module_numbered cache c.args.number) name c.args.kept place c.requires.new.named c.requires.new.askable there
-    (added_there (main_in cache) (table_in cache) cache.files c.add.new.self name c.args.kept puts))
-    c.add.ensures.place (c.add.ensures.adds (main_in cache) (table_in cache) c.requires.new)
+    (added_there cache.files c.add.new.self name c.args.kept puts))
+    c.add.ensures.place c.add.ensures.adds

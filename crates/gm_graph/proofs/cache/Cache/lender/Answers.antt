@@ -40,7 +40,7 @@ returns-in-None c = λ pairs knows.
     let name = name_of c.in_ok-name.name.now in
     let named = name_here (λ (n : Bor FileName). name_of n.now) (run_in cache pairs) x c.args.name c.in_ok-name.name c.in_ok-name.was (c.requires pairs knows) in
     lender_named cache pairs x name knows named c.replacing_place.result
-    (place_found (main_in cache) (table_in cache) cache.files name c.replacing_place.result
-    (place_by_absent (main_in cache) (table_in cache) cache.files x name (λ number there. cc (sym ((c.find.ensures number).1 there) ∙ c.in-None.is))
-    named.name_is cache.has_replacing
+    (place_found cache.files name c.replacing_place.result
+    (place_by_absent (main_in cache) (table_in cache) cache.files cache.notes x name
+    (λ number there. cc (sym ((c.find.ensures number).1 there) ∙ c.in-None.is)) named.name_is
     ∙ sym c.replacing_place.ensures))

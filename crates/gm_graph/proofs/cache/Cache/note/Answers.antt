@@ -1,64 +1,52 @@
-use Rattle.std.proofs.Common.{◌∙◌, [], Global, Vec, ap, append-nil, length, refl, sym}
+use Rattle.std.proofs.Common.{◌∙◌, [], Global, List, Vec, ap, append-nil, length, refl, sym}
+use Rattle.gm_name.specs.declared.place.OptionalPlace.{OptionalPlace}
+use Rattle.gm_store.specs.Asked.{Name}
 use Rattle.gm_graph.specs.declared.cache.summary.Kept.{Kept}
 use Rattle.gm_graph.specs.Cached.{main_in, module_numbered, sums_in, table_in}
+use Rattle.gm_graph.specs.Places.{place_among}
 use Rattle.gm_graph.specs.Reading.{file_of}
-use Rattle.gm_graph.proofs.FilePlaces.{place_within}
 use Rattle.gm_graph.proofs.HeldFiles.{kept_some}
 use Rattle.gm_graph.proofs.Keeping.{holds_listed}
-use Rattle.gm_graph.proofs.OwnFiles.{has_placed, noted_again, replacing_at, same_files, same_replacing}
-use Rattle.gm_graph.proofs.PuttingPlaces.{replacing_kept}
+use Rattle.gm_graph.proofs.OwnFiles.{has_placed, noted_again, replacing_at}
+use Rattle.gm_graph.proofs.PuttingPlaces.{same_files}
 use Rattle.gm_graph.proofs.cache.Cache.note.Goals as goal
 
 pub note-requires : goal.note-requires
 note-requires c =
     let cache = c.args.self.now in
     let file = file_of (main_in cache) (module_numbered cache c.args.number) in
-    place_within (main_in cache) (table_in cache) cache.files file c.args.place
-    (replacing_at (main_in cache) (table_in cache) cache.files file c.args.place c.requires.place)
+    cache.files.within file c.args.place (replacing_at cache file c.args.place c.requires.place)
 
 pub invariant_of-self-clause-places_within : goal.invariant_of-self-clause-places_within
 invariant_of-self-clause-places_within c =
     c.note.ensures.within (length (table_in c.args.self.now)) c.requires.vertex c.args.self.now.places_within
 
-pub invariant_of-self-clause-has_replacing : goal.invariant_of-self-clause-has_replacing
-invariant_of-self-clause-has_replacing c =
-    let cache = c.args.self.now in
-    replacing_kept cache.files c.note.new.self (same_replacing cache.files c.note.new.self c.note.ensures.others) (main_in cache)
-    cache.has_replacing
-
 pub invariant_of-self-clause-notes : goal.invariant_of-self-clause-notes
 invariant_of-self-clause-notes c =
     let cache = c.args.self.now in
-    (noted_again cache c.note.new.self c.args.number c.args.place c.note.result c.requires.place c.requires.askable
-    c.note.ensures.others c.note.ensures.notes c.note.ensures.err).1
+    noted_again cache c.note.new.self c.args.number c.args.place c.note.result
+    (record { placed = replacing_at cache (file_of (main_in cache) (module_numbered cache c.args.number)) c.args.place c.requires.place; askable = c.requires.askable })
+    c.note.ensures.others c.note.ensures.notes c.note.ensures.err
 
 pub invariant_of-self-clause-holds_some : goal.invariant_of-self-clause-holds_some
 invariant_of-self-clause-holds_some c =
     let cache = c.args.self.now in
-    let again =
-    noted_again cache c.note.new.self c.args.number c.args.place c.note.result c.requires.place c.requires.askable
-    c.note.ensures.others c.note.ensures.notes c.note.ensures.err in
     kept_some (main_in cache) (sums_in cache) cache.modules cache.files c.note.new.self
-    (same_files (main_in cache) (table_in cache) cache.files c.note.new.self c.note.ensures.others again.0) cache.holds_some
+    (same_files (main_in cache) (table_in cache) cache.files c.note.new.self c.note.ensures.others) cache.holds_some
 
 pub returns-clause-holds : goal.returns-clause-holds
 returns-clause-holds c =
     let cache = c.args.self.now in
-    let again =
-    noted_again cache c.note.new.self c.args.number c.args.place c.note.result c.requires.place c.requires.askable
-    c.note.ensures.others c.note.ensures.notes c.note.ensures.err in
-    holds_listed cache _ refl refl
-    (same_files (main_in cache) (table_in cache) cache.files c.note.new.self c.note.ensures.others again.0)
-    ([], ap (λ (files : Vec Kept Global). files.items) c.note.ensures.others.0 ∙ sym (append-nil cache.files.files.items)) refl
+    holds_listed cache _ refl refl (same_files (main_in cache) (table_in cache) cache.files c.note.new.self c.note.ensures.others)
+    ([], ap (λ (files : Vec Kept Global). files.items) c.note.ensures.others.files ∙ sym (append-nil cache.files.files.items)) refl
 
 pub returns-clause-place : goal.returns-clause-place
 returns-clause-place c =
     let cache = c.args.self.now in
     let x = module_numbered cache c.args.number in
-    let again =
-    noted_again cache c.note.new.self c.args.number c.args.place c.note.result c.requires.place c.requires.askable
-    c.note.ensures.others c.note.ensures.notes c.note.ensures.err in
     has_placed _ x c.args.place
-    (again.0 (file_of (main_in cache) x)
-    ∙ replacing_at (main_in cache) (table_in cache) cache.files (file_of (main_in cache) x) c.args.place c.requires.place)
-    c.requires.askable
+    (record {
+      placed = ap (λ (entries : List (Name × OptionalPlace)). place_among entries (file_of (main_in cache) x)) c.note.ensures.others.names
+          ∙ replacing_at cache (file_of (main_in cache) x) c.args.place c.requires.place;
+      askable = c.requires.askable;
+    })

@@ -26,7 +26,7 @@ pub invariant_of-self-clause-holds_some : goal.invariant_of-self-clause-holds_so
 invariant_of-self-clause-holds_some c =
     let old = c.args.self.now in
     let more = c.number.ensures in
-    grown_some (main_in old) old.modules c.number.new.self old.files old.places_within
+    grown_some (main_in old) old.modules c.number.new.self old.files
     (numbered_more old.modules c.number.new.self c.args.x.now more.only more.numbers more.list) (sums_in old) old.holds_some
 
 pub invariant_of-self-clause-notes : goal.invariant_of-self-clause-notes

@@ -13,7 +13,7 @@ use Rattle.gm_graph.proofs.cache.Cache.read_file.Goals as goal
 pub invariant_of-self-clause-holds_some : goal.invariant_of-self-clause-holds_some
 invariant_of-self-clause-holds_some g c =
     let cache = c.args.self.now in
-    grown_some (main_in cache) cache.modules c.summarize.new.modules cache.files cache.places_within c.summarize.ensures.grows (sums_in cache) cache.holds_some
+    grown_some (main_in cache) cache.modules c.summarize.new.modules cache.files c.summarize.ensures.grows (sums_in cache) cache.holds_some
 
 pub returns-in_err-ask-clause-holds : goal.returns-in_err-ask-clause-holds
 returns-in_err-ask-clause-holds g c = holds_itself c.args.self.now

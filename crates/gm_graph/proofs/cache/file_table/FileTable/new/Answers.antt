@@ -1,11 +1,33 @@
-use Rattle.std.proofs.Common.{◌≡◌}
+use Rattle.std.proofs.Common.{◌≡◌, ◌∙◌, Bool, false, true, cond, ℕ, List, [], ◌∷◌, Some, ap, length, sym}
+use Rattle.std.specs.Prelude.{slice_index_or}
+use Rattle.std.specs.List.{All}
+use Rattle.std.specs.Map.{lookup, values_of}
+use Rattle.std.proofs.lemmas.List.Elements.{All-head, All-tail}
+use Rattle.std.proofs.lemmas.Option.{same_Some}
 use Rattle.std.proofs.lemmas.List.{take_all}
 use Rattle.std.proofs.lemmas.Map.Views.{All-values-insert_entry}
 use Rattle.gm_store.specs.contracts.files.FileNameOrd.TheImpl.{cmp-value}
 use Rattle.gm_file.specs.Main.{main_of}
-use Rattle.gm_name.specs.OptionalPlaces.{no_place}
+use Rattle.gm_name.specs.OptionalPlaces.{no_place, place_in}
+use Rattle.gm_name.specs.declared.place.OptionalPlace.{OptionalPlace}
+use Rattle.gm_store.specs.Asked.{Name, name_of, same_name}
+use Rattle.gm_graph.specs.Places.{place_among}
 use Rattle.gm_graph.proofs.Replacements.{has_replacing, one_more_line}
 use Rattle.gm_graph.proofs.cache.file_table.FileTable.new.Goals as goal
+
+nothing_noted : (places : List OptionalPlace) (number place : ℕ) → length places ≡ 0
+    → place_in (slice_index_or places number no_place) ≡ Some place → ⊥
+nothing_noted [] number place none e = cc e
+nothing_noted (first ∷ places) number place none e = cc none
+
+none_found : {K : Type 0} (entries : List (K × OptionalPlace)) (test : K → Bool) (place : OptionalPlace)
+    → All (λ held. held ≡ no_place) (values_of entries) → lookup test entries ≡ Some place → place ≡ no_place
+none_found [] test place nowhere = λ e. absurd (cc e)
+none_found (entry ∷ entries) test place nowhere =
+    elim (test entry.0) as (λ b. cond b (Some entry.1) (lookup test entries) ≡ Some place → place ≡ no_place) [
+      | true ↦ λ e. sym (same_Some entry.1 place e) ∙ All-head (λ (held : OptionalPlace). held ≡ no_place) entry.1 (values_of entries) nowhere
+      | false ↦ none_found entries test place (All-tail (λ (held : OptionalPlace). held ≡ no_place) entry.1 (values_of entries) nowhere)
+    ]
 
 pub loop-replace-preserved : goal.loop-replace-preserved
 loop-replace-preserved c = record {
@@ -17,7 +39,14 @@ loop-replace-preserved c = record {
       c.in_ok-right_name.field-0 c.none.result c.loop-replace-test.true c.replace-item.is c.in_ok-right_name.ensures c.loop-replace.invariant.named);
 }
 
-pub returns-clause-replacing : goal.returns-clause-replacing
-returns-clause-replacing c =
-    has_replacing (main_of c.args.main.now) c.loop-replace.replacing.entries c.replaces-replace-items.result.now c.replaces-replace-items.ensures
-    (rw (take_all c.loop-replace.replace-index c.replaces-replace-items.result.now c.loop-replace-test.false) at c.loop-replace.invariant.named)
+pub returns-clause-notes : goal.returns-clause-notes
+returns-clause-notes c = λ modules.
+    let entries = c.loop-replace.replacing.entries in
+    record {
+      has_replacing = has_replacing (main_of c.args.main.now) entries c.replaces-replace-items.result.now c.replaces-replace-items.ensures
+          (rw (take_all c.loop-replace.replace-index c.replaces-replace-items.result.now c.loop-replace-test.false) at c.loop-replace.invariant.named);
+      modules_noted = λ number place e. absurd (nothing_noted c.new-places.result.items number place (ap length c.new-places.ensures.items) e);
+      replacing_noted = λ name place e. ap place_in (none_found entries (λ file. same_name name (name_of file)) place c.loop-replace.invariant.nowhere e)
+          ∙ sym (ap (λ (names : List (Name × OptionalPlace)). place_among names name) c.new-names.ensures);
+      others_noted = λ name unnoted none. ap (λ (names : List (Name × OptionalPlace)). place_among names name) c.new-names.ensures;
+    }

@@ -10,7 +10,7 @@ pub returns-in-None : goal.returns-in-None
 returns-in-None c = λ main modules is.
     let files = c.args.self.now in
     let name = name_of c.args.name.now in
-    place_found main modules files name c.replacing_place.result
+    place_found files name c.replacing_place.result
     (place_by main modules files c.args.number name is
     ∙ ap (λ (o : Option ℕ). option_or o (option_and_then place_in (replacing_place files name))) (sym c.noted_place.ensures ∙ c.in-None.is)
     ∙ sym c.replacing_place.ensures)
@@ -19,6 +19,6 @@ pub returns-in-Some : goal.returns-in-Some
 returns-in-Some c = λ main modules is.
     let files = c.args.self.now in
     let name = name_of c.args.name.now in
-    place_found main modules files name (Some c.in-Some.place)
+    place_found files name (Some c.in-Some.place)
     (place_by main modules files c.args.number name is
     ∙ ap (λ (o : Option ℕ). option_or o (option_and_then place_in (replacing_place files name))) (sym c.noted_place.ensures ∙ c.in-Some.is))
