@@ -1,6 +1,7 @@
 //! From a store's answer to the contents of a dependency's file.
 
 ghost use Rattle.std.specs.Prelude.{◌≡◌, ◌≤◌, ◌<◌, ℕ, List, drop, length, Err, IfOk};
+ghost use Rattle.gm_name.specs.Kept.{IsWithinRoom, KeepsAll};
 ghost use Rattle.gm_name_table.specs.Listed.{modules_of};
 ghost use Rattle.gm_file.specs.Directives.{Lax};
 ghost use Rattle.gm_file.specs.Misreading.{IsBytesFault};
@@ -43,6 +44,8 @@ impl FileReading {
         names: &mut KnownNames,
         content: &[u8],
     ) -> Result<FileReading, NoMemory>
+        ensures kept { KeepsAll names.old names.new }
+        ensures within { IsWithinRoom names.old → IsWithinRoom names.new }
         ensures reading { IfOk result (λ read. length content.now ≤ 16777216
             → IsContentReading content.now (reading_of read)) }
         ensures retracts { IfOk result (RetractsBy (bytes content.now)) }
