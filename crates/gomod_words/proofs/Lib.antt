@@ -6,4 +6,5 @@ mod Faults
 pub mod GivenWords
 mod Limits
 mod Queries
+mod TipLemmas
 mod UsageLines

@@ -1,5 +1,5 @@
 -- Operations of `edit` that are written with a dash in front, as after `go mod edit`, and what to type instead.
-use Rattle.std.specs.Prelude.{◌&&◌, ◌||◌, ◌==◌, ◌∷◌, not, if◌then◌else◌, Bool, false, nat_eq, List, [], Option, Some, None, codes, is_some, unwrap_or}
+use Rattle.std.specs.Prelude.{◌&&◌, ◌||◌, ◌==◌, ◌∷◌, ◌++◌, not, if◌then◌else◌, Bool, false, nat_eq, List, [], Option, Some, None, codes, is_some, unwrap_or}
 use Rattle.std.specs.List.{find, flat_map, list_any, starts_with}
 use Rattle.std.specs.Option.{option_and_then, option_map_or}
 use Rattle.std.specs.Str.{bytes_eq}
@@ -82,3 +82,30 @@ left_from is_value has_file (word ∷ words) =
 -- the words that are left out of what to type after `edit`
 abbrev pub left_words : List Text → List Text
 left_words words = left_from false false words
+
+-- the name of an operation
+abbrev pub names_operation : Text → Bool
+names_operation name =
+    bytes_eq name (codes "module") || (bytes_eq name (codes "go") || (bytes_eq name (codes "require")
+    || (bytes_eq name (codes "replace") || (bytes_eq name (codes "exclude") || (bytes_eq name (codes "retract")
+    || (bytes_eq name (codes "droprequire") || (bytes_eq name (codes "dropexclude")
+    || (bytes_eq name (codes "dropreplace") || bytes_eq name (codes "dropretract")))))))))
+
+-- the name of an operation, with one dash or two, so that the next word is its value
+abbrev pub is_operation_name : Text → Bool
+is_operation_name word = begins_with_dash word && names_operation (without_dashes word)
+
+-- the words after the name of an operation that waits for its value, if there is one, where the two are one word
+abbrev pub joined_from : Option Text → List Text → List Text
+joined_from None [] = []
+joined_from (Some name) [] = name ∷ []
+joined_from None (word ∷ words) =
+    if is_operation_name word then joined_from (Some word) words else word ∷ joined_from None words
+joined_from (Some name) (word ∷ words) =
+    if begins_with_dash word
+    then name ∷ (if is_operation_name word then joined_from (Some word) words else word ∷ joined_from None words)
+    else (name ++ codes "=" ++ word) ∷ joined_from None words
+
+-- the words, where the name of an operation with a dash in front, and its value in the next word, are one word
+abbrev pub joined_words : List Text → List Text
+joined_words words = joined_from None words

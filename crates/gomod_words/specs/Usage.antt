@@ -21,7 +21,7 @@ use Rattle.clap.specs.declared.error.kind.ErrorKind.TheVariants.{DisplayHelp, Di
 use Rattle.gm_name.specs.Path.{IsPath}
 use Rattle.gm_store.specs.Proxies.{folders_in, folders_of, is_folder, marks_in, marks_of}
 use Rattle.gm_store.specs.declared.fallback.proxy_list.ProxyList.{ProxyList}
-use Rattle.gomod_words.specs.Dashed.{dashed_in, edit_words, left_words}
+use Rattle.gomod_words.specs.Dashed.{dashed_in, edit_words, joined_words, left_words}
 use Rattle.gomod_words.specs.Limits.{limit_of}
 use Rattle.gomod_words.specs.Typed.{left_text, typed_words}
 use Rattle.gomod_words.specs.declared.usage.Command.{Command}
@@ -131,8 +131,8 @@ abbrev pub is_input_twice : List Row → Bool
 is_input_twice rows = is_input (first_of (codes "mod") rows) && is_input (first_of (codes "sum") rows)
 
 -- The places of a command over a module graph: the proxy folders, which must be given; the main file, which
--- is `go.mod` if `--mod` is not given; and the go.sum, which is `None` if `--sum` is not given. Standard input is at most
--- one of the two files.
+-- is `go.mod` if `--mod` is not given; and the go.sum, which is `None` if `--sum` is not given. Standard input is at
+-- most one of the two files.
 abbrev pub ArePlaces : List Row → Places → Type 0
 ArePlaces rows places =
     IsProxy (first_of (codes "proxy") rows) places.proxy × (is_some places.proxy ≡ true)
@@ -288,12 +288,16 @@ IsLineOf text NoMemory = Unit {0}
 IsLineOf text (Line line) = string_bytes line ≡ text
 IsLineOf text _ = ⊥
 
--- what is wrong with an operation that was written with a dash in front, among these words after `edit`, what to type
--- instead, and which words that leaves out
-abbrev pub dashed_message : List ℕ → List Text → List ℕ
-dashed_message operation words =
+-- what is wrong with an operation that was written with a dash in front, where an operation is one of these words after
+-- `edit`, what to type instead, and which words that leaves out
+abbrev pub edit_message : List ℕ → List Text → List ℕ
+edit_message operation words =
     codes "error: operations have no dash: " ++ operation
     ++ codes "\n\n  tip: gomod edit" ++ typed_words (edit_words words) ++ left_text (left_words words)
+
+-- the same, where an operation may be an option with its value in the next word
+abbrev pub dashed_message : List ℕ → List Text → List ℕ
+dashed_message operation words = edit_message operation (joined_words words)
 
 -- the words after the program's name and a command's
 abbrev pub words_after : List Text → List Text

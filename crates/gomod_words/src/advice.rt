@@ -5,23 +5,23 @@
 ghost use Rattle.std.specs.Prelude.{◌≡◌, ◌++◌, IfOk, IfSome, Some, map, option_map, true};
 ghost use Rattle.std.specs.String.{string_bytes};
 ghost use Rattle.gomod_words.specs.Items.{words_in};
-ghost use Rattle.gomod_words.specs.Typed.{EndsWith, left_text, typed_words};
-ghost use Rattle.gomod_words.specs.Usage.{AskForSomething, ShowsLine, is_line_or_memory, usage_of};
+ghost use Rattle.gomod_words.specs.Tips.{IsShown, IsTipOf, is_mod, is_versions, is_word, without_name, without_versions};
+ghost use Rattle.gomod_words.specs.Typed.{left_text, typed_words};
+ghost use Rattle.gomod_words.specs.Usage.{ShowsLine, is_line_or_memory, usage_of};
 
-use crate::draft::{Draft, drafted};
+use crate::dashed::{begins_with_dash, without_dashes};
 use crate::help::usage_of;
-use crate::items::{Item, items, name_in, push_all_words, word_in};
+use crate::items::{Item, items, push_all_words, word_in};
+use crate::lines::shown;
+use crate::placed::{CACHE, Placed, has, has_cache_alone, has_operation, place_all};
 use crate::refusal::{Refusal, refusal_in};
-use crate::rows::{Row, Slot, Target, is_edit_of_go, keeps_output, row_of, target_of};
+use crate::rows::{Row, Slot, Target, is_edit_of_go, row_of, target_of};
 use crate::table::{CommandName, command_row};
-use crate::typed::{followed, push_all_typed, push_left};
-use crate::usage::{UsageFault, is_command, line};
+use crate::typed::{followed, push_left};
+use crate::usage::{UsageFault, line};
 use clap::error::ErrorKind;
 use gm_name::{ModPath, ModVersion, PathFault, VersionFault, fits};
 use std::alloc::{AllocError, Global};
-
-/// The proxy folder that is named if the words name none: the module cache of the go command, in its usual place.
-const CACHE: &str = "~/go/pkg/mod/cache/download";
 
 /// What is said of the module cache.
 const ABOUT_CACHE: &str =
@@ -117,8 +117,7 @@ fn tip_by_words(alloc: Global, has_similar: bool, words: &[&str]) -> Tip {
 /// What to type instead of these items.
 fn tip_of(alloc: Global, has_similar: bool, items: &[Item<'_>]) -> Tip {
     let name = command_in(items);
-    let mut rest = Vec::new(alloc);
-    push_rest(&mut rest, items)?;
+    let rest = without_name(alloc, items)?;
     let small = name.to_ascii_lowercase(alloc)?;
     tip_to(
         alloc,
@@ -160,24 +159,40 @@ fn is_open(name: Option<&str>) -> bool {
     }
 }
 
-/// Appends the items that are not the command.
-fn push_rest<'a>(rest: &mut Vec<Item<'a>>, items: &[Item<'a>]) -> Result<(), AllocError> {
-    let mut name = None;
-    for item in items {
-        if !is_name(name, *item) {
-            rest.push(*item)?;
-        }
-        name = named(name, *item);
-    }
-    Ok(())
-}
-
-/// Whether an item is the command, or `mod` before it.
-fn is_name(name: Option<&str>, item: Item<'_>) -> bool {
+/// Whether an item is a word that is no option.
+fn is_word(item: Item<'_>) -> bool
+    ensures { result ≡ is_word item.entry }
+{
     match item {
-        Item::Word(_) => is_open(name),
+        Item::Word(_) => true,
         _ => false,
     }
+}
+
+/// Whether an item is the word `mod`.
+fn is_mod(item: Item<'_>) -> bool
+    ensures { result ≡ is_mod item.entry }
+{
+    match item {
+        Item::Word(word) => word == "mod",
+        _ => false,
+    }
+}
+
+/// The items without the command, and without `mod` before it.
+fn without_name<'a>(alloc: Global, items: &[Item<'a>]) -> Result<Vec<Item<'a>>, AllocError>
+    ensures { IfOk result (λ rest. rest.items ≡ without_name items.now) }
+{
+    let mut rest = Vec::new(alloc);
+    let mut is_open = true;
+    for item in items {
+        if is_open && is_word(*item) {
+            is_open = is_mod(*item);
+        } else {
+            rest.push(*item)?;
+        }
+    }
+    Ok(rest)
 }
 
 /// What to type for what this word asks for, with the rest of the items.
@@ -187,7 +202,7 @@ fn tip_to(alloc: Global, target: Target, name: &str, has_similar: bool, rest: &[
         Target::File => file_tip(alloc, name, rest),
         Target::Go(command) => go_tip(alloc, command, ABOUT_GO, rest),
         Target::Get => get_tip(alloc, rest),
-        Target::Version => version_tip(alloc, rest),
+        Target::Version => version_tip(alloc, name, rest),
         Target::Help => help_tip(alloc, rest),
         Target::Unknown => Ok(None),
     }
@@ -195,12 +210,12 @@ fn tip_to(alloc: Global, target: Target, name: &str, has_similar: bool, rest: &[
 
 /// What to type for a command of gomod.
 fn ours_tip(alloc: Global, command: CommandName, has_similar: bool, rest: &[Item<'_>]) -> Tip {
-    let command = meant(command, rest);
     if has_similar && has_unknown(command, rest) {
         return Ok(None);
     }
     match command {
         CommandName::Edit => edit_tip(alloc, rest),
+        CommandName::List => list_tip(alloc, rest),
         _ => command_tip(alloc, command, rest),
     }
 }
@@ -214,29 +229,37 @@ fn edit_tip(alloc: Global, rest: &[Item<'_>]) -> Tip {
     }
 }
 
-/// The command that does what these words ask for: `go list -m -versions` lists versions.
-fn meant(command: CommandName, rest: &[Item<'_>]) -> CommandName {
-    match command {
-        CommandName::List => if has_versions(rest) {
-            CommandName::Versions
-        } else {
-            command
-        },
-        _ => command,
+/// What to type for `list`: `go list -m -versions` lists versions.
+fn list_tip(alloc: Global, rest: &[Item<'_>]) -> Tip {
+    if rest.iter().any(|item| is_versions(*item)) {
+        let rest = without_versions(alloc, rest)?;
+        command_tip(alloc, CommandName::Versions, rest.as_slice())
+    } else {
+        command_tip(alloc, CommandName::List, rest)
     }
-}
-
-/// Whether the items have the option `-versions`.
-fn has_versions(rest: &[Item<'_>]) -> bool {
-    rest.iter().any(|item| is_versions(*item))
 }
 
 /// Whether the item is the option `-versions`.
-fn is_versions(item: Item<'_>) -> bool {
-    match name_in(item) {
-        Some(name) => name == "versions",
-        None => false,
+fn is_versions(item: Item<'_>) -> bool
+    ensures { result ≡ is_versions item.entry }
+{
+    match item {
+        Item::Flag(option) => without_dashes(option) == "versions",
+        _ => false,
     }
+}
+
+/// The items without the options `-versions`.
+fn without_versions<'a>(alloc: Global, items: &[Item<'a>]) -> Result<Vec<Item<'a>>, AllocError>
+    ensures { IfOk result (λ rest. rest.items ≡ without_versions items.now) }
+{
+    let mut rest = Vec::new(alloc);
+    for item in items {
+        if !is_versions(*item) {
+            rest.push(*item)?;
+        }
+    }
+    Ok(rest)
 }
 
 /// Whether the items of this command have an option that is not known.
@@ -272,11 +295,15 @@ fn go_tip(alloc: Global, command: &str, about: &str, rest: &[Item<'_>]) -> Tip
 }
 
 /// What to type for the version: of gomod, or of the programs that the words name.
-fn version_tip(alloc: Global, rest: &[Item<'_>]) -> Tip {
+fn version_tip(alloc: Global, name: &str, rest: &[Item<'_>]) -> Tip {
     match rest {
-        [Item::Word(_), ..] => go_tip(alloc, "go version", ABOUT_GO, rest),
-        [Item::Flag(_), _, ..] => go_tip(alloc, "go version", ABOUT_GO, rest),
-        _ => copied(alloc, Some("gomod --version")),
+        [] => copied(alloc, Some("gomod --version")),
+        [_] => if begins_with_dash(name) {
+            copied(alloc, Some("gomod --version"))
+        } else {
+            go_tip(alloc, "go version", ABOUT_GO, rest)
+        },
+        _ => go_tip(alloc, "go version", ABOUT_GO, rest),
     }
 }
 
@@ -308,122 +335,84 @@ fn with_left(alloc: Global, text: &str, rest: &[Item<'_>]) -> Tip
 }
 
 /// A command of gomod with what it takes of these items.
-fn command_tip(alloc: Global, command: CommandName, rest: &[Item<'_>]) -> Tip {
+fn command_tip(alloc: Global, command: CommandName, items: &[Item<'_>]) -> Tip
+    ensures { IfOk result (λ tip. IfSome tip (λ text. IsTipOf items.now (string_bytes text))) }
+{
     match command {
-        CommandName::Fmt | CommandName::Edit => over_file(alloc, command, rest),
-        CommandName::Chain | CommandName::Versions => over_path(alloc, command, rest),
-        _ => over_graph(alloc, command, "", &drafted(alloc, command, rest)?),
+        CommandName::Fmt | CommandName::Edit => over_file(alloc, command, items),
+        CommandName::Chain | CommandName::Versions => over_path(alloc, command, items),
+        _ => over_graph(alloc, command, "", items),
     }
 }
 
 /// A command over one file: `edit` if there is an operation, otherwise `fmt`.
-fn over_file(alloc: Global, command: CommandName, rest: &[Item<'_>]) -> Tip {
-    let draft = drafted(alloc, command, rest)?;
-    if draft.has_operations() {
-        over_operations(alloc, &draft)
-    } else {
-        over_print(alloc, command, &draft)
-    }
-}
-
-/// The file of a command over one file.
-fn file_of<'d>(draft: &'d Draft<'_>) -> &'d str {
-    draft.text(Slot::Operand).unwrap_or("go.mod")
-}
-
-/// `edit` of a file with operations.
-fn over_operations(alloc: Global, draft: &Draft<'_>) -> Tip {
-    let mut operations = Vec::new(alloc);
-    draft.push_operations(alloc, &mut operations)?;
-    let words = edit_words(alloc, file_of(draft), operations.as_slice())?;
-    let end = output_end(alloc, draft)?;
-    finished(alloc, words.as_slice(), end.as_str(), &[], draft)
-}
-
-/// `fmt` of a file, in the place of this command.
-fn over_print(alloc: Global, command: CommandName, draft: &Draft<'_>) -> Tip {
-    let end = output_end(alloc, draft)?;
-    let notes = &[about_file(command, draft)];
-    finished(
-        alloc,
-        &["gomod", "fmt", file_of(draft)],
-        end.as_str(),
-        notes,
-        draft,
-    )
+#[tactic(auto, using(crate::proofs::TipLemmas::of_items))]
+fn over_file(alloc: Global, command: CommandName, items: &[Item<'_>]) -> Tip
+    ensures { IfOk result (λ tip. IfSome tip (λ text. IsTipOf items.now (string_bytes text))) }
+{
+    let placed = place_all(alloc, command, items)?;
+    let has_operation = has_operation(placed.as_slice());
+    let name = if has_operation { "edit" } else { "fmt" };
+    let about = about_operation(
+        command,
+        has_operation || has(placed.as_slice(), Slot::Print),
+    );
+    shown(alloc, name, &["go.mod"], &[], &[about], placed.as_slice())
 }
 
 /// What is said of `fmt` in the place of this command.
-fn about_file(command: CommandName, draft: &Draft<'_>) -> &'static str {
+fn about_operation(command: CommandName, says_what: bool) -> &'static str {
     match command {
-        CommandName::Edit => if draft.has(Slot::Print) {
-            ""
-        } else {
-            ABOUT_OPERATION
-        },
+        CommandName::Edit => if says_what { "" } else { ABOUT_OPERATION },
         _ => "",
     }
 }
 
-/// The words of `edit` with this file and these operations.
-fn edit_words<'a>(
-    alloc: Global,
-    file: &'a str,
-    operations: &'a [String],
-) -> Result<Vec<&'a str>, AllocError> {
-    let mut words = Vec::from_slice(alloc, &["gomod", "edit", file])?;
-    for operation in operations {
-        words.push(operation.as_str())?;
-    }
-    Ok(words)
-}
-
-/// What is done with the output of a command over a file.
-fn output_end(alloc: Global, draft: &Draft<'_>) -> Result<String, AllocError> {
-    match draft.text(Slot::Output) {
-        Some(option) => end_of(alloc, file_of(draft), option),
-        None => Ok(String::new(alloc)),
-    }
-}
-
-/// What this option does with the output of a command over a file: it keeps it there, or shows the difference. With
-/// standard input nothing is done.
-fn end_of(alloc: Global, file: &str, option: &str) -> Result<String, AllocError> {
-    if file == "-" {
-        Ok(String::new(alloc))
-    } else if keeps_output(option) {
-        followed(alloc, " > go.mod.new && mv go.mod.new", &[file])
-    } else {
-        followed(alloc, " | diff", &[file, "-"])
-    }
-}
-
 /// A command on one module, or the list of modules if none is named.
-fn over_path(alloc: Global, command: CommandName, rest: &[Item<'_>]) -> Tip {
-    let named = drafted(alloc, command, rest)?;
-    if named.has(Slot::Operand) {
-        over_graph(alloc, command, "", &named)
+#[tactic(auto, using(crate::proofs::TipLemmas::of_items))]
+fn over_path(alloc: Global, command: CommandName, items: &[Item<'_>]) -> Tip
+    ensures { IfOk result (λ tip. IfSome tip (λ text. IsTipOf items.now (string_bytes text))) }
+{
+    let placed = place_all(alloc, command, items)?;
+    if has(placed.as_slice(), Slot::Operand) {
+        graph_line(alloc, command, "", placed.as_slice())
     } else {
-        over_graph(
-            alloc,
-            CommandName::List,
-            ABOUT_PATH,
-            &drafted(alloc, CommandName::List, rest)?,
-        )
+        over_graph(alloc, CommandName::List, ABOUT_PATH, items)
     }
 }
 
 /// A command over proxy folders, and this after it.
-fn over_graph(alloc: Global, command: CommandName, about: &'static str, draft: &Draft<'_>) -> Tip {
-    let proxies = proxies_in(alloc, draft.proxies.as_slice())?;
-    let words = graph_words(alloc, command, proxies.as_str(), draft)?;
-    let notes = &[about_folder(draft), about_json(draft), about];
-    finished(alloc, words.as_slice(), "", notes, draft)
+#[tactic(auto, using(crate::proofs::TipLemmas::of_items))]
+fn over_graph(alloc: Global, command: CommandName, about: &'static str, items: &[Item<'_>]) -> Tip
+    ensures { IfOk result (λ tip. IfSome tip (λ text. IsTipOf items.now (string_bytes text))) }
+{
+    let placed = place_all(alloc, command, items)?;
+    graph_line(alloc, command, about, placed.as_slice())
+}
+
+/// The tip for items of a command over proxy folders that are placed, and this after it.
+fn graph_line(
+    alloc: Global,
+    command: CommandName,
+    about: &'static str,
+    placed: &[Placed<'_>],
+) -> Tip
+    ensures { IfOk result (λ tip. IfSome tip (λ text. IsShown placed.now (string_bytes text))) }
+{
+    let notes = &[about_folder(placed), about_json(placed), about];
+    shown(
+        alloc,
+        command_row(command).name,
+        &[],
+        &[CACHE],
+        notes,
+        placed,
+    )
 }
 
 /// What is said of the proxy folders.
-fn about_folder(draft: &Draft<'_>) -> &'static str {
-    if draft.proxies.is_empty() {
+fn about_folder(placed: &[Placed<'_>]) -> &'static str {
+    if has_cache_alone(placed) {
         ABOUT_CACHE
     } else {
         ""
@@ -431,124 +420,12 @@ fn about_folder(draft: &Draft<'_>) -> &'static str {
 }
 
 /// What is said of JSON.
-fn about_json(draft: &Draft<'_>) -> &'static str {
-    if draft.has(Slot::Json) {
+fn about_json(placed: &[Placed<'_>]) -> &'static str {
+    if has(placed, Slot::Json) {
         ABOUT_JSON
     } else {
         ""
     }
-}
-
-/// The lists of proxy folders in one, or the module cache.
-fn proxies_in(alloc: Global, proxies: &[&str]) -> Result<String, AllocError> {
-    let [first, rest @ ..] = proxies else {
-        return String::from_str(alloc, CACHE);
-    };
-    let mut text = String::from_str(alloc, *first)?;
-    for folders in rest {
-        text.push_str(",")?;
-        text.push_str(*folders)?;
-    }
-    Ok(text)
-}
-
-/// The words of a command over these proxy folders.
-fn graph_words<'a>(
-    alloc: Global,
-    command: CommandName,
-    proxies: &'a str,
-    draft: &'a Draft<'_>,
-) -> Result<Vec<&'a str>, AllocError> {
-    let mut words = Vec::from_slice(alloc, &["gomod", command_row(command).name])?;
-    push_part(&mut words, &[], draft.text(Slot::Operand))?;
-    words.extend_from_slice(&["--proxy", proxies])?;
-    push_options(&mut words, draft)?;
-    Ok(words)
-}
-
-/// Appends the options of a command over proxy folders.
-fn push_options<'a>(words: &mut Vec<&'a str>, draft: &'a Draft<'_>) -> Result<(), AllocError> {
-    push_part(words, &["--mod"], draft.text(Slot::Main))?;
-    push_part(words, &["--sum"], draft.text(Slot::Sums))?;
-    push_part(words, &["--after"], draft.text(Slot::After))?;
-    push_part(words, &["--limit"], draft.text(Slot::Limit))?;
-    if draft.has(Slot::Retracted) {
-        words.push("--retracted")?;
-    }
-    Ok(())
-}
-
-/// Appends a part after its option, if there is such a part.
-fn push_part<'a>(
-    words: &mut Vec<&'a str>,
-    option: &[&'a str],
-    part: Option<&'a str>,
-) -> Result<(), AllocError> {
-    if let Some(text) = part {
-        words.extend_from_slice(option)?;
-        words.push(text)?;
-    }
-    Ok(())
-}
-
-/// The command line with these words and this end, what is said of it, and the words that it leaves out, if it asks
-/// for something.
-fn finished(alloc: Global, words: &[&str], end: &str, notes: &[&str], draft: &Draft<'_>) -> Tip
-    ensures asks { IfOk result (λ tip. IfSome tip (λ _. AskForSomething (map (λ word. word.now) words.now))) }
-    ensures left { IfOk result (λ tip. IfSome tip (λ text.
-        EndsWith (left_text (map (λ word. word.now) draft.now.left.items)) (string_bytes text))) }
-{
-    if !is_command(alloc, words)? {
-        return Ok(None);
-    }
-    let mut tip = command_line(alloc, words, end, draft.text(Slot::Folder))?;
-    push_all(&mut tip, notes)?;
-    push_left(&mut tip, draft.left.as_slice())?;
-    Ok(Some(tip))
-}
-
-/// Appends texts.
-fn push_all(tip: &mut String, texts: &[&str]) -> Result<(), AllocError> {
-    for text in texts {
-        tip.push_str(*text)?;
-    }
-    Ok(())
-}
-
-/// The command line with these words and this end, in this folder.
-fn command_line(
-    alloc: Global,
-    words: &[&str],
-    end: &str,
-    folder: Option<&str>,
-) -> Result<String, AllocError> {
-    match folder {
-        Some(folder) => in_folder(alloc, words, end, folder),
-        None => {
-            let mut line = String::new(alloc);
-            push_line(&mut line, words, end)?;
-            Ok(line)
-        }
-    }
-}
-
-/// The command line with these words and this end, in a folder.
-fn in_folder(alloc: Global, words: &[&str], end: &str, folder: &str) -> Result<String, AllocError> {
-    let mut line = followed(alloc, "(cd", &[folder])?;
-    line.push_str(" && ")?;
-    push_line(&mut line, words, end)?;
-    line.push_str(")")?;
-    Ok(line)
-}
-
-/// Appends a command line with these words and this end.
-fn push_line(line: &mut String, words: &[&str], end: &str) -> Result<(), AllocError> {
-    let [program, rest @ ..] = words else {
-        return Ok(());
-    };
-    line.push_str(*program)?;
-    push_all_typed(line, rest)?;
-    line.push_str(end)
 }
 
 /// The requirement of a module at a version can be put into the main file. Other words are for go.

@@ -1,16 +1,18 @@
 //! Operations of `edit` that are written with a dash in front, as after `go mod edit`, and what to type instead. The
 //! parser would take such a word for an option that is unknown.
 
-ghost use Rattle.std.specs.Prelude.{◌≡◌, ◌∷◌, ◌++◌, IfOk, IfSome, OnOk, codes, false, is_some, map, nat_eq, unwrap_or};
+ghost use Rattle.std.specs.Prelude.{◌≡◌, ◌∷◌, ◌++◌, ℕ, IfOk, IfSome, List, OnOk, codes, false, is_some, map, nat_eq, unwrap_or};
 ghost use Rattle.std.specs.List.{find, flat_map, list_any, starts_with};
 ghost use Rattle.std.specs.Option.{option_copied};
 ghost use Rattle.std.specs.String.{string_bytes};
 ghost use Rattle.clap.specs.Lexer.{strip_byte, without_minus};
 ghost use Rattle.gomod_words.specs.Typed.{typed_words};
-ghost use Rattle.gomod_words.specs.Usage.{IsLineOf, dashed_message, dashed_text, words_after};
-ghost use Rattle.gomod_words.specs.Dashed.{begins_with_dash, dashed_in, edit_words, free_from, is_file, is_free, is_operation, left_from, left_words, names_value, operation_in, operations_in, takes_value, without_dashes};
+ghost use Rattle.gomod_words.specs.Usage.{IsLineOf, dashed_message, dashed_text, edit_message, words_after};
+ghost use Rattle.gomod_words.specs.Items.{waiting};
+ghost use Rattle.gomod_words.specs.Dashed.{begins_with_dash, dashed_in, edit_words, free_from, is_file, is_free, is_operation, is_operation_name, joined_from, joined_words, left_from, left_words, names_operation, names_value, operation_in, operations_in, takes_value, without_dashes};
 
 use crate::help::usage_of;
+use crate::lines::push_texts;
 use crate::typed::{followed, push_left};
 use crate::usage::{UsageFault, line};
 use std::alloc::{AllocError, Global};
@@ -200,11 +202,102 @@ pub(crate) fn words_after<'w, 'a>(words: &'w [&'a str]) -> &'w [&'a str]
     }
 }
 
+/// Whether this is the name of an operation.
+pub(crate) fn names_operation(name: &str) -> bool
+    ensures { result ≡ names_operation name.now }
+{
+    match name {
+        "module" | "go" | "require" | "replace" | "exclude" | "retract" => true,
+        "droprequire" | "dropexclude" | "dropreplace" | "dropretract" => true,
+        _ => false,
+    }
+}
+
+/// Whether a word is the name of an operation, with one dash or two, so that the next word is its value.
+fn is_operation_name(word: &str) -> bool
+    ensures { result ≡ is_operation_name word.now }
+{
+    begins_with_dash(word) && names_operation(without_dashes(word))
+}
+
+/// An option and its value in one word.
+fn in_one_word(alloc: Global, option: &str, value: &str) -> Result<String, AllocError>
+    ensures { IfOk result (λ text. string_bytes text ≡ option.now ++ codes "=" ++ value.now) }
+{
+    let mut text = String::from_str(alloc, option)?;
+    text.push_str("=")?;
+    text.push_str(value)?;
+    Ok(text)
+}
+
+/// Appends the name of an operation that has no value, if there is one.
+fn push_waiting(
+    alloc: Global,
+    words: &mut Vec<String>,
+    name: Option<&str>,
+) -> Result<(), AllocError>
+    ensures { OnOk result (map string_bytes words.new.items ≡ map string_bytes words.old.items ++ waiting name.entry) }
+{
+    if let Some(name) = name {
+        words.push(String::from_str(alloc, name)?)?;
+    }
+    Ok(())
+}
+
+/// Appends a word, after the name of an operation whose value it may be. Gives the word instead if it is such a name.
+fn push_joined<'a>(
+    alloc: Global,
+    words: &mut Vec<String>,
+    name: Option<&'a str>,
+    word: &'a str,
+) -> Result<Option<&'a str>, AllocError>
+    ensures { (rest : List (List ℕ)) → IfOk result (λ next.
+        map string_bytes words.new.items ++ joined_from (option_copied next) rest
+        ≡ map string_bytes words.old.items ++ joined_from (option_copied name.entry) (word.now ∷ rest)) }
+{
+    if let Some(name) = name {
+        if !begins_with_dash(word) {
+            words.push(in_one_word(alloc, name, word)?)?;
+            return Ok(None);
+        }
+    }
+    push_waiting(alloc, words, name)?;
+    if is_operation_name(word) {
+        return Ok(Some(word));
+    }
+    words.push(String::from_str(alloc, word)?)?;
+    Ok(None)
+}
+
+/// The words, where the name of an operation with a dash in front, and its value in the next word, are one word.
+fn joined_words(alloc: Global, words: &[&str]) -> Result<Vec<String>, AllocError>
+    ensures { IfOk result (λ joined. map string_bytes joined.items ≡ joined_words (map (λ word. word.now) words.now)) }
+{
+    let mut joined = Vec::new(alloc);
+    let mut name = None;
+    for word in words {
+        name = push_joined(alloc, &mut joined, name, *word)?;
+    }
+    push_waiting(alloc, &mut joined, name)?;
+    Ok(joined)
+}
+
 /// What is wrong with an operation that was written with a dash in front, among these words after `edit`, what to type
 /// instead, and which words that leaves out.
 fn dashed_message(alloc: Global, operation: &str, words: &[&str]) -> Result<String, AllocError>
     ensures { IfOk result (λ message. string_bytes message
         ≡ dashed_message operation.now (map (λ word. word.now) words.now)) }
+{
+    let joined = joined_words(alloc, words)?;
+    let mut words = Vec::new(alloc);
+    push_texts(&mut words, joined.as_slice())?;
+    edit_message(alloc, operation, words.as_slice())
+}
+
+/// What is wrong with it, where an operation is one of these words after `edit`.
+fn edit_message(alloc: Global, operation: &str, words: &[&str]) -> Result<String, AllocError>
+    ensures { IfOk result (λ message. string_bytes message
+        ≡ edit_message operation.now (map (λ word. word.now) words.now)) }
 {
     let typed = edit_words(alloc, words)?;
     let left = left_words(alloc, words)?;

@@ -3,7 +3,7 @@
 ghost use Rattle.std.specs.Prelude.{◌≡◌, ◌∷◌, ◌++◌, IfOk, List, [], OnOk, map};
 ghost use Rattle.gomod_words.specs.Items.{waiting, words_in, words_of};
 
-use crate::dashed::{begins_with_dash, without_dashes};
+use crate::dashed::{begins_with_dash, names_operation, without_dashes};
 use std::alloc::{AllocError, Global};
 
 /// An option with its value, or another word.
@@ -151,15 +151,6 @@ fn names_value(name: &str) -> bool {
         "proxy" | "mod" | "modfile" | "sum" | "after" | "limit" => true,
         "C" | "color" | "f" | "format" | "o" | "output" | "reuse" | "tags" => true,
         _ => names_operation(name) || names_operation_of_go(name),
-    }
-}
-
-/// Whether this is the name of an operation.
-pub(crate) fn names_operation(name: &str) -> bool {
-    match name {
-        "module" | "go" | "require" | "replace" | "exclude" | "retract" => true,
-        "droprequire" | "dropreplace" | "dropexclude" | "dropretract" => true,
-        _ => false,
     }
 }
 

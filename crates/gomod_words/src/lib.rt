@@ -14,11 +14,12 @@
 mod advice;
 mod command;
 mod dashed;
-mod draft;
 mod given;
 mod help;
 mod items;
 pub mod laws;
+mod lines;
+mod placed;
 mod query;
 mod refusal;
 mod rows;

@@ -1,7 +1,7 @@
 //! The table of what go users type: which command their words are for, and what becomes of each word.
 
-use crate::dashed::{operation_in, without_dashes};
-use crate::items::{Item, name_in, names_operation, names_operation_of_go, value_in, word_in};
+use crate::dashed::{names_operation, operation_in};
+use crate::items::{Item, name_in, names_operation_of_go, value_in, word_in};
 use crate::query::limit_in;
 use crate::table::CommandName;
 
@@ -27,13 +27,13 @@ pub(crate) enum Target {
 /// What a word in the place of a command asks for, in small letters.
 pub(crate) fn target_of(name: &str) -> Target {
     match name {
-        "fmt" => Target::Ours(CommandName::Fmt),
+        "fmt" | "format" => Target::Ours(CommandName::Fmt),
         "edit" => Target::Ours(CommandName::Edit),
-        "graph" => Target::Ours(CommandName::Graph),
+        "graph" | "tree" => Target::Ours(CommandName::Graph),
         "list" | "ls" | "all" | "-m" => Target::Ours(CommandName::List),
         "chain" | "why" => Target::Ours(CommandName::Chain),
         "versions" => Target::Ours(CommandName::Versions),
-        "get" => Target::Get,
+        "get" | "add" => Target::Get,
         "version" | "-version" | "-v" => Target::Version,
         "help" | "mod" | "" | "--" => Target::Help,
         _ => target_of_go(name),
@@ -57,6 +57,7 @@ fn target_of_go(name: &str) -> Target {
         "run" => Target::Go("go run"),
         "test" => Target::Go("go test"),
         "tool" => Target::Go("go tool"),
+        "update" | "upgrade" => Target::Go("go get -u"),
         "vet" => Target::Go("go vet"),
         "work" => Target::Go("go work"),
         _ => {
@@ -92,19 +93,21 @@ pub(crate) enum Slot {
     Print,
     /// JSON is asked for.
     Json,
+    /// The module cache of the go command, where `--proxy` names no folder.
+    Cache,
 }
 
 /// What becomes of an option with its value, or of another word.
 #[derive(Clone, Copy)]
 pub(crate) enum Row<'a> {
-    /// The command does without it what it asks for.
-    Same,
     /// It is this part of the command line, with this text.
     Part(Slot, &'a str),
-    /// It is PATH, perhaps with a version.
-    Path(&'a str),
+    /// It is PATH, with a version that is left out.
+    Release(&'a str, &'a str),
     /// It is a list of proxy folders.
     Proxy(&'a str),
+    /// It is the place of a list of proxy folders, and names none.
+    NoFolder,
     /// It is an operation.
     Operation,
     /// There is nothing like it.
@@ -126,15 +129,16 @@ pub(crate) fn row_of<'a>(command: CommandName, item: Item<'a>) -> Row<'a> {
 fn word_row(command: CommandName, word: &str) -> Row<'_> {
     match command {
         CommandName::Fmt | CommandName::Edit => file_word_row(word),
-        CommandName::Chain | CommandName::Versions => Row::Path(word),
-        CommandName::List => {
-            if word == "all" {
-                Row::Same
-            } else {
-                Row::LeftOut
-            }
-        }
-        CommandName::Graph => Row::LeftOut,
+        CommandName::Chain | CommandName::Versions => path_row(word),
+        CommandName::List | CommandName::Graph => Row::LeftOut,
+    }
+}
+
+/// What becomes of a word that is PATH, perhaps with a version.
+fn path_row(word: &str) -> Row<'_> {
+    match word.split_once('@') {
+        Some((path, _)) => Row::Release(path, word.strip_prefix(path).unwrap_or("")),
+        None => Row::Part(Slot::Operand, word),
     }
 }
 
@@ -166,14 +170,6 @@ fn file_option_row<'a>(name: &str, item: Item<'a>) -> Row<'a> {
     }
 }
 
-/// Whether an option that says what is done with the output keeps it in the file.
-pub(crate) fn keeps_output(option: &str) -> bool {
-    match without_dashes(option) {
-        "w" | "write" | "i" | "in-place" => true,
-        _ => false,
-    }
-}
-
 /// What becomes of an option of a command over one file that says nothing of the output.
 fn operation_row<'a>(name: &str, item: Item<'a>) -> Row<'a> {
     if value_in(item).is_some() && names_operation(name) {
@@ -186,7 +182,6 @@ fn operation_row<'a>(name: &str, item: Item<'a>) -> Row<'a> {
 /// What becomes of an option of `versions`.
 fn versions_row<'a>(name: &str, item: Item<'a>) -> Row<'a> {
     match name {
-        "m" | "versions" => Row::Same,
         "proxy" => proxy_row(value_in(item)),
         "retracted" => Row::Part(Slot::Retracted, word_in(item)),
         "json" => Row::Part(Slot::Json, word_in(item)),
@@ -206,7 +201,6 @@ fn list_row<'a>(name: &str, item: Item<'a>) -> Row<'a> {
 /// What becomes of an option of each command over a module graph.
 fn graph_row<'a>(name: &str, item: Item<'a>) -> Row<'a> {
     match name {
-        "m" => Row::Same,
         "proxy" => proxy_row(value_in(item)),
         "mod" => main_row(value_in(item)),
         "modfile" => Row::Part(Slot::Main, value_in(item).unwrap_or("go.mod")),
@@ -225,11 +219,11 @@ fn format_row<'a>(item: Item<'a>) -> Row<'a> {
     }
 }
 
-/// What becomes of `--proxy` with this value. Without one it is the module cache, as if there were no `--proxy`.
+/// What becomes of `--proxy` with this value.
 fn proxy_row(value: Option<&str>) -> Row<'_> {
     match value {
         Some(folders) => Row::Proxy(folders),
-        None => Row::Same,
+        None => Row::NoFolder,
     }
 }
 

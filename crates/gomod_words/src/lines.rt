@@ -1,0 +1,342 @@
+//! The command lines that tips show: their words, and how they are typed.
+
+ghost use Rattle.std.specs.Prelude.{◌≡◌, ◌∷◌, ◌++◌, IfOk, IfSome, OnOk, [], codes, flat_map, map};
+ghost use Rattle.std.specs.String.{string_bytes};
+ghost use Rattle.gomod_words.specs.Placed.{after_program, command_text, end_by, end_in, end_of, folders_in, keeps_output, left_in, line_text, operands_in, operations_in, options_in, or_else, places_in, proxy_words, second_of, shown_words};
+ghost use Rattle.gomod_words.specs.Tips.{IsShown, IsTold};
+ghost use Rattle.gomod_words.specs.Typed.{left_text};
+
+use crate::dashed::without_dashes;
+use crate::placed::{
+    Placed, push_folders, push_left_words, push_operands, push_operations, push_options,
+    push_places,
+};
+use crate::rows::{Row, Slot};
+use crate::typed::{followed, push_left};
+use crate::usage::is_command;
+use std::alloc::{AllocError, Global};
+
+/// Appends copies of words.
+fn push_copies(alloc: Global, texts: &mut Vec<String>, words: &[&str]) -> Result<(), AllocError>
+    ensures { OnOk result (map string_bytes texts.new.items
+        ≡ map string_bytes texts.old.items ++ map (λ word. word.now) words.now) }
+{
+    for word in words {
+        texts.push(String::from_str(alloc, word)?)?;
+    }
+    Ok(())
+}
+
+/// Appends copies of words, or of others if there are none.
+fn push_or_else(
+    alloc: Global,
+    texts: &mut Vec<String>,
+    others: &[&str],
+    words: &[&str],
+) -> Result<(), AllocError>
+    ensures { OnOk result (map string_bytes texts.new.items ≡ map string_bytes texts.old.items
+        ++ or_else (map (λ word. word.now) others.now) (map (λ word. word.now) words.now)) }
+{
+    match words {
+        [] => push_copies(alloc, texts, others),
+        _ => push_copies(alloc, texts, words),
+    }
+}
+
+/// Appends lists of folders, each after a comma.
+fn push_lists(text: &mut String, lists: &[&str]) -> Result<(), AllocError>
+    ensures { OnOk result (string_bytes text.new ≡ string_bytes text.old
+        ++ flat_map (λ list. codes "," ++ list) (map (λ list. list.now) lists.now)) }
+{
+    for list in lists {
+        text.push_str(",")?;
+        text.push_str(list)?;
+    }
+    Ok(())
+}
+
+/// Appends `--proxy` with the lists of folders in one, unless there is none.
+fn push_list(alloc: Global, texts: &mut Vec<String>, lists: &[&str]) -> Result<(), AllocError>
+    ensures { OnOk result (map string_bytes texts.new.items
+        ≡ map string_bytes texts.old.items ++ proxy_words (map (λ list. list.now) lists.now)) }
+{
+    if let [first, rest @ ..] = lists {
+        texts.push(String::from_str(alloc, "--proxy")?)?;
+        texts.push(list_text(alloc, first, rest)?)?;
+    }
+    Ok(())
+}
+
+/// The same with other lists if there is none.
+fn push_list_or_else(
+    alloc: Global,
+    texts: &mut Vec<String>,
+    others: &[&str],
+    lists: &[&str],
+) -> Result<(), AllocError>
+    ensures { OnOk result (map string_bytes texts.new.items ≡ map string_bytes texts.old.items
+        ++ proxy_words (or_else (map (λ list. list.now) others.now) (map (λ list. list.now) lists.now))) }
+{
+    match lists {
+        [] => push_list(alloc, texts, others),
+        _ => push_list(alloc, texts, lists),
+    }
+}
+
+/// These lists of folders in one.
+fn list_text(alloc: Global, first: &str, rest: &[&str]) -> Result<String, AllocError>
+    ensures { IfOk result (λ text. string_bytes text ≡ first.now
+        ++ flat_map (λ list. codes "," ++ list) (map (λ list. list.now) rest.now)) }
+{
+    let mut text = String::from_str(alloc, first)?;
+    push_lists(&mut text, rest)?;
+    Ok(text)
+}
+
+/// Appends texts to words.
+pub(crate) fn push_texts<'a>(
+    words: &mut Vec<&'a str>,
+    texts: &'a [String],
+) -> Result<(), AllocError>
+    ensures { OnOk result (map (λ word. word.now) words.new.items
+        ≡ map (λ word. word.now) words.old.items ++ map string_bytes texts.now) }
+{
+    for text in texts {
+        words.push(text.as_str())?;
+    }
+    Ok(())
+}
+
+/// Appends FILE or PATH of the items, or others if there is none.
+fn push_files(
+    alloc: Global,
+    texts: &mut Vec<String>,
+    others: &[&str],
+    placed: &[Placed<'_>],
+) -> Result<(), AllocError>
+    ensures { OnOk result (map string_bytes texts.new.items ≡ map string_bytes texts.old.items
+        ++ or_else (map (λ word. word.now) others.now) (operands_in placed.now)) }
+{
+    let mut named = Vec::new(alloc);
+    push_operands(&mut named, placed)?;
+    push_or_else(alloc, texts, others, named.as_slice())
+}
+
+/// Appends `--proxy` with the lists of folders of the items in one, or with others if there is none.
+fn push_proxy(
+    alloc: Global,
+    texts: &mut Vec<String>,
+    others: &[&str],
+    placed: &[Placed<'_>],
+) -> Result<(), AllocError>
+    ensures { OnOk result (map string_bytes texts.new.items ≡ map string_bytes texts.old.items
+        ++ proxy_words (or_else (map (λ list. list.now) others.now) (folders_in placed.now))) }
+{
+    let mut named = Vec::new(alloc);
+    push_folders(&mut named, placed)?;
+    push_list_or_else(alloc, texts, others, named.as_slice())
+}
+
+/// Appends the options of the items but `--proxy`.
+fn push_other_options(
+    alloc: Global,
+    texts: &mut Vec<String>,
+    placed: &[Placed<'_>],
+) -> Result<(), AllocError>
+    ensures { OnOk result (map string_bytes texts.new.items
+        ≡ map string_bytes texts.old.items ++ options_in placed.now) }
+{
+    let mut words = Vec::new(alloc);
+    push_options(&mut words, placed)?;
+    push_copies(alloc, texts, words.as_slice())
+}
+
+/// The words of a command line of gomod: the name of a command, FILE or PATH, `--proxy`, the other options and the
+/// operations.
+fn shown_words(
+    alloc: Global,
+    name: &str,
+    files: &[&str],
+    folders: &[&str],
+    placed: &[Placed<'_>],
+) -> Result<Vec<String>, AllocError>
+    ensures { IfOk result (λ texts. map string_bytes texts.items ≡ shown_words name.now
+        (map (λ word. word.now) files.now) (map (λ list. list.now) folders.now) placed.now) }
+{
+    let mut texts = Vec::new(alloc);
+    push_copies(alloc, &mut texts, &["gomod", name])?;
+    push_files(alloc, &mut texts, files, placed)?;
+    push_proxy(alloc, &mut texts, folders, placed)?;
+    push_other_options(alloc, &mut texts, placed)?;
+    push_operations(alloc, &mut texts, placed)?;
+    Ok(texts)
+}
+
+/// The word after a command's name. Without one it is `go.mod`.
+fn second_of<'a>(words: &[&'a str]) -> &'a str
+    ensures { result.now ≡ second_of (map (λ word. word.now) words.now) }
+{
+    match words {
+        [_, second, ..] => second,
+        _ => "go.mod",
+    }
+}
+
+/// Whether an option says that the output is kept in the file.
+fn keeps_output(option: &str) -> bool
+    ensures { result ≡ keeps_output option.now }
+{
+    matches!(without_dashes(option), "w" | "write" | "i" | "in-place")
+}
+
+/// What an option does with the output of a command over this file: it keeps it there, or shows the difference.
+fn end_of(alloc: Global, file: &str, option: &str) -> Result<String, AllocError>
+    ensures { IfOk result (λ end. string_bytes end ≡ end_of file.now option.now) }
+{
+    if keeps_output(option) {
+        followed(alloc, " > go.mod.new && mv go.mod.new", &[file])
+    } else {
+        followed(alloc, " | diff", &[file, "-"])
+    }
+}
+
+/// Appends what is done with the output, if an option says so.
+fn push_end(alloc: Global, text: &mut String, file: &str, row: Row<'_>) -> Result<(), AllocError>
+    ensures { OnOk result (string_bytes text.new ≡ string_bytes text.old ++ end_by file.now row.entry) }
+{
+    if let Row::Part(Slot::Output, option) = row {
+        let end = end_of(alloc, file, option)?;
+        text.push_str(end.as_str())?;
+    }
+    Ok(())
+}
+
+/// What is done with the output of a command over this file.
+fn end_in(alloc: Global, file: &str, placed: &[Placed<'_>]) -> Result<String, AllocError>
+    ensures { IfOk result (λ end. string_bytes end ≡ end_in file.now placed.now) }
+{
+    let mut end = String::new(alloc);
+    for each in placed {
+        push_end(alloc, &mut end, file, each.row)?;
+    }
+    Ok(end)
+}
+
+/// A command line of gomod with these words and this end.
+fn line_text(alloc: Global, words: &[&str], end: &str) -> Result<String, AllocError>
+    ensures { IfOk result (λ line. string_bytes line ≡ line_text (map (λ word. word.now) words.now) end.now) }
+{
+    let mut line = followed(alloc, "gomod", words)?;
+    line.push_str(end)?;
+    Ok(line)
+}
+
+/// A command line after the words that go to a folder.
+fn after_cd(alloc: Global, cd: &str, line: &str) -> Result<String, AllocError>
+    ensures { IfOk result (λ text. string_bytes text ≡ cd.now ++ codes " && " ++ line.now ++ codes ")") }
+{
+    let mut text = String::from_str(alloc, cd)?;
+    text.push_str(" && ")?;
+    text.push_str(line)?;
+    text.push_str(")")?;
+    Ok(text)
+}
+
+/// A command line of gomod with these words and this end, in these folders.
+fn command_text(
+    alloc: Global,
+    folders: &[&str],
+    words: &[&str],
+    end: &str,
+) -> Result<String, AllocError>
+    ensures { IfOk result (λ text. string_bytes text
+        ≡ command_text (map (λ folder. folder.now) folders.now) (map (λ word. word.now) words.now) end.now) }
+{
+    let line = line_text(alloc, words, end)?;
+    match folders {
+        [] => Ok(line),
+        _ => {
+            let cd = followed(alloc, "(cd", folders)?;
+            after_cd(alloc, cd.as_str(), line.as_str())
+        }
+    }
+}
+
+/// The command line of gomod with these words that is made of the items.
+fn line_of(alloc: Global, words: &[&str], placed: &[Placed<'_>]) -> Result<String, AllocError>
+    ensures { IfOk result (λ text. string_bytes text ≡ command_text (places_in placed.now)
+        (map (λ word. word.now) words.now) (end_in (second_of (map (λ word. word.now) words.now)) placed.now)) }
+{
+    let mut folders = Vec::new(alloc);
+    push_places(&mut folders, placed)?;
+    let end = end_in(alloc, second_of(words), placed)?;
+    command_text(alloc, folders.as_slice(), words, end.as_str())
+}
+
+/// Appends texts.
+fn push_all(tip: &mut String, texts: &[&str]) -> Result<(), AllocError>
+    ensures { OnOk result (string_bytes tip.new ≡ string_bytes tip.old ++ flat_map (λ text. text.now) texts.now) }
+{
+    for text in texts {
+        tip.push_str(text)?;
+    }
+    Ok(())
+}
+
+/// Appends what is left out of the items.
+fn push_left_of(alloc: Global, tip: &mut String, placed: &[Placed<'_>]) -> Result<(), AllocError>
+    ensures { OnOk result (string_bytes tip.new ≡ string_bytes tip.old ++ left_text (left_in placed.now)) }
+{
+    let mut left = Vec::new(alloc);
+    push_left_words(&mut left, placed)?;
+    push_left(tip, left.as_slice())
+}
+
+/// The words after the program's name.
+fn after_program<'w, 'a>(words: &'w [&'a str]) -> &'w [&'a str]
+    ensures { map (λ word. word.now) result.now ≡ after_program (map (λ word. word.now) words.now) }
+{
+    match words {
+        [_, rest @ ..] => rest,
+        _ => &[],
+    }
+}
+
+/// The tip for the items of a command that are placed: the command line of gomod that is made of them, if it asks for
+/// something, what is said of it, and what is left out.
+fn told(
+    alloc: Global,
+    words: &[&str],
+    about: &[&str],
+    placed: &[Placed<'_>],
+) -> Result<Option<String>, AllocError>
+    ensures { IfOk result (λ tip. IfSome tip (λ text.
+        IsTold (map (λ word. word.now) words.now) placed.now (string_bytes text))) }
+{
+    if !is_command(alloc, words)? {
+        return Ok(None);
+    }
+    let mut tip = line_of(alloc, after_program(words), placed)?;
+    push_all(&mut tip, about)?;
+    push_left_of(alloc, &mut tip, placed)?;
+    Ok(Some(tip))
+}
+
+/// The tip for items that are placed, with a command of this name. What is named here stands in the place of FILE or
+/// PATH, and of the proxy folders, if no item does.
+#[tactic(auto, using(crate::proofs::TipLemmas::shown_by))]
+pub(crate) fn shown(
+    alloc: Global,
+    name: &str,
+    files: &[&str],
+    folders: &[&str],
+    about: &[&str],
+    placed: &[Placed<'_>],
+) -> Result<Option<String>, AllocError>
+    ensures { IfOk result (λ tip. IfSome tip (λ text. IsShown placed.now (string_bytes text))) }
+{
+    let texts = shown_words(alloc, name, files, folders, placed)?;
+    let mut words = Vec::new(alloc);
+    push_texts(&mut words, texts.as_slice())?;
+    told(alloc, words.as_slice(), about, placed)
+}
