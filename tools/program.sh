@@ -78,7 +78,8 @@ NAME = b"b\xff/gomod"
 TIP = re.compile(rb"\n\n  tip: ((?:gomod|go|\(cd) .*?)(?=\n       |\n\nUsage: )(?:.*\n       left out: (.*)\n\nUsage: )?", re.S)
 # words that what is to be typed has no word of its own for: commands, and options that it does without
 ACCOUNTED = re.compile(
-    rb"(?i:mod|ls|list|all|why|get|fmt|edit|version|graph|help|chain|versions)|-(m|versions|v|print|fmt|proxy|C)|--proxy=?|--?modfile"
+    rb"(?i:mod|ls|list|all|why|get|add|fmt|format|edit|version|graph|tree|help|chain|versions|update|upgrade)"
+    rb"|-(versions|v|print|fmt|proxy|C)|--proxy=?|--?modfile"
     rb"|-?-json|json|--format|-o|-(d|l|w|i)|--(check|diff|write|in-place|retracted(=.*)?|)"
 )
 NO_MEMORY = b"", b"gomod: no memory\n", 3
