@@ -3,9 +3,10 @@
 # with docs/proof/SPEC.md.
 #
 #   tools/headline.sh          writes the shown definitions into the pages anew: HEADLINE, REPORTS, BYTES, DIRECTIVES,
-#                              EDITS, NAMES; and copies of those that `list` needs into crates/page/specs
+#                              EDITS, NAMES, OTHERS; and copies of those that `list` needs into crates/page/specs
 #   tools/headline.sh --check  changes nothing, and tells which page or copy is out of step, or too long
-#   tools/headline.sh --names  lists the names that stand in two files of specs/, and what each exported contract reaches
+#   tools/headline.sh --names  lists the names that stand in two files of specs/, and what each exported contract
+#                              reaches
 #
 # Between the marks `<!-- show .. -->` and `<!-- end -->` of a page stands what the sources say, and it is written anew:
 #
@@ -14,19 +15,23 @@
 #   show worlds                 which functions of gomod_laws/src/example_world.rt try which definition
 #   show names                  each name that the page uses and doesn't define, and its file
 #
-# All other text of a page is written by hand. A quote (a line that begins with `>`) must stand in docs/proof/SPEC.md word by
-# word. The same definition stands on one page only.
+# All other text of a page is written by hand. A quote (a line that begins with `>`) must stand in docs/proof/SPEC.md
+# word by word. The same definition stands on one page only. HEADLINE shows a name before what it is made of, the other
+# pages after that.
 #
 # The copies in crates/page are of all definitions that `ListEnds` reaches, but for those that the crate defines itself:
-# specs/Types.antt and Files.antt, written by hand, stand in for types of the code, for what bytes say, and for the go.sum.
+# specs/Types.antt and Files.antt, written by hand, stand in for types of the code, for what bytes say, and for the
+# go.sum.
 #
-# Each definition that the contract of `run` reaches must be on one of the pages. From `ListEnds` to the leaves HEADLINE.md may have 45 definitions and 170 lines, or --check fails. A leaf is what another
-# page defines: names, their order and answers (NAMES.md), what bytes and answers say (DIRECTIVES.md), texts, the limit,
-# the rest after a path and the go.sum (REPORTS.md); or what the code or the standard library does.
+# Each definition that the contract of `run` reaches must be on one of the pages. From `ListEnds` to the leaves
+# HEADLINE.md may have 45 definitions and 170 lines, or --check fails. A leaf is what another page defines: names, their
+# order and answers (NAMES.md), what bytes and answers say (DIRECTIVES.md), texts, the limit, the rest after a path and
+# the go.sum (REPORTS.md); or what the code or the standard library does.
 #
 # The last lines count what one reads to believe a contract: that of `gomod_run::run`, and of all functions that the
-# libraries export. A definition is reached if a name of it stands in a clause or in a definition that is reached, and it
-# has as many lines as are neither empty nor a comment. A type of the code is private if its crate doesn't export it.
+# libraries export. A definition is reached if a name of it stands in a clause or in a definition that is reached, and
+# it has as many lines as are neither empty nor a comment. A type of the code is private if its crate doesn't export
+# it.
 #
 # The status of --check is 1 if a page or a copy is out of step. .ci/run runs it before the merge gate. It needs python3.
 set -euo pipefail
@@ -46,7 +51,8 @@ import sys
 from collections import defaultdict
 
 CRATES = pathlib.Path("crates")
-PAGES = [pathlib.Path("docs/proof") / name for name in ("HEADLINE.md", "REPORTS.md", "BYTES.md", "DIRECTIVES.md", "EDITS.md", "NAMES.md")]
+NAMES_OF_PAGES = ("HEADLINE", "REPORTS", "BYTES", "DIRECTIVES", "EDITS", "NAMES", "OTHERS")
+PAGES = [pathlib.Path("docs/proof") / f"{name}.md" for name in NAMES_OF_PAGES]
 COPY = "page"  # the crate that has copies of definitions
 RUNNING = "gomod_run/src/running.rt"
 LIST = [("Rattle.gomod_run.specs.Outcomes", "ListEnds"), ("Rattle.gomod_run.specs.Written", "EndsAsStated")]
@@ -309,6 +315,15 @@ class Page:
         for group in re.findall(r"(?m)(?:^>.*\n)+", self.text):
             yield " ".join(group.replace("\n>", "\n").removeprefix(">").split())
 
+    def early(self):
+        """The names of the page that it uses before it shows them, each with the definition that uses it."""
+        seen = set()
+        for one in self.defined.values():
+            seen.add(one)
+            for it in used_by(one).values():
+                if isinstance(it, Definition) and (it.file, it.name) in self.defined and it not in seen:
+                    yield it.name, one.name
+
     def names(self, others):
         """The names that the page uses and doesn't define."""
         groups, renamed = defaultdict(set), set()
@@ -367,7 +382,8 @@ def keep_short(page, others):
             wrong += 1
         left.extend(used_by(one).values())
     lines = sum(it.lines() for it in found.values())
-    print(f"{page.path}, from `ListEnds`: {len(found)} definitions, {lines} lines; at most {MOST_DEFINITIONS} and {MOST_LINES}")
+    most = f"at most {MOST_DEFINITIONS} and {MOST_LINES}"
+    print(f"{page.path}, from `ListEnds`: {len(found)} definitions, {lines} lines; {most}")
     return wrong + (len(found) > MOST_DEFINITIONS) + (lines > MOST_LINES)
 
 
@@ -542,9 +558,11 @@ def renew_copies(option):
 
 
 def unshown(found, pages):
-    """The definitions that these names reach and that no page shows."""
+    """The definitions that these names reach and that no page shows, and how many pages show the others."""
+    reached = reached_from(found)[0]
     shown = {at for it in pages for at in it.defined}
-    return [it for at, it in reached_from(found)[0].items() if at not in shown]
+    used = [it for it in pages if it.defined.keys() & reached.keys()]
+    return [it for at, it in reached.items() if at not in shown], len(used)
 
 
 def counts(option, pages):
@@ -555,8 +573,9 @@ def counts(option, pages):
     every = [it for clause in clauses.values() for it in used_in(clause, scope, {}).values()]
     for title, found in (("`list`", [place(*it) for it in LIST]), ("clause `ends`", ends), ("all clauses", every)):
         _, size, private = size_of(found)
-        left = unshown(found, pages)
-        print(f"gomod_run::run, {title}: {size}, {len(left)} on no page; {len(private)} private types of the code")
+        left, used = unshown(found, pages)
+        where = f"on {used} pages, {len(left)} on no page"
+        print(f"gomod_run::run, {title}: {size}, {where}; {len(private)} private types of the code")
         for it in left:
             print(f"  {it.name} of {it.file} is on no page")
     rows, types = [], set()
@@ -574,7 +593,7 @@ def counts(option, pages):
     if option == "--names":
         for name, files in sorted(found.items()):
             print(f"  {name}: {' '.join(files)}")
-    return len(unshown(every, pages))
+    return len(unshown(every, pages)[0])
 
 
 def main():
@@ -592,6 +611,10 @@ def main():
             if quote not in spec:
                 print(f"{page.path}: docs/proof/SPEC.md does not say: {quote}")
                 wrong += 1
+    for page in pages[1:]:
+        for name, user in page.early():
+            print(f"{page.path}: {user} uses {name}, which is shown after it")
+            wrong += 1
     for page in pages:
         new = page.renewed([it for it in pages if it is not page])
         if new != page.text and option == "--check":

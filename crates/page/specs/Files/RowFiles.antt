@@ -184,7 +184,8 @@ versions_below (suc n) = at (codes "a") (codes "v0.0." ++ decimal n) ∷ version
 
 -- a line for each
 unfoldable pub lines_below : ℕ → List ℕ
-lines_below n = flat_map (λ (x : ModuleVersion). codes "require " ++ x.0 ++ codes " " ++ x.1 ++ codes "\n") (versions_below n)
+lines_below n =
+    flat_map (λ (x : ModuleVersion). codes "require " ++ x.0 ++ codes " " ++ x.1 ++ codes "\n") (versions_below n)
 
 -- It requires 65,537 modules.
 abbrev pub many_text : List ℕ
@@ -292,7 +293,8 @@ valid_files =
     ∷ bare (codes "z") ∷ bare (codes "fork")
     ∷ requires (codes "a") (codes "c") (codes "v1.9.0") ∷ requires (codes "b") (codes "c") (codes "v1.10.0")
     ∷ requires (codes "a") (codes "c") (codes "v1.2.0") ∷ requires (codes "a") (codes "b") (codes "v1.0.0")
-    ∷ (going (codes "b") (codes "1.15") (codes "a") (codes "v1.0.0"), file_requiring (codes "b") (1, 15) (codes "a") (codes "v1.0.0"))
+    ∷ (going (codes "b") (codes "1.15") (codes "a") (codes "v1.0.0"),
+    file_requiring (codes "b") (1, 15) (codes "a") (codes "v1.0.0"))
     ∷ requires (codes "a") (codes "m") (codes "v0.9.0")
     ∷ requires (codes "m") (codes "k") (codes "v1.0.0")
     ∷ old (codes "a") (codes "c") ∷ new (codes "a") (codes "c") ∷ new (codes "c") (codes "d")
