@@ -10,6 +10,8 @@
 # tools/page_changes.txt has the changes, which keep the shape of their definitions; a change must be refused by one of:
 #
 #   a value      in a world two values differ, such as a byte of what is printed, or what is wrong with the run
+#   a fact       what a definition says in a world (`PartsAreShown`) is false
+#   another      what no definition says in a world (`OthersDoNotHold`) would hold
 #   the law      a run has one outcome (`outcomes_are_one`): a change that allows a second one breaks its proof
 #   no outcome   a run that has none (`HasNoOutcome`) would get one
 #

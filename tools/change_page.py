@@ -21,11 +21,17 @@ SEEN = "seen"
 # What the proofs of the law, and of runs without an outcome, are in: files, and how lemmas of other files begin.
 LAW = {"OneOutcome"}, ("same_lists",)
 NONE = {"Nothing"}, ("none_", "not_")
-VALUE, LAWFUL, NOTHING, SHAPE, PROVED, UNREAD = "value", "law", "no outcome", "proof", "proved", "not read"
+# The files of what single definitions say in worlds, and of what they don't say, whose lemmas begin so.
+PARTS, OTHERS = "Parts", ("Others", "not_")
+FALSE = re.compile(r"expected type `⊥`, but this has type|≟ `⊥`: does not hold")
+VALUE, FACT, LAWFUL, NOTHING, OTHER = "value", "fact", "law", "no outcome", "other"
+SHAPE, PROVED, UNREAD = "proof", "proved", "not read"
 REFUSED = {
     VALUE: "refuted by a value",
+    FACT: "refuted by a fact of a world that is false now",
     LAWFUL: "refuted by the law that a run has one outcome",
     NOTHING: "refuted by a run that has no outcome",
+    OTHER: "refuted by what does not hold in a world",
 }
 SAID = {**REFUSED, SHAPE: "only a proof no longer fits", PROVED: "PROVED", UNREAD: "not read"}
 
@@ -104,6 +110,11 @@ def verdict(said, names):
         for expected, other in differing(message):
             if file not in LAW[0] and expected != other and is_value(expected, names) and is_value(other, names):
                 return VALUE, f"{name}: {short(expected)} is expected, and it is {short(other)}"
+    for _, file, name, message in found:
+        if file == PARTS and FALSE.search(message):
+            return FACT, f"{name}: {first_line(message)}"
+        if file == OTHERS[0] and name.startswith(OTHERS[1]):
+            return OTHER, f"{name}: {first_line(message)}"
     for kind, (files, names_begin) in ((LAWFUL, LAW), (NOTHING, NONE)):
         for _, file, name, message in found:
             if file in files or name.startswith(names_begin):

@@ -1,7 +1,7 @@
 """A reading of docs/proof/HEADLINE.md in Python, compared with bin/gomod on random modules by tools/check-page.sh.
 
-`Page` has what the page defines, under the names that SPEC.md gives it: one method for one rule. `WRONG` has misreadings,
-each of one rule. A misreading that no world refutes shows that the worlds are too poor.
+`Page` has what the page defines, under the names that SPEC.md gives it: one method for one rule. `WRONG` has
+misreadings, each of one rule. A misreading that no world refutes shows that the worlds are too poor.
 """
 import dataclasses
 import os
@@ -16,6 +16,7 @@ from go_worlds import hash_of, order_of, write
 MAIN = "example.com/m"
 PATHS = [f"example.com/{name}" for name in "abcdef"]
 VERSIONS = ["v0.12.0", "v1.0.0", "v1.9.9", "v1.9.10", "v1.10.0", "v1.10.0-rc.9", "v1.10.0-rc.10"]
+CLOSE = [VERSIONS[2:4], VERSIONS[5:]]  # their order as texts is the other one
 GO = [(1, 15), (1, 16), (1, 16), (1, 17), (1, 17), (1, 18), (1, 21), (1, 22), (2, 0)]
 ODD = ["local", "-a.org/x", "Example.com/a", MAIN, MAIN, MAIN]  # no proxy has the module of the first three
 FOLDERS = ["./x", "./y"]
@@ -50,7 +51,7 @@ class Page:
     """
 
     def __init__(self, world):
-        self.main, self.sums, self.answers, self.faulty = world.main, world.sums, world.answers, world.faulty
+        self.main, self.sums, self.answers, self.invalid = world.main, world.sums, world.answers, world.invalid
         self.known = {}
 
     # 6. what a module says: its file
@@ -187,15 +188,27 @@ class Page:
         found = [x for x in self.opened() if self.fault(x)]
         return sorted(found, key=lambda x: (x[0], order_of(x[1])))
 
+    def fault_line(self, x):
+        return f"{x[0]}@{x[1]}: {self.fault(x)}\n"
+
+    def invalid_file(self):
+        """The report of the main file, if that is invalid, or else of the go.sum."""
+        return self.invalid.get("go.mod") or self.invalid.get("go.sum")
+
+    def rows(self):
+        return [(self.main.declared,), *self.selected()]
+
+    def is_unlisted(self, rows, path):
+        return path is not None and path not in [row[0] for row in rows]
+
     def outcome(self, after, limit):
-        if self.faulty:
-            return "", self.faulty + "\n", 1
+        if report := self.invalid_file():
+            return "", report, 1
         if found := self.faults():
-            return "", "".join(f"{x[0]}@{x[1]}: {self.fault(x)}\n" for x in found), 1
-        rows = [(self.main.declared,), *self.selected()]
-        if after is not None and after not in [row[0] for row in rows]:
+            return "", "".join(map(self.fault_line, found)), 1
+        if self.is_unlisted(self.rows(), after):
             return "", f"{after}: NotListed\n", 1
-        return "".join(map(self.row_text, self.printed(rows, after, limit))), "", 0
+        return "".join(map(self.row_text, self.printed(self.rows(), after, limit))), "", 0
 
 
 class World:
@@ -203,22 +216,27 @@ class World:
 
     def __init__(self, seed):
         self.random = random.Random(seed)
-        self.answers, self.faulty = {}, None
-        gone = self.random.choice([None, None, None, *PATHS])
+        self.answers, self.invalid = {}, {}
+        self.is_sound = self.chance(0.45)  # so that faults don't hide what the list has
+        gone = self.random.choice([None, None, *PATHS])
         for path in PATHS:
             for version in VERSIONS:
-                if self.chance(0.5 if path == gone else 0.96):
+                if self.is_sound or self.chance(0.5 if path == gone else 0.95):
                     self.answers[path, version] = self.module_text(path)
         for folder in FOLDERS:
-            if self.chance(0.9):
+            if self.is_sound or self.chance(0.7):
                 self.answers[folder,] = self.module_text(self.random.choice([None, MAIN, *PATHS]))
-        if self.chance(0.9):
+        if self.is_sound or self.chance(0.9):
             self.answers[MAIN, "v1.0.0"] = self.module_text(MAIN)
         self.main = File(MAIN, self.go(), [self.module() for _ in range(self.random.randint(1, 3))])
-        self.main.excludes = [self.module() for _ in range(self.random.choice([0, 0, 1, 2]))]
+        self.main.excludes = [self.module() for _ in range(self.random.choice([0, 0, 1, 2, 3]))]
+        if self.chance(0.15):
+            self.require_twice()
         self.add_replaces()
         if self.chance(0.2):
             self.main.excludes += [it for it in self.main.replaces.values() if len(it) == 2]
+        if self.chance(0.1):
+            self.main.excludes.append(self.main.requirements[0])
         self.add_sums()
         self.after = self.random.choice([None, None, MAIN, *self.random.sample(PATHS, 2)])
         self.limit = self.random.choice([None, None, 1, 2])
@@ -230,18 +248,30 @@ class World:
         return self.random.choice(GO)
 
     def module(self):
-        if self.chance(0.05):
-            return self.random.choice(ODD), "v1.0.0"
-        return self.random.choice(PATHS), self.random.choice(VERSIONS)
+        if self.chance(0.04 if self.is_sound else 0.08):
+            return self.random.choice([MAIN] if self.is_sound else ODD), "v1.0.0"
+        versions = self.random.choice(CLOSE) if self.chance(0.4) else VERSIONS
+        return self.random.choice(PATHS), self.random.choice(versions)
 
     def module_text(self, path):
-        declared = path if self.chance(0.97) else self.random.choice([None, None, *PATHS])
-        file = File(declared, self.go(), [self.module() for _ in range(self.random.choice([0, 1, 1, 2]))])
-        return file.text() + (MALFORMED if self.chance(0.02) else "")
+        declared = path if self.is_sound or self.chance(0.94) else self.random.choice([None] * 4 + PATHS)
+        file = File(declared, self.go(), [self.module() for _ in range(self.random.choice([0, 1, 1, 2, 2]))])
+        return file.text() + (MALFORMED if not self.is_sound and self.chance(0.04) else "")
+
+    def require_twice(self):
+        """Two modules at the top, of which an unpruned one requires the other."""
+        version = self.random.choice(VERSIONS)
+        first, second, third = [(path, version) for path in self.random.sample(PATHS, 3)]
+        self.main.go, self.main.requirements = (1, 17), [first, second]
+        self.answers[first] = File(first[0], (1, 16), [second]).text()
+        self.answers[second] = File(second[0], (1, 17), [third]).text()
+        self.answers[third] = File(third[0], (1, 17), [self.module()]).text()
 
     def add_replaces(self):
         for _ in range(self.random.choice([0, 0, 1, 2, 3])):
             path, version = ("local", "v1.0.0") if self.chance(0.2) else self.module()
+            if path == "local" and self.chance(0.4):
+                self.main.requirements.append((path, version))
             if self.chance(0.2):
                 path, version = self.main.requirements[0]
             right = self.random.choice([(self.random.choice(FOLDERS),), self.module()])
@@ -250,14 +280,21 @@ class World:
                 self.main.replaces[path, version] = (self.random.choice(FOLDERS),)
             if right in self.answers and len(right) == 2 and self.chance(0.5):
                 self.answers[right] = self.answers[right].replace(f"module {right[0]}\n", f"module {path}\n")
+        path, version = self.random.choice(self.main.requirements)
+        if self.chance(0.4):
+            self.main.replaces[path, version] = (path if path in PATHS else PATHS[0], self.random.choice(VERSIONS))
+        if self.chance(0.2):
+            self.main.replaces[path, None] = (self.random.choice(FOLDERS),)
+        if self.chance(0.15):
+            self.main.replaces[MAIN, None] = (self.random.choice(FOLDERS),)
 
     def add_sums(self):
         self.sums = None
-        if self.chance(0.4):
+        if self.chance(0.45):
             self.sums = {name: [hash_of(text)] for name, text in self.answers.items() if len(name) == 2}
         for name in self.sums or {}:
             is_odd = self.answers[name].endswith(MALFORMED) or f"module {name[0]}\n" not in self.answers[name]
-            if self.chance(0.4 if is_odd else 0.03):
+            if self.chance(0.7 if is_odd else 0.03):
                 self.sums[name] = self.random.choice([[], [hash_of("other")], [*self.sums[name], hash_of("other")]])
 
     def lay(self, room):
@@ -269,14 +306,14 @@ class World:
             write(f"{room}/{name[0]}/go.mod" if len(name) == 1 else f"{room}/proxy/{name[0]}/@v/{name[1]}.mod", text)
         if self.sums is not None:
             lines = [f"{path} {version}/go.mod {it}\n" for (path, version), all in self.sums.items() for it in all]
-            if self.chance(0.03):
+            if self.chance(0.12):
                 lines.append("example.com/a v1.0.0\n")
-                self.faulty = f"go.sum:{len(lines)}: BadSum"
+                self.invalid["go.sum"] = f"go.sum:{len(lines)}: BadSum\n"
             write(f"{room}/go.sum", "".join(lines))
             words += ["--sum", f"{room}/go.sum"]
-        if self.chance(0.02):
+        if self.chance(0.5 if self.invalid else 0.02):
             main += MALFORMED
-            self.faulty = "go.mod:%d: WrongArguments" % main.count("\n")
+            self.invalid["go.mod"] = "go.mod:%d: WrongArguments\n" % main.count("\n")
         write(f"{room}/go.mod", main)
         words += ["--after", self.after] if self.after else []
         return words + (["--limit", str(self.limit)] if self.limit else [])
@@ -297,6 +334,10 @@ READ = {
     "rest_after": "IsRestAfter",
     "printed": "PrintsRows",
     "faults": "AreFaults",
+    "invalid_file": "QueryEnds",
+    "is_unlisted": "IsUnlisted",
+    "outcome": "QueryEnds",
+    "content": "IsContentReading",
 }
 
 
@@ -327,6 +368,52 @@ def required_first(self):
     """The main file's own requirements have precedence over greater versions."""
     own = {x[0]: x for x in sorted(self.top(), key=lambda x: order_of(x[1]))}
     return sorted({own.get(x[0], x) for x in Page.selected(self)})
+
+
+def of_wrong_path(self, x):
+    """What a module requires, if a file of a wrong path counts too."""
+    if self.says(x) != "WrongPath":
+        return Page.requirements(self, x)
+    return self.without_excluded(self.content(self.answers[self.file_of(x)]).requirements)
+
+
+def next_greater(self, modules):
+    """The modules, with the next greater version in the place of one that is excluded."""
+    versions = sorted(VERSIONS, key=order_of)
+    after = [(path, versions[versions.index(version):]) for path, version in modules]
+    left = [[(path, it) for it in later if (path, it) not in self.main.excludes] for path, later in after]
+    return [later[0] for later in left if later]
+
+
+def of_one_file(self):
+    """The faults, one for each file."""
+    return [*{self.file_of(x): x for x in reversed(Page.faults(self))}.values()][::-1]
+
+
+def unlisted_first(self, after, limit):
+    """The outcome, if a path without a row comes before faults."""
+    if not self.invalid_file() and self.is_unlisted(self.rows(), after):
+        return "", f"{after}: NotListed\n", 1
+    return Page.outcome(self, after, limit)
+
+
+def as_main(self, text):
+    """What a file says, if one without a go line is of the main file's version."""
+    said = Page.content(self, text)
+    if isinstance(said, File) and "\ngo " not in f"\n{text}":
+        said.go = self.main.go
+    return said
+
+
+def greatest_replacement(self):
+    """The build list, if the versions on the right of replaces are compared."""
+    def version(x):
+        right = self.replacement(x)
+        return right[1] if right and len(right) == 2 else x[1]
+    ends = self.edge_ends()
+    return sorted(x for x in ends if x[0] != self.main.declared
+                  and not any(y[0] == x[0] and order_of(version(y)) > order_of(version(x)) for y in ends)
+                  and not any(y[0] == x[0] and order_of(version(y)) == order_of(version(x)) and y > x for y in ends))
 
 
 WRONG = [
@@ -430,6 +517,28 @@ WRONG = [
         x for x in Page.faults(self) if x in self.top()]),
     wrong("each vertex is looked at for faults", faults=lambda self: sorted(
         (x for x in self.edge_ends() | self.opened() if self.fault(x)), key=lambda x: (x[0], order_of(x[1])))),
+    wrong("the next greater version takes an excluded one's place", without_excluded=next_greater),
+    wrong("a file of a wrong path requires, too", requirements=of_wrong_path),
+    wrong("a file that two modules share has one fault", faults=of_one_file),
+    wrong("a fault names the replacement", fault_line=lambda self, x: Page.fault_line(self, x).replace(
+        "@".join(x), "@".join(self.file_of(x)), 1)),
+    wrong("each file is pruned if the main file is", is_unpruned=lambda self, x: not (
+        self.fault(x) or self.is_pruned(self.main.go))),
+    wrong("a file without a go line is of the main file's version", content=as_main),
+    wrong("what is opened at the top isn't opened deeply, too", from_deep=lambda self, deep: Page.from_deep(
+        self, deep - self.top() if self.is_pruned(self.main.go) else deep)),
+    wrong("versions are compared after replaces", selected=greatest_replacement),
+    wrong("the rest after a path without a row is what is greater", is_unlisted=lambda self, rows, path: False,
+          rest_after=lambda self, rows, path: [row for row in rows[1:] if row[0] > path]
+          if Page.is_unlisted(self, rows, path) else Page.rest_after(self, rows, path)),
+    wrong("a path without a row comes before faults", outcome=unlisted_first),
+    wrong("an invalid go.sum comes before an invalid main file", invalid_file=lambda self: self.invalid.get("go.sum")
+          or self.invalid.get("go.mod")),
+    wrong("the main module's row has a replacement", row_text=lambda self, x: " ".join(
+        [x[0], "=>", *self.main.replaces[MAIN, None]]) + "\n"
+          if len(x) == 1 and (MAIN, None) in self.main.replaces else Page.row_text(self, x)),
+    wrong("a replaced row shows the replacement alone", row_text=lambda self, x: " ".join(
+        self.replacement(x) or x if len(x) == 2 else x) + "\n"),
 ]
 
 

@@ -9,3 +9,4 @@ pub mod Reported
 pub mod Nothing
 pub mod Many
 pub mod Parts
+pub mod Others

@@ -64,6 +64,7 @@ own_path_is_left_out = record {
   after_third = ends_so ends_text None ends_file None own_answers refl tt refl (Some (codes "example.com/k")) None _ refl;
   after_last = ends_so ends_text None ends_file None own_answers refl tt refl (Some (codes "example.com/z")) None _ refl;
   limited = ends_so ends_text None ends_file None own_answers refl tt refl None (Some 2) _ refl;
+  none = ends_so ends_text None ends_file None own_answers refl tt refl None (Some 0) (printing []) refl;
   both = ends_so ends_text None ends_file None own_answers refl tt refl (Some (codes "example.com/m")) (Some 1) _ refl;
 }
 

@@ -31,6 +31,7 @@ parts_are_shown = record {
   answered = refl;
   first = refl;
   lax = refl;
+  left = refl;
   unlisted = answered _ refl refl refl;
   wrong = wrong_path top_file (answered (bytes top_text) refl refl refl) refl;
   from_main = from_main refl (0, omega arith, refl);

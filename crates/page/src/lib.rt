@@ -5,7 +5,7 @@
 #![tactic(auto)]
 
 ghost use Rattle.page.specs.Worlds.{DeviceIsReported, FaultsAreReported, OneOutcome, PrunedIsListed, UnprunedIsListed};
-ghost use Rattle.page.specs.Worlds.Parts.{PartsAreShown};
+ghost use Rattle.page.specs.Worlds.Parts.{OthersDoNotHold, PartsAreShown};
 ghost use Rattle.page.specs.Worlds.Rows.{
   DeepIsOpened,
   EachPartCounts,
@@ -179,4 +179,10 @@ pub fn too_many_are_reported()
 /// What single definitions say in these worlds, each from its own rules.
 pub fn parts_are_shown()
     ensures { PartsAreShown }
+{}
+
+/// What single definitions don't say: that an excluded version is required, that what a pruned file requires is opened,
+/// that a file which may not be asked for is needed, that the lesser of two versions has a row.
+pub fn others_do_not_hold()
+    ensures { OthersDoNotHold }
 {}

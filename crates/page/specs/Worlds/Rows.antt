@@ -163,6 +163,7 @@ pub record OwnPathIsLeftOut : Type 0 where
   pub after_third : OwnPrints (Some (codes "example.com/k")) None (codes "example.com/z v1.0.0\n")
   pub after_last : OwnPrints (Some (codes "example.com/z")) None []
   pub limited : OwnPrints None (Some 2) (codes "example.com/m\nexample.com/a v1.0.0\n")
+  pub none : OwnPrints None (Some 0) []
   pub both : OwnPrints (Some (codes "example.com/m")) (Some 1) (codes "example.com/a v1.0.0\n")
 
 -- ---- go versions, versions and replacements

@@ -1,0 +1,113 @@
+-- What does not hold in worlds.
+use Rattle.std.proofs.Common.{◌≡◌, ◌&&◌, ℕ, Bool, true, false, List, [], ◌∷◌, Contains, None, Some, Option, Result, Ok, Err, ◌∙◌, ap, arith, codes, inl, inr, nat_eq, not, refl, subst, sym}
+use Rattle.std.specs.Cmp.Lexicographic.{pointwise}
+use Rattle.std.proofs.lemmas.Bool.{and_parts, false≢true, not-true}
+use Rattle.page.specs.Asked.{bytes}
+use Rattle.page.specs.BuildList.{IsSelected}
+use Rattle.page.specs.Fields.{Dependency}
+use Rattle.page.specs.Files.{local_file, low_ten, main_file, mid_nine, mid_ten, own_one, top_file, top_one, top_text}
+use Rattle.page.specs.Files.RowFiles.{file_requiring, first_of, one_file}
+use Rattle.page.specs.Main.{is_pruned_by, without_excluded}
+use Rattle.page.specs.ModuleVersion.{ModuleVersion}
+use Rattle.page.specs.Path.{is_fetchable}
+use Rattle.page.specs.Run.{FileSays, IsDeep, IsEdge, IsNeeded, IsTop, Requires, Says, answered, from_deep, from_main, from_top, run_of, sound, unaskable}
+use Rattle.page.specs.Types.{Class, NotFetchable, Of, WrongPath}
+use Rattle.page.specs.Worlds.{pruned_answers, wrong_answers}
+use Rattle.page.specs.Worlds.Parts.{OthersDoNotHold, local_name, pruned_run}
+use Rattle.page.specs.Worlds.Rows.{unopened_answers}
+use Rattle.page.proofs.Members.{differ, member_cases, no_member}
+use Rattle.page.proofs.Saying.{file_is, said_of, says}
+
+-- ---- what is excluded
+
+abbrev are_other : List ModuleVersion → List ℕ → Bool
+are_other [] path = true
+are_other (y ∷ ys) path = not (pointwise nat_eq y.0 path) && are_other ys path
+
+other_paths : (ys : List ModuleVersion) (x : ModuleVersion) → are_other ys x.0 ≡ true → Contains ys x → ⊥
+other_paths [] x are there = no_member x there
+other_paths (y ∷ ys) x are there =
+    let parts = and_parts (not (pointwise nat_eq y.0 x.0)) (are_other ys x.0) are in
+    elim (member_cases y x ys there) [
+      | inl same ↦ differ y.0 x.0 (not-true (pointwise nat_eq y.0 x.0) parts.0) (ap (λ (z : ModuleVersion). z.0) same)
+      | inr later ↦ other_paths ys x parts.1 later
+    ]
+
+not_top : IsTop pruned_run low_ten → ⊥
+not_top there = other_paths (without_excluded main_file main_file.requirements) low_ten refl there
+
+top_says : said_of main_file None pruned_answers top_one ≡ Some (Ok top_file)
+unfolding is_fetchable
+top_says = refl
+
+not_required : Requires pruned_run top_one low_ten → ⊥
+not_required (file, tells, there) =
+    other_paths (without_excluded main_file top_file.requirements) low_ten refl
+    (subst (λ (f : Dependency). Contains (without_excluded main_file f.requirements) low_ten)
+    (sym (file_is main_file None pruned_answers top_one top_file top_says file tells)) there)
+
+mid_says : said_of local_file None wrong_answers mid_nine ≡ Some (Err WrongPath)
+unfolding is_fetchable
+mid_says = refl
+
+no_file : (file : Dependency) → ◌≡◌ {A = Option (Result Dependency Class)} (Some (Err WrongPath)) (Some (Ok file)) → ⊥
+no_file file e = cc e
+
+not_wrong : (y : ModuleVersion) → Requires (run_of local_file None wrong_answers) mid_nine y → ⊥
+not_wrong y (file, tells, there) = no_file file (sym mid_says ∙ says local_file None wrong_answers mid_nine (Ok file) tells)
+
+-- ---- what is not opened deeply
+
+abbrev a_file : Dependency
+a_file = file_requiring (codes "a") (1, 17) (codes "c") (codes "v1.0.0")
+
+a_says : said_of one_file None unopened_answers (first_of (codes "a")) ≡ Some (Ok a_file)
+unfolding is_fetchable
+a_says = refl
+
+not_unpruned : (file : Dependency) → Says (run_of one_file None unopened_answers) (first_of (codes "a")) (Ok file) → is_pruned_by file.go ≡ false → ⊥
+not_unpruned file tells unpruned =
+    false≢true (sym (subst (λ (f : Dependency). is_pruned_by f.go ≡ false) (sym (file_is one_file None unopened_answers (first_of (codes "a")) a_file a_says file tells)) unpruned))
+
+not_deep : (x : ModuleVersion) → IsDeep (run_of one_file None unopened_answers) x → ⊥
+not_deep x (from_main unpruned top) = false≢true (sym unpruned)
+not_deep y (from_top {x = x} file top tells unpruned there) = elim (member_cases (first_of (codes "a")) x [] top) [
+  | inl same ↦ not_unpruned file (subst (λ (z : ModuleVersion). Says (run_of one_file None unopened_answers) z (Ok file)) (sym same) tells) unpruned
+  | inr later ↦ no_member x later
+]
+not_deep y (from_deep {x = x} is requires) = not_deep x is
+
+-- ---- a file that may not be asked for
+
+not_otherwise : (said : Result Dependency Class) → FileSays (run_of local_file None []) local_name said → said ≡ Err NotFetchable
+unfolding is_fetchable
+not_otherwise said (unaskable e) = refl
+not_otherwise said (answered reply may heard is) = absurd (false≢true may)
+
+not_needed : IsNeeded (run_of local_file None []) local_name → ⊥
+unfolding is_fetchable
+not_needed (x, opens, is, may) = false≢true may
+
+-- ---- what is not selected
+
+not_own : IsSelected (codes "m") (IsEdge pruned_run) own_one → ⊥
+not_own is = is.not_main refl
+
+top_requires : IsEdge pruned_run (Of top_one) mid_ten
+unfolding is_fetchable
+top_requires = (inl (0, omega arith, refl), (top_file, sound (answered (bytes top_text) refl refl refl) refl, (0, omega arith, refl)))
+
+not_lesser : IsSelected (codes "m") (IsEdge pruned_run) mid_nine → ⊥
+not_lesser is = false≢true (sym (is.greatest mid_ten (Of top_one, top_requires) refl))
+
+pub others_do_not_hold : OthersDoNotHold
+others_do_not_hold = record {
+  top = not_top;
+  required = not_required;
+  wrong = not_wrong;
+  deep = not_deep;
+  said = not_otherwise;
+  needed = not_needed;
+  own = not_own;
+  lesser = not_lesser;
+}
