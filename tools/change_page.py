@@ -79,7 +79,7 @@ def constructors():
 
 def is_value(text, names):
     """Whether a term that an error shows is made of constructors, numbers and texts alone."""
-    words = re.sub(r'"[^"]*"|…\[cut: [^\]]*\]|\S*…(\[\d+ bytes\]…\S*)?|\{[^}]*\}|\w+ = ', " ", text)
+    words = re.sub(r'"[^"]*"|\S*\s*…\[cut: [^\]]*\]|\S*…(\[\d+ bytes\]…\S*)?|\{[^}]*\}|\w+ = ', " ", text)
     words = re.sub(r"[()\[\],;]| ∷ ", " ", words).split()
     return all(it.isdigit() or it.split(".")[-1] in names for it in words)
 
