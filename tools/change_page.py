@@ -23,7 +23,7 @@ LAW = {"OneOutcome"}, ("same_lists",)
 NONE = {"Nothing"}, ("none_", "not_")
 # The files of what single definitions say in worlds, and of what they don't say, whose lemmas begin so.
 PARTS, OTHERS = "Parts", ("Others", "not_")
-FALSE = re.compile(r"expected type `⊥`, but this has type|≟ `⊥`: does not hold")
+FALSE = re.compile(r"expected type `⊥`, but this has type|≟ `⊥`: does not hold|`⊥` ≟ `[^`]*`: does not hold")
 VALUE, FACT, LAWFUL, NOTHING, OTHER = "value", "fact", "law", "no outcome", "other"
 SHAPE, PROVED, UNREAD = "proof", "proved", "not read"
 REFUSED = {

@@ -6,10 +6,11 @@
 #   tools/check-page.sh --program FILE .. the same with another program
 #   tools/check-page.sh --list ..         it also prints each misreading: its definition, and a world that refutes it
 #
-# tools/check_page.py has the definitions of the page, a method each, and misreadings of them, one rule each, such as that
-# versions are ordered as texts. A world is a main file, a go.sum or none, a proxy folder and folders that replace
+# tools/check_page.py has the definitions of the page, a method each, and misreadings of them, one rule each, such as
+# that versions are ordered as texts. A world is a main file, a go.sum or none, a proxy folder and folders that replace
 # modules, made from its number alone: pruned and unpruned files, excludes, replaces of versions and of whole paths,
 # missing, malformed and misdeclared files, paths that no proxy has, versions from v1.9.0 to v1.10.0, --after, --limit.
+# In nearly half of them each module's file is there and right, so that no fault hides the list.
 #
 # It prints each world on which the program and the page differ, each misreading that no world refutes, and a line with
 # the counts. The status is 1 if there is either; a few worlds may not refute all misreadings. .ci/run runs it after the
