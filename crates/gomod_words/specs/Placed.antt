@@ -1,5 +1,5 @@
 -- What becomes of each item of a command line that is meant for another one, and the command lines that are made of it.
-use Rattle.std.specs.Prelude.{◌||◌, ◌∷◌, ◌++◌, if◌then◌else◌, ℕ, Bool, List, [], codes, flat_map, map, unwrap_or}
+use Rattle.std.specs.Prelude.{◌||◌, ◌∷◌, ◌++◌, if◌then◌else◌, ℕ, Bool, List, [], codes, flat_map, unwrap_or}
 use Rattle.std.specs.Str.{bytes_eq}
 use Rattle.clap.specs.Walk.{Text}
 use Rattle.gomod_words.specs.Dashed.{operation_in, without_dashes}
@@ -125,8 +125,8 @@ proxy_words (first ∷ lists) = codes "--proxy" ∷ (first ++ flat_map (λ list.
 -- operations. If no item is FILE or PATH, or a folder of `--proxy`, others stand there.
 abbrev pub shown_words : Text → List Text → List Text → List Placed → List Text
 shown_words name files folders placed =
-    (codes "gomod" ∷ name ∷ []) ++ or_else files (operands_in placed) ++ proxy_words (or_else folders (folders_in placed))
-    ++ options_in placed ++ operations_in placed
+    (codes "gomod" ∷ name ∷ []) ++ or_else files (operands_in placed)
+    ++ proxy_words (or_else folders (folders_in placed)) ++ options_in placed ++ operations_in placed
 
 -- the words after the program's name
 abbrev pub after_program : List Text → List Text

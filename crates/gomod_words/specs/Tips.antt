@@ -15,8 +15,8 @@ use Rattle.gomod_words.specs.declared.placed.Placed.{Placed}
 pub record IsTold (words : List Text) (placed : List Placed) (tip : List ℕ) : Type 0 where
   pub about : List ℕ
   pub asks : AskForSomething words
-  pub says : tip ≡ command_text (places_in placed) (after_program words) (end_in (second_of (after_program words)) placed)
-      ++ about ++ left_text (left_in placed)
+  pub says : tip ≡ command_text (places_in placed) (after_program words)
+      (end_in (second_of (after_program words)) placed) ++ about ++ left_text (left_in placed)
 
 -- The tip is a command line of gomod that is made of the items.
 pub record IsShown (placed : List Placed) (tip : List ℕ) : Type 0 where
