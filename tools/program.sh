@@ -79,7 +79,7 @@ TIP = re.compile(rb"\n\n  tip: ((?:gomod|go|\(cd) .*?)(?=\n       |\n\nUsage: )(
 # words that what is to be typed has no word of its own for: commands, and options that it does without
 ACCOUNTED = re.compile(
     rb"(?i:mod|ls|list|all|why|get|add|fmt|format|edit|version|graph|tree|help|chain|versions|update|upgrade)"
-    rb"|-(versions|v|print|fmt|proxy|C)|--proxy=?|--?modfile"
+    rb"|--?(versions|v|print|fmt|proxy|C|w)|--proxy=|--?modfile"
     rb"|-?-json|json|--format|-o|-(d|l|w|i)|--(check|diff|write|in-place|retracted(=.*)?|)"
 )
 NO_MEMORY = b"", b"gomod: no memory\n", 3
