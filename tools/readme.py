@@ -17,7 +17,7 @@ import sys
 import tempfile
 
 SECONDS = 300
-OPTIONAL = ("curl", "dot", "git", "jq")
+OPTIONAL = ("curl", "dot", "git", "jq", "vim")
 COPIED = ("README.md", "CHANGELOG.md", "docs", "example", "share")
 # The passes over a document: what they are called, the shell, and whether its blocks run from the last to the first.
 PASSES = (("in order", ["bash", "-c"], False), ("backwards", ["bash", "-c"], True), ("in zsh", ["zsh", "-f", "-c"], False))

@@ -9,9 +9,9 @@
 # An example is a block of lines that are indented by four spaces, the first of which begins `$ `: each such line is a
 # command of a shell, and the lines up to the next one are what it prints, on both streams. All blocks of a document run
 # in one shell, as one who pastes them would do it: in bash in their order and backwards, and in zsh if it is installed.
-# A block that only makes a scratch folder (`NAME=$(mktemp -d)`) is the first in both. They run at the top of a scratch folder with the
-# files of the repository, which they have to leave as it was, and with bin/ on the PATH. A block is skipped if it, or a
-# script that it runs, calls curl, dot, git or jq and there is no such command.
+# A block that only makes a scratch folder (`NAME=$(mktemp -d)`) is the first in both. They run at the top of a scratch
+# folder with the files of the repository, which they have to leave as it was, and with bin/ on the PATH. A block is
+# skipped if it, or a script that it runs, calls curl, dot, git, jq or vim and there is no such command.
 #
 # It also compares the pieces of code of docs/lib/LIBRARY.md, fenced as rust, with the sources of crates/library_example.
 # The one that is a whole program it compiles and runs in a fresh folder, by the commands beside it. And it tests that
