@@ -21,6 +21,8 @@ OPTIONAL = ("curl", "dot", "git", "jq", "vim")
 COPIED = ("README.md", "CHANGELOG.md", "docs", "example", "share")
 # The passes over a document: what they are called, the shell, and whether its blocks run from the last to the first.
 PASSES = (("in order", ["bash", "-c"], False), ("backwards", ["bash", "-c"], True), ("in zsh", ["zsh", "-f", "-c"], False))
+# What users paste into a shell that they type in.
+PASTED = r"README\.md|docs/use/\w+\.md"
 # The section whose program is compiled, and how many lines that may have.
 PROGRAM_SECTION = r"(?ms)^## A whole program\n.*?(?=^## |\Z)"
 PROGRAM_LINES = 40
@@ -169,6 +171,16 @@ class Documents:
             print(f"{name}: the examples leave {it} changed")
         return wrong
 
+    def find_comments(self, name, lines):
+        """Whether no indented line has a comment behind a command: zsh takes one that is typed for words."""
+        for number, line in enumerate(lines, 1):
+            if not re.match(r"    (?!\$ )", line):
+                continue
+            is_right = not re.search(r"\S\s+# ", line)
+            self.tally["lines without a prompt"][is_right] += 1
+            if not is_right:
+                print(f"{name}:{number}: a comment behind a command, which zsh takes for words")
+
     def compare_code(self, name, text):
         """Whether each piece of code, but for the whole program, is in a source of library_example."""
         sources = ""
@@ -253,6 +265,8 @@ def main(*names):
         # the whole program runs elsewhere, and leaves its lines here, so that others keep their numbers
         rest = re.sub(PROGRAM_SECTION, lambda it: "\n" * it[0].count("\n"), text)
         documents.run_examples(name, rest.split("\n"))
+        if re.fullmatch(PASTED, name):
+            documents.find_comments(name, text.split("\n"))
         if os.path.basename(name) == "LIBRARY.md" and os.path.isdir("crates"):
             documents.compare_code(name, text)
             if not is_quick:
