@@ -12,9 +12,9 @@
 # of the gate crates/run_cases has these files.
 #
 # As in the gate, a program runs in a copy of the folder, as nobody if root starts it, and has 400 seconds. All programs
-# run side by side. What differs is printed, then how many runs passed and failed. The status is 1 if one failed, or if
-# a folder has a file of cases that its `args` doesn't name. .ci/run runs it after the gate, and with --all if --quick is
-# given.
+# and folders run side by side. What differs is printed, then how many runs passed and failed. The status is 1 if one
+# failed, or if a folder has a file of cases that its `args` doesn't name. .ci/run runs it after the gate, and with --all
+# if --quick is given.
 set -euo pipefail
 cd "$(dirname "$0")/.."
 # shellcheck source=tools/lib.sh
@@ -116,7 +116,9 @@ for name in "${names[@]}"; do
   for number in "${!programs[@]}"; do
     run_on "$name" "$number" &
   done
-  wait
+done
+wait
+for name in "${names[@]}"; do
   for number in "${!programs[@]}"; do
     if is_right "$name" "$number"; then
       echo "cases: $name, ${programs[$number]}: $(cat "$work/$name.$number/stdout") ($(cat "$work/$name.$number/seconds") s)"
