@@ -258,6 +258,7 @@ class Document:
                 self.section = named if line.startswith("## ") or named else self.section
             if line.startswith("    "):
                 self.read_files(line, True)
+                self.read_choice(line)
                 continue
             if line.startswith("|") and self.number < len(lines) and lines[self.number].startswith("|---"):
                 self.header = []
@@ -380,6 +381,11 @@ class Document:
                 for title in re.findall(r'"([^"]+)"', cell):
                     if title not in after:
                         self.tell("titles of cases", title in known, f'there is no case "{title}"')
+
+    def read_choice(self, line):
+        for found in re.finditer(r"\brun_cases ([a-z_]+\.txt) (\w+)", line):
+            is_right = any(found[2] in it for it in self.sources.titles.get(found[1], ()))
+            self.tell("titles of cases", is_right, f"{found[1]} has no case whose title has '{found[2]}'")
 
     def read_counts(self, line):
         names = "|".join(self.sources.counted)
