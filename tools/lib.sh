@@ -24,7 +24,8 @@ refuse_arguments() {
 
 # Prints a file that is newer than bin/gomod and that the program may be made of, if there is one.
 newer_source() {
-  find crates crates.txt \( -name out -o -name must-fail \) -prune -o -type f -newer bin/gomod -print -quit
+  find crates crates.txt \( -name out -o -name must-fail -o -name '*.md' \) -prune -o \
+    -type f -newer bin/gomod -print -quit
 }
 
 # Whether bin/gomod is newer than every file that it is made of.
@@ -32,7 +33,8 @@ is_built() { [ -x bin/gomod ] && [ -z "$(newer_source)" ]; }
 
 # Prints the names of the files that unproved programs are made of, with a NUL after each. Proofs aren't read.
 program_sources() {
-  find crates crates.txt \( -name out -o -name must-fail -o -name data -o -name proofs \) -prune -o -type f -print0
+  find crates crates.txt \( -name out -o -name must-fail -o -name data -o -name proofs -o -name '*.md' \) -prune -o \
+    -type f -print0
 }
 
 # Prints the checksum of all that an unproved program is made of, but for the toolchain.
