@@ -45,6 +45,7 @@ NUMBERS = "one two three four five six seven eight nine ten eleven twelve".split
 
 MISTAKES = "crates/run_cases/MISTAKES.md"
 FIGURES = "docs/dev/BENCHMARKS.md"
+MESSAGES = "docs/use/MESSAGES.md"
 
 TICKED = r"`([^`]+)`"
 LIST = r"`\w+`(?: \([^()]*\))?(?:(?:, and |, | and )`\w+`(?: \([^()]*\))?)*"
@@ -506,6 +507,19 @@ def keep_figures(tally):
             print(f"{FIGURES}: measured at {commit}, before {len(later)} commits that changed .rt files")
 
 
+def keep_messages(tally):
+    """Whether docs/use/MESSAGES.md has each message of a usage error in a case, up to its first word in quotes."""
+    named = tuple(it.rstrip() for it in re.findall(r"`(error: [^'`]*[^'`A-Z])", "\n".join(lines_of(MESSAGES))))
+    for path in sorted(glob.glob("crates/run_cases/data/**/*.txt", recursive=True)):
+        for number, line in enumerate(lines_of(path), 1):
+            found = re.match(r"!\\? (error: .*)", line)
+            if found:
+                is_right = found[1].startswith(named)
+                tally["usage errors"][is_right] += 1
+                if not is_right:
+                    print(f"{path}:{number}: {MESSAGES} has no '{found[1]}'")
+
+
 def main(*names):
     if names in (("-h",), ("--help",)):
         print(__doc__, end="")
@@ -520,6 +534,7 @@ def main(*names):
     if not names:
         keep_budgets(tally)
         keep_figures(tally)
+        keep_messages(tally)
         for is_right in budgets():
             tally["budgets"][is_right] += 1
     for what, counts in tally.items():

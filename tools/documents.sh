@@ -3,11 +3,12 @@
 # is there, and that counts are right. It also checks that no document has more words than its budget: README.md has at
 # most 800 words outside examples and tables, and names at most eight sentences on what is verified, of at most 30 words
 # each; a release has at most 500 words in CHANGELOG.md. And it checks that each figure that README.md shows of speed is
-# the one of docs/dev/BENCHMARKS.md, and that both name the commit that was measured, which changed a source.
+# the one of docs/dev/BENCHMARKS.md, and that both name the commit that was measured, which changed a source; and that
+# docs/use/MESSAGES.md has each usage error that a case prints.
 #
 #   tools/documents.sh           README.md, all documents of docs/, PROOFS.md and MISTAKES.md of crates, budgets and
 #                                figures
-#   tools/documents.sh FILE..    these, and neither budgets nor figures
+#   tools/documents.sh FILE..    these, and neither budgets, figures nor usage errors
 #   tools/documents.sh --accept NAME..  writes the checksums anew of the sentences bound to these laws, or to `all`
 #
 # Beside each sentence of README.md on what is verified, and each of docs/proof/PROVED.md that names a law, a comment has
