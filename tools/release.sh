@@ -9,10 +9,11 @@
 #
 # Into FOLDER, which it makes if there is none, it writes gomod-VERSION-x86_64-linux.tar.gz and beside it a file with
 # its sha256. The archive has one folder with bin/ and share/, to be unpacked into a folder such as ~/.local (`tar
-# --strip-components=1`); share/doc/gomod/ has README.md, CHANGELOG.md, docs/, example/, and RELEASE.txt: the version, the
-# commit, the gate's last line, when allocations were last refused, what the program needs and its sha256. In these
-# documents a link to a file that isn't in the archive is its text alone, and examples call `gomod`; README.md tells how
-# to try this program instead of how to make one (tools/release.py). The same files give the same archive.
+# --strip-components=1`); share/doc/gomod/ has README.md, CHANGELOG.md, docs/, example/, and RELEASE.txt: the version,
+# the commit, the gate's last line, when allocations were last refused and opened files last looked at, what the program
+# needs and its sha256. In these documents a link to a file that isn't in the archive is its text alone, and examples
+# call `gomod`; README.md tells how to try this program instead of how to make one (tools/release.py). The same files
+# give the same archive.
 #
 # Before it leaves an archive it unpacks it, follows all links of its documents and runs all their examples with its
 # program (tools/readme.sh), and compares the glibc that they name with the one that the program needs.
@@ -22,7 +23,8 @@
 # crates/gomod/out/gomod, a gate that failed or ran with another program, and changes that aren't committed.
 #
 # Nor does it release a program with which tools/refuse-memory.sh didn't refuse each allocation and find nothing wrong:
-# that script leaves bin/refused.txt, whose first line this one prints.
+# that script leaves bin/refused.txt, whose first line this one prints. Nor one of which tools/program.sh didn't see,
+# where strace is, what each command opens: it leaves bin/opened.txt.
 #
 # It needs bin/gomod, git, GNU tar, gzip and python3. It prints what the check found, the names of the files, the gate's
 # last line and the sha256. The status is 1 if it refuses, and 2 for wrong arguments. .ci/run runs --check at its end.
@@ -41,7 +43,8 @@ refuse() {
 # The least version of glibc that a program needs: the greatest of those whose symbols it names.
 least_glibc() { grep -aoE 'GLIBC_[0-9]+(\.[0-9]+)+' "$1" | cut -d _ -f 2 | sort -uV | tail -n 1; }
 
-# Lays the files of a release below a folder: its version, the gate's last line, when allocations were refused.
+# Lays the files of a release below a folder: its version, the gate's last line, when allocations were refused, and when
+# opened files were looked at.
 lay_release() {
   local to=$1 documents=$1/share/doc/gomod glibc
   install_files "$to" > /dev/null
@@ -54,6 +57,7 @@ lay_release() {
     echo "commit $(git rev-parse HEAD)"
     echo "gate: $3"
     echo "each allocation refused: $4"
+    echo "what each command opens: $5"
     echo "needs: x86-64 Linux, glibc $glibc or later"
     sha256sum bin/gomod
   } > "$documents/RELEASE.txt"
@@ -75,7 +79,7 @@ check_archive() {
   echo "glibc: $least is the least"
 }
 
-to=$from gate='' refusals='' check='' unproved=''
+to=$from gate='' refusals='' opened='' check='' unproved=''
 case $#:${1-}:${2-} in
   1:--check:) check=yes ;;
   2:--check:--unproved) check=yes unproved=yes ;;
@@ -103,6 +107,10 @@ if [ -z "$check" ]; then
   refusals=$(head -n 1 bin/refused.txt)
   tail -n 1 bin/refused.txt | sha256sum --check --status ||
     refuse "allocations were refused of another program ($refusals): run tools/refuse-memory.sh"
+  [ -f bin/opened.txt ] || refuse "there is no bin/opened.txt: run tools/program.sh, where strace is"
+  opened=$(head -n 1 bin/opened.txt)
+  tail -n 1 bin/opened.txt | sha256sum --check --status ||
+    refuse "what another program opens was looked at ($opened): run tools/program.sh, where strace is"
 fi
 
 version=$(bin/gomod --version)
@@ -111,7 +119,7 @@ version=${version#gomod }
 name=gomod-${version%% *}-x86_64-linux
 work=$(mktemp -d)
 trap 'rm -rf "$work"' EXIT
-lay_release "$work/$name" "$version" "${gate:-none}" "${refusals:-none}"
+lay_release "$work/$name" "$version" "${gate:-none}" "${refusals:-none}" "${opened:-none}"
 # what depends on the moment or the user is left out
 tar --create --directory "$work" --sort=name --owner=0 --group=0 --numeric-owner \
   --mtime="@$(git log -1 --format=%ct)" "$name" | gzip -9n > "$work/$name.tar.gz"
@@ -125,4 +133,5 @@ echo "$to/$name.tar.gz"
 echo "$to/$name.tar.gz.sha256"
 echo "gate: $gate"
 echo "each allocation refused: $refusals"
+echo "what each command opens: $opened"
 echo "sha256: $(cut -d ' ' -f 1 "$to/$name.tar.gz.sha256")"

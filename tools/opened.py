@@ -1,0 +1,184 @@
+"""Says which files a command of a case may open, and what strace saw it open beside them.
+
+A command may open the files that its words name, what it needs of the proxy folders that they name, and the go.mod of
+each folder that its main file names as a replacement. It opens them once, to read them, and in the order that the case
+has if that says so. It makes no other call that names a file or reaches the network, starts no process, and reads
+nothing after the end of a file, nor standard input unless the words name it.
+"""
+
+import collections
+import os
+import re
+import subprocess
+import sys
+from typing import NamedTuple
+
+CALLS = "%file,%network,%ipc,read,readv,pread64,preadv,preadv2,clone,clone3,fork,vfork,ftruncate,fchmod,fchown"
+LINE = re.compile(rb"(\d+) +(.*)\n")
+UNFINISHED, RESUMED = re.compile(rb"(.*) <unfinished \.\.\.>"), re.compile(rb"<\.\.\. \w+ resumed>(.*)")
+CALL = re.compile(rb"(\w+)\((.*)\) += (-?\d+|\?)( .*)?")
+OPEN = re.compile(rb'AT_FDCWD, "((?:\\x[0-9a-f]{2})*)", (O_\S+)')
+HEXADECIMAL = re.compile(rb"(?:\\x[0-9a-f]{2})+")
+# Calls of the loader before the program begins.
+OF_LOADER = re.compile(rb'access\("[^"]*", R_OK\)|newfstatat\(\d+, "", ')
+LOADER = re.compile(rb"/etc/ld\.so\.(cache|preload)|/(usr/)?lib\S*/[^/]*\.so[.0-9]*|/proc/sys/vm/overcommit_memory")
+READ_ONLY = {b"O_RDONLY", b"O_NOCTTY", b"O_CLOEXEC"}
+OF_PROXY = re.compile(rb"[^\0]+/@v/(?:list|[^/]+\.mod)", re.S)
+REPLACED = re.compile(rb'=>[ \t]*(?:"((?:\\.|[^"\\\n])*)"|`([^`]*)`|([^\s"`][^\s]*))')
+
+
+class Allowed(NamedTuple):
+    """What a command may open: these files in this order, if the case says so; otherwise any of the files, and those of
+    modules in the folders."""
+
+    order: tuple | None
+    files: frozenset
+    folders: tuple
+    reads_input: bool
+
+    def has(self, name):
+        """Whether a file may be opened."""
+        below = [name.removeprefix(it) for it in self.folders if name.startswith(it)]
+        return name in self.files or any(OF_PROXY.fullmatch(it) for it in below)
+
+
+def value_of(words, option):
+    """The value of an option, if it has one."""
+    for word, following in zip(words, [*words[1:], None]):
+        if word == option:
+            return following
+        if word.startswith(option + b"="):
+            return word.removeprefix(option + b"=")
+    return None
+
+
+def folder_name(folder):
+    """How names begin that are below a folder, in their shortest spelling."""
+    name = os.path.normpath(folder)
+    return b"" if name == b"." else name.rstrip(b"/") + b"/"
+
+
+def main_text(name, case, folder):
+    """The bytes of a main file."""
+    if name == b"-":
+        return case.stdin()
+    # the current folder of the command, not of this process
+    place = os.path.join(folder, name.replace(b"/proc/self/cwd", folder))
+    if not os.path.isfile(place) or not os.access(place, os.R_OK):
+        return case.text_of(name)
+    with open(place, "rb") as file:
+        return file.read()
+
+
+def allowed(run, case, folder):
+    """What a command of a case, whose files are in a folder, may open."""
+    words = run.words[1:]
+    if run.status == 2 or not words:
+        return Allowed((), frozenset(), (), False)
+    order = None if run.opened is None else tuple(map(os.path.normpath, run.opened))
+    main, sums, proxy = (value_of(words, it) for it in (b"--mod", b"--sum", b"--proxy"))
+    if words[0] in (b"fmt", b"edit"):
+        main = next((it for it in words[1:] if it != b"--"), b"")
+    elif words[0] != b"versions" and main is None:
+        main = b"go.mod"
+    files = {os.path.normpath(it) for it in (main, sums) if it not in (None, b"-")}
+    if main and proxy:
+        for found in REPLACED.findall(main_text(main, case, folder)):
+            right = re.sub(rb"\\(.)", rb"\1", found[0]) or found[1] or found[2]
+            files.add(os.path.normpath(os.path.join(os.path.dirname(main), right, b"go.mod")))
+    folders = tuple(folder_name(it) for it in re.split(rb"[,|]", proxy or b"") if it)
+    return Allowed(order, frozenset(files), folders, run.reads_input())
+
+
+def tracer(log):
+    """The words that make strace write the calls of a command, and of all that it starts, to a file."""
+    shown = ["-q", "-xx", "-s", "0", "-e", "signal=none", "-e", f"trace={CALLS}"]
+    return ["strace", "-f", "--seccomp-bpf", *shown, "-o", log]
+
+
+def can_be_seen(folder):
+    """Whether strace is there, knows what it needs, and may look at processes."""
+    log = os.path.join(folder, "try")
+    try:
+        done = subprocess.run([*tracer(log), "true"], stdin=subprocess.DEVNULL, stderr=subprocess.DEVNULL)
+    except FileNotFoundError:
+        return False
+    return done.returncode == 0 and os.path.getsize(log) > 0
+
+
+def name_of(text):
+    """A file's name, which strace shows in hexadecimal digits."""
+    return bytes.fromhex(text.decode().replace("\\x", ""))
+
+
+def faults_of(calls, allowed_files):
+    """What is wrong with the calls of a command."""
+    names, ended, of_loader = [], set(), set()
+    for text in calls:
+        found = CALL.fullmatch(text)
+        if not found:
+            yield f"strace says {text.decode()}"
+            continue
+        call, words, result, _ = found.groups()
+        if call == b"openat" and OPEN.match(words):
+            name, flags = OPEN.match(words).groups()
+            name, flags = name_of(name), flags.rstrip(b",")
+            ended.discard(result)
+            if not READ_ONLY.issuperset(flags.split(b"|")):
+                yield f"opens {name!r} with {flags.decode()}"
+            if LOADER.fullmatch(name):
+                of_loader.add(result)
+            else:
+                of_loader.discard(result)
+                names.append(name)
+        elif call == b"read":
+            file = words.split(b",")[0]
+            if file in ended:
+                yield f"reads on after the end of {names[-1:] if file != b'0' else 'standard input'}"
+            if result == b"0":
+                ended.add(file)
+            if file == b"0" and not allowed_files.reads_input:
+                yield "reads standard input"
+        elif not OF_LOADER.match(text) and not (call == b"pread64" and words.split(b",")[0] in of_loader):
+            yield "calls " + HEXADECIMAL.sub(lambda it: ascii(name_of(it[0])).encode(), text).decode()
+    shortest = [os.path.normpath(it) for it in names]
+    if allowed_files.order is not None and shortest != list(allowed_files.order):
+        yield f"opens {names} and not {list(allowed_files.order)}"
+    if allowed_files.order is None:
+        yield from (f"opens {it!r}, which its words do not name" for it in shortest if not allowed_files.has(it))
+        yield from (f"opens {it!r} again" for it, times in collections.Counter(names).items() if times > 1)
+
+
+def calls_of(path, program):
+    """The calls of each process of the program in a log, in the order of their starts. A call during which another
+    process made one has two lines."""
+    begins = b'execve("%s"' % b"".join(b"\\x%02x" % it for it in program.encode())
+    found, unfinished, now = [], {}, {}
+    with open(path, "rb") as file:
+        for process, text in (LINE.fullmatch(it).groups() for it in file):
+            rest = RESUMED.fullmatch(text)
+            text = unfinished.pop(process) + rest[1] if rest else text
+            cut = UNFINISHED.fullmatch(text)
+            if cut:
+                unfinished[process] = cut[1]
+            elif text.startswith(begins):
+                now[process] = []
+                found.append(now[process])
+            elif text.startswith(b"+++"):
+                now.pop(process, None)
+            elif process in now:
+                now[process].append(text)
+    return found
+
+
+def all_faults(path, program, started):
+    """What is wrong with each command, by when it was started, given the log of these commands and no others."""
+    calls = calls_of(path, program)
+    if len(calls) != len(started):
+        sys.exit(f"program: strace saw {len(calls)} commands, and {len(started)} were started")
+    return {it.when: list(faults_of(own, it.allowed)) for it, own in zip(sorted(started), calls)}
+
+
+if __name__ == "__main__":
+    print(__doc__.strip())
+    sys.exit(0 if sys.argv[1:] in (["-h"], ["--help"]) else 2)

@@ -1,0 +1,361 @@
+"""Runs the cases of command lines with bin/gomod, as tools/program.sh says, and then once more in another world.
+
+    program.py PROGRAM [--unproved] [FILE.txt..] [TITLE..]
+
+tools/case_files.py reads the cases, and tools/other_world.py has the other world.
+"""
+
+import concurrent.futures
+import itertools
+import math
+import os
+import re
+import resource
+import shutil
+import socket
+import subprocess
+import sys
+import tempfile
+
+import other_world
+from case_files import (
+    PIPES, bytes_below, case_of, changed, chosen_cases, greatest_sizes, moderate_sizes, remove, tree_of
+)
+
+REFUSE_MEMORY = os.environ.pop("REFUSE_MEMORY", None)
+REFUSE_LATER = os.environ.pop("REFUSE_LATER", None)
+# the variables for each way to refuse an allocation, and what is then said of it
+ALONE = {"allocation {} refused": {}}
+EACH_WAY = {**ALONE, "allocation {} and all later ones refused": {"REFUSE_LATER": "yes"}}
+# how many refused runs there are side by side, and how many are begun before the first result is looked at
+AT_ONCE = len(os.sched_getaffinity(0))
+BATCH = 8 * AT_ONCE
+# the name that each command is called by, as from a folder whose name is not UTF-8
+NAME = b"b\xff/gomod"
+# what a usage error says to type, and what it says is left out of that
+TIP = re.compile(
+    rb"\n\n  tip: ((?:gomod|go|\(cd) .*?)(?=\n       |\n\nUsage: )(?:.*\n       left out: (.*)\n\nUsage: )?", re.S
+)
+# words that what is to be typed has no word of its own for: commands, and options that it does without
+ACCOUNTED = re.compile(
+    rb"(?i:mod|ls|list|all|why|get|add|fmt|format|edit|version|graph|tree|help|chain|versions|update|upgrade)"
+    rb"|--?(versions|v|print|fmt|proxy|C|w)|--proxy=|--?modfile"
+    rb"|-?-json|json|--format|-o|-(d|l|w|i)|--(check|diff|write|in-place|retracted(=.*)?|)"
+)
+NO_MEMORY = b"", b"gomod: no memory\n", 3
+PASSED = b"all allocations passed\n"
+# how many seconds a command has
+LIMIT = 100
+# a standard input without a byte, which ends when this script does
+OPEN_INPUT, ITS_WRITER = os.pipe()
+# the address space that a command may have beside FACTOR times the bytes of its words and files
+SPARE, FACTOR = 64 << 20, 100
+# an output that takes no byte
+CUT = b"", b"", 3
+
+
+def stack_of_readme():
+    """The stack that README.md names, in bytes."""
+    with open("README.md", encoding="utf-8") as file:
+        return 1024 * int(re.search(r"`ulimit -s (\d+)`", file.read())[1])
+
+
+def usual_stack():
+    """The stack that a command has without a limit of ours."""
+    size = resource.getrlimit(resource.RLIMIT_STACK)[0]
+    return math.inf if size == resource.RLIM_INFINITY else size
+
+
+def shell_words(line, folder):
+    """The words of a command line, as bash reads them, up to what is done with its output."""
+    line = re.sub(rb"^\(|\)$| && |( > | \| ).*", b" ", line)
+    words = [b"bash", b"-c", b"printf '%s\\0' " + line]
+    read = subprocess.run(words, cwd=folder, stdin=subprocess.DEVNULL, capture_output=True)
+    return read.stdout.split(b"\0")[:-1] if read.returncode == 0 else []
+
+
+def parts_of(word):
+    """What may stand in the place of a word: without its dashes, its value, what stands before a version."""
+    bare = word.lstrip(b"-")
+    parts = bare + b"=", bare if bare != word else b"", bare.partition(b"=")[2], word.partition(b"@")[0]
+    return [it for it in parts if it]
+
+
+def tip_of(run):
+    """What the report says to type, and the words that it says are left out."""
+    found = TIP.search(run.report)
+    return (found[1], found[2] or b"") if found else None
+
+
+def lost_words(run, tip, left, folder):
+    """The words of the command that are neither to be typed nor left out."""
+    read = shell_words(tip, folder) + shell_words(left, folder)
+    if not shell_words(tip, folder):
+        return [b"(unreadable)"]
+    text = b"\0".join(read)
+    read += [piece for it in read for piece in it.split(b",")]
+    lost = [it for it in run.words[1:] if it not in read and not ACCOUNTED.fullmatch(it)]
+    return [it for it in lost if not any(part in read or (len(part) > 1 and part in text) for part in parts_of(it))]
+
+
+def told(what, out, report, status):
+    """Prints a result."""
+    print(f"  {what}:")
+    for mark, text in ((">", out), ("!", report)):
+        for line in text[:2000].decode("utf-8", "replace").splitlines():
+            print(f"{mark} {line}")
+    print(f"? {status}")
+
+
+class Commands:
+    """The program, with what is known of its commands."""
+
+    def __init__(self, program, is_proved, scratch):
+        self.program, self.is_proved, self.scratch = program, is_proved, scratch
+        self.stack, self.usual_stack = stack_of_readme(), usual_stack()
+        self.refusals = 0  # how many runs had an allocation refused
+        self.cut_runs = set()  # the commands that were tried with a stream that takes nothing, with the stream's name
+        self.home, self.temporary = (os.path.join(scratch, it) for it in ("home", "tmp"))
+        for folder in (self.home, self.temporary):
+            other_world.fill_home(folder)
+        self.environment = {**os.environ, "HOME": self.home, "TMPDIR": self.temporary}
+
+    def wanted(self, run):
+        """The result of a run."""
+        return run.wanted(self.is_proved)
+
+    def stream_to_cut(self, run):
+        """The stream that the run writes to, if any, unless the same command was tried with that stream cut."""
+        stream = "stdout" if run.out else "stderr"
+        tried = b"".join(run.words[1:2]), stream
+        if not (run.out or run.report) or tried in self.cut_runs:
+            return None
+        self.cut_runs.add(tried)
+        return stream
+
+    def stack_with(self, words, environment):
+        """The stack for a command. Its arguments lie there too, and Linux gives them no more than a fourth of it."""
+        texts = [*words, *map(os.fsencode, environment), *map(os.fsencode, environment.values())]
+        size = sum(len(it) + 10 for it in texts)
+        return max(self.stack + size, 4 * size)
+
+    def result(self, run, case, folder, stdin, refused=None, file_bytes=None, memory=None, cut=None):
+        """What a run comes to: output, report and status."""
+        environment = self.environment
+        if refused:
+            environment = {**environment, "LD_PRELOAD": REFUSE_MEMORY, **refused}
+        words = [NAME, *run.words[1:]]
+        stack = self.stack_with(words, environment)
+        # a refused run takes no more stack than the one before it, and a limit makes its start three times as long
+        is_limited = not refused or stack > self.usual_stack
+        most = resource.RLIM_INFINITY
+        if file_bytes is not None:
+            most = SPARE + FACTOR * (file_bytes + sum(map(len, words)))
+        if memory is not None:
+            most = memory
+
+        def limit():
+            resource.setrlimit(resource.RLIMIT_AS, (most, most))
+            resource.setrlimit(resource.RLIMIT_STACK, (stack, stack))
+
+        streams = {"stdout": subprocess.PIPE, "stderr": subprocess.PIPE}
+        given = {"input": stdin} if run.reads_input() else {"stdin": OPEN_INPUT}
+        try:
+            with open("/dev/full", "wb") as full, case.fed(folder) as descriptors:
+                if cut:
+                    streams[cut] = full
+                got = subprocess.run(
+                    words,
+                    executable=self.program,
+                    cwd=folder,
+                    env=environment,
+                    preexec_fn=limit if is_limited else None,
+                    timeout=LIMIT,
+                    pass_fds=descriptors,
+                    **streams,
+                    **given,
+                )
+        except subprocess.TimeoutExpired:
+            sys.exit(f"program: line {run.line} has not ended after {LIMIT} seconds: $ {run.text.decode()}")
+        return got.stdout or b"", got.stderr or b"", got.returncode
+
+    def refused(self, run, case, folder, stdin):
+        """What was refused when the result was wrong for the first time, and that result, or None."""
+        allowed = [NO_MEMORY] if REFUSE_LATER else [NO_MEMORY, self.wanted(run)]
+        for words, variables in (EACH_WAY if REFUSE_LATER else ALONE).items():
+            for number, got in self.each_refused(run, case, folder, stdin, variables):
+                if got not in allowed:
+                    return words.format(number), got
+        return None
+
+    def each_refused(self, run, case, folder, stdin, variables):
+        """The number of each allocation that the command makes, with the result if it is refused. Ends the script if a
+        run without a refusal differs from the case, or is the first, so that nothing was tried."""
+
+        def refused_at(number):
+            return self.result(run, case, folder, stdin, {**variables, "REFUSE_AT": str(number)})
+
+        with concurrent.futures.ThreadPoolExecutor(AT_ONCE) as pool:
+            for first in itertools.count(1, BATCH):
+                numbers = range(first, first + BATCH)
+                for number, (out, report, status) in zip(numbers, pool.map(refused_at, numbers)):
+                    if report.endswith(PASSED):
+                        if number == 1 or (out, report.removesuffix(PASSED), status) != self.wanted(run):
+                            sys.exit(f"program: line {run.line}: no allocation was refused: $ {run.text.decode()}")
+                        return
+                    self.refusals += 1
+                    yield number, (out, report, status)
+
+    def pasted(self, tip, folder):
+        """The status and the report of a command line that is typed in bash, in a copy of the folder of its case."""
+        copy, home = (os.path.join(self.scratch.encode(), it) for it in (b"pasted", b"nowhere"))
+        shutil.copytree(folder, copy, symlinks=True)
+        try:
+            places = os.fsencode(os.path.dirname(self.program)) + b":" + os.environb.get(b"PATH", b"")
+            own = os.path.join(copy, b"~")
+            environment = {**os.environb, b"PATH": places, b"HOME": own if os.path.isdir(own) else home}
+            words = [b"bash", b"-c", tip]
+            got = subprocess.run(words, cwd=copy, env=environment, stdin=subprocess.DEVNULL, capture_output=True)
+            return got.returncode, got.stderr
+        finally:
+            shutil.rmtree(copy)
+
+    def tip_fault(self, run, case, folder):
+        """What is wrong with what a run says to type, if anything is."""
+        tip = tip_of(run)
+        if tip is None or case.is_sized:
+            return None
+        lost = lost_words(run, *tip, self.scratch)
+        if lost:
+            return f"lost: {b' '.join(lost).decode('utf-8', 'replace')}"
+        if tip[0].startswith(b"go ") or not any(it.name == b"go.mod" for it in case.pieces):
+            return None
+        status, report = self.pasted(tip[0], folder)
+        return f"status {status}: {report.decode('utf-8', 'replace')}" if status or report else None
+
+    def faults_of(self, run, case, folder, stdin, file_bytes):
+        """What is wrong with a run: what it was, given as a text or as a result beside the one that is wanted."""
+        got, over, wanted = self.result(run, case, folder, stdin, None, file_bytes, case.memory), "", self.wanted(run)
+        if got == wanted and REFUSE_MEMORY:
+            if not case.is_sized:
+                over, got = self.refused(run, case, folder, stdin) or ("", got)
+            wanted = NO_MEMORY if over and REFUSE_LATER else wanted
+        elif got == wanted:
+            fault = self.tip_fault(run, case, folder)
+            if fault:
+                yield "what is to be typed", fault
+        stream = self.stream_to_cut(run)
+        if got == wanted and stream:
+            over, wanted = f"{stream} is /dev/full", CUT
+            got = self.result(run, case, folder, stdin, None, None, case.memory, stream)
+        if got != wanted:
+            yield over, (got, wanted)
+
+    def passes(self, path, case):
+        """Whether a case passes. Prints what is wrong."""
+        root = tempfile.mkdtemp(prefix="case-", dir=self.scratch).encode()
+        folder, said = os.path.join(root, b"main"), []
+        os.mkdir(folder)
+        try:
+            case.lay(folder)
+            stdin, trees = case.stdin(), self.trees(root)
+            file_bytes = len(stdin) + bytes_below(folder) if case.is_sized else None
+            for run in case.commands():
+                for over, fault in self.faults_of(run, case, folder, stdin, file_bytes):
+                    if not said:
+                        print(f"{path}:{case.line}: {case.title}")
+                    said.append(over)
+                    print(f"  line {run.line}{over and ', '}{over}: $ {run.text.decode()}")
+                    if isinstance(fault, str):
+                        print(f"  {fault}")
+                    else:
+                        told("got", *fault[0])
+                        told("wanted", *fault[1])
+            differing = changed(trees, self.trees(root))
+            if differing:
+                if not said:
+                    print(f"{path}:{case.line}: {case.title}")
+                said.append("files")
+                print(f"  files that were made, changed or removed: {differing}")
+        finally:
+            remove(root)
+        return not said
+
+    def trees(self, root):
+        """What the folders of a case, and that of HOME and TMPDIR, have."""
+        return {**tree_of(root), **tree_of(self.home.encode()), **tree_of(self.temporary.encode())}
+
+
+def standard_inputs(text):
+    """Each kind of standard input, with what it gives a child: the text, or nothing that can be read."""
+    with tempfile.TemporaryFile() as file:
+        file.write(text)
+        file.seek(0)
+        yield "a file", {"stdin": file}, True
+    one, other = socket.socketpair()
+    with one, other:
+        one.sendall(text)
+        one.shutdown(socket.SHUT_WR)
+        yield "a socket", {"stdin": other}, True
+    yield "a pipe", {"input": text}, True
+    folder = os.open("/", os.O_RDONLY)
+    yield "a folder", {"stdin": folder}, False
+    os.close(folder)
+    yield "closed", {"preexec_fn": lambda: os.close(0)}, False
+
+
+def reads_each_input(program):
+    """Whether `fmt -` prints what each kind of standard input gives, and reports one that can't be read."""
+    good = True
+    printed, unread = (b"module example.com/m\n", b"", 0), (b"", b"gomod: cannot read -\n", 3)
+    for kind, given, is_readable in standard_inputs(b"module   example.com/m\n"):
+        done = subprocess.run([program, "fmt", "-"], capture_output=True, timeout=LIMIT, **given)
+        got, wanted = (done.stdout, done.stderr, done.returncode), printed if is_readable else unread
+        if got != wanted:
+            good = False
+            print(f"standard input is {kind}: $ gomod fmt -")
+            told("got", *got)
+            told("wanted", *wanted)
+    return good
+
+
+def is_run_here(case):
+    """Whether a case is run as this user, with files as its words name them."""
+    is_large = REFUSE_MEMORY and (case.is_large() or case.has(*PIPES))
+    is_root = not os.geteuid()
+    return not (case.is_rooted() or is_large or (is_root and any(it.has_mode() for it in case.pieces)))
+
+
+def main(program, *words):
+    """Runs the cases, in this world and in another one, and prints how many passed and failed."""
+    is_proved = words[:1] != ("--unproved",)
+    words = words if is_proved else words[1:]
+    counts = {True: 0, False: 0}
+    scratch = tempfile.mkdtemp(prefix="gomod-program-")
+    try:
+        commands = Commands(program, is_proved, scratch)
+        for path, *lines in chosen_cases(words, greatest_sizes):
+            case = case_of(*lines)
+            if is_run_here(case):
+                counts[commands.passes(path, case)] += 1
+        if not words and not REFUSE_MEMORY:
+            counts[reads_each_input(program)] += 1
+        if REFUSE_MEMORY:
+            print(f"{counts[True]} passed, {counts[False]} failed, {commands.refusals} runs with an allocation refused")
+            return 1 if counts[False] else 0
+    finally:
+        shutil.rmtree(scratch)
+    chosen = chosen_cases(words, moderate_sizes)
+    passed, failed, seen = other_world.run(program, is_proved, chosen)
+    if seen is None:
+        print("skipped, for want of strace: what each command opens")
+    said = "; what they open was not looked at" if seen is None else f", {seen} commands open nothing else"
+    print(f"{counts[True]} passed, {counts[False]} failed; in the other world {passed} passed, {failed} failed{said}")
+    return 1 if counts[False] or failed else 0
+
+
+if __name__ == "__main__":
+    if sys.argv[1:] in (["-h"], ["--help"]):
+        print(__doc__.strip())
+        sys.exit()
+    sys.exit(main(*sys.argv[1:]))
