@@ -10,8 +10,12 @@
 # the source text of each `if`, arm, loop and `let .. else` that leads to the value, and its statement; without any of
 # these all that stands before it in the function. The constants of the file that it names follow.
 #
-# Prints each failure that has no row, or has another condition than its row, each row that is left, and how many
-# failures there are. The status is 1 if one is wrong. Tests and the runner of cases are not looked at. It needs
+# A call such as `reserve` or `with_capacity` could ask for more than there is, and so make a failure up. So a second list
+# has each of them, and each call in a crate of its function that asks for as much as it is told to. Below a row stands
+# all that its function has before the call, and the functions and constants of the file that the call names.
+#
+# Prints each failure or call that has no row, or another text than its row, each row that is left, and how many there
+# are. The status is 1 if one is wrong. Tests and the runner of cases are not looked at. It needs
 # python3.
 set -euo pipefail
 cd "$(dirname "$0")/.."
@@ -76,7 +80,117 @@ gomod_words/src/usage.rt line: the text could not be made
   match format!(in alloc; "{message}\n\nUsage: {usage}{TRY_HELP}") { Err(_) => UsageFault::NoMemory
 """
 
+# the same for each call that asks for room by its size: why the size is no more than is needed
+SIZED = r"""
+gm_file/src/dep_file.rt read_twice: a pair takes 40 bytes
+  let retracts = retractions_of_bytes(alloc, names, bytes)?; let pairs = Vec::with_capacity(alloc, bytes.len() /
+  BYTES_OF_ONE)? where BYTES_OF_ONE is 40
+gm_file_edit/src/keyed_lines.rt keys_of: one for each line
+  let mut keys = Vec::with_capacity(alloc, lines.len())?
+gm_file_edit/src/keyed_lines.rt make_room: as much as it is told
+  lines.reserve(count)?
+gm_file_edit/src/keyed_lines.rt make_room: the same
+  lines.reserve(count)?; keys.reserve(count)
+gm_file_edit/src/keyed_lines.rt insert: one line
+  make_room(&mut self.lines, &mut self.keys, 1)? where make_room is { lines.reserve(count)?; keys.reserve(count) }
+gm_file_edit/src/keyed_lines.rt insert_after_blank: two lines
+  make_room(&mut self.lines, &mut self.keys, 2)? where make_room is { lines.reserve(count)?; keys.reserve(count) }
+gm_file_edit/src/marking.rt marks: a mark for each line
+  let Aim { verb, sought } = aim_of(change); let number = sought_key(sought); let mut marks = vec![in alloc; false;
+  lines.len()]?
+gm_graph/src/cache/file_table.rt reach: up to the place that is put in
+  let number = number as usize; if number < self.places.len() { return Ok(()); } self.places.resize(number + 1,
+  OptionalPlace::none())?
+gm_graph/src/graph_builder.rt new: as many as it is told
+  Ok(GraphBuilder { alloc, marks: Vec::with_capacity(alloc, count)?
+gm_graph/src/loading.rt turn_list: one for each turn
+  let mut list = Vec::with_capacity(alloc, turns.len())?
+gm_graph/src/starting.rt first_graph: one for each module that is there
+  let required = cache.first_requirements(); let mut builder = GraphBuilder::new(alloc, required.module_count())?
+gm_graph/src/worklist.rt make_marks: as many marks as it is told
+  if self.marks.len() < count { self.marks.resize(count, Marks::none())?
+gm_graph_select/src/chaining.rt chain_to: one step
+  let Step::Of(goal) = last else { return Ok(Some(vec![in alloc; Step::Main]?))
+gm_graph_select/src/graph.rt new: as many as there are modules
+  let is_vertex = marks_of(alloc, modules.len(), &lists, &sources)?
+gm_graph_select/src/marking.rt marks_of: as many as it is told
+  let mut marks = vec![in alloc; false; count]?
+gm_graph_select/src/ranking.rt ranking_of: one for each of them
+  let mut vertices = Vec::with_capacity(alloc, all.len())?
+gm_graph_select/src/ranking.rt ranking_of: as many as it is told
+  let mut vertices = Vec::with_capacity(alloc, all.len())?; let mut ranks = vec![in alloc; 0; modules]?
+gm_graph_select/src/ranking.rt ranked: one for each mark
+  let mut all = with_numbers(alloc, modules, is_vertex)?; all.sort_unstable(); ranking_of(alloc, all, is_vertex.len())
+  where ranking_of is { let mut vertices = Vec::with_capacity(alloc, all.len())?; let mut ranks = vec![in alloc; 0;
+  modules]?; for next in all { ranks[next.number as usize] = vertices.len() as u32; vertices.push(next.vertex)?; }
+  Ok(Ranking { vertices, ranks }) }
+gm_graph_select/src/searching.rt new: one for each step
+  let mut is_found = vec![in alloc; false; graph.step_count()]?
+gm_graph_select/src/searching.rt new: one for each list
+  let mut is_found = vec![in alloc; false; graph.step_count()]?; is_found[0] = true; let is_passed = vec![in alloc;
+  false; graph.list_count()]?
+gm_graph_select/src/searching.rt visits_to: one visit
+  let main = Visit { number: 0, before: 0, }; let mut due = vec![in alloc; main]?
+gm_name/src/escaping.rt escape: at least as long as the text
+  let mut name = String::with_capacity(alloc, text.len())?
+gm_name/src/kept_names.rt keep_new: one more
+  self.names.reserve(1)?
+gm_name/src/tag_index.rt empty_buckets: as many as it is told
+  Ok(vec![in alloc; Bucket::new(); many]?)
+gm_name/src/tag_index.rt doubled: twice as many as there are
+  let many = buckets.len() * 2; let mut doubled = Vec::with_capacity(alloc, many)?
+gm_name/src/tag_index.rt make_room: 64 at first
+  let many = self.buckets.len(); if many == 0 { self.buckets = empty_buckets(self.alloc, FIRST)? where empty_buckets
+  is { Ok(vec![in alloc; Bucket::new(); many]?) } where FIRST is 64
+gm_name/src/tag_marks.rt no_marks: as many as it is told
+  Ok(vec![in alloc; false; many]?)
+gm_name/src/tag_marks.rt make: 1,024
+  if self.marks.len() != MANY { self.marks = no_marks(self.alloc, MANY)? where no_marks is { Ok(vec![in alloc; false;
+  many]?) } where MANY is 1024
+gm_name_table/src/module_table.rt number: one more
+  let tag = pair_tag(pair); let first = self.index.first_with(tag); if let Some(number) =
+  self.index.find(&self.modules, first, pair) { return Ok(number); } if self.modules.len() >= MOST_PLACES as usize {
+  return Err(AllocError); } let copy = pair.copy(self.alloc)?; self.modules.reserve(1)?
+gm_store/src/folders/relative_path.rt relative_name: 128 bytes, more than most names have
+  let mut text = String::with_capacity(alloc, ROOM)? where ROOM is 128
+gm_store/src/reading.rt make_room: as many bytes as it is told
+  piece.resize(length, 0u8)
+gm_store/src/reading.rt read_next: at most 65,536 bytes
+  let wanted = (LIMIT + 1 - bytes.len()).min(piece.len()); let count = read_piece(reader, &mut piece[..wanted],
+  bytes)?; if count == piece.len() && count < MOST { make_room(piece, (count * GROWTH).min(MOST))? where make_room is
+  { piece.resize(length, 0u8) } where GROWTH is 16 where LIMIT is 16_777_216 where MOST is 65_536
+gm_store/src/reading.rt read_by_pieces: 4,096 bytes
+  if piece.is_empty() { make_room(piece, FIRST)? where make_room is { piece.resize(length, 0u8) } where FIRST is 4_096
+gm_store/src/sinks/memory.rt new: as many bytes as it is told
+  Ok(MemorySink { bytes: Vec::with_capacity(alloc, room)?
+gm_store/src/versions/list.rt versions_of: no more than lines, or than versions that the text has room for
+  let mut versions = Vec::with_capacity(alloc, room_for(text))? where room_for is { let line_ends =
+  text.iter().filter(|byte| **byte == b'\n').count(); line_ends.min(text.len() / SHORTEST) + 1 } where SHORTEST is 7
+gm_store_sums/src/hashing.rt text_of: the length of each hash
+  let mut hash = String::with_capacity(alloc, HASH_LEN)? where HASH_LEN is 47
+gm_syntax/src/doc.rt parse: at most 64 lines, and one for 16 bytes
+  let mut reader = LineReader::new(alloc, bytes)?; let ready = (reader.bytes_left() /
+  BYTES_PER_LINE).min(MAX_RESERVED_LINES); let mut lines = Vec::with_capacity(alloc, ready)? where BYTES_PER_LINE is
+  16 where MAX_RESERVED_LINES is 64
+gm_syntax/src/reader.rt push_word: at most three words
+  if words.is_empty() { words.reserve_exact(line_len.min(3))?
+gm_syntax/src/reader.rt read_line: no more than its bytes
+  let mut rest = line; let mut after_bare = false; 'pieces: loop { let at = first + (line.len() - rest.len()); match
+  piece_of(after_bare, rest.as_bytes()) { Piece::End => { return Ok(LineParts { words, comment: None, }); }
+  Piece::Comment => { let (text, _) = rest.split_at(trimmed_len(rest.as_bytes())); return Ok(LineParts { words,
+  comment: Some(CowStr::Borrowed(text)), }); } Piece::Fault(kind) => return Err(LineSyntaxFault::Syntax(kind)),
+  Piece::Blank => { let (_, after) = rest.split_at(1); rest = after; after_bare = false; } Piece::Word(kind, len) => {
+  let (text, after) = rest.split_at(len); push_word( &mut words, Token::in_source(kind, text, at as u32, number as
+  u32), line.len(), )? where push_word is { if words.is_empty() { words.reserve_exact(line_len.min(3))?; }
+  words.push(word)?; Ok(()) }
+gomod_words/src/given.rt word_at: 256 bytes at first, then twice as many while the word is longer
+  let mut room = FIRST_ROOM; for _ in 0..usize::BITS { let mut word = Vec::new(rt.alloc()); word.resize(room, 0u8)?
+  where FIRST_ROOM is 256
+"""
+
 NAMES = r"(?:NoMemory|AllocError|AllocFailed|OutOfMemory|Memory)"
+# a call that asks for room by its size
+ROOM = re.compile(r"(?<!fn )\b(?:try_)?(?:reserve(?:_exact)?|resize(?:_with)?|with_capacity|from_elem)\(|\bvec!")
 # such a name that is no argument of a type, and converts no other failure
 FAILURE = re.compile(rf"\b{NAMES}\b(?!\s*(?:::from\b|>))")
 # comments, texts and characters
@@ -202,6 +316,15 @@ class Source:
             steps = [self.text[body + 1 : self.end_of(body, at)]]
         return joined(" ".join(reversed(steps)))
 
+    def size_of(self, body, at):
+        """All that stands in a body before the end of the statement that has a call, and after that the functions of
+        the file that are called there for its arguments."""
+        brace = self.brace_around(at)
+        text = joined(self.text[body + 1 : self.end_of(brace, at)])
+        called = set(re.findall(r"(?<![.:\w])[a-z]\w*(?=\()", self.code[at : self.end_of(brace, at)]))
+        own = {name: joined(self.text[it : self.other[it] + 1]) for name, _, it in self.bodies() if name in called}
+        return text + "".join(f" where {name} is {body}" for name, body in sorted(own.items()))
+
     def with_constants(self, condition):
         """A condition, and the constants of the file that it names."""
         for name in sorted(set(re.findall(r"\b[A-Z][A-Z_]+\b", condition))):
@@ -210,15 +333,42 @@ class Source:
         return condition
 
 
-def failures_in(path):
+def failures_in(source):
     """The function and the condition of each failure of memory that a file makes up."""
-    source = Source(path.read_text())
     for name, head, body in source.bodies():
         impl = source.text.rfind("\nimpl", 0, head) + 1
         for found in FAILURE.finditer(source.code, body, source.other[body]):
             condition = source.condition_of(body, found.start())
             if condition and not (PATH.fullmatch(condition) and FROM_MEMORY.match(source.text, impl)):
                 yield name, source.with_constants(condition)
+
+
+def own_name(source, name, head):
+    """How a function is called: by its name, for `new` with the name of its type."""
+    impl = re.match(r"\nimpl(?:<.*?>)? (?:\w+ for )?(\w+)", source.text[source.text.rfind("\nimpl", 0, head) :])
+    return f"{impl[1]}::new" if name == "new" and impl else name
+
+
+def rooms_in(sources):
+    """The file, the function, and all that leads to the size, of each call that asks for room by its size, and of each
+    call in a crate of its function that asks for as much as it is told to."""
+    calls, found, old = {}, {}, None
+    while old != calls:
+        old = {crate: set(names) for crate, names in calls.items()}
+        for name, source in sources.items():
+            own = calls.setdefault(name.partition("/")[0], {ROOM.pattern})
+            pattern = re.compile("|".join(sorted(own)))
+            for function, head, body in source.bodies():
+                told = set(re.findall(r"(\w+): usize", source.code[head:body]))
+                for call in pattern.finditer(source.code, body, source.other[body]):
+                    at = call.start()
+                    found[name, at] = (name, function, source.with_constants(source.size_of(body, at)))
+                    statement = source.code[at : source.end_of(source.brace_around(at), at)]
+                    # what a value is made of is no size
+                    statement = re.sub(r"\w+::\w+\([^()]*\)", "", statement)
+                    if told & set(re.findall(r"\w+", statement)):
+                        own.add(rf"(?<!fn )(?<![.\w]){own_name(source, function, head)}\(")
+    return [found[it] for it in sorted(found)]
 
 
 def row_of(name, function, condition):
@@ -234,23 +384,28 @@ def rows_of(text):
         yield *head.partition(":")[0].split(), joined(condition)
 
 
-made = []
-for path in sorted(pathlib.Path("crates").glob("*/src/**/*.rt")):
-    name = str(path.relative_to("crates"))
-    if not LEFT_OUT.match(name):
-        made += [(name, *it) for it in failures_in(path)]
+def compare(what, made, listed):
+    """Prints what is made and isn't listed, and the other way round, and returns how many rows that are."""
+    left, wrong = list(rows_of(listed)), 0
+    for one in made:
+        if one in left:
+            left.remove(one)
+        else:
+            print(f"{what}, or is to be listed in tools/memory-failures.sh:\n{row_of(*one)}")
+            wrong += 1
+    for row in left:
+        print(f"is in tools/memory-failures.sh and not in the sources:\n{row_of(*row)}")
+    return wrong + len(left)
+
+
+sources = {str(it.relative_to("crates")): it for it in sorted(pathlib.Path("crates").glob("*/src/**/*.rt"))}
+sources = {name: Source(it.read_text()) for name, it in sources.items() if not LEFT_OUT.match(name)}
+made = [(name, *it) for name, source in sources.items() for it in failures_in(source)]
+rooms = rooms_in(sources)
 if sys.argv[1:]:
-    print("\n".join(row_of(*it) for it in made))
+    print("\n".join(row_of(*it) for it in [*made, *rooms]))
     sys.exit()
-left, wrong = list(rows_of(LISTED)), 0
-for failure in made:
-    if failure in left:
-        left.remove(failure)
-    else:
-        print(f"makes up a failure of memory, or is to be listed in tools/memory-failures.sh:\n{row_of(*failure)}")
-        wrong += 1
-for row in left:
-    print(f"is in tools/memory-failures.sh and not in the sources:\n{row_of(*row)}")
-print(f"{len(made)} failures of memory are made, each for the reason in the list; {wrong + len(left)} wrong")
-sys.exit(1 if wrong or left else 0)
+wrong = compare("makes up a failure of memory", made, LISTED) + compare("asks for room", rooms, SIZED)
+print(f"{len(made)} failures of memory and {len(rooms)} sizes, each for the reason in the list; {wrong} wrong")
+sys.exit(1 if wrong else 0)
 PYTHON

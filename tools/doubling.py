@@ -1,0 +1,219 @@
+"""Runs each command of gomod at sizes that double, and says where twice the input takes more than 2.4 times as much.
+
+    doubling.py PROGRAM
+
+tools/doubling.sh says what is measured.
+"""
+
+import base64
+import concurrent.futures
+import hashlib
+import os
+import re
+import resource
+import shutil
+import subprocess
+import sys
+import tempfile
+from typing import Callable, NamedTuple
+
+MOST = 2.4
+# without valgrind CPU time is measured: of greater inputs, and the least of so many runs
+LARGER, RUNS = 16, 5
+# how many seconds a run has
+LIMIT = 120
+COUNTED = re.compile(r"I\s+refs:\s+([\d,]+)")
+
+
+def block(verb, lines):
+    """A block of a go.mod."""
+    return f"{verb} (\n" + "".join(f"\t{it}\n" for it in lines) + ")\n"
+
+
+def main_of(lines, more="", go="1.16"):
+    """A main file that requires the modules in these lines."""
+    return f"module example.com/m\n\ngo {go}\n\n" + block("require", lines) + more
+
+
+def numbered(count, text="a.c/{} v1.0.0"):
+    """A text with each number below a count."""
+    return [text.format(it) for it in range(count)]
+
+
+def ring(count):
+    """The files of a main module that requires the first of so many, each of which requires the next."""
+    files = {
+        f"proxy/a.c/{it}/@v/v1.0.0.mod": f"module a.c/{it}\n\nrequire a.c/{(it + 1) % count} v1.0.0\n"
+        for it in range(count)
+    }
+    return {"go.mod": main_of(["a.c/0 v1.0.0"])} | files
+
+
+def sum_of(path, text):
+    """The line of a go.sum for the go.mod with a text."""
+    inner = hashlib.sha256(text.encode()).hexdigest()
+    digest = hashlib.sha256(f"{inner}  go.mod\n".encode()).digest()
+    return f"{path} v1.0.0/go.mod h1:{base64.b64encode(digest).decode()}\n"
+
+
+def wide(count):
+    """The files of a main module that requires so many, none of which requires anything, and their sums."""
+    files = {f"proxy/{it}/@v/v1.0.0.mod": f"module {it}\n" for it in numbered(count, "a.c/{}")}
+    sums = "".join(sum_of(it, f"module {it}\n") for it in numbered(count, "a.c/{}"))
+    return {"go.mod": main_of(numbered(count)), "go.sum": sums} | files
+
+
+def pruned(count):
+    """The files of a main module that requires one, which requires so many."""
+    return {
+        "go.mod": main_of(["example.com/a v1.0.0"], go="1.17"),
+        "proxy/example.com/a/@v/v1.0.0.mod": main_of(numbered(count), go="1.17").replace("/m\n", "/a\n", 1),
+    }
+
+
+def replaced(count):
+    """A main file that excludes so many versions, and replaces as many others."""
+    more = block("exclude", numbered(count, "a.c v1.0.{}")) + block("replace", numbered(count, "a.c v1.1.{} => ./x"))
+    return {"go.mod": main_of(["a.c v1.0.0"], more)}
+
+
+def summed(count):
+    """The files of a module, and a go.sum with so many others."""
+    return {"go.mod": "module example.com/m\n", "go.sum": "".join(numbered(count, "a.c/{} v1.0.0/go.mod h1:x\n"))}
+
+
+def retracted(count):
+    """A list of so many versions, each of which the file of the latest one retracts."""
+    versions = numbered(count, "v1.0.{}")
+    return {
+        "proxy/a.c/@v/list": "\n".join(versions),
+        f"proxy/a.c/@v/v1.0.{count - 1}.mod": "module a.c\n\n" + block("retract", versions),
+    }
+
+
+class Row(NamedTuple):
+    """What grows, its first size, the command line, its files with `stdin` among them, and its status. A word that
+    begins with `*` stands there as often as the size says, and so does what is in braces in a word."""
+
+    what: str
+    first: int
+    text: str
+    files: Callable[[int], dict]
+    status: int = 0
+
+    def words(self, size):
+        """The words of the command line at a size."""
+        words = [re.sub(r"\{(.*)\}", lambda found: found[1] * size, it) for it in self.text.split()]
+        return [one for it in words for one in ([it[1:]] * size if it.startswith("*") else [it])]
+
+
+def lines(count):
+    """A main file of so many requirements."""
+    return {"go.mod": main_of(numbered(count))}
+
+
+PROXY = "--proxy proxy"
+ROWS = [
+    Row("lines", 2000, "fmt go.mod", lines),
+    Row("words of a line", 8000, "fmt go.mod", lambda n: {"go.mod": "x " * n}),
+    Row("bytes of a comment", 200_000, "fmt go.mod", lambda n: {"go.mod": "//" + "x" * n}),
+    Row("lines", 2000, "edit go.mod require=a.c/0@v1.1.0 droprequire=a.c/1 go=1.22", lines),
+    Row("operations", 1000, "edit go.mod *go=1.22", lambda n: {"go.mod": "module example.com/m\n"}),
+    Row("modules", 200, f"list {PROXY}", wide),
+    Row("modules with sums", 200, f"list {PROXY} --sum go.sum --limit 1", wide),
+    Row("missing modules", 500, f"list {PROXY}", lines, 1),
+    Row("requirements of a dependency", 2000, f"list {PROXY}", pruned),
+    Row("excludes and replaces", 1000, f"list {PROXY}", replaced),
+    Row("sums", 2000, f"list {PROXY} --sum go.sum", summed),
+    Row("proxy folders", 500, "list --proxy {p,}proxy", lambda n: wide(4)),
+    Row("words that are left out", 500, f"list {PROXY} *x", lambda n: {}, 2),
+    Row("modules in a ring", 200, f"graph {PROXY}", ring),
+    Row("requirements of a dependency", 2000, f"graph {PROXY}", pruned),
+    Row("modules in a ring", 200, f"chain a.c/1 {PROXY}", ring),
+    Row("versions", 4000, "versions a.c", lambda n: {"stdin": "\n".join(numbered(n, "v1.0.{}"))}),
+    Row("versions and retractions", 2000, f"versions a.c {PROXY}", retracted),
+]
+
+
+class Meter:
+    """The program, and how it is measured: by valgrind if it is there."""
+
+    def __init__(self, program):
+        self.program, self.valgrind = program, shutil.which("valgrind")
+        self.unit = "instructions" if self.valgrind else "seconds"
+
+    def sizes(self, first):
+        """Three sizes, each twice the one before it."""
+        return [first * times * (1 if self.valgrind else LARGER) for times in (1, 2, 4)]
+
+    def cost(self, words, files):
+        """What a command line takes over these files, its status, and the first line of its report."""
+        with tempfile.TemporaryDirectory(prefix="gomod-doubling-") as folder:
+            for name, text in files.items():
+                place = os.path.join(folder, name)
+                os.makedirs(os.path.dirname(place), exist_ok=True)
+                with open(place, "w", encoding="utf-8") as file:
+                    file.write(text)
+            stdin = files.get("stdin", "").encode()
+            if self.valgrind:
+                return self.counted(words, folder, stdin)
+            runs = [self.timed(words, folder, stdin) for _ in range(RUNS)]
+            return min(it[0] for it in runs), *runs[0][1:]
+
+    def counted(self, words, folder, stdin):
+        """The instructions of a run."""
+        options = ["--tool=cachegrind", "--cache-sim=no", "--cachegrind-out-file=/dev/null"]
+        with tempfile.NamedTemporaryFile("r", prefix="gomod-doubling-", encoding="utf-8") as log:
+            told = f"--log-file={log.name}"
+            done = self.run([self.valgrind, *options, told, self.program, *words], folder, stdin)
+            found = COUNTED.search(log.read())
+        if not found:
+            sys.exit(f"doubling: valgrind counted nothing: gomod {' '.join(words[:3])}")
+        return int(found[1].replace(",", "")), done.returncode, done.stderr.partition(b"\n")[0]
+
+    def timed(self, words, folder, stdin):
+        """The CPU seconds of a run."""
+        before = resource.getrusage(resource.RUSAGE_CHILDREN)
+        done = self.run([self.program, *words], folder, stdin)
+        after = resource.getrusage(resource.RUSAGE_CHILDREN)
+        seconds = after.ru_utime + after.ru_stime - before.ru_utime - before.ru_stime
+        return seconds, done.returncode, done.stderr.partition(b"\n")[0]
+
+    @staticmethod
+    def run(words, folder, stdin):
+        """A run of the program."""
+        out, report = subprocess.DEVNULL, subprocess.PIPE
+        return subprocess.run(words, cwd=folder, input=stdin, stdout=out, stderr=report, timeout=LIMIT, check=False)
+
+    def measured(self, row):
+        """A line on a row of the table, and whether it is as it should be."""
+        sizes = self.sizes(row.first)
+        costs, statuses, reports = zip(*(self.cost(row.words(it), row.files(it)) for it in sizes))
+        # what a run takes at any size is in neither difference
+        growth = (costs[2] - costs[1]) / max(costs[1] - costs[0], 1e-9)
+        shown = ", ".join(f"{it:,}" if self.valgrind else f"{it:.2f}" for it in costs)
+        line = f"{growth:.2f} times for twice the {row.what}: gomod {row.text} ({shown} {self.unit})"
+        if set(statuses) != {row.status}:
+            return f"{line}, statuses {statuses}, reports {reports}", False
+        return line, growth <= MOST
+
+
+def main(program):
+    """Measures all, and returns the status."""
+    meter = Meter(program)
+    # CPU times are of all children, so that there may be one at a time
+    at_once = len(os.sched_getaffinity(0)) if meter.valgrind else 1
+    wrong = 0
+    with concurrent.futures.ThreadPoolExecutor(at_once) as pool:
+        for line, is_right in pool.map(meter.measured, ROWS):
+            wrong += not is_right
+            print(line if is_right else f"wrong: {line}", flush=True)
+    print(f"{len(ROWS)} rows, {wrong} wrong, by {meter.unit}")
+    return 1 if wrong else 0
+
+
+if __name__ == "__main__":
+    if sys.argv[1:2] in (["-h"], ["--help"]):
+        print(__doc__.strip())
+        sys.exit()
+    sys.exit(main(*sys.argv[1:]))
