@@ -29,21 +29,30 @@ ERRORS = {
 }
 # how few bytes a read or write may move; a read of none is the end of a file, so only writes may move none
 LENGTHS = {"read": range(1, 20), "write": range(20)}
-# two command lines or more of each command, each with its standard input. E is example/, D and V are of the cases.
+with open("example/go.mod", "rb") as main_file, open("example/go.sum", "rb") as sum_file:
+    MAIN, SUMS = main_file.read(), sum_file.read()
+# Two command lines or more of each command, each with its standard input. Together those of a command read each kind of
+# file that it has: by name and from standard input, of a proxy and a folder, with and without sums. E is example/, D and
+# V are of the cases, and M has a main file whose faults are longer than what is written at once.
 LINES = [
     ("fmt E/hand-written.mod", b""),
-    ("fmt D/go.mod", b""),
+    ("fmt -", MAIN),
     ("edit E/go.mod go=1.22 require=example.com/q@v1.3.0 droprequire=rsc.io/quote", b""),
-    ("edit D/go.mod go=1.22 require=example.com/q@v2.3.0", b""),
+    ("edit - go=1.22 require=example.com/q@v2.3.0", MAIN),
     ("graph --mod D/go.mod --proxy D/proxy", b""),
-    ("graph --mod E/go.mod --proxy E/cache/download --sum E/go.sum", b""),
+    ("graph --mod - --proxy E/cache/download --sum E/go.sum", MAIN),
     ("list --mod E/go.mod --proxy E/cache/download --sum E/go.sum", b""),
-    ("list --mod E/go.mod --proxy E/cache/download|E/cache/download", b""),
+    ("list --mod E/go.mod --proxy E/cache/download|E/cache/download --sum -", SUMS),
     ("list --mod E/go.mod --proxy E/none", b""),
-    ("chain rsc.io/sampler --mod E/go.mod --proxy E/none,E/cache/download", b""),
+    ("list --mod D/go.mod --proxy D/proxy", b""),
+    ("list --mod M/go.mod --proxy M", b""),
+    ("chain rsc.io/sampler --mod E/go.mod --proxy E/none,E/cache/download --sum E/go.sum", b""),
     ("chain example.com/Upper --mod D/go.mod --proxy D/proxy", b""),
+    ("chain rsc.io/sampler --mod - --proxy E/cache/download", MAIN),
     ("versions example.com/p", b"v1.10.0\nv1.9.0\n\njunk\nv2.0.0\n"),
     ("versions example.com/p --proxy V/cache,V/mirror", b""),
+    ("list --limit 0 --proxy D/proxy", b""),
+    ("edit --help", b""),
 ]
 FOLDERS = {"E": "example", "D": "crates/run_cases/data/example", "V": "crates/run_cases/data/versions"}
 # the modules of the main file in D that a folder and another module replace
@@ -113,7 +122,7 @@ class Line:
 
     def is_named(self, file):
         """Whether the words name a file, or it is standard input."""
-        return file in (self.words[1], self.value_of("--mod"), self.value_of("--sum"), "-")
+        return file in (*self.words[1:2], self.value_of("--mod"), self.value_of("--sum"), "-")
 
     def refusal(self, file):
         """The result if a file can't be read."""
@@ -266,6 +275,9 @@ def main(program, library, seconds, seed):
     try:
         for name, place in FOLDERS.items():
             shutil.copytree(place, os.path.join(folder, name))
+        os.mkdir(os.path.join(folder, "M"))
+        with open(os.path.join(folder, "M", "go.mod"), "w", encoding="utf-8") as file:
+            file.write("module m\n" + "".join(f"require local/{it} v1.0.0\n" for it in range(200)))
         trial = Trial(program, library, folder)
         lines = [Line(trial, *it) for it in LINES]
         trial.try_each(lines)

@@ -1,0 +1,194 @@
+"""Runs gomod over files that others change meanwhile, and many at once, and says which end is wrong.
+
+    races.py PROGRAM SECONDS [SEED]
+
+For so many seconds two writers change the files of a proxy: in place, by another file in their place, cut off, longer,
+gone, a folder, a link. A run prints what is right of some state of the files, or reports a fault; with a go.sum the list
+that it prints is the only right one. Then 200 run at once. tools/faults.sh runs it if --whole is given.
+"""
+
+import base64
+import contextlib
+import hashlib
+import os
+import random
+import shutil
+import subprocess
+import sys
+import tempfile
+import threading
+import time
+
+MODULES, AT_ONCE, LIMIT = 12, 200, 60
+WAYS = ["in place", "in place", "renamed", "renamed", "cut", "longer", "gone", "folder", "link"]
+LINES = [
+    "list --proxy P --sum go.sum",
+    "list --proxy P",
+    "graph --proxy P",
+    "chain q.x/m0 --proxy P",
+    "list --proxy P|P --sum go.sum",
+]
+
+
+def place(number):
+    """Where the file of a module is."""
+    return f"P/q.x/m{number}/@v/v1.0.0.mod"
+
+
+def text_of(number, is_other):
+    """The file of a module, of more bytes than are read at once: it requires two others, or one of its own."""
+    ends = [f"extra{number}"] if is_other else [f"m{(number + it) % MODULES}" for it in (1, 3)]
+    required = "".join(f"require q.x/{it} v1.0.0\n" for it in ends)
+    return f"module q.x/m{number}\n\ngo 1.16\n\n//{'c' * 5000}\n{required}//{'d' * 70_000}\n"
+
+
+def write(name, text):
+    """Writes a file, with its folders."""
+    os.makedirs(os.path.dirname(name) or ".", exist_ok=True)
+    with open(name, "w", encoding="utf-8") as file:
+        file.write(text)
+
+
+def replace(name, text, seed):
+    """Puts another file in the place of one at once."""
+    write(f"{name}.{seed}", text)
+    os.replace(f"{name}.{seed}", name)
+
+
+def lay():
+    """Lays the files."""
+    write("go.mod", "module m.x/m\n\ngo 1.16\n\nrequire q.x/m0 v1.0.0\n")
+    sums = ""
+    for number in range(MODULES):
+        text = text_of(number, False)
+        write(place(number), text)
+        write(f"P/q.x/extra{number}/@v/v1.0.0.mod", f"module q.x/extra{number}\n")
+        inner = hashlib.sha256(text.encode()).hexdigest()
+        digest = hashlib.sha256(f"{inner}  go.mod\n".encode()).digest()
+        sums += f"q.x/m{number} v1.0.0/go.mod h1:{base64.b64encode(digest).decode()}\n"
+    write("go.sum", sums)
+
+
+def change(chance, seed):
+    """Changes a file in one of the ways."""
+    number, way = chance.randrange(MODULES), chance.choice(WAYS)
+    name = place(number)
+    if way == "in place":
+        write(name, text_of(number, chance.random() < 0.5))
+    elif way == "renamed":
+        replace(name, text_of(number, chance.random() < 0.3), seed)
+    elif way == "cut":
+        os.truncate(name, chance.randrange(80_000))
+    elif way == "longer":
+        with open(name, "a", encoding="utf-8") as file:
+            file.write("// more\n" * 2000)
+    elif way == "link":
+        os.symlink(f"../../m{(number + 1) % MODULES}/@v/v1.0.0.mod", f"{name}.{seed}")
+        os.replace(f"{name}.{seed}", name)
+    else:
+        os.remove(name)
+        if way == "folder":
+            os.mkdir(name)
+            os.rmdir(name)
+    if way not in ("in place", "renamed"):
+        replace(name, text_of(number, False), seed)
+
+
+def keep_changing(seed, ended):
+    """Changes files until the event. Another writer may be in the way."""
+    chance = random.Random(seed)
+    while not ended.is_set():
+        with contextlib.suppress(OSError):
+            change(chance, seed)
+
+
+class Race:
+    """The program, and what was found."""
+
+    def __init__(self, program):
+        self.program, self.runs, self.wrong = program, 0, 0
+        self.right = self.end_of(self.start(LINES[0]))
+        if self.right[0] or self.right[1].count(b"\n") != MODULES + 1:
+            sys.exit(f"races: the list before the race is wrong: {self.right}")
+        paths = [f"q.x/{kind}{it} v1.0.0" for kind in ("m", "extra") for it in range(MODULES)]
+        self.rows = {b"m.x/m", *map(str.encode, paths)}
+
+    def start(self, line):
+        """Starts a command line."""
+        null, pipe = subprocess.DEVNULL, subprocess.PIPE
+        return subprocess.Popen([self.program, *line.split()], stdin=null, stdout=pipe, stderr=pipe)
+
+    @staticmethod
+    def end_of(child):
+        """The status, the output and the report of a child."""
+        out, report = child.communicate(timeout=LIMIT)
+        return child.returncode, out, report
+
+    def is_right(self, line, got):
+        """Whether a result is one that some state of the files has."""
+        status, out, report = got
+        if status:
+            return status in (1, 3) and not out and report
+        if report:
+            return False
+        if "--sum" in line:
+            return got == self.right
+        if line.startswith("list"):
+            return out.startswith(b"m.x/m\n") and set(out.splitlines()) <= self.rows
+        return True
+
+    def judge(self, line, child):
+        """Counts a run, and prints it if it is wrong."""
+        got = self.end_of(child)
+        self.runs += 1
+        if not self.is_right(line, got):
+            self.wrong += 1
+            print(f"gomod {line}\n  {str(got)[:300]}", flush=True)
+
+    def run_for(self, seconds):
+        """Runs the command lines for so long, many side by side."""
+        end = time.monotonic() + seconds
+        while time.monotonic() < end:
+            for line, child in [(it, self.start(it)) for it in LINES * 8]:
+                self.judge(line, child)
+
+    def run_at_once(self):
+        """Many at once over files that nobody changes."""
+        for child in [self.start(LINES[0]) for _ in range(AT_ONCE)]:
+            self.runs += 1
+            got = self.end_of(child)
+            if got != self.right:
+                self.wrong += 1
+                print(f"{AT_ONCE} at once: {str(got)[:300]}")
+
+
+def main(program, seconds, seed="1"):
+    """Tries all, and returns the status."""
+    folder = tempfile.mkdtemp(prefix="gomod-races-")
+    ended = threading.Event()
+    writers = [threading.Thread(target=keep_changing, args=(int(seed) + it, ended)) for it in (0, 1)]
+    try:
+        os.chdir(folder)
+        lay()
+        race = Race(program)
+        for it in writers:
+            it.start()
+        race.run_for(float(seconds))
+        ended.set()
+        for it in writers:
+            it.join()
+        shutil.rmtree("P")
+        lay()
+        race.run_at_once()
+        print(f"{race.runs} runs in races, {race.wrong} wrong")
+        return 1 if race.wrong else 0
+    finally:
+        ended.set()
+        shutil.rmtree(folder)
+
+
+if __name__ == "__main__":
+    if sys.argv[1:2] in (["-h"], ["--help"]):
+        print(__doc__.strip())
+        sys.exit()
+    sys.exit(main(*sys.argv[1:]))
