@@ -5,23 +5,30 @@
 #   tools/cases.sh PROGRAM..    these executables
 #   tools/cases.sh --all PROGRAM..
 #                               the same, after the cases that the gate runs
+#   tools/cases.sh --checked    before a release: all cases, with a program that has Rattle's checks and the address
+#                               sanitizer, which it compiles (tools/unproved.sh --checked)
 #
 # The gate itself runs run_cases on the files that crates/run_cases/args names. What it leaves of the program runs here
 # on the folders sizes and wrong of crates/run_cases/data. In each of them `args` has the arguments, `stdout` and
 # `stderr` what the program has to write, and `status` its exit status: nothing and 0 without such a file. For the cases
 # of the gate crates/run_cases has these files.
 #
-# As in the gate, a program runs in a copy of the folder, as nobody if root starts it, and has 400 seconds. All programs
-# and folders run side by side. What differs is printed, then how many runs passed and failed. The status is 1 if one
-# failed, or if a folder has a file of cases that its `args` doesn't name. .ci/run runs it after the gate, and with --all
-# if --quick is given.
+# As in the gate, a program runs in a copy of the folder, as nobody if root starts it, and has 400 seconds, one with
+# checks 4,000. All programs and folders run side by side. What differs is printed, then how many runs passed and failed.
+# The status is 1 if one failed, or if a folder has a file of cases that its `args` doesn't name. .ci/run runs it after
+# the gate, and with --all if --quick is given. --checked removes bin/checked.txt, and if nothing fails makes it anew for
+# tools/release.sh: the day, the commit, and a checksum of the sources.
 set -euo pipefail
 cd "$(dirname "$0")/.."
 # shellcheck source=tools/lib.sh
 . tools/lib.sh
 help_if_asked tools/cases.sh "$@"
-names=(sizes wrong)
+names=(sizes wrong) limit=400 checked=
 case $#:${1-} in
+  1:--checked)
+    names=(gate sizes wrong) limit=4000 checked=yes
+    shift
+    ;;
   1:--all) refuse_arguments tools/cases.sh "--all takes programs" ;;
   *:--all)
     names=(gate sizes wrong)
@@ -32,7 +39,16 @@ case ${1-} in
   -*) refuse_arguments tools/cases.sh "there is no option $1" ;;
 esac
 
-readonly CRATE=crates/run_cases LIMIT=400 NOBODY=65534
+readonly CRATE=crates/run_cases NOBODY=65534 RECORD=bin/checked.txt
+work=$(mktemp -d)
+trap 'rm -rf "$work"' EXIT
+chmod 711 "$work"
+if [ -n "$checked" ]; then
+  rm -f "$RECORD"
+  sources=$(checksum_of_program)
+  tools/unproved.sh --checked "$work/checked" run_cases
+  set -- "$work/checked"
+fi
 programs=("$@")
 [ $# -gt 0 ] || programs=("$CRATE/out/run_cases" "$CRATE/out/run_cases.by-rattle")
 for program in "${programs[@]}"; do
@@ -42,9 +58,6 @@ for program in "${programs[@]}"; do
   fi
 done
 
-work=$(mktemp -d)
-trap 'rm -rf "$work"' EXIT
-chmod 711 "$work"
 as_user=()
 if [ "$(id -u)" -eq 0 ]; then
   as_user=(setpriv "--reuid=$NOBODY" "--regid=$NOBODY" --clear-groups --no-new-privs)
@@ -72,9 +85,9 @@ run_on() {
   (
     cd "$at/data"
     exec env -i PATH=/usr/local/bin:/usr/bin:/bin HOME="$PWD" TMPDIR="$PWD" LANG=C.UTF-8 \
-      timeout "$LIMIT" "${as_user[@]}" "$work/program.$2" "${words[@]}"
+      timeout "$limit" "${as_user[@]}" "$work/program.$2" "${words[@]}"
   ) < /dev/null > "$at/stdout" 2> "$at/stderr" || status=$?
-  [ "$status" -ne 124 ] || echo "It had not ended after $LIMIT seconds." >> "$at/stderr"
+  [ "$status" -ne 124 ] || echo "It had not ended after $limit seconds." >> "$at/stderr"
   echo "$status" > "$at/status"
   echo "$((SECONDS - begun))" > "$at/seconds"
 }
@@ -130,4 +143,11 @@ for name in "${names[@]}"; do
 done
 [ -z "$lacking" ] || echo "$lacking"
 echo "$passed passed, $failed failed"
-[ "$failed" -eq 0 ] && [ -z "$lacking" ]
+[ "$failed" -eq 0 ] && [ -z "$lacking" ] || exit 1
+if [ -n "$checked" ]; then
+  commit=$(git rev-parse HEAD)
+  [ -z "$(git status --porcelain)" ] || commit+=" with changes"
+  [ "$(checksum_of_program)" = "$sources" ] || { echo "cases: the sources aren't those at the start" >&2 && exit 1; }
+  mkdir -p bin
+  printf '%s\n' "none wrong, on $(date --utc +%F) at commit $commit" "$sources" > "$RECORD"
+fi

@@ -22,9 +22,10 @@
 # proved. Unless --check is given, it also refuses a program that isn't the one that the last proof left at
 # crates/gomod/out/gomod, a gate that failed or ran with another program, and changes that aren't committed.
 #
-# Nor does it release a program with which tools/refuse-memory.sh didn't refuse each allocation and find nothing wrong:
-# that script leaves bin/refused.txt, whose first line this one prints. Nor one of which tools/program.sh didn't see,
-# where strace is, what each command opens: it leaves bin/opened.txt.
+# Nor does it release a program with which tools/refuse-memory.sh didn't refuse each allocation and find nothing wrong,
+# of which tools/program.sh didn't see, where strace is, what each command opens, or of whose sources `tools/cases.sh
+# --checked` didn't run the cases with checks: these scripts leave bin/refused.txt, bin/opened.txt and bin/checked.txt,
+# whose first lines this one prints.
 #
 # It needs bin/gomod, git, GNU tar, gzip and python3. It prints what the check found, the names of the files, the gate's
 # last line and the sha256. The status is 1 if it refuses, and 2 for wrong arguments. .ci/run runs --check at its end.
@@ -43,8 +44,8 @@ refuse() {
 # The least version of glibc that a program needs: the greatest of those whose symbols it names.
 least_glibc() { grep -aoE 'GLIBC_[0-9]+(\.[0-9]+)+' "$1" | cut -d _ -f 2 | sort -uV | tail -n 1; }
 
-# Lays the files of a release below a folder: its version, the gate's last line, when allocations were refused, and when
-# opened files were looked at.
+# Lays the files of a release below a folder: its version, the gate's last line, when allocations were refused, when
+# opened files were looked at, and when the cases ran with checks.
 lay_release() {
   local to=$1 documents=$1/share/doc/gomod glibc
   install_files "$to" > /dev/null
@@ -58,6 +59,7 @@ lay_release() {
     echo "gate: $3"
     echo "each allocation refused: $4"
     echo "what each command opens: $5"
+    echo "cases with checks: $6"
     echo "needs: x86-64 Linux, glibc $glibc or later"
     sha256sum bin/gomod
   } > "$documents/RELEASE.txt"
@@ -79,7 +81,7 @@ check_archive() {
   echo "glibc: $least is the least"
 }
 
-to=$from gate='' refusals='' opened='' check='' unproved=''
+to=$from gate='' refusals='' opened='' checked='' check='' unproved=''
 case $#:${1-}:${2-} in
   1:--check:) check=yes ;;
   2:--check:--unproved) check=yes unproved=yes ;;
@@ -111,6 +113,10 @@ if [ -z "$check" ]; then
   opened=$(head -n 1 bin/opened.txt)
   tail -n 1 bin/opened.txt | sha256sum --check --status ||
     refuse "what another program opens was looked at ($opened): run tools/program.sh, where strace is"
+  [ -f bin/checked.txt ] || refuse "there is no bin/checked.txt: run tools/cases.sh --checked"
+  checked=$(head -n 1 bin/checked.txt)
+  [ "$(tail -n 1 bin/checked.txt)" = "$(checksum_of_program)" ] ||
+    refuse "the cases ran with checks of other sources ($checked): run tools/cases.sh --checked"
 fi
 
 version=$(bin/gomod --version)
@@ -119,7 +125,7 @@ version=${version#gomod }
 name=gomod-${version%% *}-x86_64-linux
 work=$(mktemp -d)
 trap 'rm -rf "$work"' EXIT
-lay_release "$work/$name" "$version" "${gate:-none}" "${refusals:-none}" "${opened:-none}"
+lay_release "$work/$name" "$version" "${gate:-none}" "${refusals:-none}" "${opened:-none}" "${checked:-none}"
 # what depends on the moment or the user is left out
 tar --create --directory "$work" --sort=name --owner=0 --group=0 --numeric-owner \
   --mtime="@$(git log -1 --format=%ct)" "$name" | gzip -9n > "$work/$name.tar.gz"
@@ -134,4 +140,5 @@ echo "$to/$name.tar.gz.sha256"
 echo "gate: $gate"
 echo "each allocation refused: $refusals"
 echo "what each command opens: $opened"
+echo "cases with checks: $checked"
 echo "sha256: $(cut -d ' ' -f 1 "$to/$name.tar.gz.sha256")"
