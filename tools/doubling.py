@@ -8,6 +8,7 @@ tools/doubling.sh says what is measured.
 import base64
 import concurrent.futures
 import hashlib
+import math
 import os
 import re
 import resource
@@ -41,9 +42,9 @@ def numbered(count, text="a.c/{} v1.0.0"):
 
 
 def ring(count):
-    """The files of a main module that requires the first of so many, each of which requires the next."""
+    """The files of a main module that requires one of so many, each of which requires the one before it."""
     files = {
-        f"proxy/a.c/{it}/@v/v1.0.0.mod": f"module a.c/{it}\n\nrequire a.c/{(it + 1) % count} v1.0.0\n"
+        f"proxy/a.c/{it}/@v/v1.0.0.mod": f"module a.c/{it}\n\nrequire a.c/{(it - 1) % count} v1.0.0\n"
         for it in range(count)
     }
     return {"go.mod": main_of(["a.c/0 v1.0.0"])} | files
@@ -189,8 +190,12 @@ class Meter:
         """A line on a row of the table, and whether it is as it should be."""
         sizes = self.sizes(row.first)
         costs, statuses, reports = zip(*(self.cost(row.words(it), row.files(it)) for it in sizes))
-        # what a run takes at any size is in neither difference
-        growth = (costs[2] - costs[1]) / max(costs[1] - costs[0], 1e-9)
+        if self.valgrind:
+            # what a run takes at any size is in neither difference
+            growth = (costs[2] - costs[1]) / max(costs[1] - costs[0], 1)
+        else:
+            # of two doublings together, since seconds are never quite the same
+            growth = math.sqrt(costs[2] / costs[0])
         shown = ", ".join(f"{it:,}" if self.valgrind else f"{it:.2f}" for it in costs)
         line = f"{growth:.2f} times for twice the {row.what}: gomod {row.text} ({shown} {self.unit})"
         if set(statuses) != {row.status}:
