@@ -10,8 +10,8 @@
 # cost is a product: the lines that `graph` prints if modules share a file, operations of `edit` on as many lines, and
 # one file under many names.
 #
-# It prints each row, and the last line says how many were wrong. The status is 1 if one was wrong, or ended with another
-# status than it should. It needs python3 and bin/gomod (./build makes it), and takes 60 s of CPU time, on all
+# It prints each row, and at last how many were wrong. The status is 1 if one was wrong, or ended with another status
+# than it should. It needs python3 and bin/gomod (./build makes it), and takes 60 s of CPU time, on all
 # processors if it has valgrind.
 set -euo pipefail
 cd "$(dirname "$0")/.."

@@ -4,7 +4,7 @@
 
 Each standard stream is open, closed, full or open the wrong way, in all mixtures. The stack, memory, files and
 processes are limited, signals are ignored or blocked, the environment is empty, large or full of names that other
-programs read. Readers of a pipe go early or read slowly, the program is stopped and goes on, and it writes to terminals.
+programs read. Readers of a pipe go early or are slow, the program is stopped and goes on, and it writes to terminals.
 
 What is right follows from the run without all this: the same result; status 3 where a stream that it needs fails; or
 `gomod: no memory`. tools/faults.sh runs it if --whole is given.
@@ -161,7 +161,8 @@ class Trial:
                 self.same(f"a stack of {stack} KB", line, preexec_fn=limit(stack=stack * KB))
             for files in (4, 5, 8):
                 self.same(f"{files} files", line, preexec_fn=limit(nofile=files))
-            self.same("no process, core, lock or signal", line, preexec_fn=limit(nproc=0, core=0, memlock=0, sigpending=0))
+            none = limit(nproc=0, core=0, memlock=0, sigpending=0)
+            self.same("no process, core, lock or signal", line, preexec_fn=none)
             self.same("signals ignored", line, preexec_fn=ignore_signals)
             self.same("signals blocked", line, preexec_fn=block_signals)
             for number, environment in enumerate(ENVIRONMENTS):

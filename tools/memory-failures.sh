@@ -10,7 +10,7 @@
 # the source text of each `if`, arm, loop and `let .. else` that leads to the value, and its statement; without any of
 # these all that stands before it in the function. The constants of the file that it names follow.
 #
-# A call such as `reserve` or `with_capacity` could ask for more than there is, and so make a failure up. So a second list
+# A call such as `reserve` or `with_capacity` could ask for more than there is, and so make a failure up. A second list
 # has each of them, and each call in a crate of its function that asks for as much as it is told to. Below a row stands
 # all that its function has before the call, and the functions and constants of the file that the call names.
 #
