@@ -3,8 +3,8 @@
 #
 #   tools/cases.sh              as both compilers built it for the merge gate, in crates/run_cases/out
 #   tools/cases.sh PROGRAM..    these executables
-#   tools/cases.sh --all PROGRAM..
-#                               the same, after the cases that the gate runs
+#   tools/cases.sh --quick PROGRAM..
+#                               these on the cases that the gate runs in place of those with sizes
 #   tools/cases.sh --checked    before a release: all cases, with a program that has Rattle's checks and the address
 #                               sanitizer, which it compiles (tools/unproved.sh --checked)
 #
@@ -13,25 +13,26 @@
 # `stderr` what the program has to write, and `status` its exit status: nothing and 0 without such a file. For the cases
 # of the gate crates/run_cases has these files.
 #
-# As in the gate, a program runs in a copy of the folder, as nobody if root starts it, and has 400 seconds, one with
+# As in the gate, a program runs in a copy of the folder, as nobody if root starts it. It has 1,000 seconds, one with
 # checks 4,000. All programs and folders run side by side. What differs is printed, then how many runs passed and failed.
 # The status is 1 if one failed, or if a folder has a file of cases that its `args` doesn't name. .ci/run runs it after
-# the gate, and with --all if --quick is given. --checked removes bin/checked.txt, and if nothing fails makes it anew for
-# tools/release.sh: the day, the commit, and a checksum of the sources.
+# the gate, and .ci/run --quick with --quick: there tools/program.sh runs the cases with sizes, each at its greatest.
+# --checked removes bin/checked.txt, and if nothing fails makes it anew for tools/release.sh: the day, the commit, and a
+# checksum of the sources.
 set -euo pipefail
 cd "$(dirname "$0")/.."
 # shellcheck source=tools/lib.sh
 . tools/lib.sh
 help_if_asked tools/cases.sh "$@"
-names=(sizes wrong) limit=400 checked=
+names=(sizes wrong) limit=1000 checked=
 case $#:${1-} in
   1:--checked)
     names=(gate sizes wrong) limit=4000 checked=yes
     shift
     ;;
-  1:--all) refuse_arguments tools/cases.sh "--all takes programs" ;;
-  *:--all)
-    names=(gate sizes wrong)
+  1:--quick) refuse_arguments tools/cases.sh "--quick takes programs" ;;
+  *:--quick)
+    names=(gate wrong)
     shift
     ;;
 esac
