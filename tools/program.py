@@ -150,7 +150,7 @@ class Commands:
         is_limited = not refused or stack > self.usual_stack
         most = resource.RLIM_INFINITY
         if file_bytes is not None:
-            most = SPARE + FACTOR * (file_bytes + sum(map(len, words)))
+            most = SPARE + FACTOR * (file_bytes + sum(len(it) + 1 for it in words))
         if memory is not None:
             most = memory
 

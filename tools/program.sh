@@ -12,9 +12,9 @@
 # permission for root are left out.
 #
 # Of a case with a range of sizes it runs the greatest, of one with a list each. Each command then has an address space
-# of 64 MiB and a hundred times the bytes of its words and of the files of the case, which is the bound of COMMANDS.md:
-# a command that reserves more runs out of memory. A case with a line `% memory N` gives N MiB instead. All commands run
-# with the stack that README.md names, and room for their arguments.
+# of 64 MiB and a hundred times the bytes of its words, each with the byte that ends it, and of the files of the case,
+# which for files is the bound of COMMANDS.md: a command that reserves more runs out of memory. A case with a line
+# `% memory N` gives N MiB instead. All commands run with the stack that README.md names, and room for their arguments.
 #
 # The standard input of each command but `versions` without --proxy, and those with a file `-`, stays open, so one that
 # reads it doesn't end. If a command hasn't ended after 100 seconds, the script ends.
