@@ -11,8 +11,8 @@
 # one file under many names.
 #
 # It prints each row, and at last how many were wrong. The status is 1 if one was wrong, or ended with another status
-# than it should. It needs python3 and bin/gomod (./build makes it), and takes 60 s of CPU time, on all
-# processors if it has valgrind.
+# than it should. It needs python3 and bin/gomod (./build makes it), and takes 60 s of CPU time, on all processors if it
+# has valgrind. Without valgrind it takes several minutes, most of them to write files.
 set -euo pipefail
 cd "$(dirname "$0")/.."
 # shellcheck source=tools/lib.sh
