@@ -10,10 +10,12 @@
 # tools/page_changes.txt has the changes, which keep the shape of their definitions; a change must be refused by one of:
 #
 #   a value      in a world two values differ, such as a byte of what is printed, or what is wrong with the run
-#   a fact       what a definition says in a world (`PartsAreShown`) is false
-#   another      what no definition says in a world (`OthersDoNotHold`) would hold
+#   a fact       what is said of a single definition in a world (specs/Worlds/Parts) is proved to be false by the change
 #   the law      a run has one outcome (`outcomes_are_one`): a change that allows a second one breaks its proof
 #   no outcome   a run that has none (`HasNoOutcome`) would get one
+#
+# A fact counts as a value does: `against` in page_changes.txt is a proof of `⊥` from what is said of the world, by the
+# changed definitions, which the prover admits; that a proof of what is said no longer fits would not be enough.
 #
 # If a change is refused only since a lemma that the worlds share no longer fits, that doesn't count: it says that a proof
 # rests on what was changed, not that the list would differ. The last changes say the same in other words, and must be

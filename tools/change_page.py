@@ -1,9 +1,10 @@
 """Tries changes of definitions in a copy of crates/page, for tools/change-page.sh.
 
 tools/page_changes.txt has the changes, in blocks: a title, which begins with the name of the definition, its file, the
-text that goes, the one that comes (`¶` is a line's end), and import lines, if it needs any. A last line `seen` says that
-the change was tried, and was as it should be; --some tries such changes alone. After `== equal forms` come changes that
-say the same in other words, which must still be proved.
+text that goes, the one that comes (`¶` is a line's end), and import lines, if it needs any. After `against` comes a
+proof of `⊥` by the changed definitions, from `parts : PartsAreShown` and `others : OthersDoNotHold`; its further lines
+are indented. A last line `seen` says that the change was tried, and was as it should be; --some tries such changes
+alone. After `== equal forms` come changes that say the same in other words, which must still be proved.
 """
 import dataclasses
 import pathlib
@@ -17,33 +18,60 @@ import tempfile
 PAGE = pathlib.Path("crates/page")
 CHANGES = pathlib.Path("tools/page_changes.txt")
 EQUAL = "== equal forms\n\n"
-SEEN = "seen"
+SEEN, AGAINST = "seen", "against "
 # What the proofs of the law, and of runs without an outcome, are in: files, and how lemmas of other files begin.
 LAW = {"OneOutcome"}, ("same_lists",)
 NONE = {"Nothing"}, ("none_", "not_")
-# The files of what single definitions say in worlds, and of what they don't say, whose lemmas begin so.
-PARTS, OTHERS = "Parts", ("Others", "not_")
-FALSE = re.compile(r"expected type `⊥`, but this has type|≟ `⊥`: does not hold|`⊥` ≟ `[^`]*`: does not hold")
-VALUE, FACT, LAWFUL, NOTHING, OTHER = "value", "fact", "law", "no outcome", "other"
+# A proof that a change makes false what the worlds say of single definitions, in a file of its own.
+AGAINST_FILE = "Against"
+AGAINST_HEAD = """-- What a change makes false.
+use Rattle.std.proofs.Common.{◌≡◌, [], ◌∷◌, false, None, Some, Result, Ok, Err, ap, arith, codes, inl, inr, refl, subst, sym}
+use Rattle.std.specs.Ordering.{is_gt}
+use Rattle.std.proofs.lemmas.Bool.{false≢true}
+use Rattle.std.proofs.lemmas.Option.{same_Some}
+use Rattle.page.specs.Asked.{Reply, absent, bytes}
+use Rattle.page.specs.Fields.{Dependency}
+use Rattle.page.specs.Files.{end_one, local_one, low_nine, low_ten, main_file, mid_nine, mid_ten, old_file, own_one}
+use Rattle.page.specs.Files.{short_file, top_file, top_one, top_text}
+use Rattle.page.specs.Files.RowFiles.{at, file_requiring, first_of, going, module_line, path_of, three_file}
+use Rattle.page.specs.Graph.{IsEdgeEnd}
+use Rattle.page.specs.Main.{is_pruned_by}
+use Rattle.page.specs.ModuleVersion.{ModuleVersion}
+use Rattle.page.specs.Path.{is_fetchable}
+use Rattle.page.specs.Reading.{IsFileReading, file_of}
+use Rattle.page.specs.Run.{FileSays, IsDeep, IsNeeded, IsTop, Says, answered, from_deep, from_main, from_top, run_of}
+use Rattle.page.specs.Run.{sound, unaskable, wrong_path}
+use Rattle.page.specs.Types.{Class, Missing, NoSum, NotFetchable, Of, WrongPath, sums_table}
+use Rattle.page.specs.Version.{version_cmp}
+use Rattle.page.specs.Worlds.{asked_folder, asked_fork, asked_top, unpruned_answers}
+use Rattle.page.specs.Worlds.Parts.{OthersDoNotHold, PartsAreShown, pruned_run, to_own}
+use Rattle.page.specs.Worlds.Rows.{malformed_answers, name_at, sums_answers}
+use Rattle.page.proofs.Members.{differ, member_cases, no_member}
+use Rattle.page.proofs.Saying.{file_is, said_of}
+
+against : PartsAreShown → OthersDoNotHold → ⊥
+unfolding is_fetchable
+against parts others = """
+VALUE, FACT, LAWFUL, NOTHING = "value", "fact", "law", "no outcome"
 SHAPE, PROVED, UNREAD = "proof", "proved", "not read"
 REFUSED = {
     VALUE: "refuted by a value",
-    FACT: "refuted by a fact of a world that is false now",
+    FACT: "refuted by a proof that a fact of a world is false now",
     LAWFUL: "refuted by the law that a run has one outcome",
     NOTHING: "refuted by a run that has no outcome",
-    OTHER: "refuted by what does not hold in a world",
 }
 SAID = {**REFUSED, SHAPE: "only a proof no longer fits", PROVED: "PROVED", UNREAD: "not read"}
 
 
 @dataclasses.dataclass
 class Change:
-    """One change: what it changes, the file, the text that goes, the one that comes, and import lines."""
+    """One change: what it changes, the file, the text that goes, the one that comes, import lines, and a proof of `⊥`."""
 
     title: str
     file: str
     old: str
     new: str
+    against: str
     uses: list
     is_equal: bool
     is_seen: bool
@@ -62,8 +90,9 @@ def changes():
     for is_equal, part in enumerate(CHANGES.read_text().split(EQUAL)):
         for block in part.strip().split("\n\n"):
             title, file, old, new, *more = block.split("\n")
-            uses = [line for line in more if line != SEEN]
-            texts = (it[2:].replace("¶", "\n") for it in (old, new))
+            uses = [line for line in more if line.startswith("use ")]
+            against = "\n".join(line.removeprefix(AGAINST) for line in more if line.startswith((AGAINST, "  ")))
+            texts = (*(it[2:].replace("¶", "\n") for it in (old, new)), against)
             yield Change(title, file, *texts, uses, bool(is_equal), SEEN in more)
 
 
@@ -99,7 +128,7 @@ def differing(message):
     yield from re.findall(r"one has `([^`]*)`\s*\(expected\)[^`]*(?:`[^`]*`[^`]*)??and the other has `([^`]*)`\s*\(found\)", message)
 
 
-def verdict(said, names):
+def verdict(said, names, change=None):
     """What refuses a change, and the error that shows it: its declaration and two values, or the first one."""
     if re.search(r"(?m)^logic=proved", said):
         return PROVED, ""
@@ -110,11 +139,8 @@ def verdict(said, names):
         for expected, other in differing(message):
             if file not in LAW[0] and expected != other and is_value(expected, names) and is_value(other, names):
                 return VALUE, f"{name}: {short(expected)} is expected, and it is {short(other)}"
-    for _, file, name, message in found:
-        if file == PARTS and FALSE.search(message):
-            return FACT, f"{name}: {first_line(message)}"
-        if file == OTHERS[0] and name.startswith(OTHERS[1]):
-            return OTHER, f"{name}: {first_line(message)}"
+    if change and change.against and not re.search(rf"(?m)^\./proofs/{AGAINST_FILE}\.antt:.*: error: ", said):
+        return FACT, f"against: {first_line(change.against)}"
     for kind, (files, names_begin) in ((LAWFUL, LAW), (NOTHING, NONE)):
         for _, file, name, message in found:
             if file in files or name.startswith(names_begin):
@@ -154,13 +180,18 @@ class Room:
 
     def tried(self, change):
         """What a check says of the crate with a change."""
-        file = self.copy / change.path()
-        text = file.read_text()
+        file, modules, against = (self.copy / it for it in (change.path(), "proofs/Lib.antt", f"proofs/{AGAINST_FILE}.antt"))
+        texts = {it: it.read_text() for it in (file, modules)}
         try:
-            file.write_text(change.applied(text))
+            file.write_text(change.applied(texts[file]))
+            if change.against:
+                against.write_text(AGAINST_HEAD + f"    {change.against}\n")
+                modules.write_text(f"{texts[modules]}pub mod {AGAINST_FILE}\n")
             return self.check()
         finally:
-            file.write_text(text)
+            for it, text in texts.items():
+                it.write_text(text)
+            against.unlink(missing_ok=True)
 
 
 def is_right(change, kind):
@@ -179,7 +210,7 @@ def try_all(chosen, most):
         for number, change in chosen:
             if most and room.seconds >= most:
                 break
-            kind, why = verdict(room.tried(change), names)
+            kind, why = verdict(room.tried(change), names, change)
             tried += 1
             wrong += not is_right(change, kind)
             print(f"{number} {change.title}: {SAID[kind]} ({room.last:.0f} s)\n  {why}".rstrip(), flush=True)

@@ -24,7 +24,7 @@ use Rattle.page.specs.Types.{AreSums, BadVersion, Class, Fault, Misreading, Miss
 use Rattle.page.specs.Worlds.{given_with}
 use Rattle.page.proofs.Ending.{IsReadable, all_read}
 use Rattle.page.proofs.Members.{Pairs, differ, member_cases, member_head, member_tail, no_member}
-use Rattle.page.proofs.RowsTable.{IsAsked, IsReported, IsTable, Row, are_in, are_members, either_side, ends_of, every, fault_with, firsts, found_with, gathered, has, in_left, in_right, is_bounded, is_reached, is_selection, is_shallow, rows_from, some, some_one}
+use Rattle.page.proofs.RowsTable.{IsAsked, IsReported, IsTable, Row, are_in, are_members, either_side, ends_of, every, fault_with, firsts, found_with, gathered, has, in_left, in_right, is_bounded, is_no_greater, is_reached, is_selection, is_shallow, rows_from, some, some_one}
 use Rattle.page.proofs.Saying.{as_class, checked, file_said, reads, said_of}
 
 -- ---- lists
@@ -348,8 +348,7 @@ module _ (main : Main) (sums : Option Sums) (asked : List (Name × Reply)) where
 
   -- no other end has the path and a greater version, and it is not the main module's
   abbrev is_row : ModuleVersion → Bool
-  is_row x = not (pointwise nat_eq x.0 main.path)
-      && every (λ (y : ModuleVersion). not (pointwise nat_eq y.0 x.0) || not (is_less (pair_cmp x y))) ends
+  is_row x = not (pointwise nat_eq x.0 main.path) && every (is_no_greater x) ends
 
   abbrev selected : List ModuleVersion
   selected = filter is_row (sorted (joined [] ends))

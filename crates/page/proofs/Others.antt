@@ -1,11 +1,12 @@
 -- What does not hold in worlds.
-use Rattle.std.proofs.Common.{◌≡◌, ◌&&◌, ℕ, Bool, true, false, List, [], ◌∷◌, Contains, None, Some, Option, Result, Ok, Err, ◌∙◌, ap, arith, codes, inl, inr, nat_eq, not, refl, subst, sym}
+use Rattle.std.proofs.Common.{◌≡◌, ◌++◌, ◌&&◌, ℕ, Bool, true, false, List, [], ◌∷◌, Contains, None, Some, Option, Result, Ok, Err, ◌∙◌, ap, arith, codes, inl, inr, nat_eq, not, refl, subst, sym}
 use Rattle.std.specs.Cmp.Lexicographic.{pointwise}
 use Rattle.std.proofs.lemmas.Bool.{and_parts, false≢true, not-true}
+use Rattle.std.proofs.lemmas.Option.{same_Some}
 use Rattle.page.specs.Asked.{bytes}
-use Rattle.page.specs.BuildList.{IsSelected}
+use Rattle.page.specs.BuildList.{Entry, IsRestAfter, IsSelected, path_of}
 use Rattle.page.specs.Fields.{Dependency}
-use Rattle.page.specs.Files.{local_file, low_ten, main_file, mid_nine, mid_ten, own_one, top_file, top_one, top_text}
+use Rattle.page.specs.Files.{end_one, local_file, low_ten, main_file, mid_nine, mid_ten, own_one, top_file, top_one, top_text}
 use Rattle.page.specs.Files.RowFiles.{file_requiring, first_of, one_file}
 use Rattle.page.specs.Main.{is_pruned_by, without_excluded}
 use Rattle.page.specs.ModuleVersion.{ModuleVersion}
@@ -13,7 +14,7 @@ use Rattle.page.specs.Path.{is_fetchable}
 use Rattle.page.specs.Run.{FileSays, IsDeep, IsEdge, IsNeeded, IsTop, Requires, Says, answered, from_deep, from_main, from_top, run_of, sound, unaskable}
 use Rattle.page.specs.Types.{Class, NotFetchable, Of, WrongPath}
 use Rattle.page.specs.Worlds.{pruned_answers, wrong_answers}
-use Rattle.page.specs.Worlds.Parts.{OthersDoNotHold, local_name, pruned_run}
+use Rattle.page.specs.Worlds.Parts.{OthersDoNotHold, local_answers, local_name, pruned_run, stray_answers, to_own, twice_rows}
 use Rattle.page.specs.Worlds.Rows.{unopened_answers}
 use Rattle.page.proofs.Members.{differ, member_cases, no_member}
 use Rattle.page.proofs.Saying.{file_is, said_of, says}
@@ -77,21 +78,47 @@ not_deep y (from_top {x = x} file top tells unpruned there) = elim (member_cases
 ]
 not_deep y (from_deep {x = x} is requires) = not_deep x is
 
+stray_says : said_of one_file None stray_answers (first_of (codes "a")) ≡ Some (Err WrongPath)
+unfolding is_fetchable
+stray_says = refl
+
+not_sound : (file : Dependency) → Says (run_of one_file None stray_answers) (first_of (codes "a")) (Ok file) → ⊥
+not_sound file tells = no_file file (sym stray_says ∙ says one_file None stray_answers (first_of (codes "a")) (Ok file) tells)
+
+not_wrong_deep : (x : ModuleVersion) → IsDeep (run_of one_file None stray_answers) x → ⊥
+not_wrong_deep x (from_main unpruned top) = false≢true (sym unpruned)
+not_wrong_deep y (from_top {x = x} file top tells unpruned there) = elim (member_cases (first_of (codes "a")) x [] top) [
+  | inl same ↦ not_sound file (subst (λ (z : ModuleVersion). Says (run_of one_file None stray_answers) z (Ok file)) (sym same) tells)
+  | inr later ↦ no_member x later
+]
+not_wrong_deep y (from_deep {x = x} is requires) = not_wrong_deep x is
+
 -- ---- a file that may not be asked for
 
-not_otherwise : (said : Result Dependency Class) → FileSays (run_of local_file None []) local_name said → said ≡ Err NotFetchable
+not_otherwise : (said : Result Dependency Class) → FileSays (run_of local_file None local_answers) local_name said → said ≡ Err NotFetchable
 unfolding is_fetchable
 not_otherwise said (unaskable e) = refl
 not_otherwise said (answered reply may heard is) = absurd (false≢true may)
 
-not_needed : IsNeeded (run_of local_file None []) local_name → ⊥
+not_needed : IsNeeded (run_of local_file None local_answers) local_name → ⊥
 unfolding is_fetchable
 not_needed (x, opens, is, may) = false≢true may
+
+-- ---- what a module does not say
+
+not_faulty : (said : Result Dependency Class) → Says pruned_run top_one said → said ≡ Ok top_file
+not_faulty said tells = sym (same_Some (Ok top_file) said (sym top_says ∙ says main_file None pruned_answers top_one said tells))
+
+not_right : (said : Result Dependency Class) → Says (run_of local_file None wrong_answers) mid_nine said → said ≡ Err WrongPath
+not_right said tells = sym (same_Some (Err WrongPath) said (sym mid_says ∙ says local_file None wrong_answers mid_nine said tells))
 
 -- ---- what is not selected
 
 not_own : IsSelected (codes "m") (IsEdge pruned_run) own_one → ⊥
 not_own is = is.not_main refl
+
+not_to_own : IsSelected (codes "m") to_own own_one → ⊥
+not_to_own is = is.not_main refl
 
 top_requires : IsEdge pruned_run (Of top_one) mid_ten
 unfolding is_fetchable
@@ -100,14 +127,33 @@ top_requires = (inl (0, omega arith, refl), (top_file, sound (answered (bytes to
 not_lesser : IsSelected (codes "m") (IsEdge pruned_run) mid_nine → ⊥
 not_lesser is = false≢true (sym (is.greatest mid_ten (Of top_one, top_requires) refl))
 
+-- ---- what does not follow
+
+first_is : (a b : Entry) (xs ys : List Entry) → a ∷ xs ≡ b ∷ ys → a ≡ b
+first_is a b xs ys e = cc e
+
+not_later : IsRestAfter (codes "m") twice_rows (codes "end.org") [] → ⊥
+not_later (entry, at) = by_before at.before at.parts at.others
+  where
+    by_before : (before : List Entry) → twice_rows ≡ before ++ entry ∷ []
+        → ((other : Entry) → Contains before other → path_of (codes "m") other.0 ≡ codes "end.org" → ⊥) → ⊥
+    by_before [] parts others = cc parts
+    by_before (b ∷ bs) parts others = others b (0, omega arith, refl)
+        (subst (λ (e : Entry). path_of (codes "m") e.0 ≡ codes "end.org") (first_is (Of end_one, None) b _ (bs ++ entry ∷ []) parts) refl)
+
 pub others_do_not_hold : OthersDoNotHold
 others_do_not_hold = record {
   top = not_top;
   required = not_required;
   wrong = not_wrong;
   deep = not_deep;
+  wrong_deep = not_wrong_deep;
   said = not_otherwise;
   needed = not_needed;
+  right = not_faulty;
+  faulty = not_right;
   own = not_own;
+  to_own = not_to_own;
   lesser = not_lesser;
+  later = not_later;
 }

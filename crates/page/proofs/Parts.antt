@@ -1,13 +1,20 @@
 -- What single definitions say, each from its own rules.
-use Rattle.std.proofs.Common.{◌≡◌, [], ◌∷◌, Contains, None, Ok, arith, codes, inl, inr, refl, subst, sym}
+use Rattle.std.proofs.Common.{◌≡◌, ℕ, false, List, [], ◌∷◌, Contains, None, Ok, arith, codes, inl, inr, refl, subst, sym}
+use Rattle.std.specs.Ordering.{is_gt}
 use Rattle.page.specs.Asked.{bytes}
 use Rattle.page.specs.BuildList.{Entry, main_entry, path_of}
-use Rattle.page.specs.Files.{folder_says, folder_text, end_one, mid_file, mid_nine, mid_ten, mid_text, top_file, top_one, top_text}
+use Rattle.page.specs.Fields.{Dependency}
+use Rattle.page.specs.Files.{folder_says, folder_text, end_one, low_ten, mid_file, mid_nine, mid_ten, mid_text, top_file, top_one, top_text}
+use Rattle.page.specs.Files.RowFiles.{file_requiring, first_of, going, malformed_text, requiring, three_file}
+use Rattle.page.specs.Graph.{IsEdgeEnd}
+use Rattle.page.specs.ModuleVersion.{ModuleVersion}
 use Rattle.page.specs.Path.{is_fetchable}
-use Rattle.page.specs.Run.{IsDeep, Says, answered, from_deep, from_main, from_top, sound, wrong_path}
+use Rattle.page.specs.Run.{IsDeep, IsOpened, Says, answered, faulty, from_deep, from_main, from_top, run_of, sound, wrong_path}
 use Rattle.page.specs.Types.{Of}
-use Rattle.page.specs.Worlds.Parts.{PartsAreShown, pruned_run}
-use Rattle.page.proofs.Members.{member_cases, no_member}
+use Rattle.page.specs.Version.{version_cmp}
+use Rattle.page.specs.Worlds.Parts.{PartsAreShown, pruned_run, two_paths, two_versions}
+use Rattle.page.specs.Worlds.Rows.{malformed_answers}
+use Rattle.page.proofs.Members.{differ, member_cases, no_member}
 
 top_says : Says pruned_run top_one (Ok top_file)
 unfolding is_fetchable
@@ -25,6 +32,25 @@ before_end other there same = elim (member_cases main_entry other [] there) [
     not_main : path_of (codes "m") main_entry.0 ≡ codes "end.org" → ⊥
     not_main e = cc e
 
+abbrev a_file : Dependency
+a_file = file_requiring (codes "a") (1, 17) (codes "c") (codes "v1.0.0")
+
+abbrev a_text : List ℕ
+a_text = going (codes "a") (codes "1.17") (codes "c") (codes "v1.0.0")
+
+b_is_opened : IsOpened (run_of three_file None malformed_answers) (first_of (codes "b"))
+unfolding is_fetchable
+b_is_opened = inr (from_deep (from_main refl (0, omega arith, refl))
+    (file_requiring (codes "a") (1, 16) (codes "b") (codes "v1.0.0"), sound (answered (bytes (requiring (codes "a") (codes "b") (codes "v1.0.0"))) refl refl refl) refl, (0, omega arith, refl)))
+
+greatest_version : (y : ModuleVersion) → IsEdgeEnd two_versions y → y.0 ≡ mid_ten.0 → is_gt (version_cmp y.1 mid_ten.1) ≡ false
+greatest_version y (step, inl e) same = subst (λ (z : ModuleVersion). is_gt (version_cmp z.1 mid_ten.1) ≡ false) (sym e) refl
+greatest_version y (step, inr e) same = subst (λ (z : ModuleVersion). is_gt (version_cmp z.1 mid_ten.1) ≡ false) (sym e) refl
+
+greatest_of_path : (y : ModuleVersion) → IsEdgeEnd two_paths y → y.0 ≡ mid_nine.0 → is_gt (version_cmp y.1 mid_nine.1) ≡ false
+greatest_of_path y (step, inl e) same = subst (λ (z : ModuleVersion). is_gt (version_cmp z.1 mid_nine.1) ≡ false) (sym e) refl
+greatest_of_path y (step, inr e) same = absurd (differ low_ten.0 mid_nine.0 refl (subst (λ (z : ModuleVersion). z.0 ≡ mid_nine.0) e same))
+
 pub parts_are_shown : PartsAreShown
 unfolding is_fetchable
 parts_are_shown = record {
@@ -37,8 +63,14 @@ parts_are_shown = record {
   from_main = from_main refl (0, omega arith, refl);
   from_top = mid_is_deep;
   from_deep = from_deep mid_is_deep (folder_says, sound (answered (bytes folder_text) refl refl refl) refl, (0, omega arith, refl));
+  opened = inr mid_is_deep;
+  needed = (mid_ten, inr mid_is_deep, refl, refl);
+  fault = (b_is_opened, faulty (answered (bytes malformed_text) refl refl refl));
   edge = (inl (1, omega arith, refl), (mid_file, sound (answered (bytes mid_text) refl refl refl) refl, (0, omega arith, refl)));
+  top_edge = (inl (0, omega arith, refl), (a_file, sound (answered (bytes a_text) refl refl refl) refl, (0, omega arith, refl)));
   end = (Of mid_nine, refl);
+  greater = record { not_main = differ mid_ten.0 (codes "m") refl; is_end = (Of mid_nine, inr refl); greatest = greatest_version };
+  other_path = record { not_main = differ mid_nine.0 (codes "m") refl; is_end = (Of mid_nine, inl refl); greatest = greatest_of_path };
   has_row = ((Of end_one, None), (1, omega arith, refl), refl);
   rest = ((Of end_one, None), record { before = main_entry ∷ []; parts = refl; path_is = refl; others = before_end });
 }

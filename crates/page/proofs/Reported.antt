@@ -9,7 +9,7 @@ use Rattle.page.specs.Outcomes.{bad_main, bad_sums, device, faulty, no_fault, to
 use Rattle.page.specs.Path.{is_fetchable}
 use Rattle.page.specs.Run.{IsDue, run_of}
 use Rattle.page.specs.Types.{Misreading, NoModule, Sums, Unknown, sums_table, sums_text}
-use Rattle.page.specs.Worlds.{DeviceIsReported, FaultsAreReported, HasNoOutcome, asked_mid, failing, wrong_answers}
+use Rattle.page.specs.Worlds.{DeviceIsReported, FaultsAreReported, HasNoOutcome, asked_mid, failing, reporting, wrong_answers}
 use Rattle.page.specs.Worlds.Rows.{EmptyMainIsReported, FolderDeviceIsReported, ForkIsReported, HostsAreReported, MalformedIsReported, OneFileIsReported, SumsAreReported, TwoFaultsAreReported, UnfetchableIsReported, a_bare, a_name, answer, malformed_answers, nine_answers, sums_answers, wrong_fork_answers}
 use Rattle.page.proofs.Checked.{ends_so}
 use Rattle.page.proofs.Ending.{all_read}
@@ -20,40 +20,49 @@ use Rattle.page.proofs.OneOutcome.{not_both}
 
 pub faults_are_reported : FaultsAreReported
 unfolding is_fetchable digits
-faults_are_reported = ends_so local_text None local_file None wrong_answers refl tt refl None None _ refl
+faults_are_reported = ends_so local_text None local_file None wrong_answers refl tt refl None None
+    (reporting (codes "local@v1.0.0: NotFetchable\nmid.org@v1.9.0: WrongPath\n")) refl
 
 pub unfetchable_is_reported : UnfetchableIsReported
 unfolding is_fetchable digits
-unfetchable_is_reported = ends_so unfetchable_text None unfetchable_file None [] refl tt refl None None _ refl
+unfetchable_is_reported = ends_so unfetchable_text None unfetchable_file None [] refl tt refl None None
+    (reporting (codes "local@v0.0.0: NotFetchable\n")) refl
 
 pub fork_is_reported : ForkIsReported
 unfolding is_fetchable digits
-fork_is_reported = ends_so forking_text None forking_file None wrong_fork_answers refl tt refl None None _ refl
+fork_is_reported = ends_so forking_text None forking_file None wrong_fork_answers refl tt refl None None
+    (reporting (codes "example.com/fork@v1.1.0: WrongPath\n")) refl
 
 pub malformed_is_reported : MalformedIsReported
 unfolding is_fetchable digits
-malformed_is_reported = ends_so three_text None three_file None malformed_answers refl tt refl None None _ refl
+malformed_is_reported = ends_so three_text None three_file None malformed_answers refl tt refl None None
+    (reporting (codes "example.com/b@v1.0.0: Malformed 3 WrongArguments\nexample.com/c@v1.0.0: Missing\n")) refl
 
 pub two_faults_are_reported : TwoFaultsAreReported
 unfolding is_fetchable digits
-two_faults_are_reported = ends_so nine_text None nine_file None nine_answers refl tt refl None None _ refl
+two_faults_are_reported = ends_so nine_text None nine_file None nine_answers refl tt refl None None
+    (reporting (codes "example.com/a@v1.9.0: Missing\nexample.com/a@v1.10.0: TooLong\n")) refl
 
 pub hosts_are_reported : HostsAreReported
 unfolding is_fetchable digits
-hosts_are_reported = ends_so hosts_text None hosts_file None _ refl tt refl None None _ refl
+hosts_are_reported = ends_so hosts_text None hosts_file None _ refl tt refl None None
+    (reporting (codes "-a.org@v1.0.0: NotFetchable\nA.org@v1.0.0: NotFetchable\na-1.org@v1.0.0: Missing\n")) refl
 
 pub one_file_is_reported : OneFileIsReported
 unfolding is_fetchable digits
 one_file_is_reported = record {
-  undeclared = ends_so one_text None one_file None (answer (codes "a") [] ∷ []) refl tt refl None None _ refl;
-  late = ends_so one_text None one_file None (answer (codes "a") late_text ∷ []) refl tt refl None None _ refl;
+  undeclared = ends_so one_text None one_file None (answer (codes "a") [] ∷ []) refl tt refl None None
+      (reporting (codes "example.com/a@v1.0.0: WrongPath\n")) refl;
+  late = ends_so one_text None one_file None (answer (codes "a") late_text ∷ []) refl tt refl None None
+      (reporting (codes "example.com/a@v1.0.0: Malformed 12 BadVersion\n")) refl;
   no_path = refl;
 }
 
 pub sums_are_reported : SumsAreReported
 unfolding is_fetchable digits
 sums_are_reported = record {
-  checked = ends_so three_text (Some sums_text) three_file (Some sums_table) sums_answers refl refl refl None None _ refl;
+  checked = ends_so three_text (Some sums_text) three_file (Some sums_table) sums_answers refl refl refl None None
+      (reporting (codes "example.com/b@v1.1.0: NoSum\nexample.com/c@v1.0.0: SumDiffers\n")) refl;
   invalid = bad_sums alone_file _ refl refl (refl, refl) refl;
 }
 

@@ -160,7 +160,7 @@ is_reached main tops found [] = true
 is_reached main tops found (row ∷ rows) = is_led main tops found row.0 && is_reached main tops (row ∷ found) rows
 
 -- the row has the path of another, and a lesser version or the same one
-abbrev is_no_greater : ModuleVersion → ModuleVersion → Bool
+abbrev pub is_no_greater : ModuleVersion → ModuleVersion → Bool
 is_no_greater x y = not (pointwise nat_eq y.0 x.0) || not (is_gt (version_cmp y.1 x.1))
 
 abbrev is_greater : ModuleVersion → ModuleVersion → Bool

@@ -1,18 +1,18 @@
 -- What single definitions say in these worlds. A lemma that all worlds share would hide which of them was changed.
-use Rattle.std.specs.Prelude.{◌≡◌, List, [], ◌∷◌, Some, None, Result, Err, codes}
-use Rattle.page.specs.Asked.{Name, absent, answer_in, mod_file, too_long}
+use Rattle.std.specs.Prelude.{◌≡◌, ◌⊎◌, List, [], ◌∷◌, Some, None, Result, Ok, Err, codes}
+use Rattle.page.specs.Asked.{Name, Reply, absent, answer_in, mod_file, too_long}
 use Rattle.page.specs.BuildList.{Entry, HasEntryFor, IsRestAfter, IsSelected, main_entry}
 use Rattle.page.specs.Fields.{Dependency}
-use Rattle.page.specs.Files.{end_one, local_file, low_nine, low_ten, main_file, mid_nine, mid_ten, old_file, own_one, top_one}
-use Rattle.page.specs.Files.RowFiles.{malformed_text, one_file, three_file}
-use Rattle.page.specs.Graph.{IsEdgeEnd}
+use Rattle.page.specs.Files.{end_one, local_file, low_nine, low_ten, main_file, mid_nine, mid_ten, old_file, own_one, top_file, top_one, top_text}
+use Rattle.page.specs.Files.RowFiles.{first_of, malformed_text, one_file, three_file}
+use Rattle.page.specs.Graph.{Edges, IsEdgeEnd}
 use Rattle.page.specs.Main.{without_excluded}
 use Rattle.page.specs.ModuleVersion.{ModuleVersion}
 use Rattle.page.specs.Reading.{IsContentReading, IsReadUnless}
-use Rattle.page.specs.Run.{FileSays, IsDeep, IsEdge, IsNeeded, IsTop, Requires, Run, Says, run_of}
+use Rattle.page.specs.Run.{FileSays, IsDeep, IsEdge, IsFault, IsNeeded, IsOpened, IsTop, Requires, Run, Says, run_of}
 use Rattle.page.specs.Types.{Class, Malformed, NoSum, NotFetchable, Of, WrongArguments, WrongPath, sums_table}
-use Rattle.page.specs.Worlds.{pruned_answers, unpruned_answers, wrong_answers}
-use Rattle.page.specs.Worlds.Rows.{a_name, fork_name, name_at, sums_answers, unopened_answers}
+use Rattle.page.specs.Worlds.{asked_folder, pruned_answers, unpruned_answers, wrong_answers}
+use Rattle.page.specs.Worlds.Rows.{a_name, answer, fork_name, malformed_answers, name_at, sums_answers, unopened_answers}
 
 abbrev pub pruned_run : Run
 pruned_run = run_of main_file None pruned_answers
@@ -22,6 +22,27 @@ three_rows = main_entry ∷ (Of end_one, None) ∷ (Of low_nine, None) ∷ []
 
 abbrev pub local_name : Name
 local_name = mod_file (codes "local") (codes "v1.0.0")
+
+-- the file of another module
+abbrev pub stray_answers : List (Name × Reply)
+stray_answers = answer (codes "a") top_text ∷ []
+
+abbrev pub local_answers : List (Name × Reply)
+local_answers = (local_name, absent) ∷ []
+
+-- Edges to two versions of a path, to two paths, and to the main module's path.
+abbrev pub two_versions : Edges
+two_versions step y = (y ≡ mid_nine) ⊎ (y ≡ mid_ten)
+
+abbrev pub two_paths : Edges
+two_paths step y = (y ≡ mid_nine) ⊎ (y ≡ low_ten)
+
+abbrev pub to_own : Edges
+to_own step y = y ≡ own_one
+
+-- Its first and last entry have one path.
+abbrev pub twice_rows : List Entry
+twice_rows = (Of end_one, None) ∷ (Of low_nine, None) ∷ (Of end_one, None) ∷ []
 
 pub record PartsAreShown : Type 0 where
   -- a name has its own answer
@@ -39,9 +60,18 @@ pub record PartsAreShown : Type 0 where
   pub from_main : IsDeep (run_of old_file None unpruned_answers) mid_nine
   pub from_top : IsDeep pruned_run mid_ten
   pub from_deep : IsDeep pruned_run end_one
-  -- an edge from a module that is pruned, and an end of any module's edge
+  -- a module that is opened deeply is opened, its file is needed, and its fault counts
+  pub opened : IsOpened pruned_run mid_ten
+  pub needed : IsNeeded pruned_run asked_folder
+  pub fault : IsFault (run_of three_file None malformed_answers)
+      (record { vertex = first_of (codes "b"); class = Malformed 3 WrongArguments })
+  -- an edge from a module that is pruned, from one that is opened at the top alone, and an end of any module's edge
   pub edge : IsEdge pruned_run (Of mid_nine) low_nine
+  pub top_edge : IsEdge (run_of one_file None unopened_answers) (Of (first_of (codes "a"))) (first_of (codes "c"))
   pub end : IsEdgeEnd (λ step x. step ≡ Of mid_nine) low_nine
+  -- the greater of two versions is selected, whatever the versions of other paths are
+  pub greater : IsSelected (codes "m") two_versions mid_ten
+  pub other_path : IsSelected (codes "m") two_paths mid_nine
   -- a row, and what follows it
   pub has_row : HasEntryFor (codes "m") three_rows (codes "end.org")
   pub rest : IsRestAfter (codes "m") three_rows (codes "end.org") ((Of low_nine, None) ∷ [])
@@ -55,10 +85,19 @@ pub record OthersDoNotHold : Type 0 where
   pub wrong : (y : ModuleVersion) → Requires (run_of local_file None wrong_answers) mid_nine y → ⊥
   -- a module is opened deeply below a pruned main file that requires a pruned one
   pub deep : (x : ModuleVersion) → IsDeep (run_of one_file None unopened_answers) x → ⊥
-  -- a file that may not be asked for says anything else
-  pub said : (said : Result Dependency Class) → FileSays (run_of local_file None []) local_name said
+  -- or below one that requires a module with an unpruned file of a wrong path
+  pub wrong_deep : (x : ModuleVersion) → IsDeep (run_of one_file None stray_answers) x → ⊥
+  -- a file that may not be asked for says anything else, even if it was answered
+  pub said : (said : Result Dependency Class) → FileSays (run_of local_file None local_answers) local_name said
       → said ≡ Err NotFetchable
-  pub needed : IsNeeded (run_of local_file None []) local_name → ⊥
+  pub needed : IsNeeded (run_of local_file None local_answers) local_name → ⊥
+  -- a module with a right path, or with a wrong one, says anything else
+  pub right : (said : Result Dependency Class) → Says pruned_run top_one said → said ≡ Ok top_file
+  pub faulty : (said : Result Dependency Class) → Says (run_of local_file None wrong_answers) mid_nine said
+      → said ≡ Err WrongPath
   -- a module with the main module's path has a row, or the lesser of two versions
   pub own : IsSelected (codes "m") (IsEdge pruned_run) own_one → ⊥
+  pub to_own : IsSelected (codes "m") to_own own_one → ⊥
   pub lesser : IsSelected (codes "m") (IsEdge pruned_run) mid_nine → ⊥
+  -- what follows a later entry of the path
+  pub later : IsRestAfter (codes "m") twice_rows (codes "end.org") [] → ⊥
