@@ -25,17 +25,18 @@ NONE = {"Nothing"}, ("none_", "not_")
 # A proof that a change makes false what the worlds say of single definitions, in a file of its own.
 AGAINST_FILE = "Against"
 AGAINST_HEAD = """-- What a change makes false.
-use Rattle.std.proofs.Common.{◌≡◌, [], ◌∷◌, false, None, Some, Result, Ok, Err, ap, arith, codes, inl, inr, refl, subst, sym}
+use Rattle.std.proofs.Common.{◌≡◌, ◌∙◌, [], ◌∷◌, Contains, false, None, Some, Result, Ok, Err, ap, arith}
+use Rattle.std.proofs.Common.{codes, inl, inr, refl, subst, sym}
 use Rattle.std.specs.Ordering.{is_gt}
 use Rattle.std.proofs.lemmas.Bool.{false≢true}
 use Rattle.std.proofs.lemmas.Option.{same_Some}
 use Rattle.page.specs.Asked.{Reply, absent, bytes}
 use Rattle.page.specs.Fields.{Dependency}
 use Rattle.page.specs.Files.{end_one, local_one, low_nine, low_ten, main_file, mid_nine, mid_ten, old_file, own_one}
-use Rattle.page.specs.Files.{short_file, top_file, top_one, top_text}
+use Rattle.page.specs.Files.{mid_file, short_file, top_file, top_one, top_text}
 use Rattle.page.specs.Files.RowFiles.{at, file_requiring, first_of, going, module_line, path_of, three_file}
 use Rattle.page.specs.Graph.{IsEdgeEnd}
-use Rattle.page.specs.Main.{is_pruned_by}
+use Rattle.page.specs.Main.{is_pruned_by, without_excluded}
 use Rattle.page.specs.ModuleVersion.{ModuleVersion}
 use Rattle.page.specs.Path.{is_fetchable}
 use Rattle.page.specs.Reading.{IsFileReading, file_of}
@@ -43,7 +44,7 @@ use Rattle.page.specs.Run.{FileSays, IsDeep, IsNeeded, IsTop, Says, answered, fr
 use Rattle.page.specs.Run.{sound, unaskable, wrong_path}
 use Rattle.page.specs.Types.{Class, Missing, NoSum, NotFetchable, Of, WrongPath, sums_table}
 use Rattle.page.specs.Version.{version_cmp}
-use Rattle.page.specs.Worlds.{asked_folder, asked_fork, asked_top, unpruned_answers}
+use Rattle.page.specs.Worlds.{asked_folder, asked_fork, asked_top, pruned_answers, unpruned_answers}
 use Rattle.page.specs.Worlds.Parts.{OthersDoNotHold, PartsAreShown, pruned_run, to_own}
 use Rattle.page.specs.Worlds.Rows.{malformed_answers, name_at, sums_answers}
 use Rattle.page.proofs.Members.{differ, member_cases, no_member}

@@ -7,17 +7,18 @@ use Rattle.page.specs.Asked.{bytes}
 use Rattle.page.specs.BuildList.{Entry, IsRestAfter, IsSelected, path_of}
 use Rattle.page.specs.Fields.{Dependency}
 use Rattle.page.specs.Files.{end_one, local_file, low_ten, main_file, mid_nine, mid_ten, own_one, top_file, top_one, top_text}
-use Rattle.page.specs.Files.RowFiles.{file_requiring, first_of, one_file}
+use Rattle.page.specs.Files.RowFiles.{file_requiring, first_of, huge_text, one_file}
 use Rattle.page.specs.Main.{is_pruned_by, without_excluded}
 use Rattle.page.specs.ModuleVersion.{ModuleVersion}
 use Rattle.page.specs.Path.{is_fetchable}
-use Rattle.page.specs.Run.{FileSays, IsDeep, IsEdge, IsNeeded, IsTop, Requires, Says, answered, from_deep, from_main, from_top, run_of, sound, unaskable}
-use Rattle.page.specs.Types.{Class, NotFetchable, Of, WrongPath}
+use Rattle.page.specs.Reading.{IsFileReading}
+use Rattle.page.specs.Run.{FileSays, IsDeep, IsEdge, IsNeeded, IsRead, IsTop, Requires, Says, answered, from_deep, from_main, from_top, run_of, sound, unaskable}
+use Rattle.page.specs.Types.{Class, Malformed, NotFetchable, Of, TooMany, WrongPath}
 use Rattle.page.specs.Worlds.{pruned_answers, wrong_answers}
-use Rattle.page.specs.Worlds.Parts.{OthersDoNotHold, local_answers, local_name, pruned_run, stray_answers, to_own, twice_rows}
-use Rattle.page.specs.Worlds.Rows.{unopened_answers}
+use Rattle.page.specs.Worlds.Parts.{OthersDoNotHold, huge_answers, local_answers, local_name, pruned_run, stray_answers, to_own, twice_rows}
+use Rattle.page.specs.Worlds.Rows.{a_name, unopened_answers}
 use Rattle.page.proofs.Members.{differ, member_cases, no_member}
-use Rattle.page.proofs.Saying.{file_is, said_of, says}
+use Rattle.page.proofs.Saying.{file_is, reading_of, reads, said_of, says}
 
 -- ---- what is excluded
 
@@ -104,6 +105,14 @@ not_needed : IsNeeded (run_of local_file None local_answers) local_name → ⊥
 unfolding is_fetchable
 not_needed (x, opens, is, may) = false≢true may
 
+huge_says : reading_of None a_name (bytes huge_text) ≡ Err (Malformed 0 TooMany)
+huge_says = refl
+
+not_read : IsRead (run_of one_file None huge_answers) → ⊥
+not_read read =
+    let (said, is) = read a_name (bytes huge_text) refl in
+    subst (IsFileReading None a_name (bytes huge_text)) (sym (sym huge_says ∙ reads None a_name (bytes huge_text) said is)) is
+
 -- ---- what a module does not say
 
 not_faulty : (said : Result Dependency Class) → Says pruned_run top_one said → said ≡ Ok top_file
@@ -150,6 +159,7 @@ others_do_not_hold = record {
   wrong_deep = not_wrong_deep;
   said = not_otherwise;
   needed = not_needed;
+  unread = not_read;
   right = not_faulty;
   faulty = not_right;
   own = not_own;

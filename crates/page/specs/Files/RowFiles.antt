@@ -7,7 +7,7 @@ use Rattle.page.specs.Directives.{Folder, Left, Module, Replacing}
 use Rattle.page.specs.Fields.{Dependency}
 use Rattle.page.specs.Main.{Main}
 use Rattle.page.specs.ModuleVersion.{ModuleVersion}
-use Rattle.page.specs.Types.{BadVersion, Misreading, NoModule, Unknown, WrongArguments}
+use Rattle.page.specs.Types.{BadVersion, Misreading, NoModule, TooMany, Unknown, WrongArguments}
 
 -- ---- modules
 
@@ -236,6 +236,10 @@ malformed_text = codes "module example.com/b\n\nrequire example.com/c\n"
 abbrev pub late_text : List ℕ
 late_text = codes "module example.com/a\n\n\n\n\n\n\n\n\n\n\nrequire example.com/c 1.0\n"
 
+-- a stand-in for more bytes than a file may have
+abbrev pub huge_text : List ℕ
+huge_text = codes "module example.com/huge\n"
+
 -- it requires one module
 abbrev pub file_requiring : List ℕ → ℕ × ℕ → List ℕ → List ℕ → Dependency
 file_requiring name go other version = file_with name go (at other version ∷ [])
@@ -310,4 +314,5 @@ said_among (one ∷ others) content = if bytes_eq content one.0 then Ok one.1 el
 abbrev pub said_of_rows : List ℕ → Result Dependency (ℕ × Misreading)
 said_of_rows content =
     if bytes_eq content malformed_text then Err (3, WrongArguments)
-    else (if bytes_eq content late_text then Err (12, BadVersion) else said_among valid_files content)
+    else (if bytes_eq content late_text then Err (12, BadVersion)
+    else (if bytes_eq content huge_text then Err (0, TooMany) else said_among valid_files content))

@@ -1,15 +1,15 @@
 -- What single definitions say in these worlds. A lemma that all worlds share would hide which of them was changed.
 use Rattle.std.specs.Prelude.{◌≡◌, ◌⊎◌, List, [], ◌∷◌, Some, None, Result, Ok, Err, codes}
-use Rattle.page.specs.Asked.{Name, Reply, absent, answer_in, mod_file, too_long}
+use Rattle.page.specs.Asked.{Name, Reply, absent, answer_in, bytes, mod_file, too_long}
 use Rattle.page.specs.BuildList.{Entry, HasEntryFor, IsRestAfter, IsSelected, main_entry}
 use Rattle.page.specs.Fields.{Dependency}
 use Rattle.page.specs.Files.{end_one, local_file, low_nine, low_ten, main_file, mid_nine, mid_ten, old_file, own_one, top_file, top_one, top_text}
-use Rattle.page.specs.Files.RowFiles.{first_of, malformed_text, one_file, three_file}
+use Rattle.page.specs.Files.RowFiles.{first_of, huge_text, malformed_text, one_file, three_file}
 use Rattle.page.specs.Graph.{Edges, IsEdgeEnd}
 use Rattle.page.specs.Main.{without_excluded}
 use Rattle.page.specs.ModuleVersion.{ModuleVersion}
 use Rattle.page.specs.Reading.{IsContentReading, IsReadUnless}
-use Rattle.page.specs.Run.{FileSays, IsDeep, IsEdge, IsFault, IsNeeded, IsOpened, IsTop, Requires, Run, Says, run_of}
+use Rattle.page.specs.Run.{FileSays, IsDeep, IsEdge, IsFault, IsNeeded, IsOpened, IsRead, IsTop, Requires, Run, Says, run_of}
 use Rattle.page.specs.Types.{Class, Malformed, NoSum, NotFetchable, Of, WrongArguments, WrongPath, sums_table}
 use Rattle.page.specs.Worlds.{asked_folder, pruned_answers, unpruned_answers, wrong_answers}
 use Rattle.page.specs.Worlds.Rows.{a_name, answer, fork_name, malformed_answers, name_at, sums_answers, unopened_answers}
@@ -29,6 +29,10 @@ stray_answers = answer (codes "a") top_text ∷ []
 
 abbrev pub local_answers : List (Name × Reply)
 local_answers = (local_name, absent) ∷ []
+
+-- bytes that no store gives
+abbrev pub huge_answers : List (Name × Reply)
+huge_answers = (a_name, bytes huge_text) ∷ []
 
 -- Edges to two versions of a path, to two paths, and to the main module's path.
 abbrev pub two_versions : Edges
@@ -91,6 +95,8 @@ pub record OthersDoNotHold : Type 0 where
   pub said : (said : Result Dependency Class) → FileSays (run_of local_file None local_answers) local_name said
       → said ≡ Err NotFetchable
   pub needed : IsNeeded (run_of local_file None local_answers) local_name → ⊥
+  -- bytes that say nothing are read
+  pub unread : IsRead (run_of one_file None huge_answers) → ⊥
   -- a module with a right path, or with a wrong one, says anything else
   pub right : (said : Result Dependency Class) → Says pruned_run top_one said → said ≡ Ok top_file
   pub faulty : (said : Result Dependency Class) → Says (run_of local_file None wrong_answers) mid_nine said
