@@ -1,7 +1,8 @@
 #!/usr/bin/env bash
 # Changes a definition in a copy of crates/page, and shows that the check refuses the change, and by what.
 #
-#   tools/change-page.sh                  lists the changes, each with its number, its definition and its file
+#   tools/change-page.sh                  lists the changes, each with its number, its definition and its file, and
+#                                         compares their counts with those in docs/proof/HEADLINE.md
 #   tools/change-page.sh NUMBER..         tries these
 #   tools/change-page.sh --all            tries all, which takes some 12 s of CPU time each
 #   tools/change-page.sh --some SECONDS   tries as many as fit into so many seconds of CPU time, others for each commit,
@@ -20,8 +21,8 @@
 # If a change is refused only since a lemma that the worlds share no longer fits, that doesn't count: it says that a proof
 # rests on what was changed, not that the list would differ. The last changes say the same in other words, and must be
 # proved. For each that it tries it prints which of these it was, and the first error that shows it. The status is 1 if
-# one was otherwise, or can't be made since its text isn't there once. .ci/run tries some. It needs python3, and to try
-# changes rt and 2 GB of memory.
+# one was otherwise, can't be made since its text isn't there once, or if a count differs. .ci/run tries some. It needs
+# python3, and to try changes rt and 2 GB of memory.
 set -euo pipefail
 cd "$(dirname "$0")/.."
 # shellcheck source=tools/lib.sh

@@ -17,6 +17,7 @@ import tempfile
 
 PAGE = pathlib.Path("crates/page")
 CHANGES = pathlib.Path("tools/page_changes.txt")
+COUNTED = pathlib.Path("docs/proof/HEADLINE.md")
 EQUAL = "== equal forms\n\n"
 SEEN, AGAINST = "seen", "against "
 # What the proofs of the law, and of runs without an outcome, are in: files, and how lemmas of other files begin.
@@ -136,12 +137,13 @@ def verdict(said, names, change=None):
     found = [*errors(said)]
     if not found or any(folder == "specs" for folder, *_ in found):
         return UNREAD, found[0][3] if found else said[-300:]
+    if change and change.against:
+        error = re.search(rf"(?m)^\./proofs/{AGAINST_FILE}\.antt:.*: error: (.*)", said)
+        return (SHAPE, error[1]) if error else (FACT, change.against.split("\n")[0])
     for _, file, name, message in found:
         for expected, other in differing(message):
             if file not in LAW[0] and expected != other and is_value(expected, names) and is_value(other, names):
                 return VALUE, f"{name}: {short(expected)} is expected, and it is {short(other)}"
-    if change and change.against and not re.search(rf"(?m)^\./proofs/{AGAINST_FILE}\.antt:.*: error: ", said):
-        return FACT, f"against: {first_line(change.against)}"
     for kind, (files, names_begin) in ((LAWFUL, LAW), (NOTHING, NONE)):
         for _, file, name, message in found:
             if file in files or name.startswith(names_begin):
@@ -230,6 +232,17 @@ def unreadable(numbered):
     return wrong
 
 
+def miscounted(all_changes):
+    """Whether the page has other counts of the changes than these; it prints what it should say."""
+    wrong, equal = ([it for it in all_changes if it.is_equal == is_equal] for is_equal in (False, True))
+    says = f"lists {len(wrong)} changes that are wrong, of which {sum(it.is_seen for it in wrong)} were seen to be refused"
+    says += f", and {len(equal)} that say the same in other words, of which {sum(it.is_seen for it in equal)} were seen to be proved"
+    if says in COUNTED.read_text():
+        return False
+    print(f"change-page: {COUNTED} should say: {says}", file=sys.stderr)
+    return True
+
+
 def in_turn(numbered):
     """The changes, those first whose turn it is by the number of commits."""
     count = subprocess.run(["git", "rev-list", "--count", "HEAD"], capture_output=True, text=True).stdout
@@ -246,6 +259,7 @@ def main(*words):
     if wrong or not words:
         for number, change in numbered:
             print(f"{number} {change.title} ({change.path()}{', an equal form' if change.is_equal else ''})")
+        wrong += miscounted([it for _, it in numbered])
     elif words[0] == "--some":
         wrong = try_all(in_turn([it for it in numbered if it[1].is_seen]), int(words[1]))
     else:
