@@ -16,7 +16,9 @@
 #   no outcome   a run that has none (`HasNoOutcome`) would get one
 #
 # A fact counts as a value does: `against` in page_changes.txt is a proof of `⊥` from what is said of the world, by the
-# changed definitions, which the prover admits; that a proof of what is said no longer fits would not be enough.
+# changed definitions, which the prover admits; that a proof of what is said no longer fits would not be enough. For the
+# law and for a run without an outcome it has to be: whether the change allows another outcome, a reader of the error
+# that is printed judges. If it doesn't, the change needs a proof after `against`.
 #
 # If a change is refused only since a lemma that the worlds share no longer fits, that doesn't count: it says that a proof
 # rests on what was changed, not that the list would differ. The last changes say the same in other words, and must be

@@ -39,14 +39,16 @@ use Rattle.page.specs.Files.RowFiles.{at, file_requiring, first_of, going, modul
 use Rattle.page.specs.Graph.{IsEdgeEnd}
 use Rattle.page.specs.Main.{is_pruned_by, without_excluded}
 use Rattle.page.specs.ModuleVersion.{ModuleVersion}
+use Rattle.page.specs.Outcome.{Outcome}
+use Rattle.page.specs.Outcomes.{PrintsRows, path_listed}
 use Rattle.page.specs.Path.{is_fetchable}
 use Rattle.page.specs.Reading.{IsFileReading, file_of}
 use Rattle.page.specs.Run.{FileSays, IsDeep, IsNeeded, IsTop, Says, answered, from_deep, from_main, from_top, run_of}
 use Rattle.page.specs.Run.{sound, unaskable, wrong_path}
 use Rattle.page.specs.Types.{Class, Missing, NoSum, NotFetchable, Of, WrongPath, sums_table}
 use Rattle.page.specs.Version.{version_cmp}
-use Rattle.page.specs.Worlds.{asked_folder, asked_fork, asked_top, pruned_answers, unpruned_answers}
-use Rattle.page.specs.Worlds.Parts.{OthersDoNotHold, PartsAreShown, pruned_run, to_own}
+use Rattle.page.specs.Worlds.{asked_folder, asked_fork, asked_top, printing, pruned_answers, unpruned_answers}
+use Rattle.page.specs.Worlds.Parts.{OthersDoNotHold, PartsAreShown, pruned_run, three_rows, to_own}
 use Rattle.page.specs.Worlds.Rows.{malformed_answers, name_at, sums_answers}
 use Rattle.page.proofs.Members.{differ, member_cases, no_member}
 use Rattle.page.proofs.Saying.{file_is, said_of}

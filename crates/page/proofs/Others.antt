@@ -4,18 +4,20 @@ use Rattle.std.specs.Cmp.Lexicographic.{pointwise}
 use Rattle.std.proofs.lemmas.Bool.{and_parts, false≢true, not-true}
 use Rattle.std.proofs.lemmas.Option.{same_Some}
 use Rattle.page.specs.Asked.{bytes}
-use Rattle.page.specs.BuildList.{Entry, IsRestAfter, IsSelected, path_of}
+use Rattle.page.specs.BuildList.{Entry, HasEntryFor, IsRestAfter, IsSelected, path_of}
 use Rattle.page.specs.Fields.{Dependency}
 use Rattle.page.specs.Files.{end_one, local_file, low_ten, main_file, mid_nine, mid_ten, own_one, top_file, top_one, top_text}
 use Rattle.page.specs.Files.RowFiles.{file_requiring, first_of, huge_text, one_file}
 use Rattle.page.specs.Main.{is_pruned_by, without_excluded}
 use Rattle.page.specs.ModuleVersion.{ModuleVersion}
+use Rattle.page.specs.Outcome.{Outcome}
+use Rattle.page.specs.Outcomes.{PrintsRows, no_path, path_listed, path_unlisted}
 use Rattle.page.specs.Path.{is_fetchable}
 use Rattle.page.specs.Reading.{IsFileReading}
 use Rattle.page.specs.Run.{FileSays, IsDeep, IsEdge, IsNeeded, IsRead, IsTop, Requires, Says, answered, from_deep, from_main, from_top, run_of, sound, unaskable}
 use Rattle.page.specs.Types.{Class, Malformed, NotFetchable, Of, TooMany, WrongPath}
-use Rattle.page.specs.Worlds.{pruned_answers, wrong_answers}
-use Rattle.page.specs.Worlds.Parts.{OthersDoNotHold, huge_answers, local_answers, local_name, pruned_run, stray_answers, to_own, twice_rows}
+use Rattle.page.specs.Worlds.{printing, pruned_answers, wrong_answers}
+use Rattle.page.specs.Worlds.Parts.{OthersDoNotHold, huge_answers, local_answers, local_name, pruned_run, stray_answers, three_rows, to_own, twice_rows}
 use Rattle.page.specs.Worlds.Rows.{a_name, unopened_answers}
 use Rattle.page.proofs.Members.{differ, member_cases, no_member}
 use Rattle.page.proofs.Saying.{file_is, reading_of, reads, said_of, says}
@@ -150,6 +152,15 @@ not_later (entry, at) = by_before at.before at.parts at.others
     by_before (b ∷ bs) parts others = others b (0, omega arith, refl)
         (subst (λ (e : Entry). path_of (codes "m") e.0 ≡ codes "end.org") (first_is (Of end_one, None) b _ (bs ++ entry ∷ []) parts) refl)
 
+end_has_row : HasEntryFor (codes "m") three_rows (codes "end.org")
+end_has_row = ((Of end_one, None), (1, omega arith, refl), refl)
+
+not_limited : (outcome : Outcome) → PrintsRows main_file three_rows (Some (codes "end.org")) (Some 0) outcome → outcome ≡ printing []
+not_limited outcome (no_path e is) = absurd (cc e)
+not_limited outcome (path_listed path others e rest is) = is
+not_limited outcome (path_unlisted path e unlisted) =
+    absurd (unlisted.0 (subst (HasEntryFor (codes "m") three_rows) (same_Some (codes "end.org") path e) end_has_row))
+
 pub others_do_not_hold : OthersDoNotHold
 others_do_not_hold = record {
   top = not_top;
@@ -166,4 +177,5 @@ others_do_not_hold = record {
   to_own = not_to_own;
   lesser = not_lesser;
   later = not_later;
+  limited = not_limited;
 }

@@ -8,10 +8,12 @@ use Rattle.page.specs.Files.RowFiles.{first_of, huge_text, malformed_text, one_f
 use Rattle.page.specs.Graph.{Edges, IsEdgeEnd}
 use Rattle.page.specs.Main.{without_excluded}
 use Rattle.page.specs.ModuleVersion.{ModuleVersion}
+use Rattle.page.specs.Outcome.{Outcome}
+use Rattle.page.specs.Outcomes.{PrintsRows}
 use Rattle.page.specs.Reading.{IsContentReading, IsReadUnless}
 use Rattle.page.specs.Run.{FileSays, IsDeep, IsEdge, IsFault, IsNeeded, IsOpened, IsRead, IsTop, Requires, Run, Says, run_of}
 use Rattle.page.specs.Types.{Class, Malformed, NoSum, NotFetchable, Of, WrongArguments, WrongPath, sums_table}
-use Rattle.page.specs.Worlds.{asked_folder, pruned_answers, unpruned_answers, wrong_answers}
+use Rattle.page.specs.Worlds.{asked_folder, printing, pruned_answers, unpruned_answers, wrong_answers}
 use Rattle.page.specs.Worlds.Rows.{a_name, answer, fork_name, malformed_answers, name_at, sums_answers, unopened_answers}
 
 abbrev pub pruned_run : Run
@@ -107,3 +109,6 @@ pub record OthersDoNotHold : Type 0 where
   pub lesser : IsSelected (codes "m") (IsEdge pruned_run) mid_nine → ⊥
   -- what follows a later entry of the path
   pub later : IsRestAfter (codes "m") twice_rows (codes "end.org") [] → ⊥
+  -- something is printed after a path, up to a limit of 0
+  pub limited : (outcome : Outcome) → PrintsRows main_file three_rows (Some (codes "end.org")) (Some 0) outcome
+      → outcome ≡ printing []
