@@ -39,8 +39,8 @@ TIP = re.compile(
 # words that what is to be typed has no word of its own for: commands, and options that it does without
 ACCOUNTED = re.compile(
     rb"(?i:mod|ls|list|all|why|get|add|fmt|format|edit|version|graph|tree|help|chain|versions|update|upgrade)"
-    rb"|--?(versions|v|print|fmt|proxy|C|w)|--proxy=|--?modfile"
-    rb"|-?-json|json|--format|-o|-(d|l|w|i)|--(check|diff|write|in-place|retracted(=.*)?|)"
+    rb"|--?(versions?|v|print|fmt|proxy|C|w)|--proxy=|--?modfile"
+    rb"|-?-json|json|--format|--output(=.*)?|-o|-(d|l|w|i)|--(check|diff|write|in-place|retracted(=.*)?|)"
 )
 NO_MEMORY = b"", b"gomod: no memory\n", 3
 PASSED = b"all allocations passed\n"
