@@ -297,8 +297,10 @@ valid_files =
     ∷ bare (codes "z") ∷ bare (codes "fork")
     ∷ requires (codes "a") (codes "c") (codes "v1.9.0") ∷ requires (codes "b") (codes "c") (codes "v1.10.0")
     ∷ requires (codes "a") (codes "c") (codes "v1.2.0") ∷ requires (codes "a") (codes "b") (codes "v1.0.0")
-    ∷ (going (codes "b") (codes "1.15") (codes "a") (codes "v1.0.0"),
-    file_requiring (codes "b") (1, 15) (codes "a") (codes "v1.0.0"))
+    ∷ (
+      going (codes "b") (codes "1.15") (codes "a") (codes "v1.0.0"),
+      file_requiring (codes "b") (1, 15) (codes "a") (codes "v1.0.0"),
+    )
     ∷ requires (codes "a") (codes "m") (codes "v0.9.0")
     ∷ requires (codes "m") (codes "k") (codes "v1.0.0")
     ∷ old (codes "a") (codes "c") ∷ new (codes "a") (codes "c") ∷ new (codes "c") (codes "d")
