@@ -1,15 +1,12 @@
 //! Whether the commands of a case have the results that it states.
 
-use crate::counting::Count;
-use crate::differences::Differences;
-use crate::known_input::KnownInput;
 use crate::memory::InMemory;
-use crate::outcomes::{Outcome, Room};
 use crate::parsing::{ParsedRun, parsed_runs};
 use crate::sweeping::sweep;
 use crate::workspace::{Real, Workspace, are_opened, is_each_opened_once};
 use gomod_case_calls::call;
 use gomod_case_files::{Case, Run, STDIN, View, lay_files, make_folder, texts_of};
+use gomod_case_runs::{Count, Differences, KnownInput, Outcome, Room};
 use std::alloc::{AllocError, Global};
 use std::{fs, io};
 

@@ -1,11 +1,10 @@
 //! Commands over files of which one is cut off.
 
-use crate::differences::Differences;
 use crate::memory::Memory;
-use crate::outcomes::{DEVICE, Outcome, Room};
 use crate::parsing::ParsedRun;
 use crate::workspace::Workspace;
 use gomod_case_files::{Run, View};
+use gomod_case_runs::{DEVICE, Differences, Outcome, Room};
 use std::alloc::AllocError;
 
 /// The room of the outputs of a command over a file that is cut off.

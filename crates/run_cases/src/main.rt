@@ -2,19 +2,13 @@
 //! files. docs/dev/CASES.md has their form.
 #![tactic(auto)]
 
-mod case_runtime;
 mod checking;
-mod counting;
 mod cutting;
-mod differences;
-mod known_input;
 mod memory;
-mod outcomes;
 mod outputs;
 mod parsing;
 mod program;
 mod refusals;
-mod stores;
 mod sweeping;
 mod workspace;
 

@@ -4,13 +4,11 @@ ghost use Rattle.std.specs.Prelude.{◌≡◌, [], None, false, true};
 ghost use Rattle.std.specs.Option.{option_map};
 ghost use Rattle.gomod_run.specs.Runs.{is_query};
 
-use crate::counting::Count;
-use crate::outcomes::{Outcome, Room};
 use crate::parsing::{Parsed, ParsedRun};
-use crate::stores::Folders;
 use gm_name::ModPath;
 use gm_store::{FileName, Files, MemoryFiles, ProxyList, copy_name};
 use gomod_case_files::{STDIN, View};
+use gomod_case_runs::{Count, Folders, Outcome, Room};
 use gomod_run::{Command, run};
 use std::alloc::{AllocError, Global};
 

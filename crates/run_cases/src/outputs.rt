@@ -2,11 +2,10 @@
 
 use crate::checking::is_wanted;
 use crate::cutting::{begins_line, is_cut, is_short};
-use crate::differences::Differences;
-use crate::outcomes::{DEVICE, Outcome, Room};
 use crate::parsing::ParsedRun;
 use crate::workspace::Workspace;
 use gomod_case_files::Run;
+use gomod_case_runs::{DEVICE, Differences, Outcome, Room};
 use std::alloc::AllocError;
 
 /// One of the two outputs of a command.

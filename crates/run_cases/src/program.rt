@@ -1,11 +1,10 @@
 //! The program over files of cases.
 
 use crate::checking::check_case;
-use crate::counting::Count;
-use crate::differences::Differences;
 use gomod_case_files::{
     Case, CaseFault, CaseFile, CaseText, Content, Sizes, case_texts, read_case,
 };
+use gomod_case_runs::{Count, Differences};
 use std::process::ExitCode;
 use std::{env, fs, io};
 

@@ -1,13 +1,12 @@
 //! Command lines over files that can't be opened, and over a store that fails at a file.
 
 use crate::checking::room_for;
-use crate::differences::Differences;
 use crate::memory::InMemory;
-use crate::outcomes::Room;
 use crate::parsing::Parsed;
 use crate::workspace::{Real, Workspace};
 use gm_store::FileName;
 use gomod_case_files::Run;
+use gomod_case_runs::{Differences, Room};
 use std::alloc::{AllocError, Global};
 
 /// The outputs of a command that writes a line.

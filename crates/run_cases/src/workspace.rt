@@ -1,11 +1,8 @@
 //! Commands over real files.
 
-use crate::case_runtime::{CaseRuntime, Log};
-use crate::counting::Count;
-use crate::known_input::KnownInput;
 use crate::memory::Memory;
-use crate::outcomes::{Outcome, Room};
 use gomod_case_files::{Case, Run, View, tidied};
+use gomod_case_runs::{CaseRuntime, Count, KnownInput, Log, Outcome, Room};
 use gomod_run::ending_of;
 use std::alloc::{AllocError, Global};
 

@@ -4,26 +4,29 @@ use gm_store::MemorySink;
 use std::alloc::{AllocError, Global};
 
 /// The status of a command for which an output, a file or memory failed.
-pub(crate) const DEVICE: u8 = 3;
+pub const DEVICE: u8 = 3;
 
 /// What a command wrote, and its status.
 #[derive(Drop)]
-pub(crate) struct Outcome {
-    pub(crate) out: MemorySink,
-    pub(crate) report: MemorySink,
-    pub(crate) status: u8,
+pub struct Outcome {
+    /// Standard output.
+    pub out: MemorySink,
+    /// Standard error.
+    pub report: MemorySink,
+    /// The exit status.
+    pub status: u8,
 }
 
 impl Outcome {
     /// Whether two commands had the same result.
-    pub(crate) fn is_same(&self, other: &Outcome) -> bool {
+    pub fn is_same(&self, other: &Outcome) -> bool {
         self.out.bytes() == other.out.bytes()
             && self.report.bytes() == other.report.bytes()
             && self.status == other.status
     }
 
     /// Whether the command wrote nothing, reported this and ended with status 3.
-    pub(crate) fn is_failure(&self, report: &str) -> bool {
+    pub fn is_failure(&self, report: &str) -> bool {
         self.out.bytes().is_empty()
             && self.report.bytes() == report.as_bytes()
             && self.status == DEVICE
@@ -32,14 +35,16 @@ impl Outcome {
 
 /// How many bytes the outputs of a command take.
 #[derive(Clone, Copy)]
-pub(crate) struct Room {
-    pub(crate) out: usize,
-    pub(crate) report: usize,
+pub struct Room {
+    /// Those of standard output.
+    pub out: usize,
+    /// Those of standard error.
+    pub report: usize,
 }
 
 impl Room {
     /// Outputs with room for exactly these texts.
-    pub(crate) fn sinks(&self, alloc: Global) -> Result<(MemorySink, MemorySink), AllocError> {
+    pub fn sinks(&self, alloc: Global) -> Result<(MemorySink, MemorySink), AllocError> {
         let out = MemorySink::new(alloc, self.out)?;
         let report = MemorySink::new(alloc, self.report)?;
         Ok((out, report))

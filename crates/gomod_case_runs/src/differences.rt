@@ -9,7 +9,7 @@ const SHOWN: usize = 2_000;
 
 /// How a case differs: lines of text.
 #[derive(Drop)]
-pub(crate) struct Differences {
+pub struct Differences {
     alloc: Global,
     text: String,
     /// Whether memory ran out for one of the lines. It is asked for once, at the end.
@@ -18,7 +18,7 @@ pub(crate) struct Differences {
 
 impl Differences {
     /// No difference.
-    pub(crate) fn new(alloc: Global) -> Differences {
+    pub fn new(alloc: Global) -> Differences {
         Differences {
             alloc,
             text: String::new(alloc),
@@ -27,12 +27,12 @@ impl Differences {
     }
 
     /// Whether there is no difference, so that the case passes.
-    pub(crate) fn is_empty(&self) -> bool {
+    pub fn is_empty(&self) -> bool {
         self.text.as_str().is_empty()
     }
 
     /// The lines so far, if there was memory for all of them.
-    pub(crate) fn finished(&self) -> Result<&str, AllocError> {
+    pub fn finished(&self) -> Result<&str, AllocError> {
         if self.lacks_memory {
             return Err(AllocError);
         }
@@ -54,13 +54,13 @@ impl Differences {
     }
 
     /// Adds a line.
-    pub(crate) fn line(&mut self, line: &str) {
+    pub fn line(&mut self, line: &str) {
         self.push(line);
         self.push("\n");
     }
 
     /// Adds a number.
-    pub(crate) fn number(&mut self, what: &str, number: usize) {
+    pub fn number(&mut self, what: &str, number: usize) {
         self.push(what);
         self.push(": ");
         self.push_number(number);
@@ -68,7 +68,7 @@ impl Differences {
     }
 
     /// Adds which command differs, and over what.
-    pub(crate) fn command(&mut self, run: &Run<'_>, over: &str) {
+    pub fn command(&mut self, run: &Run<'_>, over: &str) {
         self.push("  line ");
         self.push_number(run.line);
         self.push(", ");
@@ -78,7 +78,7 @@ impl Differences {
     }
 
     /// Adds a text in the form of a case.
-    pub(crate) fn text(&mut self, mark: &str, bytes: &[u8]) {
+    pub fn text(&mut self, mark: &str, bytes: &[u8]) {
         let shown = &bytes[..bytes.len().min(SHOWN)];
         self.lines(mark, shown);
         if shown.len() < bytes.len() {
@@ -116,7 +116,7 @@ impl Differences {
     }
 
     /// Adds the result of a command, in the form of a case.
-    pub(crate) fn outcome(&mut self, outcome: &Outcome) {
+    pub fn outcome(&mut self, outcome: &Outcome) {
         self.line("  got:");
         self.text(">", outcome.out.bytes());
         self.text("!", outcome.report.bytes());
@@ -124,7 +124,7 @@ impl Differences {
     }
 
     /// Adds the expected result of a command, in the form of a case.
-    pub(crate) fn wanted(&mut self, run: &Run<'_>) {
+    pub fn wanted(&mut self, run: &Run<'_>) {
         self.line("  wanted:");
         self.text(">", run.out.as_slice());
         self.text("!", run.report.as_slice());
@@ -132,7 +132,7 @@ impl Differences {
     }
 
     /// Adds the files that were opened, in the form of a case.
-    pub(crate) fn opened(&mut self, names: &[String]) {
+    pub fn opened(&mut self, names: &[String]) {
         for name in names {
             self.marked("@", name.as_str());
         }

@@ -8,7 +8,7 @@ const SHORT: usize = 3;
 
 /// Standard input whose bytes are known, and the reader of it, which never fails.
 #[derive(Clone, Copy)]
-pub(crate) struct KnownInput<'a> {
+pub struct KnownInput<'a> {
     /// The bytes that are left.
     left: &'a [u8],
     /// Whether a read gives only a few of them.
@@ -17,7 +17,7 @@ pub(crate) struct KnownInput<'a> {
 
 impl<'a> KnownInput<'a> {
     /// These bytes. A read gives as many of them as it has room for.
-    pub(crate) fn of(bytes: &'a [u8]) -> KnownInput<'a> {
+    pub fn of(bytes: &'a [u8]) -> KnownInput<'a> {
         KnownInput {
             left: bytes,
             is_short: false,
@@ -25,7 +25,7 @@ impl<'a> KnownInput<'a> {
     }
 
     /// The same bytes, of which a read gives a few.
-    pub(crate) fn in_short_reads(self) -> KnownInput<'a> {
+    pub fn in_short_reads(self) -> KnownInput<'a> {
         KnownInput {
             left: self.left,
             is_short: true,

@@ -17,7 +17,7 @@ use std::{fs, io};
 
 /// What was read: the files that were opened, which of them can't be opened, and whether standard input was taken.
 #[derive(Drop)]
-pub(crate) struct Log {
+pub struct Log {
     opened: RefCell<Vec<String>>,
     /// How many files can be opened before the one that can't, if there is one.
     left: Cell<Option<usize>>,
@@ -26,7 +26,7 @@ pub(crate) struct Log {
 
 impl Log {
     /// An empty log. If a number is given, the file after that many others can't be opened.
-    pub(crate) fn new(alloc: Global, left: Option<usize>) -> Log {
+    pub fn new(alloc: Global, left: Option<usize>) -> Log {
         Log {
             opened: RefCell::new(Vec::new(alloc)),
             left: Cell::new(left),
@@ -52,7 +52,7 @@ impl Log {
     }
 
     /// The names of the files, in the order in which they were opened.
-    pub(crate) fn take(&self, alloc: Global) -> Vec<String> {
+    pub fn take(&self, alloc: Global) -> Vec<String> {
         match self.opened.try_replace(Vec::new(alloc)) {
             Ok(opened) => opened,
             Err(_) => Vec::new(alloc),
@@ -60,7 +60,7 @@ impl Log {
     }
 
     /// Whether the reader of standard input was asked for.
-    pub(crate) fn takes_input(&self) -> bool {
+    pub fn takes_input(&self) -> bool {
         self.takes_input.get()
     }
 }
@@ -68,17 +68,17 @@ impl Log {
 /// A runtime whose files are in one real folder, whose standard input is that of a case, and whose command line has
 /// some words. All else that it can do is to allocate.
 #[derive(Clone, Copy)]
-pub(crate) struct CaseRuntime<'case, 'run> {
+pub struct CaseRuntime<'case, 'run> {
     /// The words of the command line after the program's name.
-    pub(crate) words: &'run [Vec<u8>],
+    pub words: &'run [Vec<u8>],
     /// The runtime that opens the real files.
-    pub(crate) system: HostRuntime,
+    pub system: HostRuntime,
     /// The real folder.
-    pub(crate) folder: &'case str,
+    pub folder: &'case str,
     /// Standard input.
-    pub(crate) input: KnownInput<'case>,
+    pub input: KnownInput<'case>,
     /// Where each file that is opened is recorded, and each use of standard input.
-    pub(crate) log: &'run Log,
+    pub log: &'run Log,
 }
 
 impl Alloc for CaseRuntime<'_, '_> {

@@ -14,7 +14,7 @@ use std::alloc::{AllocError, Global};
 
 /// The folders of a store while it is filled.
 #[derive(Drop)]
-pub(crate) struct Folders {
+pub struct Folders {
     proxies: Vec<MemoryFolder>,
     marks: Vec<Mark>,
     beside: MemoryFolder,
@@ -22,7 +22,7 @@ pub(crate) struct Folders {
 
 impl Folders {
     /// No proxy folder, and no file beside the main file.
-    pub(crate) fn new(alloc: Global) -> Folders {
+    pub fn new(alloc: Global) -> Folders {
         Folders {
             proxies: Vec::new(alloc),
             marks: Vec::new(alloc),
@@ -31,7 +31,7 @@ impl Folders {
     }
 
     /// Adds a folder that holds a module's list of versions.
-    pub(crate) fn put_list(
+    pub fn put_list(
         &mut self,
         alloc: Global,
         path: &ModPath,
@@ -43,7 +43,7 @@ impl Folders {
     }
 
     /// Adds the folders that the words name, with the files that a case has in them.
-    pub(crate) fn put_proxies(
+    pub fn put_proxies(
         &mut self,
         alloc: Global,
         view: &View<'_>,
@@ -81,11 +81,7 @@ impl Folders {
     }
 
     /// Makes the device fail at a file, if one is given.
-    pub(crate) fn break_at(
-        &mut self,
-        alloc: Global,
-        broken: Option<&FileName>,
-    ) -> Result<(), AllocError> {
+    pub fn break_at(&mut self, alloc: Global, broken: Option<&FileName>) -> Result<(), AllocError> {
         match broken {
             Some(name) => self.put(copy_name(alloc, name)?, Held::Broken),
             None => Ok(()),
@@ -93,7 +89,7 @@ impl Folders {
     }
 
     /// Adds the go.mod files of the folders by which a main file replaces modules, if it can be read.
-    pub(crate) fn put_replacements(
+    pub fn put_replacements(
         &mut self,
         alloc: Global,
         view: &View<'_>,
@@ -139,7 +135,7 @@ impl Folders {
     }
 
     /// The store over these folders, if there is one more folder than marks.
-    pub(crate) fn into_store(self, alloc: Global) -> Option<MemoryFolders>
+    pub fn into_store(self, alloc: Global) -> Option<MemoryFolders>
         ensures { IfSome result (λ store. asked_by store ≡ []) }
     {
         let Folders {
