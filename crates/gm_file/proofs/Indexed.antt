@@ -23,6 +23,7 @@ use Rattle.gm_file.specs.Faults.{is_conflict, is_same_left, is_same_right, is_sa
 use Rattle.gm_file.specs.Fields.{right_for}
 use Rattle.gm_file.specs.Indexes.{IndexLines, IsInserted, IsNoted, ReportsConflict, differs, right_at}
 use Rattle.gm_file.specs.Views.{replace_view, replace_views, right_view}
+use Rattle.gm_name.proofs.Logic.{and-false, and-true, or-false}
 
 text-self : (a : List ℕ) → bytes_eq a a ≡ true
 text-self a = nat_list_eq_equiv.refl a
@@ -150,10 +151,6 @@ inserted-noted cmp old new key right (Ok u) none put memory = inr (none, put)
 inserted-noted cmp old new key right (Err fault.NoMemory) none put memory = tt
 inserted-noted cmp old new key right (Err (fault.Kind kind)) none put memory = absurd cc
 
-or-false : (a : Bool) → (a || false) ≡ a
-or-false true = refl
-or-false false = refl
-
 or-twice : (a : Bool) → (a || (a || false)) ≡ a
 or-twice true = refl
 or-twice false = refl
@@ -189,14 +186,6 @@ agree-snoc rs x agree none y =
 
 pair-left-ties : (a b : ModuleVersion) → is_eq (pair_cmp a b) ≡ is_same_left (left_with a.0 a.1) (left_with b.0 b.1)
 pair-left-ties a b = sym (pair_ties a b)
-
-and-true : (a : Bool) → (a && true) ≡ a
-and-true true = refl
-and-true false = refl
-
-and-false : (a : Bool) → (a && false) ≡ false
-and-false true = refl
-and-false false = refl
 
 path-left-ties : (a b : List ℕ) → is_eq (slice_cmp nat_cmp a b) ≡ is_same_left (left_without a) (left_without b)
 path-left-ties a b = is_eq-slice_cmp a b ∙ sym (and-true (bytes_eq a b))

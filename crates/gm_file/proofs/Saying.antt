@@ -16,6 +16,7 @@ use Rattle.gm_file.specs.Fields.{as_exclusion, as_go, as_interval, as_module, as
 use Rattle.gm_file.specs.Holding.{Holds, IsAdded, HaveFields}
 use Rattle.gm_file.specs.Indexes.{ReportsConflict}
 use Rattle.gm_file.specs.Reading.{own_kinds}
+use Rattle.gm_name.proofs.Logic.{or-false}
 
 -- a directive that gives nothing to a field leaves it unchanged
 skip : {Y : Type 0} (h : Directive → Option Y) (ds : List Directive) (d : Directive) → h d ≡ None → filter_map h (ds ++ d ∷ []) ≡ filter_map h ds
@@ -23,10 +24,6 @@ skip {Y} h ds d e = filter_map-append h ds (d ∷ []) ∙ ap (λ (o : Option Y).
 
 put : {Y : Type 0} (h : Directive → Option Y) (ds : List Directive) (d : Directive) (y : Y) → h d ≡ Some y → filter_map h (ds ++ d ∷ []) ≡ filter_map h ds ++ y ∷ []
 put {Y} h ds d y e = filter_map-append h ds (d ∷ []) ∙ ap (λ (o : Option Y). filter_map h ds ++ cons_option o []) e
-
-or-false : (a : Bool) → (a || false) ≡ a
-or-false true = refl
-or-false false = refl
 
 or-true : (a : Bool) → (a || (true || false)) ≡ true
 or-true true = refl

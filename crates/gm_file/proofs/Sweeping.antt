@@ -11,6 +11,7 @@ use Rattle.gm_file.specs.Directives.{VersionInterval}
 use Rattle.gm_file.specs.Shown.{holds_version, is_retracted, is_at_most, shown_of}
 use Rattle.gm_file.specs.Swept.{AreAllSwept, AreSorted, AreSwept, Ascend, is_reached}
 use Rattle.gm_file.proofs.Ascending.{upto_less, upto_trans}
+use Rattle.gm_name.proofs.Logic.{or-false}
 
 -- the start of a sweep
 pub swept_none : (ps : List VersionInterval) (v : List ℕ) → AreSwept ps v 0 None
@@ -19,10 +20,6 @@ swept_none ps v = record { within = omega arith; begun = refl; reached = λ w. r
 taken_more : (ps : List VersionInterval) (n : ℕ) (d : VersionInterval) → n < length ps → take (n + 1) ps ≡ take n ps ++ slice_index_or ps n d ∷ []
 taken_more ps n d within = ap (λ i. take i ps) (add-one n) ∙ take-suc ps n d within
 
-or_false : (b : Bool) → (b || false) ≡ b
-or_false true = refl
-or_false false = refl
-
 -- after one more interval, which begins at the version or before
 pub swept_more : (ps : List VersionInterval) (v : List ℕ) (n : ℕ) (reach : Option (List ℕ)) (p : VersionInterval) (high : List ℕ) → AreSwept ps v n reach → n < length ps
     → p ≡ slice_index_or ps n p → is_at_most p.0 v ≡ true → ((w : List ℕ) → is_at_most w high ≡ (is_reached w reach || is_at_most w p.1))
@@ -30,7 +27,7 @@ pub swept_more : (ps : List VersionInterval) (v : List ℕ) (n : ℕ) (reach : O
 swept_more ps v n reach p high swept within item begins far = record {
   within = omega arith;
   begun = list_all_more (λ (ends : VersionInterval). is_at_most ends.0 v) ps n p within ∙ and_from _ _ swept.begun (subst (λ (q : VersionInterval). is_at_most q.0 v ≡ true) item begins);
-  reached = λ w. far w ∙ ap₂ (λ (x y : Bool). x || y) (swept.reached w) (ap (λ (q : VersionInterval). is_at_most w q.1) item ∙ sym (or_false _))
+  reached = λ w. far w ∙ ap₂ (λ (x y : Bool). x || y) (swept.reached w) (ap (λ (q : VersionInterval). is_at_most w q.1) item ∙ sym (or-false _))
       ∙ sym (list_any-append (λ (ends : VersionInterval). is_at_most w ends.1) (take n ps) (slice_index_or ps n p ∷ []))
       ∙ ap (list_any (λ (ends : VersionInterval). is_at_most w ends.1)) (sym (taken_more ps n p within));
 }
@@ -109,7 +106,7 @@ any_take_drop v (p ∷ ps) (suc n) = ap (λ b. holds_version v p || b) (any_take
 pub held_is : (ps : List VersionInterval) (v : List ℕ) (n : ℕ) (reach : Option (List ℕ)) → Ascend ps → AreAllSwept ps v n reach → is_retracted ps v ≡ is_reached v reach
 held_is ps v n reach ascend all =
     any_take_drop v ps n ∙ ap₂ (λ (x y : Bool). x || y) (held_begun v (take n ps) all.swept.begun ∙ sym (all.swept.reached v))
-    (late_rest v (drop n ps) (ascend_drop ps n ascend) (late_drop v ps n all.ended)) ∙ or_false _
+    (late_rest v (drop n ps) (ascend_drop ps n ascend) (late_drop v ps n all.ended)) ∙ or-false _
 
 -- ---- the loop over the versions
 

@@ -11,6 +11,7 @@ use Rattle.gm_name.specs.Element.{elements, is_element, is_path_byte, is_stem_by
 use Rattle.gm_name.specs.Path.{is_byte_of_path}
 use Rattle.gm_name.proofs.Bytes.{elements-bytes}
 use Rattle.gm_name.proofs.Paths.{path_byte-no_slash}
+use Rattle.gm_name.proofs.Logic.{and-true}
 
 -- ---- bytes
 
@@ -25,10 +26,6 @@ dot-from b path apart = grind (arith, nat_tests)
 
 outside_path : (b : ℕ) → is_path_byte b ≡ false → b ≢ 47 → is_byte_of_path b ≡ false
 outside_path b bad other = grind (arith, nat_tests)
-
-and-true : (b : Bool) → (b && true) ≡ b
-and-true true = refl
-and-true false = refl
 
 -- ---- the parts of the front
 

@@ -24,3 +24,4 @@ pub mod KeptPlaces
 pub mod Places
 pub mod Slots
 pub mod Empty
+pub mod Logic

@@ -1,12 +1,11 @@
 -- The tests `is_path`, `is_version` and `does_fit` agree with the facts `IsPath`, `IsVersion` and `Fits`.
-use Rattle.std.proofs.Common.{◌≡◌, ◌≢◌, ◌↔◌, ℕ, ◌-◌, ◌==◌, ◌&&◌, ◌||◌, ◌^◌, ◌<◌, ◌≤◌, nat_lt, nat_eq, Bool, true, false, not, List, [], ◌∷◌, ◌++◌, length, get_or, take, drop, codes, Option, Some, None, Result, Ok, Err, is_some, IfSome, IfNone, refl, sym, ap, subst, ◌∙◌, inl, inr, arith, rules, IsTrue}
+use Rattle.std.proofs.Common.{◌≡◌, ◌≢◌, ◌↔◌, ℕ, ◌-◌, ◌==◌, ◌&&◌, ◌||◌, ◌^◌, ◌<◌, ◌≤◌, nat_lt, nat_eq, Bool, true, false, not, List, [], ◌∷◌, ◌++◌, length, get_or, take, drop, codes, Option, Some, None, Result, Ok, Err, is_some, IfSome, IfNone, refl, sym, ap, subst, ◌∙◌, inl, inr, arith, IsTrue}
 pub use Rattle.std.proofs.lemmas.Bool.{and_parts as and_both, not-true as not_true}
 use Rattle.std.proofs.lemmas.Bool.{and_from, eq-eqb, eqb-true, or_cases, or_left, or_right}
 use Rattle.std.proofs.lemmas.Bool.Decides.{Decides-eqb, nat_tests}
 use Rattle.std.proofs.lemmas.Fmt.{decimal-digits_value, digits_value-decimal}
 use Rattle.std.proofs.lemmas.List.{nil_from_length}
 use Rattle.std.proofs.lemmas.Slice.Eq.{ends_is, starts_is}
-use Rattle.std.proofs.lemmas.Str.Parse.{IsNumeralModel, numerals_by_value}
 use Rattle.std.specs.Char.{is_ascii_digit}
 use Rattle.std.specs.Cmp.Lexicographic.{same_text}
 use Rattle.std.specs.Fmt.{decimal}
@@ -28,7 +27,7 @@ use Rattle.gm_name.specs.Version.{HasPlainBuild, IsVersion}
 use Rattle.gm_name.specs.declared.major.Major.{Major}
 use Rattle.gm_name.specs.declared.major.Major.TheVariants.{NoSuffix, Slash, Dot}
 use Rattle.gm_name.proofs.Majors.{number-unique, major-unique, dot_stable_none, dot_unstable_none, dot_unstable_zero, major_elsewhere, major_under, slash_empty, slash_version}
-use Rattle.gm_name.proofs.Marks.{decimal-digits, number_marked, number_unmarked}
+use Rattle.gm_name.proofs.Marks.{decimal-digits, digits, number_marked, number_unmarked}
 use Rattle.gm_name.proofs.Numbers.{starts-decimal}
 use Rattle.gm_name.proofs.Paths.{path-elements, path-from}
 
@@ -36,9 +35,6 @@ use Rattle.gm_name.proofs.Paths.{path-elements, path-from}
 abbrev pub Tells : {X : Type 0} → Option X → (X → Type 0) → Type 0
 Tells (Some x) P = P x
 Tells {X} None P = (x : X) → ¬ (P x)
-
-pub digits : IsNumeralModel (λ ds. list_all is_ascii_digit ds ≡ true) (digits_value 10)
-digits = numerals_by_value (λ ds. list_all is_ascii_digit ds ≡ true) (search rules)
 
 -- ---- numbers
 

@@ -4,7 +4,7 @@ use Rattle.std.proofs.lemmas.Bool.{cases_Bool, eqb-true}
 use Rattle.std.proofs.lemmas.Bool.Decides.{nat_tests}
 use Rattle.std.proofs.lemmas.Cmp.{tied_itself}
 use Rattle.std.proofs.lemmas.List.Folds.{list_all-append}
-use Rattle.std.specs.Cmp.{first_so, nat_cmp_is, nat_cmp_total, ranked, second_so}
+use Rattle.std.specs.Cmp.{first_so, nat_cmp_total, ranked, second_so}
 use Rattle.std.specs.Cmp.Lexicographic.{slice_cmp}
 use Rattle.std.specs.FinMap.{IsAntisymmetric, nat_cmp-IsAntisymmetric}
 use Rattle.std.specs.List.{list_all}
@@ -18,7 +18,7 @@ use Rattle.semver.specs.Parse.{Parts}
 use Rattle.gm_name.specs.Precedence.{HasLowerPrecedence, HasSamePrecedence, IsLowerIdentifier, IsLowerList, IsLowerPreRelease, number_of}
 use Rattle.gm_name.specs.Version.{precedence}
 use Rattle.gm_name.specs.VersionOrder.{precedence_total}
-use Rattle.gm_name.proofs.NumericIdentifiers.{numeric-by_number}
+use Rattle.gm_name.proofs.NumericIdentifiers.{cmp-lt, numeric-by_number}
 
 -- ---- lists
 
@@ -74,9 +74,6 @@ less-list C R pass less self xs ys p q lower = elim lower.1 [
 number-less : (a b : ℕ) → nat_cmp a b ≡ Less → a < b
 number-less a b e = ranked a b Less (sym e)
 
-less-number : (a b : ℕ) → a < b → nat_cmp a b ≡ Less
-less-number a b lt = sym (nat_cmp_is a b Less lt)
-
 all-true : (xs : List ℕ) → list_all (λ (x : ℕ). true) xs ≡ true
 all-true [] = refl
 all-true (x ∷ xs) = all-true xs
@@ -84,7 +81,7 @@ all-true (x ∷ xs) = all-true xs
 bytes-lower : (a b : List ℕ) → (slice_cmp nat_cmp a b ≡ Less) ↔ IsLowerList (λ (x y : ℕ). x < y) a b
 bytes-lower a b = (
   list-less nat_cmp (λ (x y : ℕ). x < y) (λ (x : ℕ). true) (λ x y _ _ e. number-less x y e) nat_cmp-IsAntisymmetric a b (all-true a) (all-true b),
-  less-list nat_cmp (λ (x y : ℕ). x < y) (λ (x : ℕ). true) (λ x y _ _ lt. less-number x y lt) (tied_itself nat_cmp_total) a b (all-true a) (all-true b),
+  less-list nat_cmp (λ (x y : ℕ). x < y) (λ (x : ℕ). true) (λ x y _ _ lt. cmp-lt x y lt) (tied_itself nat_cmp_total) a b (all-true a) (all-true b),
 )
 
 -- ---- identifiers
@@ -96,7 +93,7 @@ identifier-lower a b ha hb = elim (cases_Bool (is_numeric a)) [
         let by_number = numeric-by_number a b ha hb na nb in (
           λ e. inl (na, nb, number-less (number_of a) (number_of b) (sym by_number ∙ e)),
           λ lower. elim lower [
-            | inl numbers ↦ by_number ∙ less-number (number_of a) (number_of b) numbers.2
+            | inl numbers ↦ by_number ∙ cmp-lt (number_of a) (number_of b) numbers.2
             | inr others ↦ elim others [
               | inl texts ↦ cc (na, texts.0)
               | inr mixed ↦ cc (nb, mixed.1)
@@ -190,7 +187,7 @@ then-less a b r e = by (nat_cmp a b) refl e
     by Greater is f = cc f
 
 less-first : (a b : ℕ) (r : Ordering) → a < b → ordering_then (nat_cmp a b) r ≡ Less
-less-first a b r lt = rw (less-number a b lt) refl
+less-first a b r lt = rw (cmp-lt a b lt) refl
 
 less-then : (a b : ℕ) (r : Ordering) → a ≡ b → r ≡ Less → ordering_then (nat_cmp a b) r ≡ Less
 less-then a b r same e = rw (same, tied_itself nat_cmp_total b) e

@@ -8,6 +8,7 @@ use Rattle.gm_name.specs.OptionalPlaces.{no_place, place_in}
 use Rattle.gm_name.specs.Slots.{IsEmptyAt, has_tag, kept_in, place_in_slots}
 use Rattle.gm_name.specs.declared.bucket.Slot.{Slot}
 use Rattle.gm_name.specs.declared.place.OptionalPlace.{OptionalPlace}
+use Rattle.gm_name.proofs.Logic.{and-false, and-true}
 
 -- Where nothing is found, the first slot was not it, and nothing is found in the others.
 none_head : (b : Bool) (p rest : Option ℕ) → (b ≡ true → is_some p ≡ true) → cond b p rest ≡ None → (b ≡ false) × (rest ≡ None)
@@ -19,14 +20,6 @@ swapped : (a b : Bool) (p q rest : Option ℕ) → (a ≡ true → b ≡ true �
 swapped true true p q rest apart = absurd (apart refl refl)
 swapped true false p q rest apart = refl
 swapped false b p q rest apart = refl
-
-and-false : (b : Bool) → (b && false) ≡ false
-and-false true = refl
-and-false false = refl
-
-and-true : (b : Bool) → (b && true) ≡ b
-and-true true = refl
-and-true false = refl
 
 -- An empty slot has no tag, and one with a place has its own.
 none-has : (slot : Slot) (t : ℕ) → place_in slot.place ≡ None → has_tag slot t ≡ false

@@ -1,5 +1,5 @@
 -- Collecting the versions that may be listed from a list of words.
-use Rattle.std.proofs.Common.{◌≡◌, zero, suc, ◌⊎◌, ℕ, List, [], ◌∷◌, ◌++◌, map, nat_eq, sym, subst, refl, ◌∙◌, ap, inl, inr, true, arith, Bor, Option, Some, None}
+use Rattle.std.proofs.Common.{◌≡◌, zero, suc, ℕ, List, [], ◌∷◌, ◌++◌, map, nat_eq, sym, subst, refl, ◌∙◌, ap, true, arith, Bor, Option, Some, None}
 use Rattle.std.specs.Prelude.{Contains}
 use Rattle.std.specs.Cmp.Lexicographic.{nat_list_eq_equiv, pointwise}
 use Rattle.std.specs.List.{dedup}
@@ -16,6 +16,7 @@ use Rattle.gm_name.specs.Version.{version_cmp}
 use Rattle.gm_name.specs.VersionOrder.{version_ties, version_total, version-anti}
 use Rattle.gm_name.specs.Lines.{first_word, lines}
 use Rattle.gm_store.specs.Listed.{AreListed, HoldsListable, IsListable}
+use Rattle.gm_name.proofs.Logic.{cases}
 
 Contains-only : (x y : List ℕ) → Contains (x ∷ []) y → x ≡ y
 Contains-only x y (zero, within, is) = is
@@ -23,10 +24,6 @@ Contains-only x y (suc k, within, is) = absurd (omega arith)
 
 Contains-itself : (x : List ℕ) → Contains (x ∷ []) x
 Contains-itself x = (0, omega arith, refl)
-
-cases : {A B C : Type 0} → A ⊎ B → (A → C) → (B → C) → C
-cases (inl a) f g = f a
-cases (inr b) f g = g b
 
 -- one more word, and it may be listed
 pub holds_more : (path : List ℕ) (words versions : List (List ℕ)) (word : List ℕ) → HoldsListable path words versions → IsListable path word → HoldsListable path (words ++ word ∷ []) (versions ++ word ∷ [])

@@ -19,6 +19,7 @@ use Rattle.gm_store_sums.specs.Sums.{is_line_for, is_other_hash}
 use Rattle.gm_store_sums.specs.declared.sum_table.Sum.TheVariants.{Good, Unlisted, Differs}
 use Rattle.gm_store_sums.specs.declared.sum_table.SumLine.{SumLine}
 use Rattle.gm_store_sums.proofs.Summing.{Triple, any_map, any_found, any_none, line_for, other_apart}
+use Rattle.gm_name.proofs.Fitting.{then_first}
 
 abbrev Place : Type 0
 Place = List ℕ × List ℕ
@@ -77,11 +78,6 @@ parted_up_to lines path version order = λ i j d le within. up_to_down _ _ (risi
 
 same_texts : (x y : List ℕ) → slice_cmp nat_cmp x y ≡ Equal → x ≡ y
 same_texts x y e = (bytes_eq-Decides x y).0 (lists_ties nat_cmp unsigned_ties x y ∙ ap is_eq e)
-
-then_first : (a b : Ordering) → ordering_then a b ≡ Equal → a ≡ Equal
-then_first Less b e = absurd (cc (ap is_lt e))
-then_first Equal b e = refl
-then_first Greater b e = absurd (cc (ap is_gt e))
 
 then_second : (a b : Ordering) → ordering_then a b ≡ Equal → b ≡ Equal
 then_second a b e = ap (λ o. ordering_then o b) (sym (then_first a b e)) ∙ e

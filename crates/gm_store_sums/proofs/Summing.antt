@@ -1,5 +1,5 @@
 -- The hashes that lines list, and what a table says about them.
-use Rattle.std.proofs.Common.{◌≡◌, ◌≢◌, ◌⊎◌, ◌-◌, ◌&&◌, ◌||◌, ℕ, Bool, true, false, not, zero, suc, List, [], ◌∷◌, ◌++◌, length, take, drop, map, ap, ◌∙◌, sym, refl, subst, inl, inr, arith, codes, Bor}
+use Rattle.std.proofs.Common.{◌≡◌, ◌≢◌, ◌-◌, ◌&&◌, ◌||◌, ℕ, Bool, true, false, not, zero, suc, List, [], ◌∷◌, ◌++◌, length, take, drop, map, ap, ◌∙◌, sym, refl, subst, inl, inr, arith, codes, Bor}
 use Rattle.std.proofs.lemmas.Bool.{and_from, cases_lt, not-true}
 use Rattle.std.proofs.lemmas.Grind.{common_steps}
 use Rattle.std.proofs.lemmas.List.{append_cancel_right, map-append}
@@ -17,6 +17,7 @@ use Rattle.gm_name.specs.Lines.{fields, lines}
 use Rattle.gm_store_sums.specs.Shapes.{AddsGiven, Gives}
 use Rattle.gm_store_sums.specs.Sums.{HasValidLines, HoldsSums, IsSum, Says, are_valid_fields, is_line_for, is_other_hash, lines_before_invalid}
 use Rattle.gm_store_sums.specs.declared.sum_table.Sum.TheVariants.{Good, Unlisted, Differs}
+use Rattle.gm_name.proofs.Logic.{cases, or-left}
 
 abbrev pub Triple : Type 0
 Triple = List ℕ × List ℕ × List ℕ
@@ -31,10 +32,6 @@ one_only x y (suc k, within, is) = absurd (omega arith)
 
 one_itself : {X : Type 0} (x : X) → Contains (x ∷ []) x
 one_itself x = (0, omega arith, refl)
-
-cases : {A B C : Type 0} → A ⊎ B → (A → C) → (B → C) → C
-cases (inl a) f g = f a
-cases (inr b) f g = g b
 
 same_triple : (p v h path version hash : List ℕ) → p ∷ (v ++ codes "/go.mod") ∷ h ∷ [] ≡ path ∷ (version ++ codes "/go.mod") ∷ hash ∷ [] → ◌≡◌ {A = Triple} (p, v, h) (path, version, hash)
 same_triple p v h path version hash e =
@@ -131,10 +128,6 @@ pub any_found : {X : Type 0} (f : X → Bool) (xs : List X) → list_any f xs �
 any_found f [] e = cc e
 any_found f (x ∷ xs) e = found_step f x xs (f x) refl e (any_found f xs)
 
-none_left : (a b : Bool) → (a || b) ≡ false → a ≡ false
-none_left true b e = cc e
-none_left false b e = refl
-
 none_right : (a b : Bool) → (a || b) ≡ false → b ≡ false
 none_right true b e = cc e
 none_right false b e = e
@@ -145,7 +138,7 @@ none_inside (k, within, is) = omega arith
 pub any_none : {X : Type 0} (f : X → Bool) (xs : List X) → list_any f xs ≡ false → (y : X) → Contains xs y → f y ≡ false
 any_none f [] e y has = absurd (none_inside has)
 any_none f (x ∷ xs) e y has = cases (Contains-append_cases (x ∷ []) xs y has)
-    (λ here. ap f (sym (one_only x y here)) ∙ none_left (f x) (list_any f xs) e)
+    (λ here. ap f (sym (one_only x y here)) ∙ or-left (f x) (list_any f xs) e)
     (λ later. any_none f xs (none_right (f x) (list_any f xs) e) y later)
 
 -- the lines for a path and a version list its hashes

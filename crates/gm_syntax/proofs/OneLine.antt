@@ -9,7 +9,7 @@ use Rattle.gm_syntax.specs.Document.{Line, HasLineFault, class_of}
 use Rattle.gm_syntax.specs.Reader.{IsOnlyReading, IsOnlyLine, IsReadAs, IsLineReadAs}
 
 -- an ending that is no fault says which comment it has
-one_comment : (c d : Option (List ℕ)) → ending_of c ≡ ending_of d → c ≡ d
+pub one_comment : (c d : Option (List ℕ)) → ending_of c ≡ ending_of d → c ≡ d
 one_comment None None e = refl
 one_comment None (Some text) e = absurd cc
 one_comment (Some text) None e = absurd cc

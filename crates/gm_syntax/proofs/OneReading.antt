@@ -1,5 +1,5 @@
 -- Each line has one reading: one spelling, or one lexical fault.
-use Rattle.std.proofs.Common.{◌≡◌, ℕ, zero, suc, ◌<◌, ◌≤◌, Bool, false, List, [], length, drop, Option, Some, None, refl, sym, ap, ◌∙◌, arith, inl, inr, length-drop}
+use Rattle.std.proofs.Common.{◌≡◌, ℕ, zero, suc, ◌<◌, ◌≤◌, Bool, false, List, [], length, drop, Option, Some, None, refl, sym, ◌∙◌, arith, inl, inr, length-drop}
 use Rattle.std.specs.Prelude.{◌⊎◌}
 use Rattle.gm_syntax.specs.declared.fault.SyntaxKind.{SyntaxKind}
 use Rattle.gm_syntax.specs.declared.scan.Piece.{Piece}
@@ -10,6 +10,7 @@ use Rattle.gm_syntax.specs.Scan.{piece_of, trim_end}
 use Rattle.gm_syntax.specs.Reader.{IsOnlyReading}
 use Rattle.gm_syntax.specs.Document.{is_bare}
 use Rattle.gm_syntax.proofs.Progress.{Progress, progress_start, progress_end, progress_comment, progress_fault, progress_blank, progress_word, blank_positive, word_positive, word_in_range}
+use Rattle.gm_syntax.proofs.OneLine.{one_comment}
 
 record OneReading (line : List ℕ) : Type 0 where
   pub words : List Word
@@ -32,27 +33,12 @@ from_rest (suc n) line rest words after_bare le p = from_piece (suc n) line rest
 one_reading : (line : List ℕ) → OneReading line
 one_reading line = from_rest (length line) line line [] false (omega arith) (progress_start line)
 
-same_end : (c d : Option (List ℕ)) → ending_of c ≡ ending_of d → c ≡ d
-same_end None None e = refl
-same_end None (Some t) e = absurd (nothing_not_comment t e)
-  where
-    nothing_not_comment : (t : List ℕ) → Nothing ≡ Comment t → ⊥
-    nothing_not_comment t e = cc
-same_end (Some s) None e = absurd (comment_not_nothing s e)
-  where
-    comment_not_nothing : (t : List ℕ) → Comment t ≡ Nothing → ⊥
-    comment_not_nothing t e = cc
-same_end (Some s) (Some t) e = ap Some (comment_same s t e)
-  where
-    comment_same : (s t : List ℕ) → Comment s ≡ Comment t → s ≡ t
-    comment_same s t e = cc
-
 pub one_spelling : (line : List ℕ) (words others : List Word) (comment other : Option (List ℕ)) → IsSpelledBy line words comment → IsSpelledBy line others other → (words ≡ others) × (comment ≡ other)
 one_spelling line words others comment other s t =
     let r = one_reading line in
     let a = r.only.only words (ending_of comment) s in
     let b = r.only.only others (ending_of other) t in
-    (a.0 ∙ sym b.0, same_end comment other (a.1 ∙ sym b.1))
+    (a.0 ∙ sym b.0, one_comment comment other (a.1 ∙ sym b.1))
 
 fault_same : (k j : SyntaxKind) → Fault k ≡ Fault j → k ≡ j
 fault_same k j e = cc

@@ -18,7 +18,7 @@ use Rattle.gm_syntax.specs.Documents.{is_open_after, HaveNoFault, IsNeverClosed,
 use Rattle.gm_syntax.proofs.Stable.{line_ok, line_err, same_ok, not_ok}
 use Rattle.gm_syntax.proofs.OneReading.{one_spelling, one_fault, never_both, spelled_or_faulty}
 use Rattle.gm_syntax.proofs.TextPieces.{pieces_lines}
-use Rattle.gm_syntax.proofs.Readings.{reading_of, reads_as}
+use Rattle.gm_syntax.proofs.Readings.{reading_of, reads_as, some_same}
 
 -- ---- one piece
 
@@ -162,9 +162,6 @@ one_reading_of text lines others f g r s =
     one_walk start (lines_of text) lines others f g (reads_as text lines f r) (reads_as text others g s)
 
 -- ---- which fault is reported
-
-some_same : (t u : List ℕ) → Some t ≡ Some u → t ≡ u
-some_same t u e = cc
 
 pub no_fault_before : (text : List ℕ) (lines : List (Line Word)) (f : Finish) → IsReading text lines f
     → HaveNoFault (lines_of text) lines

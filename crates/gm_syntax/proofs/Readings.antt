@@ -151,7 +151,7 @@ reading_of text lines f r =
 
 -- ---- to the walk over the lines
 
-some_same : (t u : List ℕ) → Some t ≡ Some u → t ≡ u
+pub some_same : (t u : List ℕ) → Some t ≡ Some u → t ≡ u
 some_same t u e = cc
 
 none_not_some : (u : List ℕ) (x : Option (List ℕ)) → x ≡ None → x ≡ Some u → ⊥

@@ -28,6 +28,7 @@ use Rattle.gm_syntax.proofs.Pieces.{make_word, piece_end, piece_blank, piece_bra
 use Rattle.gm_syntax.proofs.Places.{stand_take}
 use Rattle.gm_syntax.proofs.Progress.{Progress, progress_start, progress_blank, progress_word, progress_end, progress_comment, word_boundary, word_shaped, blank_boundary}
 use Rattle.gm_syntax.proofs.Steps.{plain_piece}
+use Rattle.gm_syntax.proofs.Classing.{class_blank}
 
 -- ---- blanks
 
@@ -228,11 +229,6 @@ opening_class : (verb : List ℕ) (comment : Option (List ℕ)) → class_of fal
 unfolding class_of
 opening_class verb comment = refl
 
-blank_class : (inside : Bool) → class_of inside [] None ≡ Ok Blank
-unfolding class_of
-blank_class true = refl
-blank_class false = refl
-
 closing_class : class_of true (mark_word 41 ∷ []) None ≡ Ok (Close None)
 unfolding class_of
 closing_class = refl
@@ -307,7 +303,7 @@ module _ (left : Unread) (lines : List (Line Placed)) (front next : List ℕ) (s
   blank_read : (at : Place) → at ≡ record left.at { number = left.at.number + 1 } → front ≡ [] → HasRead (unread left.source next at) (lines ++ Blank ∷ [])
   blank_read at is empty =
       let only : IsOnlyLine left.at.inside front (Ok Blank) =
-      one_line left.at.inside front [] None (progress_end (progress_start front) (ap (piece_of false) empty ∙ piece_end false)) Blank (blank_class left.at.inside) in
+      one_line left.at.inside front [] None (progress_end (progress_start front) (ap (piece_of false) empty ∙ piece_end false)) Blank (class_blank left.at.inside) in
       read_more so front next Blank at is cut.lines cut.no_line_feed cut.shorter cut.in_range cut.front_is cut.suffix cut.line_feed only (λ source more whole. omega arith) tt (subst AllBlank (sym empty) tt)
 
   -- after a simple line
