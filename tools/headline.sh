@@ -123,7 +123,7 @@ def ends_at(lines, at):
 
 FILES = {}
 for path in sorted(CRATES.glob("*/specs/*.antt")):
-    if path.name != "Lib.antt" and path.parts[1] != COPY:
+    if path.name not in ("Lib.antt", "Private.antt") and path.parts[1] != COPY:
         file = str(path.relative_to(CRATES))
         FILES[file] = read(file)
 

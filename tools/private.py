@@ -1,0 +1,419 @@
+"""Finds the definitions of specs/ that no public contract reaches, for tools/private.sh, which says what that means.
+
+    private.py               prints what stands in the wrong folder, and new names that two files of specs/ have
+    private.py --list        prints the definitions that no public contract reaches
+    private.py --why NAME    prints how a public contract reaches a definition
+
+It runs in the root of a repository. The status is 1 if something is wrong, or if nothing reaches NAME.
+"""
+import collections
+import dataclasses
+import pathlib
+import re
+import sys
+
+CRATES = pathlib.Path("crates")
+# its definitions are copies of others, which each contract of the crate reaches
+PAGE = "page"
+# crates whose private definitions don't stand apart yet
+NOT_MOVED = set("""
+gm_name gm_name_table gm_syntax gm_store gm_store_sums gm_file gm_graph gm_graph_select gm_file_edit gomod_words gomod_run
+gomod_laws
+""".split())
+
+# names of two or more files of specs/ that are to have one meaning or another name
+SHARED = set("""
+AreFound HasList IsFileOf IsPlaceOf IsRead KeepsTurns LeadsTo Says Visits folders_in left_by left_in left_words line_text operations_in
+run_of words_of
+""".split())
+
+DECLARATION = re.compile(r"(?:(?:abbrev|unfoldable|pub) )*(?:(?:data|record) )?([^\s:(){}]+)(?= :| \(| \{|$)")
+MEMBER = re.compile(r"(?m)^  (?:pub )?(\S+) : ")
+USE = re.compile(r"(?ms)^ *((?:unfoldable |pub |ghost )*)use (Rattle\.[\w.]+?)(?:\.\{(.*?)\}| as (\S+?))?;?$")
+NAME = r"[^\s(){}\[\],;.λ⟦⟧|\"]+"
+PATH = re.compile(rf"{NAME}(?:\.{NAME})*")
+RUST_USE = re.compile(r"(?ms)^ *(?:pub(?:\(crate\))? )?use ([^;{]+?)(?:::\{([^;]*)\})?(?: as (\w+))?;")
+ITEM = r"(?m)^{}(?:(pub(?:\([^)]*\))?) )?(?:unsafe |default )?(ghost|fn|struct|enum|trait|impl|type|const|static|mod|use)\b"
+HEAD_END = r"(?m)^{}(?! )[^\n]*(?:\{{|\{{\}}|;)$"
+CLAUSE = re.compile(r"(?m)^ +(?:requires|ensures)\b")
+
+
+def names_in(group):
+    """The names of a group of a `use` line: each with the name that it has in the file."""
+    for entry in filter(None, (it.strip() for it in (group or "").split(","))):
+        name, _, other = entry.partition(" as ")
+        yield name, other or name
+
+
+@dataclasses.dataclass
+class Definition:
+    """A definition of specs/: its name, its lines with the comments above, and what it says without comments."""
+
+    name: str
+    first: int
+    last: int
+    text: str
+    is_public: bool
+    members: list
+
+
+def plain(text):
+    """The text of an .antt file without comments and what strings say."""
+    return re.sub(r"(?m)(^|\s)--.*$", r"\1", re.sub(r'"(?:\\.|[^"\\\n])*"', '""', text))
+
+
+def scope_of(text):
+    """What the `use` lines bring into scope: names, each with the path of an item or of a module."""
+    scope = {}
+    for _, path, group, other in (it.groups() for it in USE.finditer(text)):
+        if group is None:
+            scope[other or path.rpartition(".")[2]] = (path, None)
+        for name, own in names_in(group):
+            scope[own] = (path, name)
+    return scope
+
+
+class Module:
+    """A file of specs/."""
+
+    def __init__(self, file):
+        self.file = file
+        self.crate = file.parts[1]
+        self.path = ".".join(["Rattle", self.crate, *file.parts[2:]]).removesuffix(".antt")
+        self.lines = file.read_text(encoding="utf-8").split("\n")
+        self.text = "\n".join(self.lines)
+        self.definitions = list(self.read())
+        self.own = {name: it for it in self.definitions for name in [it.name, *it.members]}
+        self.scope = scope_of(self.text) | {name: (self.path, name) for name in self.own}
+        self.passed_on = scope_of("\n".join(it for it in self.lines if re.match("(unfoldable )?pub use ", it)))
+        self.is_private = "Private" in file.parts
+
+    def read(self):
+        """The definitions, in order."""
+        starts, known = [], set()
+        for number, line in enumerate(self.lines):
+            found = DECLARATION.match(line)
+            if found and not re.match(r"use |(?:unfoldable )?pub (?:use|mod) |--|mod ", line) and \
+                    (re.match("(?:unfoldable |abbrev |pub |data |record )", line) or found[1] not in known):
+                starts.append((number, found[1]))
+                known.add(found[1])
+        for (start, name), (end, _) in zip(starts, [*starts[1:], (len(self.lines), None)]):
+            first, last = start, end
+            while self.lines[first - 1].startswith("--") and first > 1:
+                first -= 1
+            while last > start and (not self.lines[last - 1].strip() or self.lines[last - 1].startswith("--")):
+                last -= 1
+            text = plain("\n".join(self.lines[start:last]))
+            members = MEMBER.findall(text) if re.match(r"(?:pub )?data ", text) else []
+            yield Definition(name, first, last, text, "pub " in self.lines[start].split(":")[0], members)
+
+
+@dataclasses.dataclass
+class Item:
+    """An item of a .rt file, or of an `impl` or trait of it."""
+
+    kind: str
+    visibility: str
+    name: str
+    text: str
+    indent: str
+
+    def head(self):
+        """What stands before the body."""
+        end = re.compile(HEAD_END.format(self.indent)).search(self.text)
+        return self.text[:end.end()] if end else self.text
+
+    def clauses(self):
+        """The contract of a function, or the whole of a ghost item."""
+        if self.kind == "ghost":
+            return self.text
+        head = self.head()
+        found = CLAUSE.search(head)
+        return head[found.start():] if found and self.kind == "fn" else ""
+
+    def signature(self):
+        """What stands before the contract."""
+        return self.head().removesuffix(self.clauses())
+
+    def inner(self):
+        """The items of an `impl` or a trait."""
+        return items_of(self.text, self.indent + "    ")
+
+
+def items_of(text, indent=""):
+    """The items at a margin of a .rt file."""
+    starts = list(re.finditer(ITEM.format(indent), text))
+    for now, following in zip(starts, [*starts[1:], None]):
+        own = text[now.start():following.start() if following else len(text)]
+        name = re.match(rf" *(?:pub\S* )?(?:unsafe |const )*{now[2]}\s+(\w+)", own)
+        kind = "use" if re.match(r" *(?:pub\S* )?(?:ghost )?use ", own) else now[2]
+        kind = "fn" if re.match(r" *(?:pub\S* )?(?:unsafe |const )*fn ", own) else kind
+        yield Item(kind, now[1] or "", name[1] if name else "", own, indent)
+
+
+class Source:
+    """A module of the code."""
+
+    def __init__(self, crate, path, file):
+        self.crate, self.path, self.file = crate, path, file
+        self.text = re.sub(r"(?m)//.*$", "", file.read_text(encoding="utf-8"))
+        self.items = list(items_of(self.text))
+        outer = "".join(it.text for it in self.items if it.kind == "use")
+        self.scope = scope_of(outer)
+        self.uses = {}
+        for path_, group, other in (it.groups() for it in RUST_USE.finditer(outer)):
+            parts = tuple(path_.replace(" ", "").split("::"))
+            for name, own in names_in(group) if group else [(None, other or parts[-1])]:
+                self.uses[own] = parts + (tuple(name.split("::")) if name else ())
+
+    def named(self, name):
+        """The items of this name that aren't blocks of a type."""
+        return [it for it in self.items if it.name == name and it.kind not in ("impl", "use", "mod")]
+
+
+class Program:
+    """All crates: their definitions, and what the public contracts reach."""
+
+    def __init__(self):
+        self.crates = sorted(it.parent.name for it in CRATES.glob("*/src"))
+        files = (it for crate in self.crates for it in sorted((CRATES / crate / "specs").rglob("*.antt")))
+        self.modules = {it.path: it for it in map(Module, files)}
+        self.sources = {}
+        for crate in self.crates:
+            root = next(it for it in map((CRATES / crate / "src").joinpath, ["lib.rt", "main.rt"]) if it.exists())
+            self.read_sources(crate, (), root)
+        self.blocks = collections.defaultdict(list)
+        for source in self.sources.values():
+            for item in source.items:
+                if item.kind == "impl":
+                    self.add_block(source, item)
+        self.parents = {}
+        self.offered = set()
+        self.follow()
+
+    def read_sources(self, crate, path, file):
+        """Reads a module of the code and those below it."""
+        source = self.sources[crate, path] = Source(crate, path, file)
+        folder = (CRATES / crate / "src").joinpath(*path)
+        for item in source.items:
+            below = folder / f"{item.name}.rt"
+            if item.kind == "mod" and below.exists():
+                self.read_sources(crate, (*path, item.name), below)
+
+    def add_block(self, source, item):
+        """Notes an `impl` at the type that it is of."""
+        head = re.match(r"impl(?:<[^{]*?>)? (?:([^{]+?) for )?&?([\w:]+)", item.text)
+        if head:
+            place = self.resolve(source, tuple(head[2].split("::")))
+            self.blocks[place].append((source, item, head[1]))
+
+    def resolve(self, source, path):
+        """The place of an item of the code: its crate, its module and its name."""
+        first, rest = path[0], path[1:]
+        if first in source.uses and not (source.uses[first] == path):
+            return self.resolve(source, source.uses[first] + rest)
+        if first in ("crate", "self", "super"):
+            module = {"crate": (), "self": source.path, "super": source.path[:-1]}[first]
+            return self.item_at(source.crate, module, rest)
+        if first in self.crates:
+            return self.item_at(first, (), rest)
+        if not rest and source.named(first):
+            return source.crate, source.path, first
+        if (source.crate, (*source.path, first)) in self.sources:
+            return self.item_at(source.crate, (*source.path, first), rest)
+        return None
+
+    def item_at(self, crate, module, rest):
+        """The place of an item that is named from a module."""
+        source = self.sources.get((crate, module))
+        if not source or not rest:
+            return None
+        if len(rest) > 1 and (crate, (*module, rest[0])) in self.sources:
+            return self.item_at(crate, (*module, rest[0]), rest[1:])
+        if source.named(rest[0]):
+            return crate, module, rest[0]
+        return self.resolve(source, rest) if rest[0] in source.uses else None
+
+    def definition(self, path, name):
+        """What a name of a module is: a definition, or a type of the code."""
+        parts = path.split(".")
+        if parts[2:4] == ["specs", "declared"]:
+            inner = [it for it in parts[4:] if it != "TheVariants"]
+            return ("type", parts[1], tuple(inner[:-1]), inner[-1]) if inner else None
+        module = self.modules.get(path)
+        if module and name in module.own:
+            return "definition", path, module.own[name].name
+        if module and name in module.passed_on:
+            return self.definition(*module.passed_on[name])
+        return None
+
+    def mentioned(self, text, scope):
+        """The definitions and types that a text mentions."""
+        for found in PATH.finditer(text):
+            names = found[0].split(".")
+            path, name = scope.get(names[0], (None, None))
+            if path and name is None and len(names) > 1:
+                name = names[1]
+            if path and name and (known := self.definition(path, name)):
+                yield known
+
+    def note(self, reached, reason):
+        """Notes that something is reached, for the first time or again."""
+        if reached not in self.parents:
+            self.parents[reached] = reason
+            self.left.append(reached)
+
+    def note_text(self, text, scope, reason):
+        for reached in self.mentioned(text, scope):
+            self.note(reached, reason)
+
+    def offer(self, place):
+        """Notes what an item that a crate offers promises."""
+        if place is None or place in self.offered:
+            return
+        self.offered.add(place)
+        crate, module, name = place
+        source = self.sources[crate, module]
+        for item in source.named(name):
+            reason = f"{source.file} {name}"
+            self.offer_types(source, item.signature() if item.kind == "fn" else self.public_fields(item))
+            self.note_text(item.clauses(), source.scope, reason)
+            if item.kind in ("struct", "enum"):
+                self.note(("type", *place), reason)
+            if item.kind == "trait":
+                self.offer_block(source, item, reason, True)
+        for of, block, trait in self.blocks.get(place, []):
+            head = of if trait is None else self.sources.get(self.trait_place(of, trait)[:2], of)
+            if trait is None or self.is_open(self.trait_place(of, trait)):
+                self.offer_block(of, block, f"{of.file} {name}", head is not of or trait is not None)
+
+    def trait_place(self, source, trait):
+        """The place of a trait by the text of its name, if it is one of the crates."""
+        return self.resolve(source, tuple(re.match(r"[\w:]+", trait)[0].split("::"))) or ("", (), "")
+
+    def is_open(self, place):
+        """Whether a trait isn't private to its crate."""
+        source = self.sources.get(place[:2])
+        return not source or any(it.visibility == "pub" for it in source.named(place[2]))
+
+    def public_fields(self, item):
+        """Of a struct its public fields, of another item that isn't a trait the whole."""
+        if item.kind == "struct" and "{" in item.text:
+            return "\n".join(re.findall(r"(?m)^    pub (?!ghost)[^\n]*$", item.text))
+        return item.text if item.kind in ("enum", "type", "struct") else item.signature()
+
+    def offer_types(self, source, text):
+        """Offers the types and traits of the code that a signature names."""
+        for found in re.finditer(r"[A-Za-z_]\w*(?:::[A-Za-z_]\w*)*", text):
+            place = self.resolve(source, tuple(found[0].split("::")))
+            if place and place[2][:1].isupper():
+                self.offer(place)
+
+    def offer_block(self, source, block, reason, is_whole):
+        """Notes what an `impl` or a trait promises; of a type's own `impl` only the public items count."""
+        scope = source.scope | scope_of(block.text)
+        self.offer_types(source, block.head())
+        for item in block.inner():
+            if item.kind != "use" and (is_whole or item.visibility == "pub"):
+                self.note_text(item.clauses(), scope, f"{reason} {item.name}")
+                if item.kind in ("fn", "type"):
+                    self.offer_types(source, item.signature())
+
+    def follow_type(self, place, reason):
+        """Notes what the model of a type says, or, if it has none of its own, those of its fields."""
+        source = self.sources.get(place[:2])
+        if not source:
+            return
+        models = [(of, it) for of, it, trait in self.blocks.get(place, []) if trait == "Model"]
+        for of, block in models:
+            self.note_text("".join(it.clauses() for it in block.inner()), of.scope | scope_of(block.text), reason)
+        if any("ghost Value" in it.text for _, it in models):
+            return
+        for item in source.named(place[2]):
+            self.note_text("".join(re.findall(r"(?s)ghost \w+: \{.*?\},?$", item.text)), source.scope, reason)
+            for found in re.finditer(r"[A-Z]\w*", item.text if item.kind in ("struct", "enum") else ""):
+                of = self.resolve(source, (found[0],))
+                if of and of != place:
+                    self.note(("type", *of), reason)
+
+    def follow(self):
+        """Finds all that the public contracts reach."""
+        self.left = []
+        for crate in self.crates:
+            self.offer_module(crate, ())
+        while self.left:
+            now = self.left.pop()
+            if now[0] == "type":
+                self.follow_type(now[1:], now)
+            else:
+                module = self.modules[now[1]]
+                self.note_text(module.own[now[2]].text, module.scope, now)
+
+    def offer_module(self, crate, path):
+        """Offers the public items of a module, and of the public ones below it."""
+        source = self.sources[crate, path]
+        for item in source.items:
+            if item.visibility == "pub" and item.kind == "mod" and (crate, (*path, item.name)) in self.sources:
+                self.offer_module(crate, (*path, item.name))
+            elif item.visibility == "pub" and item.kind == "use":
+                for name in re.findall(r"\w+", item.text.rpartition("::")[2]):
+                    self.offer(self.item_at(crate, path, (name,)))
+            elif item.visibility == "pub" or item.name == "main" and source.file.name == "main.rt":
+                self.offer((crate, path, item.name))
+
+    def is_reached(self, module, definition):
+        return ("definition", module.path, definition.name) in self.parents
+
+    def misplaced(self):
+        """The definitions that stand in the wrong folder."""
+        for module in self.modules.values():
+            for it in module.definitions:
+                is_reached = self.is_reached(module, it)
+                if module.crate not in NOT_MOVED | {PAGE} and is_reached == module.is_private:
+                    yield f"{module.file}:{it.first + 1}: {it.name}: " + (
+                        "a public contract reaches it" if is_reached else "no public contract reaches it")
+
+    def shared(self):
+        """The public names that definitions in two or more files of specs/ have, each with the files."""
+        files = collections.defaultdict(list)
+        for module in self.modules.values():
+            if module.crate != PAGE:
+                for name in {it.name for it in module.definitions if it.is_public}:
+                    files[name].append(str(module.file))
+        return {name: it for name, it in sorted(files.items()) if len(it) > 1}
+
+    def why(self, name):
+        """How a public contract reaches the definitions of this name, a line for each step."""
+        for now in [it for it in self.parents if it[0] == "definition" and it[2] == name]:
+            while isinstance(now, tuple):
+                yield " ".join(map(str, now))
+                now = self.parents[now]
+            yield now
+
+
+def main(*words):
+    if words[:1] in (("-h",), ("--help",)):
+        print(__doc__, end="")
+        return
+    program = Program()
+    if words == ("--list",):
+        for module in program.modules.values():
+            for it in module.definitions:
+                if not program.is_reached(module, it):
+                    print(f"{module.file}:{it.first + 1}: {it.name}")
+        return
+    if len(words) == 2 and words[0] == "--why":
+        lines = list(program.why(words[1]))
+        print(*lines or [f"no public contract reaches {words[1]}"], sep="\n")
+        sys.exit(0 if lines else 1)
+    misplaced, shared = list(program.misplaced()), program.shared()
+    new = [f"{name} stands in {' and '.join(files)}" for name, files in shared.items() if name not in SHARED]
+    for line in [*misplaced, *new]:
+        print(line)
+    count = sum(len(it.definitions) for it in program.modules.values())
+    print(f"{count} definitions, {len(misplaced)} in the wrong folder; {len(shared)} names stand in two files")
+    sys.exit(1 if misplaced or new else 0)
+
+
+if __name__ == "__main__":
+    main(*sys.argv[1:])
