@@ -2,7 +2,8 @@
 use Rattle.std.proofs.Common.{◌≡◌, ◌↔◌, Bool, List, get_or, IsTrue, sym, subst, ◌∙◌}
 use Rattle.std.proofs.lemmas.List.Folds.{Any-from_list_any, list_any-from_Any}
 use Rattle.std.specs.List.{Contains, list_any}
-use Rattle.gm_name.specs.ModuleVersion.{ModuleVersion, pair-same, pair-self, pair_eq}
+use Rattle.gm_name.specs.ModuleVersion.{ModuleVersion, pair_eq}
+use Rattle.gm_name.specs.Private.ModuleVersion.{pair-same, pair-self}
 
 -- the meaning of the result of `contains`
 pub contains-tells : (q : ModuleVersion) (xs : List ModuleVersion) (b : Bool) → b ≡ list_any (λ y. pair_eq y q) xs → IsTrue b ↔ Contains xs q

@@ -4,7 +4,8 @@ use Rattle.std.specs.List.{list_any, IsDistinct}
 use Rattle.std.proofs.lemmas.Map.Keys.{IsDistinct-push}
 use Rattle.std.proofs.lemmas.Map.Views.{Contains-from_any}
 use Rattle.std.proofs.lemmas.List.Elements.{Contains-append_left, Contains-push, Contains-push_cases}
-use Rattle.gm_name.specs.ModuleVersion.{ModuleVersion, pair-same, pair_eq, pairs-equivalence}
+use Rattle.gm_name.specs.ModuleVersion.{ModuleVersion, pair_eq}
+use Rattle.gm_name.specs.Private.ModuleVersion.{pair-same, pairs-equivalence}
 use Rattle.gm_graph.specs.declared.cache.depth.Turn.{Turn}
 use Rattle.gm_graph.specs.declared.cache.depth.Depth.{Depth}
 use Rattle.gm_graph.specs.Turns.{same_turn, AreTurnsOf, AddsAll, OverflowsWith, turn}

@@ -9,7 +9,8 @@ use Rattle.std.proofs.lemmas.Cmp.{nat_list_eq_equiv}
 use Rattle.std.proofs.lemmas.Map.Keys.{IsDistinct-push}
 use Rattle.std.proofs.lemmas.Map.Made.{length-le_from_is_member, is_member-Decides}
 use Rattle.std.proofs.lemmas.List.Elements.{Contains-push_cases}
-use Rattle.gm_name.specs.ModuleVersion.{ModuleVersion, pair_eq-Decides, pairs-equivalence}
+use Rattle.gm_name.specs.ModuleVersion.{ModuleVersion}
+use Rattle.gm_name.specs.Private.ModuleVersion.{pair_eq-Decides, pairs-equivalence}
 use Rattle.gm_file.specs.Fields.{Dependency}
 use Rattle.gm_file.specs.Main.{Main, is_pruned_by}
 use Rattle.gm_store.specs.Asked.{Name, Reply, answer_in, names_in, same_name, mod_file, folder_file, list_file}

@@ -6,7 +6,8 @@ use Rattle.std.specs.declared.cmp.Ordering.TheVariants.{Less}
 use Rattle.std.proofs.lemmas.List.{length-map, get_or-map}
 use Rattle.std.proofs.lemmas.Map.Keys.{Less-from_sorted}
 use Rattle.std.proofs.lemmas.Map.Views.{btree_map_get_iff}
-use Rattle.gm_name.specs.ModuleVersion.{ModuleVersion, pair-anti, pair_cmp, pair_total}
+use Rattle.gm_name.specs.ModuleVersion.{ModuleVersion, pair_cmp, pair_total}
+use Rattle.gm_name.specs.Private.ModuleVersion.{pair-anti}
 use Rattle.gm_graph.specs.declared.cache.class.Class.{Class}
 use Rattle.gm_graph.specs.declared.fault.Fault.{Fault}
 use Rattle.gm_graph.specs.Building.{fault}

@@ -8,7 +8,8 @@ use Rattle.std.proofs.lemmas.List.Folds.{list_any-append}
 use Rattle.std.proofs.lemmas.List.{get_or-replicate, get_or-set_other, get_or-set_same, get_or_past, get_or_read, length-replicate, length-set, map-append, take_all}
 use Rattle.std.proofs.lemmas.Map.Keys.{apart_from_distinct}
 use Rattle.std.proofs.lemmas.Map.Views.{Contains-from_any, list_any-from_Contains}
-use Rattle.gm_name.specs.ModuleVersion.{ModuleVersion, module_at, pair-same, pair_eq, pairs-equivalence}
+use Rattle.gm_name.specs.ModuleVersion.{ModuleVersion, module_at, pair_eq}
+use Rattle.gm_name.specs.Private.ModuleVersion.{pair-same, pairs-equivalence}
 use Rattle.gm_graph.specs.declared.cache.depth.Depth.{Depth}
 use Rattle.gm_graph.specs.declared.cache.depth.Depth.TheVariants.{Deep, Top}
 use Rattle.gm_graph.specs.declared.cache.depth.Turn.{Turn}

@@ -7,7 +7,8 @@ use Rattle.std.specs.BTreeSet.{insert_key}
 use Rattle.std.specs.Ordering.{match_ordering, ordering_reverse}
 use Rattle.std.proofs.lemmas.List.Elements.{Contains-get_or}
 use Rattle.std.proofs.lemmas.List.Kept.{AllPairs-cons}
-use Rattle.gm_name.specs.ModuleVersion.{ModuleVersion, pair-anti, pair_cmp, pair_total}
+use Rattle.gm_name.specs.ModuleVersion.{ModuleVersion, pair_cmp, pair_total}
+use Rattle.gm_name.specs.Private.ModuleVersion.{pair-anti}
 use Rattle.gm_file.specs.Directives.{Replacing}
 use Rattle.gm_graph_select.specs.declared.step.Edge.{Edge}
 use Rattle.gm_graph_select.specs.BuildList.{Entry, IsBuildList, entry_of, main_entry}

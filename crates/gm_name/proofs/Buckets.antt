@@ -7,7 +7,8 @@ use Rattle.std.proofs.Math.Nat.{mul-suc, mul-zero, mul_assoc}
 use Rattle.std.proofs.lemmas.Bool.{cases_eq, cases_lt, ne_eqb}
 use Rattle.std.proofs.lemmas.List.{length-set, get_or-set_same, set-get_or}
 use Rattle.std.proofs.lemmas.Option.{slice_get_past, slice_get_read}
-use Rattle.gm_name.specs.Buckets.{AreParts, PutsIn, bucket_of, value_at, value_in}
+use Rattle.gm_name.specs.Buckets.{PutsIn, bucket_of, value_at, value_in}
+use Rattle.gm_name.specs.Private.Tags.{AreParts}
 
 -- A list with one item changed has that item in its place.
 pub there : {X : Type 0} (xs : List X) (i : ℕ) (x : X) → i < length xs → slice_get (set xs i x) i ≡ Some x

@@ -7,7 +7,8 @@ use Rattle.std.proofs.lemmas.List.Folds.{length-prefix_len}
 use Rattle.std.proofs.lemmas.List.Splits.{slice_split_first, slice_split_none}
 use Rattle.std.proofs.lemmas.List.Sums.{AllPass-from_list_all, list_all-from_AllPass, position_or_len_is, prefix_len-le-length, prefix_len_is, prefix_len_passes, prefix_len_stops}
 use Rattle.std.specs.List.{list_all, position_or_len, prefix_len, take_while}
-use Rattle.gm_name.specs.Element.{elements, is_element, is_path_byte, is_stem_byte, stem}
+use Rattle.gm_name.specs.Element.{elements, is_element, is_path_byte, stem}
+use Rattle.gm_name.specs.Private.Texts.{is_stem_byte}
 use Rattle.gm_name.specs.Path.{is_byte_of_path}
 use Rattle.gm_name.proofs.Bytes.{elements-bytes}
 use Rattle.gm_name.proofs.Paths.{path_byte-no_slash}

@@ -5,7 +5,8 @@ use Rattle.std.specs.Option.{option_and_then}
 use Rattle.std.proofs.Math.ListN.{set}
 use Rattle.std.proofs.lemmas.Bool.{eq-eqb, eqb-true}
 use Rattle.gm_name.specs.Buckets.{PutsIn}
-use Rattle.gm_name.specs.TagIndex.{ArePlacesBelow, HasSame, place_under}
+use Rattle.gm_name.specs.TagIndex.{HasSame, place_under}
+use Rattle.gm_name.specs.Private.Tags.{ArePlacesBelow}
 use Rattle.gm_name.specs.declared.tag_index.TagIndex.{TagIndex}
 use Rattle.gm_name.proofs.Buckets.{before, elsewhere, last, there}
 

@@ -20,7 +20,8 @@ use Rattle.semver.specs.declared.error.Error.{Error}
 use Rattle.gm_name.specs.Element.{elements, is_element}
 use Rattle.gm_name.specs.Fit.{Fits, FitsMajor, build_of, major_of}
 use Rattle.gm_name.specs.Names.{at_least, dot_number, does_fit, ends_in_slash_version, fits_major, has_no_build, has_plain_build, is_decimal, is_path, is_version, major_in, number_after, number_in}
-use Rattle.gm_name.specs.Number.{IsNumber, starts_as_no_number}
+use Rattle.gm_name.specs.Number.{starts_as_no_number}
+use Rattle.gm_name.specs.Private.Texts.{IsNumber}
 use Rattle.gm_name.specs.Path.{EndsInSlashVersion, EndsInDotNumber, EndsInNumber, HasMajor, IsPath, IsUnderGopkg, is_digit_or_dot}
 use Rattle.gm_name.specs.Tail.{head, tail}
 use Rattle.gm_name.specs.Version.{HasPlainBuild, IsVersion}

@@ -5,7 +5,8 @@ use Rattle.std.proofs.Math.ListN.{set}
 use Rattle.std.proofs.lemmas.Bool.{and_parts, eq-eqb, eqb-true, ne_eqb, true≢false}
 use Rattle.gm_name.specs.Buckets.{bucket_of}
 use Rattle.gm_name.specs.OptionalPlaces.{no_place, place_in}
-use Rattle.gm_name.specs.Slots.{IsEmptyAt, has_tag, kept_in, place_in_slots}
+use Rattle.gm_name.specs.Slots.{has_tag, place_in_slots}
+use Rattle.gm_name.specs.Private.Tags.{IsEmptyAt, kept_in}
 use Rattle.gm_name.specs.declared.bucket.Slot.{Slot}
 use Rattle.gm_name.specs.declared.place.OptionalPlace.{OptionalPlace}
 use Rattle.gm_name.proofs.Logic.{and-false, and-true}

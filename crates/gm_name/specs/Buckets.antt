@@ -1,6 +1,6 @@
 -- Buckets of a hash table: which one a number chooses, and what they hold at a number. They may be of any kind: what a
 -- bucket holds at a number (`holds`), and which of so many buckets a number chooses (`choice`), are given.
-use Rattle.std.specs.Prelude.{◌≡◌, ◌<◌, ◌*◌, ◌/◌, ℕ, List, Option, Some, cond, length, nat_eq, slice_get}
+use Rattle.std.specs.Prelude.{◌≡◌, ◌*◌, ◌/◌, ℕ, List, Option, Some, cond, length, nat_eq, slice_get}
 use Rattle.std.specs.Option.{option_and_then}
 
 -- which of so many buckets a number of 32 bits chooses: the number divided by 2^32, of that many
@@ -14,11 +14,6 @@ value_at holds buckets at number = option_and_then (λ bucket. holds bucket numb
 -- what buckets hold at a number: what the one that it chooses holds there
 abbrev pub value_in : {B : Type 0} → (B → ℕ → Option ℕ) → (ℕ → ℕ → ℕ) → List B → ℕ → Option ℕ
 value_in holds choice buckets number = value_at holds buckets (choice number (length buckets)) number
-
--- At the numbers that choose it among so many, each part holds what the bucket that it is half of holds.
-abbrev pub AreParts : {B : Type 0} → (B → ℕ → Option ℕ) → (ℕ → ℕ → ℕ) → List B → ℕ → List B → Type 0
-AreParts holds choice buckets many parts = (at number : ℕ) → at < length parts → choice number many ≡ at
-    → value_at holds parts at number ≡ value_at holds buckets (at / 2) number
 
 -- In a bucket, or in what has buckets, the value was put under the number, and nothing else was changed.
 abbrev pub PutsIn : {B : Type 0} → (B → ℕ → Option ℕ) → B → B → ℕ → ℕ → Type 0

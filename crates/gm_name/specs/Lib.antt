@@ -13,6 +13,7 @@ pub mod Number
 pub mod PairFaults
 pub mod Path
 pub mod Precedence
+pub mod Private
 pub mod Pseudo
 pub mod PseudoText
 pub mod Readings
@@ -25,4 +26,3 @@ pub mod KeptNames
 pub mod Overflow
 pub mod Slots
 pub mod TagIndex
-pub mod TagMarks

@@ -1,8 +1,8 @@
 -- Places in buckets of slots, under their tags.
-use Rattle.std.specs.Prelude.{◌≡◌, ◌&&◌, ℕ, Bool, List, [], ◌∷◌, Option, None, Some, cond, nat_eq, slice_get}
+use Rattle.std.specs.Prelude.{◌&&◌, ℕ, Bool, List, [], ◌∷◌, Option, None, cond, nat_eq}
 use Rattle.std.specs.Option.{is_some}
 use Rattle.gm_name.specs.Buckets.{bucket_of, value_in}
-use Rattle.gm_name.specs.OptionalPlaces.{no_place, place_in}
+use Rattle.gm_name.specs.OptionalPlaces.{place_in}
 use Rattle.gm_name.specs.declared.bucket.Bucket.{Bucket}
 use Rattle.gm_name.specs.declared.bucket.Slot.{Slot}
 
@@ -14,15 +14,6 @@ has_tag slot tag = nat_eq slot.tag tag && is_some (place_in slot.place)
 abbrev pub place_in_slots : List Slot → ℕ → Option ℕ
 place_in_slots [] tag = None
 place_in_slots (slot ∷ slots) tag = cond (has_tag slot tag) (place_in slot.place) (place_in_slots slots tag)
-
--- a slot, emptied unless its tag chooses this bucket among so many
-abbrev pub kept_in : ℕ → ℕ → Slot → Slot
-kept_in bucket many slot =
-    cond (nat_eq (bucket_of slot.tag many) bucket) slot (record { tag = slot.tag; place = no_place })
-
--- The slot at a place is empty.
-abbrev pub IsEmptyAt : List Slot → ℕ → Type 0
-IsEmptyAt slots at = (slot : Slot) × (slice_get slots at ≡ Some slot) × (place_in slot.place ≡ None)
 
 -- the place in a bucket under a tag
 abbrev pub place_in_bucket : Bucket → ℕ → Option ℕ

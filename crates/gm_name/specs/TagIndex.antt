@@ -1,5 +1,5 @@
 -- Places under tags: what an index holds at a tag, and when two hold the same.
-use Rattle.std.specs.Prelude.{◌≡◌, ◌<◌, ℕ, Option, Some}
+use Rattle.std.specs.Prelude.{◌≡◌, ℕ, Option}
 use Rattle.std.specs.Option.{option_or}
 use Rattle.gm_name.specs.Overflow.{place_over}
 use Rattle.gm_name.specs.Slots.{place_in_buckets}
@@ -12,9 +12,3 @@ place_under index tag = option_or (place_in_buckets index.buckets.items tag) (pl
 -- Nothing was changed.
 abbrev pub HasSame : TagIndex → TagIndex → Type 0
 HasSame old new = (tag : ℕ) → place_under new tag ≡ place_under old tag
-
--- Each place is below a number, and no two tags have the same.
-pub record ArePlacesBelow (index : TagIndex) (many : ℕ) : Type 0 where
-  pub below : (tag place : ℕ) → place_under index tag ≡ Some place → place < many
-  pub apart : (tag other place : ℕ) → place_under index tag ≡ Some place → place_under index other ≡ Some place
-      → tag ≡ other

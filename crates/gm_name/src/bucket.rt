@@ -2,7 +2,8 @@
 
 ghost use Rattle.std.specs.Prelude.{◌≡◌, ◌<◌, ◌≤◌, ℕ, IfSome, None, false, true};
 ghost use Rattle.gm_name.specs.Buckets.{PutsIn, bucket_of};
-ghost use Rattle.gm_name.specs.Slots.{IsEmptyAt, kept_in, place_in_bucket, place_in_slots};
+ghost use Rattle.gm_name.specs.Slots.{place_in_bucket, place_in_slots};
+ghost use Rattle.gm_name.specs.Private.Tags.{IsEmptyAt, kept_in};
 
 use crate::place::OptionalPlace;
 

@@ -1,7 +1,8 @@
 //! The classes of the bytes of a path. One table has them all, since each byte of a path is looked up.
 
 ghost use Rattle.std.specs.Prelude.{◌≡◌};
-ghost use Rattle.gm_name.specs.Element.{is_path_byte, is_stem_byte};
+ghost use Rattle.gm_name.specs.Element.{is_path_byte};
+ghost use Rattle.gm_name.specs.Private.Texts.{is_stem_byte};
 ghost use Rattle.gm_name.specs.Path.{is_digit_or_dot};
 
 /// The flag of the bytes that may be in an element.

@@ -1,7 +1,8 @@
 //! Names of one kind that are kept to be found again by their fingerprints.
 
 ghost use Rattle.std.specs.Prelude.{◌≡◌, ◌<◌, ℕ, Some, length};
-ghost use Rattle.gm_name.specs.TagIndex.{ArePlacesBelow, place_under};
+ghost use Rattle.gm_name.specs.TagIndex.{place_under};
+ghost use Rattle.gm_name.specs.Private.Tags.{ArePlacesBelow};
 
 use crate::tag_index::TagIndex;
 use std::alloc::{AllocError, Global};
@@ -19,7 +20,8 @@ pub(crate) struct KeptNames<T> {
 impl<T: Drop> KeptNames<T> {
     ghost use Rattle.std.specs.Prelude.{◌+◌, OnErr, OnOk, None};
     ghost use Rattle.std.specs.Option.{option_copied};
-    ghost use Rattle.gm_name.specs.KeptNames.{Keeps, count_of, name_under};
+    ghost use Rattle.gm_name.specs.KeptNames.{count_of};
+    ghost use Rattle.gm_name.specs.Private.KeptNames.{Keeps, name_under};
 
     /// No names. Allocates no memory before the first one.
     pub(crate) fn new(alloc: Global) -> KeptNames<T>

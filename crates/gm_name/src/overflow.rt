@@ -4,7 +4,7 @@ ghost use Rattle.std.specs.Prelude.{◌≡◌, ℕ, None, OnErr, OnOk, Some};
 ghost use Rattle.std.specs.BTreeMap as map;
 ghost use Rattle.std.specs.Ordering.{nat_cmp};
 ghost use Rattle.gm_name.specs.Buckets.{PutsIn};
-ghost use Rattle.gm_name.specs.TagMarks.{IsMarked};
+ghost use Rattle.gm_name.specs.Private.TagMarks.{IsMarked};
 
 use crate::tag_marks::TagMarks;
 use std::alloc::{AllocError, Global};

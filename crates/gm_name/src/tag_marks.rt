@@ -1,7 +1,7 @@
 //! Marks under tags, which say where a search in an ordered map can't be left out.
 
 ghost use Rattle.std.specs.Prelude.{◌≡◌, ◌<◌, IfOk, OnOk, false, length, true};
-ghost use Rattle.gm_name.specs.TagMarks.{IsMarked, KeepsMarks, mark_of};
+ghost use Rattle.gm_name.specs.Private.TagMarks.{IsMarked, KeepsMarks, mark_of};
 
 use std::alloc::{AllocError, Global};
 

@@ -6,7 +6,8 @@ use Rattle.std.specs.BTreeMap.{BTreeMap}
 use Rattle.std.specs.Ordering.{is_eq}
 use Rattle.std.proofs.lemmas.Bool.{eq-eqb, eqb-true}
 use Rattle.gm_name.specs.Buckets.{PutsIn}
-use Rattle.gm_name.specs.ModuleVersion.{ModuleVersion, pair-tie, pair_cmp}
+use Rattle.gm_name.specs.ModuleVersion.{ModuleVersion, pair_cmp}
+use Rattle.gm_name.specs.Private.ModuleVersion.{pair-tie}
 use Rattle.gm_name.specs.TagIndex.{place_under}
 use Rattle.gm_name.specs.declared.tag_index.TagIndex.{TagIndex}
 use Rattle.gm_name_table.specs.Index.{IsIndexOf, pair_tag}

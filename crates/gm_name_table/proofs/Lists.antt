@@ -5,7 +5,8 @@ use Rattle.std.specs.List.{IsDistinct, list_any}
 use Rattle.std.proofs.lemmas.Bool.{false≢true}
 use Rattle.std.proofs.lemmas.Map.Keys.{IsDistinct-push, apart_from_distinct}
 use Rattle.std.proofs.lemmas.Option.{get_or_from_slice_get, slice_get_within}
-use Rattle.gm_name.specs.ModuleVersion.{ModuleVersion, pair_eq, pair_eq-Decides, pairs-equivalence}
+use Rattle.gm_name.specs.ModuleVersion.{ModuleVersion, pair_eq}
+use Rattle.gm_name.specs.Private.ModuleVersion.{pair_eq-Decides, pairs-equivalence}
 use Rattle.gm_name_table.specs.Lists.{IsAbsent}
 
 -- What stands in a list with one more module: it at the end, and the others where they were.

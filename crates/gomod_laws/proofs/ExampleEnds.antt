@@ -8,7 +8,8 @@ use Rattle.std.proofs.lemmas.Fmt.{decimal_digit}
 use Rattle.std.proofs.lemmas.Map.Keys.{IsDistinct-head}
 use Rattle.std.proofs.lemmas.Option.{same_Some}
 use Rattle.gm_name.specs.Path.{is_fetchable}
-use Rattle.gm_name.specs.ModuleVersion.{ModuleVersion, pair-self, pair_cmp, pair_eq}
+use Rattle.gm_name.specs.ModuleVersion.{ModuleVersion, pair_cmp, pair_eq}
+use Rattle.gm_name.specs.Private.ModuleVersion.{pair-self}
 use Rattle.gm_file.specs.declared.fault.DirectiveKind.TheVariants.{NoModule}
 use Rattle.gm_file.specs.Fields.{Dependency}
 use Rattle.gm_store.specs.Asked.{Name, Reply, mod_file, folder_file, list_file, absent, names_in, same_name}

@@ -1,7 +1,8 @@
 use Rattle.std.proofs.Common.{◌≡◌, ◌+◌, ◌<◌, ◌^◌, ℕ, List, length, ◌∙◌, ap, take, drop, arith, rules}
 use Rattle.std.proofs.lemmas.List.Sums.{prefix_len-le-length}
 use Rattle.std.specs.List.{prefix_len}
-use Rattle.gm_name.specs.Element.{is_path_byte, is_stem_byte}
+use Rattle.gm_name.specs.Element.{is_path_byte}
+use Rattle.gm_name.specs.Private.Texts.{is_stem_byte}
 use Rattle.gm_name.proofs.Fronts.{front-len, front-stem}
 use Rattle.gm_name.proofs.element.front_of.Goals as goal
 

@@ -1,7 +1,8 @@
 use Rattle.std.proofs.Common.{◌≡◌, ◌∙◌, ◌/◌, ◌*◌, ◌∷◌, [], ℕ, List, Some, ap, arith, get_or, length, length-append, subst, sym}
 use Rattle.std.proofs.lemmas.Option.{slice_get-get_or}
 use Rattle.std.specs.Prelude.{slice_get}
-use Rattle.gm_name.specs.Buckets.{AreParts, bucket_of}
+use Rattle.gm_name.specs.Buckets.{bucket_of}
+use Rattle.gm_name.specs.Private.Tags.{AreParts}
 use Rattle.gm_name.specs.Slots.{place_in_bucket}
 use Rattle.gm_name.specs.declared.bucket.Bucket.{Bucket}
 use Rattle.gm_name.proofs.Buckets.{one_more_part, parts_hold}

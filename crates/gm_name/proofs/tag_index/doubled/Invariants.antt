@@ -1,5 +1,6 @@
 use Rattle.std.proofs.Common.{◌≡◌, length}
-use Rattle.gm_name.specs.Buckets.{AreParts, bucket_of}
+use Rattle.gm_name.specs.Buckets.{bucket_of}
+use Rattle.gm_name.specs.Private.Tags.{AreParts}
 use Rattle.gm_name.specs.Slots.{place_in_bucket}
 use Rattle.gm_name.proofs.tag_index.doubled.Given as goal
 

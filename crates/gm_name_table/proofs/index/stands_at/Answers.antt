@@ -1,6 +1,6 @@
 use Rattle.std.proofs.Common.{◌≡◌, ◌∙◌, length, refl, sym}
 use Rattle.std.proofs.lemmas.Option.{slice_get_past, slice_get_read}
-use Rattle.gm_name.specs.ModuleVersion.{pair_eq-Decides}
+use Rattle.gm_name.specs.Private.ModuleVersion.{pair_eq-Decides}
 use Rattle.gm_name_table.proofs.index.stands_at.Goals as goal
 
 pub returns-in-Some : goal.returns-in-Some

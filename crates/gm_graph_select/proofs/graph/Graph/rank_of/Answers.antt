@@ -3,7 +3,8 @@ use Rattle.std.specs.List.Sorted.{IsNonDecreasingBy, IsPartitionPoint}
 use Rattle.std.specs.Ordering.{ordering_index}
 use Rattle.std.specs.Prelude.{Contains}
 use Rattle.std.specs.declared.cmp.Ordering.TheVariants.{Less, Greater}
-use Rattle.gm_name.specs.ModuleVersion.{ModuleVersion, module_at, pair-anti, pair_cmp}
+use Rattle.gm_name.specs.ModuleVersion.{ModuleVersion, module_at, pair_cmp}
+use Rattle.gm_name.specs.Private.ModuleVersion.{pair-anti}
 use Rattle.gm_graph_select.specs.Adjacency.{GraphView, by_step}
 use Rattle.gm_graph_select.specs.Numbering.{IsGraph}
 use Rattle.gm_graph_select.proofs.NumberedSteps.{is_graph, vertex_not_found}

@@ -1,6 +1,6 @@
 use Rattle.std.proofs.Common.{◌∙◌, ℕ, subst, sym}
 use Rattle.std.proofs.lemmas.List.{length-set}
-use Rattle.gm_name.specs.TagIndex.{ArePlacesBelow}
+use Rattle.gm_name.specs.Private.Tags.{ArePlacesBelow}
 use Rattle.gm_name.proofs.KeptPlaces.{put_again}
 use Rattle.gm_name.proofs.kept_names.KeptNames.keep.Goals as goal
 

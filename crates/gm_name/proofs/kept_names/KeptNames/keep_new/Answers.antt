@@ -2,7 +2,8 @@ use Rattle.std.proofs.Common.{◌≡◌, ◌∙◌, ◌+◌, ◌++◌, ◌∷◌
 use Rattle.std.specs.Prelude.{if◌then◌else◌, slice_get}
 use Rattle.std.specs.Result.{is_ok}
 use Rattle.std.specs.Option.{option_and_then}
-use Rattle.gm_name.specs.TagIndex.{ArePlacesBelow, place_under}
+use Rattle.gm_name.specs.TagIndex.{place_under}
+use Rattle.gm_name.specs.Private.Tags.{ArePlacesBelow}
 use Rattle.gm_name.proofs.KeptPlaces.{one_more_place, put_value, same_places}
 use Rattle.std.proofs.lemmas.Result.{err_from_is_err_and}
 use Rattle.gm_name.proofs.kept_names.KeptNames.keep_new.Goals as goal
