@@ -6,7 +6,7 @@ use Rattle.std.proofs.lemmas.Option.{slice_get-get_or}
 use Rattle.gm_name.specs.ModuleVersion.{ModuleVersion, module_at}
 use Rattle.gm_name.specs.OptionalPlaces.{place_in}
 use Rattle.gm_name.specs.declared.place.OptionalPlace.{OptionalPlace}
-use Rattle.gm_name_table.specs.Lists.{IsAbsent}
+use Rattle.gm_name_table.specs.Private.Lists.{IsAbsent}
 use Rattle.gm_file.specs.Directives.{Right}
 use Rattle.gm_file.specs.Main.{Main, replacement_in}
 use Rattle.gm_store.specs.Asked.{Name, mod_file}

@@ -11,7 +11,7 @@ use Rattle.gm_name.specs.Private.ModuleVersion.{pair-tie}
 use Rattle.gm_name.specs.TagIndex.{place_under}
 use Rattle.gm_name.specs.declared.tag_index.TagIndex.{TagIndex}
 use Rattle.gm_name_table.specs.Index.{IsIndexOf, pair_tag}
-use Rattle.gm_name_table.specs.Lists.{IsAbsent}
+use Rattle.gm_name_table.specs.Private.Lists.{IsAbsent}
 use Rattle.gm_name_table.proofs.Lists.{kept, last, old-or-last, still-distinct}
 
 -- A place that was put under a number that had none leaves the others as they were.

@@ -7,7 +7,7 @@ use Rattle.std.proofs.lemmas.Map.Keys.{IsDistinct-push, apart_from_distinct}
 use Rattle.std.proofs.lemmas.Option.{get_or_from_slice_get, slice_get_within}
 use Rattle.gm_name.specs.ModuleVersion.{ModuleVersion, pair_eq}
 use Rattle.gm_name.specs.Private.ModuleVersion.{pair_eq-Decides, pairs-equivalence}
-use Rattle.gm_name_table.specs.Lists.{IsAbsent}
+use Rattle.gm_name_table.specs.Private.Lists.{IsAbsent}
 
 -- What stands in a list with one more module: it at the end, and the others where they were.
 pub last : (pairs : List ModuleVersion) (pair : ModuleVersion) → slice_get (pairs ++ pair ∷ []) (length pairs) ≡ Some pair

@@ -1,3 +1,4 @@
 pub mod Index
 pub mod Listed
 pub mod Lists
+pub mod Private
