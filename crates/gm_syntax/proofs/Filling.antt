@@ -6,7 +6,7 @@ use Rattle.gm_syntax.specs.Words.{Word, AllBlank}
 use Rattle.gm_syntax.specs.Lines.{lines_of}
 use Rattle.gm_syntax.specs.Tokens.{Placed, words_of}
 use Rattle.gm_syntax.specs.Spelling.{Comment as CommentEnd, IsComment, Reads}
-use Rattle.gm_syntax.specs.Scan.{trim_end}
+use Rattle.gm_syntax.specs.Private.Scan.{trim_end}
 use Rattle.gm_syntax.specs.Document.{Line, Blank, Comment, Open, Close, Entry, class_of}
 use Rattle.gm_syntax.specs.LineViews.{tokens_of, plain}
 use Rattle.gm_syntax.specs.Placing.{IsTail, FillText, FillsLine, FillLines}

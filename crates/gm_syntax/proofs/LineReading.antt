@@ -13,8 +13,7 @@ use Rattle.gm_syntax.specs.Document.{Line, start, after, Place}
 use Rattle.gm_syntax.specs.LineViews.{line_of, plain, plain_lines, tokens_of, all_tokens}
 use Rattle.gm_syntax.specs.Placing.{FillsLine, FillLines}
 use Rattle.gm_syntax.specs.Parsed.{IsText, IsParsedAs, IsFaultOrNoMemory}
-use Rattle.gm_syntax.specs.Reader.{IsOnlyLine, IsLineReadAs}
-use Rattle.gm_syntax.specs.LineFaults.{fault_at}
+use Rattle.gm_syntax.specs.Private.Reader.{IsOnlyLine, IsLineReadAs, fault_at}
 use Rattle.gm_syntax.specs.LineReading.{Unread, TextProgress, HasRead, IsReadDocument, IsNextRead}
 use Rattle.gm_syntax.proofs.Places.{suffix_of_suffix, line_stands, lines_numbered_push, stand_widen}
 use Rattle.gm_syntax.proofs.Filling.{lines_fill_more, lines_fill_end}

@@ -6,7 +6,7 @@ use Rattle.gm_syntax.specs.declared.fault.LineSyntaxFault.TheVariants as faults
 use Rattle.gm_syntax.specs.Words.{Word}
 use Rattle.gm_syntax.specs.Spelling.{Fault, Reads, IsSpelledBy, ending_of}
 use Rattle.gm_syntax.specs.Document.{Line, HasLineFault, class_of}
-use Rattle.gm_syntax.specs.Reader.{IsOnlyReading, IsOnlyLine, IsReadAs, IsLineReadAs}
+use Rattle.gm_syntax.specs.Private.Reader.{IsOnlyReading, IsOnlyLine, IsReadAs, IsLineReadAs}
 
 -- an ending that is no fault says which comment it has
 pub one_comment : (c d : Option (List ℕ)) → ending_of c ≡ ending_of d → c ≡ d

@@ -7,18 +7,20 @@ use Rattle.std.proofs.lemmas.Bool.{true≢false}
 use Rattle.std.proofs.lemmas.List.{take_at, drop_at, drop-drop, append-nil, length-append}
 use Rattle.gm_syntax.specs.declared.scan.Piece.TheVariants as piece
 use Rattle.gm_syntax.specs.declared.word.Kind.TheVariants.{Bare, Mark}
-use Rattle.gm_syntax.specs.Bytes.{is_blank, is_bracket_or_comma, is_plain, is_word_byte}
+use Rattle.gm_syntax.specs.Bytes.{is_blank, is_bracket_or_comma, is_word_byte}
+use Rattle.gm_syntax.specs.Bare.{bare_len}
+use Rattle.gm_syntax.specs.Private.Scan.{is_plain, piece_of, trim_end}
 use Rattle.gm_syntax.specs.Words.{Word, AllBlank, IsBare, IsShaped}
 use Rattle.gm_syntax.specs.Lines.{lines_of, HasNoLineFeed}
 use Rattle.gm_syntax.specs.Tokens.{Placed, words_of, AreSlicesBetween, AreNumbered}
 use Rattle.gm_syntax.specs.Placing.{IsTail, FillText}
 use Rattle.gm_syntax.specs.Spelling.{EndsLine, Reads, ending_of}
-use Rattle.gm_syntax.specs.Scan.{bare_len, piece_of, trim_end}
-use Rattle.gm_syntax.specs.Reader.{IsOnlyReading, IsOnlyLine}
+use Rattle.gm_syntax.specs.Private.Reader.{IsOnlyReading, IsOnlyLine}
 use Rattle.gm_syntax.specs.Document.{Line, Blank, Open, Close, Entry, class_of, Place}
 use Rattle.gm_syntax.specs.LineViews.{plain}
 use Rattle.gm_syntax.specs.LineReading.{Unread, HasRead}
-use Rattle.gm_syntax.specs.SimpleLines.{bare_word, mark_word, bare_at, pair_line, triple_line, IsLineEnd, IsPairText, IsPairRead, IsTripleText, IsTripleRead, IsOpeningEnd, IsOpeningText, IsOpeningRead, IsSimpleText, IsSimpleRead, after_simple}
+use Rattle.gm_syntax.specs.SimpleLines.{bare_word, pair_line, triple_line, IsPairRead, IsTripleRead, IsOpeningRead, IsSimpleRead}
+use Rattle.gm_syntax.specs.Private.SimpleLines.{mark_word, bare_at, IsLineEnd, IsPairText, IsTripleText, IsOpeningEnd, IsOpeningText, IsSimpleText, after_simple}
 use Rattle.gm_syntax.specs.declared.simple_line.SimpleLine.{SimpleLine}
 use Rattle.gm_syntax.specs.declared.simple_line.SimpleLine.TheVariants as simple
 use Rattle.gm_syntax.proofs.LineReading.{unread, read_more}

@@ -4,11 +4,12 @@
 ghost use Rattle.std.specs.Prelude.{◌≡◌, ◌≢◌, ◌+◌, ◌<◌, ◌≤◌, ◌-◌, ◌^◌, ◌∷◌, ◌++◌, [], ℕ, List, length, drop, IfOk, IfErr, IfSome, IfNone, None, IsSome, OnErr};
 ghost use Rattle.gm_syntax.specs.Tokens.{Placed, AreSlicesBetween, AreNumbered};
 ghost use Rattle.gm_syntax.specs.LineViews.{line_of, tokens_of};
-ghost use Rattle.gm_syntax.specs.Lines.{line_len, lines_of, HasNoLineFeed};
+ghost use Rattle.gm_syntax.specs.Lines.{lines_of, HasNoLineFeed};
+ghost use Rattle.gm_syntax.specs.Private.Scan.{line_len};
 ghost use Rattle.gm_syntax.specs.Parsed.{IsParsedAs};
 ghost use Rattle.gm_syntax.specs.Placing.{FillsLine};
 ghost use Rattle.gm_syntax.specs.Document.{Line as LineOf};
-ghost use Rattle.gm_syntax.specs.Reader.{IsLineReadAs};
+ghost use Rattle.gm_syntax.specs.Private.Reader.{IsLineReadAs};
 ghost use Rattle.gm_syntax.specs.LineReading.{HasRead, IsNextRead, IsRestRead};
 ghost use Rattle.gm_syntax.specs.SimpleLines.{IsSimpleRead};
 

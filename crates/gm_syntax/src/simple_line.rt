@@ -3,8 +3,8 @@
 
 ghost use Rattle.std.specs.Prelude.{◌≡◌, ◌++◌, ◌+◌, ◌<◌, ◌^◌, ℕ, List, Bool, false, IfSome, IsTrue, length};
 ghost use Rattle.gm_syntax.specs.Words.{AllBlank, IsBare};
-ghost use Rattle.gm_syntax.specs.SimpleLines.{bare_at, IsOpeningEnd, IsSimpleText};
-ghost use Rattle.gm_syntax.specs.Scan.{piece_of};
+ghost use Rattle.gm_syntax.specs.Private.SimpleLines.{bare_at, IsOpeningEnd, IsSimpleText};
+ghost use Rattle.gm_syntax.specs.Private.Scan.{piece_of};
 ghost use Rattle.gm_syntax.specs.declared.scan.Piece.TheVariants as piece;
 ghost use Rattle.gm_syntax.specs.declared.simple_line.SimpleLine.TheVariants as simple;
 ghost use Rattle.gm_syntax.specs.declared.word.Kind.TheVariants as kind;

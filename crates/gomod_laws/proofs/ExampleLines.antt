@@ -12,7 +12,8 @@ use Rattle.gm_name.proofs.Paths.{element-bytes}
 use Rattle.gm_syntax.specs.declared.word.Kind.TheVariants.{Bare}
 use Rattle.gm_syntax.specs.Bytes.{is_bad, is_blank, is_bracket_or_comma, is_quote, is_word_byte}
 use Rattle.gm_syntax.specs.Document.{Line, Entry, AreLines, ReadsLines, Whole, start}
-use Rattle.gm_syntax.specs.Layout.{initial_state, layout, layout_from, layout_lines}
+use Rattle.gm_syntax.specs.Layout.{initial_state, layout, layout_from}
+use Rattle.gm_syntax.specs.Private.Layout.{layout_lines}
 use Rattle.gm_syntax.specs.LineViews.{plain_lines}
 use Rattle.gm_syntax.specs.Lines.{lines_of}
 use Rattle.gm_syntax.specs.Parsed.{IsParsedAs}

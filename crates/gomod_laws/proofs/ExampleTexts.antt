@@ -11,7 +11,8 @@ use Rattle.gm_name.specs.Path.{is_byte_of_path}
 use Rattle.gm_name.specs.Version.{parts_in}
 use Rattle.gm_name.proofs.NameTests.{version-tested}
 use Rattle.gm_syntax.specs.Document.{AreLines, Entry, IsValidLine, Line, begins_close, ends_open, start}
-use Rattle.gm_syntax.specs.Layout.{initial_state, layout, layout_from, layout_lines}
+use Rattle.gm_syntax.specs.Layout.{initial_state, layout, layout_from}
+use Rattle.gm_syntax.specs.Private.Layout.{layout_lines}
 use Rattle.gm_syntax.specs.LineViews.{plain_lines}
 use Rattle.gm_syntax.specs.Parsed.{IsParsedAs}
 use Rattle.gm_syntax.specs.Spelling.{IsWord}

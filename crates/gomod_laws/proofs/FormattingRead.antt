@@ -1,7 +1,8 @@
 -- The layout of a document that was read is a document that reads as the same lines, but for blank ones.
 use Rattle.std.proofs.Common.{◌≡◌, ◌≤◌, ℕ, List, [], ◌∷◌, length, map, Ok, IsUtf8, refl, sym, ap, subst, ◌∙◌}
 use Rattle.gm_syntax.specs.Document.{Line, Blank, Comment, Open, Close, Entry, AreLines, ReadsLines, Whole, map_line, start}
-use Rattle.gm_syntax.specs.Layout.{filled_lines, initial_state, layout, layout_lines}
+use Rattle.gm_syntax.specs.Layout.{filled_lines, initial_state, layout}
+use Rattle.gm_syntax.specs.Private.Layout.{layout_lines}
 use Rattle.gm_syntax.specs.LineViews.{plain, plain_lines}
 use Rattle.gm_syntax.specs.Lines.{lines_of}
 use Rattle.gm_syntax.specs.Parsed.{IsParsedAs}

@@ -1,6 +1,7 @@
 use Rattle.std.proofs.Common.{refl, arith}
 use Rattle.gm_syntax.specs.declared.scan.TheConstants.{CLASSES}
-use Rattle.gm_syntax.specs.Bytes.{is_blank, is_bracket_or_comma, is_quote, is_bad, is_word_byte, is_plain}
+use Rattle.gm_syntax.specs.Bytes.{is_blank, is_bracket_or_comma, is_quote, is_bad, is_word_byte}
+use Rattle.gm_syntax.specs.Private.Scan.{is_plain}
 use Rattle.gm_syntax.proofs.ByteTable.{agree_below, from_table}
 use Rattle.gm_syntax.proofs.scan.is_plain.Goals as goal
 

@@ -1,7 +1,8 @@
 use Rattle.std.proofs.Common.{ap, sym, ◌∙◌}
 use Rattle.gm_syntax.specs.declared.scan.Piece.TheVariants.{Word}
 use Rattle.gm_syntax.specs.declared.word.Kind.TheVariants.{Bare}
-use Rattle.gm_syntax.specs.Scan.{bare_len, piece_of}
+use Rattle.gm_syntax.specs.Bare.{bare_len}
+use Rattle.gm_syntax.specs.Private.Scan.{piece_of}
 use Rattle.gm_syntax.proofs.Steps.{plain_piece}
 use Rattle.gm_syntax.proofs.scan.piece_of.Goals as goal
 

@@ -1,5 +1,5 @@
 use Rattle.std.proofs.Common.{◌≡◌, ◌+◌, ◌-◌, ◌≤◌, drop, length}
-use Rattle.gm_syntax.specs.Scan.{bare_len}
+use Rattle.gm_syntax.specs.Bare.{bare_len}
 use Rattle.gm_syntax.proofs.scan.plain_end.Given as goal
 
 abbrev pub invariant-loop-n : goal.invariant-loop-n

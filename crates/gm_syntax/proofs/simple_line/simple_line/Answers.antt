@@ -3,7 +3,8 @@ use Rattle.std.proofs.lemmas.Bool.{not-false}
 use Rattle.std.proofs.lemmas.Option.{IfSome_then}
 use Rattle.std.proofs.lemmas.Slice.Eq.{bytes_eq-Decides}
 use Rattle.gm_syntax.specs.Words.{Word}
-use Rattle.gm_syntax.specs.SimpleLines.{bare_word, bare_at, IsTripleText, IsOpeningText, IsSimpleText}
+use Rattle.gm_syntax.specs.SimpleLines.{bare_word}
+use Rattle.gm_syntax.specs.Private.SimpleLines.{bare_at, IsTripleText, IsOpeningText, IsSimpleText}
 use Rattle.gm_syntax.proofs.SimpleLines.{Sofar, as_long, sofar_first, sofar_word, sofar_opening, sofar_end}
 use Rattle.gm_syntax.proofs.simple_line.simple_line.Goals as goal
 

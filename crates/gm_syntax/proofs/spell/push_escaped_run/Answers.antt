@@ -4,7 +4,7 @@ use Rattle.std.specs.String.{string_bytes}
 use Rattle.std.proofs.iter.FirstChar.{cut}
 use Rattle.std.proofs.lemmas.Bool.{eqb-false}
 use Rattle.gm_syntax.specs.Words.{escaped_value}
-use Rattle.gm_syntax.specs.Scan.{plain_len}
+use Rattle.gm_syntax.specs.Private.Scan.{plain_len}
 use Rattle.gm_syntax.proofs.Spelled.{BeginsMark, plain_boundary, mark_boundary, after_marked, escaped_parts, escaped_mark}
 use Rattle.gm_syntax.proofs.spell.push_escaped_run.Goals as goal
 use Rattle.gm_syntax.proofs.spell.push_escaped_run.Goals.{After-split_at}

@@ -5,7 +5,7 @@ use Rattle.std.proofs.iter.FirstChar.{cut}
 use Rattle.std.proofs.lemmas.Bool.{eqb-true, eqb-false}
 use Rattle.std.proofs.lemmas.List.{append-nil, nil_from_length}
 use Rattle.gm_syntax.specs.Words.{escaped_value}
-use Rattle.gm_syntax.specs.Scan.{plain_len}
+use Rattle.gm_syntax.specs.Private.Scan.{plain_len}
 use Rattle.gm_syntax.proofs.Spelled.{BeginsMark, EscapeAt, Escape, escape_at, escape_of, next_marked, escape_pushed, plain_boundary, mark_boundary, after_marked}
 use Rattle.gm_syntax.proofs.spell.push_unescaped.Goals as goal
 use Rattle.gm_syntax.proofs.spell.push_unescaped.Goals.{After-split_at}

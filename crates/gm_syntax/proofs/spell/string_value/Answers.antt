@@ -1,6 +1,6 @@
 use Rattle.std.proofs.Common.{◌≡◌, ℕ, ◌-◌, List, length, get_or, take, IsUtf8, refl, ap, sym, ◌∙◌}
 use Rattle.std.proofs.iter.FirstChar.{cut}
-use Rattle.gm_syntax.specs.Scan.{plain_len}
+use Rattle.gm_syntax.specs.Private.Scan.{plain_len}
 use Rattle.gm_syntax.proofs.Spelled.{Inside, inside_at, first_boundary, last_boundary, raw_string, in_quotes_of, quoted_string, plain_all}
 use Rattle.gm_syntax.proofs.spell.string_value.Goals as goal
 use Rattle.gm_syntax.proofs.spell.string_value.Goals.{After-split_at-2}

@@ -7,7 +7,7 @@ use Rattle.gm_syntax.specs.declared.fault.SyntaxKind.TheVariants.{OpenBlock}
 use Rattle.gm_syntax.specs.Lines.{lines_of}
 use Rattle.gm_syntax.specs.LineViews.{line_of}
 use Rattle.gm_syntax.specs.Parsed.{IsFaultOrNoMemory, IsParsedAs}
-use Rattle.gm_syntax.specs.LineFaults.{fault_at}
+use Rattle.gm_syntax.specs.Private.Reader.{fault_at}
 use Rattle.gm_syntax.specs.LineReading.{Unread, HasRead, IsReadDocument}
 use Rattle.gm_syntax.proofs.Lines.{lines_nil}
 use Rattle.gm_syntax.proofs.LineReading.{unread, read_more, read_fault, read_end, read_open}
