@@ -2,7 +2,7 @@
 use Rattle.std.proofs.Common.{◌≡◌, ℕ, ◌≤◌, List, [], ◌∷◌, ◌<◌, ◌++◌, append-nil, append_assoc, refl, subst, length, take, drop, Option, Some, None, IfSome, ap, ◌∙◌, sym, arith}
 use Rattle.std.proofs.lemmas.Grind.{common_steps}
 use Rattle.std.specs.Io.KnownBytes.{Consumes, IsAtEnd}
-use Rattle.gm_store.specs.Pieces.{AddsPiece}
+use Rattle.gm_store.specs.Private.Reading.{AddsPiece}
 
 -- the first n bytes that the reader had, if n bytes were read
 pub full_front : (n : ℕ) (old new : Option (List ℕ)) (bs : List ℕ) → Consumes old new bs → length bs ≤ n → n ≤ length bs → IfSome old (λ all. bs ≡ take n all)

@@ -11,7 +11,7 @@ use Rattle.std.specs.List.{filter, list_all, slice_split}
 use Rattle.std.specs.Prelude.{encode_utf8_all}
 use Rattle.std.specs.Str.{IsUtf8, chars}
 use Rattle.std.specs.String.{string_bytes}
-use Rattle.gm_store.specs.Cutting.{IsParsedPrefix}
+use Rattle.gm_store.specs.Private.Cutting.{IsParsedPrefix}
 use Rattle.gm_store.specs.Proxies.{is_proxy_mark, mark_at_byte}
 use Rattle.gm_store.specs.declared.fallback.proxy_list.Mark.{Mark}
 use Rattle.gm_store.proofs.Splits.{glue, glue-last, split-append, split_plain}

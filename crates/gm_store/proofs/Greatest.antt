@@ -9,7 +9,8 @@ use Rattle.std.proofs.lemmas.Cmp.{upto, tied_itself}
 use Rattle.std.proofs.lemmas.List.Elements.{Contains-append_left, Contains-push, Contains-push_cases}
 use Rattle.gm_name.specs.Version.{version_cmp}
 use Rattle.gm_name.specs.VersionOrder.{version_total}
-use Rattle.gm_store.specs.Latest.{IsGreatestOrNone, IsLatest, NoneConsidered, counts, is_greater}
+use Rattle.gm_store.specs.Latest.{IsLatest, NoneConsidered, counts}
+use Rattle.gm_store.specs.Private.Versions.{IsGreatestOrNone, is_greater}
 
 -- one more version, which isn't considered or isn't greater
 pub greatest_same : (only : Bool) (xs : List (List ℕ)) (x : List ℕ) (best : Option (List ℕ)) → IsGreatestOrNone only xs best

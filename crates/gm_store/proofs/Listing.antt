@@ -15,7 +15,8 @@ use Rattle.std.proofs.lemmas.List.Sorted.{Contains-permutation, IsPermutation-sy
 use Rattle.gm_name.specs.Version.{version_cmp}
 use Rattle.gm_name.specs.VersionOrder.{version_ties, version_total, version-anti}
 use Rattle.gm_name.specs.Lines.{first_word, lines}
-use Rattle.gm_store.specs.Listed.{AreListed, HoldsListable, IsListable}
+use Rattle.gm_store.specs.Listed.{AreListed, IsListable}
+use Rattle.gm_store.specs.Private.Versions.{HoldsListable}
 use Rattle.gm_name.proofs.Logic.{cases}
 
 Contains-only : (x y : List ℕ) → Contains (x ∷ []) y → x ≡ y

@@ -6,7 +6,8 @@ use Rattle.std.proofs.lemmas.List.{length-take-le, take_all}
 use Rattle.gm_store.specs.declared.reading.ReadFault.{ReadFault}
 use Rattle.gm_store.specs.declared.reading.ReadFault.TheVariants.{NoMemory, Device}
 use Rattle.gm_store.specs.Found.{result_for_bytes}
-use Rattle.gm_store.specs.Openings.{IsReadLookup, MayShow, opened}
+use Rattle.gm_store.specs.Openings.{MayShow, opened}
+use Rattle.gm_store.specs.Private.Reading.{IsReadLookup}
 use Rattle.gm_store.specs.Pieces.{IsReadingFault}
 use Rattle.gm_store.specs.Steps.{Seen, found, result_of, too_long}
 use Rattle.gm_store.specs.declared.folders.Looked.{Looked}

@@ -1,5 +1,5 @@
 -- Folders in memory: the files of one folder, and the results of lookups in it.
-use Rattle.std.specs.Prelude.{ℕ, List, Option, Some, None}
+use Rattle.std.specs.Prelude.{Option, Some, None}
 use Rattle.std.specs.Map.{lookup}
 use Rattle.gm_store.specs.declared.folders.memory_folder.Held.{Held}
 use Rattle.gm_store.specs.declared.folders.memory_folder.Held.TheVariants.{Content, Broken}
@@ -7,16 +7,6 @@ use Rattle.gm_store.specs.declared.folders.memory_folder.MemoryFolder.{MemoryFol
 use Rattle.gm_store.specs.Asked.{Name, name_of, same_name}
 use Rattle.gm_store.specs.Found.{result_for_bytes}
 use Rattle.gm_store.specs.Steps.{Seen, absent, failed}
-
--- a file of a folder in memory: its bytes, or a file that can't be read
-pub data FileContent : Type 0 where
-  content : List ℕ → FileContent
-  broken : FileContent
-
--- the view of a file
-abbrev pub file_content : Held → FileContent
-file_content (Content bytes) = content bytes.items
-file_content Broken = broken
 
 -- the file under a name, if there is one
 abbrev pub file_at : MemoryFolder → Name → Option Held

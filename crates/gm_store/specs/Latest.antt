@@ -1,6 +1,6 @@
 -- The latest of a module's versions. SemVer 2.0.0, section 9: "A pre-release version indicates that the version is
 -- unstable", so it is the greatest release, and the greatest of all versions only if each is a pre-release.
-use Rattle.std.specs.Prelude.{◌≡◌, ◌⊎◌, ℕ, ◌==◌, ◌||◌, not, Bool, true, false, List, length, Contains, Option, Some, None}
+use Rattle.std.specs.Prelude.{◌≡◌, ◌⊎◌, ℕ, ◌==◌, ◌||◌, not, Bool, true, false, List, length, Contains}
 use Rattle.std.specs.Ordering.{is_gt}
 use Rattle.gm_name.specs.Version.{parts_in, version_cmp}
 
@@ -28,13 +28,3 @@ NoneConsidered releases_only versions = (other : List ℕ) → Contains versions
 abbrev pub IsLatest : List (List ℕ) → List ℕ → Type 0
 IsLatest versions version = IsGreatest true versions version
     ⊎ (NoneConsidered true versions × IsGreatest false versions version)
-
--- the greatest of the considered versions, or none if there are none
-abbrev pub IsGreatestOrNone : Bool → List (List ℕ) → Option (List ℕ) → Type 0
-IsGreatestOrNone releases_only versions None = NoneConsidered releases_only versions
-IsGreatestOrNone releases_only versions (Some version) = IsGreatest releases_only versions version
-
--- whether a version is greater than the greatest so far; it is if there is none so far
-abbrev pub is_greater : List ℕ → Option (List ℕ) → Bool
-is_greater version None = true
-is_greater version (Some best) = is_gt (version_cmp version best)

@@ -1,5 +1,4 @@
 pub mod Counted
-pub mod Cutting
 pub mod DiskAnswers
 pub mod Failing
 pub mod Faults
@@ -15,6 +14,7 @@ pub mod Openings
 pub mod Pieces
 pub mod Placed
 pub mod FoldersOnDisk
+pub mod Private
 pub mod Proxies
 pub mod FolderLookups
 pub mod Relative

@@ -17,11 +17,6 @@ pub record IsListable (path version : List ℕ) : Type 0 where
   pub fit : Fits path version
   pub no_pseudo : ¬ (IsPseudoVersion version)
 
--- `versions` has those of the words that may be listed, and no others
-abbrev pub HoldsListable : List ℕ → List (List ℕ) → List (List ℕ) → Type 0
-HoldsListable path words versions = (version : List ℕ)
-    → Contains versions version ↔ (Contains words version × IsListable path version)
-
 -- the first word of some line is this version, and it may be listed
 pub record IsListed (path text version : List ℕ) : Type 0 where
   pub named : Contains (map first_word (lines text)) version

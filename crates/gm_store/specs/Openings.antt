@@ -29,12 +29,6 @@ pub record IsRefusedLookup (kind : ErrorKind) (seen : Seen) : Type 0 where
   pub other : kind ≢ NotFound → seen ≡ failed
   pub memory : kind ≢ OutOfMemory
 
--- the result if a file was opened and read like this: if memory ran out, there is none
-abbrev pub IsReadLookup : Result (Vec ℕ) ReadFault → Seen → Type 0
-IsReadLookup (Ok bytes) seen = seen ≡ result_for_bytes bytes.items
-IsReadLookup (Err Device) seen = seen ≡ failed
-IsReadLookup (Err NoMemory) seen = ⊥
-
 -- The results that a lookup may have. An opened file is never absent: the result is its bytes, or that they are too
 -- many, or a failure if a read of it may fail.
 abbrev pub MayShow : Opening → Seen → Type 0

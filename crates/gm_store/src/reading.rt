@@ -3,7 +3,8 @@
 //! Bytes are read in pieces that grow. Most files are small and fit the first piece; large files take few system
 //! calls.
 
-ghost use Rattle.gm_store.specs.Pieces.{AddsPiece, IsReadingFault};
+ghost use Rattle.gm_store.specs.Pieces.{IsReadingFault};
+ghost use Rattle.gm_store.specs.Private.Reading.{AddsPiece};
 ghost use Rattle.gm_store.specs.declared.reading.ReadFault.TheVariants as read_fault;
 ghost use Rattle.std.specs.Prelude.{◌≡◌, ◌+◌, ◌<◌, ◌≤◌, ℕ, length, take, drop, Some, IfErr, IfOk, IfSome, OnOk, vec_len};
 

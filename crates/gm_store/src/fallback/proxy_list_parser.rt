@@ -5,7 +5,7 @@
 ghost use Rattle.std.specs.Prelude.{◌≡◌, ◌++◌, ℕ, List, [], map, true, false, IfOk, IfSome, IfNone, encode_utf8, string_bytes};
 ghost use Rattle.std.specs.List.{list_all};
 ghost use Rattle.gm_store.specs.Proxies.{folders_in, folders_of, is_folder, is_proxy_mark, mark_at_byte, marks_in, marks_of};
-ghost use Rattle.gm_store.specs.Cutting.{IsParsedPrefix};
+ghost use Rattle.gm_store.specs.Private.Cutting.{IsParsedPrefix};
 
 use crate::fallback::proxy_list::{Mark, ProxyList};
 use gm_name::NoMemory;

@@ -1,7 +1,7 @@
 //! The last answer of a store alone.
 
 ghost use Rattle.gm_store.specs.Asked.{reply_of};
-ghost use Rattle.gm_store.specs.History.{IsLastOf};
+ghost use Rattle.gm_store.specs.Private.History.{IsLastOf};
 
 use crate::files::history::History;
 use crate::files::keeping::Keeps;

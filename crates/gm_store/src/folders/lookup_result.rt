@@ -5,7 +5,8 @@
 
 ghost use Rattle.std.specs.Prelude.{◌≡◌, IfOk, OnErr};
 ghost use Rattle.gm_store.specs.Asked.{IsWithinLimit};
-ghost use Rattle.gm_store.specs.Openings.{IsReadLookup, IsRefusedLookup, MayShow, opening_of};
+ghost use Rattle.gm_store.specs.Openings.{IsRefusedLookup, MayShow, opening_of};
+ghost use Rattle.gm_store.specs.Private.Reading.{IsReadLookup};
 ghost use Rattle.gm_store.specs.Steps.{reply_in, result_of};
 
 use crate::byte_reader::ByteReader;

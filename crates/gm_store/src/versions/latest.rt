@@ -3,7 +3,8 @@
 //! Pre-releases are unstable (SemVer 2.0.0, section 9), so they are considered only if there is no release.
 
 ghost use Rattle.std.specs.Prelude.{◌≡◌, ◌&&◌, [], MatchOption, option_map};
-ghost use Rattle.gm_store.specs.Latest.{IsGreatestOrNone, IsLatest, counts, is_greater};
+ghost use Rattle.gm_store.specs.Latest.{IsLatest, counts};
+ghost use Rattle.gm_store.specs.Private.Versions.{IsGreatestOrNone, is_greater};
 
 use gm_name::BorrowedVersion;
 

@@ -7,7 +7,8 @@ ghost use Rattle.std.specs.Prelude.{◌≡◌, ◌↔◌, ◌++◌, ◌∷◌, [
 ghost use Rattle.std.specs.List.Sorted.{IsPermutation, IsSorted};
 ghost use Rattle.gm_name.specs.Lines.{first_word};
 ghost use Rattle.gm_name.specs.Version.{version_cmp};
-ghost use Rattle.gm_store.specs.Listed.{AreListed, HoldsListable, IsListable};
+ghost use Rattle.gm_store.specs.Listed.{AreListed, IsListable};
+ghost use Rattle.gm_store.specs.Private.Versions.{HoldsListable};
 
 use gm_name::{
     BorrowedVersion, ModPath, ModVersion, NoMemory, VersionFault, first_word, fits, pseudo,

@@ -1,5 +1,5 @@
 use Rattle.std.proofs.Common.{subst, sym}
-use Rattle.gm_store.specs.Cutting.{IsParsedPrefix}
+use Rattle.gm_store.specs.Private.Cutting.{IsParsedPrefix}
 use Rattle.gm_store.proofs.Cuts.{cut_more}
 use Rattle.gm_store.proofs.fallback.proxy_list_parser.parse_chars.Goals as goal
 

@@ -1,5 +1,5 @@
 use Rattle.std.specs.Prelude.{encode_utf8_all}
-use Rattle.gm_store.specs.Cutting.{IsParsedPrefix}
+use Rattle.gm_store.specs.Private.Cutting.{IsParsedPrefix}
 use Rattle.gm_store.proofs.fallback.proxy_list_parser.parse_chars.Given as goal
 
 -- the state after the characters so far

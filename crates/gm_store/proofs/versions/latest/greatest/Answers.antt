@@ -1,5 +1,5 @@
 use Rattle.std.proofs.Common.{◌+◌, ℕ, Bor, List, Option, subst, sym, take, option_map}
-use Rattle.gm_store.specs.Latest.{IsGreatestOrNone}
+use Rattle.gm_store.specs.Private.Versions.{IsGreatestOrNone}
 use Rattle.gm_store.proofs.Greatest.{step_more, step_same, take-whole}
 use Rattle.gm_store.proofs.versions.latest.greatest.Goals as goal
 use Rattle.gm_store.proofs.versions.latest.greatest.Goals.{then-is_better, else-is_better}

@@ -1,5 +1,5 @@
 use Rattle.std.proofs.Common.{take, option_map}
-use Rattle.gm_store.specs.Latest.{IsGreatestOrNone}
+use Rattle.gm_store.specs.Private.Versions.{IsGreatestOrNone}
 use Rattle.gm_store.proofs.versions.latest.greatest.Given as goal
 
 -- `best` is the greatest of the considered versions so far

@@ -4,7 +4,7 @@ use Rattle.std.proofs.lemmas.List.Filters.{dedup_is}
 use Rattle.std.proofs.lemmas.Iterator.Consumers.{YieldsList-end}
 use Rattle.std.proofs.lemmas.Iterator.Splits.{YieldsList-from_slice_split}
 use Rattle.gm_name.specs.Lines.{first_word, is_line_end}
-use Rattle.gm_store.specs.Listed.{HoldsListable}
+use Rattle.gm_store.specs.Private.Versions.{HoldsListable}
 use Rattle.gm_store.proofs.Listing.{line_more, listed_from}
 use Rattle.gm_store.proofs.versions.list.versions_of.Goals as goal
 
