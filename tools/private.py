@@ -17,7 +17,7 @@ CRATES = pathlib.Path("crates")
 PAGE = "page"
 # crates whose private definitions don't stand apart yet
 NOT_MOVED = set("""
-gm_store_sums gm_file gm_graph gm_graph_select gm_file_edit gomod_words gomod_run
+gm_file gm_graph gm_graph_select gm_file_edit gomod_words gomod_run
 gomod_laws
 """.split())
 

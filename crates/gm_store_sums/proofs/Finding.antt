@@ -14,7 +14,8 @@ use Rattle.std.specs.Prelude.{Contains, if◌then◌else◌}
 use Rattle.std.specs.Str.{bytes_eq}
 use Rattle.std.specs.declared.cmp.Ordering.{Ordering}
 use Rattle.std.specs.declared.cmp.Ordering.TheVariants.{Less, Equal, Greater}
-use Rattle.gm_store_sums.specs.Order.{AreInOrder, line_cmp, key_cmp, triple}
+use Rattle.gm_store_sums.specs.Order.{AreInOrder, line_cmp, triple}
+use Rattle.gm_store_sums.specs.Private.Lines.{key_cmp}
 use Rattle.gm_store_sums.specs.Sums.{is_line_for, is_other_hash}
 use Rattle.gm_store_sums.specs.declared.sum_table.Sum.TheVariants.{Good, Unlisted, Differs}
 use Rattle.gm_store_sums.specs.declared.sum_table.SumLine.{SumLine}

@@ -14,8 +14,8 @@ use Rattle.std.specs.List.{list_any, starts_with}
 use Rattle.std.specs.Prelude.{◌↔◌, Contains, nat_eq, if◌then◌else◌}
 use Rattle.std.specs.Str.{bytes_eq}
 use Rattle.gm_name.specs.Lines.{fields, lines}
-use Rattle.gm_store_sums.specs.Shapes.{AddsGiven, Gives}
-use Rattle.gm_store_sums.specs.Sums.{HasValidLines, HoldsSums, IsSum, Says, are_valid_fields, is_line_for, is_other_hash, lines_before_invalid}
+use Rattle.gm_store_sums.specs.Private.Lines.{AddsGiven, Gives, HoldsSums}
+use Rattle.gm_store_sums.specs.Sums.{HasValidLines, IsSum, Says, are_valid_fields, is_line_for, is_other_hash, lines_before_invalid}
 use Rattle.gm_store_sums.specs.declared.sum_table.Sum.TheVariants.{Good, Unlisted, Differs}
 use Rattle.gm_name.proofs.Logic.{cases, or-left}
 

@@ -1,4 +1,4 @@
 pub mod Hash
 pub mod Order
-pub mod Shapes
+pub mod Private
 pub mod Sums

@@ -16,9 +16,6 @@ abbrev pub line_cmp : List ℕ × List ℕ × List ℕ → List ℕ × List ℕ 
 line_cmp x y = ordering_then (slice_cmp nat_cmp x.0 y.0)
     (ordering_then (slice_cmp nat_cmp x.1 y.1) (slice_cmp nat_cmp x.2 y.2))
 
-abbrev pub key_cmp : List ℕ × List ℕ × List ℕ → List ℕ × List ℕ → Ordering
-key_cmp line place = ordering_then (slice_cmp nat_cmp line.0 place.0) (slice_cmp nat_cmp line.1 place.1)
-
 -- the lines are in ascending order
 abbrev pub AreInOrder : List SumLine → Type 0
 AreInOrder lines = IsSortedBy (λ x y. is_lt (line_cmp (triple x) (triple y))) lines

@@ -1,5 +1,5 @@
 -- A go.sum: Go Modules Reference, go.sum files. "Each line has three fields separated by spaces".
-use Rattle.std.specs.Prelude.{◌↔◌, ◌≡◌, ◌≢◌, ◌<◌, ◌≤◌, ◌+◌, ℕ, ◌&&◌, not, nat_eq, Bool, true, false, List, [], ◌∷◌, ◌++◌, length, map, codes, Contains, if◌then◌else◌}
+use Rattle.std.specs.Prelude.{◌≡◌, ◌≢◌, ◌<◌, ◌≤◌, ◌+◌, ℕ, ◌&&◌, not, nat_eq, Bool, true, false, List, [], ◌∷◌, ◌++◌, length, map, codes, Contains, if◌then◌else◌}
 use Rattle.std.specs.List.{list_any, position_or_len, starts_with}
 use Rattle.std.specs.Str.{bytes_eq, is_utf8}
 use Rattle.gm_store_sums.specs.declared.sum_table.Sum.{Sum}
@@ -61,7 +61,3 @@ check_in sums path version hash = if not (list_any (is_line_for path version) su
 -- the table says about each hash what the text says
 abbrev pub ReadsAs : Sums → List ℕ → Type 0
 ReadsAs sums text = (path version hash : List ℕ) → Says text path version hash (check_in sums path version hash)
-
--- the lines are those of the text that list a hash for a go.mod
-abbrev pub HoldsSums : Sums → List ℕ → Type 0
-HoldsSums sums text = (path version hash : List ℕ) → Contains sums (path, version, hash) ↔ IsSum text path version hash

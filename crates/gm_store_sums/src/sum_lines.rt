@@ -3,8 +3,8 @@
 ghost use Rattle.std.specs.Prelude.{◌≡◌, ◌≢◌, ◌<◌, ◌≤◌, ℕ, List, length, map, true, Ok, IfNone, IfOk, IfSome, MatchOption};
 ghost use Rattle.std.specs.Str.{is_utf8};
 ghost use Rattle.gm_name.specs.Lines.{fields, lines};
-ghost use Rattle.gm_store_sums.specs.Shapes.{AddsGiven, AreFields, Gives};
-ghost use Rattle.gm_store_sums.specs.Sums.{HasValidLines, HoldsSums, IsFirstInvalid, are_valid_fields, lines_before_invalid};
+ghost use Rattle.gm_store_sums.specs.Private.Lines.{AddsGiven, AreFields, Gives, HoldsSums};
+ghost use Rattle.gm_store_sums.specs.Sums.{HasValidLines, IsFirstInvalid, are_valid_fields, lines_before_invalid};
 ghost use Rattle.gm_store_sums.specs.Order.{triple};
 
 use crate::sum_table::{SumFault, SumLine};

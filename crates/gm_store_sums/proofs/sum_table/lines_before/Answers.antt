@@ -2,7 +2,8 @@ use Rattle.std.proofs.Common.{rules}
 use borrow.Author.Tests.{tests}
 use Rattle.std.proofs.lemmas.List.Sorted.{IsPartitionPoint-from_clause}
 use Rattle.std.specs.Ordering.{is_lt}
-use Rattle.gm_store_sums.specs.Order.{key_cmp, triple}
+use Rattle.gm_store_sums.specs.Order.{triple}
+use Rattle.gm_store_sums.specs.Private.Lines.{key_cmp}
 use Rattle.gm_store_sums.proofs.Finding.{parted_before}
 use Rattle.gm_store_sums.proofs.sum_table.lines_before.Goals as goal
 

@@ -2,7 +2,8 @@ use Rattle.std.proofs.Common.{◌∙◌, rules, sym}
 use borrow.Author.Tests.{tests}
 use Rattle.std.proofs.lemmas.List.Sorted.{IsPartitionPoint-from_clause}
 use Rattle.std.specs.Ordering.{is_le}
-use Rattle.gm_store_sums.specs.Order.{key_cmp, triple}
+use Rattle.gm_store_sums.specs.Order.{triple}
+use Rattle.gm_store_sums.specs.Private.Lines.{key_cmp}
 use Rattle.gm_store_sums.proofs.Finding.{ends_after, ends_at, parted_up_to}
 use Rattle.gm_store_sums.proofs.sum_table.lines_up_to.Goals as goal
 

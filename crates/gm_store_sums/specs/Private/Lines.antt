@@ -1,9 +1,16 @@
--- The fields of a line, and the hash that a line of a go.sum lists.
-use Rattle.std.specs.Prelude.{◌≡◌, ◌⊎◌, ℕ, nat_eq, true, false, List, [], ◌∷◌, ◌++◌, codes}
+-- Lines of a go.sum while they are read, and their order.
+use Rattle.std.specs.Prelude.{ℕ, List, ◌≡◌, ◌⊎◌, nat_eq, true, false, [], ◌∷◌, ◌++◌, codes, ◌↔◌, Contains}
+use Rattle.std.specs.Cmp.Lexicographic.{slice_cmp}
+use Rattle.std.specs.Ordering.{nat_cmp, ordering_then}
+use Rattle.std.specs.declared.cmp.Ordering.{Ordering}
 use Rattle.std.specs.List.{starts_with}
 use Rattle.gm_store_sums.specs.declared.sum_lines.SumFields.{SumFields}
 use Rattle.gm_store_sums.specs.declared.sum_lines.SumFields.TheVariants.{Blank, Three, Other}
-use Rattle.gm_store_sums.specs.Sums.{Sums, are_valid_fields}
+use Rattle.gm_store_sums.specs.Sums.{Sums, are_valid_fields, IsSum}
+
+-- A line is compared with a module at a version by the path, then by the text of the version.
+abbrev pub key_cmp : List ℕ × List ℕ × List ℕ → List ℕ × List ℕ → Ordering
+key_cmp line place = ordering_then (slice_cmp nat_cmp line.0 place.0) (slice_cmp nat_cmp line.1 place.1)
 
 -- there are no fields, three fields, or another number of fields
 abbrev pub AreFields : SumFields → List (List ℕ) → Type 0
@@ -22,3 +29,7 @@ abbrev pub AddsGiven : List (List ℕ) → Sums → Sums → Type 0
 AddsGiven fields old new =
     ((path version hash : List ℕ) × Gives fields path version hash × (new ≡ old ++ (path, version, hash) ∷ []))
     ⊎ (((path version hash : List ℕ) → ¬ (Gives fields path version hash)) × (new ≡ old))
+
+-- the lines are those of the text that list a hash for a go.mod
+abbrev pub HoldsSums : Sums → List ℕ → Type 0
+HoldsSums sums text = (path version hash : List ℕ) → Contains sums (path, version, hash) ↔ IsSum text path version hash
