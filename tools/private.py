@@ -17,13 +17,13 @@ CRATES = pathlib.Path("crates")
 PAGE = "page"
 # crates whose private definitions don't stand apart yet
 NOT_MOVED = set("""
-gm_file gm_graph gm_graph_select gm_file_edit gomod_words gomod_run
+gm_graph gm_graph_select gm_file_edit gomod_words gomod_run
 gomod_laws
 """.split())
 
 # names of two or more files of specs/ that are to have one meaning or another name
 SHARED = set("""
-AreFound HasList IsFileOf IsPlaceOf IsRead KeepsTurns LeadsTo Says Visits folders_in left_by left_in left_words line_text operations_in
+HasList IsFileOf IsPlaceOf KeepsTurns LeadsTo Says Visits folders_in left_by left_in left_words line_text operations_in
 run_of words_of
 """.split())
 

@@ -10,21 +10,22 @@ use Rattle.gm_file.specs.declared.fields.Fields.{Fields}
 use Rattle.gm_file.specs.declared.replacements.Replacements.{Replacements}
 use Rattle.gm_file.specs.Directives.{Excludes, Mode, Replaces, Replacing}
 use Rattle.gm_file.specs.Faults.{directive_kinds, is_conflict}
-use Rattle.gm_file.specs.Holding.{AreFound, IsAdded}
-use Rattle.gm_file.specs.Indexes.{AreIndexed, IsSetOfLines, ReportsConflict}
+use Rattle.gm_file.specs.Private.Holding.{HaveIndexes, IsAdded}
+use Rattle.gm_file.specs.Indexes.{AreIndexed, IsSetOfLines}
+use Rattle.gm_file.specs.Private.Indexes.{ReportsConflict}
 use Rattle.gm_file.specs.Reading.{own_kinds}
 use Rattle.gm_file.specs.Views.{replace_views}
 use Rattle.gm_file.proofs.Saying.{conflict-reported, replace-right, say-exclusion, say-replacing}
 
 -- ---- the indexes
 
-pub excludes-found : (old : Fields) (now : Exclusions) (result : Result (Unit {0}) LineFault) → AreFound old
-    → OnOk result (IsSetOfLines now) → OnOk result (AreFound (record old { excludes = now }))
+pub excludes-found : (old : Fields) (now : Exclusions) (result : Result (Unit {0}) LineFault) → HaveIndexes old
+    → OnOk result (IsSetOfLines now) → OnOk result (HaveIndexes (record old { excludes = now }))
 excludes-found old now (Ok u) found set = record { excludes = set; replaces = found.replaces }
 excludes-found old now (Err fault) found set = tt
 
-pub replaces-found : (old : Fields) (now : Replacements) (result : Result (Unit {0}) LineFault) → AreFound old
-    → OnOk result (AreIndexed now) → OnOk result (AreFound (record old { replaces = now }))
+pub replaces-found : (old : Fields) (now : Replacements) (result : Result (Unit {0}) LineFault) → HaveIndexes old
+    → OnOk result (AreIndexed now) → OnOk result (HaveIndexes (record old { replaces = now }))
 replaces-found old now (Ok u) found indexed = record { excludes = found.excludes; replaces = indexed }
 replaces-found old now (Err fault) found indexed = tt
 

@@ -13,7 +13,8 @@ use Rattle.gm_file.specs.declared.fault.LineFault.TheVariants as line
 use Rattle.gm_file.specs.Directives.{Left, Module, is_arrow, replacing}
 use Rattle.gm_file.specs.Faults.{left_version_kinds, path_kinds, version_kinds}
 use Rattle.gm_file.specs.Fields.{first}
-use Rattle.gm_file.specs.Reading.{IsRead, replacing_kinds}
+use Rattle.gm_file.specs.Reading.{replacing_kinds}
+use Rattle.gm_file.specs.Private.Reading.{IsPartRead}
 use Rattle.gm_file.specs.Views.{replace_view}
 
 prefix_len-map : {X Y : Type 0} (p : Y → Bool) (f : X → Y) (xs : List X) → prefix_len p (map f xs) ≡ prefix_len (λ x. p (f x)) xs
@@ -49,8 +50,8 @@ first-append (z ∷ xs) ys x e = e
 -- the fault of the version on the right side, if the parts that are read before it have none
 pub right-version-fault : (left : Left) (path version p q : List ℕ) (v : Option (List ℕ)) (fault : LineFault)
     → Some left.path ≡ Some p → path_kinds p ≡ [] → Some path ≡ Some q → path_kinds q ≡ [] → Some left.version ≡ Some v → left_version_kinds v ≡ []
-    → IsRead {X = List ℕ} {Y = List ℕ} (λ x. x) WrongArguments version_kinds (Some version) (Err fault)
-    → IsRead replace_view WrongArguments replacing_kinds (Some (replacing left (Module path version))) (Err fault)
+    → IsPartRead {X = List ℕ} {Y = List ℕ} (λ x. x) WrongArguments version_kinds (Some version) (Err fault)
+    → IsPartRead replace_view WrongArguments replacing_kinds (Some (replacing left (Module path version))) (Err fault)
 right-version-fault left path version p q v line.NoMemory is-p sound-p is-q sound-q is-v sound-v told = tt
 right-version-fault left path version p q v (line.Kind k) is-p sound-p is-q sound-q is-v sound-v told =
     let e : left.path ≡ p = cc in
@@ -65,23 +66,23 @@ module _ (left : Left) (path version : List ℕ) where
   abbrev before-right-version : List DirectiveKind
   before-right-version = path_kinds left.path ++ path_kinds path ++ left_version_kinds left.version
 
-  pub left-path-fault : (fault : LineFault) → IsRead {X = List ℕ} {Y = List ℕ} (λ x. x) WrongArguments path_kinds (Some left.path) (Err fault)
-      → IsRead replace_view WrongArguments replacing_kinds (Some (replacing left (Module path version))) (Err fault)
+  pub left-path-fault : (fault : LineFault) → IsPartRead {X = List ℕ} {Y = List ℕ} (λ x. x) WrongArguments path_kinds (Some left.path) (Err fault)
+      → IsPartRead replace_view WrongArguments replacing_kinds (Some (replacing left (Module path version))) (Err fault)
   left-path-fault line.NoMemory told = tt
   left-path-fault (line.Kind k) told =
       first-append (before-right-version ++ version_kinds version) _ k
       (first-append before-right-version (version_kinds version) k
       (first-append (path_kinds left.path ++ path_kinds path) (left_version_kinds left.version) k (first-append (path_kinds left.path) (path_kinds path) k told)))
 
-  pub right-path-fault : (fault : LineFault) → path_kinds left.path ≡ [] → IsRead {X = List ℕ} {Y = List ℕ} (λ x. x) WrongArguments path_kinds (Some path) (Err fault)
-      → IsRead replace_view WrongArguments replacing_kinds (Some (replacing left (Module path version))) (Err fault)
+  pub right-path-fault : (fault : LineFault) → path_kinds left.path ≡ [] → IsPartRead {X = List ℕ} {Y = List ℕ} (λ x. x) WrongArguments path_kinds (Some path) (Err fault)
+      → IsPartRead replace_view WrongArguments replacing_kinds (Some (replacing left (Module path version))) (Err fault)
   right-path-fault line.NoMemory sound told = tt
   right-path-fault (line.Kind k) sound told =
       rw sound (first-append (path_kinds path ++ left_version_kinds left.version ++ version_kinds version) _ k
       (first-append (path_kinds path ++ left_version_kinds left.version) (version_kinds version) k (first-append (path_kinds path) (left_version_kinds left.version) k told)))
 
-  pub left-version-fault : (fault : LineFault) → path_kinds left.path ≡ [] → path_kinds path ≡ [] → IsRead {X = Option (List ℕ)} {Y = Option (List ℕ)} (λ x. x) WrongArguments left_version_kinds (Some left.version) (Err fault)
-      → IsRead replace_view WrongArguments replacing_kinds (Some (replacing left (Module path version))) (Err fault)
+  pub left-version-fault : (fault : LineFault) → path_kinds left.path ≡ [] → path_kinds path ≡ [] → IsPartRead {X = Option (List ℕ)} {Y = Option (List ℕ)} (λ x. x) WrongArguments left_version_kinds (Some left.version) (Err fault)
+      → IsPartRead replace_view WrongArguments replacing_kinds (Some (replacing left (Module path version))) (Err fault)
   left-version-fault line.NoMemory sound-p sound-q told = tt
   left-version-fault (line.Kind k) sound-p sound-q told =
       rw (sound-p, sound-q) (first-append (left_version_kinds left.version ++ version_kinds version) _ k (first-append (left_version_kinds left.version) (version_kinds version) k told))

@@ -13,7 +13,7 @@ use Rattle.gm_name.specs.Version.{parts_in, precedence, version_cmp}
 use Rattle.gm_name.specs.VersionOrder.{precedence_total, version_total}
 use Rattle.gm_file.specs.Directives.{VersionInterval}
 use Rattle.gm_file.specs.Shown.{holds_version, is_at_most}
-use Rattle.gm_file.specs.Swept.{AreSorted, Ascend, ends_view, ends_views}
+use Rattle.gm_file.specs.Private.Swept.{AreSorted, Ascend, ends_view, ends_views}
 use Rattle.gm_file.specs.declared.sweep.Ends.{Ends}
 
 by_parts : IsTotalOrder (on parts_in precedence)

@@ -17,14 +17,16 @@ use Rattle.gm_file.specs.declared.fault.FileFault.TheVariants as file
 use Rattle.gm_file.specs.declared.fault.LineFault.{LineFault}
 use Rattle.gm_file.specs.declared.fault.LineFault.TheVariants as line
 use Rattle.gm_file.specs.declared.fields.Fields.{Fields}
-use Rattle.gm_file.specs.DepLines.{AreAllRead, AreDepLines, HasNextFault, IsDependencyIn}
+use Rattle.gm_file.specs.DepLines.{IsDependencyIn}
+use Rattle.gm_file.specs.Private.DepLines.{AreAllRead, AreDepLines, HasNextFault}
 use Rattle.gm_file.specs.BytesFaults.{fault_by_file, fault_by_syntax}
 use Rattle.gm_file.specs.Directives.{Item, Lax, Mode, block_after_line, item_at}
 use Rattle.gm_file.specs.Faults.{fault_of}
 use Rattle.gm_file.specs.Fields.{Dependency}
-use Rattle.gm_file.specs.Holding.{AreFound, AreReadTo, Holds, IsLineAdded}
+use Rattle.gm_file.specs.Private.Holding.{HaveIndexes, AreReadTo, Holds, IsLineAdded}
 use Rattle.gm_file.specs.Misreading.{IsBytesFault}
-use Rattle.gm_file.specs.Views.{ReportsFault, file_fault_at}
+use Rattle.gm_file.specs.Views.{ReportsFault}
+use Rattle.gm_file.specs.Private.Reading.{file_fault_at}
 use Rattle.gm_file.proofs.Lines.{fault-reported, read-more, read-none}
 use Rattle.gm_file.proofs.Whole.{dependency, dependency-is, lax-sound}
 
@@ -37,11 +39,11 @@ word-behind None = refl
 word-behind (Some t) = refl
 
 -- before the first line
-pub dep-none : (fields : Fields) → Holds Lax [] fields → AreFound fields → AreDepLines [] (record { block = None; fields = fields })
+pub dep-none : (fields : Fields) → Holds Lax [] fields → HaveIndexes fields → AreDepLines [] (record { block = None; fields = fields })
 dep-none fields holds found = read-none Lax fields holds found
 
 -- one more line without a fault
-pub dep-more : (lines : List (Line Word)) (here : Line Word) (block : Option Word) (old new : DepLines) → AreDepLines lines old → block ≡ word_of old.block → AreFound new.fields
+pub dep-more : (lines : List (Line Word)) (here : Line Word) (block : Option Word) (old new : DepLines) → AreDepLines lines old → block ≡ word_of old.block → HaveIndexes new.fields
     → IsLineAdded Lax old.fields new.fields (item_at (block, here)) (Ok tt)
     → word_of new.block ≡ block_after_line (word_of old.block) here
     → AreDepLines (lines ++ here ∷ []) new

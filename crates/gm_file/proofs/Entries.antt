@@ -9,13 +9,14 @@ use Rattle.gm_file.specs.declared.verb.Verb.{Verb}
 use Rattle.gm_file.specs.Directives.{Mode, Saying, Directive, DeclaresModule, DeclaresGo, Requires, Excludes, Replaces, Retracts, Kept, directive_of, verb_in}
 use Rattle.gm_file.specs.Faults.{directive_kinds, path_kinds, entry_kinds, sides_kinds, malformed_entry_kind}
 use Rattle.gm_file.specs.Fields.{first}
-use Rattle.gm_file.specs.Reading.{IsRead, own_kinds, part_kinds}
+use Rattle.gm_file.specs.Reading.{own_kinds}
+use Rattle.gm_file.specs.Private.Reading.{IsPartRead, part_kinds}
 use Rattle.gm_file.specs.DirectiveViews.{IsLineRead, directive_view}
 use Rattle.gm_file.proofs.Arrows.{first-append}
 
 -- a fault of a part is a fault of what is made of it
 pub map-fault : {X Y Z V : Type 0} (view : Y → X) (seen : V → Z) (wrong : DirectiveKind) (kinds : X → List DirectiveKind) (more : Z → List DirectiveKind) (f : X → Z) (o : Option X) (fault : LineFault)
-    → ((x : X) → more (f x) ≡ kinds x) → IsRead view wrong kinds o (Err fault) → IsRead seen wrong more (option_map f o) (Err fault)
+    → ((x : X) → more (f x) ≡ kinds x) → IsPartRead view wrong kinds o (Err fault) → IsPartRead seen wrong more (option_map f o) (Err fault)
 map-fault view seen wrong kinds more f o line.NoMemory same told = tt
 map-fault view seen wrong kinds more f None (line.Kind k) same told = told
 map-fault view seen wrong kinds more f (Some x) (line.Kind k) same told = ap first (same x) ∙ told
@@ -37,7 +38,7 @@ saying-first mode earlier verb None k e = e
 saying-first mode earlier verb (Some d) k e = directive-first mode earlier d k e
 
 pub saying-fault : (mode : Mode) (verb : List ℕ) (words : List Word) (fault : LineFault) (v : Verb) → v ≡ verb_in mode verb
-    → IsRead directive_view (malformed_entry_kind v) own_kinds (directive_of v words) (Err fault) → IsLineRead mode (Saying verb words) (Err fault)
+    → IsPartRead directive_view (malformed_entry_kind v) own_kinds (directive_of v words) (Err fault) → IsLineRead mode (Saying verb words) (Err fault)
 saying-fault mode verb words line.NoMemory v is told = tt
 saying-fault mode verb words (line.Kind k) v is told = λ earlier.
     saying-first mode earlier (verb_in mode verb) (directive_of (verb_in mode verb) words) k

@@ -21,7 +21,8 @@ use Rattle.gm_file.specs.declared.replace.Right as declared
 use Rattle.gm_file.specs.Directives.{pair, Left, Right, Folder, Module, Replacing, replacing, left_with, left_without}
 use Rattle.gm_file.specs.Faults.{is_conflict, is_same_left, is_same_right, is_same_version}
 use Rattle.gm_file.specs.Fields.{right_for}
-use Rattle.gm_file.specs.Indexes.{IndexLines, IsInserted, IsNoted, ReportsConflict, differs, right_at}
+use Rattle.gm_file.specs.Indexes.{IndexLines, differs, right_at}
+use Rattle.gm_file.specs.Private.Indexes.{IsInserted, IsNoted, ReportsConflict}
 use Rattle.gm_file.specs.Views.{replace_view, replace_views, right_view}
 use Rattle.gm_name.proofs.Logic.{and-false, and-true, or-false}
 

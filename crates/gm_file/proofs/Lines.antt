@@ -13,8 +13,9 @@ use Rattle.gm_file.specs.declared.fields.Fields.{Fields}
 use Rattle.gm_file.specs.Directives.{Mode, Directive, block_after_lines, block_after_line, directive_in, directives, item_at, directive_said}
 use Rattle.gm_file.specs.Faults.{fault_of, faults, item_kinds}
 use Rattle.gm_file.specs.Fields.{first}
-use Rattle.gm_file.specs.Holding.{AreFound, AreReadTo, Holds, IsLineAdded}
-use Rattle.gm_file.specs.Views.{ReportsFault, file_fault_at}
+use Rattle.gm_file.specs.Private.Holding.{HaveIndexes, AreReadTo, Holds, IsLineAdded}
+use Rattle.gm_file.specs.Views.{ReportsFault}
+use Rattle.gm_file.specs.Private.Reading.{file_fault_at}
 use Rattle.gm_file.proofs.Ordered.{first-reported, item-within}
 use Rattle.gm_file.proofs.Snoc.{directives-snoc, faults-snoc}
 use Rattle.gm_file.proofs.Told.{kinds_at, reported-at}
@@ -32,7 +33,7 @@ said-once mode lines line = directives-snoc mode lines line ∙ ap (λ (ds : Lis
     by (Some d) = refl
 
 -- after one more line that has no fault
-pub read-more : (mode : Mode) (lines : List (Line Word)) (block : Option Word) (line : Line Word) (old new : Fields) → AreReadTo mode lines block old → AreFound new
+pub read-more : (mode : Mode) (lines : List (Line Word)) (block : Option Word) (line : Line Word) (old new : Fields) → AreReadTo mode lines block old → HaveIndexes new
     → IsLineAdded mode old new (item_at (block, line)) (Ok tt) → AreReadTo mode (lines ++ line ∷ []) (block_after_line block line) new
 read-more mode lines block line old new so found added =
     let at : item_at (block, line) ≡ item_at (block_after_lines None lines, line) = ap (λ (b : Option Word). item_at (b, line)) so.open_is in
@@ -60,7 +61,7 @@ fault-reported mode lines block here later all n old new (line.Kind k) so number
     ap (fault_of mode) is ∙ reported-at mode lines here later k so.read.sound f.0 f.1 ∙ ap (λ (m : ℕ). Some (m, k)) (sym number)
 
 -- before the first line
-pub read-none : (mode : Mode) (f : Fields) → Holds mode [] f → AreFound f → AreReadTo mode [] None f
+pub read-none : (mode : Mode) (f : Fields) → Holds mode [] f → HaveIndexes f → AreReadTo mode [] None f
 unfolding faults
 read-none mode f holds found = record { open_is = refl; read = record { sound = refl; holds = holds; found = found } }
 

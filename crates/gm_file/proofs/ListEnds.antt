@@ -6,7 +6,7 @@ use Rattle.std.specs.Prelude.{OnErr, OnOk, Result, Ok, Err}
 use Rattle.gm_name.specs.ModuleVersion.{ModuleVersion, module_at}
 use Rattle.gm_name_table.specs.Listed.{Appends, BeginsWith, NumberedList, modules_at, modules_of}
 use Rattle.gm_name_table.proofs.Listed.{appends_after}
-use Rattle.gm_file.specs.Requirements.{HasGrown, Requirements, items_in}
+use Rattle.gm_file.specs.Private.Requirements.{HasGrown, Requirements, items_in}
 use Rattle.gm_file.specs.declared.list_before.ListBefore.{ListBefore}
 use Rattle.gm_file.specs.declared.required.Destination.TheVariants as place
 

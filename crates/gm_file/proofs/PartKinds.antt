@@ -4,7 +4,7 @@ use Rattle.gm_file.specs.declared.fault.DirectiveKind.TheVariants.{BadPath, BadV
 use Rattle.gm_file.specs.declared.fault.LineFault.{LineFault}
 use Rattle.gm_file.specs.Faults.{pair_kinds, path_kinds, unless, version_kinds}
 use Rattle.gm_file.specs.Directives.{pair as pair_from}
-use Rattle.gm_file.specs.Reading.{IsRead}
+use Rattle.gm_file.specs.Private.Reading.{IsPartRead}
 use Rattle.gm_file.specs.Views.{of_pair_fault, of_path_fault, of_version_fault}
 use Rattle.gm_name.specs.declared.known_names.PairFault.{PairFault}
 use Rattle.gm_name.specs.declared.known_names.PairFault.TheVariants as pair
@@ -71,18 +71,18 @@ refused-as (Ok y) f is same = absurd (cc is)
 refused-as (Err h) f is same = ap Err (same h refl)
 
 pub path-kind : (text : List ℕ) (e : PathFault) → PathReading text (Err e)
-    → IsRead {X = List ℕ} {Y = List ℕ} (λ p. p) WrongArguments path_kinds (Some text) (Err (of_path_fault e))
+    → IsPartRead {X = List ℕ} {Y = List ℕ} (λ p. p) WrongArguments path_kinds (Some text) (Err (of_path_fault e))
 path-kind text path.NoMemory read = tt
 path-kind text path.BadPath read = rw (path-bad text read) refl
 
 pub version-kind : (text : List ℕ) (e : VersionFault) → VersionReading text (Err e)
-    → IsRead {X = List ℕ} {Y = List ℕ} (λ v. v) WrongArguments version_kinds (Some text) (Err (of_version_fault e))
+    → IsPartRead {X = List ℕ} {Y = List ℕ} (λ v. v) WrongArguments version_kinds (Some text) (Err (of_version_fault e))
 version-kind text version.NoMemory read = tt
 version-kind text version.BadVersion read = rw (version-bad text read.0) refl
 version-kind text version.NotCanonical read = rw (version-bad text read.1) refl
 
 pub pair-kind : (path version : List ℕ) (e : PairFault) → PairReading path version (Err e)
-    → IsRead {X = ModuleVersion} {Y = ModuleVersion} (λ p. p) WrongArguments pair_kinds (Some (path, version)) (Err (of_pair_fault e))
+    → IsPartRead {X = ModuleVersion} {Y = ModuleVersion} (λ p. p) WrongArguments pair_kinds (Some (path, version)) (Err (of_pair_fault e))
 pair-kind path version pair.NoMemory read = tt
 pair-kind path version pair.BadPath read = pair-bad-path path version read
 pair-kind path version pair.BadVersion read = pair-bad-version path version read.0 read.1

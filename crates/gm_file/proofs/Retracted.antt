@@ -22,8 +22,8 @@ use Rattle.gm_file.specs.declared.fault.DirectiveKind.TheVariants.{WrongArgument
 use Rattle.gm_file.specs.declared.fault.LineFault.TheVariants as line
 use Rattle.gm_file.specs.Faults.{ends_kinds}
 use Rattle.gm_file.specs.Fields.{first, lax_retracts_of, valid_ends, valid_interval}
-use Rattle.gm_file.specs.Reading.{IsRead}
-use Rattle.gm_file.specs.Retracting.{AreRetracted, AreRetractionsOf, retraction_at, retraction_in}
+use Rattle.gm_file.specs.Private.Reading.{IsPartRead}
+use Rattle.gm_file.specs.Private.Retracting.{AreRetracted, AreRetractionsOf, retraction_at, retraction_in}
 use Rattle.gm_file.specs.declared.retractions.Retractions.{Retractions}
 use Rattle.gm_file.specs.declared.replace.Interval.{Interval}
 use Rattle.gm_file.specs.Views.{interval_view, interval_views}
@@ -125,12 +125,12 @@ retracted-sofar left lines here said read so =
     (lines ++ here ∷ [], read, subst (λ (ls : List (Line Word)). AreRetractionsOf ls said) (sym (map_push plain lines here)) so)
 
 -- an interval that was read
-pub ends-read : (part : Option VersionInterval) (interval : Interval) → IsRead interval_view WrongArguments ends_kinds part (Ok interval) → Some (interval_view interval) ≡ option_and_then valid_ends part
+pub ends-read : (part : Option VersionInterval) (interval : Interval) → IsPartRead interval_view WrongArguments ends_kinds part (Ok interval) → Some (interval_view interval) ≡ option_and_then valid_ends part
 ends-read part interval read =
     sym (ap (option_and_then valid_ends) read.0 ∙ ap (λ (ks : List DirectiveKind). if length ks == 0 then Some (interval_view interval) else None) read.1)
 
 -- an interval that was refused
-pub ends-refused : (part : Option VersionInterval) (kind : DirectiveKind) → IsRead {Y = Interval} interval_view WrongArguments ends_kinds part (Err (line.Kind kind)) → None ≡ option_and_then valid_ends part
+pub ends-refused : (part : Option VersionInterval) (kind : DirectiveKind) → IsPartRead {Y = Interval} interval_view WrongArguments ends_kinds part (Err (line.Kind kind)) → None ≡ option_and_then valid_ends part
 ends-refused None kind read = refl
 ends-refused (Some ends) kind read = by (ends_kinds ends) read
   where

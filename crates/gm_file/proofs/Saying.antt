@@ -13,8 +13,8 @@ use Rattle.gm_file.specs.declared.fields.Fields.{Fields}
 use Rattle.gm_file.specs.Directives.{Mode, VersionInterval, Replacing, Directive, DeclaresModule, DeclaresGo, Requires, Excludes, Replaces, Retracts, Kept}
 use Rattle.gm_file.specs.Faults.{conflicts, directive_kinds, go_in, is_conflict, is_go, is_module, path_kinds, unless}
 use Rattle.gm_file.specs.Fields.{as_exclusion, as_go, as_interval, as_module, as_replacing, as_requirement, first}
-use Rattle.gm_file.specs.Holding.{Holds, IsAdded, HaveFields}
-use Rattle.gm_file.specs.Indexes.{ReportsConflict}
+use Rattle.gm_file.specs.Private.Holding.{Holds, IsAdded, HaveFields}
+use Rattle.gm_file.specs.Private.Indexes.{ReportsConflict}
 use Rattle.gm_file.specs.Reading.{own_kinds}
 use Rattle.gm_name.proofs.Logic.{or-false}
 

@@ -14,14 +14,14 @@ use Rattle.gm_file.specs.declared.fault.DirectiveKind.TheVariants.{WrongArgument
 use Rattle.gm_file.specs.declared.fault.LineFault.{LineFault}
 use Rattle.gm_file.specs.declared.fault.LineFault.TheVariants as line
 use Rattle.gm_file.specs.declared.fields.Fields.{Fields}
-use Rattle.gm_file.specs.DepLines.{AreDepLines, HasNextFault, IsNextLineOf}
+use Rattle.gm_file.specs.Private.DepLines.{AreDepLines, HasNextFault, IsNextLineOf}
 use Rattle.gm_file.specs.Directives.{Directive, DeclaresGo, DeclaresModule, Item, Kept, Silent, Opening, Saying, Lax, directive_in, directive_of, item_at, verb_in}
 use Rattle.gm_file.specs.Faults.{directive_kinds, item_kinds, opening_kinds, pair_kinds, path_kinds}
 use Rattle.gm_file.specs.Fields.{first}
-use Rattle.gm_file.specs.Holding.{AreFound, Holds, IsLineAdded}
-use Rattle.gm_file.specs.Reading.{IsRead}
-use Rattle.gm_file.specs.SimpleLines.{AreReadSofar, IsLineSaid, TakesSimple, require_item, single_item}
-use Rattle.gm_file.specs.Requirements.{Requirements}
+use Rattle.gm_file.specs.Private.Holding.{HaveIndexes, Holds, IsLineAdded}
+use Rattle.gm_file.specs.Private.Reading.{IsPartRead}
+use Rattle.gm_file.specs.Private.SimpleLines.{AreReadSofar, IsLineSaid, TakesSimple, require_item, single_item}
+use Rattle.gm_file.specs.Private.Requirements.{Requirements}
 use Rattle.gm_file.proofs.Arrows.{first-append}
 use Rattle.gm_file.proofs.DepReading.{dep-fault, dep-more, level-more, word_of}
 use Rattle.gm_file.proofs.Saying.{say-requirement}
@@ -31,7 +31,7 @@ use Rattle.gm_file.proofs.Saying.{say-requirement}
 -- it adds its path and its version, and its kinds are theirs
 pub require-added : (old : Fields) (now : Requirements) (path version : List ℕ) (result : Result (Unit {0}) LineFault)
     → OnOk result (now.items ≡ old.requirements.items ++ (path, version) ∷ [])
-    → IsRead {Y = Unit {0}} (λ _. (path, version)) WrongArguments pair_kinds (Some (path, version)) result
+    → IsPartRead {Y = Unit {0}} (λ _. (path, version)) WrongArguments pair_kinds (Some (path, version)) result
     → IsLineAdded Lax old (record old { requirements = now }) (require_item path version) result
 unfolding directive_of directive_kinds
 require-added old now path version (Ok u) items told = λ ds holds.
@@ -80,7 +80,7 @@ triple-refused lines path version suffix old takes opened so =
 
 module _ (lines : List (Line Word)) (path version : List ℕ) (words : List Word) (suffix : Option (List ℕ)) (old : DepLines)
     (item : item_at (word_of old.block, Entry words suffix) ≡ require_item path version) (so : AreDepLines lines old) where
-  requires-more : (fields : Fields) → AreFound fields → IsLineAdded Lax old.fields fields (require_item path version) (Ok tt) → AreDepLines (lines ++ Entry words suffix ∷ []) (record old { fields = fields })
+  requires-more : (fields : Fields) → HaveIndexes fields → IsLineAdded Lax old.fields fields (require_item path version) (Ok tt) → AreDepLines (lines ++ Entry words suffix ∷ []) (record old { fields = fields })
   requires-more fields found added =
       let here : Line Word = Entry words suffix in
       dep-more lines here (word_of old.block) old (record old { fields = fields }) so refl found
@@ -91,15 +91,15 @@ module _ (lines : List (Line Word)) (path version : List ℕ) (words : List Word
       dep-fault lines (Entry words suffix) (word_of old.block) old new fault so refl
       (subst (λ (i : Item). IsLineAdded Lax old.fields new i (Err fault)) (sym item) told)
 
-  pub entry-next : (fields : Fields) (result : Result (Unit {0}) LineFault) → OnOk result (AreFound fields) → IsLineAdded Lax old.fields fields (require_item path version) result
+  pub entry-next : (fields : Fields) (result : Result (Unit {0}) LineFault) → OnOk result (HaveIndexes fields) → IsLineAdded Lax old.fields fields (require_item path version) result
       → IsNextLineOf lines (Entry words suffix) (record old { fields = fields }) result
   entry-next fields (Ok u) found added = requires-more fields found added
   entry-next fields (Err fault) found told = requires-fault fields fault told
 
   -- a requirement is added, or refused
-  pub required-next : (now : Requirements) (result : Result (Unit {0}) LineFault) → AreFound old.fields
+  pub required-next : (now : Requirements) (result : Result (Unit {0}) LineFault) → HaveIndexes old.fields
       → OnOk result (now.items ≡ old.fields.requirements.items ++ (path, version) ∷ [])
-      → IsRead {Y = Unit {0}} (λ _. (path, version)) WrongArguments pair_kinds (Some (path, version)) result
+      → IsPartRead {Y = Unit {0}} (λ _. (path, version)) WrongArguments pair_kinds (Some (path, version)) result
       → IsNextLineOf lines (Entry words suffix) (record old { fields = record old.fields { requirements = now } }) result
   required-next now (Ok u) found items told =
       requires-more (record old.fields { requirements = now }) (record { excludes = found.excludes; replaces = found.replaces }) (require-added old.fields now path version (Ok u) items told)
@@ -126,14 +126,14 @@ pub single-nothing : (verb value : List ℕ) → bytes_eq verb (codes "module") 
 unfolding directive_of
 single-nothing verb value a b c = rw (a, b, c) refl
 
-pub single-bad : (old new : Fields) (verb value : List ℕ) (fault : LineFault) → bytes_eq verb (codes "module") ≡ true → IsRead {Y = List ℕ} (λ path. path) WrongArguments path_kinds (Some value) (Err fault)
+pub single-bad : (old new : Fields) (verb value : List ℕ) (fault : LineFault) → bytes_eq verb (codes "module") ≡ true → IsPartRead {Y = List ℕ} (λ path. path) WrongArguments path_kinds (Some value) (Err fault)
     → IsLineAdded Lax old new (single_item verb value) (Err fault)
 unfolding directive_of directive_kinds
 single-bad old new verb value line.NoMemory is told = tt
 single-bad old new verb value (line.Kind kind) is told = rw is (λ ds holds. first-append (path_kinds value) _ kind told)
 
 pub single-next : (lines : List (Line Word)) (verb value : List ℕ) (suffix : Option (List ℕ)) (old : DepLines) (new : Fields) (result : Result (Unit {0}) LineFault) → is_some old.block ≡ false → AreDepLines lines old
-    → OnOk result (AreFound new) → IsLineAdded Lax old.fields new (single_item verb value) result → IsNextLineOf lines (pair_line verb value suffix) (record old { fields = new }) result
+    → OnOk result (HaveIndexes new) → IsLineAdded Lax old.fields new (single_item verb value) result → IsNextLineOf lines (pair_line verb value suffix) (record old { fields = new }) result
 single-next lines verb value suffix old new (Ok u) none so found added =
     dep-more lines (pair_line verb value suffix) (word_of old.block) old (record old { fields = new }) so refl found
     (subst (λ (i : Item). IsLineAdded Lax old.fields new i (Ok tt)) (sym (pair-outside old.block verb value suffix none)) added) refl

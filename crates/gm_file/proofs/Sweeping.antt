@@ -9,7 +9,7 @@ use Rattle.std.specs.declared.cmp.Ordering.TheVariants.{Less}
 use Rattle.gm_name.specs.Version.{version_cmp}
 use Rattle.gm_file.specs.Directives.{VersionInterval}
 use Rattle.gm_file.specs.Shown.{holds_version, is_retracted, is_at_most, shown_of}
-use Rattle.gm_file.specs.Swept.{AreAllSwept, AreSorted, AreSwept, Ascend, is_reached}
+use Rattle.gm_file.specs.Private.Swept.{AreAllSwept, AreSorted, AreSwept, Ascend, is_reached}
 use Rattle.gm_file.proofs.Ascending.{upto_less, upto_trans}
 use Rattle.gm_name.proofs.Logic.{or-false}
 

@@ -11,7 +11,7 @@ use Rattle.gm_file.specs.Directives.{Mode, Strict, Lax, directives}
 use Rattle.gm_file.specs.Faults.{Fault, fault_of, first_of, missing_module}
 use Rattle.gm_file.specs.Fields.{Dependency, dependency_of, go_of, module_of}
 use Rattle.gm_file.specs.Held.{AreMainFields}
-use Rattle.gm_file.specs.Holding.{AreRead}
+use Rattle.gm_file.specs.Private.Holding.{AreRead}
 
 only-missing : (mode : Mode) (lines : List (Line Word)) (f : Fields) → AreRead mode lines f → fault_of mode lines ≡ missing_module mode (directives mode lines)
 unfolding fault_of

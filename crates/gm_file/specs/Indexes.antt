@@ -1,5 +1,5 @@
 -- How the indexes of a main file relate to its lines.
-use Rattle.std.specs.Prelude.{◌≡◌, ℕ, ◌⊎◌, ⊤, not, Bool, true, false, List, Option, Some, None, Result, Ok, Err}
+use Rattle.std.specs.Prelude.{◌≡◌, ℕ, not, Bool, false, List, Option, Some, None}
 use Rattle.std.specs.Option.{option_map}
 use Rattle.std.specs.List.{list_any}
 use Rattle.std.specs.Ordering.{nat_cmp}
@@ -8,9 +8,6 @@ use Rattle.std.specs.Cmp.Lexicographic.{slice_cmp}
 use Rattle.std.specs.BTreeSet as set
 use Rattle.std.specs.BTreeMap as map
 use Rattle.gm_name.specs.ModuleVersion.{ModuleVersion, pair_cmp, pair_eq}
-use Rattle.gm_file.specs.declared.fault.DirectiveKind.TheVariants.{ConflictingReplace}
-use Rattle.gm_file.specs.declared.fault.LineFault.{LineFault}
-use Rattle.gm_file.specs.declared.fault.LineFault.TheVariants as line
 use Rattle.gm_file.specs.declared.replace.Right as declared
 use Rattle.gm_file.specs.declared.replacements.Replacements.{Replacements}
 use Rattle.gm_file.specs.declared.exclusions.Exclusions.{Exclusions}
@@ -32,24 +29,6 @@ abbrev pub differs : Right → Option Right → Bool
 differs right None = false
 differs right (Some other) = not (is_same_right right other)
 
--- the key has this right side, newly inserted
-abbrev pub IsInserted : {K : Type 0} → (K → K → Ordering) → map.BTreeMap K declared.Right
-    → map.BTreeMap K declared.Right → K → Right → Type 0
-IsInserted cmp old new key right = (held : declared.Right) × (right_view held ≡ right)
-    × map.Updates cmp old new key (Some held)
-
--- the key has this right side, either from before or newly inserted; or this one is refused, since the key has a
--- different one
-abbrev pub IsNoted : {K : Type 0} → (K → K → Ordering) → map.BTreeMap K declared.Right → map.BTreeMap K declared.Right
-    → K → Right → Result (Unit {0}) LineFault → Type 0
-IsNoted cmp old new key right (Ok u) =
-    ((other : Right) × (right_at cmp old key ≡ Some other) × (is_same_right right other ≡ true)
-    × map.IsUnchanged old new)
-    ⊎ ((right_at cmp old key ≡ None) × IsInserted cmp old new key right)
-IsNoted cmp old new key right (Err line.NoMemory) = ⊤
-IsNoted cmp old new key right (Err (line.Kind kind)) = (kind ≡ ConflictingReplace)
-    × (differs right (right_at cmp old key) ≡ true)
-
 -- the maps have the right side of each left side in the lines, and a line conflicts with the lines if its right side
 -- differs from that
 pub record IndexLines (rs : List Replacing) (by_version : map.BTreeMap ModuleVersion declared.Right)
@@ -60,9 +39,3 @@ pub record IndexLines (rs : List Replacing) (by_version : map.BTreeMap ModuleVer
 
 abbrev pub AreIndexed : Replacements → Type 0
 AreIndexed r = IndexLines (replace_views r.lines.items) r.by_version r.by_path
-
--- unless memory runs out, the result is a conflict exactly if the replace conflicts with one of the lines
-abbrev pub ReportsConflict : Replacing → List Replacing → Result (Unit {0}) LineFault → Type 0
-ReportsConflict x lines (Ok u) = list_any (is_conflict x) lines ≡ false
-ReportsConflict x lines (Err line.NoMemory) = ⊤
-ReportsConflict x lines (Err (line.Kind kind)) = (kind ≡ ConflictingReplace) × (list_any (is_conflict x) lines ≡ true)

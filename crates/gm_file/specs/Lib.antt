@@ -1,3 +1,4 @@
+pub mod Private
 pub mod Values
 pub mod GoVersions
 pub mod Directives
@@ -5,20 +6,14 @@ pub mod Faults
 pub mod Fields
 pub mod Main
 pub mod Reading
-pub mod Names
-pub mod Requirements
 pub mod Views
 pub mod Held
 pub mod VerbViews
 pub mod DirectiveViews
 pub mod Indexes
-pub mod Holding
-pub mod Retracting
 pub mod BytesFaults
 pub mod Misreading
 pub mod DepLines
 pub mod Listed
-pub mod SimpleLines
 pub mod Shown
-pub mod Swept
 pub mod Pairwise

@@ -12,7 +12,7 @@ ghost use Rattle.gm_file.specs.Faults.{fault_of};
 ghost use Rattle.gm_file.specs.Fields.{dependency_of, lax_retracts_of};
 ghost use Rattle.gm_file.specs.Listed.{IsListedFrom};
 ghost use Rattle.gm_file.specs.Misreading.{IsBytesFault};
-ghost use Rattle.gm_file.specs.Names.{KeepsNames};
+ghost use Rattle.gm_file.specs.Private.Reading.{KeepsNames};
 ghost use Rattle.gm_file.specs.Views.{ReportsFault, interval_views};
 
 use crate::dep_lines::{DepLines, read_all, read_document};

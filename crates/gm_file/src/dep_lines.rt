@@ -8,12 +8,12 @@ ghost use Rattle.gm_syntax.specs.LineViews.{line_of, line_views, plain, plain_li
 ghost use Rattle.gm_syntax.specs.SimpleLines.{IsSimpleRead};
 ghost use Rattle.gm_syntax.specs.Tokens.{Placed};
 ghost use Rattle.gm_syntax.specs.Words.{Word};
-ghost use Rattle.gm_file.specs.DepLines.{AreAllRead, AreDepLines, HasNextFault, IsNextLineOf};
+ghost use Rattle.gm_file.specs.Private.DepLines.{AreAllRead, AreDepLines, HasNextFault, IsNextLineOf};
 ghost use Rattle.gm_file.specs.Directives.{Lax, block_after_line};
-ghost use Rattle.gm_file.specs.Holding.{AreFound};
+ghost use Rattle.gm_file.specs.Private.Holding.{HaveIndexes};
 ghost use Rattle.gm_file.specs.Misreading.{IsBytesFault};
-ghost use Rattle.gm_file.specs.Names.{KeepsNames};
-ghost use Rattle.gm_file.specs.SimpleLines.{AreReadSofar, IsLineSaid, TakesSimple};
+ghost use Rattle.gm_file.specs.Private.Reading.{KeepsNames};
+ghost use Rattle.gm_file.specs.Private.SimpleLines.{AreReadSofar, IsLineSaid, TakesSimple};
 ghost use Rattle.gm_file.specs.Views.{ReportsFault};
 
 use crate::fault::{DirectiveKind, FileFault, LineFault};
@@ -64,7 +64,7 @@ impl<'a> DepLines<'a> {
         requires { requirements.items ≡ [] }
         ensures before { result.fields.requirements.before ≡ requirements.before }
         ensures lines { AreDepLines [] result }
-        ensures found { AreFound result.fields }
+        ensures found { HaveIndexes result.fields }
     {
         DepLines {
             block: None,
@@ -79,10 +79,10 @@ impl<'a> DepLines<'a> {
         names: &mut KnownNames,
         line: &Line<'a>,
     ) -> Result<(), LineFault>
-        requires { AreFound self.old.fields }
+        requires { HaveIndexes self.old.fields }
         ensures kept { KeepsNames names.old names.new }
         ensures before { self.new.fields.requirements.before ≡ self.old.fields.requirements.before }
-        ensures found { OnOk result (AreFound self.new.fields) }
+        ensures found { OnOk result (HaveIndexes self.new.fields) }
         ensures read { (lines : List (LineOf Word)) → AreDepLines lines self.old
             → IsNextLineOf lines (plain (line_of line.now)) self.new result }
     {
@@ -107,12 +107,12 @@ impl<'a> DepLines<'a> {
     #[inline(always)]
     fn read_simple(&mut self, names: &mut KnownNames, line: SimpleLine<'a>) -> Result<(), LineFault>
         requires block { TakesSimple self.old }
-        requires found { AreFound self.old.fields }
+        requires found { HaveIndexes self.old.fields }
         ensures kept { KeepsNames names.old names.new }
         ensures block { (lines : List (LineOf Placed)) (left : Unread)
             → IsSimpleRead left lines (codes "require") line.entry → OnOk result (TakesSimple self.new) }
         ensures before { self.new.fields.requirements.before ≡ self.old.fields.requirements.before }
-        ensures found { OnOk result (AreFound self.new.fields) }
+        ensures found { OnOk result (HaveIndexes self.new.fields) }
         ensures read { (lines : List (LineOf Placed)) (left : Unread) → AreDepLines (plain_lines lines) self.old
             → IsSimpleRead left lines (codes "require") line.entry → IsLineSaid left lines self.new result }
     {
@@ -162,11 +162,11 @@ fn read_simple_lines<'a>(
     reader: &mut LineReader<'a>,
     said: &mut DepLines<'a>,
 ) -> Result<(), BytesFault>
-    requires found { AreFound said.old.fields }
+    requires found { HaveIndexes said.old.fields }
     requires read { AreReadSofar reader.old said.old }
     ensures kept { KeepsNames names.old names.new }
     ensures before { said.new.fields.requirements.before ≡ said.old.fields.requirements.before }
-    ensures found { OnOk result (AreFound said.new.fields) }
+    ensures found { OnOk result (HaveIndexes said.new.fields) }
     ensures read { OnOk result (AreReadSofar reader.new said.new) }
     ensures source { OnOk result (reader.new.source ≡ reader.old.source) }
     ensures no_longer { OnOk result (length reader.new.rest ≤ length reader.old.rest) }
@@ -193,7 +193,7 @@ pub(crate) fn read_all<'a>(
 ) -> Result<(), BytesFault>
     requires start { HasRead reader.old [] }
     requires lines { AreDepLines [] said.old }
-    requires found { AreFound said.old.fields }
+    requires found { HaveIndexes said.old.fields }
     ensures kept { KeepsNames names.old names.new }
     ensures before { said.new.fields.requirements.before ≡ said.old.fields.requirements.before }
     ensures ok { OnOk result (AreAllRead reader.old.source said.new) }
@@ -220,7 +220,7 @@ pub(crate) fn read_document<'a>(
     said: &mut DepLines<'a>,
 ) -> Result<(), FileFault>
     requires lines { AreDepLines [] said.old }
-    requires found { AreFound said.old.fields }
+    requires found { HaveIndexes said.old.fields }
     ensures kept { KeepsNames names.old names.new }
     ensures before { said.new.fields.requirements.before ≡ said.old.fields.requirements.before }
     ensures ok { OnOk result (AreDepLines (plain_lines (line_views lines.now)) said.new) }

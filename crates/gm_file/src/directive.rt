@@ -5,8 +5,8 @@ ghost use Rattle.gm_syntax.specs.LineViews.{line_of, plain};
 ghost use Rattle.gm_syntax.specs.Tokens.{words_of};
 ghost use Rattle.gm_file.specs.Directives.{directive_of, item_at, one_of, Opening, Saying};
 ghost use Rattle.gm_file.specs.Faults.{path_kinds, malformed_entry_kind};
-ghost use Rattle.gm_file.specs.Names.{KeepsNames};
-ghost use Rattle.gm_file.specs.Reading.{IsRead, own_kinds};
+ghost use Rattle.gm_file.specs.Private.Reading.{KeepsNames, IsPartRead};
+ghost use Rattle.gm_file.specs.Reading.{own_kinds};
 ghost use Rattle.gm_file.specs.DirectiveViews.{IsLineRead, directive_view};
 ghost use Rattle.gm_file.specs.VerbViews.{mode_view};
 
@@ -42,7 +42,7 @@ pub enum Directive {
 /// The path of a `module` entry with these arguments.
 fn read_module(alloc: Global, names: &mut KnownNames, words: &[Token]) -> Result<ModPath, LineFault>
     ensures kept { KeepsNames names.old names.new }
-    ensures read { IsRead (λ path. path) DirectiveKind.WrongArguments path_kinds (one_of (words_of words.now)) result }
+    ensures read { IsPartRead (λ path. path) DirectiveKind.WrongArguments path_kinds (one_of (words_of words.now)) result }
 {
     let path = borrowed_one(alloc, words)?;
     read_path(names, path.as_str())
@@ -57,7 +57,7 @@ fn read_entry(
     words: &[Token],
 ) -> Result<Directive, LineFault>
     ensures kept { KeepsNames names.old names.new }
-    ensures read { IsRead directive_view (malformed_entry_kind verb) own_kinds
+    ensures read { IsPartRead directive_view (malformed_entry_kind verb) own_kinds
         (directive_of verb (words_of words.now)) result }
 {
     match verb {

@@ -1,7 +1,8 @@
 //! The faults of directives, lines and files.
 
 ghost use Rattle.std.specs.Prelude.{◌≡◌};
-ghost use Rattle.gm_file.specs.Views.{file_fault_at, of_pair_fault, of_path_fault, of_version_fault};
+ghost use Rattle.gm_file.specs.Views.{of_pair_fault, of_path_fault, of_version_fault};
+ghost use Rattle.gm_file.specs.Private.Reading.{file_fault_at};
 ghost use Rattle.gm_file.specs.declared.fault.FileFault.TheVariants as file;
 ghost use Rattle.gm_file.specs.declared.fault.LineFault.TheVariants as line;
 

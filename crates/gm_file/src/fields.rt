@@ -7,10 +7,10 @@ ghost use Rattle.gm_syntax.specs.LineViews.{line_of, line_views, plain, plain_li
 ghost use Rattle.gm_file.specs.Directives.{Mode as ModeOf, Strict, Lax, DeclaresGo, DeclaresModule, block_after_line, item_at};
 ghost use Rattle.gm_file.specs.DirectiveViews.{directive_view};
 ghost use Rattle.gm_file.specs.Faults.{go_in, path_kinds};
-ghost use Rattle.gm_file.specs.Holding.{AreFound, AreRead, Holds, IsAdded, IsLineAdded};
-ghost use Rattle.gm_file.specs.Names.{KeepsNames};
+ghost use Rattle.gm_file.specs.Private.Holding.{HaveIndexes, AreRead, Holds, IsAdded, IsLineAdded};
+ghost use Rattle.gm_file.specs.Private.Reading.{KeepsNames};
 ghost use Rattle.gm_file.specs.Reading.{own_kinds};
-ghost use Rattle.gm_file.specs.SimpleLines.{single_item};
+ghost use Rattle.gm_file.specs.Private.SimpleLines.{single_item};
 ghost use Rattle.gm_file.specs.VerbViews.{mode_view};
 ghost use Rattle.gm_file.specs.Views.{ReportsFault};
 
@@ -60,7 +60,7 @@ impl Fields {
         requires { requirements.items ≡ [] }
         ensures before { result.requirements.before ≡ requirements.before }
         ensures holds { (mode : ModeOf) → Holds mode [] result }
-        ensures found { AreFound result }
+        ensures found { HaveIndexes result }
     {
         Fields {
             declared: None,
@@ -76,7 +76,7 @@ impl Fields {
     pub(crate) fn new(alloc: Global) -> Fields
         ensures own { result.requirements.before ≡ None }
         ensures holds { (mode : ModeOf) → Holds mode [] result }
-        ensures found { AreFound result }
+        ensures found { HaveIndexes result }
     {
         Fields::over(alloc, Required::own(Vec::new(alloc)))
     }
@@ -84,9 +84,9 @@ impl Fields {
     /// Adds the path of a `module` directive. A second one is refused with `Repeated`.
     fn add_module(&mut self, path: ModPath) -> Result<(), LineFault>
         requires early { path_kinds path ≡ [] }
-        requires found { AreFound self.old }
+        requires found { HaveIndexes self.old }
         ensures before { self.new.requirements.before ≡ self.old.requirements.before }
-        ensures found { OnOk result (AreFound self.new) }
+        ensures found { OnOk result (HaveIndexes self.new) }
         ensures added { (mode : ModeOf) → IsAdded mode self.old self.new (DeclaresModule path) result }
     {
         if self.declared.is_some() {
@@ -99,9 +99,9 @@ impl Fields {
     /// Adds the version of a `go` directive. A second one is refused with `Repeated`, whatever its version, and then an
     /// invalid version with `BadGo`.
     fn add_go(&mut self, mode: Mode, text: &str) -> Result<(), LineFault>
-        requires found { AreFound self.old }
+        requires found { HaveIndexes self.old }
         ensures before { self.new.requirements.before ≡ self.old.requirements.before }
-        ensures found { OnOk result (AreFound self.new) }
+        ensures found { OnOk result (HaveIndexes self.new) }
         ensures added { IsAdded (mode_view mode) self.old self.new (DeclaresGo text.now) result }
     {
         if self.go.is_some() {
@@ -118,9 +118,9 @@ impl Fields {
     /// also if it is invalid, and any directive with `NoMemory` if memory runs out.
     fn add(&mut self, alloc: Global, mode: Mode, directive: Directive) -> Result<(), LineFault>
         requires early { own_kinds (directive_view directive) ≡ [] }
-        requires found { AreFound self.old }
+        requires found { HaveIndexes self.old }
         ensures before { self.new.requirements.before ≡ self.old.requirements.before }
-        ensures found { OnOk result (AreFound self.new) }
+        ensures found { OnOk result (HaveIndexes self.new) }
         ensures added { IsAdded (mode_view mode) self.old self.new (directive_view directive) result }
     {
         match directive {
@@ -148,10 +148,10 @@ impl Fields {
         verb: &str,
         value: &str,
     ) -> Result<(), LineFault>
-        requires { AreFound self.old }
+        requires { HaveIndexes self.old }
         ensures kept { KeepsNames names.old names.new }
         ensures before { self.new.requirements.before ≡ self.old.requirements.before }
-        ensures found { OnOk result (AreFound self.new) }
+        ensures found { OnOk result (HaveIndexes self.new) }
         ensures added { IsLineAdded Lax self.old self.new (single_item verb.now value.now) result }
     {
         if verb == "module" {
@@ -176,10 +176,10 @@ impl Fields {
         block: Option<&Token>,
         line: &Line,
     ) -> Result<(), LineFault>
-        requires { AreFound self.old }
+        requires { HaveIndexes self.old }
         ensures kept { KeepsNames names.old names.new }
         ensures before { self.new.requirements.before ≡ self.old.requirements.before }
-        ensures found { OnOk result (AreFound self.new) }
+        ensures found { OnOk result (HaveIndexes self.new) }
         ensures added { IsLineAdded (mode_view mode) self.old self.new
             (item_at (option_map (λ t. t.now.word) block.entry, plain (line_of line.now))) result }
     {

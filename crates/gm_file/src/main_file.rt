@@ -6,7 +6,7 @@ ghost use Rattle.gm_syntax.specs.LineViews.{plain_lines};
 ghost use Rattle.gm_file.specs.Directives.{Strict};
 ghost use Rattle.gm_file.specs.Faults.{fault_of};
 ghost use Rattle.gm_file.specs.Fields.{module_of, retracts_of};
-ghost use Rattle.gm_file.specs.Holding.{AreRead};
+ghost use Rattle.gm_file.specs.Private.Holding.{AreRead};
 ghost use Rattle.gm_file.specs.Main.{IsMainOf, is_excluded, is_pruned_by, main_of, replacement_in};
 ghost use Rattle.gm_file.specs.Misreading.{IsBytesFault};
 ghost use Rattle.gm_file.specs.Views.{ReportsFault, interval_views, replace_views, right_view};

@@ -7,11 +7,10 @@ ghost use Rattle.std.specs.Cow.{cow_str_bytes};
 ghost use Rattle.std.specs.String.{string_bytes};
 ghost use Rattle.gm_syntax.specs.Tokens.{words_of};
 ghost use Rattle.gm_syntax.specs.Values.{value_of};
-ghost use Rattle.gm_file.specs.Names.{KeepsNames};
+ghost use Rattle.gm_file.specs.Private.Reading.{KeepsNames, IsPartRead, no_kinds};
 ghost use Rattle.gm_file.specs.Values.{argument, both};
 ghost use Rattle.gm_file.specs.Directives.{ends_of, is_empty_block, one_of, pair, pair_of};
 ghost use Rattle.gm_file.specs.Faults.{ends_kinds, pair_kinds, path_kinds, version_kinds};
-ghost use Rattle.gm_file.specs.Reading.{IsRead, no_kinds};
 ghost use Rattle.gm_file.specs.Views.{interval_view};
 
 use crate::fault::{DirectiveKind, LineFault};
@@ -32,7 +31,7 @@ fn borrowed_value<'w>(alloc: Global, word: &'w Token) -> Result<CowStr<'w>, Line
 /// The value of an argument, borrowed if it has no escapes. Punctuation is not an argument and is refused with
 /// `WrongArguments`.
 fn borrowed_argument<'w>(alloc: Global, word: &'w Token) -> Result<CowStr<'w>, LineFault>
-    ensures { IsRead cow_str_bytes DirectiveKind.WrongArguments no_kinds (argument word.now.word) result }
+    ensures { IsPartRead cow_str_bytes DirectiveKind.WrongArguments no_kinds (argument word.now.word) result }
 {
     match word.kind() {
         Kind::Bare => borrowed_value(alloc, word),
@@ -43,7 +42,7 @@ fn borrowed_argument<'w>(alloc: Global, word: &'w Token) -> Result<CowStr<'w>, L
 
 /// A copy of the value of an argument. Punctuation is refused with `WrongArguments`.
 pub(crate) fn argument(alloc: Global, word: &Token) -> Result<String, LineFault>
-    ensures { IsRead string_bytes DirectiveKind.WrongArguments no_kinds (argument word.now.word) result }
+    ensures { IsPartRead string_bytes DirectiveKind.WrongArguments no_kinds (argument word.now.word) result }
 {
     Ok(borrowed_argument(alloc, word)?.into_owned(alloc)?)
 }
@@ -51,7 +50,7 @@ pub(crate) fn argument(alloc: Global, word: &Token) -> Result<String, LineFault>
 /// The value of the only argument, borrowed if it has no escapes. Any other number of words is refused with
 /// `WrongArguments`.
 pub(crate) fn borrowed_one<'w>(alloc: Global, words: &'w [Token]) -> Result<CowStr<'w>, LineFault>
-    ensures { IsRead cow_str_bytes DirectiveKind.WrongArguments no_kinds (one_of (words_of words.now)) result }
+    ensures { IsPartRead cow_str_bytes DirectiveKind.WrongArguments no_kinds (one_of (words_of words.now)) result }
 {
     match words {
         [word] => borrowed_argument(alloc, word),
@@ -61,7 +60,7 @@ pub(crate) fn borrowed_one<'w>(alloc: Global, words: &'w [Token]) -> Result<CowS
 
 /// A copy of the value of the only argument.
 pub(crate) fn one_value(alloc: Global, words: &[Token]) -> Result<String, LineFault>
-    ensures { IsRead string_bytes DirectiveKind.WrongArguments no_kinds (one_of (words_of words.now)) result }
+    ensures { IsPartRead string_bytes DirectiveKind.WrongArguments no_kinds (one_of (words_of words.now)) result }
 {
     Ok(borrowed_one(alloc, words)?.into_owned(alloc)?)
 }
@@ -69,7 +68,7 @@ pub(crate) fn one_value(alloc: Global, words: &[Token]) -> Result<String, LineFa
 /// The module path that a text spells. Any other text is refused with `BadPath`.
 pub(crate) fn read_path(names: &mut KnownNames, text: &str) -> Result<ModPath, LineFault>
     ensures kept { KeepsNames names.old names.new }
-    ensures read { IsRead (λ path. path) DirectiveKind.WrongArguments path_kinds (Some text.now) result }
+    ensures read { IsPartRead (λ path. path) DirectiveKind.WrongArguments path_kinds (Some text.now) result }
 {
     Ok(names.path(text)?)
 }
@@ -77,7 +76,7 @@ pub(crate) fn read_path(names: &mut KnownNames, text: &str) -> Result<ModPath, L
 /// The canonical version that a text spells. Any other text is refused with `BadVersion`.
 pub(crate) fn read_version(names: &mut KnownNames, text: &str) -> Result<ModVersion, LineFault>
     ensures kept { KeepsNames names.old names.new }
-    ensures read { IsRead (λ version. version) DirectiveKind.WrongArguments version_kinds (Some text.now) result }
+    ensures read { IsPartRead (λ version. version) DirectiveKind.WrongArguments version_kinds (Some text.now) result }
 {
     Ok(names.version(text)?)
 }
@@ -90,7 +89,7 @@ pub(crate) fn pair_of_texts(
     version: &str,
 ) -> Result<ModVer, LineFault>
     ensures kept { KeepsNames names.old names.new }
-    ensures read { IsRead (λ pair. pair) DirectiveKind.WrongArguments pair_kinds (Some (path.now, version.now)) result }
+    ensures read { IsPartRead (λ pair. pair) DirectiveKind.WrongArguments pair_kinds (Some (path.now, version.now)) result }
 {
     Ok(names.pair(path, version)?)
 }
@@ -103,7 +102,7 @@ fn pair_of_words(
     version: &Token,
 ) -> Result<ModVer, LineFault>
     ensures kept { KeepsNames names.old names.new }
-    ensures read { IsRead (λ pair. pair) DirectiveKind.WrongArguments pair_kinds
+    ensures read { IsPartRead (λ pair. pair) DirectiveKind.WrongArguments pair_kinds
         (both pair (argument path.now.word) (argument version.now.word)) result }
 {
     let path = borrowed_argument(alloc, path)?;
@@ -119,7 +118,7 @@ pub(crate) fn read_pair(
     words: &[Token],
 ) -> Result<ModVer, LineFault>
     ensures kept { KeepsNames names.old names.new }
-    ensures read { IsRead (λ pair. pair) DirectiveKind.WrongArguments pair_kinds (pair_of (words_of words.now)) result }
+    ensures read { IsPartRead (λ pair. pair) DirectiveKind.WrongArguments pair_kinds (pair_of (words_of words.now)) result }
 {
     match words {
         [path, version] => pair_of_words(alloc, names, path, version),
@@ -134,7 +133,7 @@ pub(crate) fn interval_of_texts(
     high: &str,
 ) -> Result<Interval, LineFault>
     ensures kept { KeepsNames names.old names.new }
-    ensures read { IsRead interval_view DirectiveKind.WrongArguments ends_kinds (Some (low.now, high.now)) result }
+    ensures read { IsPartRead interval_view DirectiveKind.WrongArguments ends_kinds (Some (low.now, high.now)) result }
 {
     let low = read_version(names, low)?;
     let high = read_version(names, high)?;
@@ -159,7 +158,7 @@ fn single_interval(
     version: &Token,
 ) -> Result<Interval, LineFault>
     ensures kept { KeepsNames names.old names.new }
-    ensures read { IsRead interval_view DirectiveKind.WrongArguments ends_kinds
+    ensures read { IsPartRead interval_view DirectiveKind.WrongArguments ends_kinds
         (option_map (λ w. pair w w) (argument version.now.word)) result }
 {
     let text = borrowed_argument(alloc, version)?;
@@ -174,7 +173,7 @@ fn interval_between(
     high: &Token,
 ) -> Result<Interval, LineFault>
     ensures kept { KeepsNames names.old names.new }
-    ensures read { IsRead interval_view DirectiveKind.WrongArguments ends_kinds
+    ensures read { IsPartRead interval_view DirectiveKind.WrongArguments ends_kinds
         (both pair (argument low.now.word) (argument high.now.word)) result }
 {
     let low = borrowed_argument(alloc, low)?;
@@ -190,7 +189,7 @@ pub(crate) fn read_interval(
     words: &[Token],
 ) -> Result<Interval, LineFault>
     ensures kept { KeepsNames names.old names.new }
-    ensures read { IsRead interval_view DirectiveKind.WrongArguments ends_kinds (ends_of (words_of words.now)) result }
+    ensures read { IsPartRead interval_view DirectiveKind.WrongArguments ends_kinds (ends_of (words_of words.now)) result }
 {
     match words {
         [version] => single_interval(alloc, names, version),

@@ -6,7 +6,8 @@ ghost use Rattle.std.specs.Option.{option_map};
 ghost use Rattle.gm_name.specs.Names.{does_fit};
 ghost use Rattle.gm_file.specs.Faults.{does_left_fit};
 ghost use Rattle.gm_file.specs.Fields.{replacement_of};
-ghost use Rattle.gm_file.specs.Indexes.{AreIndexed, IndexLines, IsInserted, IsNoted, ReportsConflict};
+ghost use Rattle.gm_file.specs.Indexes.{AreIndexed, IndexLines};
+ghost use Rattle.gm_file.specs.Private.Indexes.{IsInserted, IsNoted, ReportsConflict};
 ghost use Rattle.gm_file.specs.Views.{replace_view, replace_views, right_view};
 
 use crate::fault::{DirectiveKind, LineFault};

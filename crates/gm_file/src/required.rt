@@ -4,8 +4,7 @@ ghost use Rattle.std.specs.Prelude.{◌≡◌, ◌++◌, ◌∷◌, [], None, Ok
 ghost use Rattle.gm_name.specs.Readings.{PairReading};
 ghost use Rattle.gm_name_table.specs.Listed.{Appends, NumberedList};
 ghost use Rattle.gm_file.specs.Faults.{pair_kinds};
-ghost use Rattle.gm_file.specs.Names.{KeepsNames};
-ghost use Rattle.gm_file.specs.Reading.{IsRead};
+ghost use Rattle.gm_file.specs.Private.Reading.{KeepsNames, IsPartRead};
 
 use crate::fault::{DirectiveKind, LineFault};
 use crate::list_before::ListBefore;
@@ -36,7 +35,7 @@ pub(crate) struct Required {
 }
 
 impl Model for Required {
-    ghost use Rattle.gm_file.specs.Requirements.{IsGrownList, Requirements, items_in};
+    ghost use Rattle.gm_file.specs.Private.Requirements.{IsGrownList, Requirements, items_in};
 
     ghost Value = { Requirements };
 
@@ -108,7 +107,7 @@ impl Required {
         ensures kept { KeepsNames names.old names.new }
         ensures before { self.new.before ≡ self.old.before }
         ensures items { OnOk result (self.new.items ≡ self.old.items ++ (path.now, version.now) ∷ []) }
-        ensures read { IsRead (λ _. (path.now, version.now)) DirectiveKind.WrongArguments pair_kinds
+        ensures read { IsPartRead (λ _. (path.now, version.now)) DirectiveKind.WrongArguments pair_kinds
             (Some (path.now, version.now)) result }
     {
         if self.push_known(path, version)? {

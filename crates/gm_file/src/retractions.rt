@@ -12,8 +12,8 @@ ghost use Rattle.gm_file.specs.DepLines.{AreRetractedIn};
 ghost use Rattle.gm_file.specs.Directives.{Lax, item_at};
 ghost use Rattle.gm_file.specs.Fields.{lax_retracts_of};
 ghost use Rattle.gm_file.specs.Misreading.{IsBytesFault};
-ghost use Rattle.gm_file.specs.Names.{KeepsNames};
-ghost use Rattle.gm_file.specs.Retracting.{AreRetractionsOf, IsEntryRead, retraction_at, retraction_in};
+ghost use Rattle.gm_file.specs.Private.Reading.{KeepsNames};
+ghost use Rattle.gm_file.specs.Private.Retracting.{AreRetractionsOf, IsEntryRead, retraction_at, retraction_in};
 ghost use Rattle.gm_file.specs.Views.{interval_view, interval_views};
 
 use crate::dep_lines::pass_line;

@@ -7,11 +7,11 @@ ghost use Rattle.std.specs.List.{after_first, before_first};
 ghost use Rattle.std.specs.String.{string_bytes};
 ghost use Rattle.gm_syntax.specs.Tokens.{words_of};
 ghost use Rattle.gm_file.specs.Directives.{folder_right, is_arrow, left_of, left_with, left_without, module_right, pair, replacing, replacing_of, right_of, Folder, Module};
-ghost use Rattle.gm_file.specs.Names.{KeepsNames};
+ghost use Rattle.gm_file.specs.Private.Reading.{KeepsNames, IsPartRead, no_kinds, left_text_view, right_text_view};
 ghost use Rattle.gm_file.specs.Values.{argument, both};
 ghost use Rattle.gm_file.specs.Faults.{does_left_fit, left_version_kinds};
-ghost use Rattle.gm_file.specs.Reading.{IsRead, no_kinds, replacing_kinds};
-ghost use Rattle.gm_file.specs.Views.{left_text_view, replace_view, right_text_view};
+ghost use Rattle.gm_file.specs.Reading.{replacing_kinds};
+ghost use Rattle.gm_file.specs.Views.{replace_view};
 
 use crate::fault::{DirectiveKind, LineFault};
 use crate::part::{argument, read_path, read_version};
@@ -60,7 +60,7 @@ fn split_at_arrow<'w, 'a>(words: &'w [Token<'a>]) -> Option<(&'w [Token<'a>], &'
 
 /// The text of a left side without a version.
 fn left_path(alloc: Global, path: &Token) -> Result<LeftText, LineFault>
-    ensures { IsRead left_text_view DirectiveKind.WrongArguments no_kinds
+    ensures { IsPartRead left_text_view DirectiveKind.WrongArguments no_kinds
         (option_map left_without (argument path.now.word)) result }
 {
     let path = argument(alloc, path)?;
@@ -76,7 +76,7 @@ fn left_path_and_version(
     path: &Token,
     version: &Token,
 ) -> Result<LeftText, LineFault>
-    ensures { IsRead left_text_view DirectiveKind.WrongArguments no_kinds
+    ensures { IsPartRead left_text_view DirectiveKind.WrongArguments no_kinds
         (both left_with (argument path.now.word) (argument version.now.word)) result }
 {
     let path = argument(alloc, path)?;
@@ -89,7 +89,7 @@ fn left_path_and_version(
 
 /// The texts of the left side: a path, or a path and a version. Other words are refused with `WrongArguments`.
 fn left_text(alloc: Global, words: &[Token]) -> Result<LeftText, LineFault>
-    ensures { IsRead left_text_view DirectiveKind.WrongArguments no_kinds (left_of (words_of words.now)) result }
+    ensures { IsPartRead left_text_view DirectiveKind.WrongArguments no_kinds (left_of (words_of words.now)) result }
 {
     match words {
         [path] => left_path(alloc, path),
@@ -100,7 +100,7 @@ fn left_text(alloc: Global, words: &[Token]) -> Result<LeftText, LineFault>
 
 /// The text of a right side that is a folder. A module path without a version is refused with `WrongArguments`.
 fn right_folder(alloc: Global, folder: &Token) -> Result<RightText, LineFault>
-    ensures { IsRead right_text_view DirectiveKind.WrongArguments no_kinds
+    ensures { IsPartRead right_text_view DirectiveKind.WrongArguments no_kinds
         (option_and_then folder_right (argument folder.now.word)) result }
 {
     let text = argument(alloc, folder)?;
@@ -112,7 +112,7 @@ fn right_folder(alloc: Global, folder: &Token) -> Result<RightText, LineFault>
 
 /// The texts of a right side that is a module. A folder with a version is refused with `WrongArguments`.
 fn right_module(alloc: Global, path: &Token, version: &Token) -> Result<RightText, LineFault>
-    ensures { IsRead right_text_view DirectiveKind.WrongArguments no_kinds
+    ensures { IsPartRead right_text_view DirectiveKind.WrongArguments no_kinds
         (option_and_then (λ p. module_right p.0 p.1) (both pair (argument path.now.word) (argument version.now.word)))
         result }
 {
@@ -127,7 +127,7 @@ fn right_module(alloc: Global, path: &Token, version: &Token) -> Result<RightTex
 /// The texts of the right side: a folder alone, or a module path with a version. Other words are refused with
 /// `WrongArguments`.
 fn right_text(alloc: Global, words: &[Token]) -> Result<RightText, LineFault>
-    ensures { IsRead right_text_view DirectiveKind.WrongArguments no_kinds (right_of (words_of words.now)) result }
+    ensures { IsPartRead right_text_view DirectiveKind.WrongArguments no_kinds (right_of (words_of words.now)) result }
 {
     match words {
         [folder] => right_folder(alloc, folder),
@@ -142,7 +142,7 @@ fn read_left_version(
     version: &Option<String>,
 ) -> Result<Option<ModVersion>, LineFault>
     ensures kept { KeepsNames names.old names.new }
-    ensures read { IsRead (λ version. version) DirectiveKind.WrongArguments left_version_kinds
+    ensures read { IsPartRead (λ version. version) DirectiveKind.WrongArguments left_version_kinds
         (Some (option_map string_bytes version.now)) result }
 {
     match version {
@@ -169,7 +169,7 @@ fn replace_by_folder(
     folder: String,
 ) -> Result<Replace, LineFault>
     ensures kept { KeepsNames names.old names.new }
-    ensures read { IsRead replace_view DirectiveKind.WrongArguments replacing_kinds
+    ensures read { IsPartRead replace_view DirectiveKind.WrongArguments replacing_kinds
         (Some (replacing (left_text_view left.now) (Folder (string_bytes folder)))) result }
 {
     let path = read_path(names, left.path.as_str())?;
@@ -193,7 +193,7 @@ fn replace_by_module(
     version: &str,
 ) -> Result<Replace, LineFault>
     ensures kept { KeepsNames names.old names.new }
-    ensures read { IsRead replace_view DirectiveKind.WrongArguments replacing_kinds
+    ensures read { IsPartRead replace_view DirectiveKind.WrongArguments replacing_kinds
         (Some (replacing (left_text_view left.now) (Module path.now version.now))) result }
 {
     let left_path = read_path(names, left.path.as_str())?;
@@ -217,7 +217,7 @@ fn replace_of_texts(
     right: RightText,
 ) -> Result<Replace, LineFault>
     ensures kept { KeepsNames names.old names.new }
-    ensures read { IsRead replace_view DirectiveKind.WrongArguments replacing_kinds
+    ensures read { IsPartRead replace_view DirectiveKind.WrongArguments replacing_kinds
         (Some (replacing (left_text_view left.now) (right_text_view right))) result }
 {
     match right {
@@ -236,7 +236,7 @@ pub(crate) fn read_replace(
     words: &[Token],
 ) -> Result<Replace, LineFault>
     ensures kept { KeepsNames names.old names.new }
-    ensures read { IsRead replace_view DirectiveKind.WrongArguments replacing_kinds
+    ensures read { IsPartRead replace_view DirectiveKind.WrongArguments replacing_kinds
         (replacing_of (words_of words.now)) result }
 {
     let Some((before, after)) = split_at_arrow(words) else {

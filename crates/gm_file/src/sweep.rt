@@ -5,7 +5,7 @@
 ghost use Rattle.std.specs.Prelude.{◌≡◌, ◌||◌, ℕ, List, IfOk, option_map};
 ghost use Rattle.gm_file.specs.Views.{interval_views};
 ghost use Rattle.gm_file.specs.Shown.{is_at_most};
-ghost use Rattle.gm_file.specs.Swept.{AreAllSwept, AreSorted, AreSwept, is_reached, ends_views};
+ghost use Rattle.gm_file.specs.Private.Swept.{AreAllSwept, AreSorted, AreSwept, is_reached, ends_views};
 
 use crate::replace::Interval;
 use gm_name::{BorrowedVersion, ModVersion, NoMemory};

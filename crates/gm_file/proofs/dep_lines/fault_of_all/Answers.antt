@@ -4,7 +4,7 @@ use Rattle.gm_file.specs.declared.misreading.BytesFault.{BytesFault}
 use Rattle.gm_file.specs.BytesFaults.{fault_by_file}
 use Rattle.gm_file.specs.Directives.{Lax}
 use Rattle.gm_file.specs.Misreading.{IsBytesFault}
-use Rattle.gm_file.specs.Views.{file_fault_at}
+use Rattle.gm_file.specs.Private.Reading.{file_fault_at}
 use Rattle.gm_file.proofs.DepReading.{misread-line, misread-text}
 use Rattle.gm_file.proofs.dep_lines.fault_of_all.Goals as goal
 

@@ -1,7 +1,7 @@
 use Rattle.std.proofs.Common.{◌∙◌, ap, subst, sym}
 use Rattle.gm_syntax.specs.LineReading.{Unread}
 use Rattle.gm_syntax.specs.LineViews.{line_of, plain_lines}
-use Rattle.gm_file.specs.SimpleLines.{AreReadSofar}
+use Rattle.gm_file.specs.Private.SimpleLines.{AreReadSofar}
 use Rattle.gm_file.proofs.Keeping.{keeps_both}
 use Rattle.gm_file.proofs.SimpleLines.{sofar-more}
 use Rattle.gm_file.proofs.dep_lines.read_all.Goals as goal

@@ -1,7 +1,7 @@
 use Rattle.std.proofs.Common.{◌≡◌, length}
-use Rattle.gm_file.specs.Holding.{AreFound}
-use Rattle.gm_file.specs.Names.{KeepsNames}
-use Rattle.gm_file.specs.SimpleLines.{AreReadSofar}
+use Rattle.gm_file.specs.Private.Holding.{HaveIndexes}
+use Rattle.gm_file.specs.Private.Reading.{KeepsNames}
+use Rattle.gm_file.specs.Private.SimpleLines.{AreReadSofar}
 use Rattle.gm_file.proofs.dep_lines.read_all.Given as goal
 
 abbrev pub invariant-loop-reader : goal.invariant-loop-reader
@@ -9,7 +9,7 @@ invariant-loop-reader l = record {
   kept : KeepsNames l.initial.names l.names;
   source : l.reader.source ≡ l.initial.reader.source;
   before : l.said.fields.requirements.before ≡ l.initial.said.fields.requirements.before;
-  found : AreFound l.said.fields;
+  found : HaveIndexes l.said.fields;
   read : AreReadSofar l.reader l.said;
 }
 

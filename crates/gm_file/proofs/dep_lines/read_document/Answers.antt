@@ -3,7 +3,8 @@ use Rattle.gm_syntax.specs.Document.{Line}
 use Rattle.gm_syntax.specs.LineViews.{line_views, plain_lines}
 use Rattle.gm_syntax.specs.Words.{Word}
 use Rattle.gm_file.specs.Directives.{Lax}
-use Rattle.gm_file.specs.Views.{ReportsFault, file_fault_at}
+use Rattle.gm_file.specs.Views.{ReportsFault}
+use Rattle.gm_file.specs.Private.Reading.{file_fault_at}
 use Rattle.gm_file.proofs.Keeping.{keeps_both}
 use Rattle.gm_file.proofs.Lines.{length-before, lines-all, lines-next, lines-split}
 use Rattle.gm_file.proofs.dep_lines.read_document.Goals as goal

@@ -1,7 +1,7 @@
 use Rattle.std.proofs.Common.{◌≡◌, ◌≤◌, length}
-use Rattle.gm_file.specs.Holding.{AreFound}
-use Rattle.gm_file.specs.Names.{KeepsNames}
-use Rattle.gm_file.specs.SimpleLines.{AreReadSofar, TakesSimple}
+use Rattle.gm_file.specs.Private.Holding.{HaveIndexes}
+use Rattle.gm_file.specs.Private.Reading.{KeepsNames}
+use Rattle.gm_file.specs.Private.SimpleLines.{AreReadSofar, TakesSimple}
 use Rattle.gm_file.proofs.dep_lines.read_simple_lines.Given as goal
 
 abbrev pub invariant-loop-line : goal.invariant-loop-line
@@ -11,7 +11,7 @@ invariant-loop-line l = record {
   no_longer : length l.reader.rest ≤ length l.initial.reader.rest;
   block : TakesSimple l.said;
   before : l.said.fields.requirements.before ≡ l.initial.said.fields.requirements.before;
-  found : AreFound l.said.fields;
+  found : HaveIndexes l.said.fields;
   read : AreReadSofar l.reader l.said;
 }
 

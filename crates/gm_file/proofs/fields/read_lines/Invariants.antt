@@ -1,8 +1,8 @@
 use Rattle.std.proofs.Common.{◌≡◌, None, take}
 use Rattle.std.specs.Option.{option_map}
 use Rattle.gm_syntax.specs.LineViews.{line_views, plain_lines}
-use Rattle.gm_file.specs.Holding.{AreReadTo}
-use Rattle.gm_file.specs.Names.{KeepsNames}
+use Rattle.gm_file.specs.Private.Holding.{AreReadTo}
+use Rattle.gm_file.specs.Private.Reading.{KeepsNames}
 use Rattle.gm_file.specs.Directives.{Strict}
 use Rattle.gm_file.proofs.fields.read_lines.Given as goal
 

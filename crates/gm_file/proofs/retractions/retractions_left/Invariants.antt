@@ -1,5 +1,5 @@
 use Rattle.std.proofs.Common.{◌≡◌, length}
-use Rattle.gm_file.specs.Names.{KeepsNames}
+use Rattle.gm_file.specs.Private.Reading.{KeepsNames}
 use Rattle.gm_file.proofs.Retracted.{AreRetractedSofar}
 use Rattle.gm_file.proofs.retractions.retractions_left.Given as goal
 

@@ -1,7 +1,7 @@
 use Rattle.std.proofs.Common.{take}
 use Rattle.gm_syntax.specs.LineViews.{line_views, plain_lines}
-use Rattle.gm_file.specs.Names.{KeepsNames}
-use Rattle.gm_file.specs.Retracting.{AreRetractionsOf}
+use Rattle.gm_file.specs.Private.Reading.{KeepsNames}
+use Rattle.gm_file.specs.Private.Retracting.{AreRetractionsOf}
 use Rattle.gm_file.proofs.retractions.retractions_of_lines.Given as goal
 
 abbrev pub invariant-loop-line : goal.invariant-loop-line

@@ -1,7 +1,7 @@
 use Rattle.std.proofs.Common.{◌∙◌, ◌++◌, ◌∷◌, [], Bor, List, ap, option_map, sym, ℕ}
 use Rattle.std.proofs.lemmas.List.{map-append}
 use Rattle.gm_file.specs.Views.{interval_views}
-use Rattle.gm_file.specs.Swept.{AreAllSwept, ends_views}
+use Rattle.gm_file.specs.Private.Swept.{AreAllSwept, ends_views}
 use Rattle.gm_file.proofs.Sweeping.{ready_here, ready_rest, shown_more, shown_same, sorted_rest}
 use Rattle.gm_file.proofs.shown.shown_versions.Goals as goal
 use Rattle.gm_file.proofs.shown.shown_versions.Goals.{then-not-is_reached+in_ok-push, else-not-is_reached}

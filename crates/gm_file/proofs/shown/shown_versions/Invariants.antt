@@ -3,7 +3,7 @@ use Rattle.std.specs.List.Sorted.{IsStrictlySortedBy}
 use Rattle.gm_name.specs.Version.{version_cmp}
 use Rattle.gm_file.specs.Views.{interval_views}
 use Rattle.gm_file.specs.Shown.{shown_of}
-use Rattle.gm_file.specs.Swept.{ends_views}
+use Rattle.gm_file.specs.Private.Swept.{ends_views}
 use Rattle.gm_file.proofs.Sweeping.{ReadyFor}
 use Rattle.gm_file.proofs.shown.shown_versions.Given as goal
 

@@ -2,8 +2,7 @@ use Rattle.std.proofs.Common.{ℕ, List, Some, Err, ap, subst, sym, ◌∙◌}
 use Rattle.std.proofs.lemmas.Result.{err_from_is_err_and}
 use Rattle.gm_file.specs.declared.fault.DirectiveKind.TheVariants.{WrongArguments}
 use Rattle.gm_file.specs.Faults.{path_kinds}
-use Rattle.gm_file.specs.Reading.{IsRead}
-use Rattle.gm_file.specs.Views.{left_text_view}
+use Rattle.gm_file.specs.Private.Reading.{IsPartRead, left_text_view}
 use Rattle.gm_file.proofs.Arrows.{left-path-fault, left-version-fault, right-path-fault, right-version-fault, sound-part}
 use Rattle.gm_file.proofs.Keeping.{keeps_both}
 use Rattle.gm_file.proofs.sides.replace_by_module.Goals as goal
@@ -12,7 +11,7 @@ pub returns-in_err-left_path-clause-read : goal.returns-in_err-left_path-clause-
 returns-in_err-left_path-clause-read c =
     let p = err_from_is_err_and c.from_residual.result c.from_residual.ensures.1 in
     rw (p.1, p.2) (left-path-fault (left_text_view c.args.left.now) c.args.path.now c.args.version.now c.in_err-left_path.field-0.0
-    (subst (λ (text : List ℕ). IsRead {X = List ℕ} {Y = List ℕ} (λ x. x) WrongArguments path_kinds (Some text) (Err c.in_err-left_path.field-0.0)) c.as_str.ensures.value c.in_err-left_path.ensures.read))
+    (subst (λ (text : List ℕ). IsPartRead {X = List ℕ} {Y = List ℕ} (λ x. x) WrongArguments path_kinds (Some text) (Err c.in_err-left_path.field-0.0)) c.as_str.ensures.value c.in_err-left_path.ensures.read))
 
 pub returns-in_err-path-clause-read : goal.returns-in_err-path-clause-read
 returns-in_err-path-clause-read c =

@@ -1,6 +1,6 @@
 use Rattle.std.proofs.Common.{◌≡◌, ◌∙◌, ◌<◌, ap, arith, length, slice_index_or, sym}
 use Rattle.std.proofs.lemmas.List.{get_or-map, length-map}
-use Rattle.gm_file.specs.Swept.{ends_view, ends_views}
+use Rattle.gm_file.specs.Private.Swept.{ends_view, ends_views}
 use Rattle.gm_file.proofs.Sweeping.{swept_more}
 use Rattle.gm_file.proofs.sweep.advance.Goals as goal
 

@@ -1,5 +1,5 @@
 use Rattle.std.proofs.Common.{length, ◌-◌, option_map}
-use Rattle.gm_file.specs.Swept.{AreSwept, ends_views}
+use Rattle.gm_file.specs.Private.Swept.{AreSwept, ends_views}
 use Rattle.gm_file.proofs.sweep.advance.Given as goal
 
 -- the intervals so far begin at the version or before

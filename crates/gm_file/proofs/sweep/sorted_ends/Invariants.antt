@@ -1,6 +1,6 @@
 use Rattle.std.proofs.Common.{◌≡◌, take}
 use Rattle.gm_file.specs.Views.{interval_views}
-use Rattle.gm_file.specs.Swept.{ends_views}
+use Rattle.gm_file.specs.Private.Swept.{ends_views}
 use Rattle.gm_file.proofs.sweep.sorted_ends.Given as goal
 
 -- these are the ends of the intervals so far

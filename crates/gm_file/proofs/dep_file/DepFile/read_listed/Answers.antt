@@ -1,7 +1,7 @@
 use Rattle.std.proofs.Common.{◌≡◌, ℕ, [], List, ap, subst, sym, ◌∙◌, Some}
 use Rattle.gm_name.specs.ModuleVersion.{ModuleVersion}
 use Rattle.gm_name_table.specs.Listed.{Appends}
-use Rattle.gm_file.specs.DepLines.{AreAllRead}
+use Rattle.gm_file.specs.Private.DepLines.{AreAllRead}
 use Rattle.gm_file.specs.Listed.{Head, with_requirements}
 use Rattle.gm_file.specs.declared.dep_lines.DepLines.{DepLines}
 use Rattle.gm_file.proofs.DepReading.{dep-whole}

@@ -1,5 +1,5 @@
 use Rattle.std.proofs.Common.{ℕ, List, subst}
-use Rattle.gm_file.specs.DepLines.{AreAllRead}
+use Rattle.gm_file.specs.Private.DepLines.{AreAllRead}
 use Rattle.gm_file.proofs.DepReading.{dep-whole}
 use Rattle.gm_file.proofs.dep_file.DepFile.read_twice.Goals as goal
 

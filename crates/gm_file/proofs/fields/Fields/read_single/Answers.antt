@@ -3,7 +3,7 @@ use Rattle.std.proofs.lemmas.Result.{err_from_is_err_and}
 use Rattle.std.specs.Option.{option_map}
 use Rattle.gm_file.specs.Directives.{DeclaresGo, DeclaresModule, Kept, Lax}
 use Rattle.gm_file.specs.Faults.{directive_kinds}
-use Rattle.gm_file.specs.SimpleLines.{single_item}
+use Rattle.gm_file.specs.Private.SimpleLines.{single_item}
 use Rattle.gm_file.proofs.LineSaid.{line-added}
 use Rattle.gm_file.proofs.SimpleLines.{single-bad, single-go, single-module, single-nothing, single-require}
 use Rattle.gm_file.proofs.Saying.{say-kept}

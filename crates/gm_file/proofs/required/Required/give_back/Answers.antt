@@ -1,5 +1,5 @@
 use Rattle.std.proofs.Common.{◌∙◌, ap, sym}
-use Rattle.gm_file.specs.Requirements.{items_in}
+use Rattle.gm_file.specs.Private.Requirements.{items_in}
 use Rattle.gm_file.proofs.ListEnds.{given_back}
 use Rattle.gm_file.proofs.required.Required.give_back.Goals as goal
 

@@ -33,7 +33,7 @@ Holds mode ds f = HaveFields mode ds f.declared f.go f.requirements.items f.excl
     (replace_views f.replaces.lines.items) (interval_views f.retracts.items)
 
 -- the indexes agree with the lists that they index
-pub record AreFound (f : Fields) : Type 0 where
+pub record HaveIndexes (f : Fields) : Type 0 where
   pub excludes : IsSetOfLines f.excludes
   pub replaces : AreIndexed f.replaces
 
@@ -58,7 +58,7 @@ IsLineAdded mode old new item (Err (line.Kind kind)) = (ds : List Directive) →
 pub record AreRead (mode : Mode) (lines : List (Line Word)) (f : Fields) : Type 0 where
   pub sound : faults mode lines ≡ []
   pub holds : Holds mode (directives mode lines) f
-  pub found : AreFound f
+  pub found : HaveIndexes f
 
 -- the same for the lines so far, with the verb of the block that is open after them
 pub record AreReadTo (mode : Mode) (lines : List (Line Word)) (block : Option Word) (f : Fields) : Type 0 where

@@ -7,7 +7,7 @@ use Rattle.gm_syntax.specs.Tokens.{Placed}
 use Rattle.gm_syntax.specs.Document.{Line}
 use Rattle.gm_file.specs.declared.dep_lines.DepLines.{DepLines}
 use Rattle.gm_file.specs.declared.fault.LineFault.{LineFault}
-use Rattle.gm_file.specs.DepLines.{AreDepLines, IsNextLineOf}
+use Rattle.gm_file.specs.Private.DepLines.{AreDepLines, IsNextLineOf}
 use Rattle.gm_file.specs.Directives.{Item, Saying}
 
 -- no block is open, or one of `require`
