@@ -28,11 +28,13 @@ prefix_len-map p f (x ∷ xs) = elim (cases_Bool (p (f x))) [
 pub arrow-place : (tokens : List Placed) (n : ℕ) → n ≡ length (take_while (λ t. not (is_arrow t.word)) tokens) → n ≡ position_or_len is_arrow (words_of tokens)
 arrow-place tokens n e = e ∙ length-prefix_len (λ t. not (is_arrow t.word)) tokens ∙ sym (prefix_len-map (λ w. not (is_arrow w)) (λ t. t.word) tokens)
 
-pub before-arrow : (tokens front : List Placed) (n : ℕ) → n ≡ length (take_while (λ t. not (is_arrow t.word)) tokens) → front ≡ take n tokens → words_of front ≡ before_first is_arrow (words_of tokens)
+pub before-arrow : (tokens front : List Placed) (n : ℕ) → n ≡ length (take_while (λ t. not (is_arrow t.word)) tokens)
+    → front ≡ take n tokens → words_of front ≡ before_first is_arrow (words_of tokens)
 before-arrow tokens front n e is =
     rw (is, sym (take-map (λ t. t.word) n tokens)) (ap (λ k. take k (words_of tokens)) (arrow-place tokens n e))
 
-rest-after : (tokens rest : List Placed) (n : ℕ) → n ≡ length (take_while (λ t. not (is_arrow t.word)) tokens) → rest ≡ drop n tokens → words_of (drop 1 rest) ≡ after_first is_arrow (words_of tokens)
+rest-after : (tokens rest : List Placed) (n : ℕ) → n ≡ length (take_while (λ t. not (is_arrow t.word)) tokens)
+    → rest ≡ drop n tokens → words_of (drop 1 rest) ≡ after_first is_arrow (words_of tokens)
 rest-after tokens rest n e is =
     rw (is, drop-drop 1 n tokens, sym (drop-map (λ t. t.word) (n + 1) tokens)) (ap (λ k. drop (k + 1) (words_of tokens)) (arrow-place tokens n e))
 
@@ -40,7 +42,8 @@ pub after-arrow : (tokens rest : List Placed) (n : ℕ) → n ≡ length (take_w
     → words_of (take (length rest - 1) (drop 1 rest)) ≡ after_first is_arrow (words_of tokens)
 after-arrow tokens rest n e is = ap words_of (take_rest rest 1) ∙ rest-after tokens rest n e is
 
-pub no-arrow_before : (tokens rest : List Placed) (n : ℕ) → n ≡ length (take_while (λ t. not (is_arrow t.word)) tokens) → rest ≡ drop n tokens → length rest < 1 → after_first is_arrow (words_of tokens) ≡ []
+pub no-arrow_before : (tokens rest : List Placed) (n : ℕ) → n ≡ length (take_while (λ t. not (is_arrow t.word)) tokens)
+    → rest ≡ drop n tokens → length rest < 1 → after_first is_arrow (words_of tokens) ≡ []
 no-arrow_before tokens rest n e is short = sym (rest-after tokens rest n e is) ∙ ap words_of (drop_of_length-le rest {i = 1} (omega (arith, short)))
 
 pub first-append : {X : Type 0} (xs ys : List X) (x : X) → first xs ≡ Some x → first (xs ++ ys) ≡ Some x
@@ -72,20 +75,26 @@ module _ (left : Left) (path version : List ℕ) where
   left-path-fault (line.Kind k) told =
       first-append (before-right-version ++ version_kinds version) _ k
       (first-append before-right-version (version_kinds version) k
-      (first-append (path_kinds left.path ++ path_kinds path) (left_version_kinds left.version) k (first-append (path_kinds left.path) (path_kinds path) k told)))
+      (first-append (path_kinds left.path ++ path_kinds path) (left_version_kinds left.version) k
+      (first-append (path_kinds left.path) (path_kinds path) k told)))
 
-  pub right-path-fault : (fault : LineFault) → path_kinds left.path ≡ [] → IsPartRead {X = List ℕ} {Y = List ℕ} (λ x. x) WrongArguments path_kinds (Some path) (Err fault)
+  pub right-path-fault : (fault : LineFault) → path_kinds left.path ≡ []
+      → IsPartRead {X = List ℕ} {Y = List ℕ} (λ x. x) WrongArguments path_kinds (Some path) (Err fault)
       → IsPartRead replace_view WrongArguments replacing_kinds (Some (replacing left (Module path version))) (Err fault)
   right-path-fault line.NoMemory sound told = tt
   right-path-fault (line.Kind k) sound told =
       rw sound (first-append (path_kinds path ++ left_version_kinds left.version ++ version_kinds version) _ k
-      (first-append (path_kinds path ++ left_version_kinds left.version) (version_kinds version) k (first-append (path_kinds path) (left_version_kinds left.version) k told)))
+      (first-append (path_kinds path ++ left_version_kinds left.version) (version_kinds version) k
+      (first-append (path_kinds path) (left_version_kinds left.version) k told)))
 
-  pub left-version-fault : (fault : LineFault) → path_kinds left.path ≡ [] → path_kinds path ≡ [] → IsPartRead {X = Option (List ℕ)} {Y = Option (List ℕ)} (λ x. x) WrongArguments left_version_kinds (Some left.version) (Err fault)
+  pub left-version-fault : (fault : LineFault) → path_kinds left.path ≡ [] → path_kinds path ≡ []
+      → IsPartRead {X = Option (List ℕ)} {Y = Option (List ℕ)} (λ x. x) WrongArguments left_version_kinds
+      (Some left.version) (Err fault)
       → IsPartRead replace_view WrongArguments replacing_kinds (Some (replacing left (Module path version))) (Err fault)
   left-version-fault line.NoMemory sound-p sound-q told = tt
   left-version-fault (line.Kind k) sound-p sound-q told =
-      rw (sound-p, sound-q) (first-append (left_version_kinds left.version ++ version_kinds version) _ k (first-append (left_version_kinds left.version) (version_kinds version) k told))
+      rw (sound-p, sound-q) (first-append (left_version_kinds left.version ++ version_kinds version) _ k
+      (first-append (left_version_kinds left.version) (version_kinds version) k told))
 
 -- a part without faults, by what its reader says
 pub sound-part : {X : Type 0} (kinds : X → List DirectiveKind) (part read : X) → Some part ≡ Some read → kinds read ≡ [] → kinds part ≡ []

@@ -84,7 +84,8 @@ sorted_from intervals found sorted same moved ordered = record {
 }
 
 -- the higher of two ends
-pub farther_kept : (reach high version : List ℕ) → is_at_most high reach ≡ true → is_at_most version reach ≡ (is_at_most version reach || is_at_most version high)
+pub farther_kept : (reach high version : List ℕ) → is_at_most high reach ≡ true
+    → is_at_most version reach ≡ (is_at_most version reach || is_at_most version high)
 farther_kept reach high version below = by_test (is_at_most version reach) (is_at_most version high) (λ e. upto_trans version high reach e below)
   where
     by_test : (a b : Bool) → (b ≡ true → a ≡ true) → a ≡ (a || b)
@@ -92,8 +93,10 @@ farther_kept reach high version below = by_test (is_at_most version reach) (is_a
     by_test false true f = f refl
     by_test false false f = refl
 
-pub farther_new : (reach high version : List ℕ) → is_at_most high reach ≡ false → is_at_most version high ≡ (is_at_most version reach || is_at_most version high)
-farther_new reach high version above = by_test (is_at_most version reach) (is_at_most version high) (λ e. upto_trans version reach high e (upto_back high reach above))
+pub farther_new : (reach high version : List ℕ) → is_at_most high reach ≡ false
+    → is_at_most version high ≡ (is_at_most version reach || is_at_most version high)
+farther_new reach high version above = by_test (is_at_most version reach) (is_at_most version high)
+    (λ e. upto_trans version reach high e (upto_back high reach above))
   where
     by_test : (a b : Bool) → (a ≡ true → b ≡ true) → b ≡ (a || b)
     by_test true b f = f refl

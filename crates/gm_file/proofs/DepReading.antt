@@ -43,17 +43,20 @@ pub dep-none : (fields : Fields) → Holds Lax [] fields → HaveIndexes fields 
 dep-none fields holds found = read-none Lax fields holds found
 
 -- one more line without a fault
-pub dep-more : (lines : List (Line Word)) (here : Line Word) (block : Option Word) (old new : DepLines) → AreDepLines lines old → block ≡ word_of old.block → HaveIndexes new.fields
+pub dep-more : (lines : List (Line Word)) (here : Line Word) (block : Option Word) (old new : DepLines)
+    → AreDepLines lines old → block ≡ word_of old.block → HaveIndexes new.fields
     → IsLineAdded Lax old.fields new.fields (item_at (block, here)) (Ok tt)
     → word_of new.block ≡ block_after_line (word_of old.block) here
     → AreDepLines (lines ++ here ∷ []) new
 dep-more lines here block old new so is found added after =
     let read : AreReadTo Lax lines block old.fields = subst (λ (b : Option Word). AreReadTo Lax lines b old.fields) (sym is) so in
     let now : word_of new.block ≡ block_after_line block here = after ∙ ap (λ (b : Option Word). block_after_line b here) (sym is) in
-    subst (λ (b : Option Word). AreReadTo Lax (lines ++ here ∷ []) b new.fields) (sym now) (read-more Lax lines block here old.fields new.fields read found added)
+    subst (λ (b : Option Word). AreReadTo Lax (lines ++ here ∷ []) b new.fields) (sym now)
+    (read-more Lax lines block here old.fields new.fields read found added)
 
 -- the next line has a fault
-pub dep-fault : (lines : List (Line Word)) (here : Line Word) (block : Option Word) (old : DepLines) (new : Fields) (fault : LineFault) → AreDepLines lines old → block ≡ word_of old.block
+pub dep-fault : (lines : List (Line Word)) (here : Line Word) (block : Option Word) (old : DepLines) (new : Fields)
+    (fault : LineFault) → AreDepLines lines old → block ≡ word_of old.block
     → IsLineAdded Lax old.fields new (item_at (block, here)) (Err fault) → HasNextFault lines here fault
 dep-fault lines here block old new fault so is told = λ later.
     let read : AreReadTo Lax lines block old.fields = subst (λ (b : Option Word). AreReadTo Lax lines b old.fields) (sym is) so in
@@ -72,7 +75,8 @@ misread-text mode bytes fault (inl is) = misread-syntax mode bytes fault is
 misread-text mode bytes fault (inr none) = subst (λ (f : SyntaxFault). IsBytesFault mode bytes (fault_by_syntax f)) (sym none) tt
 
 -- a fault of the directives of bytes that are a document
-pub misread-file : (mode : Mode) (bytes : List ℕ) (lines : List (Line Placed)) (fault : FileFault) → IsParsedAs bytes (Ok lines) → ReportsFault mode (plain_lines lines) fault
+pub misread-file : (mode : Mode) (bytes : List ℕ) (lines : List (Line Placed)) (fault : FileFault)
+    → IsParsedAs bytes (Ok lines) → ReportsFault mode (plain_lines lines) fault
     → IsBytesFault mode bytes (fault_by_file fault)
 misread-file mode bytes lines file.NoMemory is tells = tt
 misread-file mode bytes lines (file.Directive number kind) is tells = (lines, is, tells)
@@ -101,7 +105,10 @@ dep-whole bytes said file all is = (
 )
 
 -- a line that says nothing but may open or close a block, without a fault
-pub level-more : (lines : List (Line Word)) (here : Line Word) (item : Item) (old : DepLines) (block : Option Placed) → item_at (word_of old.block, here) ≡ item → AreDepLines lines old
-    → IsLineAdded Lax old.fields old.fields item (Ok tt) → word_of block ≡ block_after_line (word_of old.block) here → AreDepLines (lines ++ here ∷ []) (record old { block = block })
+pub level-more : (lines : List (Line Word)) (here : Line Word) (item : Item) (old : DepLines) (block : Option Placed)
+    → item_at (word_of old.block, here) ≡ item → AreDepLines lines old
+    → IsLineAdded Lax old.fields old.fields item (Ok tt) → word_of block ≡ block_after_line (word_of old.block) here
+    → AreDepLines (lines ++ here ∷ []) (record old { block = block })
 level-more lines here item old block is so added after =
-    dep-more lines here (word_of old.block) old (record old { block = block }) so refl so.read.found (subst (λ (i : Item). IsLineAdded Lax old.fields old.fields i (Ok tt)) (sym is) added) after
+    dep-more lines here (word_of old.block) old (record old { block = block }) so refl so.read.found
+    (subst (λ (i : Item). IsLineAdded Lax old.fields old.fields i (Ok tt)) (sym is) added) after

@@ -27,7 +27,8 @@ verb-itself ForRetract = refl
 verb-itself ForNothing = refl
 verb-itself Unknown = refl
 
-mapped : {X : Type 0} (make : X → Directive) (verb : Verb) (o : Option X) (d : Directive) → ((x : X) → verb_of_directive (make x) ≡ verb) → option_map make o ≡ Some d → verb_of_directive d ≡ verb
+mapped : {X : Type 0} (make : X → Directive) (verb : Verb) (o : Option X) (d : Directive)
+    → ((x : X) → verb_of_directive (make x) ≡ verb) → option_map make o ≡ Some d → verb_of_directive d ≡ verb
 mapped make verb None d says e = absurd cc
 mapped make verb (Some x) d says e = let is : make x ≡ d = cc in sym (ap verb_of_directive is) ∙ says x
 

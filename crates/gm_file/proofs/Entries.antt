@@ -15,14 +15,16 @@ use Rattle.gm_file.specs.DirectiveViews.{IsLineRead, directive_view}
 use Rattle.gm_file.proofs.Arrows.{first-append}
 
 -- a fault of a part is a fault of what is made of it
-pub map-fault : {X Y Z V : Type 0} (view : Y → X) (seen : V → Z) (wrong : DirectiveKind) (kinds : X → List DirectiveKind) (more : Z → List DirectiveKind) (f : X → Z) (o : Option X) (fault : LineFault)
+pub map-fault : {X Y Z V : Type 0} (view : Y → X) (seen : V → Z) (wrong : DirectiveKind)
+    (kinds : X → List DirectiveKind) (more : Z → List DirectiveKind) (f : X → Z) (o : Option X) (fault : LineFault)
     → ((x : X) → more (f x) ≡ kinds x) → IsPartRead view wrong kinds o (Err fault) → IsPartRead seen wrong more (option_map f o) (Err fault)
 map-fault view seen wrong kinds more f o line.NoMemory same told = tt
 map-fault view seen wrong kinds more f None (line.Kind k) same told = told
 map-fault view seen wrong kinds more f (Some x) (line.Kind k) same told = ap first (same x) ∙ told
 
 -- a fault that a directive has by itself is reported first
-directive-first : (mode : Mode) (earlier : List Directive) (d : Directive) (k : DirectiveKind) → first (own_kinds d) ≡ Some k → first (directive_kinds mode earlier d) ≡ Some k
+directive-first : (mode : Mode) (earlier : List Directive) (d : Directive) (k : DirectiveKind)
+    → first (own_kinds d) ≡ Some k → first (directive_kinds mode earlier d) ≡ Some k
 unfolding directive_kinds
 directive-first mode earlier (DeclaresModule path) k e = first-append (path_kinds path) _ k e
 directive-first mode earlier (DeclaresGo text) k e = cc e

@@ -43,10 +43,12 @@ any-position p (x ∷ xs) = elim (cases_Bool (p x)) [
 ]
 
 pub dot-none : (text : List ℕ) → position_or_len (λ b. b == 46) text ≡ length text → has_dot text ≡ false
-dot-none text e = any-position (λ b. b == 46) text ∙ (let f : nat_lt (position_or_len (λ b. b == 46) text) (length text) ≡ false = grind (arith, nat_tests) in f)
+dot-none text e = any-position (λ b. b == 46) text ∙ (let f : nat_lt (position_or_len (λ b. b == 46) text) (length text)
+    ≡ false = grind (arith, nat_tests) in f)
 
 pub dot-some : (text : List ℕ) → position_or_len (λ b. b == 46) text < length text → has_dot text ≡ true
-dot-some text lt = any-position (λ b. b == 46) text ∙ (let f : nat_lt (position_or_len (λ b. b == 46) text) (length text) ≡ true = grind (arith, nat_tests) in f)
+dot-some text lt = any-position (λ b. b == 46) text ∙ (let f : nat_lt (position_or_len (λ b. b == 46) text)
+    (length text) ≡ true = grind (arith, nat_tests) in f)
 
 both-none : (o : Option ℕ) → both numbers o None ≡ None
 both-none None = refl
@@ -61,11 +63,13 @@ nothing-after text e = drop-past text (position_or_len (λ b. b == 46) text) e
 
 pub strict-none : (text : List ℕ) → position_or_len (λ b. b == 46) text ≡ length text → strict_go text ≡ None
 unfolding strict_go second_number last_number small_number is_go_suffix
-strict-none text e = ap (λ (t : List ℕ). both numbers (first_number (before_dot text)) (second_number t)) (nothing-after text e) ∙ both-none (first_number (before_dot text))
+strict-none text e = ap (λ (t : List ℕ). both numbers (first_number (before_dot text)) (second_number t))
+    (nothing-after text e) ∙ both-none (first_number (before_dot text))
 
 pub lax-none : (text : List ℕ) → position_or_len (λ b. b == 46) text ≡ length text → lax_go_text text ≡ None
 unfolding lax_go_text small_number
-lax-none text e = ap (λ (t : List ℕ). both numbers (first_number (before_dot text)) (small_number (take_while is_ascii_digit t))) (nothing-after text e) ∙ both-none (first_number (before_dot text))
+lax-none text e = ap (λ (t : List ℕ). both numbers (first_number (before_dot text))
+    (small_number (take_while is_ascii_digit t))) (nothing-after text e) ∙ both-none (first_number (before_dot text))
 
 pub lax-plain : (text : List ℕ) → ((rest : List ℕ) → text ≢ 118 ∷ rest) → lax_go text ≡ lax_go_text text
 unfolding lax_go

@@ -45,7 +45,8 @@ left_by path version = record { path = path; version = version }
 same-left : (a b : Left) → is_same_left a b ≡ true → a ≡ b
 same-left a b e =
     let p = and_both (bytes_eq a.path b.path) (is_same_version a.version b.version) e in
-    ap (λ (x : List ℕ). left_by x a.version) (same_text a.path b.path (sym p.0)) ∙ ap (λ (x : Option (List ℕ)). left_by b.path x) (same-version a.version b.version p.1)
+    ap (λ (x : List ℕ). left_by x a.version) (same_text a.path b.path (sym p.0))
+    ∙ ap (λ (x : Option (List ℕ)). left_by b.path x) (same-version a.version b.version p.1)
 
 left-self : (a : Left) → is_same_left a a ≡ true
 left-self a = rw (text-self a.path, version-self a.version) refl
@@ -94,13 +95,16 @@ new-given rs x e =
     right-for-snoc rs x x.0 ∙ ap (λ (o : Option Right). option_or o (given x.0 x)) e ∙ ap (λ (b : Bool). if b then Some x.1 else None) (left-self x.0)
 
 module _ {K : Type 0} (cmp : K → K → Ordering) (left : K → Left) (ties : (a b : K) → is_eq (cmp a b) ≡ is_same_left (left a) (left b))
-    (old new : map.BTreeMap K declared.Right) (rs : List Replacing) (key : K) (right : Right) (were : (q : K) → right_at cmp old q ≡ right_for rs (left q)) where
+    (old new : map.BTreeMap K declared.Right) (rs : List Replacing) (key : K) (right : Right)
+    (were : (q : K) → right_at cmp old q ≡ right_for rs (left q)) where
   abbrev line : Replacing
   line = (left key, right)
 
   kept : (other : Right) → right_at cmp old key ≡ Some other → map.IsUnchanged old new → (q : K) → right_at cmp new q ≡ right_for (rs ++ line ∷ []) (left q)
   kept other held same q =
-      let before : right_at cmp new q ≡ right_for rs (left q) = ap (λ (es : List (K × declared.Right)). option_map right_view (lookup (λ k. is_eq (cmp q k)) es)) same ∙ were q in
+      let before : right_at cmp new q ≡ right_for rs (left q) =
+      ap (λ (es : List (K × declared.Right)). option_map right_view (lookup (λ k. is_eq (cmp q k)) es)) same
+      ∙ were q in
       elim (cases_Bool (is_same_left (left q) (left key))) [
         | inl is ↦
             let e : left q ≡ left key = same-left (left q) (left key) is in
@@ -109,9 +113,11 @@ module _ {K : Type 0} (cmp : K → K → Ordering) (left : K → Left) (ties : (
         | inr other ↦ before ∙ sym (others-stay rs line (left q) other)
       ]
 
-  put : (held : declared.Right) → right_view held ≡ right → right_at cmp old key ≡ None → map.Updates cmp old new key (Some held) → (q : K) → right_at cmp new q ≡ right_for (rs ++ line ∷ []) (left q)
+  put : (held : declared.Right) → right_view held ≡ right → right_at cmp old key ≡ None
+      → map.Updates cmp old new key (Some held) → (q : K) → right_at cmp new q ≡ right_for (rs ++ line ∷ []) (left q)
   put held seen none updates q =
-      let at_new : right_at cmp new q ≡ option_map right_view (cond (is_eq (cmp key q)) (Some held) (map.get cmp old q)) = ap (option_map right_view) (updates.0 q) in
+      let at_new : right_at cmp new q ≡ option_map right_view
+      (cond (is_eq (cmp key q)) (Some held) (map.get cmp old q)) = ap (option_map right_view) (updates.0 q) in
       elim (cases_Bool (is_same_left (left key) (left q))) [
         | inl is ↦
             let e : left key ≡ left q = same-left (left key) (left q) is in
@@ -120,12 +126,15 @@ module _ {K : Type 0} (cmp : K → K → Ordering) (left : K → Left) (ties : (
             ∙ sym (new-given rs line f) ∙ ap (right_for (rs ++ line ∷ [])) e
         | inr other ↦
             let apart : is_same_left (left q) (left key) ≡ false = flipped (left key) (left q) other in
-            at_new ∙ ap (λ (b : Bool). option_map right_view (cond b (Some held) (map.get cmp old q))) (ties key q ∙ other) ∙ were q ∙ sym (others-stay rs line (left q) apart)
+            at_new ∙ ap (λ (b : Bool). option_map right_view (cond b (Some held) (map.get cmp old q)))
+            (ties key q ∙ other) ∙ were q ∙ sym (others-stay rs line (left q) apart)
       ]
     where
       flipped : (a b : Left) → is_same_left a b ≡ false → is_same_left b a ≡ false
       flipped a b e = elim (cases_Bool (is_same_left b a)) [
-        | inl is ↦ let f : b ≡ a = same-left b a is in absurd (let g : is_same_left a b ≡ true = subst (λ (x : Left). is_same_left a x ≡ true) (sym f) (left-self a) in cc (e, g))
+        | inl is ↦ let f : b ≡ a = same-left b a is in absurd
+            (let g : is_same_left a b ≡ true = subst (λ (x : Left). is_same_left a x ≡ true) (sym f) (left-self a) in
+            cc (e, g))
         | inr none ↦ none
       ]
 
@@ -140,7 +149,8 @@ module _ {K : Type 0} (cmp : K → K → Ordering) (left : K → Left) (ties : (
   noted-agrees (inr (none, n)) = ap (differs right) (sym (were key) ∙ none)
 
   -- whether the line conflicts with an earlier one
-  pub noted-conflict : ((x : Replacing) → list_any (is_conflict x) rs ≡ differs x.1 (right_for rs x.0)) → (r : Result (Unit {0}) LineFault) → IsNoted cmp old new key right r → ReportsConflict line rs r
+  pub noted-conflict : ((x : Replacing) → list_any (is_conflict x) rs ≡ differs x.1 (right_for rs x.0))
+      → (r : Result (Unit {0}) LineFault) → IsNoted cmp old new key right r → ReportsConflict line rs r
   noted-conflict agree (Ok u) n = agree line ∙ noted-agrees n
   noted-conflict agree (Err fault.NoMemory) n = tt
   noted-conflict agree (Err (fault.Kind kind)) n = (n.0, agree line ∙ ap (differs right) (sym (were key)) ∙ n.1)
@@ -176,7 +186,9 @@ not-differs right (Some s) e r is =
 
 -- after a line that conflicts with no earlier one, a line still conflicts exactly if its right side differs from the
 -- first one of its left side
-pub agree-snoc : (rs : List Replacing) (x : Replacing) → ((y : Replacing) → list_any (is_conflict y) rs ≡ differs y.1 (right_for rs y.0)) → differs x.1 (right_for rs x.0) ≡ false
+pub agree-snoc : (rs : List Replacing) (x : Replacing)
+    → ((y : Replacing) → list_any (is_conflict y) rs ≡ differs y.1 (right_for rs y.0))
+    → differs x.1 (right_for rs x.0) ≡ false
     → (y : Replacing) → list_any (is_conflict y) (rs ++ x ∷ []) ≡ differs y.1 (right_for (rs ++ x ∷ []) y.0)
 agree-snoc rs x agree none y =
     list_any-append (is_conflict y) rs (x ∷ [])
@@ -194,20 +206,24 @@ path-left-ties a b = is_eq-slice_cmp a b ∙ sym (and-true (bytes_eq a b))
 seen-snoc : (old : List Replace) (replace : Replace) → replace_views (old ++ replace ∷ []) ≡ replace_views old ++ replace_view replace ∷ []
 seen-snoc old replace = map-append replace_view old (replace ∷ [])
 
-version-lines : (rs : List Replacing) (ov nv : map.BTreeMap ModuleVersion declared.Right) (op : map.BTreeMap (List ℕ) declared.Right) (key : ModuleVersion) (right : Right)
+version-lines : (rs : List Replacing) (ov nv : map.BTreeMap ModuleVersion declared.Right)
+    (op : map.BTreeMap (List ℕ) declared.Right) (key : ModuleVersion) (right : Right)
     → IndexLines rs ov op → IsNoted pair_cmp ov nv key right (Ok tt) → IndexLines (rs ++ (left_with key.0 key.1, right) ∷ []) nv op
 version-lines rs ov nv op key right index told = record {
   versions = noted pair_cmp (λ q. left_with q.0 q.1) pair-left-ties ov nv rs key right index.versions told;
   paths = λ p. index.paths p ∙ sym (others-stay rs (left_with key.0 key.1, right) (left_without p) (and-false (bytes_eq p key.0)));
-  agree = agree-snoc rs (left_with key.0 key.1, right) index.agree (noted-agrees pair_cmp (λ q. left_with q.0 q.1) pair-left-ties ov nv rs key right index.versions told);
+  agree = agree-snoc rs (left_with key.0 key.1, right) index.agree
+      (noted-agrees pair_cmp (λ q. left_with q.0 q.1) pair-left-ties ov nv rs key right index.versions told);
 }
 
-path-lines : (rs : List Replacing) (ov : map.BTreeMap ModuleVersion declared.Right) (op np : map.BTreeMap (List ℕ) declared.Right) (key : List ℕ) (right : Right)
+path-lines : (rs : List Replacing) (ov : map.BTreeMap ModuleVersion declared.Right)
+    (op np : map.BTreeMap (List ℕ) declared.Right) (key : List ℕ) (right : Right)
     → IndexLines rs ov op → IsNoted (slice_cmp nat_cmp) op np key right (Ok tt) → IndexLines (rs ++ (left_without key, right) ∷ []) ov np
 path-lines rs ov op np key right index told = record {
   versions = λ q. index.versions q ∙ sym (others-stay rs (left_without key, right) (left_with q.0 q.1) (and-false (bytes_eq q.0 key)));
   paths = noted (slice_cmp nat_cmp) left_without path-left-ties op np rs key right index.paths told;
-  agree = agree-snoc rs (left_without key, right) index.agree (noted-agrees (slice_cmp nat_cmp) left_without path-left-ties op np rs key right index.paths told);
+  agree = agree-snoc rs (left_without key, right) index.agree
+      (noted-agrees (slice_cmp nat_cmp) left_without path-left-ties op np rs key right index.paths told);
 }
 
 -- the line that replaces one version
@@ -215,16 +231,20 @@ version-line : (replace : Replace) (version : List ℕ) (key : ModuleVersion) �
     → replacing (left_with key.0 key.1) (right_view replace.right) ≡ replace_view replace
 version-line replace version key is-version is-key =
     let right = right_view replace.right in
-    ap (λ (k : ModuleVersion). replacing (left_with k.0 k.1) right) is-key ∙ ap (λ (v : Option (List ℕ)). replacing (left_by replace.left v) right) (sym is-version)
+    ap (λ (k : ModuleVersion). replacing (left_with k.0 k.1) right) is-key
+    ∙ ap (λ (v : Option (List ℕ)). replacing (left_by replace.left v) right) (sym is-version)
 
 -- the line that replaces a whole path
-path-line : (replace : Replace) (key : List ℕ) → replace.version ≡ None → key ≡ replace.left → replacing (left_without key) (right_view replace.right) ≡ replace_view replace
+path-line : (replace : Replace) (key : List ℕ) → replace.version ≡ None → key ≡ replace.left
+    → replacing (left_without key) (right_view replace.right) ≡ replace_view replace
 path-line replace key is-version is-key =
     let right = right_view replace.right in
     ap (λ (k : List ℕ). replacing (left_without k) right) is-key ∙ ap (λ (v : Option (List ℕ)). replacing (left_by replace.left v) right) (sym is-version)
 
 -- one more line, which replaces one version
-pub version-indexed : (old : List Replace) (replace : Replace) (version : List ℕ) (ov nv : map.BTreeMap ModuleVersion declared.Right) (op : map.BTreeMap (List ℕ) declared.Right) (key : ModuleVersion) (r : Result (Unit {0}) LineFault)
+pub version-indexed : (old : List Replace) (replace : Replace) (version : List ℕ)
+    (ov nv : map.BTreeMap ModuleVersion declared.Right) (op : map.BTreeMap (List ℕ) declared.Right)
+    (key : ModuleVersion) (r : Result (Unit {0}) LineFault)
     → replace.version ≡ Some version → key ≡ pair replace.left version → IndexLines (replace_views old) ov op
     → IsNoted pair_cmp ov nv key (right_view replace.right) r → OnOk r (IndexLines (replace_views old ++ replace_view replace ∷ []) nv op)
 version-indexed old replace version ov nv op key (Err f) is-version is-key index told = tt
@@ -232,7 +252,9 @@ version-indexed old replace version ov nv op key (Ok u) is-version is-key index 
     subst (λ (x : Replacing). IndexLines (replace_views old ++ x ∷ []) nv op) (version-line replace version key is-version is-key)
     (version-lines (replace_views old) ov nv op key (right_view replace.right) index told)
 
-pub version-conflict : (old : List Replace) (replace : Replace) (version : List ℕ) (ov nv : map.BTreeMap ModuleVersion declared.Right) (op : map.BTreeMap (List ℕ) declared.Right) (key : ModuleVersion) (r : Result (Unit {0}) LineFault)
+pub version-conflict : (old : List Replace) (replace : Replace) (version : List ℕ)
+    (ov nv : map.BTreeMap ModuleVersion declared.Right) (op : map.BTreeMap (List ℕ) declared.Right)
+    (key : ModuleVersion) (r : Result (Unit {0}) LineFault)
     → replace.version ≡ Some version → key ≡ pair replace.left version → IndexLines (replace_views old) ov op
     → IsNoted pair_cmp ov nv key (right_view replace.right) r → ReportsConflict (replace_view replace) (replace_views old) r
 version-conflict old replace version ov nv op key r is-version is-key index told =
@@ -240,7 +262,8 @@ version-conflict old replace version ov nv op key r is-version is-key index told
     (noted-conflict pair_cmp (λ q. left_with q.0 q.1) pair-left-ties ov nv (replace_views old) key (right_view replace.right) index.versions index.agree r told)
 
 -- one more line, which replaces a whole path
-pub path-indexed : (old : List Replace) (replace : Replace) (ov : map.BTreeMap ModuleVersion declared.Right) (op np : map.BTreeMap (List ℕ) declared.Right) (key : List ℕ) (r : Result (Unit {0}) LineFault)
+pub path-indexed : (old : List Replace) (replace : Replace) (ov : map.BTreeMap ModuleVersion declared.Right)
+    (op np : map.BTreeMap (List ℕ) declared.Right) (key : List ℕ) (r : Result (Unit {0}) LineFault)
     → replace.version ≡ None → key ≡ replace.left → IndexLines (replace_views old) ov op
     → IsNoted (slice_cmp nat_cmp) op np key (right_view replace.right) r → OnOk r (IndexLines (replace_views old ++ replace_view replace ∷ []) ov np)
 path-indexed old replace ov op np key (Err f) is-version is-key index told = tt
@@ -248,7 +271,8 @@ path-indexed old replace ov op np key (Ok u) is-version is-key index told =
     subst (λ (x : Replacing). IndexLines (replace_views old ++ x ∷ []) ov np) (path-line replace key is-version is-key)
     (path-lines (replace_views old) ov op np key (right_view replace.right) index told)
 
-pub path-conflict : (old : List Replace) (replace : Replace) (ov : map.BTreeMap ModuleVersion declared.Right) (op np : map.BTreeMap (List ℕ) declared.Right) (key : List ℕ) (r : Result (Unit {0}) LineFault)
+pub path-conflict : (old : List Replace) (replace : Replace) (ov : map.BTreeMap ModuleVersion declared.Right)
+    (op np : map.BTreeMap (List ℕ) declared.Right) (key : List ℕ) (r : Result (Unit {0}) LineFault)
     → replace.version ≡ None → key ≡ replace.left → IndexLines (replace_views old) ov op
     → IsNoted (slice_cmp nat_cmp) op np key (right_view replace.right) r → ReportsConflict (replace_view replace) (replace_views old) r
 path-conflict old replace ov op np key r is-version is-key index told =
@@ -256,5 +280,6 @@ path-conflict old replace ov op np key r is-version is-key index told =
     (noted-conflict (slice_cmp nat_cmp) left_without path-left-ties op np (replace_views old) key (right_view replace.right) index.paths index.agree r told)
 
 -- the lines with one more
-pub seen-more : (old same new : List Replace) (replace : Replace) → same ≡ old → new ≡ same ++ replace ∷ [] → replace_views new ≡ replace_views old ++ replace_view replace ∷ []
+pub seen-more : (old same new : List Replace) (replace : Replace) → same ≡ old → new ≡ same ++ replace ∷ []
+    → replace_views new ≡ replace_views old ++ replace_view replace ∷ []
 seen-more old same new replace kept more = ap replace_views (more ∙ ap (λ (rs : List Replace). rs ++ replace ∷ []) kept) ∙ seen-snoc old replace

@@ -20,20 +20,24 @@ use Rattle.gm_file.proofs.Ordered.{first-reported, item-within}
 use Rattle.gm_file.proofs.Snoc.{directives-snoc, faults-snoc}
 use Rattle.gm_file.proofs.Told.{kinds_at, reported-at}
 
-pub block-snoc : {W : Type 0} (block : Option W) (lines : List (Line W)) (line : Line W) → block_after_lines block (lines ++ line ∷ []) ≡ block_after_line (block_after_lines block lines) line
+pub block-snoc : {W : Type 0} (block : Option W) (lines : List (Line W)) (line : Line W)
+    → block_after_lines block (lines ++ line ∷ []) ≡ block_after_line (block_after_lines block lines) line
 block-snoc block [] line = refl
 block-snoc block (first ∷ lines) line = block-snoc (block_after_line block first) lines line
 
 pub said-once : (mode : Mode) (lines : List (Line Word)) (line : Line Word)
     → directives mode (lines ++ line ∷ []) ≡ directives mode lines ++ option_to_list (directive_in mode (item_at (block_after_lines None lines, line)))
-said-once mode lines line = directives-snoc mode lines line ∙ ap (λ (ds : List Directive). directives mode lines ++ ds) (by (directive_said mode (block_after_lines None lines, line)))
+said-once mode lines line = directives-snoc mode lines line
+    ∙ ap (λ (ds : List Directive). directives mode lines ++ ds)
+    (by (directive_said mode (block_after_lines None lines, line)))
   where
     by : (o : Option Directive) → filter_map (λ (x : Option Directive). x) (o ∷ []) ≡ option_to_list o
     by None = refl
     by (Some d) = refl
 
 -- after one more line that has no fault
-pub read-more : (mode : Mode) (lines : List (Line Word)) (block : Option Word) (line : Line Word) (old new : Fields) → AreReadTo mode lines block old → HaveIndexes new
+pub read-more : (mode : Mode) (lines : List (Line Word)) (block : Option Word) (line : Line Word) (old new : Fields)
+    → AreReadTo mode lines block old → HaveIndexes new
     → IsLineAdded mode old new (item_at (block, line)) (Ok tt) → AreReadTo mode (lines ++ line ∷ []) (block_after_line block line) new
 read-more mode lines block line old new so found added =
     let at : item_at (block, line) ≡ item_at (block_after_lines None lines, line) = ap (λ (b : Option Word). item_at (b, line)) so.open_is in
@@ -44,19 +48,23 @@ read-more mode lines block line old new so found added =
         sound = faults-snoc mode lines line
             ∙ ap (λ ks. faults mode lines ++ map (λ kind. (length lines + 1, kind)) ks) (subst (λ i. item_kinds mode (directives mode lines) i ≡ []) at more.1)
             ∙ append-nil (faults mode lines) ∙ so.read.sound;
-        holds = subst (λ (ds : List Directive). Holds mode ds new) (sym (said-once mode lines line)) (subst (λ i. Holds mode (directives mode lines ++ option_to_list (directive_in mode i)) new) at more.0);
+        holds = subst (λ (ds : List Directive). Holds mode ds new) (sym (said-once mode lines line))
+            (subst (λ i. Holds mode (directives mode lines ++ option_to_list (directive_in mode i)) new) at more.0);
         found = found;
       };
     }
 
 -- the fault of the next line is reported
-pub fault-reported : (mode : Mode) (lines : List (Line Word)) (block : Option Word) (here : Line Word) (later all : List (Line Word)) (n : ℕ) (old new : Fields) (fault : LineFault)
+pub fault-reported : (mode : Mode) (lines : List (Line Word)) (block : Option Word) (here : Line Word)
+    (later all : List (Line Word)) (n : ℕ) (old new : Fields) (fault : LineFault)
     → AreReadTo mode lines block old → n ≡ length lines + 1 → all ≡ (lines ++ here ∷ []) ++ later
     → IsLineAdded mode old new (item_at (block, here)) (Err fault) → ReportsFault mode all (file_fault_at n fault)
 fault-reported mode lines block here later all n old new line.NoMemory so number is told = tt
 fault-reported mode lines block here later all n old new (line.Kind k) so number is told =
     let at : item_at (block, here) ≡ item_at (block_after_lines None lines, here) = ap (λ (b : Option Word). item_at (b, here)) so.open_is in
-    let kinds : first (kinds_at mode lines here) ≡ Some k = subst (λ i. first (item_kinds mode (directives mode lines) i) ≡ Some k) at (told (directives mode lines) so.read.holds) in
+    let kinds : first (kinds_at mode lines here) ≡ Some k =
+    subst (λ i. first (item_kinds mode (directives mode lines) i) ≡ Some k) at
+    (told (directives mode lines) so.read.holds) in
     let f = first-reported (kinds_at mode lines here) k (item-within mode (directives mode lines) (item_at (block_after_lines None lines, here))) kinds in
     ap (fault_of mode) is ∙ reported-at mode lines here later k so.read.sound f.0 f.1 ∙ ap (λ (m : ℕ). Some (m, k)) (sym number)
 
@@ -86,7 +94,9 @@ lines-next lines n item inside is =
 pub lines-split : (lines : List declared.Line) (n : ℕ) (item : declared.Line) → n < length lines → item ≡ get_or lines n item
     → plain_lines (line_views lines) ≡ (take n (plain_lines (line_views lines)) ++ plain (line_of item) ∷ []) ++ drop (n + 1) (plain_lines (line_views lines))
 lines-split lines n item inside is =
-    sym (take-append-drop (n + 1) (plain_lines (line_views lines))) ∙ ap (λ (ls : List (Line Word)). ls ++ drop (n + 1) (plain_lines (line_views lines))) (lines-next lines n item inside is)
+    sym (take-append-drop (n + 1) (plain_lines (line_views lines)))
+    ∙ ap (λ (ls : List (Line Word)). ls ++ drop (n + 1) (plain_lines (line_views lines)))
+    (lines-next lines n item inside is)
 
 pub length-before : (lines : List declared.Line) (n : ℕ) → n < length lines → n + 1 ≡ length (take n (plain_lines (line_views lines))) + 1
 length-before lines n inside = ap (λ (m : ℕ). m + 1) (sym (length-take-le n (plain_lines (line_views lines)) (omega (arith, inside, length-lines lines))))

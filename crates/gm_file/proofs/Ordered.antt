@@ -70,34 +70,42 @@ widen low high ks le w = lower 0 low 8 ks (omega arith) (higher low high 8 ks le
 pair-within : (path version : List ℕ) → Within 2 4 (pair_kinds (path, version))
 pair-within path version =
     Within-append 2 3 4 4 (path_kinds path ++ version_kinds version) (unless (does_fit path version) Misfit)
-    (Within-append 2 2 3 3 (path_kinds path) (version_kinds version) (path-within path) (lit≤ tt) (version-within version)) (lit≤ tt) (one (does_fit path version) Misfit)
+    (Within-append 2 2 3 3 (path_kinds path) (version_kinds version) (path-within path) (lit≤ tt)
+    (version-within version)) (lit≤ tt) (one (does_fit path version) Misfit)
 
 sides-within : (left : Left) (right : Right) → Within 2 4 (sides_kinds left right)
 sides-within left right =
     let paths : Within 2 2 (path_kinds left.path ++ right_path_kinds right) =
     Within-append 2 2 2 2 (path_kinds left.path) (right_path_kinds right) (path-within left.path) (lit≤ tt) (right-path-within right) in
     let with_left : Within 2 3 (path_kinds left.path ++ right_path_kinds right ++ left_version_kinds left.version) =
-    Within-append 2 2 3 3 (path_kinds left.path ++ right_path_kinds right) (left_version_kinds left.version) paths (lit≤ tt) (left-version-within left.version) in
+    Within-append 2 2 3 3 (path_kinds left.path ++ right_path_kinds right) (left_version_kinds left.version) paths
+    (lit≤ tt) (left-version-within left.version) in
     let with_right : Within 2 3 (path_kinds left.path ++ right_path_kinds right ++ left_version_kinds left.version ++ right_version_kinds right) =
-    Within-append 2 3 3 3 (path_kinds left.path ++ right_path_kinds right ++ left_version_kinds left.version) (right_version_kinds right) with_left (lit≤ tt) (right-version-within right) in
-    Within-append 2 3 4 4 (path_kinds left.path ++ right_path_kinds right ++ left_version_kinds left.version ++ right_version_kinds right) (unless (does_left_fit left.path left.version) Misfit)
+    Within-append 2 3 3 3 (path_kinds left.path ++ right_path_kinds right ++ left_version_kinds left.version)
+    (right_version_kinds right) with_left (lit≤ tt) (right-version-within right) in
+    Within-append 2 3 4 4 (path_kinds left.path ++ right_path_kinds right ++ left_version_kinds left.version
+    ++ right_version_kinds right) (unless (does_left_fit left.path left.version) Misfit)
     with_right (lit≤ tt) (one (does_left_fit left.path left.version) Misfit)
 
 directive-within : (mode : Mode) (earlier : List Directive) (d : Directive) → Within 0 8 (directive_kinds mode earlier d)
 unfolding directive_kinds
 directive-within mode earlier (DeclaresModule path) =
     widen 2 5 (path_kinds path ++ unless (not (list_any is_module earlier)) Repeated) (lit≤ tt)
-    (Within-append 2 2 5 5 (path_kinds path) (unless (not (list_any is_module earlier)) Repeated) (path-within path) (lit≤ tt) (one (not (list_any is_module earlier)) Repeated))
+    (Within-append 2 2 5 5 (path_kinds path) (unless (not (list_any is_module earlier)) Repeated) (path-within path)
+    (lit≤ tt) (one (not (list_any is_module earlier)) Repeated))
 directive-within mode earlier (DeclaresGo text) =
     widen 5 8 (unless (not (list_any is_go earlier)) Repeated ++ unless (is_some (go_in mode text)) BadGo) (lit≤ tt)
-    (Within-append 5 5 8 8 (unless (not (list_any is_go earlier)) Repeated) (unless (is_some (go_in mode text)) BadGo) (one (not (list_any is_go earlier)) Repeated) (lit≤ tt) (one (is_some (go_in mode text)) BadGo))
+    (Within-append 5 5 8 8 (unless (not (list_any is_go earlier)) Repeated) (unless (is_some (go_in mode text)) BadGo)
+    (one (not (list_any is_go earlier)) Repeated) (lit≤ tt) (one (is_some (go_in mode text)) BadGo))
 directive-within mode earlier (Requires p) = widen 2 4 (pair_kinds p) (lit≤ tt) (pair-within p.0 p.1)
 directive-within mode earlier (Excludes p) = widen 2 4 (pair_kinds p) (lit≤ tt) (pair-within p.0 p.1)
 directive-within mode earlier (Replaces r) =
     widen 2 7 (sides_kinds r.0 r.1 ++ unless (not (list_any (conflicts r) earlier)) ConflictingReplace) (lit≤ tt)
-    (Within-append 2 4 7 7 (sides_kinds r.0 r.1) (unless (not (list_any (conflicts r) earlier)) ConflictingReplace) (sides-within r.0 r.1) (lit≤ tt) (one (not (list_any (conflicts r) earlier)) ConflictingReplace))
+    (Within-append 2 4 7 7 (sides_kinds r.0 r.1) (unless (not (list_any (conflicts r) earlier)) ConflictingReplace)
+    (sides-within r.0 r.1) (lit≤ tt) (one (not (list_any (conflicts r) earlier)) ConflictingReplace))
 directive-within mode earlier (Retracts ends) =
-    widen 3 3 (ends_kinds ends) (lit≤ tt) (Within-append 3 3 3 3 (version_kinds ends.0) (version_kinds ends.1) (version-within ends.0) (lit≤ tt) (version-within ends.1))
+    widen 3 3 (ends_kinds ends) (lit≤ tt) (Within-append 3 3 3 3 (version_kinds ends.0) (version_kinds ends.1)
+    (version-within ends.0) (lit≤ tt) (version-within ends.1))
 directive-within mode earlier Kept = lit≤ tt
 
 alone : (k : DirectiveKind) → rank k ≤ 8 → Within 0 8 (k ∷ [])

@@ -47,7 +47,8 @@ and-both-ways : (a b c d : Bool) → a ≡ b → c ≡ d → (a && c) ≡ (b && 
 and-both-ways a b c d e f = rw (e, f) refl
 
 pub same-left : (a b : Left) → is_same_left a b ≡ is_same_left b a
-same-left a b = and-both-ways (bytes_eq a.path b.path) (bytes_eq b.path a.path) (is_same_version a.version b.version) (is_same_version b.version a.version) (same-text a.path b.path) (same-version a.version b.version)
+same-left a b = and-both-ways (bytes_eq a.path b.path) (bytes_eq b.path a.path) (is_same_version a.version b.version)
+    (is_same_version b.version a.version) (same-text a.path b.path) (same-version a.version b.version)
 
 same-right : (a b : Right) → is_same_right a b ≡ is_same_right b a
 same-right (Folder a) (Folder b) = same-text a b
@@ -56,7 +57,8 @@ same-right (Module p v) (Folder b) = refl
 same-right (Module p v) (Module q w) = and-both-ways (bytes_eq p q) (bytes_eq q p) (bytes_eq v w) (bytes_eq w v) (same-text p q) (same-text v w)
 
 same-conflict : (a b : Replacing) → is_conflict a b ≡ is_conflict b a
-same-conflict a b = and-both-ways (is_same_left a.0 b.0) (is_same_left b.0 a.0) (not (is_same_right a.1 b.1)) (not (is_same_right b.1 a.1)) (same-left a.0 b.0) (ap not (same-right a.1 b.1))
+same-conflict a b = and-both-ways (is_same_left a.0 b.0) (is_same_left b.0 a.0) (not (is_same_right a.1 b.1))
+    (not (is_same_right b.1 a.1)) (same-left a.0 b.0) (ap not (same-right a.1 b.1))
 
 pub clash-mutual : (one other : Directive) → do_clash one other ≡ do_clash other one
 clash-mutual (DeclaresModule p) (DeclaresModule q) = refl
@@ -75,28 +77,32 @@ abbrev pub AreApart : List Directive → Type 0
 AreApart [] = ⊤
 AreApart (d ∷ ds) = (list_any (do_clash d) ds ≡ false) × AreApart ds
 
-any-middle : (p : Directive → Bool) (xs : List Directive) (d : Directive) (ys : List Directive) → list_any p (xs ++ d ∷ ys) ≡ false → (p d ≡ false) × (list_any p (xs ++ ys) ≡ false)
+any-middle : (p : Directive → Bool) (xs : List Directive) (d : Directive) (ys : List Directive)
+    → list_any p (xs ++ d ∷ ys) ≡ false → (p d ≡ false) × (list_any p (xs ++ ys) ≡ false)
 any-middle p [] d ys e = or_parts (p d) (list_any p ys) e
 any-middle p (x ∷ xs) d ys e =
     let parts = or_parts (p x) (list_any p (xs ++ d ∷ ys)) e in
     let rest = any-middle p xs d ys parts.1 in
     (rest.0, or_from (p x) (list_any p (xs ++ ys)) parts.0 rest.1)
 
-middle-any : (p : Directive → Bool) (xs : List Directive) (d : Directive) (ys : List Directive) → p d ≡ false → list_any p (xs ++ ys) ≡ false → list_any p (xs ++ d ∷ ys) ≡ false
+middle-any : (p : Directive → Bool) (xs : List Directive) (d : Directive) (ys : List Directive) → p d ≡ false
+    → list_any p (xs ++ ys) ≡ false → list_any p (xs ++ d ∷ ys) ≡ false
 middle-any p [] d ys one none = or_from (p d) (list_any p ys) one none
 middle-any p (x ∷ xs) d ys one none =
     let parts = or_parts (p x) (list_any p (xs ++ ys)) none in
     or_from (p x) (list_any p (xs ++ d ∷ ys)) parts.0 (middle-any p xs d ys one parts.1)
 
 -- one more, at any place, that clashes with none of them
-pub apart-with : (xs : List Directive) (d : Directive) (ys : List Directive) → list_any (do_clash d) (xs ++ ys) ≡ false → AreApart (xs ++ ys) → AreApart (xs ++ d ∷ ys)
+pub apart-with : (xs : List Directive) (d : Directive) (ys : List Directive) → list_any (do_clash d) (xs ++ ys) ≡ false
+    → AreApart (xs ++ ys) → AreApart (xs ++ d ∷ ys)
 apart-with [] d ys clear apart = (clear, apart)
 apart-with (x ∷ xs) d ys clear apart =
     let parts = or_parts (do_clash d x) (list_any (do_clash d) (xs ++ ys)) clear in
     (middle-any (do_clash x) xs d ys (clash-mutual x d ∙ parts.0) apart.0, apart-with xs d ys parts.1 apart.1)
 
 -- one clashes with none of the others
-apart-but : (xs : List Directive) (d : Directive) (ys : List Directive) → AreApart (xs ++ d ∷ ys) → (list_any (do_clash d) (xs ++ ys) ≡ false) × AreApart (xs ++ ys)
+apart-but : (xs : List Directive) (d : Directive) (ys : List Directive) → AreApart (xs ++ d ∷ ys)
+    → (list_any (do_clash d) (xs ++ ys) ≡ false) × AreApart (xs ++ ys)
 apart-but [] d ys apart = apart
 apart-but (x ∷ xs) d ys apart =
     let here = any-middle (do_clash x) xs d ys apart.0 in
@@ -131,7 +137,8 @@ pub never : (p : Directive → Bool) (ds : List Directive) → ((d : Directive) 
 never p [] none = refl
 never p (d ∷ ds) none = or_from (p d) (list_any p ds) (none d) (never p ds none)
 
-directive-parts : (earlier : List Directive) (d : Directive) → directive_kinds Strict earlier d ≡ [] → (directive_kinds Strict [] d ≡ []) × (list_any (do_clash d) earlier ≡ false)
+directive-parts : (earlier : List Directive) (d : Directive) → directive_kinds Strict earlier d ≡ []
+    → (directive_kinds Strict [] d ≡ []) × (list_any (do_clash d) earlier ≡ false)
 unfolding directive_kinds
 directive-parts earlier (DeclaresModule path) e =
     let parts = nil-parts (path_kinds path) (unless (not (list_any is_module earlier)) Repeated) e in
@@ -147,16 +154,20 @@ directive-parts earlier (Replaces r) e =
 directive-parts earlier (Retracts ends) e = (e, never (do_clash (Retracts ends)) earlier (λ d. refl))
 directive-parts earlier Kept e = (e, never (do_clash Kept) earlier (λ d. refl))
 
-directive-whole : (earlier : List Directive) (d : Directive) → directive_kinds Strict [] d ≡ [] → list_any (do_clash d) earlier ≡ false → directive_kinds Strict earlier d ≡ []
+directive-whole : (earlier : List Directive) (d : Directive) → directive_kinds Strict [] d ≡ []
+    → list_any (do_clash d) earlier ≡ false → directive_kinds Strict earlier d ≡ []
 unfolding directive_kinds
 directive-whole earlier (DeclaresModule path) alone clear =
-    both-nil (path_kinds path) (unless (not (list_any is_module earlier)) Repeated) (nil-parts (path_kinds path) [] alone).0 (so-none (list_any is_module earlier) Repeated clear)
+    both-nil (path_kinds path) (unless (not (list_any is_module earlier)) Repeated)
+    (nil-parts (path_kinds path) [] alone).0 (so-none (list_any is_module earlier) Repeated clear)
 directive-whole earlier (DeclaresGo text) alone clear =
-    both-nil (unless (not (list_any is_go earlier)) Repeated) (unless (is_some (go_in Strict text)) BadGo) (so-none (list_any is_go earlier) Repeated clear) alone
+    both-nil (unless (not (list_any is_go earlier)) Repeated) (unless (is_some (go_in Strict text)) BadGo)
+    (so-none (list_any is_go earlier) Repeated clear) alone
 directive-whole earlier (Requires p) alone clear = alone
 directive-whole earlier (Excludes p) alone clear = alone
 directive-whole earlier (Replaces r) alone clear =
-    both-nil (sides_kinds r.0 r.1) (unless (not (list_any (conflicts r) earlier)) ConflictingReplace) (nil-parts (sides_kinds r.0 r.1) [] alone).0 (so-none (list_any (conflicts r) earlier) ConflictingReplace clear)
+    both-nil (sides_kinds r.0 r.1) (unless (not (list_any (conflicts r) earlier)) ConflictingReplace)
+    (nil-parts (sides_kinds r.0 r.1) [] alone).0 (so-none (list_any (conflicts r) earlier) ConflictingReplace clear)
 directive-whole earlier (Retracts ends) alone clear = alone
 directive-whole earlier Kept alone clear = alone
 
@@ -165,20 +176,24 @@ abbrev pub IsClear : Option Directive → List Directive → Type 0
 IsClear None others = ⊤
 IsClear (Some d) others = list_any (do_clash d) others ≡ false
 
-entry-parts : (earlier : List Directive) (verb : Verb) (o : Option Directive) → entry_kinds Strict earlier verb o ≡ [] → (entry_kinds Strict [] verb o ≡ []) × IsClear o earlier
+entry-parts : (earlier : List Directive) (verb : Verb) (o : Option Directive) → entry_kinds Strict earlier verb o ≡ []
+    → (entry_kinds Strict [] verb o ≡ []) × IsClear o earlier
 entry-parts earlier verb None e = (e, tt)
 entry-parts earlier verb (Some d) e = directive-parts earlier d e
 
-item-parts : (earlier : List Directive) (item : Item) → item_kinds Strict earlier item ≡ [] → (item_kinds Strict [] item ≡ []) × IsClear (directive_in Strict item) earlier
+item-parts : (earlier : List Directive) (item : Item) → item_kinds Strict earlier item ≡ []
+    → (item_kinds Strict [] item ≡ []) × IsClear (directive_in Strict item) earlier
 item-parts earlier Silent e = (e, tt)
 item-parts earlier (Opening verb) e = (e, tt)
 item-parts earlier (Saying verb arguments) e = entry-parts earlier (verb_in Strict verb) (directive_of (verb_in Strict verb) arguments) e
 
-entry-whole : (earlier : List Directive) (verb : Verb) (o : Option Directive) → entry_kinds Strict [] verb o ≡ [] → IsClear o earlier → entry_kinds Strict earlier verb o ≡ []
+entry-whole : (earlier : List Directive) (verb : Verb) (o : Option Directive) → entry_kinds Strict [] verb o ≡ []
+    → IsClear o earlier → entry_kinds Strict earlier verb o ≡ []
 entry-whole earlier verb None alone clear = alone
 entry-whole earlier verb (Some d) alone clear = directive-whole earlier d alone clear
 
-item-whole : (earlier : List Directive) (item : Item) → item_kinds Strict [] item ≡ [] → IsClear (directive_in Strict item) earlier → item_kinds Strict earlier item ≡ []
+item-whole : (earlier : List Directive) (item : Item) → item_kinds Strict [] item ≡ []
+    → IsClear (directive_in Strict item) earlier → item_kinds Strict earlier item ≡ []
 item-whole earlier Silent alone clear = alone
 item-whole earlier (Opening verb) alone clear = alone
 item-whole earlier (Saying verb arguments) alone clear = entry-whole earlier (verb_in Strict verb) (directive_of (verb_in Strict verb) arguments) alone clear
@@ -190,8 +205,11 @@ abbrev AreInTurn : List Directive → List (LineInBlock Word) → Type 0
 AreInTurn earlier [] = ⊤
 AreInTurn earlier (line ∷ lines) = (item_kinds Strict earlier (item_at line) ≡ []) × AreInTurn (earlier ++ option_to_list (directive_said Strict line)) lines
 
-more-said : (before : List (LineInBlock Word)) (line : LineInBlock Word) → filter_map (directive_said Strict) (before ++ line ∷ []) ≡ filter_map (directive_said Strict) before ++ option_to_list (directive_said Strict line)
-more-said before line = filter_map-append (directive_said Strict) before (line ∷ []) ∙ ap (λ ds. filter_map (directive_said Strict) before ++ ds) (as-list (directive_said Strict line))
+more-said : (before : List (LineInBlock Word)) (line : LineInBlock Word)
+    → filter_map (directive_said Strict) (before ++ line ∷ []) ≡ filter_map (directive_said Strict) before
+    ++ option_to_list (directive_said Strict line)
+more-said before line = filter_map-append (directive_said Strict) before (line ∷ [])
+    ∙ ap (λ ds. filter_map (directive_said Strict) before ++ ds) (as-list (directive_said Strict line))
   where
     as-list : (o : Option Directive) → cons_option o [] ≡ option_to_list o
     as-list None = refl
@@ -202,19 +220,26 @@ in-turn : (before : List (LineInBlock Word)) (earlier : List Directive) (lines :
 in-turn before earlier [] is none = tt
 in-turn before earlier (line ∷ lines) is none =
     let parts = nil-parts (faults_after Strict (before, line)) (flat_map (faults_after Strict) (with_before_from (before ++ line ∷ []) lines)) none in
-    let kinds = nil-map (λ (kind : DirectiveKind). (length before + 1, kind)) (item_kinds Strict (filter_map (directive_said Strict) before) (item_at line)) parts.0 in (
+    let kinds = nil-map (λ (kind : DirectiveKind). (length before + 1, kind))
+    (item_kinds Strict (filter_map (directive_said Strict) before) (item_at line)) parts.0 in (
       subst (λ (ds : List Directive). item_kinds Strict ds (item_at line) ≡ []) is kinds,
-      in-turn (before ++ line ∷ []) (earlier ++ option_to_list (directive_said Strict line)) lines (more-said before line ∙ ap (λ (ds : List Directive). ds ++ option_to_list (directive_said Strict line)) is) parts.1,
+      in-turn (before ++ line ∷ []) (earlier ++ option_to_list (directive_said Strict line)) lines
+          (more-said before line ∙ ap (λ (ds : List Directive). ds ++ option_to_list (directive_said Strict line)) is)
+          parts.1,
     )
 
-from-turn : (before : List (LineInBlock Word)) (earlier : List Directive) (lines : List (LineInBlock Word)) → filter_map (directive_said Strict) before ≡ earlier
+from-turn : (before : List (LineInBlock Word)) (earlier : List Directive) (lines : List (LineInBlock Word))
+    → filter_map (directive_said Strict) before ≡ earlier
     → AreInTurn earlier lines → flat_map (faults_after Strict) (with_before_from before lines) ≡ []
 from-turn before earlier [] is turn = refl
 from-turn before earlier (line ∷ lines) is turn =
-    let kinds : item_kinds Strict (filter_map (directive_said Strict) before) (item_at line) ≡ [] = subst (λ (ds : List Directive). item_kinds Strict ds (item_at line) ≡ []) (sym is) turn.0 in
+    let kinds : item_kinds Strict (filter_map (directive_said Strict) before) (item_at line) ≡ [] =
+    subst (λ (ds : List Directive). item_kinds Strict ds (item_at line) ≡ []) (sym is) turn.0 in
     both-nil (faults_after Strict (before, line)) (flat_map (faults_after Strict) (with_before_from (before ++ line ∷ []) lines))
     (ap (map (λ (kind : DirectiveKind). (length before + 1, kind))) kinds)
-    (from-turn (before ++ line ∷ []) (earlier ++ option_to_list (directive_said Strict line)) lines (more-said before line ∙ ap (λ (ds : List Directive). ds ++ option_to_list (directive_said Strict line)) is) turn.1)
+    (from-turn (before ++ line ∷ []) (earlier ++ option_to_list (directive_said Strict line)) lines
+    (more-said before line ∙ ap (λ (ds : List Directive). ds ++ option_to_list (directive_said Strict line)) is)
+    turn.1)
 
 one-next : (earlier : List Directive) (o : Option Directive) (rest : List Directive) → (earlier ++ option_to_list o) ++ rest ≡ earlier ++ cons_option o rest
 one-next earlier None rest = ap (λ (ds : List Directive). ds ++ rest) (append-nil earlier)
@@ -229,22 +254,26 @@ apart-more earlier (Some d) clear apart =
 clear-before : (earlier : List Directive) (o : Option Directive) (rest : List Directive) → AreApart (earlier ++ cons_option o rest) → IsClear o earlier
 clear-before earlier None rest apart = tt
 clear-before earlier (Some d) rest apart =
-    (or_parts (list_any (do_clash d) earlier) (list_any (do_clash d) rest) (sym (list_any-append (do_clash d) earlier rest) ∙ (apart-but earlier d rest apart).0)).0
+    (or_parts (list_any (do_clash d) earlier) (list_any (do_clash d) rest)
+    (sym (list_any-append (do_clash d) earlier rest) ∙ (apart-but earlier d rest apart).0)).0
 
 turn-apart : (earlier : List Directive) (lines : List (LineInBlock Word)) → AreApart earlier → AreInTurn earlier lines
     → AllByRecursion IsRightAlone lines × AreApart (earlier ++ filter_map (directive_said Strict) lines)
 turn-apart earlier [] apart turn = (tt, subst AreApart (sym (append-nil earlier)) apart)
 turn-apart earlier (line ∷ lines) apart turn =
     let parts = item-parts earlier (item_at line) turn.0 in
-    let rest = turn-apart (earlier ++ option_to_list (directive_said Strict line)) lines (apart-more earlier (directive_said Strict line) parts.1 apart) turn.1 in
+    let rest = turn-apart (earlier ++ option_to_list (directive_said Strict line)) lines
+    (apart-more earlier (directive_said Strict line) parts.1 apart) turn.1 in
     ((parts.0, rest.0), subst AreApart (one-next earlier (directive_said Strict line) (filter_map (directive_said Strict) lines)) rest.1)
 
-apart-turn : (earlier : List Directive) (lines : List (LineInBlock Word)) → AllByRecursion IsRightAlone lines → AreApart (earlier ++ filter_map (directive_said Strict) lines) → AreInTurn earlier lines
+apart-turn : (earlier : List Directive) (lines : List (LineInBlock Word)) → AllByRecursion IsRightAlone lines
+    → AreApart (earlier ++ filter_map (directive_said Strict) lines) → AreInTurn earlier lines
 apart-turn earlier [] alone apart = tt
 apart-turn earlier (line ∷ lines) alone apart =
     let rest : List Directive = filter_map (directive_said Strict) lines in (
       item-whole earlier (item_at line) alone.0 (clear-before earlier (directive_said Strict line) rest apart),
-      apart-turn (earlier ++ option_to_list (directive_said Strict line)) lines alone.1 (subst AreApart (sym (one-next earlier (directive_said Strict line) rest)) apart),
+      apart-turn (earlier ++ option_to_list (directive_said Strict line)) lines alone.1
+          (subst AreApart (sym (one-next earlier (directive_said Strict line) rest)) apart),
     )
 
 -- ---- whole files
@@ -273,7 +302,8 @@ faultless-apart lines none =
 pub apart-faultless : (lines : List (Line Word)) → AreRightApart (with_blocks lines) → fault_of Strict lines ≡ None
 unfolding fault_of faults
 apart-faultless lines right =
-    let none : flat_map (faults_after Strict) (with_before_from [] (with_blocks lines)) ≡ [] = from-turn [] [] (with_blocks lines) refl (apart-turn [] (with_blocks lines) right.alone right.apart) in
+    let none : flat_map (faults_after Strict) (with_before_from [] (with_blocks lines)) ≡ [] =
+    from-turn [] [] (with_blocks lines) refl (apart-turn [] (with_blocks lines) right.alone right.apart) in
     rw (none, right.declared) refl
 
 -- ---- the laws
@@ -282,7 +312,12 @@ pub faultless_is_pairwise : FaultlessIsPairwise
 faultless_is_pairwise lines = (
   λ none.
       let right = faultless-apart lines none in
-      record { alone = All-from_recursion IsRightAlone (with_blocks lines) right.alone; apart = apart-pairs (directives Strict lines) right.apart; declared = right.declared },
+      record {
+        alone = All-from_recursion IsRightAlone (with_blocks lines) right.alone;
+        apart =
+            apart-pairs (directives Strict lines) right.apart;
+        declared = right.declared;
+      },
   λ right. apart-faultless lines (record {
     alone = recursion_from_All IsRightAlone (with_blocks lines) right.alone;
     apart = pairs-apart (directives Strict lines) right.apart;

@@ -46,11 +46,13 @@ fit-bad path version fails = ap (λ b. unless b Misfit) (not-tested (does_fit pa
 pub pair-sound : (path version : List ℕ) → path_kinds path ≡ [] → version_kinds version ≡ [] → Fits path version → pair_kinds (path, version) ≡ []
 pair-sound path version p v fit = rw (p, v) (fit-sound path version fit)
 
-pub pair-misfit : (path version : List ℕ) → path_kinds path ≡ [] → version_kinds version ≡ [] → ¬ (Fits path version) → first (pair_kinds (path, version)) ≡ Some Misfit
+pub pair-misfit : (path version : List ℕ) → path_kinds path ≡ [] → version_kinds version ≡ [] → ¬ (Fits path version)
+    → first (pair_kinds (path, version)) ≡ Some Misfit
 pair-misfit path version p v none = rw (p, v, fit-bad path version none) refl
 
 -- a valid path and a valid version, which fit or don't
-pub pair-read : (path version p v : List ℕ) (q : ModuleVersion) → Some path ≡ Some p → path_kinds p ≡ [] → Some version ≡ Some v → version_kinds v ≡ [] → q ≡ (p, v) → Fits p v
+pub pair-read : (path version p v : List ℕ) (q : ModuleVersion) → Some path ≡ Some p → path_kinds p ≡ []
+    → Some version ≡ Some v → version_kinds v ≡ [] → q ≡ (p, v) → Fits p v
     → (Some (pair_from path version) ≡ Some q) × (pair_kinds q ≡ [])
 pair-read path version p v q is-p sound-p is-v sound-v is-q fit =
     let e : path ≡ p = cc in

@@ -49,7 +49,9 @@ other-verb ForRetract words e = absurd (cc e)
 other-verb ForNothing words e = refl
 other-verb Unknown words e = refl
 
-verb-by : (a b c d e k : Bool) → is_retract (if a then ForModule else (if b then ForGo else (if c then ForRequire else (if d then ForExclude else (if e then ForReplace else (if k then ForNothing else Unknown)))))) ≡ false
+verb-by : (a b c d e k : Bool) → is_retract (if a then ForModule
+    else (if b then ForGo else (if c then ForRequire else
+    (if d then ForExclude else (if e then ForReplace else (if k then ForNothing else Unknown)))))) ≡ false
 unfolding is_retract
 verb-by true b c d e k = refl
 verb-by false true c d e k = refl
@@ -61,11 +63,13 @@ verb-by false false false false false false = refl
 
 not-retract : (text : List ℕ) → bytes_eq text (codes "retract") ≡ false → is_retract (main_verb text) ≡ false
 not-retract text e =
-    rw e (verb-by (bytes_eq text (codes "module")) (bytes_eq text (codes "go")) (bytes_eq text (codes "require")) (bytes_eq text (codes "exclude")) (bytes_eq text (codes "replace"))
+    rw e (verb-by (bytes_eq text (codes "module")) (bytes_eq text (codes "go")) (bytes_eq text (codes "require"))
+    (bytes_eq text (codes "exclude")) (bytes_eq text (codes "replace"))
     (bytes_eq text (codes "toolchain") || bytes_eq text (codes "godebug") || bytes_eq text (codes "tool") || bytes_eq text (codes "ignore")))
 
 -- an entry with another verb retracts nothing
-pub other-retracts : (item : Item) (verb : List ℕ) (words : List Word) → item ≡ Saying verb words → bytes_eq verb (codes "retract") ≡ false → None ≡ retraction_at item
+pub other-retracts : (item : Item) (verb : List ℕ) (words : List Word) → item ≡ Saying verb words
+    → bytes_eq verb (codes "retract") ≡ false → None ≡ retraction_at item
 other-retracts item verb words is other = sym (ap retraction_at is ∙ other-verb (main_verb verb) words (not-retract verb other))
 
 and-map : (o : Option VersionInterval) → option_and_then valid_interval (option_map Retracts o) ≡ option_and_then valid_ends o
@@ -73,7 +77,8 @@ and-map None = refl
 and-map (Some ends) = refl
 
 -- an entry with the verb `retract` retracts the interval that its arguments spell
-pub retract-retracts : (item : Item) (verb : List ℕ) (words : List Word) → item ≡ Saying verb words → bytes_eq verb (codes "retract") ≡ true → retraction_in words ≡ retraction_at item
+pub retract-retracts : (item : Item) (verb : List ℕ) (words : List Word) → item ≡ Saying verb words
+    → bytes_eq verb (codes "retract") ≡ true → retraction_in words ≡ retraction_at item
 unfolding directive_of
 retract-retracts item verb words is same =
     let e : verb ≡ codes "retract" = same_text verb (codes "retract") (sym same) in
@@ -88,14 +93,17 @@ to-list (Some d) = by (valid_interval d)
     by (Some p) = refl
 
 -- the intervals that lines retract, after one more line
-retracts-snoc : (lines : List (Line Word)) (line : Line Word) → lax_retracts_of (lines ++ line ∷ []) ≡ lax_retracts_of lines ++ option_to_list (retraction_at (item_at (block_after_lines None lines, line)))
+retracts-snoc : (lines : List (Line Word)) (line : Line Word)
+    → lax_retracts_of (lines ++ line ∷ []) ≡ lax_retracts_of lines
+    ++ option_to_list (retraction_at (item_at (block_after_lines None lines, line)))
 retracts-snoc lines line =
     ap (filter_map valid_interval) (said-once Strict lines line)
     ∙ filter_map-append valid_interval (directives Strict lines) (option_to_list (directive_in Strict (item_at (block_after_lines None lines, line))))
     ∙ ap (λ (ps : List VersionInterval). lax_retracts_of lines ++ ps) (to-list (directive_in Strict (item_at (block_after_lines None lines, line))))
 
 -- after one more line
-pub retracted-more : (lines : List (Line Word)) (block : Option Word) (line : Line Word) (intervals more : List VersionInterval) → AreRetracted lines block intervals
+pub retracted-more : (lines : List (Line Word)) (block : Option Word) (line : Line Word)
+    (intervals more : List VersionInterval) → AreRetracted lines block intervals
     → more ≡ intervals ++ option_to_list (retraction_at (item_at (block, line))) → AreRetracted (lines ++ line ∷ []) (block_after_line block line) more
 retracted-more lines block line intervals more so is = record {
   open_is = ap (λ (b : Option Word). block_after_line b line) so.open_is ∙ sym (block-snoc None lines line);
@@ -104,7 +112,8 @@ retracted-more lines block line intervals more so is = record {
       ∙ sym (retracts-snoc lines line);
 }
 
-pub retractions-more : (lines : List (Line Word)) (here : Line Word) (block : Option Word) (old new : Retractions) → AreRetractionsOf lines old → block ≡ word_of old.block
+pub retractions-more : (lines : List (Line Word)) (here : Line Word) (block : Option Word) (old new : Retractions)
+    → AreRetractionsOf lines old → block ≡ word_of old.block
     → interval_views new.intervals.items ≡ interval_views old.intervals.items ++ option_to_list (retraction_at (item_at (block, here)))
     → word_of new.block ≡ block_after_line (word_of old.block) here → AreRetractionsOf (lines ++ here ∷ []) new
 retractions-more lines here block old new so is added after =
@@ -125,12 +134,16 @@ retracted-sofar left lines here said read so =
     (lines ++ here ∷ [], read, subst (λ (ls : List (Line Word)). AreRetractionsOf ls said) (sym (map_push plain lines here)) so)
 
 -- an interval that was read
-pub ends-read : (part : Option VersionInterval) (interval : Interval) → IsPartRead interval_view WrongArguments ends_kinds part (Ok interval) → Some (interval_view interval) ≡ option_and_then valid_ends part
+pub ends-read : (part : Option VersionInterval) (interval : Interval)
+    → IsPartRead interval_view WrongArguments ends_kinds part (Ok interval)
+    → Some (interval_view interval) ≡ option_and_then valid_ends part
 ends-read part interval read =
     sym (ap (option_and_then valid_ends) read.0 ∙ ap (λ (ks : List DirectiveKind). if length ks == 0 then Some (interval_view interval) else None) read.1)
 
 -- an interval that was refused
-pub ends-refused : (part : Option VersionInterval) (kind : DirectiveKind) → IsPartRead {Y = Interval} interval_view WrongArguments ends_kinds part (Err (line.Kind kind)) → None ≡ option_and_then valid_ends part
+pub ends-refused : (part : Option VersionInterval) (kind : DirectiveKind)
+    → IsPartRead {Y = Interval} interval_view WrongArguments ends_kinds part (Err (line.Kind kind))
+    → None ≡ option_and_then valid_ends part
 ends-refused None kind read = refl
 ends-refused (Some ends) kind read = by (ends_kinds ends) read
   where

@@ -22,7 +22,8 @@ use Rattle.gm_name.proofs.Logic.{or-false}
 skip : {Y : Type 0} (h : Directive → Option Y) (ds : List Directive) (d : Directive) → h d ≡ None → filter_map h (ds ++ d ∷ []) ≡ filter_map h ds
 skip {Y} h ds d e = filter_map-append h ds (d ∷ []) ∙ ap (λ (o : Option Y). filter_map h ds ++ cons_option o []) e ∙ append-nil (filter_map h ds)
 
-put : {Y : Type 0} (h : Directive → Option Y) (ds : List Directive) (d : Directive) (y : Y) → h d ≡ Some y → filter_map h (ds ++ d ∷ []) ≡ filter_map h ds ++ y ∷ []
+put : {Y : Type 0} (h : Directive → Option Y) (ds : List Directive) (d : Directive) (y : Y) → h d ≡ Some y
+    → filter_map h (ds ++ d ∷ []) ≡ filter_map h ds ++ y ∷ []
 put {Y} h ds d y e = filter_map-append h ds (d ∷ []) ∙ ap (λ (o : Option Y). filter_map h ds ++ cons_option o []) e
 
 or-true : (a : Bool) → (a || (true || false)) ≡ true
@@ -43,13 +44,15 @@ first-old : {X : Type 0} (xs : List X) (x y : X) → first xs ≡ Some y → fir
 first-old [] x y e = cc e
 first-old (z ∷ xs) x y e = e
 
-none-by : {X : Type 0} (o : Option X) (b rest : Bool) (xs : List X) → b ≡ is_some o → (b || rest) ≡ false → (rest ≡ false → first xs ≡ None) → first (cons_option o xs) ≡ None
+none-by : {X : Type 0} (o : Option X) (b rest : Bool) (xs : List X) → b ≡ is_some o → (b || rest) ≡ false
+    → (rest ≡ false → first xs ≡ None) → first (cons_option o xs) ≡ None
 none-by None true rest xs s e later = absurd (cc s)
 none-by None false rest xs s e later = later e
 none-by (Some x) true rest xs s e later = absurd (cc e)
 none-by (Some x) false rest xs s e later = absurd (cc s)
 
-none-first : {X : Type 0} (h : Directive → Option X) (p : Directive → Bool) → ((d : Directive) → p d ≡ is_some (h d)) → (ds : List Directive) → list_any p ds ≡ false → first (filter_map h ds) ≡ None
+none-first : {X : Type 0} (h : Directive → Option X) (p : Directive → Bool) → ((d : Directive) → p d ≡ is_some (h d))
+    → (ds : List Directive) → list_any p ds ≡ false → first (filter_map h ds) ≡ None
 none-first h p same [] e = refl
 none-first h p same (d ∷ ds) e = none-by (h d) (p d) (list_any p ds) (filter_map h ds) (same d) e (none-first h p same ds)
 
@@ -71,7 +74,9 @@ is_module-given (Replaces r) = refl
 is_module-given (Retracts ends) = refl
 is_module-given Kept = refl
 
-module _ {mode : Mode} {ds : List Directive} {declared : Option (List ℕ)} {go : Option (ℕ × ℕ)} {requirements excludes : List ModuleVersion} {replaces : List Replacing} {retracts : List VersionInterval} (say : HaveFields mode ds declared go requirements excludes replaces retracts) where
+module _ {mode : Mode} {ds : List Directive} {declared : Option (List ℕ)} {go : Option (ℕ × ℕ)}
+    {requirements excludes : List ModuleVersion} {replaces : List Replacing} {retracts : List VersionInterval}
+    (say : HaveFields mode ds declared go requirements excludes replaces retracts) where
   -- a directive that gives nothing to any field leaves all of them unchanged
   pub say-kept : HaveFields mode (ds ++ Kept ∷ []) declared go requirements excludes replaces retracts
   say-kept = record {
@@ -133,9 +138,12 @@ module _ {mode : Mode} {ds : List Directive} {declared : Option (List ℕ)} {go 
     retracts_are = put as_interval ds d ends refl ∙ ap (λ (ps : List VersionInterval). ps ++ ends ∷ []) say.retracts_are;
   }
 
-  pub say-module : (path : List ℕ) → is_some declared ≡ false → HaveFields mode (ds ++ DeclaresModule path ∷ []) (Some path) go requirements excludes replaces retracts
+  pub say-module : (path : List ℕ) → is_some declared ≡ false
+      → HaveFields mode (ds ++ DeclaresModule path ∷ []) (Some path) go requirements excludes replaces retracts
   say-module path none = let d = DeclaresModule path in record {
-    declared_is = ap first (put as_module ds d path refl) ∙ first-new (filter_map as_module ds) path (none-first as_module is_module is_module-given ds (say.is_declared ∙ none));
+    declared_is = ap first (put as_module ds d path refl)
+        ∙ first-new (filter_map as_module ds) path (none-first as_module is_module is_module-given ds
+        (say.is_declared ∙ none));
     is_declared = hit is_module ds d refl;
     go_is = ap (λ (ts : List (List ℕ)). option_and_then (go_in mode) (first ts)) (skip as_go ds d refl) ∙ say.go_is;
     is_given = pass is_go ds d refl ∙ say.is_given;
@@ -145,7 +153,8 @@ module _ {mode : Mode} {ds : List Directive} {declared : Option (List ℕ)} {go 
     retracts_are = skip as_interval ds d refl ∙ say.retracts_are;
   }
 
-  pub say-go : (text : List ℕ) (numbers : ℕ × ℕ) → is_some go ≡ false → go_in mode text ≡ Some numbers → HaveFields mode (ds ++ DeclaresGo text ∷ []) declared (Some numbers) requirements excludes replaces retracts
+  pub say-go : (text : List ℕ) (numbers : ℕ × ℕ) → is_some go ≡ false → go_in mode text ≡ Some numbers
+      → HaveFields mode (ds ++ DeclaresGo text ∷ []) declared (Some numbers) requirements excludes replaces retracts
   say-go text numbers none read = let d = DeclaresGo text in record {
     declared_is = ap first (skip as_module ds d refl) ∙ say.declared_is;
     is_declared = pass is_module ds d refl ∙ say.is_declared;
@@ -176,38 +185,46 @@ none-behind kinds b kind none e = rw (none, e) refl
 one-behind : (kinds : List DirectiveKind) (b : Bool) (kind : DirectiveKind) → kinds ≡ [] → b ≡ true → first (kinds ++ unless (not b) kind) ≡ Some kind
 one-behind kinds b kind none e = rw (none, e) refl
 
-pub module-right : (mode : Mode) (ds : List Directive) (path : List ℕ) → path_kinds path ≡ [] → list_any is_module ds ≡ false → directive_kinds mode ds (DeclaresModule path) ≡ []
+pub module-right : (mode : Mode) (ds : List Directive) (path : List ℕ) → path_kinds path ≡ []
+    → list_any is_module ds ≡ false → directive_kinds mode ds (DeclaresModule path) ≡ []
 unfolding directive_kinds
 module-right mode ds path early none = none-behind (path_kinds path) (list_any is_module ds) Repeated early none
 
-pub module-repeated : (mode : Mode) (ds : List Directive) (path : List ℕ) → path_kinds path ≡ [] → list_any is_module ds ≡ true → first (directive_kinds mode ds (DeclaresModule path)) ≡ Some Repeated
+pub module-repeated : (mode : Mode) (ds : List Directive) (path : List ℕ) → path_kinds path ≡ []
+    → list_any is_module ds ≡ true → first (directive_kinds mode ds (DeclaresModule path)) ≡ Some Repeated
 unfolding directive_kinds
 module-repeated mode ds path early some = one-behind (path_kinds path) (list_any is_module ds) Repeated early some
 
-pub go-right : (mode : Mode) (ds : List Directive) (text : List ℕ) (numbers : ℕ × ℕ) → list_any is_go ds ≡ false → go_in mode text ≡ Some numbers → directive_kinds mode ds (DeclaresGo text) ≡ []
+pub go-right : (mode : Mode) (ds : List Directive) (text : List ℕ) (numbers : ℕ × ℕ) → list_any is_go ds ≡ false
+    → go_in mode text ≡ Some numbers → directive_kinds mode ds (DeclaresGo text) ≡ []
 unfolding directive_kinds
 go-right mode ds text numbers none read = rw (none, read) refl
 
-pub go-repeated : (mode : Mode) (ds : List Directive) (text : List ℕ) → list_any is_go ds ≡ true → first (directive_kinds mode ds (DeclaresGo text)) ≡ Some Repeated
+pub go-repeated : (mode : Mode) (ds : List Directive) (text : List ℕ) → list_any is_go ds ≡ true
+    → first (directive_kinds mode ds (DeclaresGo text)) ≡ Some Repeated
 unfolding directive_kinds
 go-repeated mode ds text some = rw some refl
 
-pub go-bad : (mode : Mode) (ds : List Directive) (text : List ℕ) → list_any is_go ds ≡ false → go_in mode text ≡ None → first (directive_kinds mode ds (DeclaresGo text)) ≡ Some BadGo
+pub go-bad : (mode : Mode) (ds : List Directive) (text : List ℕ) → list_any is_go ds ≡ false → go_in mode text ≡ None
+    → first (directive_kinds mode ds (DeclaresGo text)) ≡ Some BadGo
 unfolding directive_kinds
 go-bad mode ds text none unread = rw (none, unread) refl
 
-pub replace-right : (mode : Mode) (ds : List Directive) (r : Replacing) → own_kinds (Replaces r) ≡ [] → list_any (is_conflict r) (filter_map as_replacing ds) ≡ false → directive_kinds mode ds (Replaces r) ≡ []
+pub replace-right : (mode : Mode) (ds : List Directive) (r : Replacing) → own_kinds (Replaces r) ≡ []
+    → list_any (is_conflict r) (filter_map as_replacing ds) ≡ false → directive_kinds mode ds (Replaces r) ≡ []
 unfolding directive_kinds
 replace-right mode ds r early none = none-behind (own_kinds (Replaces r)) (list_any (conflicts r) ds) ConflictingReplace early (conflicts-lines r ds ∙ none)
 
-pub replace-conflicts : (mode : Mode) (ds : List Directive) (r : Replacing) → own_kinds (Replaces r) ≡ [] → list_any (is_conflict r) (filter_map as_replacing ds) ≡ true
+pub replace-conflicts : (mode : Mode) (ds : List Directive) (r : Replacing) → own_kinds (Replaces r) ≡ []
+    → list_any (is_conflict r) (filter_map as_replacing ds) ≡ true
     → first (directive_kinds mode ds (Replaces r)) ≡ Some ConflictingReplace
 unfolding directive_kinds
 replace-conflicts mode ds r early some = one-behind (own_kinds (Replaces r)) (list_any (conflicts r) ds) ConflictingReplace early (conflicts-lines r ds ∙ some)
 
 -- the result of adding a replace that conflicts with an earlier one
 pub conflict-reported : (mode : Mode) (old new : Fields) (r : Replacing) (replaces : List Replacing) (fault : LineFault) → own_kinds (Replaces r) ≡ []
-    → ((ds : List Directive) → Holds mode ds old → filter_map as_replacing ds ≡ replaces) → ReportsConflict r replaces (Err fault) → IsAdded mode old new (Replaces r) (Err fault)
+    → ((ds : List Directive) → Holds mode ds old → filter_map as_replacing ds ≡ replaces)
+    → ReportsConflict r replaces (Err fault) → IsAdded mode old new (Replaces r) (Err fault)
 conflict-reported mode old new r replaces line.NoMemory early are told = tt
 conflict-reported mode old new r replaces (line.Kind kind) early are told = λ ds holds.
     replace-conflicts mode ds r early (ap (list_any (is_conflict r)) (are ds holds) ∙ told.1) ∙ ap Some (sym told.0)

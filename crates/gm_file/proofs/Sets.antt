@@ -15,7 +15,9 @@ or-by false false true e = cc e
 or-by false false false e = refl
 
 -- the set after one more line
-pub set-with : (old new : set.BTreeSet ModuleVersion) (lines : List ModuleVersion) (p : ModuleVersion) → ((q : ModuleVersion) → set.contains pair_cmp old q ≡ list_any (λ y. pair_eq y q) lines) → set.Updates pair_cmp old new p true
+pub set-with : (old new : set.BTreeSet ModuleVersion) (lines : List ModuleVersion) (p : ModuleVersion)
+    → ((q : ModuleVersion) → set.contains pair_cmp old q ≡ list_any (λ y. pair_eq y q) lines)
+    → set.Updates pair_cmp old new p true
     → (q : ModuleVersion) → set.contains pair_cmp new q ≡ list_any (λ y. pair_eq y q) (lines ++ p ∷ [])
 set-with old new lines p same updates q =
     updates.0 q ∙ ap (λ (c : Bool). cond (is_eq (pair_cmp p q)) true c) (same q)

@@ -45,13 +45,15 @@ pub none-open : (block : Option Placed) → is_some block ≡ false → block �
 none-open None e = refl
 none-open (Some verb) e = absurd (cc e)
 
-pub pair-in-block : (block : Option Placed) (path version : List ℕ) (suffix : Option (List ℕ)) → IfSome block (λ verb. verb.word.spelling ≡ codes "require") → is_some block ≡ true
+pub pair-in-block : (block : Option Placed) (path version : List ℕ) (suffix : Option (List ℕ))
+    → IfSome block (λ verb. verb.word.spelling ≡ codes "require") → is_some block ≡ true
     → item_at (word_of block, pair_line path version suffix) ≡ require_item path version
 unfolding item_at
 pair-in-block None path version suffix spelled e = absurd (cc e)
 pair-in-block (Some verb) path version suffix spelled e = ap (λ (text : List ℕ). Saying text (bare_word path ∷ bare_word version ∷ [])) spelled
 
-pub pair-outside : (block : Option Placed) (verb value : List ℕ) (suffix : Option (List ℕ)) → is_some block ≡ false → item_at (word_of block, pair_line verb value suffix) ≡ single_item verb value
+pub pair-outside : (block : Option Placed) (verb value : List ℕ) (suffix : Option (List ℕ)) → is_some block ≡ false
+    → item_at (word_of block, pair_line verb value suffix) ≡ single_item verb value
 unfolding item_at
 pair-outside None verb value suffix e = refl
 pair-outside (Some word) verb value suffix e = absurd (cc e)
@@ -63,7 +65,8 @@ triple-outside None path version suffix e = refl
 triple-outside (Some word) path version suffix e = absurd (cc e)
 
 -- three words in a block of `require` are too many
-triple-in-block : (block : Option Placed) (path version : List ℕ) (suffix : Option (List ℕ)) → IfSome block (λ verb. verb.word.spelling ≡ codes "require") → is_some block ≡ true → (ds : List Directive)
+triple-in-block : (block : Option Placed) (path version : List ℕ) (suffix : Option (List ℕ))
+    → IfSome block (λ verb. verb.word.spelling ≡ codes "require") → is_some block ≡ true → (ds : List Directive)
     → first (item_kinds Lax ds (item_at (word_of block, triple_line (codes "require") path version suffix))) ≡ Some WrongArguments
 unfolding item_at directive_of
 triple-in-block None path version suffix spelled e ds = absurd (cc e)
@@ -72,7 +75,8 @@ triple-in-block (Some verb) path version suffix spelled e ds =
 
 -- ---- the lines with one more
 
-pub triple-refused : (lines : List (Line Word)) (path version : List ℕ) (suffix : Option (List ℕ)) (old : DepLines) → TakesSimple old → is_some old.block ≡ true → AreDepLines lines old
+pub triple-refused : (lines : List (Line Word)) (path version : List ℕ) (suffix : Option (List ℕ)) (old : DepLines)
+    → TakesSimple old → is_some old.block ≡ true → AreDepLines lines old
     → HasNextFault lines (triple_line (codes "require") path version suffix) (line.Kind WrongArguments)
 triple-refused lines path version suffix old takes opened so =
     dep-fault lines (triple_line (codes "require") path version suffix) (word_of old.block) old old.fields (line.Kind WrongArguments) so refl
@@ -80,18 +84,22 @@ triple-refused lines path version suffix old takes opened so =
 
 module _ (lines : List (Line Word)) (path version : List ℕ) (words : List Word) (suffix : Option (List ℕ)) (old : DepLines)
     (item : item_at (word_of old.block, Entry words suffix) ≡ require_item path version) (so : AreDepLines lines old) where
-  requires-more : (fields : Fields) → HaveIndexes fields → IsLineAdded Lax old.fields fields (require_item path version) (Ok tt) → AreDepLines (lines ++ Entry words suffix ∷ []) (record old { fields = fields })
+  requires-more : (fields : Fields) → HaveIndexes fields
+      → IsLineAdded Lax old.fields fields (require_item path version) (Ok tt)
+      → AreDepLines (lines ++ Entry words suffix ∷ []) (record old { fields = fields })
   requires-more fields found added =
       let here : Line Word = Entry words suffix in
       dep-more lines here (word_of old.block) old (record old { fields = fields }) so refl found
       (subst (λ (i : Item). IsLineAdded Lax old.fields fields i (Ok tt)) (sym item) added) refl
 
-  requires-fault : (new : Fields) (fault : LineFault) → IsLineAdded Lax old.fields new (require_item path version) (Err fault) → HasNextFault lines (Entry words suffix) fault
+  requires-fault : (new : Fields) (fault : LineFault) → IsLineAdded Lax old.fields new (require_item path version)
+      (Err fault) → HasNextFault lines (Entry words suffix) fault
   requires-fault new fault told =
       dep-fault lines (Entry words suffix) (word_of old.block) old new fault so refl
       (subst (λ (i : Item). IsLineAdded Lax old.fields new i (Err fault)) (sym item) told)
 
-  pub entry-next : (fields : Fields) (result : Result (Unit {0}) LineFault) → OnOk result (HaveIndexes fields) → IsLineAdded Lax old.fields fields (require_item path version) result
+  pub entry-next : (fields : Fields) (result : Result (Unit {0}) LineFault) → OnOk result (HaveIndexes fields)
+      → IsLineAdded Lax old.fields fields (require_item path version) result
       → IsNextLineOf lines (Entry words suffix) (record old { fields = fields }) result
   entry-next fields (Ok u) found added = requires-more fields found added
   entry-next fields (Err fault) found told = requires-fault fields fault told
@@ -102,7 +110,9 @@ module _ (lines : List (Line Word)) (path version : List ℕ) (words : List Word
       → IsPartRead {Y = Unit {0}} (λ _. (path, version)) WrongArguments pair_kinds (Some (path, version)) result
       → IsNextLineOf lines (Entry words suffix) (record old { fields = record old.fields { requirements = now } }) result
   required-next now (Ok u) found items told =
-      requires-more (record old.fields { requirements = now }) (record { excludes = found.excludes; replaces = found.replaces }) (require-added old.fields now path version (Ok u) items told)
+      requires-more (record old.fields { requirements = now })
+      (record { excludes = found.excludes; replaces = found.replaces })
+      (require-added old.fields now path version (Ok u) items told)
   required-next now (Err fault) found items told =
       requires-fault (record old.fields { requirements = now }) fault (require-added old.fields now path version (Err fault) items told)
 
@@ -112,28 +122,34 @@ pub single-module : (verb value : List ℕ) → bytes_eq verb (codes "module") �
 unfolding directive_of
 single-module verb value is = rw is refl
 
-pub single-go : (verb value : List ℕ) → bytes_eq verb (codes "module") ≡ false → bytes_eq verb (codes "go") ≡ true → directive_in Lax (single_item verb value) ≡ Some (DeclaresGo value)
+pub single-go : (verb value : List ℕ) → bytes_eq verb (codes "module") ≡ false → bytes_eq verb (codes "go") ≡ true
+    → directive_in Lax (single_item verb value) ≡ Some (DeclaresGo value)
 unfolding directive_of
 single-go verb value a is = rw (a, is) refl
 
-pub single-require : (verb value : List ℕ) → bytes_eq verb (codes "module") ≡ false → bytes_eq verb (codes "go") ≡ false → bytes_eq verb (codes "require") ≡ true
+pub single-require : (verb value : List ℕ) → bytes_eq verb (codes "module") ≡ false → bytes_eq verb (codes "go") ≡ false
+    → bytes_eq verb (codes "require") ≡ true
     → (ds : List Directive) → first (item_kinds Lax ds (single_item verb value)) ≡ Some WrongArguments
 unfolding directive_of
 single-require verb value a b is ds = rw (a, b, is) refl
 
-pub single-nothing : (verb value : List ℕ) → bytes_eq verb (codes "module") ≡ false → bytes_eq verb (codes "go") ≡ false → bytes_eq verb (codes "require") ≡ false
+pub single-nothing : (verb value : List ℕ) → bytes_eq verb (codes "module") ≡ false → bytes_eq verb (codes "go") ≡ false
+    → bytes_eq verb (codes "require") ≡ false
     → directive_in Lax (single_item verb value) ≡ Some Kept
 unfolding directive_of
 single-nothing verb value a b c = rw (a, b, c) refl
 
-pub single-bad : (old new : Fields) (verb value : List ℕ) (fault : LineFault) → bytes_eq verb (codes "module") ≡ true → IsPartRead {Y = List ℕ} (λ path. path) WrongArguments path_kinds (Some value) (Err fault)
+pub single-bad : (old new : Fields) (verb value : List ℕ) (fault : LineFault) → bytes_eq verb (codes "module") ≡ true
+    → IsPartRead {Y = List ℕ} (λ path. path) WrongArguments path_kinds (Some value) (Err fault)
     → IsLineAdded Lax old new (single_item verb value) (Err fault)
 unfolding directive_of directive_kinds
 single-bad old new verb value line.NoMemory is told = tt
 single-bad old new verb value (line.Kind kind) is told = rw is (λ ds holds. first-append (path_kinds value) _ kind told)
 
-pub single-next : (lines : List (Line Word)) (verb value : List ℕ) (suffix : Option (List ℕ)) (old : DepLines) (new : Fields) (result : Result (Unit {0}) LineFault) → is_some old.block ≡ false → AreDepLines lines old
-    → OnOk result (HaveIndexes new) → IsLineAdded Lax old.fields new (single_item verb value) result → IsNextLineOf lines (pair_line verb value suffix) (record old { fields = new }) result
+pub single-next : (lines : List (Line Word)) (verb value : List ℕ) (suffix : Option (List ℕ)) (old : DepLines)
+    (new : Fields) (result : Result (Unit {0}) LineFault) → is_some old.block ≡ false → AreDepLines lines old
+    → OnOk result (HaveIndexes new) → IsLineAdded Lax old.fields new (single_item verb value) result
+    → IsNextLineOf lines (pair_line verb value suffix) (record old { fields = new }) result
 single-next lines verb value suffix old new (Ok u) none so found added =
     dep-more lines (pair_line verb value suffix) (word_of old.block) old (record old { fields = new }) so refl found
     (subst (λ (i : Item). IsLineAdded Lax old.fields new i (Ok tt)) (sym (pair-outside old.block verb value suffix none)) added) refl
@@ -163,22 +179,27 @@ module _ (lines : List (Line Placed)) (left : Unread) (said : DepLines) (so : Ar
   blank-said read = (
     Blank,
     read,
-    level-more (plain_lines lines) Blank Silent said said.block (blank-item (word_of said.block)) so (λ ds holds. (same-fields said.fields ds holds, refl)) refl,
+    level-more (plain_lines lines) Blank Silent said said.block (blank-item (word_of said.block)) so
+        (λ ds holds. (same-fields said.fields ds holds, refl)) refl,
   )
 
-  pub opening-said : (verb : Placed) → verb.word.spelling ≡ codes "require" → IsOpeningRead left lines verb → IsLineSaid left lines (record said { block = Some verb }) (Ok tt)
+  pub opening-said : (verb : Placed) → verb.word.spelling ≡ codes "require" → IsOpeningRead left lines verb
+      → IsLineSaid left lines (record said { block = Some verb }) (Ok tt)
   opening-said verb spelled (suffix, read) =
       let kinds : opening_kinds (verb_in Lax verb.word.spelling) ≡ [] = ap (λ (text : List ℕ). opening_kinds (verb_in Lax text)) spelled in (
         Open verb suffix,
         read,
-        level-more (plain_lines lines) (Open verb.word suffix) (Opening verb.word.spelling) said (Some verb) (opening-item (word_of said.block) verb.word suffix) so (λ ds holds. (same-fields said.fields ds holds, kinds)) refl,
+        level-more (plain_lines lines) (Open verb.word suffix) (Opening verb.word.spelling) said (Some verb)
+            (opening-item (word_of said.block) verb.word suffix) so
+            (λ ds holds. (same-fields said.fields ds holds, kinds)) refl,
       )
 
   pub closing-said : HasRead left (lines ++ Close None ∷ []) → IsLineSaid left lines (record said { block = None }) (Ok tt)
   closing-said read = (
     Close None,
     read,
-    level-more (plain_lines lines) (Close None) Silent said None (closing-item (word_of said.block)) so (λ ds holds. (same-fields said.fields ds holds, refl)) refl,
+    level-more (plain_lines lines) (Close None) Silent said None (closing-item (word_of said.block)) so
+        (λ ds holds. (same-fields said.fields ds holds, refl)) refl,
   )
 
 -- a line of words, whatever its comment

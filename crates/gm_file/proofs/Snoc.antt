@@ -8,7 +8,9 @@ use Rattle.gm_syntax.specs.Document.{Line}
 use Rattle.gm_file.specs.Directives.{Mode, LineInBlock, block_after_lines, block_after_line, directives, item_at, directive_said, with_blocks, with_blocks_from}
 use Rattle.gm_file.specs.Faults.{faults, faults_after, item_kinds, with_before, with_before_from}
 
-pub with_blocks-snoc : {W : Type 0} (block : Option W) (lines more : List (Line W)) → with_blocks_from block (lines ++ more) ≡ with_blocks_from block lines ++ with_blocks_from (block_after_lines block lines) more
+pub with_blocks-snoc : {W : Type 0} (block : Option W) (lines more : List (Line W))
+    → with_blocks_from block (lines ++ more) ≡ with_blocks_from block lines
+    ++ with_blocks_from (block_after_lines block lines) more
 with_blocks-snoc block [] more = refl
 with_blocks-snoc block (line ∷ lines) more = ap (λ ss. (block, line) ∷ ss) (with_blocks-snoc (block_after_line block line) lines more)
 
@@ -26,11 +28,14 @@ length-with_blocks block (line ∷ lines) = ap suc (length-with_blocks (block_af
 pub directives-snoc : (mode : Mode) (lines : List (Line Word)) (line : Line Word)
     → directives mode (lines ++ line ∷ []) ≡ directives mode lines ++ filter_map (directive_said mode) ((block_after_lines None lines, line) ∷ [])
 directives-snoc mode lines line =
-    ap (filter_map (directive_said mode)) (with_blocks-snoc None lines (line ∷ [])) ∙ filter_map-append (directive_said mode) (with_blocks lines) ((block_after_lines None lines, line) ∷ [])
+    ap (filter_map (directive_said mode)) (with_blocks-snoc None lines (line ∷ []))
+    ∙ filter_map-append (directive_said mode) (with_blocks lines) ((block_after_lines None lines, line) ∷ [])
 
 -- the faults after one more line: those of the lines before it, and then its own
 pub faults-snoc : (mode : Mode) (lines : List (Line Word)) (line : Line Word)
-    → faults mode (lines ++ line ∷ []) ≡ faults mode lines ++ map (λ kind. (length lines + 1, kind)) (item_kinds mode (directives mode lines) (item_at (block_after_lines None lines, line)))
+    → faults mode (lines ++ line ∷ []) ≡ faults mode lines
+    ++ map (λ kind. (length lines + 1, kind)) (item_kinds mode (directives mode lines)
+    (item_at (block_after_lines None lines, line)))
 unfolding faults
 faults-snoc mode lines line =
     let seat : LineInBlock Word = (block_after_lines None lines, line) in
@@ -38,4 +43,6 @@ faults-snoc mode lines line =
     ∙ ap (flat_map (faults_after mode)) (before-snoc [] (with_blocks lines) seat)
     ∙ flat_map-append (faults_after mode) (with_before (with_blocks lines)) ((with_blocks lines, seat) ∷ [])
     ∙ ap (λ fs. flat_map (faults_after mode) (with_before (with_blocks lines)) ++ fs) (append-nil (faults_after mode (with_blocks lines, seat)))
-    ∙ ap (λ n. flat_map (faults_after mode) (with_before (with_blocks lines)) ++ map (λ kind. (n + 1, kind)) (item_kinds mode (directives mode lines) (item_at seat))) (length-with_blocks None lines)
+    ∙ ap (λ n. flat_map (faults_after mode) (with_before (with_blocks lines))
+    ++ map (λ kind. (n + 1, kind)) (item_kinds mode (directives mode lines) (item_at seat)))
+    (length-with_blocks None lines)

@@ -21,12 +21,14 @@ taken_more : (ps : List VersionInterval) (n : ℕ) (d : VersionInterval) → n <
 taken_more ps n d within = ap (λ i. take i ps) (add-one n) ∙ take-suc ps n d within
 
 -- after one more interval, which begins at the version or before
-pub swept_more : (ps : List VersionInterval) (v : List ℕ) (n : ℕ) (reach : Option (List ℕ)) (p : VersionInterval) (high : List ℕ) → AreSwept ps v n reach → n < length ps
+pub swept_more : (ps : List VersionInterval) (v : List ℕ) (n : ℕ) (reach : Option (List ℕ)) (p : VersionInterval)
+    (high : List ℕ) → AreSwept ps v n reach → n < length ps
     → p ≡ slice_index_or ps n p → is_at_most p.0 v ≡ true → ((w : List ℕ) → is_at_most w high ≡ (is_reached w reach || is_at_most w p.1))
     → AreSwept ps v (n + 1) (Some high)
 swept_more ps v n reach p high swept within item begins far = record {
   within = omega arith;
-  begun = list_all_more (λ (ends : VersionInterval). is_at_most ends.0 v) ps n p within ∙ and_from _ _ swept.begun (subst (λ (q : VersionInterval). is_at_most q.0 v ≡ true) item begins);
+  begun = list_all_more (λ (ends : VersionInterval). is_at_most ends.0 v) ps n p within
+      ∙ and_from _ _ swept.begun (subst (λ (q : VersionInterval). is_at_most q.0 v ≡ true) item begins);
   reached = λ w. far w ∙ ap₂ (λ (x y : Bool). x || y) (swept.reached w) (ap (λ (q : VersionInterval). is_at_most w q.1) item ∙ sym (or-false _))
       ∙ sym (list_any-append (λ (ends : VersionInterval). is_at_most w ends.1) (take n ps) (slice_index_or ps n p ∷ []))
       ∙ ap (list_any (λ (ends : VersionInterval). is_at_most w ends.1)) (sym (taken_more ps n p within));
@@ -45,7 +47,8 @@ all_later v w order (q ∷ qs) begun =
     split false b e = cc e
 
 -- the state remains valid for a later version
-pub swept_later : (ps : List VersionInterval) (v w : List ℕ) (n : ℕ) (reach : Option (List ℕ)) → AreSwept ps v n reach → version_cmp v w ≡ Less → AreSwept ps w n reach
+pub swept_later : (ps : List VersionInterval) (v w : List ℕ) (n : ℕ) (reach : Option (List ℕ)) → AreSwept ps v n reach
+    → version_cmp v w ≡ Less → AreSwept ps w n reach
 swept_later ps v w n reach swept less = record {
   within = swept.within;
   begun = all_later v w (upto_less v w less) (take n ps) swept.begun;
@@ -56,7 +59,8 @@ swept_later ps v w n reach swept less = record {
 held_begun : (v : List ℕ) (qs : List VersionInterval) → list_all (λ (ends : VersionInterval). is_at_most ends.0 v) qs ≡ true
     → list_any (holds_version v) qs ≡ list_any (λ (ends : VersionInterval). is_at_most v ends.1) qs
 held_begun v [] begun = refl
-held_begun v (q ∷ qs) begun = first (is_at_most q.0 v) (is_at_most v q.1) (list_all (λ (ends : VersionInterval). is_at_most ends.0 v) qs) (list_any (holds_version v) qs)
+held_begun v (q ∷ qs) begun = first (is_at_most q.0 v) (is_at_most v q.1)
+    (list_all (λ (ends : VersionInterval). is_at_most ends.0 v) qs) (list_any (holds_version v) qs)
     (list_any (λ (ends : VersionInterval). is_at_most v ends.1) qs) begun (held_begun v qs)
   where
     first : (low high all some reached : Bool) → (low && all) ≡ true → (all ≡ true → some ≡ reached) → ((low && high) || some) ≡ (high || reached)
@@ -65,16 +69,20 @@ held_begun v (q ∷ qs) begun = first (is_at_most q.0 v) (is_at_most v q.1) (lis
     first false high all some reached e same = cc e
 
 -- if the first interval begins after the version, all do, and none contains it
-late_all : (v low : List ℕ) → is_at_most low v ≡ false → (qs : List VersionInterval) → AllByRecursion (λ (other : VersionInterval). is_at_most low other.0 ≡ true) qs
+late_all : (v low : List ℕ) → is_at_most low v ≡ false → (qs : List VersionInterval)
+    → AllByRecursion (λ (other : VersionInterval). is_at_most low other.0 ≡ true) qs
     → list_any (holds_version v) qs ≡ false
 late_all v low late [] above = refl
-late_all v low late (q ∷ qs) above = first (is_at_most q.0 v) (is_at_most v q.1) _ (late_all v low late qs above.1) (λ begins. let e : true ≡ false = sym (upto_trans low q.0 v above.0 begins) ∙ late in cc)
+late_all v low late (q ∷ qs) above = first (is_at_most q.0 v) (is_at_most v q.1) _ (late_all v low late qs above.1)
+    (λ begins. let e : true ≡ false = sym (upto_trans low q.0 v above.0 begins) ∙ late in cc)
   where
     first : (low high some : Bool) → some ≡ false → (low ≡ true → ⊥) → ((low && high) || some) ≡ false
     first true high some e not_begun = absurd (not_begun refl)
     first false high some e not_begun = e
 
-late_rest : (v : List ℕ) (qs : List VersionInterval) → Ascend qs → ((d : VersionInterval) → 0 < length qs → is_at_most (slice_index_or qs 0 d).0 v ≡ false) → list_any (holds_version v) qs ≡ false
+late_rest : (v : List ℕ) (qs : List VersionInterval) → Ascend qs
+    → ((d : VersionInterval) → 0 < length qs → is_at_most (slice_index_or qs 0 d).0 v ≡ false)
+    → list_any (holds_version v) qs ≡ false
 late_rest v [] ascend late = refl
 late_rest v (q ∷ qs) ascend late = first (is_at_most q.0 v) (is_at_most v q.1) _ (late q (omega arith)) (late_all v q.0 (late q (omega arith)) qs ascend.0)
   where
@@ -93,7 +101,8 @@ late_drop v ps zero late d within = late d within
 late_drop v [] (suc n) late d within = absurd (omega arith)
 late_drop v (p ∷ ps) (suc n) late d within = late_drop v ps n (λ e inside. late e (omega arith)) d within
 
-any_take_drop : (v : List ℕ) (ps : List VersionInterval) (n : ℕ) → list_any (holds_version v) ps ≡ (list_any (holds_version v) (take n ps) || list_any (holds_version v) (drop n ps))
+any_take_drop : (v : List ℕ) (ps : List VersionInterval) (n : ℕ)
+    → list_any (holds_version v) ps ≡ (list_any (holds_version v) (take n ps) || list_any (holds_version v) (drop n ps))
 any_take_drop v ps zero = refl
 any_take_drop v [] (suc n) = refl
 any_take_drop v (p ∷ ps) (suc n) = ap (λ b. holds_version v p || b) (any_take_drop v ps n) ∙ grouped (holds_version v p) _ _
@@ -103,7 +112,8 @@ any_take_drop v (p ∷ ps) (suc n) = ap (λ b. holds_version v p || b) (any_take
     grouped false b c = refl
 
 -- an interval contains the version exactly if the highest end is not below it
-pub held_is : (ps : List VersionInterval) (v : List ℕ) (n : ℕ) (reach : Option (List ℕ)) → Ascend ps → AreAllSwept ps v n reach → is_retracted ps v ≡ is_reached v reach
+pub held_is : (ps : List VersionInterval) (v : List ℕ) (n : ℕ) (reach : Option (List ℕ)) → Ascend ps
+    → AreAllSwept ps v n reach → is_retracted ps v ≡ is_reached v reach
 held_is ps v n reach ascend all =
     any_take_drop v ps n ∙ ap₂ (λ (x y : Bool). x || y) (held_begun v (take n ps) all.swept.begun ∙ sym (all.swept.reached v))
     (late_rest v (drop n ps) (ascend_drop ps n ascend) (late_drop v ps n all.ended)) ∙ or-false _
@@ -143,10 +153,11 @@ ready_rest ps vs i v n reach within item sorted swept =
 
 filter_kept : (p : List ℕ → Bool) (xs : List (List ℕ)) (x : List ℕ) → p x ≡ true → filter p (xs ++ x ∷ []) ≡ filter p xs ++ x ∷ []
 filter_kept p [] x kept = rw kept refl
-filter_kept p (y ∷ xs) x kept = elim (p y) as (λ b. cond b (y ∷ filter p (xs ++ x ∷ [])) (filter p (xs ++ x ∷ [])) ≡ cond b (y ∷ filter p xs) (filter p xs) ++ x ∷ []) [
-  | true ↦ ap (λ (zs : List (List ℕ)). y ∷ zs) (filter_kept p xs x kept)
-  | false ↦ filter_kept p xs x kept
-]
+filter_kept p (y ∷ xs) x kept = elim (p y) as (λ b. cond b (y ∷ filter p (xs ++ x ∷ [])) (filter p (xs ++ x ∷ []))
+    ≡ cond b (y ∷ filter p xs) (filter p xs) ++ x ∷ []) [
+      | true ↦ ap (λ (zs : List (List ℕ)). y ∷ zs) (filter_kept p xs x kept)
+      | false ↦ filter_kept p xs x kept
+    ]
 
 filter_left : (p : List ℕ → Bool) (xs : List (List ℕ)) (x : List ℕ) → p x ≡ false → filter p (xs ++ x ∷ []) ≡ filter p xs
 filter_left p [] x left = rw left refl
@@ -159,7 +170,9 @@ taken : (vs : List (List ℕ)) (i : ℕ) (v : List ℕ) → i < length vs → v 
 taken vs i v within item = ap (λ n. take n vs) (add-one i) ∙ take-suc vs i v within ∙ ap (λ (x : List ℕ). take i vs ++ x ∷ []) (sym item)
 
 -- the version is shown if it is above the highest end, and left out otherwise
-module _ (ps intervals : List VersionInterval) (sorted : AreSorted ps intervals) (vs : List (List ℕ)) (i : ℕ) (v : List ℕ) (within : i < length vs) (item : v ≡ slice_index_or vs i v) (n : ℕ) (reach : Option (List ℕ)) (all : AreAllSwept ps v n reach) (reached : Bool) (is : reached ≡ is_reached v reach) where
+module _ (ps intervals : List VersionInterval) (sorted : AreSorted ps intervals) (vs : List (List ℕ)) (i : ℕ)
+    (v : List ℕ) (within : i < length vs) (item : v ≡ slice_index_or vs i v) (n : ℕ) (reach : Option (List ℕ))
+    (all : AreAllSwept ps v n reach) (reached : Bool) (is : reached ≡ is_reached v reach) where
   held_here : is_retracted intervals v ≡ reached
   held_here = sym (sorted.same v) ∙ held_is ps v n reach sorted.ascend all ∙ sym is
 

@@ -58,7 +58,8 @@ before-append {X} before (x ∷ xs) ys =
     ∙ ap (λ (b : List X). with_before_from (before ++ x ∷ []) xs ++ with_before_from b ys) (append_assoc before (x ∷ []) xs))
 
 -- the faults of later lines have higher line numbers
-none-rest : (mode : Mode) (m : ℕ) (k : DirectiveKind) (before rest : List (LineInBlock Word)) → m ≤ length before → NoneBefore (m, k) (flat_map (faults_after mode) (with_before_from before rest))
+none-rest : (mode : Mode) (m : ℕ) (k : DirectiveKind) (before rest : List (LineInBlock Word)) → m ≤ length before
+    → NoneBefore (m, k) (flat_map (faults_after mode) (with_before_from before rest))
 none-rest mode m k before [] le = tt
 none-rest mode m k before (seat ∷ rest) le =
     let next : m ≤ length (before ++ seat ∷ []) = omega (arith, le, length-append before (seat ∷ [])) in
@@ -71,12 +72,14 @@ abbrev pub kinds_at : Mode → List (Line Word) → Line Word → List Directive
 kinds_at mode before line = item_kinds mode (directives mode before) (item_at (block_after_lines None before, line))
 
 split-faults : (mode : Mode) (lines later : List (Line Word))
-    → faults mode (lines ++ later) ≡ faults mode lines ++ flat_map (faults_after mode) (with_before_from (with_blocks lines) (with_blocks_from (block_after_lines None lines) later))
+    → faults mode (lines ++ later) ≡ faults mode lines ++ flat_map (faults_after mode)
+    (with_before_from (with_blocks lines) (with_blocks_from (block_after_lines None lines) later))
 unfolding faults
 split-faults mode lines later =
     ap (λ ss. flat_map (faults_after mode) (with_before_from [] ss)) (with_blocks-snoc None lines later)
     ∙ ap (flat_map (faults_after mode)) (before-append [] (with_blocks lines) (with_blocks_from (block_after_lines None lines) later))
-    ∙ flat_map-append (faults_after mode) (with_before_from [] (with_blocks lines)) (with_before_from (with_blocks lines) (with_blocks_from (block_after_lines None lines) later))
+    ∙ flat_map-append (faults_after mode) (with_before_from [] (with_blocks lines))
+    (with_before_from (with_blocks lines) (with_blocks_from (block_after_lines None lines) later))
 
 -- if the lines before a line have no fault, the first fault of this line is reported
 pub reported-at : (mode : Mode) (before : List (Line Word)) (line : Line Word) (later : List (Line Word)) (k : DirectiveKind)
@@ -87,10 +90,13 @@ reported-at mode before line later k none one first =
     let n = length before + 1 in
     let here = map (λ kind. (n, kind)) (kinds_at mode before line) in
     let with_line : faults mode (before ++ line ∷ []) ≡ here = faults-snoc mode before line ∙ ap (λ (fs : List Fault). fs ++ here) none in
-    let rest = flat_map (faults_after mode) (with_before_from (with_blocks (before ++ line ∷ [])) (with_blocks_from (block_after_lines None (before ++ line ∷ [])) later)) in
-    let whole : faults mode ((before ++ line ∷ []) ++ later) ≡ here ++ rest = split-faults mode (before ++ line ∷ []) later ∙ ap (λ (fs : List Fault). fs ++ rest) with_line in
+    let rest = flat_map (faults_after mode) (with_before_from (with_blocks (before ++ line ∷ []))
+    (with_blocks_from (block_after_lines None (before ++ line ∷ [])) later)) in
+    let whole : faults mode ((before ++ line ∷ []) ++ later) ≡ here ++ rest =
+    split-faults mode (before ++ line ∷ []) later ∙ ap (λ (fs : List Fault). fs ++ rest) with_line in
     let size : length (with_blocks (before ++ line ∷ [])) ≡ n = length-with_blocks None (before ++ line ∷ []) ∙ length-append before (line ∷ []) in
     let is : first_of (here ++ rest) ≡ Some (n, k) = first-is (here ++ rest) (n, k) (one-append (n, k) here rest (one-map n k (kinds_at mode before line) one))
-    (none-append (n, k) here rest (none-map n k (kinds_at mode before line) first) (none-rest mode n k (with_blocks (before ++ line ∷ [])) _ (omega (arith, size)))) in
+    (none-append (n, k) here rest (none-map n k (kinds_at mode before line) first)
+    (none-rest mode n k (with_blocks (before ++ line ∷ [])) _ (omega (arith, size)))) in
     ap (λ (fs : List Fault). option_or (first_of fs) (missing_module mode (directives mode ((before ++ line ∷ []) ++ later)))) whole
     ∙ ap (λ (o : Option Fault). option_or o (missing_module mode (directives mode ((before ++ line ∷ []) ++ later)))) is

@@ -18,7 +18,8 @@ unfolding fault_of
 only-missing mode lines f read = ap (λ (fs : List Fault). option_or (first_of fs) (missing_module mode (directives mode lines))) read.sound
 
 -- the fault of a missing module, by whether a path is declared
-missing-by : (lines : List (Line Word)) (f : Fields) (b : Bool) → AreRead Strict lines f → is_some f.declared ≡ b → fault_of Strict lines ≡ (if b then None else Some (0, NoModule))
+missing-by : (lines : List (Line Word)) (f : Fields) (b : Bool) → AreRead Strict lines f → is_some f.declared ≡ b
+    → fault_of Strict lines ≡ (if b then None else Some (0, NoModule))
 missing-by lines f b read is = only-missing Strict lines f read ∙ ap (λ (x : Bool). if x then None else Some (0, NoModule)) (read.holds.is_declared ∙ is)
 
 pub none-declared : (lines : List (Line Word)) (f : Fields) → AreRead Strict lines f → f.declared ≡ None → fault_of Strict lines ≡ Some (0, NoModule)
@@ -27,7 +28,8 @@ none-declared lines f read none = missing-by lines f false read (ap is_some none
 pub main-sound : (lines : List (Line Word)) (f : Fields) (path : List ℕ) → AreRead Strict lines f → f.declared ≡ Some path → fault_of Strict lines ≡ None
 main-sound lines f path read is = missing-by lines f true read (ap is_some is)
 
-pub main-held : (lines : List (Line Word)) (f : Fields) (path : List ℕ) (go : ℕ × ℕ) → AreRead Strict lines f → f.declared ≡ Some path → go ≡ unwrap_or f.go (1, 16)
+pub main-held : (lines : List (Line Word)) (f : Fields) (path : List ℕ) (go : ℕ × ℕ) → AreRead Strict lines f
+    → f.declared ≡ Some path → go ≡ unwrap_or f.go (1, 16)
     → AreMainFields lines path go f.requirements.items f.excludes f.replaces f.retracts.items
 main-held lines f path go read is go-is = record {
   sound = main-sound lines f path read is;
@@ -47,7 +49,8 @@ lax-sound lines f read = only-missing Lax lines f read
 abbrev pub dependency : Option (List ℕ) → ℕ × ℕ → List ModuleVersion → Dependency
 dependency declared go requirements = record { declared = declared; go = go; requirements = requirements }
 
-pub dependency-is : (lines : List (Line Word)) (f : Fields) (go : ℕ × ℕ) → AreRead Lax lines f → go ≡ unwrap_or f.go (1, 16) → dependency f.declared go f.requirements.items ≡ dependency_of lines
+pub dependency-is : (lines : List (Line Word)) (f : Fields) (go : ℕ × ℕ) → AreRead Lax lines f
+    → go ≡ unwrap_or f.go (1, 16) → dependency f.declared go f.requirements.items ≡ dependency_of lines
 dependency-is lines f go read go-is =
     let number : go ≡ go_of Lax lines = go-is ∙ sym (ap (λ (o : Option (ℕ × ℕ)). unwrap_or o (1, 16)) read.holds.go_is) in
     ap (λ (d : Option (List ℕ)). dependency d go f.requirements.items) (sym read.holds.declared_is)

@@ -50,7 +50,8 @@ pre-from [] h = refl
 pre-from (b ∷ rest) h = h
 
 -- the text before `.0.` in a pre-release is a pre-release too
-pub pre-before : (pre before time revision : List ℕ) → is_pre_release pre ≡ true → IsStamp pre (before ++ codes ".0.") time revision → is_pre_release before ≡ true
+pub pre-before : (pre before time revision : List ℕ) → is_pre_release pre ≡ true
+    → IsStamp pre (before ++ codes ".0.") time revision → is_pre_release before ≡ true
 pre-before pre before time revision valid stamp =
     let cut = front-identifiers pre before time revision stamp in
     let some : 0 < length pre = stamp-some pre _ time revision stamp in
@@ -113,7 +114,15 @@ base-parts version base is_version is =
           let shape = parts-shape cut.0 in
           let longer : parts p.3 ≡ parts second.0 ++ shape.0 ∷ shape.1 = cut.1 ∙ ap (λ (l : List (List ℕ)). parts second.0 ++ l) shape.2 in
           let lower : IsLowerList IsLowerIdentifier (parts second.0) (parts p.3) = (parts second.0, inr (shape.0, shape.1, refl, longer)) in
-          let some : 0 < length p.3 = omega (arith, ap length second.2.joined, second.1, length-append (((second.0 ++ codes ".0.") ++ is.0) ++ codes "-") is.1, length-append ((second.0 ++ codes ".0.") ++ is.0) (codes "-"), length-append (second.0 ++ codes ".0.") is.0, length-append second.0 (codes ".0.")) in (
+          let some : 0 < length p.3 = omega (
+            arith,
+            ap length second.2.joined,
+            second.1,
+            length-append (((second.0 ++ codes ".0.") ++ is.0) ++ codes "-") is.1,
+            length-append ((second.0 ++ codes ".0.") ++ is.0) (codes "-"),
+            length-append (second.0 ++ codes ".0.") is.0,
+            length-append second.0 (codes ".0."),
+          ) in (
             (p.0, p.1, p.2, second.0, p.4),
             (valid.0, valid.1, valid.2, pre-before p.3 second.0 is.0 is.1 valid.3 second.2, valid.4),
             refl,
@@ -147,7 +156,8 @@ base-lower version base is_version is =
     subst (λ (q : Parts). HasLowerPrecedence q (parts_in version)) (sym same) b.4
 
 -- the pseudo-versions with a base are those of the second and third form
-pub base-forms : (version : List ℕ) → ((base : List ℕ) × IsBase version base) ↔ ((form : ℕ) × (time revision : List ℕ) × (1 < form) × IsPseudo version form time revision)
+pub base-forms : (version : List ℕ) → ((base : List ℕ) × IsBase version base)
+    ↔ ((form : ℕ) × (time revision : List ℕ) × (1 < form) × IsPseudo version form time revision)
 base-forms version = (
   λ some. let b = base-pseudo version some.0 some.1 in (b.0, b.1, b.2, b.3, b.5),
   λ some.

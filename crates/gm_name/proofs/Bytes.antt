@@ -28,7 +28,8 @@ weaker p q gives (x ∷ xs) all = and_from _ _ (gives x (first_so _ _ all)) (wea
 pub all-append : (p : ℕ → Bool) (xs ys : List ℕ) → list_all p xs ≡ true → list_all p ys ≡ true → list_all p (xs ++ ys) ≡ true
 all-append p xs ys a b = rw (list_all-append p xs ys) (and_from _ _ a b)
 
-pub all-join : (p : ℕ → Bool) (c : ℕ) (pieces : List (List ℕ)) → p c ≡ true → list_all (λ piece. list_all p piece) pieces ≡ true → list_all p (join_with_byte c pieces) ≡ true
+pub all-join : (p : ℕ → Bool) (c : ℕ) (pieces : List (List ℕ)) → p c ≡ true
+    → list_all (λ piece. list_all p piece) pieces ≡ true → list_all p (join_with_byte c pieces) ≡ true
 all-join p c [] mark each = refl
 all-join p c (x ∷ []) mark each = first_so _ _ each
 all-join p c (x ∷ y ∷ rest) mark each =
@@ -42,13 +43,15 @@ path-byte b h = rw h refl
 -- the bytes of elements and of the slashes between them
 pub elements-bytes : (text : List ℕ) → list_all is_element (elements text) ≡ true → list_all is_byte_of_path text ≡ true
 elements-bytes text all =
-    let each = weaker is_element (λ e. list_all is_byte_of_path e) (λ e h. weaker is_path_byte is_byte_of_path path-byte e (element-bytes e h)) (elements text) all in
+    let each = weaker is_element (λ e. list_all is_byte_of_path e)
+    (λ e h. weaker is_path_byte is_byte_of_path path-byte e (element-bytes e h)) (elements text) all in
     rw (join_with_byte-slice_split 47 text) at (all-join is_byte_of_path 47 (elements text) refl each)
 
 -- a path has only letters, digits, `-`, `.`, `_`, `~` and `/`
 pub path-bytes : (text : List ℕ) → IsPath text → list_all is_byte_of_path text ≡ true
 path-bytes text path =
-    let each = weaker is_element (λ e. list_all is_byte_of_path e) (λ e h. weaker is_path_byte is_byte_of_path path-byte e (element-bytes e h)) path.elements path.each in
+    let each = weaker is_element (λ e. list_all is_byte_of_path e)
+    (λ e h. weaker is_path_byte is_byte_of_path path-byte e (element-bytes e h)) path.elements path.each in
     rw path.joined (all-join is_byte_of_path 47 path.elements refl each)
 
 -- ---- versions

@@ -17,7 +17,8 @@ after-blank b xs e = rw e (grind (arith, common_steps))
 after-word : (b : ℕ) (xs : List ℕ) → is_blank_byte b ≡ false → after_blanks (b ∷ xs) ≡ b ∷ xs
 after-word b xs e = rw e refl
 
-fields_after_step : (b : ℕ) (xs : List ℕ) (blank : Bool) → is_blank_byte b ≡ blank → fields xs ≡ fields (after_blanks xs) → fields (b ∷ xs) ≡ fields (after_blanks (b ∷ xs))
+fields_after_step : (b : ℕ) (xs : List ℕ) (blank : Bool) → is_blank_byte b ≡ blank
+    → fields xs ≡ fields (after_blanks xs) → fields (b ∷ xs) ≡ fields (after_blanks (b ∷ xs))
 fields_after_step b xs true e rest = fields-blank b xs e ∙ rest ∙ ap fields (sym (after-blank b xs e))
 fields_after_step b xs false e rest = ap fields (sym (after-word b xs e))
 
@@ -25,7 +26,9 @@ fields-after : (line : List ℕ) → fields line ≡ fields (after_blanks line)
 fields-after [] = refl
 fields-after (b ∷ xs) = fields_after_step b xs (is_blank_byte b) refl (fields-after xs)
 
-begins_step : (b : ℕ) (xs : List ℕ) (blank : Bool) → is_blank_byte b ≡ blank → ((c : ℕ) (ys : List ℕ) → after_blanks xs ≡ c ∷ ys → is_blank_byte c ≡ false) → (c : ℕ) (ys : List ℕ) → after_blanks (b ∷ xs) ≡ c ∷ ys → is_blank_byte c ≡ false
+begins_step : (b : ℕ) (xs : List ℕ) (blank : Bool) → is_blank_byte b ≡ blank
+    → ((c : ℕ) (ys : List ℕ) → after_blanks xs ≡ c ∷ ys → is_blank_byte c ≡ false) → (c : ℕ) (ys : List ℕ)
+    → after_blanks (b ∷ xs) ≡ c ∷ ys → is_blank_byte c ≡ false
 begins_step b xs true e rest c ys is = rest c ys (sym (after-blank b xs e) ∙ is)
 begins_step b xs false e rest c ys is = let same : b ≡ c = cc (sym (after-word b xs e) ∙ is) in ap is_blank_byte (sym same) ∙ e
 
@@ -36,16 +39,20 @@ begins (b ∷ xs) c ys is = begins_step b xs (is_blank_byte b) refl (begins xs) 
 none_before : (x : ℕ) (xs : List ℕ) → is_blank_byte x ≡ true → position_or_len is_blank_byte (x ∷ xs) ≡ 0
 none_before x xs e = rw e refl
 
-take_before : (x : ℕ) (xs : List ℕ) → is_blank_byte x ≡ false → take (position_or_len is_blank_byte (x ∷ xs)) (x ∷ xs) ≡ x ∷ take (position_or_len is_blank_byte xs) xs
+take_before : (x : ℕ) (xs : List ℕ) → is_blank_byte x ≡ false
+    → take (position_or_len is_blank_byte (x ∷ xs)) (x ∷ xs) ≡ x ∷ take (position_or_len is_blank_byte xs) xs
 take_before x xs e = rw e (grind (arith, common_steps))
 
-drop_before : (x : ℕ) (xs : List ℕ) → is_blank_byte x ≡ false → drop (position_or_len is_blank_byte (x ∷ xs)) (x ∷ xs) ≡ drop (position_or_len is_blank_byte xs) xs
+drop_before : (x : ℕ) (xs : List ℕ) → is_blank_byte x ≡ false
+    → drop (position_or_len is_blank_byte (x ∷ xs)) (x ∷ xs) ≡ drop (position_or_len is_blank_byte xs) xs
 drop_before x xs e = rw e (grind (arith, common_steps))
 
 some_length : (n : ℕ) → nat_lt 0 (n + 1) ≡ true
 some_length n = grind (arith, nat_tests)
 
-long_word : (x : ℕ) (word : List ℕ) (others : List (List ℕ)) → filter (λ word. nat_lt 0 (length word)) ((x ∷ word) ∷ others) ≡ (x ∷ word) ∷ filter (λ word. nat_lt 0 (length word)) others
+long_word : (x : ℕ) (word : List ℕ) (others : List (List ℕ))
+    → filter (λ word. nat_lt 0 (length word)) ((x ∷ word) ∷ others) ≡ (x ∷ word)
+    ∷ filter (λ word. nat_lt 0 (length word)) others
 long_word x word others = let some : nat_lt 0 (length (x ∷ word)) ≡ true = grind (arith, nat_tests) in rw some refl
 
 suc_none : (n : ℕ) → (suc n == 0) ≡ true → ⊥
@@ -74,7 +81,9 @@ cuts_word : (xs : List ℕ) → CutsWord xs
 cuts_word [] = record { others = []; cut = refl; rest = refl }
 cuts_word (x ∷ xs) = word_step x xs (is_blank_byte x) refl (cuts_word xs)
 
-fields_from : (xs : List ℕ) → ((c : ℕ) (ys : List ℕ) → xs ≡ c ∷ ys → is_blank_byte c ≡ false) → fields xs ≡ prepend_word (take (position_or_len is_blank_byte xs) xs) (fields (drop (position_or_len is_blank_byte xs) xs))
+fields_from : (xs : List ℕ) → ((c : ℕ) (ys : List ℕ) → xs ≡ c ∷ ys → is_blank_byte c ≡ false)
+    → fields xs ≡ prepend_word (take (position_or_len is_blank_byte xs) xs)
+    (fields (drop (position_or_len is_blank_byte xs) xs))
 fields_from [] word = refl
 fields_from (x ∷ xs) word =
     let e = word x xs refl in
@@ -85,7 +94,8 @@ fields_from (x ∷ xs) word =
     ∙ ap (λ word. prepend_word word (fields (drop (position_or_len is_blank_byte (x ∷ xs)) (x ∷ xs)))) (sym (take_before x xs e))
 
 -- the fields of a line are its first word, if there is one, and the fields of the rest
-pub fields_step : (line : List ℕ) → fields line ≡ prepend_word (first_word line) (fields (drop (position_or_len is_blank_byte (after_blanks line)) (after_blanks line)))
+pub fields_step : (line : List ℕ) → fields line ≡ prepend_word (first_word line)
+    (fields (drop (position_or_len is_blank_byte (after_blanks line)) (after_blanks line)))
 fields_step line = fields-after line ∙ fields_from (after_blanks line) (begins line)
 
 -- ---- the cut of a line
@@ -105,7 +115,8 @@ blank_step x xs true e ends = record {
 blank_step x xs false e ends = record {
   parts = ap (λ text. x ∷ text) ends.parts ∙ ap (λ word. word ++ drop (position_or_len is_blank_byte xs) xs) (sym (take_before x xs e))
       ∙ ap (λ rest. take (position_or_len is_blank_byte (x ∷ xs)) (x ∷ xs) ++ rest) (sym (drop_before x xs e));
-  is_word = ap (list_any is_blank_byte) (take_before x xs e) ∙ ap (λ b. b || list_any is_blank_byte (take (position_or_len is_blank_byte xs) xs)) e ∙ ends.is_word;
+  is_word = ap (list_any is_blank_byte) (take_before x xs e)
+      ∙ ap (λ b. b || list_any is_blank_byte (take (position_or_len is_blank_byte xs) xs)) e ∙ ends.is_word;
   ends_word = subst EndsWord (sym (drop_before x xs e)) ends.ends_word;
 }
 
@@ -133,7 +144,8 @@ word_first b xs e =
 -- a line that begins with a blank
 blank_first : (b : ℕ) (xs : List ℕ) → is_blank_byte b ≡ true → IsCut xs (first_word xs) (rest_of xs) → IsCut (b ∷ xs) (first_word (b ∷ xs)) (rest_of (b ∷ xs))
 blank_first b xs e cut =
-    subst (λ text. IsCut (b ∷ xs) (take (position_or_len is_blank_byte text) text) (drop (position_or_len is_blank_byte text) text)) (sym (after-blank b xs e)) (record {
+    subst (λ text. IsCut (b ∷ xs) (take (position_or_len is_blank_byte text) text)
+    (drop (position_or_len is_blank_byte text) text)) (sym (after-blank b xs e)) (record {
       blanks = b ∷ cut.blanks;
       parts = ap (λ text. b ∷ text) cut.parts;
       are_blank = ap (λ blank. blank && list_all is_blank_byte cut.blanks) e ∙ cut.are_blank;
@@ -142,7 +154,8 @@ blank_first b xs e cut =
       all_blank = cut.all_blank;
     })
 
-first_by : (b : ℕ) (xs : List ℕ) (blank : Bool) → is_blank_byte b ≡ blank → IsCut xs (first_word xs) (rest_of xs) → IsCut (b ∷ xs) (first_word (b ∷ xs)) (rest_of (b ∷ xs))
+first_by : (b : ℕ) (xs : List ℕ) (blank : Bool) → is_blank_byte b ≡ blank → IsCut xs (first_word xs) (rest_of xs)
+    → IsCut (b ∷ xs) (first_word (b ∷ xs)) (rest_of (b ∷ xs))
 first_by b xs true e cut = blank_first b xs e cut
 first_by b xs false e cut = word_first b xs e
 

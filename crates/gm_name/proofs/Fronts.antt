@@ -43,13 +43,15 @@ stem-within text = elim (cases_lt (prefix_len is_path_byte text) (prefix_len is_
   | inl beyond ↦
       let bound = prefix_len-le-length is_stem_byte text in
       let stops = prefix_len_stops is_path_byte text 0 (omega arith) in
-      let passes = stem_byte-path (get_or text (prefix_len is_path_byte text) 0) (prefix_len_passes is_stem_byte text (prefix_len is_path_byte text) 0 beyond) in
+      let passes = stem_byte-path (get_or text (prefix_len is_path_byte text) 0)
+      (prefix_len_passes is_stem_byte text (prefix_len is_path_byte text) 0 beyond) in
       absurd (true≢false (sym passes ∙ stops))
   | inr within ↦ within
 ]
 
 -- its bytes are counted from the first dot on
-pub front-len : (text : List ℕ) → prefix_len is_stem_byte text + prefix_len is_path_byte (drop (prefix_len is_stem_byte text) text) ≡ prefix_len is_path_byte text
+pub front-len : (text : List ℕ) → prefix_len is_stem_byte text + prefix_len is_path_byte
+    (drop (prefix_len is_stem_byte text) text) ≡ prefix_len is_path_byte text
 front-len text =
     let m = prefix_len is_stem_byte text in
     let after = drop m text in
@@ -91,7 +93,8 @@ front-stem text =
 -- ---- the elements of a text, by its front
 
 -- the front is the whole text
-pub elements-whole : (text : List ℕ) → length text ≤ prefix_len is_path_byte text → list_all is_element (elements text) ≡ is_element (take_while is_path_byte text)
+pub elements-whole : (text : List ℕ) → length text ≤ prefix_len is_path_byte text
+    → list_all is_element (elements text) ≡ is_element (take_while is_path_byte text)
 elements-whole text end =
     let whole = take_all (prefix_len is_path_byte text) text end in
     let one = slice_split_none (λ b. b == 47) text (λ k d lt. path_byte-no_slash _ (prefix_len_passes is_path_byte text k d (omega arith))) in
@@ -99,11 +102,13 @@ elements-whole text end =
 
 -- a slash follows the front
 pub at-slash : (text : List ℕ) → prefix_len is_path_byte text < length text → get_or text (prefix_len is_path_byte text) 0 ≡ 47
-    → list_all is_element (elements text) ≡ (is_element (take_while is_path_byte text) && list_all is_element (elements (drop (prefix_len is_path_byte text + 1) text)))
+    → list_all is_element (elements text) ≡ (is_element (take_while is_path_byte text) && list_all is_element
+    (elements (drop (prefix_len is_path_byte text + 1) text)))
 at-slash text inside slash =
     let n = prefix_len is_path_byte text in
     let first : position_or_len (λ b. b == 47) text ≡ n =
-    position_or_len_is (λ b. b == 47) text n 0 (omega arith) (λ k lt. path_byte-no_slash _ (prefix_len_passes is_path_byte text k 0 lt)) (λ lt. rw slash refl) in
+    position_or_len_is (λ b. b == 47) text n 0 (omega arith)
+    (λ k lt. path_byte-no_slash _ (prefix_len_passes is_path_byte text k 0 lt)) (λ lt. rw slash refl) in
     let cut = slice_split_first (λ b. b == 47) text 0 (rw first inside) in
     ap (λ (pieces : List (List ℕ)). list_all is_element pieces) (rw first at cut)
 

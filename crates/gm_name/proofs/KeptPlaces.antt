@@ -19,7 +19,8 @@ put_value values value false None within = refl
 put_value values value false (Some place) within = before values value place (within place refl)
 
 -- A value that takes the place of another is found under the tag of the place, and under no other.
-pub put_again : {V : Type 0} (values : List V) (value : V) (index : TagIndex) (tag place : ℕ) → ArePlacesBelow index (length values) → place_under index tag ≡ Some place
+pub put_again : {V : Type 0} (values : List V) (value : V) (index : TagIndex) (tag place : ℕ)
+    → ArePlacesBelow index (length values) → place_under index tag ≡ Some place
     → (t : ℕ) → option_and_then (λ p. slice_get (set values place value) p) (place_under index t)
     ≡ cond (nat_eq tag t) (Some value) (option_and_then (λ p. slice_get values p) (place_under index t))
 put_again {V} values value index tag place are is t = by (nat_eq tag t) refl (place_under index t) refl

@@ -72,22 +72,26 @@ tells-none None P t = t
 abbrev pub EndsSo : List ℕ → List ℕ → ℕ → Type 0
 EndsSo text mark n = (n < 2 ^ 64) × EndsInNumber text mark n
 
-with-bound : (text mark rest : List ℕ) (r : Option ℕ) → Tells r (IsNumber rest) → IfSome r (EndsInNumber text mark) → IfNone r ((n : ℕ) → n < 2 ^ 64 → ¬ (EndsInNumber text mark n))
+with-bound : (text mark rest : List ℕ) (r : Option ℕ) → Tells r (IsNumber rest) → IfSome r (EndsInNumber text mark)
+    → IfNone r ((n : ℕ) → n < 2 ^ 64 → ¬ (EndsInNumber text mark n))
     → Tells r (EndsSo text mark)
 with-bound text mark rest (Some n) number some none = (number.0, some)
 with-bound text mark rest None number some none = λ n ends. none n ends.0 ends.1
 
-after-by : (text mark : List ℕ) (b : Bool) → b ≡ ends_with nat_eq (head is_ascii_digit text) mark → 0 < length mark → is_ascii_digit (get_or mark (length mark - 1) 0) ≡ false
+after-by : (text mark : List ℕ) (b : Bool) → b ≡ ends_with nat_eq (head is_ascii_digit text) mark → 0 < length mark
+    → is_ascii_digit (get_or mark (length mark - 1) 0) ≡ false
     → Tells (if b then number_in (tail is_ascii_digit text) else None) (EndsSo text mark)
 after-by text mark true is some stop =
     let cases = number-cases (tail is_ascii_digit text) in
     let r = number_in (tail is_ascii_digit text) in
-    let m = number_marked text mark (head is_ascii_digit text) (tail is_ascii_digit text) true r refl refl is some stop refl (tells-some r _ cases) (tells-none r _ cases) in
+    let m = number_marked text mark (head is_ascii_digit text) (tail is_ascii_digit text) true r refl refl is some stop
+    refl (tells-some r _ cases) (tells-none r _ cases) in
     with-bound text mark (tail is_ascii_digit text) r cases m.0 m.1
 after-by text mark false is some stop = λ n ends.
     number_unmarked text mark (head is_ascii_digit text) false refl is some stop refl n ends.0 ends.1
 
-after-cases : (text mark : List ℕ) → 0 < length mark → is_ascii_digit (get_or mark (length mark - 1) 0) ≡ false → Tells (number_after mark text) (EndsSo text mark)
+after-cases : (text mark : List ℕ) → 0 < length mark → is_ascii_digit (get_or mark (length mark - 1) 0) ≡ false
+    → Tells (number_after mark text) (EndsSo text mark)
 after-cases text mark some stop = after-by text mark (ends_with nat_eq (head is_ascii_digit text) mark) refl some stop
 
 -- ---- `.vN` and `.vN-unstable`
@@ -104,21 +108,27 @@ unstable-some text stable n false is joined ends =
     let positive : 0 < n = grind (arith, nat_tests) in
     (ends.0, inr (positive, stable, joined, ends.1))
 
-unstable-by : (text stable : List ℕ) (r : Option ℕ) → text ≡ stable ++ codes "-unstable" → Tells r (EndsSo stable (codes ".v")) → Tells (option_and_then (at_least 1) r) (EndsSoDot text)
+unstable-by : (text stable : List ℕ) (r : Option ℕ) → text ≡ stable ++ codes "-unstable"
+    → Tells r (EndsSo stable (codes ".v")) → Tells (option_and_then (at_least 1) r) (EndsSoDot text)
 unstable-by text stable (Some n) joined ends = unstable-some text stable n (nat_lt n 1) refl joined ends
 unstable-by text stable None joined none = λ n dot. dot_unstable_none text stable joined (λ m small e. none m (small, e)) n dot.0 dot.1
 
-stable-by : (text : List ℕ) (r : Option ℕ) → ((stable : List ℕ) → text ≢ stable ++ codes "-unstable") → Tells r (EndsSo text (codes ".v")) → Tells r (EndsSoDot text)
+stable-by : (text : List ℕ) (r : Option ℕ) → ((stable : List ℕ) → text ≢ stable ++ codes "-unstable")
+    → Tells r (EndsSo text (codes ".v")) → Tells r (EndsSoDot text)
 stable-by text (Some n) apart ends = (ends.0, inl ends.1)
 stable-by text None apart none = λ n dot. dot_stable_none text None apart (λ m small e. none m (small, e)) n dot.0 dot.1
 
 dot-by : (text : List ℕ) (b : Bool) → b ≡ ends_with nat_eq text (codes "-unstable")
-    → Tells (if b then option_and_then (at_least 1) (number_after (codes ".v") (take (length text - 9) text)) else number_after (codes ".v") text) (EndsSoDot text)
+    → Tells (if b then option_and_then (at_least 1) (number_after (codes ".v") (take (length text - 9) text))
+    else number_after (codes ".v") text) (EndsSoDot text)
 dot-by text true is =
     let stable = take (length text - 9) text in
-    unstable-by text stable (number_after (codes ".v") stable) ((ends_is Decides-eqb text (codes "-unstable") true is).0 refl) (after-cases stable (codes ".v") (omega arith) refl)
+    unstable-by text stable (number_after (codes ".v") stable)
+    ((ends_is Decides-eqb text (codes "-unstable") true is).0 refl)
+    (after-cases stable (codes ".v") (omega arith) refl)
 dot-by text false is =
-    let apart : (stable : List ℕ) → text ≢ stable ++ codes "-unstable" = λ stable joined. cc ((ends_is Decides-eqb text (codes "-unstable") false is).1 stable joined) in
+    let apart : (stable : List ℕ) → text ≢ stable ++ codes "-unstable" =
+    λ stable joined. cc ((ends_is Decides-eqb text (codes "-unstable") false is).1 stable joined) in
     stable-by text (number_after (codes ".v") text) apart (after-cases text (codes ".v") (omega arith) refl)
 
 dot-cases : (text : List ℕ) → Tells (dot_number text) (EndsSoDot text)
@@ -140,7 +150,8 @@ slash-some text n false is outside version ends =
     let low : 2 ≤ n = grind (arith, nat_tests) in
     (outside, low, ends.0, ends.1)
 
-slash-major : (text : List ℕ) (r : Option ℕ) → ¬ (IsUnderGopkg text) → EndsInSlashVersion text → Tells r (EndsSo text (codes "/v")) → Tells (option_map Slash (option_and_then (at_least 2) r)) (HasMajor text)
+slash-major : (text : List ℕ) (r : Option ℕ) → ¬ (IsUnderGopkg text) → EndsInSlashVersion text
+    → Tells r (EndsSo text (codes "/v")) → Tells (option_map Slash (option_and_then (at_least 2) r)) (HasMajor text)
 slash-major text (Some n) outside version ends = slash-some text n (nat_lt n 2) refl outside version ends
 slash-major text None outside version none = major_elsewhere text outside version (λ n low small e. none n (small, e))
 
@@ -161,7 +172,9 @@ elsewhere-by text true is outside =
 elsewhere-by text false is outside = (outside, λ v. cc (is, (slash-tail text _ _ refl refl).1 v))
 
 major-by : (text : List ℕ) (b : Bool) → b ≡ starts_with nat_eq text (codes "gopkg.in/")
-    → Tells (if b then option_map Dot (dot_number text) else (if ends_in_slash_version text then option_map Slash (option_and_then (at_least 2) (number_after (codes "/v") text)) else Some NoSuffix)) (HasMajor text)
+    → Tells (if b then option_map Dot (dot_number text) else
+    (if ends_in_slash_version text then option_map Slash
+    (option_and_then (at_least 2) (number_after (codes "/v") text)) else Some NoSuffix)) (HasMajor text)
 major-by text true is =
     let under : IsUnderGopkg text = (drop 9 text, (starts_is Decides-eqb text (codes "gopkg.in/") true is).0 refl) in
     dot-major text (dot_number text) under (dot-cases text)
@@ -274,7 +287,8 @@ major-fit version (Dot n) =
           ],
       λ fit. elim fit.0 [
         | inl same ↦ and_from _ _ (or_left _ _ (eqb-is _ _ same)) ((no-build version).1 fit.1)
-        | inr zeros ↦ and_from _ _ (or_right (major_of version == n) _ (and_from _ _ (eqb-is _ _ zeros.0) (begins.1 zeros.1 zeros.2))) ((no-build version).1 fit.1)
+        | inr zeros ↦ and_from _ _ (or_right (major_of version == n) _
+            (and_from _ _ (eqb-is _ _ zeros.0) (begins.1 zeros.1 zeros.2))) ((no-build version).1 fit.1)
       ],
     )
 

@@ -12,7 +12,8 @@ or_put : (b : Bool) (place : ℕ) (held rest : Option ℕ) → option_or (cond b
 or_put true place held rest = refl
 or_put false place held rest = refl
 
-or_rest : (b : Bool) (place : ℕ) (held rest : Option ℕ) → (b ≡ true → held ≡ None) → option_or held (cond b (Some place) rest) ≡ cond b (Some place) (option_or held rest)
+or_rest : (b : Bool) (place : ℕ) (held rest : Option ℕ) → (b ≡ true → held ≡ None)
+    → option_or held (cond b (Some place) rest) ≡ cond b (Some place) (option_or held rest)
 or_rest true place held rest none = ap (λ (o : Option ℕ). option_or o (Some place)) (none refl)
 or_rest false place held rest none = refl
 
@@ -31,7 +32,8 @@ bucket_free buckets bucket at tag rest chosen within is free =
 -- A place that is put in the bucket of its tag is put in the index.
 pub put_or : (buckets : List Bucket) (old new : Bucket) (at tag place : ℕ) → at ≡ bucket_of tag (length buckets) → at < length buckets
     → old ≡ get_or buckets at old → PutsIn place_in_bucket old new tag place
-    → (t : ℕ) (rest : Option ℕ) → option_or (place_in_buckets (set buckets at new) t) rest ≡ cond (nat_eq tag t) (Some place) (option_or (place_in_buckets buckets t) rest)
+    → (t : ℕ) (rest : Option ℕ) → option_or (place_in_buckets (set buckets at new) t) rest
+    ≡ cond (nat_eq tag t) (Some place) (option_or (place_in_buckets buckets t) rest)
 put_or buckets old new at tag place chosen within is puts t rest =
     ap (λ (o : Option ℕ). option_or o rest) (put_in place_in_bucket bucket_of buckets old new at tag place chosen within is puts t)
     ∙ or_put (nat_eq tag t) place (place_in_buckets buckets t) rest

@@ -78,9 +78,11 @@ after_dash major minor patch [] build text (Some x) front plain is cut =
     let all = all-append (λ b. not (b == 45)) (numbers_text major minor patch) (marked 43 build) front tail in
     absurd (nowhere 45 text x.0.now x.1.now refl (rw is all) (split_parts 45 text (Some x) cut (lit< tt)).0)
 after_dash major minor patch (b ∷ rest) build text None front plain is cut =
-    absurd (split_after 45 text (numbers_text major minor patch) (b ∷ rest ++ marked 43 build) None cut (lit< tt) is (apart 45 (numbers_text major minor patch) refl front))
+    absurd (split_after 45 text (numbers_text major minor patch) (b ∷ rest ++ marked 43 build) None cut (lit< tt) is
+    (apart 45 (numbers_text major minor patch) refl front))
 after_dash major minor patch (b ∷ rest) build text (Some x) front plain is cut =
-    (split_after 45 text (numbers_text major minor patch) (b ∷ rest ++ marked 43 build) (Some x) cut (lit< tt) is (apart 45 (numbers_text major minor patch) refl front)).1
+    (split_after 45 text (numbers_text major minor patch) (b ∷ rest ++ marked 43 build) (Some x) cut (lit< tt) is
+    (apart 45 (numbers_text major minor patch) refl front)).1
 
 -- the pre-release ends at a plus, or with the text
 before_plus : (pre build rest : List ℕ) (r : Option (Bor (List ℕ) × Bor (List ℕ))) → lacks 43 pre ≡ true

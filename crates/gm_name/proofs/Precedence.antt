@@ -230,7 +230,11 @@ precedence-same p q = (
       let t1 = tie-first _ _ t0.1 in
       let t2 = tie-first _ _ t1.1 in
       (nat_cmp-IsAntisymmetric _ _ t0.0, nat_cmp-IsAntisymmetric _ _ t1.0, nat_cmp-IsAntisymmetric _ _ t2.0, pre-anti _ _ t2.1),
-  λ same. rw (same.0, same.1, same.2, same.3) (rw (tied_itself nat_cmp_total q.0, tied_itself nat_cmp_total q.1, tied_itself nat_cmp_total q.2) (tied_itself pre_total q.3)),
+  λ same. rw (same.0, same.1, same.2, same.3) (rw (
+    tied_itself nat_cmp_total q.0,
+    tied_itself nat_cmp_total q.1,
+    tied_itself nat_cmp_total q.2,
+  ) (tied_itself pre_total q.3)),
 )
 
 -- a comparison is `Greater` exactly if its reverse is `Less`

@@ -59,7 +59,13 @@ second-whole : (x y z : ℕ) (before time revision build : List ℕ) → 0 < len
     ≡ second_text x y z before (time ++ codes "-" ++ revision ++ marked 43 build)
 second-whole x y z before time revision build long =
     let pre = before ++ codes ".0." ++ time ++ codes "-" ++ revision in
-    let some : 0 < length pre = omega (arith, length-append (((before ++ codes ".0.") ++ time) ++ codes "-") revision, length-append ((before ++ codes ".0.") ++ time) (codes "-"), length-append (before ++ codes ".0.") time, length-append before (codes ".0.")) in
+    let some : 0 < length pre = omega (
+      arith,
+      length-append (((before ++ codes ".0.") ++ time) ++ codes "-") revision,
+      length-append ((before ++ codes ".0.") ++ time) (codes "-"),
+      length-append (before ++ codes ".0.") time,
+      length-append before (codes ".0."),
+    ) in
     pre-text x y z pre build some
     ∙ regroup (release x y z) (codes "-") before (codes ".0.") time (codes "-") revision (marked 43 build)
   where

@@ -97,5 +97,6 @@ refused-by text rest (Err f) e v read of_text refused memory =
     cc (of_text, same, memory)
 
 -- if the parser reports that memory ran out, the text is a version
-pub memory-version : (text rest : List ℕ) (e : Error) → text ≡ 118 ∷ rest → IsRefused {T = Version} (version_parts rest) (Err e) → e ≡ memory_error → IsSemVer text
+pub memory-version : (text rest : List ℕ) (e : Error) → text ≡ 118 ∷ rest
+    → IsRefused {T = Version} (version_parts rest) (Err e) → e ≡ memory_error → IsSemVer text
 memory-version text rest e v refused memory = refused-by text rest (version_parts rest) e v refl (version_parts-text rest) refused memory

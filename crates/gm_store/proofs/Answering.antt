@@ -11,5 +11,6 @@ pub last_answered : (all before : List (Name × Reply)) (last : Name × Reply) (
     → count ≡ length all → slice_get (replies_in all) (count - 1) ≡ Some found → found ≡ last.1
 last_answered all before last found count e c at =
     let place : count - 1 ≡ length before = omega (arith, ap length e, length-append before (last ∷ [])) in
-    let here : Some found ≡ Some last.1 = sym at ∙ ap (λ (i : ℕ). slice_get (replies_in all) i) place ∙ ap (λ (ps : List (Name × Reply)). slice_get (replies_in ps) (length before)) e ∙ last_reply before last in
+    let here : Some found ≡ Some last.1 = sym at ∙ ap (λ (i : ℕ). slice_get (replies_in all) i) place
+    ∙ ap (λ (ps : List (Name × Reply)). slice_get (replies_in ps) (length before)) e ∙ last_reply before last in
     cc

@@ -34,7 +34,8 @@ pub front_more : (piece : List ℕ) (at n : ℕ) → take (at + n) piece ≡ tak
 front_more piece at n = take-add at n piece ∙ ap (λ (t : List ℕ). take at piece ++ take n t) (sym (whole_rest piece at))
 
 -- the room after one more write, which took `count` bytes
-pub room_more : (old mid new : Option ℕ) (at count : ℕ) (rest : List ℕ) → RoomLeft old mid at → TakesWhatFits {E = WriteFault} mid new rest (Ok count) → RoomLeft old new (at + count)
+pub room_more : (old mid new : Option ℕ) (at count : ℕ) (rest : List ℕ) → RoomLeft old mid at
+    → TakesWhatFits {E = WriteFault} mid new rest (Ok count) → RoomLeft old new (at + count)
 room_more None None new at count rest e h = h
 room_more None (Some mid) new at count rest e h = cc e
 room_more (Some room) None new at count rest left h = let e : None ≡ Some (room - at) = left.1 in cc e

@@ -14,7 +14,8 @@ append-no_piece : (before after piece : List ℕ) → after ≡ before ++ piece 
 append-no_piece before after [] e n = e ∙ append-nil before
 append-no_piece before after (x ∷ xs) e n = absurd (omega arith)
 
-ended_front : (n : ℕ) (old mid new : Option (List ℕ)) (bs : List ℕ) → Consumes old mid bs → length bs ≤ n → Consumes mid new [] → IsAtEnd new → IfSome old (λ all. bs ≡ take n all)
+ended_front : (n : ℕ) (old mid new : Option (List ℕ)) (bs : List ℕ) → Consumes old mid bs → length bs ≤ n
+    → Consumes mid new [] → IsAtEnd new → IfSome old (λ all. bs ≡ take n all)
 ended_front n None mid new bs h short g end = tt
 ended_front n (Some all) None new bs h short g end = absurd h
 ended_front n (Some all) (Some rest) None bs h short g end = absurd g
@@ -25,7 +26,9 @@ no_piece [] e = refl
 no_piece (x ∷ xs) e = absurd (omega arith)
 
 -- all bytes that the reader had, if the last read yielded none
-pub ended_by : (n room count : ℕ) (old mid new : Option (List ℕ)) (before after : List ℕ) → Consumes old mid before → length before ≤ n → AddsPiece mid new before after room count → count ≡ 0 → 0 < room → IfSome old (λ all. after ≡ take n all)
+pub ended_by : (n room count : ℕ) (old mid new : Option (List ℕ)) (before after : List ℕ) → Consumes old mid before
+    → length before ≤ n → AddsPiece mid new before after room count → count ≡ 0 → 0 < room
+    → IfSome old (λ all. after ≡ take n all)
 ended_by n room count old mid new before after h short p zero some =
     let none : p.piece ≡ [] = no_piece p.piece (p.counted ∙ zero) in
     subst (λ bytes. IfSome old (λ all. bytes ≡ take n all)) (sym (append-no_piece before after p.piece p.added (p.counted ∙ zero)))
@@ -35,7 +38,8 @@ after_front : (n : ℕ) (all front rest : List ℕ) → all ≡ front ++ rest �
 after_front n all front rest e short long = grind (arith, common_steps)
 
 -- what is left after the first n bytes, if n bytes were read
-pub full_rest : (n : ℕ) (old new : Option (List ℕ)) (bs : List ℕ) → Consumes old new bs → length bs ≤ n → n ≤ length bs → IfSome old (λ all. new ≡ Some (drop n all))
+pub full_rest : (n : ℕ) (old new : Option (List ℕ)) (bs : List ℕ) → Consumes old new bs → length bs ≤ n → n ≤ length bs
+    → IfSome old (λ all. new ≡ Some (drop n all))
 full_rest n None new bs h short long = tt
 full_rest n (Some all) None bs h short long = absurd h
 full_rest n (Some all) (Some rest) bs h short long = ap Some (after_front n all bs rest h short long)
@@ -43,21 +47,24 @@ full_rest n (Some all) (Some rest) bs h short long = ap Some (after_front n all 
 none_after : (n : ℕ) (all front rest : List ℕ) → all ≡ front ++ rest → rest ≡ [] → length front ≤ n → [] ≡ drop n all
 none_after n all front rest e none short = grind (arith, common_steps)
 
-ended_rest : (n : ℕ) (old mid new : Option (List ℕ)) (bs : List ℕ) → Consumes old mid bs → length bs ≤ n → Consumes mid new [] → IsAtEnd new → IfSome old (λ all. new ≡ Some (drop n all))
+ended_rest : (n : ℕ) (old mid new : Option (List ℕ)) (bs : List ℕ) → Consumes old mid bs → length bs ≤ n
+    → Consumes mid new [] → IsAtEnd new → IfSome old (λ all. new ≡ Some (drop n all))
 ended_rest n None mid new bs h short g end = tt
 ended_rest n (Some all) None new bs h short g end = absurd h
 ended_rest n (Some all) (Some rest) None bs h short g end = absurd g
 ended_rest n (Some all) (Some rest) (Some last) bs h short g end = ap Some (end ∙ none_after n all bs rest h (g ∙ end) short)
 
 -- nothing is left, if the last read yielded no byte
-pub rest_ended_by : (n room count : ℕ) (old mid new : Option (List ℕ)) (before after : List ℕ) → Consumes old mid before → length before ≤ n → AddsPiece mid new before after room count → count ≡ 0 → 0 < room
+pub rest_ended_by : (n room count : ℕ) (old mid new : Option (List ℕ)) (before after : List ℕ) → Consumes old mid before
+    → length before ≤ n → AddsPiece mid new before after room count → count ≡ 0 → 0 < room
     → IfSome old (λ all. new ≡ Some (drop n all))
 rest_ended_by n room count old mid new before after h short p zero some =
     let none : p.piece ≡ [] = no_piece p.piece (p.counted ∙ zero) in
     ended_rest n old mid new before h short (subst (Consumes mid new) none p.given) (p.ended zero some)
 
 -- one more piece was read
-pub consumed_more : (old mid new : Option (List ℕ)) (front piece whole : List ℕ) → whole ≡ front ++ piece → Consumes old mid front → Consumes mid new piece → Consumes old new whole
+pub consumed_more : (old mid new : Option (List ℕ)) (front piece whole : List ℕ) → whole ≡ front ++ piece
+    → Consumes old mid front → Consumes mid new piece → Consumes old new whole
 consumed_more None mid new front piece whole is h g = tt
 consumed_more (Some all) None new front piece whole is h g = absurd h
 consumed_more (Some all) (Some rest) None front piece whole is h g = absurd g

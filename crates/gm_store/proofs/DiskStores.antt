@@ -5,7 +5,8 @@ use Rattle.gm_store.specs.Asked.{Name, Reply}
 use Rattle.gm_store.specs.DiskAnswers.{MayAnswer}
 use Rattle.gm_store.specs.Openings.{Opening}
 
-pub same_answers : {S : Type 0} (may_open : S → List ℕ → Opening → Type 0) (made system : S) (main folder : List ℕ) (proxies folders : List (List ℕ)) (between marks : List Mark)
+pub same_answers : {S : Type 0} (may_open : S → List ℕ → Opening → Type 0) (made system : S) (main folder : List ℕ)
+    (proxies folders : List (List ℕ)) (between marks : List Mark)
     → made ≡ system → main ≡ folder → proxies ≡ folders → between ≡ marks → (name : Name) (outcome : Option Reply)
     → MayAnswer (may_open made) main proxies between name outcome → MayAnswer (may_open system) folder folders marks name outcome
 same_answers may_open made system main folder proxies folders between marks s m p b name outcome stated =

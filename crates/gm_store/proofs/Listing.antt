@@ -27,7 +27,8 @@ Contains-itself : (x : List ℕ) → Contains (x ∷ []) x
 Contains-itself x = (0, omega arith, refl)
 
 -- one more word, and it may be listed
-pub holds_more : (path : List ℕ) (words versions : List (List ℕ)) (word : List ℕ) → HoldsListable path words versions → IsListable path word → HoldsListable path (words ++ word ∷ []) (versions ++ word ∷ [])
+pub holds_more : (path : List ℕ) (words versions : List (List ℕ)) (word : List ℕ) → HoldsListable path words versions
+    → IsListable path word → HoldsListable path (words ++ word ∷ []) (versions ++ word ∷ [])
 holds_more path words versions word holds listable = λ v. (
   λ h. cases (Contains-append_cases versions (word ∷ []) v h)
       (λ old. let both = (holds v).0 old in (Contains-append_left words (word ∷ []) v both.0, both.1))
@@ -38,7 +39,8 @@ holds_more path words versions word holds listable = λ v. (
 )
 
 -- one more word, and it may not be listed
-pub holds_same : (path : List ℕ) (words versions : List (List ℕ)) (word : List ℕ) → HoldsListable path words versions → ¬ (IsListable path word) → HoldsListable path (words ++ word ∷ []) versions
+pub holds_same : (path : List ℕ) (words versions : List (List ℕ)) (word : List ℕ) → HoldsListable path words versions
+    → ¬ (IsListable path word) → HoldsListable path (words ++ word ∷ []) versions
 holds_same path words versions word holds refused = λ v. (
   λ h. let both = (holds v).0 h in (Contains-append_left words (word ∷ []) v both.0, both.1),
   λ h. cases (Contains-append_cases words (word ∷ []) v h.0)
@@ -55,34 +57,46 @@ texts_same : (x y : List ℕ) → pointwise nat_eq x y ≡ true → x ≡ y
 texts_same x y e = version-anti x y (equal_from (version_cmp x y) (sym (version_ties x y) ∙ e))
 
 -- after sorting and removing duplicates, the list is that of the listed versions
-pub listed_from : (path text : List ℕ) (found sorted : List (List ℕ)) → HoldsListable path (map first_word (lines text)) found → IsPermutation found sorted → IsSorted version_cmp sorted → AreListed path text (dedup (pointwise nat_eq) sorted)
+pub listed_from : (path text : List ℕ) (found sorted : List (List ℕ))
+    → HoldsListable path (map first_word (lines text)) found → IsPermutation found sorted → IsSorted version_cmp sorted
+    → AreListed path text (dedup (pointwise nat_eq) sorted)
 listed_from path text found sorted holds moved ordered = record {
   ascending = IsStrictlySortedBy-dedup version_total version_ties sorted ordered;
   members = λ v. (
-    λ h. let both = (holds v).0 (Contains-permutation _ _ v (IsPermutation-sym _ _ moved) (Contains-from_dedup _ sorted v h)) in record { named = both.0; listable = both.1 },
+    λ h. let both = (holds v).0 (Contains-permutation _ _ v (IsPermutation-sym _ _ moved)
+        (Contains-from_dedup _ sorted v h)) in record { named = both.0; listable = both.1 },
     λ h. Contains-dedup nat_list_eq_equiv texts_same sorted v (Contains-permutation _ _ v moved ((holds v).1 (h.named, h.listable))),
   );
 }
 
-first_words-push : (lines : List (Bor (List ℕ))) (line : Bor (List ℕ)) → map first_word (map (λ line. line.now) (lines ++ line ∷ [])) ≡ map first_word (map (λ line. line.now) lines) ++ first_word line.now ∷ []
-first_words-push lines line = ap (map first_word) (map-append (λ (line : Bor (List ℕ)). line.now) lines (line ∷ [])) ∙ map-append first_word (map (λ line. line.now) lines) (line.now ∷ [])
+first_words-push : (lines : List (Bor (List ℕ))) (line : Bor (List ℕ))
+    → map first_word (map (λ line. line.now) (lines ++ line ∷ [])) ≡ map first_word (map (λ line. line.now) lines)
+    ++ first_word line.now ∷ []
+first_words-push lines line = ap (map first_word) (map-append (λ (line : Bor (List ℕ)). line.now) lines (line ∷ []))
+    ∙ map-append first_word (map (λ line. line.now) lines) (line.now ∷ [])
 
 -- one more line
-pub line_more : (path : List ℕ) (lines : List (Bor (List ℕ))) (line : Bor (List ℕ)) (new : List (List ℕ)) → HoldsListable path (map first_word (map (λ line. line.now) lines) ++ first_word line.now ∷ []) new → HoldsListable path (map first_word (map (λ line. line.now) (lines ++ line ∷ []))) new
+pub line_more : (path : List ℕ) (lines : List (Bor (List ℕ))) (line : Bor (List ℕ)) (new : List (List ℕ))
+    → HoldsListable path (map first_word (map (λ line. line.now) lines) ++ first_word line.now ∷ []) new
+    → HoldsListable path (map first_word (map (λ line. line.now) (lines ++ line ∷ []))) new
 line_more path lines line new holds = subst (λ words. HoldsListable path words new) (sym (first_words-push lines line)) holds
 
 -- one more word that was read, and it may be listed
-pub pushes_word : (words old new : List (List ℕ)) (path : List ℕ) (read first version : List ℕ) → read ≡ first → (version ≡ read) × IsListable path read → new ≡ old ++ version ∷ [] → HoldsListable path words old → HoldsListable path (words ++ first ∷ []) new
+pub pushes_word : (words old new : List (List ℕ)) (path : List ℕ) (read first version : List ℕ) → read ≡ first
+    → (version ≡ read) × IsListable path read → new ≡ old ++ version ∷ [] → HoldsListable path words old
+    → HoldsListable path (words ++ first ∷ []) new
 pushes_word words old new path read first version is listable grown holds =
     let same : version ≡ first = listable.0 ∙ is in
     let more = holds_more path words old first holds (subst (IsListable path) is listable.1) in
     subst (λ versions. HoldsListable path (words ++ first ∷ []) versions) (ap (λ v. old ++ v ∷ []) (sym same) ∙ sym grown) more
 
 -- one more word that was read, and it may not be listed
-pub passes_word : (words old : List (List ℕ)) (path read first : List ℕ) → read ≡ first → ¬ (IsListable path read) → HoldsListable path words old → HoldsListable path (words ++ first ∷ []) old
+pub passes_word : (words old : List (List ℕ)) (path read first : List ℕ) → read ≡ first → ¬ (IsListable path read)
+    → HoldsListable path words old → HoldsListable path (words ++ first ∷ []) old
 passes_word words old path read first is refused holds = holds_same path words old first holds (subst (λ word. ¬ (IsListable path word)) is refused)
 
-pub found_some : (path word : List ℕ) (r : Option (List ℕ)) (version : List ℕ) → r ≡ Some version → IfSome r (λ version. (version ≡ word) × IsListable path word) → (version ≡ word) × IsListable path word
+pub found_some : (path word : List ℕ) (r : Option (List ℕ)) (version : List ℕ) → r ≡ Some version
+    → IfSome r (λ version. (version ≡ word) × IsListable path word) → (version ≡ word) × IsListable path word
 found_some path word None version e h = cc e
 found_some path word (Some v) version e h = let same : v ≡ version = cc e in (sym same ∙ h.0, h.1)
 

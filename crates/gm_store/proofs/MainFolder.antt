@@ -15,7 +15,8 @@ take_drop-at text k within is =
     ∙ ap (λ rest. take k text ++ rest) (drop_more text k 0 within ∙ ap (λ b. b ∷ drop (k + 1) text) is)
     ∙ sym (append_assoc (take k text) (47 ∷ []) (drop (k + 1) text))
 
-pub no_later_slash : (text : List ℕ) (k : ℕ) → k < length text → ((i : ℕ) → k < i → i < length text → slice_index_or text i 0 ≢ 47) → ¬ (Contains (drop (k + 1) text) 47)
+pub no_later_slash : (text : List ℕ) (k : ℕ) → k < length text
+    → ((i : ℕ) → k < i → i < length text → slice_index_or text i 0 ≢ 47) → ¬ (Contains (drop (k + 1) text) 47)
 no_later_slash text k within none (i, inside, is) =
     let bound : i < length text - (k + 1) = subst (λ n. i < n) (length-drop (k + 1) text) inside in
     none (k + 1 + i) (omega arith) (omega arith) (get_or_default text (k + 1 + i) 0 47 (omega arith) ∙ sym (get_or-drop (k + 1) text i 47) ∙ is)

@@ -29,7 +29,8 @@ cut_same all = cut_by 16777216 all (cases_lt 16777216 (length all))
 
 -- a file that was read up to one byte more than the limit
 read_shown : (known : Option (List ℕ)) (may_fail : Bool) (read : Result (Vec ℕ Global) ReadFault) (seen : Seen)
-    → IfOk read (λ bytes. IfSome known (λ all. bytes.items ≡ take 16777217 all)) → IfErr read (IsReadingFault may_fail) → IsReadLookup read seen → MayShow (opened known may_fail) seen
+    → IfOk read (λ bytes. IfSome known (λ all. bytes.items ≡ take 16777217 all)) → IfErr read (IsReadingFault may_fail)
+    → IsReadLookup read seen → MayShow (opened known may_fail) seen
 read_shown None may_fail (Ok bytes) seen e f h = inl (bytes.items, h)
 read_shown (Some all) may_fail (Ok bytes) seen e f h = inl (h ∙ ap result_for_bytes e ∙ cut_same all)
 read_shown None may_fail (Err Device) seen e f h = inr (f, h)
@@ -39,7 +40,8 @@ read_shown (Some all) may_fail (Err NoMemory) seen e f h = absurd h
 
 -- the same for the result of a call, which may be refused
 pub look_shown : {E : Type 0} (known : Option (List ℕ)) (may_fail : Bool) (read : Result (Vec ℕ Global) ReadFault) (result : Result Looked E)
-    → IfOk read (λ bytes. IfSome known (λ all. bytes.items ≡ take 16777217 all)) → IfErr read (IsReadingFault may_fail) → IfOk result (λ looked. IsReadLookup read (result_of looked))
+    → IfOk read (λ bytes. IfSome known (λ all. bytes.items ≡ take 16777217 all)) → IfErr read (IsReadingFault may_fail)
+    → IfOk result (λ looked. IsReadLookup read (result_of looked))
     → IfOk result (λ looked. MayShow (opened known may_fail) (result_of looked))
 look_shown known may_fail read (Ok looked) bytes fault shown = read_shown known may_fail read (result_of looked) bytes fault shown
 look_shown known may_fail read (Err error) bytes fault shown = tt

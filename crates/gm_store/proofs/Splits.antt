@@ -37,7 +37,9 @@ glue_onto x f [] [] = refl
 glue_onto x f [] (g ∷ gs) = refl
 glue_onto x f (f2 ∷ fs) gs = refl
 
-glue_step : {X : Type 0} (b : Bool) (x : X) (f : List X) (fs gs : List (List X)) → cond b ([] ∷ glue_first f fs gs) (onto_first x (glue_first f fs gs)) ≡ glue (cond b ([] ∷ f ∷ fs) (onto_first x (f ∷ fs))) gs
+glue_step : {X : Type 0} (b : Bool) (x : X) (f : List X) (fs gs : List (List X))
+    → cond b ([] ∷ glue_first f fs gs) (onto_first x (glue_first f fs gs))
+    ≡ glue (cond b ([] ∷ f ∷ fs) (onto_first x (f ∷ fs))) gs
 glue_step true x f fs gs = refl
 glue_step false x f fs gs = glue_onto x f fs gs
 
@@ -46,7 +48,8 @@ pub split-append : {X : Type 0} (p : X → Bool) (xs ys : List X) → slice_spli
 split-append p [] ys = let off = split_off p ys in rw off.is refl
 split-append p (x ∷ xs) ys =
     let off = split_off p xs in
-    let rest : slice_split p (xs ++ ys) ≡ glue_first off.first off.others (slice_split p ys) = split-append p xs ys ∙ ap (λ fs. glue fs (slice_split p ys)) off.is in
+    let rest : slice_split p (xs ++ ys) ≡ glue_first off.first off.others (slice_split p ys) =
+    split-append p xs ys ∙ ap (λ fs. glue fs (slice_split p ys)) off.is in
     ap (λ parts. cond (p x) ([] ∷ parts) (onto_first x parts)) rest
     ∙ glue_step (p x) x off.first off.others (slice_split p ys)
     ∙ ap (λ fs. glue (cond (p x) ([] ∷ fs) (onto_first x fs)) (slice_split p ys)) (sym off.is)

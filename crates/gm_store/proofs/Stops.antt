@@ -15,7 +15,8 @@ use Rattle.gm_store.specs.Stops.{OutcomeExists, OutcomeIsUnique, OutcomeFollowsC
 -- ---- it stops at one folder at most
 
 same_stop : (p q : List Seen) (x y : Seen) (r s : List Seen) (mark : ℕ → Option Mark) → p ++ x ∷ r ≡ q ++ y ∷ s
-    → ((k : ℕ) (look : Seen) → slice_get p k ≡ Some look → step_of look (mark k) ≡ Go) → ((k : ℕ) (look : Seen) → slice_get q k ≡ Some look → step_of look (mark k) ≡ Go)
+    → ((k : ℕ) (look : Seen) → slice_get p k ≡ Some look → step_of look (mark k) ≡ Go)
+    → ((k : ℕ) (look : Seen) → slice_get q k ≡ Some look → step_of look (mark k) ≡ Go)
     → (step_of x (mark (length p)) ≢ Go) → (step_of y (mark (length q)) ≢ Go) → (p ≡ q) × (x ≡ y)
 same_stop [] [] x y r s mark e goes goes' stops stops' = (refl, cc e)
 same_stop [] (b ∷ q) x y r s mark e goes goes' stops stops' =
@@ -33,13 +34,16 @@ same_stop (a ∷ p) (b ∷ q) x y r s mark e goes goes' stops stops' =
 pub one_stop : OutcomeIsUnique
 one_stop looks marks one other failures others a b =
     let same = same_stop a.passed b.passed a.last b.last a.rest b.rest (slice_get marks) (sym a.in_order ∙ b.in_order) a.goes b.goes a.stops b.stops in (
-      a.answers ∙ ap (λ p. outcome_of a.last (step_of a.last (slice_get marks (length p)))) same.0 ∙ ap (λ x. outcome_of x (step_of x (slice_get marks (length b.passed)))) same.1 ∙ sym b.answers,
+      a.answers ∙ ap (λ p. outcome_of a.last (step_of a.last (slice_get marks (length p)))) same.0
+          ∙ ap (λ x. outcome_of x (step_of x (slice_get marks (length b.passed)))) same.1 ∙ sym b.answers,
       a.counted ∙ ap (λ p. count_by has_failed (p ++ a.last ∷ [])) same.0 ∙ ap (λ x. count_by has_failed (b.passed ++ x ∷ [])) same.1 ∙ sym b.counted,
     )
 
 -- ---- over folders in memory the outcome is that of the results in all folders
 
-begins : (p : List Seen) (x : Seen) (r looks : List Seen) → ((k : ℕ) (look : Seen) → slice_get (p ++ x ∷ r) k ≡ Some look → slice_get looks k ≡ Some look) → (rest : List Seen) × (looks ≡ p ++ x ∷ rest)
+begins : (p : List Seen) (x : Seen) (r looks : List Seen)
+    → ((k : ℕ) (look : Seen) → slice_get (p ++ x ∷ r) k ≡ Some look → slice_get looks k ≡ Some look)
+    → (rest : List Seen) × (looks ≡ p ++ x ∷ rest)
 begins [] x r [] h = absurd (cc (h 0 x refl))
 begins [] x r (y ∷ looks) h = let same : y ≡ x = cc (h 0 x refl) in (looks, ap (λ c. c ∷ looks) same)
 begins (a ∷ p) x r [] h = absurd (cc (h 0 a refl))
@@ -50,7 +54,8 @@ begins (a ∷ p) x r (y ∷ looks) h =
 
 pub held_stop : OutcomeFollowsContents
 held_stop folders name marks outcome failures (looks, seen, stop) =
-    let whole = begins stop.passed stop.last stop.rest (lookup_results folders name) (λ k look e. seen k look (ap (λ looks. slice_get looks k) stop.in_order ∙ e)) in
+    let whole = begins stop.passed stop.last stop.rest (lookup_results folders name)
+    (λ k look e. seen k look (ap (λ looks. slice_get looks k) stop.in_order ∙ e)) in
     record {
       passed = stop.passed;
       last = stop.last;
@@ -64,7 +69,8 @@ held_stop folders name marks outcome failures (looks, seen, stop) =
 
 -- ---- it stops if a folder follows each mark
 
-stop_here : (look : Seen) (looks : List Seen) (marks : List Mark) → (step_of look (slice_get marks 0) ≢ Go) → (outcome : Option Reply) × (failures : ℕ) × StopsAt (look ∷ looks) marks outcome failures
+stop_here : (look : Seen) (looks : List Seen) (marks : List Mark) → (step_of look (slice_get marks 0) ≢ Go)
+    → (outcome : Option Reply) × (failures : ℕ) × StopsAt (look ∷ looks) marks outcome failures
 stop_here look looks marks stops = (
   outcome_of look (step_of look (slice_get marks 0)),
   count_by has_failed (look ∷ []),
@@ -87,12 +93,14 @@ unmarked absent e = cc e
 unmarked failed e = cc e
 
 passes : (look : Seen) (looks : List Seen) (mark : Mark) (marks : List Mark) → step_of look (Some mark) ≡ Go → (k : ℕ) (seen : Seen) (passed : List Seen)
-    → ((k : ℕ) (seen : Seen) → slice_get passed k ≡ Some seen → step_of seen (slice_get marks k) ≡ Go) → slice_get (look ∷ passed) k ≡ Some seen → step_of seen (slice_get (mark ∷ marks) k) ≡ Go
+    → ((k : ℕ) (seen : Seen) → slice_get passed k ≡ Some seen → step_of seen (slice_get marks k) ≡ Go)
+    → slice_get (look ∷ passed) k ≡ Some seen → step_of seen (slice_get (mark ∷ marks) k) ≡ Go
 passes look looks mark marks goes zero seen passed rest e = let same : look ≡ seen = cc e in ap (λ c. step_of c (Some mark)) (sym same) ∙ goes
 passes look looks mark marks goes (suc k) seen passed rest e = rest k seen e
 
 stop_later : (look : Seen) (looks : List Seen) (mark : Mark) (marks : List Mark) (next : Next) → step_of look (Some mark) ≡ next
-    → (outcome : Option Reply) × (failures : ℕ) × StopsAt looks marks outcome failures → (outcome : Option Reply) × (failures : ℕ) × StopsAt (look ∷ looks) (mark ∷ marks) outcome failures
+    → (outcome : Option Reply) × (failures : ℕ) × StopsAt looks marks outcome failures
+    → (outcome : Option Reply) × (failures : ℕ) × StopsAt (look ∷ looks) (mark ∷ marks) outcome failures
 stop_later look looks mark marks Take is later = stop_here look looks (mark ∷ marks) (λ e. cc (sym is ∙ e))
 stop_later look looks mark marks Fail is later = stop_here look looks (mark ∷ marks) (λ e. cc (sym is ∙ e))
 stop_later look looks mark marks Go is (outcome, failures, stop) = (

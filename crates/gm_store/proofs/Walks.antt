@@ -29,7 +29,8 @@ counted-more : (old a b : ℕ) → counted_up (counted_up old a) b ≡ counted_u
 counted-more old a b = saturates (old + a) b (2 ^ 64 - 1) ∙ ap (λ n. min n (2 ^ 64 - 1)) (add_assoc old a b)
 
 -- a property of the elements of a list with one more element
-get_more : (xs : List Seen) (y : Seen) (P : ℕ → Seen → Type 0) → ((k : ℕ) (x : Seen) → slice_get xs k ≡ Some x → P k x) → P (length xs) y → (k : ℕ) (x : Seen) → slice_get (xs ++ y ∷ []) k ≡ Some x → P k x
+get_more : (xs : List Seen) (y : Seen) (P : ℕ → Seen → Type 0) → ((k : ℕ) (x : Seen) → slice_get xs k ≡ Some x → P k x)
+    → P (length xs) y → (k : ℕ) (x : Seen) → slice_get (xs ++ y ∷ []) k ≡ Some x → P k x
 get_more [] y P old here zero x e = let same : y ≡ x = cc e in subst (P 0) same here
 get_more [] y P old here (suc k) x e = cc e
 get_more (z ∷ xs) y P old here zero x e = old zero x e
@@ -59,19 +60,22 @@ counted_both xs ys old mid new one two = (
 )
 
 -- the request falls back from one more folder
-pub HasPassed-one_more : (may_find : ℕ → Seen → Type 0) (marks : List Mark) (at : ℕ) (old new newer : Counts) (look : Seen) → HasPassed may_find marks at old new
+pub HasPassed-one_more : (may_find : ℕ → Seen → Type 0) (marks : List Mark) (at : ℕ) (old new newer : Counts)
+    (look : Seen) → HasPassed may_find marks at old new
     → may_find at look → Go ≡ step_of look (slice_get marks at) → AreCounted (look ∷ []) new newer → HasPassed may_find marks (at + 1) old newer
 HasPassed-one_more may_find marks at old new newer look so_far seen goes grown = record {
   passed = so_far.passed ++ look ∷ [];
   many = length-append so_far.passed (look ∷ []) ∙ ap (λ n. n + 1) so_far.many;
   within = let marked = get_within marks at (go_marked look (slice_get marks at) (sym goes)) in omega arith;
   seen = get_more so_far.passed look may_find so_far.seen (subst (λ k. may_find k look) (sym so_far.many) seen);
-  goes = get_more so_far.passed look (λ k look. step_of look (slice_get marks k) ≡ Go) so_far.goes (ap (λ k. step_of look (slice_get marks k)) so_far.many ∙ sym goes);
+  goes = get_more so_far.passed look (λ k look. step_of look (slice_get marks k) ≡ Go) so_far.goes
+      (ap (λ k. step_of look (slice_get marks k)) so_far.many ∙ sym goes);
   counted = counted_both so_far.passed (look ∷ []) old new newer so_far.counted grown;
 }
 
 -- the walk stops
-pub walk_ends : (may_find : ℕ → Seen → Type 0) (marks : List Mark) (at : ℕ) (old new newer : Counts) (look : Seen) (next : Next) (outcome : Option Reply) → HasPassed may_find marks at old new
+pub walk_ends : (may_find : ℕ → Seen → Type 0) (marks : List Mark) (at : ℕ) (old new newer : Counts) (look : Seen)
+    (next : Next) (outcome : Option Reply) → HasPassed may_find marks at old new
     → may_find at look → next ≡ step_of look (slice_get marks at) → (next ≡ Go → ⊥) → outcome ≡ outcome_of look next → AreCounted (look ∷ []) new newer
     → (failures : ℕ) × MayStop may_find marks outcome failures × (newer.failures ≡ counted_up old.failures failures)
 walk_ends may_find marks at old new newer look next outcome so_far seen stops ends answers grown =
@@ -105,7 +109,9 @@ outcome_there failed (Some Comma) answer ends taken lost = lost refl
 outcome_there failed None answer ends taken lost = lost refl
 
 -- without an answer, the device failed
-pub unanswered : (answer : Option Answer) (look : Seen) (P : Type 0) → (has_failed look ≡ false → option_map reply_of answer ≡ outcome_of look Take) → (has_failed look ≡ true → P) → IfNone answer P
+pub unanswered : (answer : Option Answer) (look : Seen) (P : Type 0)
+    → (has_failed look ≡ false → option_map reply_of answer ≡ outcome_of look Take) → (has_failed look ≡ true → P)
+    → IfNone answer P
 unanswered (Some answer) look P taken lost = tt
 unanswered None (found content) P taken lost = cc (taken refl)
 unanswered None too_long P taken lost = cc (taken refl)
@@ -117,7 +123,8 @@ pub walk_outcome : (look : Seen) (mark : Option Mark) (next : Next) (answer : Op
     → (has_failed look ≡ false → answer ≡ outcome_of look Take) → (has_failed look ≡ true → answer ≡ None) → answer ≡ outcome_of look next
 walk_outcome look mark next answer is ends taken lost = outcome_there look mark answer (λ e. ends (is ∙ e)) taken lost ∙ ap (outcome_of look) (sym is)
 
-pub none_passed : (may_find : ℕ → Seen → Type 0) (marks : List Mark) (old : Counts) → old.lookups < 2 ^ 64 → old.failures < 2 ^ 64 → HasPassed may_find marks 0 old old
+pub none_passed : (may_find : ℕ → Seen → Type 0) (marks : List Mark) (old : Counts) → old.lookups < 2 ^ 64
+    → old.failures < 2 ^ 64 → HasPassed may_find marks 0 old old
 none_passed may_find marks old few small = record {
   passed = [];
   many = refl;
@@ -134,7 +141,8 @@ min-above m old new n e h = elim (cases_lt old m) [ inl less ↦ inl (omega arit
 pub fail_counts : (look : Seen) (old new newer : Counts) (at : ℕ) {may_find : ℕ → Seen → Type 0} {marks : List Mark} → HasPassed may_find marks at old new
     → has_failed look ≡ true → AreCounted (look ∷ []) new newer → old.failures < 2 ^ 64 → (old.failures < newer.failures) ⊎ (old.failures ≡ 2 ^ 64 - 1)
 fail_counts failed old new newer at so_far fails grown small =
-    min-above (2 ^ 64 - 1) old.failures newer.failures (count_by has_failed so_far.passed) (grown.1 ∙ ap (λ n. min (n + 1) (2 ^ 64 - 1)) so_far.counted.1) (omega arith)
+    min-above (2 ^ 64 - 1) old.failures newer.failures (count_by has_failed so_far.passed)
+    (grown.1 ∙ ap (λ n. min (n + 1) (2 ^ 64 - 1)) so_far.counted.1) (omega arith)
 fail_counts (found content) old new newer at so_far fails grown small = cc fails
 fail_counts too_long old new newer at so_far fails grown small = cc fails
 fail_counts absent old new newer at so_far fails grown small = cc fails
@@ -142,7 +150,8 @@ fail_counts absent old new newer at so_far fails grown small = cc fails
 -- ---- what was counted
 
 -- memory ran out in a lookup
-pub passed_counts : {may_find : ℕ → Seen → Type 0} {marks : List Mark} {at : ℕ} {old new : Counts} → HasPassed may_find marks at old new → HasCounted may_find marks old new
+pub passed_counts : {may_find : ℕ → Seen → Type 0} {marks : List Mark} {at : ℕ} {old new : Counts}
+    → HasPassed may_find marks at old new → HasCounted may_find marks old new
 passed_counts so_far = (
   so_far.passed,
   record {
@@ -159,7 +168,8 @@ get_before (a ∷ p) x zero look e more = e
 get_before (a ∷ p) x (suc k) look e more = let less : suc k + 1 < suc (length (p ++ x ∷ [])) = more in get_before p x k look e (omega arith)
 
 -- the walk stopped
-pub stop_counts : (may_find : ℕ → Seen → Type 0) (marks : List Mark) (at : ℕ) (old new newer : Counts) (look : Seen) → HasPassed may_find marks at old new → may_find at look
+pub stop_counts : (may_find : ℕ → Seen → Type 0) (marks : List Mark) (at : ℕ) (old new newer : Counts) (look : Seen)
+    → HasPassed may_find marks at old new → may_find at look
     → AreCounted (look ∷ []) new newer → HasCounted may_find marks old newer
 stop_counts may_find marks at old new newer look so_far seen grown = (
   so_far.passed ++ look ∷ [],

@@ -31,7 +31,8 @@ pub key_total : IsTotalOrder (λ (x y : Place). ordering_then (slice_cmp nat_cmp
 key_total = then_total (on_total (λ (x : Place). x.0) nat_list_cmp_total) (on_total (λ (x : Place). x.1) nat_list_cmp_total)
 
 pub line_total : IsTotalOrder line_cmp
-line_total = then_total (on_total (λ (x : Triple). x.0) nat_list_cmp_total) (then_total (on_total (λ (x : Triple). x.1) nat_list_cmp_total) (on_total (λ (x : Triple). x.2) nat_list_cmp_total))
+line_total = then_total (on_total (λ (x : Triple). x.0) nat_list_cmp_total)
+    (then_total (on_total (λ (x : Triple). x.1) nat_list_cmp_total) (on_total (λ (x : Triple). x.2) nat_list_cmp_total))
 
 shorter : (a b c : Ordering) → is_lt (ordering_then a (ordering_then b c)) ≡ false → is_lt (ordering_then a b) ≡ false
 shorter Less b c e = e
@@ -44,13 +45,19 @@ place_of : SumLine → Place
 place_of line = (line.path.now, line.version.now)
 
 -- lines in ascending order are in the order of their paths and versions
-shorter_lines : (x y : SumLine) → is_lt (line_cmp (triple x) (triple y)) ≡ false → is_lt (ordering_then (slice_cmp nat_cmp x.path.now y.path.now) (slice_cmp nat_cmp x.version.now y.version.now)) ≡ false
-shorter_lines x y e = shorter (slice_cmp nat_cmp x.path.now y.path.now) (slice_cmp nat_cmp x.version.now y.version.now) (slice_cmp nat_cmp x.hash.now y.hash.now) e
+shorter_lines : (x y : SumLine) → is_lt (line_cmp (triple x) (triple y)) ≡ false
+    → is_lt (ordering_then (slice_cmp nat_cmp x.path.now y.path.now) (slice_cmp nat_cmp x.version.now y.version.now))
+    ≡ false
+shorter_lines x y e = shorter (slice_cmp nat_cmp x.path.now y.path.now) (slice_cmp nat_cmp x.version.now y.version.now)
+    (slice_cmp nat_cmp x.hash.now y.hash.now) e
 
-by_key : (lines : List SumLine) → AreInOrder lines → IsSortedBy (λ x y. is_lt (ordering_then (slice_cmp nat_cmp x.path.now y.path.now) (slice_cmp nat_cmp x.version.now y.version.now))) lines
+by_key : (lines : List SumLine) → AreInOrder lines → IsSortedBy
+    (λ x y. is_lt (ordering_then (slice_cmp nat_cmp x.path.now y.path.now)
+    (slice_cmp nat_cmp x.version.now y.version.now))) lines
 by_key lines order = λ k d low high. shorter_lines (slice_index_or lines (k + 1) d) (slice_index_or lines k d) (order k d low high)
 
-rising : (lines : List SumLine) (path version : List ℕ) → AreInOrder lines → IsNonDecreasingBy (λ line. ordering_index (key_cmp (triple line) (path, version))) lines
+rising : (lines : List SumLine) (path version : List ℕ) → AreInOrder lines
+    → IsNonDecreasingBy (λ line. ordering_index (key_cmp (triple line) (path, version))) lines
 rising lines path version order = searchable_from_sorted key_total (λ line. (line.path.now, line.version.now)) lines (path, version) (by_key lines order)
 
 less_down : (a b : Ordering) → ordering_index a ≤ ordering_index b → is_lt b ≡ true → is_lt a ≡ true
@@ -69,10 +76,12 @@ up_to_down Greater Less le e = absurd (omega arith)
 up_to_down Greater Equal le e = absurd (omega arith)
 up_to_down Greater Greater le e = e
 
-pub parted_before : (lines : List SumLine) (path version : List ℕ) → AreInOrder lines → IsPartitionedBy (λ line. is_lt (key_cmp (triple line) (path, version))) lines
+pub parted_before : (lines : List SumLine) (path version : List ℕ) → AreInOrder lines
+    → IsPartitionedBy (λ line. is_lt (key_cmp (triple line) (path, version))) lines
 parted_before lines path version order = λ i j d le within. less_down _ _ (rising lines path version order i j d le within)
 
-pub parted_up_to : (lines : List SumLine) (path version : List ℕ) → AreInOrder lines → IsPartitionedBy (λ line. is_le (key_cmp (triple line) (path, version))) lines
+pub parted_up_to : (lines : List SumLine) (path version : List ℕ) → AreInOrder lines
+    → IsPartitionedBy (λ line. is_le (key_cmp (triple line) (path, version))) lines
 parted_up_to lines path version order = λ i j d le within. up_to_down _ _ (rising lines path version order i j d le within)
 
 -- ---- which lines are for a path and version
@@ -89,7 +98,8 @@ between Equal e f = refl
 between Greater e f = cc f
 
 -- a line that is neither below nor above a path and version is for them
-is_at : (path version : List ℕ) (t : Triple) → is_lt (key_cmp t (path, version)) ≡ false → is_le (key_cmp t (path, version)) ≡ true → is_line_for path version t ≡ true
+is_at : (path version : List ℕ) (t : Triple) → is_lt (key_cmp t (path, version)) ≡ false
+    → is_le (key_cmp t (path, version)) ≡ true → is_line_for path version t ≡ true
 is_at path version t low high =
     let even = between (key_cmp t (path, version)) low high in
     and_from _ _ ((bytes_eq-Decides t.0 path).1 (same_texts t.0 path (then_first _ (slice_cmp nat_cmp t.1 version) even)))
@@ -119,7 +129,8 @@ less_is_le Equal e = refl
 less_is_le Greater e = cc e
 
 -- the lines are parted where one that fails the test stands, or the list ends, and all before it pass
-parted_at : {X : Type 0} (test : X → Bool) (xs : List X) (end : ℕ) → IsPartitionedBy test xs → ((k : ℕ) (d : X) → 0 ≤ k → k < end → test (slice_index_or xs k d) ≡ true)
+parted_at : {X : Type 0} (test : X → Bool) (xs : List X) (end : ℕ) → IsPartitionedBy test xs
+    → ((k : ℕ) (d : X) → 0 ≤ k → k < end → test (slice_index_or xs k d) ≡ true)
     → ((d : X) → end < length xs → test (slice_index_or xs end d) ≡ false) → IsPartitionPoint (λ x. test x ≡ true) (λ x. test x ≡ false) xs end
 parted_at test xs end parted before fails = (
   before,
@@ -129,28 +140,35 @@ parted_at test xs end parted before fails = (
 )
 
 -- a line that is not below a path and version, and not for them, is above them
-key_above : (path version : List ℕ) (t : Triple) → is_lt (key_cmp t (path, version)) ≡ false → is_line_for path version t ≡ false → is_le (key_cmp t (path, version)) ≡ false
+key_above : (path version : List ℕ) (t : Triple) → is_lt (key_cmp t (path, version)) ≡ false
+    → is_line_for path version t ≡ false → is_le (key_cmp t (path, version)) ≡ false
 key_above path version t low other = false_from_ne_true _ (λ e.
     let never : false ≡ true = sym other ∙ is_at path version t low e in
     cc never)
 
 -- where the lines for a path and version end: in front of the first line that is not below them, or after it
 pub ends_at : (lines : List SumLine) (path version : List ℕ) (start : ℕ) → AreInOrder lines
-    → IsPartitionPoint (λ line. is_lt (key_cmp (triple line) (path, version)) ≡ true) (λ line. is_lt (key_cmp (triple line) (path, version)) ≡ false) lines start
+    → IsPartitionPoint (λ line. is_lt (key_cmp (triple line) (path, version)) ≡ true)
+    (λ line. is_lt (key_cmp (triple line) (path, version)) ≡ false) lines start
     → ((d : SumLine) → start < length lines → false ≡ is_line_for path version (triple (slice_index_or lines start d)))
-    → IsPartitionPoint (λ line. is_le (key_cmp (triple line) (path, version)) ≡ true) (λ line. is_le (key_cmp (triple line) (path, version)) ≡ false) lines start
+    → IsPartitionPoint (λ line. is_le (key_cmp (triple line) (path, version)) ≡ true)
+    (λ line. is_le (key_cmp (triple line) (path, version)) ≡ false) lines start
 ends_at lines path version start order before other =
-    parted_at (λ line. is_le (key_cmp (triple line) (path, version))) lines start (parted_up_to lines path version order) (λ k d low high. less_is_le _ (before.0 k d low high))
+    parted_at (λ line. is_le (key_cmp (triple line) (path, version))) lines start
+    (parted_up_to lines path version order) (λ k d low high. less_is_le _ (before.0 k d low high))
     (λ d within. key_above path version (triple (slice_index_or lines start d)) (before.1 start d (omega arith) within) (sym (other d within)))
 
 pub ends_after : (lines : List SumLine) (path version : List ℕ) (start : ℕ) → AreInOrder lines
-    → IsPartitionPoint (λ line. is_lt (key_cmp (triple line) (path, version)) ≡ true) (λ line. is_lt (key_cmp (triple line) (path, version)) ≡ false) lines start → start < length lines
+    → IsPartitionPoint (λ line. is_lt (key_cmp (triple line) (path, version)) ≡ true)
+    (λ line. is_lt (key_cmp (triple line) (path, version)) ≡ false) lines start → start < length lines
     → ((d : SumLine) → true ≡ is_line_for path version (triple (slice_index_or lines start d)))
     → ((d : SumLine) → start + 1 < length lines → false ≡ is_line_for path version (triple (slice_index_or lines (start + 1) d)))
-    → IsPartitionPoint (λ line. is_le (key_cmp (triple line) (path, version)) ≡ true) (λ line. is_le (key_cmp (triple line) (path, version)) ≡ false) lines (start + 1)
+    → IsPartitionPoint (λ line. is_le (key_cmp (triple line) (path, version)) ≡ true)
+    (λ line. is_le (key_cmp (triple line) (path, version)) ≡ false) lines (start + 1)
 ends_after lines path version start order before some here other =
     parted_at (λ line. is_le (key_cmp (triple line) (path, version))) lines (start + 1) (parted_up_to lines path version order)
-    (λ k d low high. parted_up_to lines path version order k start d (omega arith) some (ap is_le (even_at path version (triple (slice_index_or lines start d)) (sym (here d)))))
+    (λ k d low high. parted_up_to lines path version order k start d (omega arith) some
+    (ap is_le (even_at path version (triple (slice_index_or lines start d)) (sym (here d)))))
     (λ d within. key_above path version (triple (slice_index_or lines (start + 1) d)) (before.1 (start + 1) d (omega arith) within) (sym (other d within)))
 
 -- the line that the code reads at a place: past the end, one of empty texts
@@ -165,22 +183,27 @@ pub reads_itself : (lines : List SumLine) (k : ℕ) → k < length lines → sli
 reads_itself lines k within = get_or_default lines k _ _ within
 
 module _ (lines : List SumLine) (path version hash : List ℕ) (start end : ℕ)
-    (before : IsPartitionPoint (λ line. is_lt (key_cmp (triple line) (path, version)) ≡ true) (λ line. is_lt (key_cmp (triple line) (path, version)) ≡ false) lines start)
-    (up_to : IsPartitionPoint (λ line. is_le (key_cmp (triple line) (path, version)) ≡ true) (λ line. is_le (key_cmp (triple line) (path, version)) ≡ false) lines end)
+    (before : IsPartitionPoint (λ line. is_lt (key_cmp (triple line) (path, version)) ≡ true)
+    (λ line. is_lt (key_cmp (triple line) (path, version)) ≡ false) lines start)
+    (up_to : IsPartitionPoint (λ line. is_le (key_cmp (triple line) (path, version)) ≡ true)
+    (λ line. is_le (key_cmp (triple line) (path, version)) ≡ false) lines end)
     (within : end ≤ length lines) where
   not_below : (y : SumLine) (k : ℕ) → slice_index_or lines k y ≡ y → is_line_for path version (triple y) ≡ true → k < start → ⊥
   not_below y k is for low =
-      let below : is_lt (key_cmp (triple y) (path, version)) ≡ true = ap (λ line. is_lt (key_cmp (triple line) (path, version))) (sym is) ∙ before.0 k y (omega arith) low in
+      let below : is_lt (key_cmp (triple y) (path, version)) ≡ true =
+      ap (λ line. is_lt (key_cmp (triple line) (path, version))) (sym is) ∙ before.0 k y (omega arith) low in
       let never : false ≡ true = ap is_lt (sym (even_at path version (triple y) for)) ∙ below in
       cc never
 
   not_above : (y : SumLine) (k : ℕ) → slice_index_or lines k y ≡ y → is_line_for path version (triple y) ≡ true → k < length lines → end ≤ k → ⊥
   not_above y k is for in_list high =
-      let key_above : is_le (key_cmp (triple y) (path, version)) ≡ false = ap (λ line. is_le (key_cmp (triple line) (path, version))) (sym is) ∙ up_to.1 k y high in_list in
+      let key_above : is_le (key_cmp (triple y) (path, version)) ≡ false =
+      ap (λ line. is_le (key_cmp (triple line) (path, version))) (sym is) ∙ up_to.1 k y high in_list in
       let never : true ≡ false = ap is_le (sym (even_at path version (triple y) for)) ∙ key_above in
       cc never
 
-  pub found_at : (y : SumLine) → Contains lines y → is_line_for path version (triple y) ≡ true → (k : ℕ) × (start ≤ k) × (k < end) × (slice_index_or lines k y ≡ y)
+  pub found_at : (y : SumLine) → Contains lines y → is_line_for path version (triple y) ≡ true
+      → (k : ℕ) × (start ≤ k) × (k < end) × (slice_index_or lines k y ≡ y)
   found_at y (k, in_list, is) for = elim (cases_lt k start) [
     | inl low ↦ absurd (not_below y k is for low)
     | inr low ↦ elim (cases_lt k end) [
@@ -196,9 +219,11 @@ module _ (lines : List SumLine) (path version hash : List ℕ) (start end : ℕ)
       (ap (λ line. is_lt (key_cmp (triple line) (path, version))) (sym is) ∙ before.1 k y low (omega arith))
       (ap (λ line. is_le (key_cmp (triple line) (path, version))) (sym is) ∙ up_to.0 k y (omega arith) high)
 
-  pub unlisted : end ≤ start → Unlisted ≡ (if not (list_any (is_line_for path version) (map triple lines)) then Unlisted else (if list_any (is_other_hash path version hash) (map triple lines) then Differs else Good))
+  pub unlisted : end ≤ start → Unlisted ≡ (if not (list_any (is_line_for path version) (map triple lines)) then Unlisted
+      else (if list_any (is_other_hash path version hash) (map triple lines) then Differs else Good))
   unlisted same =
-      let nothing : list_any (is_line_for path version) (map triple lines) ≡ false = any_map (is_line_for path version) triple lines ∙ false_from_ne_true _ (λ e.
+      let nothing : list_any (is_line_for path version) (map triple lines) ≡ false =
+      any_map (is_line_for path version) triple lines ∙ false_from_ne_true _ (λ e.
       let y = any_found (λ line. is_line_for path version (triple line)) lines e in
       let k = found_at y.0 y.1 y.2 in
       let low = k.1 in
@@ -213,24 +238,33 @@ module _ (lines : List SumLine) (path version hash : List ℕ) (start end : ℕ)
       cc never)
 
   -- a line for the path and version with another hash
-  pub differs : (first y : SumLine) (k : ℕ) → slice_index_or lines start first ≡ first → slice_index_or lines k y ≡ y → start ≤ k → k < end → bytes_eq y.hash.now hash ≡ false → Differs ≡ (if not (list_any (is_line_for path version) (map triple lines)) then Unlisted else (if list_any (is_other_hash path version hash) (map triple lines) then Differs else Good))
+  pub differs : (first y : SumLine) (k : ℕ) → slice_index_or lines start first ≡ first → slice_index_or lines k y ≡ y
+      → start ≤ k → k < end → bytes_eq y.hash.now hash ≡ false
+      → Differs ≡ (if not (list_any (is_line_for path version) (map triple lines)) then Unlisted
+      else (if list_any (is_other_hash path version hash) (map triple lines) then Differs else Good))
   differs first y k is_first is low high other =
-      let found : list_any (is_other_hash path version hash) (map triple lines) ≡ true = any_map (is_other_hash path version hash) triple lines ∙ true_from_ne_false _ (λ e.
+      let found : list_any (is_other_hash path version hash) (map triple lines) ≡ true =
+      any_map (is_other_hash path version hash) triple lines ∙ true_from_ne_false _ (λ e.
       let none = any_none (λ line. is_other_hash path version hash (triple line)) lines e y (k, omega arith, is) in
       let both : is_other_hash path version hash (triple y) ≡ true = and_from _ _ (stands_for y k is low high) (ap not other) in
       let never : true ≡ false = sym both ∙ none in
       cc never) in
-      sym (ap (λ b. if not b then Unlisted else (if list_any (is_other_hash path version hash) (map triple lines) then Differs else Good)) (listed first is_first (omega arith)) ∙ ap (λ b. if b then Differs else Good) found)
+      sym (ap (λ b. if not b then Unlisted else (if list_any (is_other_hash path version hash) (map triple lines)
+      then Differs else Good)) (listed first is_first (omega arith)) ∙ ap (λ b. if b then Differs else Good) found)
 
   whole : (y : SumLine) → is_line_for path version (triple y) ≡ true → bytes_eq y.hash.now hash ≡ true → triple y ≡ (path, version, hash)
   whole y for same = line_for path version (triple y) for ∙ ap (λ h. (path, version, h)) ((bytes_eq-Decides y.hash.now hash).0 same)
 
   -- between two lines with this hash there is no other
-  pub good : (first last : SumLine) → AreInOrder lines → start < end → slice_index_or lines start first ≡ first → slice_index_or lines (end - 1) last ≡ last → bytes_eq first.hash.now hash ≡ true → bytes_eq last.hash.now hash ≡ true → Good ≡ (if not (list_any (is_line_for path version) (map triple lines)) then Unlisted else (if list_any (is_other_hash path version hash) (map triple lines) then Differs else Good))
+  pub good : (first last : SumLine) → AreInOrder lines → start < end → slice_index_or lines start first ≡ first
+      → slice_index_or lines (end - 1) last ≡ last → bytes_eq first.hash.now hash ≡ true
+      → bytes_eq last.hash.now hash ≡ true → Good ≡ (if not (list_any (is_line_for path version) (map triple lines))
+      then Unlisted else (if list_any (is_other_hash path version hash) (map triple lines) then Differs else Good))
   good first last order some is_first is_last same_first same_last =
       let first_is : triple first ≡ (path, version, hash) = whole first (stands_for first start is_first (omega arith) some) same_first in
       let last_is : triple last ≡ (path, version, hash) = whole last (stands_for last (end - 1) is_last (omega arith) (omega arith)) same_last in
-      let none : list_any (is_other_hash path version hash) (map triple lines) ≡ false = any_map (is_other_hash path version hash) triple lines ∙ false_from_ne_true _ (λ e.
+      let none : list_any (is_other_hash path version hash) (map triple lines) ≡ false =
+      any_map (is_other_hash path version hash) triple lines ∙ false_from_ne_true _ (λ e.
       let y = any_found (λ line. is_other_hash path version hash (triple line)) lines e in
       let for = first_so (is_line_for path version (triple y.0)) (not (bytes_eq y.0.hash.now hash)) y.2 in
       let k = found_at y.0 y.1 for in
@@ -238,9 +272,21 @@ module _ (lines : List SumLine) (path version hash : List ℕ) (start end : ℕ)
       let high = k.2 in
       let at_first : slice_index_or lines start y.0 ≡ first = get_or_default lines start y.0 first (omega arith) ∙ is_first in
       let at_last : slice_index_or lines (end - 1) y.0 ≡ last = get_or_default lines (end - 1) y.0 last (omega arith) ∙ is_last in
-      let up : is_lt (line_cmp (triple y.0) (triple first)) ≡ false = ap2 (λ a b. is_lt (line_cmp (triple a) (triple b))) (sym k.3) (sym at_first) ∙ sorted_far (λ x y. is_lt (line_cmp (triple x) (triple y))) (ranks_by line_total triple) lines order start k.0 y.0 low (omega arith) in
-      let down : is_lt (line_cmp (triple last) (triple y.0)) ≡ false = ap2 (λ a b. is_lt (line_cmp (triple a) (triple b))) (sym at_last) (sym k.3) ∙ sorted_far (λ x y. is_lt (line_cmp (triple x) (triple y))) (ranks_by line_total triple) lines order k.0 (end - 1) y.0 (omega arith) (omega arith) in
-      let even : line_cmp (triple y.0) (path, version, hash) ≡ Equal = Equal-from_neither _ _ (line_total.antisymm (triple y.0) (path, version, hash)) (ap (λ t. is_lt (line_cmp (triple y.0) t)) (sym first_is) ∙ up) (ap (λ t. is_lt (line_cmp t (triple y.0))) (sym last_is) ∙ down) in
-      let hash_even : slice_cmp nat_cmp y.0.hash.now hash ≡ Equal = then_second (slice_cmp nat_cmp y.0.version.now version) _ (then_second (slice_cmp nat_cmp y.0.path.now path) _ even) in
+      let up : is_lt (line_cmp (triple y.0) (triple first)) ≡ false =
+      ap2 (λ a b. is_lt (line_cmp (triple a) (triple b))) (sym k.3) (sym at_first)
+      ∙ sorted_far (λ x y. is_lt (line_cmp (triple x) (triple y))) (ranks_by line_total triple) lines order start
+      k.0 y.0 low (omega arith) in
+      let down : is_lt (line_cmp (triple last) (triple y.0)) ≡ false =
+      ap2 (λ a b. is_lt (line_cmp (triple a) (triple b))) (sym at_last) (sym k.3)
+      ∙ sorted_far (λ x y. is_lt (line_cmp (triple x) (triple y))) (ranks_by line_total triple) lines order k.0
+      (end - 1) y.0 (omega arith) (omega arith) in
+      let even : line_cmp (triple y.0) (path, version, hash) ≡ Equal =
+      Equal-from_neither _ _ (line_total.antisymm (triple y.0) (path, version, hash))
+      (ap (λ t. is_lt (line_cmp (triple y.0) t)) (sym first_is) ∙ up)
+      (ap (λ t. is_lt (line_cmp t (triple y.0))) (sym last_is) ∙ down) in
+      let hash_even : slice_cmp nat_cmp y.0.hash.now hash ≡ Equal =
+      then_second (slice_cmp nat_cmp y.0.version.now version) _
+      (then_second (slice_cmp nat_cmp y.0.path.now path) _ even) in
       other_apart path version hash (triple y.0) y.2 (same_texts y.0.hash.now hash hash_even)) in
-      sym (ap (λ b. if not b then Unlisted else (if list_any (is_other_hash path version hash) (map triple lines) then Differs else Good)) (listed first is_first some) ∙ ap (λ b. if b then Differs else Good) none)
+      sym (ap (λ b. if not b then Unlisted else (if list_any (is_other_hash path version hash) (map triple lines)
+      then Differs else Good)) (listed first is_first some) ∙ ap (λ b. if b then Differs else Good) none)

@@ -24,7 +24,9 @@ Triple = List ℕ × List ℕ × List ℕ
 
 -- exactly the hashes that the fields of some lines list
 abbrev pub HoldsGiven : List (List (List ℕ)) → List (List ℕ × List ℕ × List ℕ) → Type 0
-HoldsGiven given sums = (path version hash : List ℕ) → Contains sums (path, version, hash) ↔ (Contains given (path ∷ (version ++ codes "/go.mod") ∷ hash ∷ []) × (starts_with nat_eq hash (codes "h1:") ≡ true))
+HoldsGiven given sums = (path version hash : List ℕ) → Contains sums (path, version, hash)
+    ↔ (Contains given (path ∷ (version ++ codes "/go.mod") ∷ hash ∷ [])
+    × (starts_with nat_eq hash (codes "h1:") ≡ true))
 
 one_only : {X : Type 0} (x y : X) → Contains (x ∷ []) y → x ≡ y
 one_only x y (zero, within, is) = is
@@ -33,7 +35,8 @@ one_only x y (suc k, within, is) = absurd (omega arith)
 one_itself : {X : Type 0} (x : X) → Contains (x ∷ []) x
 one_itself x = (0, omega arith, refl)
 
-same_triple : (p v h path version hash : List ℕ) → p ∷ (v ++ codes "/go.mod") ∷ h ∷ [] ≡ path ∷ (version ++ codes "/go.mod") ∷ hash ∷ [] → ◌≡◌ {A = Triple} (p, v, h) (path, version, hash)
+same_triple : (p v h path version hash : List ℕ) → p ∷ (v ++ codes "/go.mod") ∷ h ∷ [] ≡ path
+    ∷ (version ++ codes "/go.mod") ∷ hash ∷ [] → ◌≡◌ {A = Triple} (p, v, h) (path, version, hash)
 same_triple p v h path version hash e =
     let first : p ≡ path = cc e in
     let ending : v ++ codes "/go.mod" ≡ version ++ codes "/go.mod" = cc e in
@@ -45,19 +48,26 @@ take-drop_whole : (n : ℕ) (text : List ℕ) → text ≡ take n text ++ drop n
 take-drop_whole n text = grind (arith, common_steps)
 
 -- one more line, which lists a hash
-given_more : (given : List (List (List ℕ))) (sums : List Triple) (words : List (List ℕ)) (p v h : List ℕ) → HoldsGiven given sums → Gives words p v h → HoldsGiven (given ++ words ∷ []) (sums ++ (p, v, h) ∷ [])
+given_more : (given : List (List (List ℕ))) (sums : List Triple) (words : List (List ℕ)) (p v h : List ℕ)
+    → HoldsGiven given sums → Gives words p v h → HoldsGiven (given ++ words ∷ []) (sums ++ (p, v, h) ∷ [])
 given_more given sums words p v h holds gives = λ path version hash. (
   λ has. cases (Contains-append_cases sums ((p, v, h) ∷ []) (path, version, hash) has)
       (λ old. let both = (holds path version hash).0 old in (Contains-append_left given (words ∷ []) _ both.0, both.1))
-      (λ new. let same : ◌≡◌ {A = Triple} (p, v, h) (path, version, hash) = one_only _ _ new in
-      (Contains-append_right given (words ∷ []) _ (subst (Contains (words ∷ [])) (gives.0 ∙ ap (λ (t : Triple). t.0 ∷ (t.1 ++ codes "/go.mod") ∷ t.2 ∷ []) same) (one_itself words)), ap (λ (t : Triple). starts_with nat_eq t.2 (codes "h1:")) (sym same) ∙ gives.1)),
+      (λ new. let same : ◌≡◌ {A = Triple} (p, v, h) (path, version, hash) = one_only _ _ new in (
+        Contains-append_right given (words ∷ []) _ (subst (Contains (words ∷ []))
+            (gives.0 ∙ ap (λ (t : Triple). t.0 ∷ (t.1 ++ codes "/go.mod") ∷ t.2 ∷ []) same) (one_itself words)),
+        ap (λ (t : Triple). starts_with nat_eq t.2 (codes "h1:")) (sym same) ∙ gives.1,
+      )),
   λ has. cases (Contains-append_cases given (words ∷ []) (path ∷ (version ++ codes "/go.mod") ∷ hash ∷ []) has.0)
       (λ old. Contains-append_left sums ((p, v, h) ∷ []) (path, version, hash) ((holds path version hash).1 (old, has.1)))
-      (λ new. Contains-append_right sums ((p, v, h) ∷ []) (path, version, hash) (subst (Contains ((p, v, h) ∷ [])) (same_triple p v h path version hash (sym gives.0 ∙ one_only _ _ new)) (one_itself (p, v, h)))),
+      (λ new. Contains-append_right sums ((p, v, h) ∷ []) (path, version, hash)
+      (subst (Contains ((p, v, h) ∷ [])) (same_triple p v h path version hash (sym gives.0 ∙ one_only _ _ new))
+      (one_itself (p, v, h)))),
 )
 
 -- one more line, which lists none
-given_same : (given : List (List (List ℕ))) (sums : List Triple) (words : List (List ℕ)) → HoldsGiven given sums → ((p v h : List ℕ) → ¬ (Gives words p v h)) → HoldsGiven (given ++ words ∷ []) sums
+given_same : (given : List (List (List ℕ))) (sums : List Triple) (words : List (List ℕ)) → HoldsGiven given sums
+    → ((p v h : List ℕ) → ¬ (Gives words p v h)) → HoldsGiven (given ++ words ∷ []) sums
 given_same given sums words holds none = λ path version hash. (
   λ has. let both = (holds path version hash).0 has in (Contains-append_left given (words ∷ []) _ both.0, both.1),
   λ has. cases (Contains-append_cases given (words ∷ []) (path ∷ (version ++ codes "/go.mod") ∷ hash ∷ []) has.0)
@@ -65,15 +75,23 @@ given_same given sums words holds none = λ path version hash. (
       (λ new. absurd (none path version hash (one_only _ _ new, has.1))),
 )
 
-fields-push : (seen : List (Bor (List ℕ))) (line : Bor (List ℕ)) → map fields (map (λ line. line.now) (seen ++ line ∷ [])) ≡ map fields (map (λ line. line.now) seen) ++ fields line.now ∷ []
-fields-push seen line = ap (map fields) (map-append (λ (line : Bor (List ℕ)). line.now) seen (line ∷ [])) ∙ map-append fields (map (λ line. line.now) seen) (line.now ∷ [])
+fields-push : (seen : List (Bor (List ℕ))) (line : Bor (List ℕ))
+    → map fields (map (λ line. line.now) (seen ++ line ∷ [])) ≡ map fields (map (λ line. line.now) seen)
+    ++ fields line.now ∷ []
+fields-push seen line = ap (map fields) (map-append (λ (line : Bor (List ℕ)). line.now) seen (line ∷ []))
+    ∙ map-append fields (map (λ line. line.now) seen) (line.now ∷ [])
 
-line_gives : (seen : List (Bor (List ℕ))) (line : Bor (List ℕ)) (sums new : List Triple) (p v h : List ℕ) → HoldsGiven (map fields (map (λ line. line.now) seen)) sums → Gives (fields line.now) p v h → new ≡ sums ++ (p, v, h) ∷ [] → HoldsGiven (map fields (map (λ line. line.now) (seen ++ line ∷ []))) new
+line_gives : (seen : List (Bor (List ℕ))) (line : Bor (List ℕ)) (sums new : List Triple) (p v h : List ℕ)
+    → HoldsGiven (map fields (map (λ line. line.now) seen)) sums → Gives (fields line.now) p v h
+    → new ≡ sums ++ (p, v, h) ∷ [] → HoldsGiven (map fields (map (λ line. line.now) (seen ++ line ∷ []))) new
 line_gives seen line sums new p v h holds gives grown =
     subst (λ given. HoldsGiven given new) (sym (fields-push seen line))
     (subst (HoldsGiven (map fields (map (λ line. line.now) seen) ++ fields line.now ∷ [])) (sym grown) (given_more _ sums (fields line.now) p v h holds gives))
 
-line_gives_none : (seen : List (Bor (List ℕ))) (line : Bor (List ℕ)) (sums : List Triple) → HoldsGiven (map fields (map (λ line. line.now) seen)) sums → ((p v h : List ℕ) → ¬ (Gives (fields line.now) p v h)) → HoldsGiven (map fields (map (λ line. line.now) (seen ++ line ∷ []))) sums
+line_gives_none : (seen : List (Bor (List ℕ))) (line : Bor (List ℕ)) (sums : List Triple)
+    → HoldsGiven (map fields (map (λ line. line.now) seen)) sums
+    → ((p v h : List ℕ) → ¬ (Gives (fields line.now) p v h))
+    → HoldsGiven (map fields (map (λ line. line.now) (seen ++ line ∷ []))) sums
 line_gives_none seen line sums holds none =
     subst (λ given. HoldsGiven given sums) (sym (fields-push seen line)) (given_same _ sums (fields line.now) holds none)
 
@@ -86,7 +104,11 @@ line_added seen line sums new holds added = elim added [
 ]
 
 pub holds_all : (text : List ℕ) (sums : List Triple) → HoldsGiven (map fields (lines text)) sums → HoldsSums sums text
-holds_all text sums holds = λ path version hash. (λ has. let both = (holds path version hash).0 has in record { line = both.0; kind = both.1 }, λ is. (holds path version hash).1 (is.line, is.kind))
+holds_all text sums holds = λ path version hash. (
+  λ has. let both = (holds path version hash).0 has in
+      record { line = both.0; kind = both.1 },
+  λ is. (holds path version hash).1 (is.line, is.kind),
+)
 
 -- ---- which lines are valid
 
@@ -94,30 +116,35 @@ abbrev pub is_invalid : List ℕ → Bool
 is_invalid line = not (are_valid_fields (fields line))
 
 -- a valid line more
-pub valid_more : (seen : List (Bor (List ℕ))) (line : Bor (List ℕ)) → list_any is_invalid (map (λ line. line.now) seen) ≡ false → true ≡ are_valid_fields (fields line.now)
+pub valid_more : (seen : List (Bor (List ℕ))) (line : Bor (List ℕ))
+    → list_any is_invalid (map (λ line. line.now) seen) ≡ false → true ≡ are_valid_fields (fields line.now)
     → list_any is_invalid (map (λ line. line.now) (seen ++ line ∷ [])) ≡ false
 valid_more seen line none valid =
-    ap (list_any is_invalid) (map-append (λ (line : Bor (List ℕ)). line.now) seen (line ∷ [])) ∙ list_any-append is_invalid (map (λ line. line.now) seen) (line.now ∷ [])
+    ap (list_any is_invalid) (map-append (λ (line : Bor (List ℕ)). line.now) seen (line ∷ []))
+    ∙ list_any-append is_invalid (map (λ line. line.now) seen) (line.now ∷ [])
     ∙ ap (λ b. b || (is_invalid line.now || false)) none ∙ ap (λ b. not b || false) (sym valid)
 
 -- where no line is invalid, the first invalid line is beyond the last one
 pub valid_all : (text : List ℕ) → list_any is_invalid (lines text) ≡ false → HasValidLines text
 valid_all text none = elim (cases_lt (lines_before_invalid text) (length (lines text))) [
   | inl low ↦
-      let never : false ≡ true = sym none ∙ list_any_at is_invalid (lines text) (lines_before_invalid text) [] low (passes_at_first is_invalid (lines text) [] low) in
+      let never : false ≡ true = sym none ∙ list_any_at is_invalid (lines text) (lines_before_invalid text) [] low
+      (passes_at_first is_invalid (lines text) [] low) in
       cc never
   | inr high ↦ high
 ]
 
 -- a text without its ending
-pub stripped : (text ending front : List ℕ) → bytes_eq (drop (length text - length ending) text) ending ≡ true → front ≡ take (length text - length ending) text → text ≡ front ++ ending
+pub stripped : (text ending front : List ℕ) → bytes_eq (drop (length text - length ending) text) ending ≡ true
+    → front ≡ take (length text - length ending) text → text ≡ front ++ ending
 stripped text ending front same cut =
     let end : drop (length text - length ending) text ≡ ending = (bytes_eq-Decides _ ending).0 same in
     take-drop_whole (length text - length ending) text ∙ ap (λ t. t ++ drop (length text - length ending) text) (sym cut) ∙ ap (λ t. front ++ t) end
 
 -- ---- what a table says
 
-found_step : {X : Type 0} (f : X → Bool) (x : X) (xs : List X) (hit : Bool) → f x ≡ hit → list_any f (x ∷ xs) ≡ true → (list_any f xs ≡ true → (y : X) × Contains xs y × (f y ≡ true)) → (y : X) × Contains (x ∷ xs) y × (f y ≡ true)
+found_step : {X : Type 0} (f : X → Bool) (x : X) (xs : List X) (hit : Bool) → f x ≡ hit → list_any f (x ∷ xs) ≡ true
+    → (list_any f xs ≡ true → (y : X) × Contains xs y × (f y ≡ true)) → (y : X) × Contains (x ∷ xs) y × (f y ≡ true)
 found_step f x xs true e any rest = (x, (0, omega arith, refl), e)
 found_step f x xs false e any rest =
     let later : list_any f xs ≡ true = ap (λ b. b || list_any f xs) (sym e) ∙ any in
@@ -163,10 +190,12 @@ same_by false true a b told for none = cc none
 same_by false false a b told for none = cc for
 
 same_hash : (path version hash other : List ℕ) → is_other_hash path version hash (path, version, other) ≡ false → other ≡ hash
-same_hash path version hash other e = same_by (bytes_eq other hash) (is_line_for path version (path, version, other)) other hash (bytes_eq-Decides other hash).0 (is_for path version other) e
+same_hash path version hash other e = same_by (bytes_eq other hash) (is_line_for path version (path, version, other))
+    other hash (bytes_eq-Decides other hash).0 (is_for path version other) e
 
 -- lookups in a table say what the text says
-says_step : (text path version hash : List ℕ) (sums : List Triple) (listed other : Bool) → HoldsSums sums text → list_any (is_line_for path version) sums ≡ listed → list_any (is_other_hash path version hash) sums ≡ other
+says_step : (text path version hash : List ℕ) (sums : List Triple) (listed other : Bool) → HoldsSums sums text
+    → list_any (is_line_for path version) sums ≡ listed → list_any (is_other_hash path version hash) sums ≡ other
     → Says text path version hash (if not listed then Unlisted else (if other then Differs else Good))
 says_step text path version hash sums false other holds e f = λ h is.
     let never : true ≡ false = sym (is_for path version h) ∙ any_none (is_line_for path version) sums e (path, version, h) ((holds path version h).1 is) in
@@ -178,17 +207,25 @@ says_step text path version hash sums true true holds e f =
 says_step text path version hash sums true false holds e f =
     let found = any_found (is_line_for path version) sums e in
     let line = line_for path version found.0 found.2 in
-    let only = λ (other : List ℕ) (is : IsSum text path version other). same_hash path version hash other (any_none (is_other_hash path version hash) sums f (path, version, other) ((holds path version other).1 is)) in
+    let only = λ (other : List ℕ) (is : IsSum text path version other).
+    same_hash path version hash other (any_none (is_other_hash path version hash) sums f (path, version, other)
+    ((holds path version other).1 is)) in
     let is = (holds path version found.0.2).0 (subst (Contains sums) line found.1) in
     (subst (IsSum text path version) (only found.0.2 is) is, only)
 
 -- reordering the lines keeps the hashes
 pub holds_moved : (text : List ℕ) (sums moved : List Triple) → IsPermutation sums moved → HoldsSums sums text → HoldsSums moved text
-holds_moved text sums moved change holds = λ path version hash. (λ has. (holds path version hash).0 (Contains-permutation _ _ _ (IsPermutation-sym _ _ change) has), λ is. Contains-permutation _ _ _ change ((holds path version hash).1 is))
+holds_moved text sums moved change holds = λ path version hash. (
+  λ has. (holds path version hash).0 (Contains-permutation _ _ _ (IsPermutation-sym _ _ change) has),
+  λ is.
+      Contains-permutation _ _ _ change ((holds path version hash).1 is),
+)
 
 pub says : (text path version hash : List ℕ) (sums : List Triple) → HoldsSums sums text
-    → Says text path version hash (if not (list_any (is_line_for path version) sums) then Unlisted else (if list_any (is_other_hash path version hash) sums then Differs else Good))
-says text path version hash sums holds = says_step text path version hash sums (list_any (is_line_for path version) sums) (list_any (is_other_hash path version hash) sums) holds refl refl
+    → Says text path version hash (if not (list_any (is_line_for path version) sums) then Unlisted
+    else (if list_any (is_other_hash path version hash) sums then Differs else Good))
+says text path version hash sums holds = says_step text path version hash sums
+    (list_any (is_line_for path version) sums) (list_any (is_other_hash path version hash) sums) holds refl refl
 
 pub any_map : {X Y : Type 0} (f : Y → Bool) (h : X → Y) (xs : List X) → list_any f (map h xs) ≡ list_any (λ x. f (h x)) xs
 any_map f h [] = refl

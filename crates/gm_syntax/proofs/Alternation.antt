@@ -124,7 +124,8 @@ valid_on : (lines front back : List (Line Word)) → AreValidInPlace lines → l
     → AreValidFrom false front → AreValidFrom false lines
 valid_on lines front [] v e f = subst (AreValidFrom false) (sym (e ∙ append-nil front)) f
 valid_on lines front (l ∷ back) v e f =
-    let here : IsValidLine (inside_after_all false front) l = subst (λ (b : Bool). IsValidLine b l) (open_after front (valid_fit false front f)) (v front back l e) in
+    let here : IsValidLine (inside_after_all false front) l =
+    subst (λ (b : Bool). IsValidLine b l) (open_after front (valid_fit false front f)) (v front back l e) in
     valid_on lines (front ++ l ∷ []) back v (e ∙ sym (append_assoc front (l ∷ []) back)) (stand_together false front (l ∷ []) f (here, tt))
 
 pub alternating : (lines : List (Line Word)) → AreInTurn lines × AreValidInPlace lines → IsDocument lines

@@ -24,5 +24,6 @@ agree_at f g (suc n) h b lt =
 abbrev pub has_flag : List ℕ → ℕ → ℕ → Bool
 has_flag table flag b = not (nat_eq (bit_and (get_or table b 0) flag) 0)
 
-pub from_table : (table : List ℕ) (flag : ℕ) (test : ℕ → Bool) (b : ℕ) → b < 256 → agree_below (has_flag table flag) test 256 ≡ true → has_flag table flag b ≡ test b
+pub from_table : (table : List ℕ) (flag : ℕ) (test : ℕ → Bool) (b : ℕ) → b < 256
+    → agree_below (has_flag table flag) test 256 ≡ true → has_flag table flag b ≡ test b
 from_table table flag test b lt h = agree_at _ _ 256 h b lt

@@ -24,8 +24,11 @@ lines_stand at (l ∷ ls) h =
 
 pub standing_lines : (at : Place) (lines : List (Line Word)) → AreValidFrom at.inside lines → inside_after_all at.inside lines ≡ false → AreLines at lines
 standing_lines at [] s e = e
-standing_lines at (l ∷ ls) s e =
-    (s.0, standing_lines (after at l) ls (subst (λ (b : Bool). AreValidFrom b ls) (sym (after_inside at l)) s.1) (subst (λ (b : Bool). inside_after_all b ls ≡ false) (sym (after_inside at l)) e))
+standing_lines at (l ∷ ls) s e = (
+  s.0,
+  standing_lines (after at l) ls (subst (λ (b : Bool). AreValidFrom b ls) (sym (after_inside at l)) s.1)
+      (subst (λ (b : Bool). inside_after_all b ls ≡ false) (sym (after_inside at l)) e),
+)
 
 pub stand_parts : (b : Bool) (xs ys : List (Line Word)) → AreValidFrom b (xs ++ ys) → AreValidFrom b xs × AreValidFrom (inside_after_all b xs) ys
 stand_parts b [] ys s = (tt, s)
@@ -55,16 +58,21 @@ inside_after_all-level b (l ∷ ls) e =
 -- ---- removing lines
 
 -- lines after which a block is open exactly if one is open before them
-pub lines_go_out : (front middle back : List (Line Word)) → IsDocument (front ++ (middle ++ back)) → inside_after_all (inside_after_all false front) middle ≡ inside_after_all false front → IsDocument (front ++ back)
+pub lines_go_out : (front middle back : List (Line Word)) → IsDocument (front ++ (middle ++ back))
+    → inside_after_all (inside_after_all false front) middle ≡ inside_after_all false front → IsDocument (front ++ back)
 lines_go_out front middle back d e =
     let all = lines_stand start (front ++ (middle ++ back)) d in
     let parts = stand_parts false front (middle ++ back) all.0 in
     let more = stand_parts (inside_after_all false front) middle back parts.1 in
     let ended : inside_after_all (inside_after_all false front) back ≡ false =
-    ap (λ (b : Bool). inside_after_all b back) (sym e) ∙ sym (inside_after_all-append (inside_after_all false front) middle back) ∙ sym (inside_after_all-append false front (middle ++ back)) ∙ all.1 in
-    standing_lines start (front ++ back) (stand_together false front back parts.0 (subst (λ (b : Bool). AreValidFrom b back) e more.1)) (inside_after_all-append false front back ∙ ended)
+    ap (λ (b : Bool). inside_after_all b back) (sym e) ∙ sym
+    (inside_after_all-append (inside_after_all false front) middle back)
+    ∙ sym (inside_after_all-append false front (middle ++ back)) ∙ all.1 in
+    standing_lines start (front ++ back) (stand_together false front back parts.0
+    (subst (λ (b : Bool). AreValidFrom b back) e more.1)) (inside_after_all-append false front back ∙ ended)
 
-pub level_lines_go_out : (front middle back : List (Line Word)) → IsDocument (front ++ (middle ++ back)) → list_all is_level middle ≡ true → IsDocument (front ++ back)
+pub level_lines_go_out : (front middle back : List (Line Word)) → IsDocument (front ++ (middle ++ back))
+    → list_all is_level middle ≡ true → IsDocument (front ++ back)
 level_lines_go_out front middle back d e = lines_go_out front middle back d (inside_after_all-level (inside_after_all false front) middle e)
 
 pub no_open : (words : List Word) (comment : Option (List ℕ)) (verb : Word) (suffix : Option (List ℕ)) → class_of true words comment ≡ Ok (Open verb suffix) → ⊥
@@ -91,24 +99,34 @@ slice_parts : (lines : List (Line Word)) (from to : ℕ) → from ≤ to → lin
 slice_parts lines from to le =
     let middle : List (Line Word) = slice_range lines from to in
     let past : drop (to - from) (drop from lines) ≡ drop to lines = drop-drop (to - from) from lines ∙ ap (λ (n : ℕ). drop n lines) (omega arith) in
-    let tail : drop from lines ≡ middle ++ drop to lines = sym (take-append-drop (to - from) (drop from lines)) ∙ ap (λ (l : List (Line Word)). middle ++ l) past in
+    let tail : drop from lines ≡ middle ++ drop to lines =
+    sym (take-append-drop (to - from) (drop from lines)) ∙ ap (λ (l : List (Line Word)). middle ++ l) past in
     sym (take-append-drop from lines) ∙ ap (λ (l : List (Line Word)). take from lines ++ l) tail
 
 -- the same, by index
-pub lines_go_out_at : (lines : List (Line Word)) (from to : ℕ) → from ≤ to → IsDocument lines → inside_after_all false (take to lines) ≡ inside_after_all false (take from lines) → IsDocument (without lines from to)
+pub lines_go_out_at : (lines : List (Line Word)) (from to : ℕ) → from ≤ to → IsDocument lines
+    → inside_after_all false (take to lines) ≡ inside_after_all false (take from lines)
+    → IsDocument (without lines from to)
 lines_go_out_at lines from to le d e =
     let middle : List (Line Word) = slice_range lines from to in
     let whole = slice_parts lines from to le in
     let upto : take to lines ≡ take from lines ++ middle = ap (λ (n : ℕ). take n lines) (omega arith) ∙ take-add from (to - from) lines in
-    lines_go_out (take from lines) middle (drop to lines) (subst IsDocument whole d) (sym (inside_after_all-append false (take from lines) middle) ∙ ap (inside_after_all false) (sym upto) ∙ e)
+    lines_go_out (take from lines) middle (drop to lines) (subst IsDocument whole d)
+    (sym (inside_after_all-append false (take from lines) middle) ∙ ap (inside_after_all false) (sym upto) ∙ e)
 
-pub level_lines_go_out_at : (lines : List (Line Word)) (from to : ℕ) → from ≤ to → IsDocument lines → list_all is_level (slice_range lines from to) ≡ true → IsDocument (without lines from to)
+pub level_lines_go_out_at : (lines : List (Line Word)) (from to : ℕ) → from ≤ to → IsDocument lines
+    → list_all is_level (slice_range lines from to) ≡ true → IsDocument (without lines from to)
 level_lines_go_out_at lines from to le d e =
     let upto : take to lines ≡ take from lines ++ slice_range lines from to = ap (λ (n : ℕ). take n lines) (omega arith) ∙ take-add from (to - from) lines in
-    lines_go_out_at lines from to le d (ap (inside_after_all false) upto ∙ inside_after_all-append false (take from lines) (slice_range lines from to) ∙ inside_after_all-level (inside_after_all false (take from lines)) (slice_range lines from to) e)
+    lines_go_out_at lines from to le d (ap (inside_after_all false) upto
+    ∙ inside_after_all-append false (take from lines) (slice_range lines from to)
+    ∙ inside_after_all-level (inside_after_all false (take from lines)) (slice_range lines from to) e)
 
 -- an opening, the level lines in its block, the closing, and level lines after it
-pub block_goes_out_at : (lines inner behind : List (Line Word)) (from to : ℕ) (verb : Word) (suffix last : Option (List ℕ)) → from ≤ to → IsDocument lines → slice_range lines from to ≡ Open verb suffix ∷ (inner ++ Close last ∷ behind) → list_all is_level inner ≡ true → list_all is_level behind ≡ true → IsDocument (without lines from to)
+pub block_goes_out_at : (lines inner behind : List (Line Word)) (from to : ℕ) (verb : Word)
+    (suffix last : Option (List ℕ)) → from ≤ to → IsDocument lines
+    → slice_range lines from to ≡ Open verb suffix ∷ (inner ++ Close last ∷ behind) → list_all is_level inner ≡ true
+    → list_all is_level behind ≡ true → IsDocument (without lines from to)
 block_goes_out_at lines inner behind from to verb suffix last le d is e f =
     let front : List (Line Word) = take from lines in
     let block : List (Line Word) = Open verb suffix ∷ (inner ++ Close last ∷ behind) in
@@ -116,7 +134,8 @@ block_goes_out_at lines inner behind from to verb suffix last le d is e f =
     let all = lines_stand start (front ++ (block ++ drop to lines)) (subst IsDocument whole d) in
     let opening = (stand_parts false front (block ++ drop to lines) all.0).1.0 in
     let outside : inside_after_all false front ≡ false = open_outside (inside_after_all false front) verb suffix opening in
-    let closed : inside_after_all true (inner ++ Close last ∷ behind) ≡ false = inside_after_all-append true inner (Close last ∷ behind) ∙ inside_after_all-level false behind f in
+    let closed : inside_after_all true (inner ++ Close last ∷ behind) ≡ false =
+    inside_after_all-append true inner (Close last ∷ behind) ∙ inside_after_all-level false behind f in
     lines_go_out front block (drop to lines) (subst IsDocument whole d) (closed ∙ sym outside)
 
 -- ---- inserting lines
@@ -125,7 +144,8 @@ not_level : (l m : Line Word) → line_ok l ≡ line_ok m → is_level l ≡ fal
 not_level l m e n k = true≢false (sym k ∙ sym (ap is_level (same_ok l m e)) ∙ n)
 
 -- the words of a level line neither end in an opening parenthesis nor begin with a closing one
-level_tests : (inside : Bool) (words : List Word) (suffix : Option (List ℕ)) (l : Line Word) → class_of inside words suffix ≡ Ok l → is_level l ≡ true → (ends_open words ≡ false) × (begins_close words ≡ false)
+level_tests : (inside : Bool) (words : List Word) (suffix : Option (List ℕ)) (l : Line Word)
+    → class_of inside words suffix ≡ Ok l → is_level l ≡ true → (ends_open words ≡ false) × (begins_close words ≡ false)
 unfolding class_of
 level_tests inside [] suffix l e k = (refl, refl)
 level_tests false (w ∷ ws) suffix l e k =
@@ -157,13 +177,16 @@ opens_ends (v ∷ []) e = absurd cc
 opens_ends (v ∷ w ∷ []) e = (and_both (is_bare v.kind) (is_mark 40 w) e).1
 opens_ends (v ∷ w ∷ x ∷ words) e = absurd cc
 
-class_anywhere : (inside : Bool) (words : List Word) (suffix : Option (List ℕ)) → 0 < length words → ends_open words ≡ false → begins_close words ≡ false → class_of inside words suffix ≡ Ok (Entry words suffix)
+class_anywhere : (inside : Bool) (words : List Word) (suffix : Option (List ℕ)) → 0 < length words
+    → ends_open words ≡ false → begins_close words ≡ false → class_of inside words suffix ≡ Ok (Entry words suffix)
 class_anywhere true words suffix n e c = class_inside_entry words suffix n c e
 class_anywhere false words suffix n e c =
-    let no_block : opens_block words ≡ false = elim (cases_Bool (opens_block words)) [ inl o ↦ absurd (true≢false (sym (opens_ends words o) ∙ e)) | inr o ↦ o ] in
+    let no_block : opens_block words ≡ false = elim (cases_Bool (opens_block words))
+    [ inl o ↦ absurd (true≢false (sym (opens_ends words o) ∙ e)) | inr o ↦ o ] in
     class_entry words suffix n no_block e c
 
-class_level : (inside other : Bool) (words : List Word) (suffix : Option (List ℕ)) (l : Line Word) → class_of inside words suffix ≡ Ok l → is_level l ≡ true → class_of other words suffix ≡ Ok l
+class_level : (inside other : Bool) (words : List Word) (suffix : Option (List ℕ)) (l : Line Word)
+    → class_of inside words suffix ≡ Ok l → is_level l ≡ true → class_of other words suffix ≡ Ok l
 unfolding class_of
 class_level inside other [] None l e k = e
 class_level inside other [] (Some text) l e k = e
@@ -173,10 +196,20 @@ class_level inside other (w ∷ ws) suffix l e k =
 
 -- a level line that is valid somewhere is valid anywhere
 pub valid_anywhere : (inside other : Bool) (line : Line Word) → is_level line ≡ true → IsValidLine inside line → IsValidLine other line
-valid_anywhere inside other line k (text, plain, at) =
-    (text, plain, record { words = at.words; comment = at.comment; spelled = at.spelled; classed = class_level inside other at.words at.comment line at.classed k })
+valid_anywhere inside other line k (text, plain, at) = (
+  text,
+  plain,
+  record {
+    words = at.words;
+    comment = at.comment;
+    spelled = at.spelled;
+    classed =
+        class_level inside other at.words at.comment line at.classed k;
+  },
+)
 
-pub level_line_goes_in : (front back : List (Line Word)) (line : Line Word) (inside : Bool) → IsDocument (front ++ back) → is_level line ≡ true → IsValidLine inside line → IsDocument (front ++ line ∷ back)
+pub level_line_goes_in : (front back : List (Line Word)) (line : Line Word) (inside : Bool) → IsDocument (front ++ back)
+    → is_level line ≡ true → IsValidLine inside line → IsDocument (front ++ line ∷ back)
 level_line_goes_in front back line inside d k s =
     let all = lines_stand start (front ++ back) d in
     let parts = stand_parts false front back all.0 in
@@ -184,11 +217,14 @@ level_line_goes_in front back line inside d k s =
     let same : inside_after b line ≡ b = inside_after-level b line k in
     standing_lines start (front ++ line ∷ back)
     (stand_together false front (line ∷ back) parts.0 (valid_anywhere inside b line k s, subst (λ (x : Bool). AreValidFrom x back) (sym same) parts.1))
-    (inside_after_all-append false front (line ∷ back) ∙ ap (λ (x : Bool). inside_after_all x back) same ∙ sym (inside_after_all-append false front back) ∙ all.1)
+    (inside_after_all-append false front (line ∷ back) ∙ ap (λ (x : Bool). inside_after_all x back) same
+    ∙ sym (inside_after_all-append false front back) ∙ all.1)
 
 -- the same, by index
-pub level_line_goes_in_at : (lines : List (Line Word)) (at : ℕ) (line : Line Word) (inside : Bool) → IsDocument lines → is_level line ≡ true → IsValidLine inside line → IsDocument (insert lines at line)
-level_line_goes_in_at lines at line inside d k s = level_line_goes_in (take at lines) (drop at lines) line inside (subst IsDocument (sym (take-append-drop at lines)) d) k s
+pub level_line_goes_in_at : (lines : List (Line Word)) (at : ℕ) (line : Line Word) (inside : Bool) → IsDocument lines
+    → is_level line ≡ true → IsValidLine inside line → IsDocument (insert lines at line)
+level_line_goes_in_at lines at line inside d k s = level_line_goes_in (take at lines) (drop at lines) line inside
+    (subst IsDocument (sym (take-append-drop at lines)) d) k s
 
 -- ---- lines made by edits
 
@@ -196,12 +232,22 @@ pub blank_stands : (inside : Bool) → IsValidLine inside Blank
 blank_stands inside = let s = words_are_spelled [] None tt tt in (s.0, s.1, record { words = []; comment = None; spelled = s.2; classed = class_blank inside })
 
 pub comment_stands : (inside : Bool) (text : List ℕ) → IsSuffix (Some text) → IsValidLine inside (Comment text)
-comment_stands inside text h = let s = words_are_spelled [] (Some text) tt h in (s.0, s.1, record { words = []; comment = Some text; spelled = s.2; classed = class_comment inside text })
+comment_stands inside text h = let s = words_are_spelled [] (Some text) tt h in
+    (s.0, s.1, record { words = []; comment = Some text; spelled = s.2; classed = class_comment inside text })
 
 pub entry_stands : (inside : Bool) (words : List Word) (suffix : Option (List ℕ)) → IsEntry words suffix → IsValidLine inside (Entry words suffix)
 entry_stands inside words suffix h =
-    let s = words_are_spelled words suffix h.are_words h.is_suffix in
-    (s.0, s.1, record { words = words; comment = suffix; spelled = s.2; classed = class_anywhere inside words suffix h.filled h.opens_nothing h.closes_nothing })
+    let s = words_are_spelled words suffix h.are_words h.is_suffix in (
+      s.0,
+      s.1,
+      record {
+        words = words;
+        comment = suffix;
+        spelled = s.2;
+        classed =
+            class_anywhere inside words suffix h.filled h.opens_nothing h.closes_nothing;
+      },
+    )
 
 filled_length : (words : List Word) → words ≢ [] → 0 < length words
 filled_length [] h = absurd (h refl)

@@ -35,15 +35,23 @@ record Stands (source : List ℕ) (from number : ℕ) (text : List ℕ) : Type 0
   pub count : number ≡ 1 + line_feeds front
   pub plain : HasNoLineFeed text
 
-module _ {source : List ℕ} {from number : ℕ} {text rest : List ℕ} {t : Placed} {span : Span} (s : Stands source from number text) (n : IsNextWord from text t span rest) where
+module _ {source : List ℕ} {from number : ℕ} {text rest : List ℕ} {t : Placed} {span : Span}
+    (s : Stands source from number text) (n : IsNextWord from text t span rest) where
   word_counted : t.line ≡ number → IsLineCounted source t
   word_counted is =
-      let inner : text ++ s.tail ≡ n.blanks ++ ((t.word.spelling ++ rest) ++ s.tail) = ap (λ (l : List ℕ). l ++ s.tail) n.parts ∙ append_assoc n.blanks (t.word.spelling ++ rest) s.tail in
-      let whole : source ≡ (s.front ++ n.blanks) ++ ((t.word.spelling ++ rest) ++ s.tail) = s.parts ∙ ap (λ (l : List ℕ). s.front ++ l) inner ∙ sym (append_assoc s.front n.blanks ((t.word.spelling ++ rest) ++ s.tail)) in
+      let inner : text ++ s.tail ≡ n.blanks ++ ((t.word.spelling ++ rest) ++ s.tail) =
+      ap (λ (l : List ℕ). l ++ s.tail) n.parts ∙ append_assoc n.blanks (t.word.spelling ++ rest) s.tail in
+      let whole : source ≡ (s.front ++ n.blanks) ++ ((t.word.spelling ++ rest) ++ s.tail) =
+      s.parts ∙ ap (λ (l : List ℕ). s.front ++ l) inner ∙ sym
+      (append_assoc s.front n.blanks ((t.word.spelling ++ rest) ++ s.tail)) in
       let len : span.first ≡ length (s.front ++ n.blanks) = omega (arith, n.first, s.offset, length-append s.front n.blanks) in
-      let before : take span.first source ≡ s.front ++ n.blanks = ap (take span.first) whole ∙ take_at (s.front ++ n.blanks) ((t.word.spelling ++ rest) ++ s.tail) span.first (sym len) in
+      let before : take span.first source ≡ s.front ++ n.blanks =
+      ap (take span.first) whole ∙ take_at (s.front ++ n.blanks) ((t.word.spelling ++ rest) ++ s.tail) span.first
+      (sym len) in
       let plain = (plain_parts n.blanks (t.word.spelling ++ rest) (subst HasNoLineFeed n.parts s.plain)).0 in
-      let feeds : line_feeds (take span.first source) ≡ line_feeds s.front = ap line_feeds before ∙ feeds-append s.front n.blanks ∙ ap (λ (k : ℕ). line_feeds s.front + k) (no_feeds n.blanks plain) ∙ omega arith in
+      let feeds : line_feeds (take span.first source) ≡ line_feeds s.front =
+      ap line_feeds before ∙ feeds-append s.front n.blanks
+      ∙ ap (λ (k : ℕ). line_feeds s.front + k) (no_feeds n.blanks plain) ∙ omega arith in
       (span, n.placed, is ∙ s.count ∙ ap (λ (k : ℕ). 1 + k) (sym feeds))
 
   word_past : Stands source span.after number rest
@@ -53,7 +61,9 @@ module _ {source : List ℕ} {from number : ℕ} {text rest : List ℕ} {t : Pla
       let head : List ℕ = n.blanks ++ t.word.spelling in
       let text_parts : text ≡ head ++ rest = n.parts ∙ sym (append_assoc n.blanks t.word.spelling rest) in
       let inner : text ++ s.tail ≡ head ++ (rest ++ s.tail) = ap (λ (l : List ℕ). l ++ s.tail) text_parts ∙ append_assoc head rest s.tail in
-      let feeds : line_feeds (s.front ++ head) ≡ line_feeds s.front = feeds-append s.front head ∙ ap (λ (k : ℕ). line_feeds s.front + k) (no_feeds head (plain_append n.blanks t.word.spelling plains.0 last.0)) ∙ omega arith in
+      let feeds : line_feeds (s.front ++ head) ≡ line_feeds s.front =
+      feeds-append s.front head ∙ ap (λ (k : ℕ). line_feeds s.front + k)
+      (no_feeds head (plain_append n.blanks t.word.spelling plains.0 last.0)) ∙ omega arith in
       record {
         front = s.front ++ head;
         tail = s.tail;
@@ -63,31 +73,40 @@ module _ {source : List ℕ} {from number : ℕ} {text rest : List ℕ} {t : Pla
         plain = last.1;
       }
 
-words_counted : (source : List ℕ) (from number : ℕ) (text : List ℕ) (ts : List Placed) (comment : Option (List ℕ)) → Stands source from number text → FillText from text ts comment → AreNumbered number ts → AllByRecursion (IsLineCounted source) ts
+words_counted : (source : List ℕ) (from number : ℕ) (text : List ℕ) (ts : List Placed) (comment : Option (List ℕ))
+    → Stands source from number text → FillText from text ts comment → AreNumbered number ts
+    → AllByRecursion (IsLineCounted source) ts
 words_counted source from number text [] comment s f h = tt
-words_counted source from number text (t ∷ ts) comment s f h = (word_counted s f.2 h.0, words_counted source f.0.after number f.1 ts comment (word_past s f.2) f.3 h.1)
+words_counted source from number text (t ∷ ts) comment s f h =
+    (word_counted s f.2 h.0, words_counted source f.0.after number f.1 ts comment (word_past s f.2) f.3 h.1)
 
-line_counted : (source : List ℕ) (from number : ℕ) (text : List ℕ) (l : Line Placed) → Stands source from number text → FillsLine from text l → AreNumbered number (tokens_of l) → AllByRecursion (IsLineCounted source) (tokens_of l)
+line_counted : (source : List ℕ) (from number : ℕ) (text : List ℕ) (l : Line Placed) → Stands source from number text
+    → FillsLine from text l → AreNumbered number (tokens_of l) → AllByRecursion (IsLineCounted source) (tokens_of l)
 line_counted source from number text Blank s f h = tt
 line_counted source from number text (Comment c) s f h = tt
 line_counted source from number text (Open verb suffix) s f h = (word_counted s f.2.2 h.0, tt)
 line_counted source from number text (Close suffix) s f h = tt
 line_counted source from number text (Entry words suffix) s f h = words_counted source from number text words suffix s f h
 
-pub all_join : (source : List ℕ) (ts us : List Placed) → AllByRecursion (IsLineCounted source) ts → AllByRecursion (IsLineCounted source) us → AllByRecursion (IsLineCounted source) (ts ++ us)
+pub all_join : (source : List ℕ) (ts us : List Placed) → AllByRecursion (IsLineCounted source) ts
+    → AllByRecursion (IsLineCounted source) us → AllByRecursion (IsLineCounted source) (ts ++ us)
 all_join source [] us h g = g
 all_join source (t ∷ ts) us h g = (h.0, all_join source ts us h.1 g)
 
-pub all_split : (source : List ℕ) (ts us : List Placed) → AllByRecursion (IsLineCounted source) (ts ++ us) → AllByRecursion (IsLineCounted source) ts × AllByRecursion (IsLineCounted source) us
+pub all_split : (source : List ℕ) (ts us : List Placed) → AllByRecursion (IsLineCounted source) (ts ++ us)
+    → AllByRecursion (IsLineCounted source) ts × AllByRecursion (IsLineCounted source) us
 all_split source [] us h = (tt, h)
 all_split source (t ∷ ts) us h = let r = all_split source ts us h.1 in ((h.0, r.0), r.1)
 
 -- the words of the lines after the first one
-after_first : (source front first after : List ℕ) (number : ℕ) (ls : List (Line Placed)) → HasNoLineFeed first → IsAfterLine after → source ≡ front ++ (first ++ after) → number ≡ 1 + line_feeds front
+after_first : (source front first after : List ℕ) (number : ℕ) (ls : List (Line Placed)) → HasNoLineFeed first
+    → IsAfterLine after → source ≡ front ++ (first ++ after) → number ≡ 1 + line_feeds front
     → FillLines (length front + length first + 1) (lines_of (drop 1 after)) ls
-    → ((past rest : List ℕ) → source ≡ past ++ rest → number + 1 ≡ 1 + line_feeds past → FillLines (length past) (lines_of rest) ls → AllByRecursion (IsLineCounted source) (all_tokens ls))
+    → ((past rest : List ℕ) → source ≡ past ++ rest → number + 1 ≡ 1 + line_feeds past
+    → FillLines (length past) (lines_of rest) ls → AllByRecursion (IsLineCounted source) (all_tokens ls))
     → AllByRecursion (IsLineCounted source) (all_tokens ls)
-after_first source front first [] number ls plain ended parts count f again = none_left ls (subst (λ (ts : List (List ℕ)). FillLines (length front + length first + 1) ts ls) lines_nil f)
+after_first source front first [] number ls plain ended parts count f again =
+    none_left ls (subst (λ (ts : List (List ℕ)). FillLines (length front + length first + 1) ts ls) lines_nil f)
   where
     none_left : (ls : List (Line Placed)) → FillLines (length front + length first + 1) [] ls → AllByRecursion (IsLineCounted source) (all_tokens ls)
     none_left [] f = tt
@@ -98,10 +117,14 @@ after_first source front first (b ∷ after) number ls plain ended parts count f
     let whole : source ≡ past ++ after = parts ∙ ap (λ (l : List ℕ). front ++ l) inner ∙ sym (append_assoc front (first ++ b ∷ []) after) in
     let len : length front + length first + 1 ≡ length past = omega (arith, length-append front (first ++ b ∷ []), length-append first (b ∷ [])) in
     let feeds : line_feeds past ≡ line_feeds front + (0 + 1) =
-    feeds-append front (first ++ b ∷ []) ∙ ap (λ (k : ℕ). line_feeds front + k) (feeds-append first (b ∷ []) ∙ ap (λ (k : ℕ). k + line_feeds (b ∷ [])) (no_feeds first plain) ∙ ap (λ (k : ℕ). 0 + k) (one_feed b ended)) in
+    feeds-append front (first ++ b ∷ []) ∙ ap (λ (k : ℕ). line_feeds front + k)
+    (feeds-append first (b ∷ []) ∙ ap (λ (k : ℕ). k + line_feeds (b ∷ [])) (no_feeds first plain)
+    ∙ ap (λ (k : ℕ). 0 + k) (one_feed b ended)) in
     again past after whole (omega (arith, count, feeds)) (subst (λ (n : ℕ). FillLines n (lines_of after) ls) len f)
 
-pub lines_counted : (source front rest : List ℕ) (number : ℕ) (ls : List (Line Placed)) → source ≡ front ++ rest → number ≡ 1 + line_feeds front → FillLines (length front) (lines_of rest) ls → AreLinesNumbered number ls → AllByRecursion (IsLineCounted source) (all_tokens ls)
+pub lines_counted : (source front rest : List ℕ) (number : ℕ) (ls : List (Line Placed)) → source ≡ front ++ rest
+    → number ≡ 1 + line_feeds front → FillLines (length front) (lines_of rest) ls → AreLinesNumbered number ls
+    → AllByRecursion (IsLineCounted source) (all_tokens ls)
 lines_counted source front rest number [] parts count f h = tt
 lines_counted source front [] number (l ∷ ls) parts count f h = absurd (subst (λ (ts : List (List ℕ)). FillLines (length front) ts (l ∷ ls)) lines_nil f)
 lines_counted source front (b ∷ bytes) number (l ∷ ls) parts count f h =
@@ -116,7 +139,8 @@ lines_counted source front (b ∷ bytes) number (l ∷ ls) parts count f h =
       plain = first.no_line_feed;
     } in
     all_join source (tokens_of l) (all_tokens ls) (line_counted source (length front) number first.line l s g.0 h.0)
-    (after_first source front first.line first.after number ls first.no_line_feed first.ended s.parts count g.1 (λ past rest whole feeds k. lines_counted source past rest (number + 1) ls whole feeds k h.1))
+    (after_first source front first.line first.after number ls first.no_line_feed first.ended s.parts count g.1
+    (λ past rest whole feeds k. lines_counted source past rest (number + 1) ls whole feeds k h.1))
 
 -- the words of a document, from its start on
 pub document_counted : (source : List ℕ) (doc : List (Line Placed)) → FillLines 0 (lines_of source) doc → AreLinesNumbered 1 doc → AreLinesCounted source doc

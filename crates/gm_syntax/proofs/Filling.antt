@@ -18,7 +18,8 @@ use Rattle.gm_syntax.proofs.Stable.{mark, FromWords, from_words}
 -- ---- one line
 
 -- one more blank before the words
-fill_blank : (at : ℕ) (b : ℕ) (rest : List ℕ) (ts : List Placed) (comment : Option (List ℕ)) → is_blank b ≡ true → FillText (at + 1) rest ts comment → FillText at (b ∷ rest) ts comment
+fill_blank : (at : ℕ) (b : ℕ) (rest : List ℕ) (ts : List Placed) (comment : Option (List ℕ)) → is_blank b ≡ true
+    → FillText (at + 1) rest ts comment → FillText at (b ∷ rest) ts comment
 fill_blank at b rest [] None blank f = (blank, f)
 fill_blank at b rest [] (Some comment) blank f = (f.0, b ∷ f.1, f.2, (blank, f.3), f.4, ap (λ (l : List ℕ). b ∷ l) f.5)
 fill_blank at b rest (t ∷ ts) comment blank f =
@@ -37,7 +38,8 @@ fill_blank at b rest (t ∷ ts) comment blank f =
     )
 
 -- one more word
-fill_word : (at n : ℕ) (rest : List ℕ) (t : Placed) (ts : List Placed) (comment : Option (List ℕ)) → t.span ≡ Some (record { first = at; after = at + n }) → t.word.spelling ≡ take n rest → n ≡ length t.word.spelling
+fill_word : (at n : ℕ) (rest : List ℕ) (t : Placed) (ts : List Placed) (comment : Option (List ℕ))
+    → t.span ≡ Some (record { first = at; after = at + n }) → t.word.spelling ≡ take n rest → n ≡ length t.word.spelling
     → FillText (at + n) (drop n rest) ts comment → FillText at rest (t ∷ ts) comment
 fill_word at n rest t ts comment is text len f = (
   record { first = at; after = at + n },
@@ -56,21 +58,33 @@ fill_word at n rest t ts comment is text len f = (
 -- the words so far take the line up to its rest, which begins at the offset `at`: whatever the rest is made of, the
 -- line is made of these words and that
 abbrev pub FillsUpTo : ℕ → List ℕ → List Placed → ℕ → List ℕ → Type 0
-FillsUpTo first line words at rest = (more : List Placed) (comment : Option (List ℕ)) → FillText at rest more comment → FillText first line (words ++ more) comment
+FillsUpTo first line words at rest = (more : List Placed) (comment : Option (List ℕ)) → FillText at rest more comment
+    → FillText first line (words ++ more) comment
 
-module _ (first : ℕ) (line : List ℕ) (words : List Placed) (rest : List ℕ) (le : length rest ≤ length line) (p : FillsUpTo first line words (first + (length line - length rest)) rest) where
-  pub fills_blank : ((b : ℕ) × (bytes : List ℕ) × (rest ≡ b ∷ bytes) × (is_blank b ≡ true)) → FillsUpTo first line words (first + (length line - length (drop 1 rest))) (drop 1 rest)
+module _ (first : ℕ) (line : List ℕ) (words : List Placed) (rest : List ℕ) (le : length rest ≤ length line)
+    (p : FillsUpTo first line words (first + (length line - length rest)) rest) where
+  pub fills_blank : ((b : ℕ) × (bytes : List ℕ) × (rest ≡ b ∷ bytes) × (is_blank b ≡ true))
+      → FillsUpTo first line words (first + (length line - length (drop 1 rest))) (drop 1 rest)
   fills_blank (b, bytes, e, blank) more comment f =
       let past : drop 1 rest ≡ bytes = ap (drop 1) e in
       let at : first + (length line - length (drop 1 rest)) ≡ first + (length line - length rest) + 1 = omega (arith, le, ap length e, ap length past) in
-      let g : FillText (first + (length line - length rest) + 1) bytes more comment = subst (λ (l : List ℕ). FillText (first + (length line - length rest) + 1) l more comment) past (subst (λ (n : ℕ). FillText n (drop 1 rest) more comment) at f) in
-      p more comment (subst (λ (l : List ℕ). FillText (first + (length line - length rest)) l more comment) (sym e) (fill_blank (first + (length line - length rest)) b bytes more comment blank g))
+      let g : FillText (first + (length line - length rest) + 1) bytes more comment =
+      subst (λ (l : List ℕ). FillText (first + (length line - length rest) + 1) l more comment) past
+      (subst (λ (n : ℕ). FillText n (drop 1 rest) more comment) at f) in
+      p more comment (subst (λ (l : List ℕ). FillText (first + (length line - length rest)) l more comment) (sym e)
+      (fill_blank (first + (length line - length rest)) b bytes more comment blank g))
 
-  pub fills_word : (n : ℕ) (t : Placed) → n ≤ length rest → t.span ≡ Some (record { first = first + (length line - length rest); after = first + (length line - length rest) + n }) → t.word.spelling ≡ take n rest → n ≡ length t.word.spelling
+  pub fills_word : (n : ℕ) (t : Placed) → n ≤ length rest
+      → t.span ≡ Some (record {
+        first = first + (length line - length rest);
+        after =
+            first + (length line - length rest) + n;
+      }) → t.word.spelling ≡ take n rest → n ≡ length t.word.spelling
       → FillsUpTo first line (words ++ t ∷ []) (first + (length line - length (drop n rest))) (drop n rest)
   fills_word n t fits is text len more comment f =
       let at : first + (length line - length (drop n rest)) ≡ first + (length line - length rest) + n = omega (arith, le, fits, length-drop n rest) in
-      let g = fill_word (first + (length line - length rest)) n rest t more comment is text len (subst (λ (k : ℕ). FillText k (drop n rest) more comment) at f) in
+      let g = fill_word (first + (length line - length rest)) n rest t more comment is text len
+      (subst (λ (k : ℕ). FillText k (drop n rest) more comment) at f) in
       subst (λ (ts : List Placed). FillText first line ts comment) (sym (append_assoc words (t ∷ []) more)) (p (t ∷ more) comment g)
 
   whole : (comment : Option (List ℕ)) → IsTail rest comment → FillText first line words comment
@@ -85,14 +99,16 @@ module _ (first : ℕ) (line : List ℕ) (words : List Placed) (rest : List ℕ)
       whole (Some text) (is, [], t.blanks, tt, t.are_blank, t.parts ∙ ap (λ (l : List ℕ). l ++ t.blanks) (sym e))
 
 -- what is read as a comment is one
-pub read_comment : (before : Option Word) (text : List ℕ) (words : List Word) (comment : List ℕ) → Reads before text words (CommentEnd comment) → IsComment comment
+pub read_comment : (before : Option Word) (text : List ℕ) (words : List Word) (comment : List ℕ)
+    → Reads before text words (CommentEnd comment) → IsComment comment
 read_comment before text [] comment r = r.ends.1
 read_comment before text (w ∷ words) comment (rest, b, others) = read_comment (Some w) rest words comment others
 
 -- ---- the line that the words are
 
 -- the words of a line that stores its first words
-one_word : (v : Placed) (ts : List Placed) (w : Word) (ws : List Word) → v ∷ [] ≡ take 1 ts → words_of ts ≡ w ∷ ws → (rest : List Placed) × (ts ≡ v ∷ rest) × (words_of rest ≡ ws)
+one_word : (v : Placed) (ts : List Placed) (w : Word) (ws : List Word) → v ∷ [] ≡ take 1 ts → words_of ts ≡ w ∷ ws
+    → (rest : List Placed) × (ts ≡ v ∷ rest) × (words_of rest ≡ ws)
 one_word v [] w ws same e = absurd cc
 one_word v (t ∷ ts) w ws same e =
     let here : v ≡ t = cc in
@@ -103,7 +119,9 @@ one_left [] w e = absurd cc
 one_left (t ∷ []) w e = (t, refl, cc)
 one_left (t ∷ u ∷ ts) w e = absurd (omega (arith, ap length e))
 
-pub line_filled : (inside : Bool) (first : ℕ) (text : List ℕ) (ts : List Placed) (comment : Option (List ℕ)) (l : Line Placed) → class_of inside (words_of ts) comment ≡ Ok (plain l) → tokens_of l ≡ take (length (tokens_of l)) ts
+pub line_filled : (inside : Bool) (first : ℕ) (text : List ℕ) (ts : List Placed) (comment : Option (List ℕ))
+    (l : Line Placed) → class_of inside (words_of ts) comment ≡ Ok (plain l)
+    → tokens_of l ≡ take (length (tokens_of l)) ts
     → FillText first text ts comment → FillsLine first text l
 line_filled inside first text ts comment l classed same f = by_line l (from_words inside (words_of ts) comment (plain l) classed) same
   where
@@ -135,17 +153,23 @@ no_lines : (m n : ℕ) (more : List (Line Placed)) → FillLines m [] more → F
 no_lines m n [] f = tt
 no_lines m n (l ∷ more) f = absurd f
 
-pub lines_fill_more : (text rest front next : List ℕ) (lines : List (Line Placed)) (l : Line Placed) → length rest ≤ length text → LinesFillUpTo text lines rest → lines_of rest ≡ front ∷ lines_of next
-    → (0 < length next → length rest ≡ length front + 1 + length next) → FillsLine (length text - length rest) front l → LinesFillUpTo text (lines ++ l ∷ []) next
+pub lines_fill_more : (text rest front next : List ℕ) (lines : List (Line Placed)) (l : Line Placed)
+    → length rest ≤ length text → LinesFillUpTo text lines rest → lines_of rest ≡ front ∷ lines_of next
+    → (0 < length next → length rest ≡ length front + 1 + length next) → FillsLine (length text - length rest) front l
+    → LinesFillUpTo text (lines ++ l ∷ []) next
 lines_fill_more text rest front next lines l le p cut feed filled more f =
     let at : ℕ = length text - length rest in
     let here : FillLines (at + length front + 1) (lines_of next) more = next_lines next cut feed f in
     subst (λ (ls : List (Line Placed)). FillLines 0 (lines_of text) ls) (sym (append_assoc lines (l ∷ []) more))
     (p (l ∷ more) (subst (λ (ts : List (List ℕ)). FillLines at ts (l ∷ more)) (sym cut) (filled, here)))
   where
-    next_lines : (next : List ℕ) → lines_of rest ≡ front ∷ lines_of next → (0 < length next → length rest ≡ length front + 1 + length next) → FillLines (length text - length next) (lines_of next) more → FillLines (length text - length rest + length front + 1) (lines_of next) more
+    next_lines : (next : List ℕ) → lines_of rest ≡ front ∷ lines_of next
+        → (0 < length next → length rest ≡ length front + 1 + length next)
+        → FillLines (length text - length next) (lines_of next) more
+        → FillLines (length text - length rest + length front + 1) (lines_of next) more
     next_lines [] cut feed f = subst (λ (ts : List (List ℕ)). FillLines (length text - length rest + length front + 1) ts more) (sym lines_nil)
-        (no_lines (length text - 0) (length text - length rest + length front + 1) more (subst (λ (ts : List (List ℕ)). FillLines (length text - 0) ts more) lines_nil f))
+        (no_lines (length text - 0) (length text - length rest + length front + 1) more
+        (subst (λ (ts : List (List ℕ)). FillLines (length text - 0) ts more) lines_nil f))
     next_lines (b ∷ next) cut feed f =
         let same : length text - length (b ∷ next) ≡ length text - length rest + length front + 1 = omega (arith, le, feed (omega arith)) in
         subst (λ (n : ℕ). FillLines n (lines_of (b ∷ next)) more) same f

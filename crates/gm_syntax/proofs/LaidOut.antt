@@ -21,7 +21,8 @@ filled-append [] ys = ap (λ (l : List (Line Word)). l ++ filled_lines ys) (sym 
 filled-append (x ∷ xs) ys =
     elim (cases_Bool (is_blank_line x)) [
       | inl k ↦ filled_blank x (xs ++ ys) k ∙ filled-append xs ys ∙ ap (λ (l : List (Line Word)). l ++ filled_lines ys) (sym (filled_blank x xs k))
-      | inr k ↦ filled_other x (xs ++ ys) k ∙ ap (λ (l : List (Line Word)). x ∷ l) (filled-append xs ys) ∙ ap (λ (l : List (Line Word)). l ++ filled_lines ys) (sym (filled_other x xs k))
+      | inr k ↦ filled_other x (xs ++ ys) k ∙ ap (λ (l : List (Line Word)). x ∷ l) (filled-append xs ys)
+          ∙ ap (λ (l : List (Line Word)). l ++ filled_lines ys) (sym (filled_other x xs k))
     ]
 
 filled_blanks : (blanks : List (Line Word)) → list_all is_blank_line blanks ≡ true → filled_lines blanks ≡ []
@@ -30,8 +31,11 @@ filled_blanks (b ∷ blanks) h = let p = and_both (is_blank_line b) (list_all is
 
 -- ---- the text
 
-laid_text_by : (c : Bool) (inside : Bool) (l : Line Word) (rest : List ℕ) (ls : List (Line Word)) → rest ≡ lines_text (inside_after inside l) ls → ((cond c (10 ∷ []) [] ++ line_text inside l) ++ 10 ∷ []) ++ rest ≡ lines_text inside (cond c (Blank ∷ []) [] ++ l ∷ ls)
-laid_text_by true inside l rest ls e = ap (λ (t : List ℕ). 10 ∷ t) (append_assoc (line_text inside l) (10 ∷ []) rest ∙ ap (λ (t : List ℕ). line_text inside l ++ 10 ∷ t) e)
+laid_text_by : (c : Bool) (inside : Bool) (l : Line Word) (rest : List ℕ) (ls : List (Line Word))
+    → rest ≡ lines_text (inside_after inside l) ls → ((cond c (10 ∷ []) [] ++ line_text inside l) ++ 10 ∷ []) ++ rest
+    ≡ lines_text inside (cond c (Blank ∷ []) [] ++ l ∷ ls)
+laid_text_by true inside l rest ls e = ap (λ (t : List ℕ). 10 ∷ t)
+    (append_assoc (line_text inside l) (10 ∷ []) rest ∙ ap (λ (t : List ℕ). line_text inside l ++ 10 ∷ t) e)
 laid_text_by false inside l rest ls e = append_assoc (line_text inside l) (10 ∷ []) rest ∙ ap (λ (t : List ℕ). line_text inside l ++ 10 ∷ t) e
 
 laid_text : (b : LayoutState) (ls : List (Line Word)) → layout_from b ls ≡ lines_text b.inside (layout_lines b ls)
@@ -39,7 +43,9 @@ laid_text b [] = layout_from_none b ∙ sym (ap (lines_text b.inside) (layout_li
 laid_text b (l ∷ ls) =
     elim (cases_Bool (is_blank_line l)) [
       | inl k ↦ layout_from_blank b l ls k ∙ laid_text (record b { gap_pending = true }) ls ∙ sym (ap (lines_text b.inside) (layout_lines_blank b l ls k))
-      | inr k ↦ layout_from_other b l ls k ∙ laid_text_by (b.gap_pending && (b.gap_allowed && not (is_close l))) b.inside l (layout_from (state_after b l) ls) (layout_lines (state_after b l) ls) (laid_text (state_after b l) ls) ∙ sym (ap (lines_text b.inside) (layout_lines_other b l ls k))
+      | inr k ↦ layout_from_other b l ls k ∙ laid_text_by (b.gap_pending && (b.gap_allowed && not (is_close l)))
+          b.inside l (layout_from (state_after b l) ls) (layout_lines (state_after b l) ls)
+          (laid_text (state_after b l) ls) ∙ sym (ap (lines_text b.inside) (layout_lines_other b l ls k))
     ]
 
 -- ---- the lines of the layout are laid out
@@ -59,7 +65,8 @@ first_filled b (l ∷ ls) e =
           ∙ ap (λ (c : Bool). begins_blank (cond c (Blank ∷ []) [] ++ l ∷ layout_lines (state_after b l) ls)) (no_gap b.gap_pending (not (is_close l))) ∙ k
     ]
 
-last_past : (c : Bool) (l : Line Word) (ls : List (Line Word)) → is_blank_line l ≡ false → ends_blank ls ≡ false → ends_blank (cond c (Blank ∷ []) [] ++ l ∷ ls) ≡ false
+last_past : (c : Bool) (l : Line Word) (ls : List (Line Word)) → is_blank_line l ≡ false → ends_blank ls ≡ false
+    → ends_blank (cond c (Blank ∷ []) [] ++ l ∷ ls) ≡ false
 last_past true l [] k e = k
 last_past true l (m ∷ ls) k e = e
 last_past false l [] k e = k
@@ -70,7 +77,9 @@ last_filled b [] = ap ends_blank (layout_lines_none b)
 last_filled b (l ∷ ls) =
     elim (cases_Bool (is_blank_line l)) [
       | inl k ↦ ap ends_blank (layout_lines_blank b l ls k) ∙ last_filled (record b { gap_pending = true }) ls
-      | inr k ↦ ap ends_blank (layout_lines_other b l ls k) ∙ last_past (b.gap_pending && (b.gap_allowed && not (is_close l))) l (layout_lines (state_after b l) ls) k (last_filled (state_after b l) ls)
+      | inr k ↦ ap ends_blank (layout_lines_other b l ls k)
+          ∙ last_past (b.gap_pending && (b.gap_allowed && not (is_close l))) l (layout_lines (state_after b l) ls) k
+          (last_filled (state_after b l) ls)
     ]
 
 -- what follows a line that is not blank is laid out by itself, from some state on
@@ -85,27 +94,45 @@ gap_filled true = filled_blank Blank [] refl ∙ filled_none
 gap_filled false = filled_none
 
 layout_lines_split : (b : LayoutState) (front rest : List (Line Word)) (line : Line Word) → is_blank_line line ≡ false → Split b front rest line
-layout_lines_split b [] rest line k = record { before = gap_lines b line; behind = b; parts = layout_lines_other b line rest k; same = gap_filled (b.gap_pending && (b.gap_allowed && not (is_close line))) ∙ sym filled_none }
+layout_lines_split b [] rest line k = record {
+  before = gap_lines b line;
+  behind = b;
+  parts =
+      layout_lines_other b line rest k;
+  same = gap_filled (b.gap_pending && (b.gap_allowed && not (is_close line)))
+      ∙ sym filled_none;
+}
 layout_lines_split b (l ∷ front) rest line k =
     elim (cases_Bool (is_blank_line l)) [
       | inl j ↦
           let s = layout_lines_split (record b { gap_pending = true }) front rest line k in
-          record { before = s.before; behind = s.behind; parts = layout_lines_blank b l (front ++ line ∷ rest) j ∙ s.parts; same = s.same ∙ sym (filled_blank l front j) }
+          record {
+            before = s.before;
+            behind = s.behind;
+            parts =
+                layout_lines_blank b l (front ++ line ∷ rest) j ∙ s.parts;
+            same = s.same ∙ sym (filled_blank l front j);
+          }
       | inr j ↦
           let s = layout_lines_split (state_after b l) front rest line k in
-          let whole : gap_lines b l ++ l ∷ (s.before ++ line ∷ layout_lines (state_after s.behind line) rest) ≡ (gap_lines b l ++ l ∷ s.before) ++ line ∷ layout_lines (state_after s.behind line) rest = sym (append_assoc (gap_lines b l) (l ∷ s.before) (line ∷ layout_lines (state_after s.behind line) rest)) in
+          let whole : gap_lines b l ++ l ∷ (s.before ++ line ∷ layout_lines (state_after s.behind line) rest)
+          ≡ (gap_lines b l ++ l ∷ s.before) ++ line ∷ layout_lines (state_after s.behind line) rest =
+          sym (append_assoc (gap_lines b l) (l ∷ s.before)
+          (line ∷ layout_lines (state_after s.behind line) rest)) in
           record {
             before = gap_lines b l ++ l ∷ s.before;
             behind = s.behind;
             parts = layout_lines_other b l (front ++ line ∷ rest) j ∙ ap (λ (t : List (Line Word)). gap_lines b l ++ l ∷ t) s.parts ∙ whole;
-            same = filled_gap (b.gap_pending && (b.gap_allowed && not (is_close l))) l s.before j ∙ ap (λ (t : List (Line Word)). l ∷ t) s.same ∙ sym (filled_other l front j);
+            same = filled_gap (b.gap_pending && (b.gap_allowed && not (is_close l))) l s.before j
+                ∙ ap (λ (t : List (Line Word)). l ∷ t) s.same ∙ sym (filled_other l front j);
           }
     ]
 
 abbrev place : Bool → Bool → Bool → LayoutState
 place may gap_pending inside = record { gap_allowed = may; gap_pending = gap_pending; inside = inside }
 
-skip_blanks : (may inside : Bool) (blanks rest : List (Line Word)) → list_all is_blank_line blanks ≡ true → layout_lines (place may true inside) (blanks ++ rest) ≡ layout_lines (place may true inside) rest
+skip_blanks : (may inside : Bool) (blanks rest : List (Line Word)) → list_all is_blank_line blanks ≡ true
+    → layout_lines (place may true inside) (blanks ++ rest) ≡ layout_lines (place may true inside) rest
 skip_blanks may inside [] rest h = refl
 skip_blanks may inside (x ∷ blanks) rest h =
     let p = and_both (is_blank_line x) (list_all is_blank_line blanks) h in
@@ -120,7 +147,8 @@ same_gap false true = refl
 same_gap false false = refl
 
 gap_is : (line next : Line Word) (blanks back : List (Line Word)) (inside : Bool) → list_all is_blank_line blanks ≡ true → is_blank_line next ≡ false
-    → (after : List (Line Word)) × (layout_lines (place (not (is_open line)) false inside) (blanks ++ next ∷ back) ≡ gap_between line blanks next ++ next ∷ after) × (filled_lines after ≡ filled_lines back)
+    → (after : List (Line Word)) × (layout_lines (place (not (is_open line)) false inside) (blanks ++ next ∷ back)
+    ≡ gap_between line blanks next ++ next ∷ after) × (filled_lines after ≡ filled_lines back)
 gap_is line next [] back inside h k =
     let b = place (not (is_open line)) false inside in
     (layout_lines (state_after b next) back, layout_lines_other b next back k, filled_again (state_after b next) back)
@@ -217,9 +245,12 @@ some_push (m ∷ ls) l = refl
 
 all_push : (ls : List (Line Word)) (l : Line Word) → list_all is_blank_line ls ≡ true → is_blank_line l ≡ true → list_all is_blank_line (ls ++ l ∷ []) ≡ true
 all_push [] l h k = ap (λ (b : Bool). b && true) k
-all_push (m ∷ ls) l h k = let p = and_both (is_blank_line m) (list_all is_blank_line ls) h in ap (λ (b : Bool). b && list_all is_blank_line (ls ++ l ∷ [])) p.0 ∙ all_push ls l p.1 k
+all_push (m ∷ ls) l h k = let p = and_both (is_blank_line m) (list_all is_blank_line ls) h in
+    ap (λ (b : Bool). b && list_all is_blank_line (ls ++ l ∷ [])) p.0 ∙ all_push ls l p.1 k
 
-gap_same : (line next : Line Word) (blanks : List (Line Word)) → cond (is_some_line blanks && (not (is_open line) && not (is_close next))) (Blank ∷ []) [] ≡ gap_between line blanks next
+gap_same : (line next : Line Word) (blanks : List (Line Word))
+    → cond (is_some_line blanks && (not (is_open line) && not (is_close next))) (Blank ∷ []) []
+    ≡ gap_between line blanks next
 gap_same line next [] = refl
 gap_same line next (x ∷ blanks) = same_gap (is_open line) (is_close next)
 
@@ -228,49 +259,74 @@ gap_none line next blanks = ap filled_lines (sym (gap_same line next blanks)) �
 
 module _ (lines laid : List (Line Word)) (h : AreLaidOut lines laid) where
   -- after a kept line, laid has the same lines as the layout
-  tail_is : (rest front blanks before tail : List (Line Word)) (line : Line Word) (inside : Bool) → is_blank_line line ≡ false → list_all is_blank_line blanks ≡ true
+  tail_is : (rest front blanks before tail : List (Line Word)) (line : Line Word) (inside : Bool)
+      → is_blank_line line ≡ false → list_all is_blank_line blanks ≡ true
       → lines ≡ front ++ line ∷ (blanks ++ rest) → laid ≡ before ++ line ∷ tail → filled_lines before ≡ filled_lines front
       → tail ≡ layout_lines (place (not (is_open line)) (is_some_line blanks) inside) rest
   tail_is [] front blanks before tail line inside k b e f same =
-      let left : filled_lines laid ≡ filled_lines front ++ line ∷ filled_lines tail = ap filled_lines f ∙ filled-append before (line ∷ tail) ∙ ap (λ (t : List (Line Word)). filled_lines before ++ t) (filled_other line tail k) ∙ ap (λ (t : List (Line Word)). t ++ line ∷ filled_lines tail) same in
+      let left : filled_lines laid ≡ filled_lines front ++ line ∷ filled_lines tail =
+      ap filled_lines f ∙ filled-append before (line ∷ tail)
+      ∙ ap (λ (t : List (Line Word)). filled_lines before ++ t) (filled_other line tail k)
+      ∙ ap (λ (t : List (Line Word)). t ++ line ∷ filled_lines tail) same in
       let none : filled_lines (blanks ++ []) ≡ [] = ap filled_lines (append-nil blanks) ∙ filled_blanks blanks b in
-      let right : filled_lines lines ≡ filled_lines front ++ line ∷ [] = ap filled_lines e ∙ filled-append front (line ∷ (blanks ++ [])) ∙ ap (λ (t : List (Line Word)). filled_lines front ++ t) (filled_other line (blanks ++ []) k ∙ ap (λ (t : List (Line Word)). line ∷ t) none) in
-      let ends : line ∷ filled_lines tail ≡ line ∷ [] = append_cancel_left (filled_lines front) (line ∷ filled_lines tail) (line ∷ []) (sym left ∙ h.kept ∙ right) in
-      no_tail before tail line (tails line (filled_lines tail) [] ends) (ap ends_blank (sym f) ∙ h.no_blank_last) ∙ sym (layout_lines_none (place (not (is_open line)) (is_some_line blanks) inside))
+      let right : filled_lines lines ≡ filled_lines front ++ line ∷ [] =
+      ap filled_lines e ∙ filled-append front (line ∷ (blanks ++ []))
+      ∙ ap (λ (t : List (Line Word)). filled_lines front ++ t)
+      (filled_other line (blanks ++ []) k ∙ ap (λ (t : List (Line Word)). line ∷ t) none) in
+      let ends : line ∷ filled_lines tail ≡ line ∷ [] = append_cancel_left (filled_lines front)
+      (line ∷ filled_lines tail) (line ∷ []) (sym left ∙ h.kept ∙ right) in
+      no_tail before tail line (tails line (filled_lines tail) [] ends) (ap ends_blank (sym f) ∙ h.no_blank_last)
+      ∙ sym (layout_lines_none (place (not (is_open line)) (is_some_line blanks) inside))
     where
       tails : (l : Line Word) (xs ys : List (Line Word)) → l ∷ xs ≡ l ∷ ys → xs ≡ ys
       tails l xs ys e = cc
   tail_is (l ∷ ls) front blanks before tail line inside k b e f same =
       elim (cases_Bool (is_blank_line l)) [
         | inl j ↦
-            let more = tail_is ls front (blanks ++ l ∷ []) before tail line inside k (all_push blanks l b j) (e ∙ ap (λ (t : List (Line Word)). front ++ line ∷ t) (sym (append_assoc blanks (l ∷ []) ls))) f same in
-            more ∙ ap (λ (p : Bool). layout_lines (place (not (is_open line)) p inside) ls) (some_push blanks l) ∙ sym (layout_lines_blank (place (not (is_open line)) (is_some_line blanks) inside) l ls j)
+            let more = tail_is ls front (blanks ++ l ∷ []) before tail line inside k (all_push blanks l b j)
+            (e ∙ ap (λ (t : List (Line Word)). front ++ line ∷ t) (sym (append_assoc blanks (l ∷ []) ls))) f same in
+            more ∙ ap (λ (p : Bool). layout_lines (place (not (is_open line)) p inside) ls) (some_push blanks l)
+            ∙ sym (layout_lines_blank (place (not (is_open line)) (is_some_line blanks) inside) l ls j)
         | inr j ↦
             let p = h.between front blanks ls line l k b j e in
             let gap : List (Line Word) = gap_between line blanks l in
             let here : tail ≡ gap ++ l ∷ p.1 = same_split before p.0 tail (gap ++ l ∷ p.1) line k (sym f ∙ p.2) (same ∙ sym p.3) in
             let lines_at : lines ≡ (front ++ line ∷ blanks) ++ l ∷ ([] ++ ls) = e ∙ sym (append_assoc front (line ∷ blanks) (l ∷ ls)) in
-            let laid_at : laid ≡ (before ++ line ∷ gap) ++ l ∷ p.1 = f ∙ ap (λ (t : List (Line Word)). before ++ line ∷ t) here ∙ sym (append_assoc before (line ∷ gap) (l ∷ p.1)) in
+            let laid_at : laid ≡ (before ++ line ∷ gap) ++ l ∷ p.1 =
+            f ∙ ap (λ (t : List (Line Word)). before ++ line ∷ t) here
+            ∙ sym (append_assoc before (line ∷ gap) (l ∷ p.1)) in
             let before_at : filled_lines (before ++ line ∷ gap) ≡ filled_lines (front ++ line ∷ blanks) =
-            filled-append before (line ∷ gap) ∙ ap (λ (t : List (Line Word)). filled_lines before ++ t) (filled_other line gap k ∙ ap (λ (t : List (Line Word)). line ∷ t) (gap_none line l blanks)) ∙ ap (λ (t : List (Line Word)). t ++ line ∷ []) same
-            ∙ sym (filled-append front (line ∷ blanks) ∙ ap (λ (t : List (Line Word)). filled_lines front ++ t) (filled_other line blanks k ∙ ap (λ (t : List (Line Word)). line ∷ t) (filled_blanks blanks b))) in
+            filled-append before (line ∷ gap) ∙ ap (λ (t : List (Line Word)). filled_lines before ++ t)
+            (filled_other line gap k ∙ ap (λ (t : List (Line Word)). line ∷ t) (gap_none line l blanks))
+            ∙ ap (λ (t : List (Line Word)). t ++ line ∷ []) same
+            ∙ sym (filled-append front (line ∷ blanks) ∙ ap (λ (t : List (Line Word)). filled_lines front ++ t)
+            (filled_other line blanks k ∙ ap (λ (t : List (Line Word)). line ∷ t) (filled_blanks blanks b))) in
             let past = tail_is ls (front ++ line ∷ blanks) [] (before ++ line ∷ gap) p.1 l (inside_after inside l) j refl lines_at laid_at before_at in
-            here ∙ ap (λ (t : List (Line Word)). gap ++ l ∷ t) past ∙ ap (λ (t : List (Line Word)). t ++ l ∷ layout_lines (place (not (is_open l)) false (inside_after inside l)) ls) (sym (gap_same line l blanks))
+            here ∙ ap (λ (t : List (Line Word)). gap ++ l ∷ t) past
+            ∙ ap (λ (t : List (Line Word)). t ++ l ∷ layout_lines
+            (place (not (is_open l)) false (inside_after inside l)) ls) (sym (gap_same line l blanks))
             ∙ sym (layout_lines_other (place (not (is_open line)) (is_some_line blanks) inside) l ls j)
       ]
 
-  all_is : (rest blanks : List (Line Word)) (gap_pending : Bool) → list_all is_blank_line blanks ≡ true → lines ≡ blanks ++ rest → laid ≡ layout_lines (place false gap_pending false) rest
+  all_is : (rest blanks : List (Line Word)) (gap_pending : Bool) → list_all is_blank_line blanks ≡ true
+      → lines ≡ blanks ++ rest → laid ≡ layout_lines (place false gap_pending false) rest
   all_is [] blanks gap_pending b e =
-      no_lines laid (h.kept ∙ ap filled_lines (e ∙ append-nil blanks) ∙ filled_blanks blanks b) h.no_blank_first ∙ sym (layout_lines_none (place false gap_pending false))
+      no_lines laid (h.kept ∙ ap filled_lines (e ∙ append-nil blanks) ∙ filled_blanks blanks b) h.no_blank_first
+      ∙ sym (layout_lines_none (place false gap_pending false))
   all_is (l ∷ ls) blanks gap_pending b e =
       elim (cases_Bool (is_blank_line l)) [
-        | inl j ↦ all_is ls (blanks ++ l ∷ []) true (all_push blanks l b j) (e ∙ sym (append_assoc blanks (l ∷ []) ls)) ∙ sym (layout_lines_blank (place false gap_pending false) l ls j)
+        | inl j ↦ all_is ls (blanks ++ l ∷ []) true (all_push blanks l b j) (e ∙ sym (append_assoc blanks (l ∷ []) ls))
+            ∙ sym (layout_lines_blank (place false gap_pending false) l ls j)
         | inr j ↦
-            let keeps : filled_lines laid ≡ l ∷ filled_lines ls = h.kept ∙ ap filled_lines e ∙ filled-append blanks (l ∷ ls) ∙ ap (λ (t : List (Line Word)). t ++ filled_lines (l ∷ ls)) (filled_blanks blanks b) ∙ filled_other l ls j in
+            let keeps : filled_lines laid ≡ l ∷ filled_lines ls =
+            h.kept ∙ ap filled_lines e ∙ filled-append blanks (l ∷ ls)
+            ∙ ap (λ (t : List (Line Word)). t ++ filled_lines (l ∷ ls)) (filled_blanks blanks b)
+            ∙ filled_other l ls j in
             by_first laid keeps h.no_blank_first j refl
       ]
     where
-      by_first : (all : List (Line Word)) → filled_lines all ≡ l ∷ filled_lines ls → begins_blank all ≡ false → is_blank_line l ≡ false → laid ≡ all → laid ≡ layout_lines (place false gap_pending false) (l ∷ ls)
+      by_first : (all : List (Line Word)) → filled_lines all ≡ l ∷ filled_lines ls → begins_blank all ≡ false
+          → is_blank_line l ≡ false → laid ≡ all → laid ≡ layout_lines (place false gap_pending false) (l ∷ ls)
       by_first [] keeps first j f = absurd (nil_not_cons l (filled_lines ls) (sym filled_none ∙ keeps))
         where
           nil_not_cons : (m : Line Word) (l : List (Line Word)) → [] ≡ m ∷ l → ⊥
@@ -280,7 +336,8 @@ module _ (lines laid : List (Line Word)) (h : AreLaidOut lines laid) where
           let at : laid ≡ l ∷ all = f ∙ ap (λ (x : Line Word). x ∷ all) same in
           let past = tail_is ls blanks [] [] all l (inside_after false l) j refl e at (filled_none ∙ sym (filled_blanks blanks b)) in
           at ∙ ap (λ (t : List (Line Word)). l ∷ t) past
-          ∙ ap (λ (c : Bool). cond c (Blank ∷ []) [] ++ l ∷ layout_lines (place (not (is_open l)) false (inside_after false l)) ls) (sym (no_gap gap_pending (not (is_close l))))
+          ∙ ap (λ (c : Bool). cond c (Blank ∷ []) [] ++ l ∷ layout_lines
+          (place (not (is_open l)) false (inside_after false l)) ls) (sym (no_gap gap_pending (not (is_close l))))
           ∙ sym (layout_lines_other (place false gap_pending false) l ls j)
         where
           heads : (x y : Line Word) (xs ys : List (Line Word)) → x ∷ xs ≡ y ∷ ys → x ≡ y

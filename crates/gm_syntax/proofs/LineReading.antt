@@ -39,11 +39,14 @@ read_start source is =
 
 module _ {left : Unread} {lines : List (Line Placed)} (so : HasRead left lines) where
   -- after one more line
-  pub read_more : (front next : List ℕ) (l : Line Placed) (at : Place) → at ≡ after left.at (plain l) → lines_of left.rest ≡ front ∷ lines_of next → HasNoLineFeed front
+  pub read_more : (front next : List ℕ) (l : Line Placed) (at : Place) → at ≡ after left.at (plain l)
+      → lines_of left.rest ≡ front ∷ lines_of next → HasNoLineFeed front
       → length next < length left.rest → length front + length next ≤ length left.rest → ((more : List ℕ) × (left.rest ≡ front ++ more))
       → next ≡ drop (length left.rest - length next) left.rest → (0 < length next → length left.rest ≡ length front + 1 + length next)
       → IsOnlyLine left.at.inside front (Ok (plain l))
-      → ((source more : List ℕ) → drop (length left.source - length left.rest) source ≡ front ++ more → AreSlicesBetween source (length left.source - length left.rest) (length left.source - length left.rest + length front) (tokens_of l))
+      → ((source more : List ℕ) → drop (length left.source - length left.rest) source ≡ front ++ more
+      → AreSlicesBetween source (length left.source - length left.rest)
+      (length left.source - length left.rest + length front) (tokens_of l))
       → AreNumbered left.at.number (tokens_of l) → FillsLine (length left.source - length left.rest) front l
       → HasRead (unread left.source next at) (lines ++ l ∷ [])
   read_more front next l at is_after cut no_feed shorter within begins is_rest feed only stands numbers fills = record {

@@ -63,7 +63,8 @@ not_bare_tested text e h = true≢false (sym (bare_word_is text h) ∙ e)
 
 plain_escaped : (value : List ℕ) → HasNoLineFeed value → HasNoLineFeed (escaped_value value)
 plain_escaped [] h = tt
-plain_escaped (b ∷ value) h = plain_append (if (b == 34) || (b == 92) then 92 ∷ b ∷ [] else b ∷ []) (escaped_value value) (piece ((b == 34) || (b == 92))) (plain_escaped value h.1)
+plain_escaped (b ∷ value) h = plain_append (if (b == 34) || (b == 92) then 92 ∷ b ∷ [] else b ∷ [])
+    (escaped_value value) (piece ((b == 34) || (b == 92))) (plain_escaped value h.1)
   where
     piece : (x : Bool) → HasNoLineFeed (if x then 92 ∷ b ∷ [] else b ∷ [])
     piece true = (omega arith, (h.0, tt))

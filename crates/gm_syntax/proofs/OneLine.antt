@@ -25,7 +25,9 @@ refused kind = Err kind
 module _ (inside : Bool) (text : List ℕ) (words : List Word) where
   -- words and perhaps a comment: the line is of their class
   module _ (comment : Option (List ℕ)) (so : IsOnlyReading text words (ending_of comment)) where
-    class_is : (answer : Result (Line Word) SyntaxKind) → class_of inside words comment ≡ answer → (others : List Word) (other : Option (List ℕ)) → IsSpelledBy text others other → class_of inside others other ≡ answer
+    class_is : (answer : Result (Line Word) SyntaxKind) → class_of inside words comment ≡ answer
+        → (others : List Word) (other : Option (List ℕ)) → IsSpelledBy text others other
+        → class_of inside others other ≡ answer
     class_is answer is others other spelled =
         let same = so.only others (ending_of other) spelled in
         subst (λ (ws : List Word). class_of inside ws other ≡ answer) (sym same.0)

@@ -37,7 +37,8 @@ shape_solid Mark text value (inl (b, bracket, e), same) = record { byte = b; mor
 shape_solid Mark text value (inr e, same) = record { byte = 61; more = 62 ∷ []; parts = e; solid = (word_not_others 61 equals_word).0 }
 
 -- the blanks before a byte that is not one are the same, and so is what follows
-same_blanks : (b : ℕ) (xs ys us vs : List ℕ) → is_blank b ≡ false → AllBlank xs → AllBlank ys → xs ++ b ∷ us ≡ ys ++ b ∷ vs → (length xs ≡ length ys) × (us ≡ vs)
+same_blanks : (b : ℕ) (xs ys us vs : List ℕ) → is_blank b ≡ false → AllBlank xs → AllBlank ys
+    → xs ++ b ∷ us ≡ ys ++ b ∷ vs → (length xs ≡ length ys) × (us ≡ vs)
 same_blanks b [] [] us vs solid p q e = (refl, cc)
 same_blanks b [] (y ∷ ys) us vs solid p q e =
     let same : b ≡ y = cc in
@@ -57,7 +58,8 @@ same_span s r e f = ap (λ (n : ℕ). span_at n s.after) e ∙ ap (span_at r.fir
 
 -- ---- one word
 
-module _ (from : ℕ) (text : List ℕ) (t u : Placed) (s r : Span) (rest other : List ℕ) (shaped : IsShaped t.word) (same : t.word ≡ u.word) (n : IsNextWord from text t s rest) (m : IsNextWord from text u r other) where
+module _ (from : ℕ) (text : List ℕ) (t u : Placed) (s r : Span) (rest other : List ℕ) (shaped : IsShaped t.word)
+    (same : t.word ≡ u.word) (n : IsNextWord from text t s rest) (m : IsNextWord from text u r other) where
   pub one_next : (s ≡ r) × (rest ≡ other)
   one_next =
       let p = shape_solid t.word.kind t.word.spelling shaped.0 shaped.1 in
@@ -77,7 +79,8 @@ same_placed t u e f g = ap (λ (w : Word). placed_at w t.line t.span) e ∙ ap (
 same_some : (s r : Span) → Some s ≡ Some r → s ≡ r
 same_some s r e = cc
 
-one_word : (source : List ℕ) (t u : Placed) (s r : Span) → t.word ≡ u.word → t.span ≡ Some s → u.span ≡ Some r → s ≡ r → IsLineCounted source t → IsLineCounted source u → t ≡ u
+one_word : (source : List ℕ) (t u : Placed) (s r : Span) → t.word ≡ u.word → t.span ≡ Some s → u.span ≡ Some r → s ≡ r
+    → IsLineCounted source t → IsLineCounted source u → t ≡ u
 one_word source t u s r word at that same p q =
     let spans : t.span ≡ u.span = at ∙ ap (λ (x : Span). Some x) same ∙ sym that in
     let counted : p.0 ≡ q.0 = same_some p.0 q.0 (sym p.1 ∙ spans ∙ q.1) in
@@ -85,7 +88,9 @@ one_word source t u s r word at that same p q =
 
 -- ---- the words of a line
 
-words_same : (source : List ℕ) (from : ℕ) (text : List ℕ) (ts us : List Placed) (c d : Option (List ℕ)) → AllByRecursion IsShaped (words_of ts) → words_of ts ≡ words_of us → FillText from text ts c → FillText from text us d
+words_same : (source : List ℕ) (from : ℕ) (text : List ℕ) (ts us : List Placed) (c d : Option (List ℕ))
+    → AllByRecursion IsShaped (words_of ts) → words_of ts ≡ words_of us → FillText from text ts c
+    → FillText from text us d
     → AllByRecursion (IsLineCounted source) ts → AllByRecursion (IsLineCounted source) us → ts ≡ us
 words_same source from text [] [] c d shaped e f g p q = refl
 words_same source from text [] (u ∷ us) c d shaped e f g p q = absurd cc
@@ -95,7 +100,8 @@ words_same source from text (t ∷ ts) (u ∷ us) c d shaped e f g p q =
     let words : words_of ts ≡ words_of us = cc in
     let o = one_next from text t u f.0 g.0 f.1 g.1 shaped.0 word f.2 g.2 in
     let here : t ≡ u = one_word source t u f.0 g.0 word f.2.placed g.2.placed o.0 p.0 q.0 in
-    let there : FillText f.0.after f.1 us d = subst (λ (x : Span). FillText x.after f.1 us d) (sym o.0) (subst (λ (l : List ℕ). FillText g.0.after l us d) (sym o.1) g.3) in
+    let there : FillText f.0.after f.1 us d = subst (λ (x : Span). FillText x.after f.1 us d) (sym o.0)
+    (subst (λ (l : List ℕ). FillText g.0.after l us d) (sym o.1) g.3) in
     ap (λ (x : Placed). x ∷ ts) here ∙ ap (λ (xs : List Placed). u ∷ xs) (words_same source f.0.after f.1 ts us c d shaped.1 words f.3 there p.1 q.1)
 
 reads_shaped : (before : Option Word) (text : List ℕ) (words : List Word) (e : Ending) → Reads before text words e → AllByRecursion IsShaped words
@@ -152,7 +158,9 @@ module _ (source : List ℕ) (from : ℕ) (text : List ℕ) where
 
 -- ---- the lines of a document
 
-lines_same : (source : List ℕ) (at : Place) (from : ℕ) (texts : List (List ℕ)) (ls ms : List (Line Placed)) (f : Finish) → ReadsLines at texts (plain_lines ls) f → plain_lines ls ≡ plain_lines ms → FillLines from texts ls → FillLines from texts ms
+lines_same : (source : List ℕ) (at : Place) (from : ℕ) (texts : List (List ℕ)) (ls ms : List (Line Placed)) (f : Finish)
+    → ReadsLines at texts (plain_lines ls) f → plain_lines ls ≡ plain_lines ms → FillLines from texts ls
+    → FillLines from texts ms
     → AllByRecursion (IsLineCounted source) (all_tokens ls) → AllByRecursion (IsLineCounted source) (all_tokens ms) → ls ≡ ms
 lines_same source at from texts [] [] f r e a b p q = refl
 lines_same source at from texts [] (m ∷ ms) f r e a b p q = absurd cc
@@ -167,7 +175,8 @@ lines_same source at from (text ∷ texts) (l ∷ ls) (m ∷ ms) f r e a b p q =
     let there : ls ≡ ms = lines_same source (after at (plain l)) (from + length text + 1) texts ls ms f r.1 others a.1 b.1 ps.1 qs.1 in
     ap (λ (x : Line Placed). x ∷ ls) here ∙ ap (λ (xs : List (Line Placed)). m ∷ xs) there
 
-pub one_placing : (source : List ℕ) (doc other : List (Line Placed)) → IsParsedAs source (Ok doc) → IsParsedAs source (Ok other) → IsPlacedIn source doc → IsPlacedIn source other → doc ≡ other
+pub one_placing : (source : List ℕ) (doc other : List (Line Placed)) → IsParsedAs source (Ok doc)
+    → IsParsedAs source (Ok other) → IsPlacedIn source doc → IsPlacedIn source other → doc ≡ other
 one_placing source doc other p q a b =
     let words : plain_lines other ≡ plain_lines doc = (p.1.only (plain_lines other) Whole q.1.reads).0 in
     lines_same source start 0 (lines_of source) doc other Whole p.1.reads (sym words) a.fills_lines b.fills_lines a.counted_lines b.counted_lines

@@ -17,23 +17,34 @@ record OneReading (line : List ℕ) : Type 0 where
   pub ending : Ending
   pub only : IsOnlyReading line words ending
 
-from_piece : (n : ℕ) (line rest : List ℕ) (words : List Word) (after_bare : Bool) (p : Piece) → length rest ≤ n → Progress line words after_bare rest → piece_of after_bare rest ≡ p
+from_piece : (n : ℕ) (line rest : List ℕ) (words : List Word) (after_bare : Bool) (p : Piece) → length rest ≤ n
+    → Progress line words after_bare rest → piece_of after_bare rest ≡ p
     → ((other : List ℕ) (more : List Word) (b : Bool) → length other < length rest → Progress line more b other → OneReading line) → OneReading line
 from_piece n line rest words after_bare piece.End le p e later = record { words = words; ending = Nothing; only = progress_end p e }
-from_piece n line rest words after_bare piece.Blank le p e later = later (drop 1 rest) words false (omega (arith, length-drop 1 rest, blank_positive p e)) (progress_blank p e)
+from_piece n line rest words after_bare piece.Blank le p e later =
+    later (drop 1 rest) words false (omega (arith, length-drop 1 rest, blank_positive p e)) (progress_blank p e)
 from_piece n line rest words after_bare piece.Comment le p e later = record { words = words; ending = Comment (trim_end rest); only = progress_comment p e }
-from_piece n line rest words after_bare (piece.Word kind m) le p e later = later (drop m rest) _ (is_bare kind) (omega (arith, length-drop m rest, word_positive p kind m e, word_in_range p kind m e)) (progress_word p kind m e)
+from_piece n line rest words after_bare (piece.Word kind m) le p e later =
+    later (drop m rest) _ (is_bare kind) (omega (
+      arith,
+      length-drop m rest,
+      word_positive p kind m e,
+      word_in_range p kind m e,
+    )) (progress_word p kind m e)
 from_piece n line rest words after_bare (piece.Fault kind) le p e later = record { words = words; ending = Fault kind; only = progress_fault p kind e }
 
 -- since the rest of the line has only one reading, so has the line
 from_rest : (n : ℕ) (line rest : List ℕ) (words : List Word) (after_bare : Bool) → length rest ≤ n → Progress line words after_bare rest → OneReading line
-from_rest zero line rest words after_bare le p = from_piece zero line rest words after_bare (piece_of after_bare rest) le p refl (λ other more b lt q. absurd (omega arith))
-from_rest (suc n) line rest words after_bare le p = from_piece (suc n) line rest words after_bare (piece_of after_bare rest) le p refl (λ other more b lt q. from_rest n line other more b (omega arith) q)
+from_rest zero line rest words after_bare le p = from_piece zero line rest words after_bare (piece_of after_bare rest)
+    le p refl (λ other more b lt q. absurd (omega arith))
+from_rest (suc n) line rest words after_bare le p = from_piece (suc n) line rest words after_bare
+    (piece_of after_bare rest) le p refl (λ other more b lt q. from_rest n line other more b (omega arith) q)
 
 one_reading : (line : List ℕ) → OneReading line
 one_reading line = from_rest (length line) line line [] false (omega arith) (progress_start line)
 
-pub one_spelling : (line : List ℕ) (words others : List Word) (comment other : Option (List ℕ)) → IsSpelledBy line words comment → IsSpelledBy line others other → (words ≡ others) × (comment ≡ other)
+pub one_spelling : (line : List ℕ) (words others : List Word) (comment other : Option (List ℕ))
+    → IsSpelledBy line words comment → IsSpelledBy line others other → (words ≡ others) × (comment ≡ other)
 one_spelling line words others comment other s t =
     let r = one_reading line in
     let a = r.only.only words (ending_of comment) s in

@@ -167,7 +167,9 @@ pub no_fault_before : (text : List ℕ) (lines : List (Line Word)) (f : Finish) 
     → HaveNoFault (lines_of text) lines
 no_fault_before text lines f r front back line piece kind e at =
     let h = r.are_lines front back line e in
-    let here : slice_get (lines_of text) (length front) ≡ Some h.0 = ap (λ (ts : List (List ℕ)). slice_get ts (length front)) (sym (pieces_lines text r.pieces r.are_pieces)) ∙ h.1 in
+    let here : slice_get (lines_of text) (length front) ≡ Some h.0 =
+    ap (λ (ts : List (List ℕ)). slice_get ts (length front)) (sym (pieces_lines text r.pieces r.are_pieces))
+    ∙ h.1 in
     not_both_at (is_open_after front) piece line kind
     (subst (λ (t : List ℕ). IsLineAt (is_open_after front) t line) (some_same h.0 piece (sym here ∙ at)) h.2)
 

@@ -70,7 +70,9 @@ block : (verb : Word) (suffix : Option (List ℕ)) (lines : List (Line Word)) �
 block verb suffix lines valid r = record {
   parts = Block verb suffix r.inner r.last ∷ r.more.parts;
   are_parts = ((valid, r.loose, r.closing), r.more.are_parts);
-  all_lines = ap (λ (t : List (Line Word)). Open verb suffix ∷ t) (r.split ∙ ap (λ (t : List (Line Word)). r.inner ++ Close r.last ∷ t) r.more.all_lines ∙ sym (append_assoc r.inner (Close r.last ∷ []) (flat_map part_lines r.more.parts)));
+  all_lines = ap (λ (t : List (Line Word)). Open verb suffix ∷ t)
+      (r.split ∙ ap (λ (t : List (Line Word)). r.inner ++ Close r.last ∷ t) r.more.all_lines
+      ∙ sym (append_assoc r.inner (Close r.last ∷ []) (flat_map part_lines r.more.parts)));
 }
 
 in_block : (line : Line Word) (lines : List (Line Word)) → IsLooseLine true line → RestOfBlock lines

@@ -145,7 +145,8 @@ reading_of text lines f r =
     record {
       pieces = lines_of text;
       are_pieces = lines_pieces text;
-      are_lines = λ front back line e. line_at start [] front back line (lines_of text) f place_start (subst (λ (ls : List (Line Word)). ReadsLines start (lines_of text) ls f) e r);
+      are_lines = λ front back line e. line_at start [] front back line (lines_of text) f place_start
+          (subst (λ (ls : List (Line Word)). ReadsLines start (lines_of text) ls f) e r);
       ends = ends_by lines (lines_of text) w.front w.rest w.end f w.place w.split w.as_many w.finishes;
     }
 
@@ -187,11 +188,18 @@ one_last_opening (l ∷ front) (m ∷ others) inner more v w s t e a b =
 
 one_opening : (lines : List (Line Word)) (n m : ℕ) → IsLastOpening lines n → IsLastOpening lines m → n ≡ m
 one_opening lines n m o p =
-    omega (arith, o.numbered, p.numbered, one_last_opening o.front p.front o.inner p.inner o.verb p.verb o.suffix p.suffix (sym o.split ∙ p.split) o.never_closed p.never_closed)
+    omega (
+      arith,
+      o.numbered,
+      p.numbered,
+      one_last_opening o.front p.front o.inner p.inner o.verb p.verb o.suffix
+          p.suffix (sym o.split ∙ p.split) o.never_closed p.never_closed,
+    )
 
 opening_open : (lines : List (Line Word)) (n : ℕ) → IsLastOpening lines n → inside_after_all false lines ≡ true
 opening_open lines n o =
-    ap (inside_after_all false) o.split ∙ inside_after_all-append false o.front (Open o.verb o.suffix ∷ o.inner) ∙ inside_after_all-level true o.inner o.never_closed
+    ap (inside_after_all false) o.split ∙ inside_after_all-append false o.front (Open o.verb o.suffix ∷ o.inner)
+    ∙ inside_after_all-level true o.inner o.never_closed
 
 -- the end of the reading, as seen from some lines on
 record EndsAtFault (all : List (Line Word)) (count : ℕ) (texts : List (List ℕ)) (number : ℕ) (kind : SyntaxKind) : Type 0 where
@@ -202,7 +210,8 @@ record EndsAtFault (all : List (Line Word)) (count : ℕ) (texts : List (List �
 
 abbrev EndsFrom : List (Line Word) → ℕ → List (List ℕ) → Finish → Type 0
 EndsFrom all count texts Whole = (count ≡ length texts) × (openings all ≡ closings all)
-EndsFrom all count texts (Faulty number kind) = EndsAtFault all count texts number kind ⊎ ((count ≡ length texts) × IsLastOpening all number × (kind ≡ OpenBlock))
+EndsFrom all count texts (Faulty number kind) = EndsAtFault all count texts number kind
+    ⊎ ((count ≡ length texts) × IsLastOpening all number × (kind ≡ OpenBlock))
 
 ends_more : (all : List (Line Word)) (count : ℕ) (t : List ℕ) (ts : List (List ℕ)) (f : Finish)
     → EndsFrom all (suc count) (t ∷ ts) f → EndsFrom all count ts f
@@ -228,7 +237,8 @@ finish_by at all (t ∷ ts) (Faulty number kind) p h =
     elim h [
       | inl s ↦ (
         s.numbered ∙ sym p.number,
-        subst (λ (x : List ℕ). HasLineFault at.inside x kind) (sym (some_same t s.piece s.is_next)) (subst (λ (b : Bool). HasLineFault b s.piece kind) (sym (place_open all at p)) s.has_fault),
+        subst (λ (x : List ℕ). HasLineFault at.inside x kind) (sym (some_same t s.piece s.is_next))
+            (subst (λ (b : Bool). HasLineFault b s.piece kind) (sym (place_open all at p)) s.has_fault),
       )
       | inr s ↦ absurd (omega (arith, s.0))
     ]
@@ -247,13 +257,15 @@ walk_by at before (l ∷ ls) [] f p each ends =
 walk_by at before (l ∷ ls) (t ∷ ts) f p each ends =
     let h = each [] ls l refl in
     let inside : is_open_after (before ++ []) ≡ at.inside = ap is_open_after (append-nil before) ∙ sym (place_open before at p) in
-    let here : IsLineAt at.inside t l = subst (λ (x : List ℕ). IsLineAt at.inside x l) (sym (some_same t h.0 h.1)) (subst (λ (b : Bool). IsLineAt b h.0 l) inside h.2) in (
+    let here : IsLineAt at.inside t l = subst (λ (x : List ℕ). IsLineAt at.inside x l) (sym (some_same t h.0 h.1))
+    (subst (λ (b : Bool). IsLineAt b h.0 l) inside h.2) in (
       here,
       walk_by (after at l) (before ++ l ∷ []) ls ts f (place_step before at l p (line_fits at.inside t l here))
           (λ front back line e.
           let m = each (l ∷ front) back line (ap (λ (xs : List (Line Word)). l ∷ xs) e) in
           (m.0, m.1, subst (λ (xs : List (Line Word)). IsLineAt (is_open_after xs) m.0 line) (sym (append_assoc before (l ∷ []) front)) m.2))
-          (subst (λ (xs : List (Line Word)). EndsFrom xs (length ls) ts f) (sym (append_assoc before (l ∷ []) ls)) (ends_more (before ++ l ∷ ls) (length ls) t ts f ends)),
+          (subst (λ (xs : List (Line Word)). EndsFrom xs (length ls) ts f) (sym (append_assoc before (l ∷ []) ls))
+          (ends_more (before ++ l ∷ ls) (length ls) t ts f ends)),
     )
 
 ends_start : (lines : List (Line Word)) (texts : List (List ℕ)) (f : Finish) → EndsAfter texts lines f

@@ -81,7 +81,8 @@ plain_begins_word text t (b, more, e, plain) =
 
 pub plain_word_bare : (text : List ℕ) → BeginsPlain text → IsBare (take (bare_len text) text)
 plain_word_bare text begins =
-    let shaped : IsShaped (make_word Bare (take (bare_len text) text)) = word_shaped (progress_start text) Bare (bare_len text) (plain_begins_word text false begins) in
+    let shaped : IsShaped (make_word Bare (take (bare_len text) text)) =
+    word_shaped (progress_start text) Bare (bare_len text) (plain_begins_word text false begins) in
     shaped.1.0
 
 pub plain_word_end : (text : List ℕ) → IsUtf8 text → BeginsPlain text → IsCharBoundary text (bare_len text)
@@ -101,7 +102,9 @@ sofar_blanks line words text rest (t, p) (blanks, are, parts) = by_blanks blanks
     by_blanks (b ∷ blanks) t are p = by_blanks blanks false are.1 (progress_blank p (piece_blank t b (blanks ++ rest) are.0))
 
 -- a bare word and the blanks after it
-pub sofar_word : (line : List ℕ) (words : List Word) (text word rest : List ℕ) → Sofar line words text → ((t : Bool) → piece_of t text ≡ piece.Word Bare (length word)) → ((blanks : List ℕ) × AllBlank blanks × (text ≡ word ++ (blanks ++ rest)))
+pub sofar_word : (line : List ℕ) (words : List Word) (text word rest : List ℕ) → Sofar line words text
+    → ((t : Bool) → piece_of t text ≡ piece.Word Bare (length word))
+    → ((blanks : List ℕ) × AllBlank blanks × (text ≡ word ++ (blanks ++ rest)))
     → Sofar line (words ++ bare_word word ∷ []) rest
 sofar_word line words text word rest (t, p) piece (blanks, are, parts) =
     let after = blanks ++ rest in
@@ -109,11 +112,14 @@ sofar_word line words text word rest (t, p) piece (blanks, are, parts) =
     let back : drop (length word) text ≡ after = ap (drop (length word)) parts ∙ drop_at word after (length word) refl in
     let past : Progress line (words ++ bare_word word ∷ []) true after =
     subst (λ (w : List ℕ). Progress line (words ++ bare_word w ∷ []) true after) front
-    (subst (λ (l : List ℕ). Progress line (words ++ make_word Bare (take (length word) text) ∷ []) true l) back (progress_word p Bare (length word) (piece t))) in
+    (subst (λ (l : List ℕ). Progress line (words ++ make_word Bare (take (length word) text) ∷ []) true l) back
+    (progress_word p Bare (length word) (piece t))) in
     sofar_blanks line (words ++ bare_word word ∷ []) after rest (true, past) (blanks, are, refl)
 
 -- the first word, with blanks before it
-pub sofar_first : (line start word rest : List ℕ) → IsAfterBlanks line start → ((t : Bool) → piece_of t start ≡ piece.Word Bare (length word)) → ((blanks : List ℕ) × AllBlank blanks × (start ≡ word ++ (blanks ++ rest)))
+pub sofar_first : (line start word rest : List ℕ) → IsAfterBlanks line start
+    → ((t : Bool) → piece_of t start ≡ piece.Word Bare (length word))
+    → ((blanks : List ℕ) × AllBlank blanks × (start ≡ word ++ (blanks ++ rest)))
     → Sofar line (bare_word word ∷ []) rest
 sofar_first line start word rest begins piece parts =
     sofar_word line [] start word rest (sofar_blanks line [] line start (false, progress_start line) begins) piece parts
@@ -126,18 +132,21 @@ bracket_closing : is_bracket_or_comma 41 ≡ true
 unfolding is_bracket_or_comma
 bracket_closing = refl
 
-sofar_mark : (line : List ℕ) (words : List Word) (text : List ℕ) (byte : ℕ) (rest : List ℕ) → Sofar line words text → is_bracket_or_comma byte ≡ true → text ≡ byte ∷ rest → Sofar line (words ++ mark_word byte ∷ []) rest
+sofar_mark : (line : List ℕ) (words : List Word) (text : List ℕ) (byte : ℕ) (rest : List ℕ) → Sofar line words text
+    → is_bracket_or_comma byte ≡ true → text ≡ byte ∷ rest → Sofar line (words ++ mark_word byte ∷ []) rest
 sofar_mark line words text byte rest (t, p) bracket parts =
     let here : Progress line words t (byte ∷ rest) = subst (Progress line words t) parts p in
     (false, progress_word here Mark 1 (piece_bracket t byte rest bracket))
 
 -- the line ends after these words
-pub sofar_end : (line : List ℕ) (words : List Word) (rest : List ℕ) → Sofar line words rest → IsLineEnd rest → (comment : Option (List ℕ)) × IsOnlyReading line words (ending_of comment)
+pub sofar_end : (line : List ℕ) (words : List Word) (rest : List ℕ) → Sofar line words rest → IsLineEnd rest
+    → (comment : Option (List ℕ)) × IsOnlyReading line words (ending_of comment)
 sofar_end line words rest (t, p) (inl e) = (None, progress_end p (ap (piece_of t) e ∙ piece_end t))
 sofar_end line words rest (t, p) (inr (more, e)) = (Some (trim_end rest), progress_comment p (ap (piece_of t) e ∙ piece_comment t more))
 
 -- an opening parenthesis ends the line
-pub sofar_opening : (line : List ℕ) (words : List Word) (text : List ℕ) → Sofar line words text → IsOpeningEnd text → (comment : Option (List ℕ)) × IsOnlyReading line (words ++ mark_word 40 ∷ []) (ending_of comment)
+pub sofar_opening : (line : List ℕ) (words : List Word) (text : List ℕ) → Sofar line words text → IsOpeningEnd text
+    → (comment : Option (List ℕ)) × IsOnlyReading line (words ++ mark_word 40 ∷ []) (ending_of comment)
 sofar_opening line words text so (blanks, rest, are, parts, ends) =
     let all : List Word = words ++ mark_word 40 ∷ [] in
     let past : Sofar line all (blanks ++ rest) = sofar_mark line words text 40 (blanks ++ rest) so bracket_opening parts in
@@ -156,7 +165,9 @@ tail_of : (before : Option Word) (text : List ℕ) (comment : Option (List ℕ))
 tail_of before text None r = subst AllBlank (sym (r.parts ∙ ap (λ (l : List ℕ). r.blanks ++ l) r.ends ∙ append-nil r.blanks)) r.are_blank
 tail_of before text (Some c) r = (r.ends.1, r.blanks, r.ends.2, r.are_blank, r.ends.3, r.parts ∙ ap (λ (l : List ℕ). r.blanks ++ l) r.ends.4)
 
-abbrev place_words : (first number : ℕ) (before : Option Word) (text : List ℕ) (words : List Word) (comment : Option (List ℕ)) → Reads before text words (ending_of comment) → PlacedWords first number text words comment
+abbrev place_words : (first number : ℕ) (before : Option Word) (text : List ℕ) (words : List Word)
+    (comment : Option (List ℕ)) → Reads before text words (ending_of comment)
+    → PlacedWords first number text words comment
 place_words first number before text [] comment r = record { tokens = []; are = refl; numbered = tt; fill = tail_of before text comment r }
 place_words first number before text (w ∷ words) comment (rest, b, others) =
     let at : ℕ = first + length b.blanks in
@@ -166,11 +177,25 @@ place_words first number before text (w ∷ words) comment (rest, b, others) =
       tokens = record { word = w; line = number; span = Some (record { first = at; after = past }) } ∷ more.tokens;
       are = ap (λ (ws : List Word). w ∷ ws) more.are;
       numbered = (refl, more.numbered);
-      fill = (record { first = at; after = past }, rest, record { blanks = b.blanks; are_blank = b.are_blank; parts = b.parts; placed = refl; first = refl; after = refl }, more.fill);
+      fill = (
+        record { first = at; after = past },
+        rest,
+        record {
+          blanks = b.blanks;
+          are_blank = b.are_blank;
+          parts =
+              b.parts;
+          placed = refl;
+          first = refl;
+          after = refl;
+        },
+        more.fill,
+      );
     }
 
 -- words that make up a text stand in the source where the text does
-stand_filled : (source : List ℕ) (from : ℕ) (text after : List ℕ) (ts : List Placed) (comment : Option (List ℕ)) → FillText from text ts comment → drop from source ≡ text ++ after
+stand_filled : (source : List ℕ) (from : ℕ) (text after : List ℕ) (ts : List Placed) (comment : Option (List ℕ))
+    → FillText from text ts comment → drop from source ≡ text ++ after
     → AreSlicesBetween source from (from + length text) ts
 stand_filled source from text after [] comment f whole = omega arith
 stand_filled source from text after (t ∷ ts) comment (span, rest, n, f) whole =
@@ -178,14 +203,32 @@ stand_filled source from text after (t ∷ ts) comment (span, rest, n, f) whole 
     let parts : text ++ after ≡ n.blanks ++ (word ++ (rest ++ after)) =
     ap (λ (l : List ℕ). l ++ after) n.parts ∙ append_assoc n.blanks (word ++ rest) after ∙ ap (λ (l : List ℕ). n.blanks ++ l) (append_assoc word rest after) in
     let here : drop span.first source ≡ word ++ (rest ++ after) =
-    ap (λ (k : ℕ). drop k source) n.first ∙ sym (drop-drop (length n.blanks) from source) ∙ ap (drop (length n.blanks)) (whole ∙ parts) ∙ drop_at n.blanks (word ++ (rest ++ after)) (length n.blanks) refl in
+    ap (λ (k : ℕ). drop k source) n.first ∙ sym (drop-drop (length n.blanks) from source)
+    ∙ ap (drop (length n.blanks)) (whole ∙ parts) ∙ drop_at n.blanks (word ++ (rest ++ after)) (length n.blanks)
+    refl in
     let past : drop span.after source ≡ rest ++ after =
-    ap (λ (k : ℕ). drop k source) n.after ∙ sym (drop-drop (length word) span.first source) ∙ ap (drop (length word)) here ∙ drop_at word (rest ++ after) (length word) refl in
+    ap (λ (k : ℕ). drop k source) n.after ∙ sym (drop-drop (length word) span.first source)
+    ∙ ap (drop (length word)) here ∙ drop_at word (rest ++ after) (length word) refl in
     let width : span.after - span.first ≡ length word = omega (arith, n.after) in
     let slice : take (span.after - span.first) (drop span.first source) ≡ word =
     ap (λ (k : ℕ). take k (drop span.first source)) width ∙ ap (take (length word)) here ∙ take_at word (rest ++ after) (length word) refl in
-    let end : span.after + length rest ≡ from + length text = omega (arith, n.first, n.after, ap length n.parts, length-append n.blanks (word ++ rest), length-append word rest) in
-    (span, n.placed, omega (arith, n.first), n.after, slice, subst (λ (k : ℕ). AreSlicesBetween source span.after k ts) end (stand_filled source span.after rest after ts comment f past))
+    let end : span.after + length rest ≡ from + length text =
+    omega (
+      arith,
+      n.first,
+      n.after,
+      ap length n.parts,
+      length-append n.blanks (word ++ rest),
+      length-append word rest,
+    ) in (
+      span,
+      n.placed,
+      omega (arith, n.first),
+      n.after,
+      slice,
+      subst (λ (k : ℕ). AreSlicesBetween source span.after k ts) end
+          (stand_filled source span.after rest after ts comment f past),
+    )
 
 -- ---- a verb and an opening parenthesis
 
@@ -202,7 +245,9 @@ record OpeningFilled (first number : ℕ) (text verb : List ℕ) (comment : Opti
   pub spelled : opening.word.spelling ≡ 40 ∷ []
   pub fill : FillText first text (bare_at first number verb ∷ opening ∷ []) comment
 
-opening_filled : (first number : ℕ) (text verb rest : List ℕ) (comment : Option (List ℕ)) → text ≡ verb ++ rest → Reads None text (bare_word verb ∷ mark_word 40 ∷ []) (ending_of comment) → OpeningFilled first number text verb comment
+opening_filled : (first number : ℕ) (text verb rest : List ℕ) (comment : Option (List ℕ)) → text ≡ verb ++ rest
+    → Reads None text (bare_word verb ∷ mark_word 40 ∷ []) (ending_of comment)
+    → OpeningFilled first number text verb comment
 opening_filled first number text verb rest comment begins (more, b, others) =
     let none : b.blanks ≡ [] = no_blanks verb rest b.blanks (verb ++ more) b.shape.1.0 (sym begins ∙ b.parts) b.are_blank in
     let past : ℕ = first + length verb in
@@ -212,17 +257,32 @@ opening_filled first number text verb rest comment begins (more, b, others) =
     record {
       opening = opening;
       spelled = refl;
-      fill = (record { first = first; after = past }, more, record { blanks = []; are_blank = tt; parts = b.parts ∙ ap (λ (l : List ℕ). l ++ (verb ++ more)) none; placed = refl; first = omega arith; after = refl }, w.fill);
+      fill = (
+        record { first = first; after = past },
+        more,
+        record {
+          blanks = [];
+          are_blank = tt;
+          parts = b.parts ∙ ap (λ (l : List ℕ). l ++ (verb ++ more)) none;
+          placed = refl;
+          first = omega arith;
+          after = refl;
+        },
+        w.fill,
+      );
     }
 
 -- ---- one more line
 
-pair_class : (inside : Bool) (first second : List ℕ) (comment : Option (List ℕ)) → class_of inside (bare_word first ∷ bare_word second ∷ []) comment ≡ Ok (pair_line first second comment)
+pair_class : (inside : Bool) (first second : List ℕ) (comment : Option (List ℕ))
+    → class_of inside (bare_word first ∷ bare_word second ∷ []) comment ≡ Ok (pair_line first second comment)
 unfolding class_of
 pair_class true first second comment = refl
 pair_class false first second comment = refl
 
-triple_class : (inside : Bool) (first second third : List ℕ) (comment : Option (List ℕ)) → class_of inside (bare_word first ∷ bare_word second ∷ bare_word third ∷ []) comment ≡ Ok (triple_line first second third comment)
+triple_class : (inside : Bool) (first second third : List ℕ) (comment : Option (List ℕ))
+    → class_of inside (bare_word first ∷ bare_word second ∷ bare_word third ∷ []) comment
+    ≡ Ok (triple_line first second third comment)
 unfolding class_of
 triple_class true first second third comment = refl
 triple_class false first second third comment = refl
@@ -250,30 +310,42 @@ module _ (left : Unread) (lines : List (Line Placed)) (front next : List ℕ) (s
   offset = length left.source - length left.rest
 
   -- after a line that is these words alone
-  words_read : (words : List Word) (comment : Option (List ℕ)) (at : Place) → at ≡ record left.at { number = left.at.number + 1 } → class_of left.at.inside words comment ≡ Ok (Entry words comment) → IsOnlyReading front words (ending_of comment)
+  words_read : (words : List Word) (comment : Option (List ℕ)) (at : Place)
+      → at ≡ record left.at { number = left.at.number + 1 }
+      → class_of left.at.inside words comment ≡ Ok (Entry words comment) → IsOnlyReading front words (ending_of comment)
       → (line : Line Placed) × (suffix : Option (List ℕ)) × (plain line ≡ Entry words suffix) × HasRead (unread left.source next at) (lines ++ line ∷ [])
   words_read words comment at is class reading =
       let w = place_words offset left.at.number None front words comment reading.reads in
       let l : Line Placed = Entry w.tokens comment in
       let same : plain l ≡ Entry words comment = ap (λ (ws : List Word). Entry ws comment) w.are in
       let only : IsOnlyLine left.at.inside front (Ok (plain l)) =
-      subst (λ (x : Line Word). IsOnlyLine left.at.inside front (Ok x)) (sym same) (one_line left.at.inside front words comment reading (Entry words comment) class) in (
+      subst (λ (x : Line Word). IsOnlyLine left.at.inside front (Ok x)) (sym same)
+      (one_line left.at.inside front words comment reading (Entry words comment) class) in (
         l,
         comment,
         same,
-        read_more so front next l at is cut.lines cut.no_line_feed cut.shorter cut.in_range cut.front_is cut.suffix cut.line_feed only (λ source more whole. stand_filled source offset front more w.tokens comment w.fill whole) w.numbered w.fill,
+        read_more so front next l at is cut.lines cut.no_line_feed cut.shorter cut.in_range cut.front_is cut.suffix
+            cut.line_feed only (λ source more whole. stand_filled source offset front more w.tokens comment w.fill
+            whole) w.numbered w.fill,
       )
 
   -- after a line that is two bare words
-  pair_read : (first second : List ℕ) (at : Place) → at ≡ record left.at { number = left.at.number + 1 } → IsPairText front first second → IsPairRead (unread left.source next at) lines first second
-  pair_read first second at is (comment, reading) = words_read (bare_word first ∷ bare_word second ∷ []) comment at is (pair_class left.at.inside first second comment) reading
+  pair_read : (first second : List ℕ) (at : Place) → at ≡ record left.at { number = left.at.number + 1 }
+      → IsPairText front first second → IsPairRead (unread left.source next at) lines first second
+  pair_read first second at is (comment, reading) = words_read (bare_word first ∷ bare_word second ∷ []) comment at is
+      (pair_class left.at.inside first second comment) reading
 
   -- after a line that is three bare words
-  triple_read : (first second third : List ℕ) (at : Place) → at ≡ record left.at { number = left.at.number + 1 } → IsTripleText front first second third → IsTripleRead (unread left.source next at) lines first second third
-  triple_read first second third at is (comment, reading) = words_read (bare_word first ∷ bare_word second ∷ bare_word third ∷ []) comment at is (triple_class left.at.inside first second third comment) reading
+  triple_read : (first second third : List ℕ) (at : Place) → at ≡ record left.at { number = left.at.number + 1 }
+      → IsTripleText front first second third → IsTripleRead (unread left.source next at) lines first second third
+  triple_read first second third at is (comment, reading) =
+      words_read (bare_word first ∷ bare_word second ∷ bare_word third ∷ []) comment at is
+      (triple_class left.at.inside first second third comment) reading
 
   -- after a line that opens a block
-  opening_read : (verb : List ℕ) (token : Placed) (at : Place) → left.at.inside ≡ false → at ≡ record { number = left.at.number + 1; inside = true; opened = left.at.number } → token ≡ bare_at offset left.at.number verb → IsOpeningText front verb
+  opening_read : (verb : List ℕ) (token : Placed) (at : Place) → left.at.inside ≡ false
+      → at ≡ record { number = left.at.number + 1; inside = true; opened = left.at.number }
+      → token ≡ bare_at offset left.at.number verb → IsOpeningText front verb
       → IsOpeningRead (unread left.source next at) lines token
   opening_read verb token at outside is placed (rest, begins, comment, reading) =
       let words : List Word = bare_word verb ∷ mark_word 40 ∷ [] in
@@ -282,14 +354,21 @@ module _ (left : Unread) (lines : List (Line Placed)) (front next : List ℕ) (s
       let l : Line Placed = Open t comment in
       let ts : List Placed = t ∷ f.opening ∷ [] in
       let only : IsOnlyLine left.at.inside front (Ok (Open (bare_word verb) comment)) =
-      subst (λ (i : Bool). IsOnlyLine i front (Ok (Open (bare_word verb) comment))) (sym outside) (one_line false front words comment reading (Open (bare_word verb) comment) (opening_class verb comment)) in (
+      subst (λ (i : Bool). IsOnlyLine i front (Ok (Open (bare_word verb) comment))) (sym outside)
+      (one_line false front words comment reading (Open (bare_word verb) comment) (opening_class verb comment)) in (
         comment,
-        subst (λ (v : Placed). HasRead (unread left.source next at) (lines ++ Open v comment ∷ [])) (sym placed) (read_more so front next l at is cut.lines cut.no_line_feed cut.shorter cut.in_range cut.front_is cut.suffix cut.line_feed only
-            (λ source more whole. stand_take source offset (offset + length front) 1 ts (stand_filled source offset front more ts comment f.fill whole)) (refl, tt) (f.opening, f.spelled, f.fill)),
+        subst (λ (v : Placed). HasRead (unread left.source next at) (lines ++ Open v comment ∷ [])) (sym placed)
+            (read_more so front next l at is cut.lines cut.no_line_feed cut.shorter cut.in_range cut.front_is cut.suffix
+            cut.line_feed only
+            (λ source more whole. stand_take source offset (offset + length front) 1 ts
+            (stand_filled source offset front more ts comment f.fill whole)) (refl, tt)
+            (f.opening, f.spelled, f.fill)),
       )
 
   -- after a line that closes a block
-  closing_read : (at : Place) → left.at.inside ≡ true → at ≡ record left.at { number = left.at.number + 1; inside = false } → front ≡ 41 ∷ [] → HasRead (unread left.source next at) (lines ++ Close None ∷ [])
+  closing_read : (at : Place) → left.at.inside ≡ true → at
+      ≡ record left.at { number = left.at.number + 1; inside = false } → front ≡ 41 ∷ []
+      → HasRead (unread left.source next at) (lines ++ Close None ∷ [])
   closing_read at inside is closing =
       let words : List Word = mark_word 41 ∷ [] in
       let so_far : Sofar front words [] = sofar_mark front [] front 41 [] (false, progress_start front) bracket_closing closing in
@@ -299,14 +378,17 @@ module _ (left : Unread) (lines : List (Line Placed)) (front next : List ℕ) (s
       let mark : Placed = record { word = mark_word 41; line = left.at.number; span = Some (record { first = at_mark; after = at_mark + 1 }) } in
       let only : IsOnlyLine left.at.inside front (Ok (Close None)) =
       subst (λ (i : Bool). IsOnlyLine i front (Ok (Close None))) (sym inside) (one_line true front words None reading (Close None) closing_class) in
-      read_more so front next (Close None) at is cut.lines cut.no_line_feed cut.shorter cut.in_range cut.front_is cut.suffix cut.line_feed only (λ source more whole. omega arith) tt (mark, refl, w.fill)
+      read_more so front next (Close None) at is cut.lines cut.no_line_feed cut.shorter cut.in_range cut.front_is
+      cut.suffix cut.line_feed only (λ source more whole. omega arith) tt (mark, refl, w.fill)
 
   -- after an empty line
   blank_read : (at : Place) → at ≡ record left.at { number = left.at.number + 1 } → front ≡ [] → HasRead (unread left.source next at) (lines ++ Blank ∷ [])
   blank_read at is empty =
       let only : IsOnlyLine left.at.inside front (Ok Blank) =
-      one_line left.at.inside front [] None (progress_end (progress_start front) (ap (piece_of false) empty ∙ piece_end false)) Blank (class_blank left.at.inside) in
-      read_more so front next Blank at is cut.lines cut.no_line_feed cut.shorter cut.in_range cut.front_is cut.suffix cut.line_feed only (λ source more whole. omega arith) tt (subst AllBlank (sym empty) tt)
+      one_line left.at.inside front [] None (progress_end (progress_start front)
+      (ap (piece_of false) empty ∙ piece_end false)) Blank (class_blank left.at.inside) in
+      read_more so front next Blank at is cut.lines cut.no_line_feed cut.shorter cut.in_range cut.front_is cut.suffix
+      cut.line_feed only (λ source more whole. omega arith) tt (subst AllBlank (sym empty) tt)
 
   -- after a simple line
   pub simple_read : (verb : List ℕ) (line : SimpleLine) (at : Place) → at ≡ after_simple left.at line → IsSimpleText left.at offset front verb line
@@ -314,5 +396,6 @@ module _ (left : Unread) (lines : List (Line Placed)) (front next : List ℕ) (s
   simple_read verb simple.Blank at is text = blank_read at is text
   simple_read verb (simple.Pair first second) at is text = pair_read first.now second.now at is text
   simple_read verb (simple.PairAfter first second) at is text = triple_read verb first.now second.now at is text
-  simple_read verb (simple.Opening token) at is (outside, placed, text) = (ap (λ (t : Placed). t.word.spelling) placed, opening_read verb token at outside is placed text)
+  simple_read verb (simple.Opening token) at is (outside, placed, text) =
+      (ap (λ (t : Placed). t.word.spelling) placed, opening_read verb token at outside is placed text)
   simple_read verb simple.Closing at is (inside, text) = closing_read at inside is text

@@ -18,7 +18,8 @@ ended_lines : (front : List (List ℕ)) (rest : List ℕ) → AllByRecursion Has
     → lines_of (joined front ++ rest) ≡ front ++ lines_of rest
 ended_lines [] rest p = refl
 ended_lines (t ∷ front) rest p =
-    let whole : (with_line_feed t ++ joined front) ++ rest ≡ t ++ 10 ∷ (joined front ++ rest) = append_assoc (with_line_feed t) (joined front) rest ∙ append_assoc t (10 ∷ []) (joined front ++ rest) in
+    let whole : (with_line_feed t ++ joined front) ++ rest ≡ t ++ 10 ∷ (joined front ++ rest) =
+    append_assoc (with_line_feed t) (joined front) rest ∙ append_assoc t (10 ∷ []) (joined front ++ rest) in
     ap lines_of whole ∙ ended_line t (joined front ++ rest) p.0 ∙ ap (λ (ts : List (List ℕ)). t ∷ ts) (ended_lines front rest p.1)
 
 last_line : (last : List ℕ) → last ≢ [] → HasNoLineFeed last → lines_of last ≡ last ∷ []
@@ -35,7 +36,8 @@ plain_parts (x ∷ xs) ys p = let r = plain_parts xs ys p.1 in ((p.0, r.0), r.1)
 pub pieces_lines : (text : List ℕ) (pieces : List (List ℕ)) → ArePieces text pieces → pieces ≡ lines_of text
 pieces_lines text pieces h =
     elim h.joined [
-      | inl e ↦ sym (ap lines_of (e ∙ sym (append-nil (joined pieces))) ∙ ended_lines pieces [] h.no_line_feed ∙ ap (λ (t : List (List ℕ)). pieces ++ t) lines_nil ∙ append-nil pieces)
+      | inl e ↦ sym (ap lines_of (e ∙ sym (append-nil (joined pieces))) ∙ ended_lines pieces [] h.no_line_feed
+          ∙ ap (λ (t : List (List ℕ)). pieces ++ t) lines_nil ∙ append-nil pieces)
       | inr s ↦
           let plain = plain_parts s.0 (s.1 ∷ []) (subst (AllByRecursion HasNoLineFeed) s.2 h.no_line_feed) in
           s.2 ∙ sym (ap lines_of s.4 ∙ ended_lines s.0 s.1 plain.0 ∙ ap (λ (t : List (List ℕ)). s.0 ++ t) (last_line s.1 s.3 plain.1.0))
@@ -87,19 +89,32 @@ more_piece b text (piece ∷ pieces) n h = record {
         → (fronts : List (List ℕ)) × (end : List ℕ) × ((b ∷ piece) ∷ pieces ≡ fronts ++ end ∷ []) × (end ≢ []) × (b ∷ text ≡ joined fronts ++ end)
     by_front [] last parts filled e =
         let same : piece ≡ last = firsts last pieces [] parts in
-        let none : pieces ≡ [] = others last pieces [] parts in
-        ([], b ∷ last, ap (λ (t : List ℕ). (b ∷ t) ∷ pieces) same ∙ ap (λ (ts : List (List ℕ)). (b ∷ last) ∷ ts) none, not_empty b last, ap (λ (t : List ℕ). b ∷ t) e)
+        let none : pieces ≡ [] = others last pieces [] parts in (
+          [],
+          b ∷ last,
+          ap (λ (t : List ℕ). (b ∷ t) ∷ pieces) same ∙ ap (λ (ts : List (List ℕ)). (b ∷ last) ∷ ts) none,
+          not_empty b last,
+          ap (λ (t : List ℕ). b ∷ t) e,
+        )
     by_front (t ∷ front) last parts filled e =
         let same : piece ≡ t = firsts t pieces (front ++ last ∷ []) parts in
-        let more : pieces ≡ front ++ last ∷ [] = others t pieces (front ++ last ∷ []) parts in
-        ((b ∷ t) ∷ front, last, ap (λ (x : List ℕ). (b ∷ x) ∷ pieces) same ∙ ap (λ (ts : List (List ℕ)). (b ∷ t) ∷ ts) more, filled, ap (λ (x : List ℕ). b ∷ x) e)
+        let more : pieces ≡ front ++ last ∷ [] = others t pieces (front ++ last ∷ []) parts in (
+          (b ∷ t) ∷ front,
+          last,
+          ap (λ (x : List ℕ). (b ∷ x) ∷ pieces) same
+              ∙ ap (λ (ts : List (List ℕ)). (b ∷ t) ∷ ts) more,
+          filled,
+          ap (λ (x : List ℕ). b ∷ x) e,
+        )
 
 pub lines_pieces : (text : List ℕ) → ArePieces text (lines_of text)
 lines_pieces [] =
     record { no_line_feed = subst (AllByRecursion HasNoLineFeed) (sym lines_nil) tt; joined = inl (sym (ap joined lines_nil)) }
 lines_pieces (b ∷ bytes) =
     elim (cases_eq b 10) [
-      | inl e ↦ subst (ArePieces (b ∷ bytes)) (sym (lines_cut b bytes e)) (subst (λ (c : ℕ). ArePieces (c ∷ bytes) ([] ∷ lines_of bytes)) (sym e) (cut_piece bytes (lines_of bytes) (lines_pieces bytes)))
+      | inl e ↦ subst (ArePieces (b ∷ bytes)) (sym (lines_cut b bytes e))
+          (subst (λ (c : ℕ). ArePieces (c ∷ bytes) ([] ∷ lines_of bytes)) (sym e)
+          (cut_piece bytes (lines_of bytes) (lines_pieces bytes)))
       | inr n ↦ subst (ArePieces (b ∷ bytes)) (sym (lines_more b bytes n)) (more_piece b bytes (lines_of bytes) n (lines_pieces bytes))
     ]
 

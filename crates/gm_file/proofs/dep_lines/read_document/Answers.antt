@@ -17,7 +17,8 @@ loop-n-preserved c =
       kept = keeps_both c.loop-n.invariant.kept c.read_line.ensures.kept;
       before = c.read_line.ensures.before ∙ c.loop-n.invariant.before;
       found = c.in_default.ensures.found;
-      read = rw (lines-next lines c.loop-n.n c.index-lines-n.result c.loop-n-test.true c.index-lines-n.is) (c.in_default.ensures.read before c.loop-n.invariant.read);
+      read = rw (lines-next lines c.loop-n.n c.index-lines-n.result c.loop-n-test.true c.index-lines-n.is)
+          (c.in_default.ensures.read before c.loop-n.invariant.read);
     }
 
 pub returns-in-Err-clause-kept : goal.returns-in-Err-clause-kept
@@ -29,7 +30,9 @@ returns-in-Err-clause-fault c =
     let all = plain_lines (line_views lines) in
     let told = c.in-Err.ensures.read (take c.loop-n.n all) c.loop-n.invariant.read (drop (c.loop-n.n + 1) all) in
     rw (c.at_line.ensures, length-before lines c.loop-n.n c.loop-n-test.true)
-    (subst (λ (ls : List (Line Word)). ReportsFault Lax ls (file_fault_at (length (take c.loop-n.n all) + 1) c.in-Err.fault)) (sym (lines-split lines c.loop-n.n c.index-lines-n.result c.loop-n-test.true c.index-lines-n.is)) told)
+    (subst (λ (ls : List (Line Word)). ReportsFault Lax ls
+    (file_fault_at (length (take c.loop-n.n all) + 1) c.in-Err.fault))
+    (sym (lines-split lines c.loop-n.n c.index-lines-n.result c.loop-n-test.true c.index-lines-n.is)) told)
 
 pub returns-clause-ok : goal.returns-clause-ok
 returns-clause-ok c = rw (lines-all c.args.lines.now c.loop-n.n c.loop-n-test.false) at c.loop-n.invariant.read

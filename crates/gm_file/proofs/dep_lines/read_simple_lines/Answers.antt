@@ -27,4 +27,5 @@ pub returns-in-Err-clause-fault : goal.returns-in-Err-clause-fault
 returns-in-Err-clause-fault c =
     let so = c.loop-line.invariant.read in
     let said = c.in-Err.ensures.read so.0 c.next_simple.new.self so.2 (c.in-Some.ensures.read so.0 so.1) in
-    subst (λ (s : List ℕ). IsBytesFault Lax s c.fault_of_all.result) (c.in-Some.ensures.source ∙ c.loop-line.invariant.source) (c.fault_of_all.ensures so.0 said.0 said.1 said.2)
+    subst (λ (s : List ℕ). IsBytesFault Lax s c.fault_of_all.result)
+    (c.in-Some.ensures.source ∙ c.loop-line.invariant.source) (c.fault_of_all.ensures so.0 said.0 said.1 said.2)

@@ -14,7 +14,8 @@ pub returns-in_err-read_replace-in-Replace-clause-read : goal.returns-in_err-rea
 unfolding directive_of
 returns-in_err-read_replace-in-Replace-clause-read c =
     let p = err_from_is_err_and c.from_residual-in_err-read_replace-in-Replace.result c.from_residual-in_err-read_replace-in-Replace.ensures.1 in
-    rw (c.in-Replace.is, p.1, p.2) (map-fault replace_view directive_view WrongArguments replacing_kinds own_kinds Replaces (replacing_of (words_of c.args.words.now))
+    rw (c.in-Replace.is, p.1, p.2) (map-fault replace_view directive_view WrongArguments replacing_kinds own_kinds
+    Replaces (replacing_of (words_of c.args.words.now))
     c.in_err-read_replace-in-Replace.field-0.0 (λ _. refl) c.in_err-read_replace-in-Replace.ensures.read)
 
 pub returns-in_err-read_interval-in-Retract-clause-read : goal.returns-in_err-read_interval-in-Retract-clause-read

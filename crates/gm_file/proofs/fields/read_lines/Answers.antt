@@ -33,8 +33,10 @@ returns-in-Err-clause-kept c = keeps_both c.loop-n.invariant.kept c.read_line.en
 pub returns-in-Err-clause-fault : goal.returns-in-Err-clause-fault
 returns-in-Err-clause-fault c =
     rw c.at_line.ensures
-    (fault-reported Strict (take c.loop-n.n (plain_lines (line_views c.args.lines.now))) (option_map (λ t. t.now.word) c.loop-n.block) (plain (line_of c.index-lines-n.result))
-    (drop (c.loop-n.n + 1) (plain_lines (line_views c.args.lines.now))) (plain_lines (line_views c.args.lines.now)) (c.loop-n.n + 1) c.loop-n.fields c.read_line.new.self c.in-Err.fault
+    (fault-reported Strict (take c.loop-n.n (plain_lines (line_views c.args.lines.now)))
+    (option_map (λ t. t.now.word) c.loop-n.block) (plain (line_of c.index-lines-n.result))
+    (drop (c.loop-n.n + 1) (plain_lines (line_views c.args.lines.now))) (plain_lines (line_views c.args.lines.now))
+    (c.loop-n.n + 1) c.loop-n.fields c.read_line.new.self c.in-Err.fault
     c.loop-n.invariant.read (length-before c.args.lines.now c.loop-n.n c.loop-n-test.true)
     (lines-split c.args.lines.now c.loop-n.n c.index-lines-n.result c.loop-n-test.true c.index-lines-n.is)
     c.in-Err.ensures.added)

@@ -21,5 +21,6 @@ pub returns-in_ok-last_number-in-Some : goal.returns-in_ok-last_number-in-Some
 returns-in_ok-last_number-in-Some c =
     let some = split_once_first 46 c.args.text.now (Some (c.in-Some.second, c.in-Some.third)) c.in-Some.ensures.cases (lit< tt) in
     let cut = second-cut c.args.text.now c.in-Some.second.now c.in-Some.third.now some.0 some.1 some.2 in
-    let given : last_number c.in-Some.third.now ≡ Some c.in_ok-last_number-in-Some.field-0 = sym c.last_number-in-Some.ensures ∙ c.in_ok-last_number-in-Some.was in
+    let given : last_number c.in-Some.third.now ≡ Some c.in_ok-last_number-in-Some.field-0 =
+    sym c.last_number-in-Some.ensures ∙ c.in_ok-last_number-in-Some.was in
     rw (cut, given) c.small_number.ensures

@@ -13,7 +13,8 @@ returns-in_err-line-clause-fault c =
     let so = c.loop-said.invariant.read in
     let fault = c.in_err-line.field-0.0 in
     let parsed : IsFaultOrNoMemory c.args.reader.now.source fault =
-    subst (λ (source : List ℕ). IsFaultOrNoMemory source fault) (c.in_err-line.ensures.source ∙ c.loop-said.invariant.source) (c.in_err-line.ensures.next so.0 so.1) in
+    subst (λ (source : List ℕ). IsFaultOrNoMemory source fault)
+    (c.in_err-line.ensures.source ∙ c.loop-said.invariant.source) (c.in_err-line.ensures.next so.0 so.1) in
     let p = err_from_is_err_and c.from_residual.result c.from_residual.ensures.1 in
     rw (p.1, p.2) (misread-text Lax c.args.reader.now.source fault parsed)
 

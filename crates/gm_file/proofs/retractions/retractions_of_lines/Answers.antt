@@ -10,5 +10,6 @@ loop-line-preserved c =
     let before = take c.loop-line.line-index (plain_lines (line_views lines)) in
     record {
       kept = keeps_both c.loop-line.invariant.kept c.read_line.ensures.kept;
-      read = rw (lines-next lines c.loop-line.line-index c.line-item.result c.loop-line-test.true c.line-item.is) (c.in_ok-read_line.ensures.read before c.loop-line.invariant.read);
+      read = rw (lines-next lines c.loop-line.line-index c.line-item.result c.loop-line-test.true c.line-item.is)
+          (c.in_ok-read_line.ensures.read before c.loop-line.invariant.read);
     }

@@ -28,13 +28,15 @@ loop-version-preserved c =
       | then-not-is_reached+in_ok-push w ↦ record {
         sifted = rw (w.shown-is, w.in_ok-push.ensures.items) (map-append (λ (version : Bor (List ℕ)). version.now) c.loop-version.shown.items _
             ∙ ap (λ (shown : List (List ℕ)). shown ++ v ∷ []) c.loop-version.invariant.sifted
-            ∙ sym (shown_more ps is c.in_ok-ends.ensures vs i v c.loop-version-test.true c.version-item.is n reach all c.is_reached.result c.is_reached.ensures w.if-not-is_reached.true));
+            ∙ sym (shown_more ps is c.in_ok-ends.ensures vs i v c.loop-version-test.true c.version-item.is n reach all
+            c.is_reached.result c.is_reached.ensures w.if-not-is_reached.true));
         ready = ready;
         ascending = ascending;
       }
       | else-not-is_reached w ↦ record {
         sifted = rw w.shown-is (c.loop-version.invariant.sifted
-            ∙ sym (shown_same ps is c.in_ok-ends.ensures vs i v c.loop-version-test.true c.version-item.is n reach all c.is_reached.result c.is_reached.ensures w.if-not-is_reached.false));
+            ∙ sym (shown_same ps is c.in_ok-ends.ensures vs i v c.loop-version-test.true c.version-item.is n reach all
+            c.is_reached.result c.is_reached.ensures w.if-not-is_reached.false));
         ready = ready;
         ascending = ascending;
       }

@@ -11,13 +11,15 @@ pub returns-in_err-left_path-clause-read : goal.returns-in_err-left_path-clause-
 returns-in_err-left_path-clause-read c =
     let p = err_from_is_err_and c.from_residual.result c.from_residual.ensures.1 in
     rw (p.1, p.2) (left-path-fault (left_text_view c.args.left.now) c.args.path.now c.args.version.now c.in_err-left_path.field-0.0
-    (subst (λ (text : List ℕ). IsPartRead {X = List ℕ} {Y = List ℕ} (λ x. x) WrongArguments path_kinds (Some text) (Err c.in_err-left_path.field-0.0)) c.as_str.ensures.value c.in_err-left_path.ensures.read))
+    (subst (λ (text : List ℕ). IsPartRead {X = List ℕ} {Y = List ℕ} (λ x. x) WrongArguments path_kinds (Some text)
+    (Err c.in_err-left_path.field-0.0)) c.as_str.ensures.value c.in_err-left_path.ensures.read))
 
 pub returns-in_err-path-clause-read : goal.returns-in_err-path-clause-read
 returns-in_err-path-clause-read c =
     let p = err_from_is_err_and c.from_residual-in_err-path.result c.from_residual-in_err-path.ensures.1 in
     rw (p.1, p.2) (right-path-fault (left_text_view c.args.left.now) c.args.path.now c.args.version.now c.in_err-path.field-0.0
-    (sound-part path_kinds _ _ (ap Some (sym c.as_str.ensures.value) ∙ c.in_ok-left_path.ensures.read.0) c.in_ok-left_path.ensures.read.1) c.in_err-path.ensures.read)
+    (sound-part path_kinds _ _ (ap Some (sym c.as_str.ensures.value) ∙ c.in_ok-left_path.ensures.read.0)
+    c.in_ok-left_path.ensures.read.1) c.in_err-path.ensures.read)
 
 pub returns-in_err-left_version-clause-read : goal.returns-in_err-left_version-clause-read
 returns-in_err-left_version-clause-read c =
@@ -30,16 +32,23 @@ pub returns-in_err-version-clause-read : goal.returns-in_err-version-clause-read
 returns-in_err-version-clause-read c =
     let p = err_from_is_err_and c.from_residual-in_err-version.result c.from_residual-in_err-version.ensures.1 in
     rw (p.1, p.2) (right-version-fault (left_text_view c.args.left.now) c.args.path.now c.args.version.now _ _ _ c.in_err-version.field-0.0
-    (ap Some (sym c.as_str.ensures.value) ∙ c.in_ok-left_path.ensures.read.0) c.in_ok-left_path.ensures.read.1 c.in_ok-path.ensures.read.0 c.in_ok-path.ensures.read.1 c.in_ok-left_version.ensures.read.0 c.in_ok-left_version.ensures.read.1 c.in_err-version.ensures.read)
+    (ap Some (sym c.as_str.ensures.value) ∙ c.in_ok-left_path.ensures.read.0) c.in_ok-left_path.ensures.read.1
+    c.in_ok-path.ensures.read.0 c.in_ok-path.ensures.read.1 c.in_ok-left_version.ensures.read.0
+    c.in_ok-left_version.ensures.read.1 c.in_err-version.ensures.read)
 
 pub returns-in_err-left_version-clause-kept : goal.returns-in_err-left_version-clause-kept
 returns-in_err-left_version-clause-kept c = keeps_both (keeps_both c.read_path.ensures.kept c.read_path-2.ensures.kept) c.read_left_version.ensures.kept
 
 pub returns-in_err-version-clause-kept : goal.returns-in_err-version-clause-kept
-returns-in_err-version-clause-kept c = keeps_both (keeps_both (keeps_both c.read_path.ensures.kept c.read_path-2.ensures.kept) c.read_left_version.ensures.kept) c.read_version.ensures.kept
+returns-in_err-version-clause-kept c = keeps_both (keeps_both
+    (keeps_both c.read_path.ensures.kept c.read_path-2.ensures.kept) c.read_left_version.ensures.kept)
+    c.read_version.ensures.kept
 
 pub returns-then-not-does_left_fit-clause-kept : goal.returns-then-not-does_left_fit-clause-kept
-returns-then-not-does_left_fit-clause-kept c = keeps_both (keeps_both (keeps_both c.read_path.ensures.kept c.read_path-2.ensures.kept) c.read_left_version.ensures.kept) c.read_version.ensures.kept
+returns-then-not-does_left_fit-clause-kept c = keeps_both
+    (keeps_both (keeps_both c.read_path.ensures.kept c.read_path-2.ensures.kept) c.read_left_version.ensures.kept)
+    c.read_version.ensures.kept
 
 pub returns-clause-kept : goal.returns-clause-kept
-returns-clause-kept c = keeps_both (keeps_both (keeps_both c.read_path.ensures.kept c.read_path-2.ensures.kept) c.read_left_version.ensures.kept) c.read_version.ensures.kept
+returns-clause-kept c = keeps_both (keeps_both (keeps_both c.read_path.ensures.kept c.read_path-2.ensures.kept)
+    c.read_left_version.ensures.kept) c.read_version.ensures.kept

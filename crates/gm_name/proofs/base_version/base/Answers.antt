@@ -10,14 +10,17 @@ pub returns-in_default-clause-none : goal.returns-in_default-clause-none
 returns-in_default-clause-none c = λ text is.
     let p = parts_in c.args.version.now in
     let b = base-pseudo c.args.version.now text is in
-    c.in_default.ensures.none b.5.0 b.1 b.2 (front-dot b.0 p.1 p.2 b.5.0 b.5.1) (subst (λ (pre : List ℕ). IsStamp pre b.5.0 b.1 b.2) (sym c.pre.ensures.text) b.5.2)
+    c.in_default.ensures.none b.5.0 b.1 b.2 (front-dot b.0 p.1 p.2 b.5.0 b.5.1)
+    (subst (λ (pre : List ℕ). IsStamp pre b.5.0 b.1 b.2) (sym c.pre.ensures.text) b.5.2)
 
 pub returns-in_default-form_of-clause-none : goal.returns-in_default-form_of-clause-none
 returns-in_default-form_of-clause-none c = λ text is.
     let p = parts_in c.args.version.now in
     let b = base-pseudo c.args.version.now text is in
-    let only = c.in-Some.ensures.only b.5.0 b.1 b.2 (front-dot b.0 p.1 p.2 b.5.0 b.5.1) (subst (λ (pre : List ℕ). IsStamp pre b.5.0 b.1 b.2) (sym c.pre.ensures.text) b.5.2) in
-    let is_front : IsFront b.0 c.minor.result c.patch.result c.as_bytes.result.now = rw (c.minor.ensures, c.patch.ensures, c.as_bytes.ensures.value, only.0) b.5.1 in
+    let only = c.in-Some.ensures.only b.5.0 b.1 b.2 (front-dot b.0 p.1 p.2 b.5.0 b.5.1)
+    (subst (λ (pre : List ℕ). IsStamp pre b.5.0 b.1 b.2) (sym c.pre.ensures.text) b.5.2) in
+    let is_front : IsFront b.0 c.minor.result c.patch.result c.as_bytes.result.now =
+    rw (c.minor.ensures, c.patch.ensures, c.as_bytes.ensures.value, only.0) b.5.1 in
     c.in_default-form_of.ensures.none b.0 is_front
 
 pub returns-then-form-eq2-clause-some : goal.returns-then-form-eq2-clause-some
@@ -27,15 +30,22 @@ returns-then-form-eq2-clause-some c =
     let stamp = rw (c.pre.ensures.text, joined) at c.in-Some.ensures.some in (
       c.in-Some.stamp.time.now,
       c.in-Some.stamp.revision.now,
-      inl (c.in-Some-strip_suffix.before.now, front-second_some _ _ c.in-Some-strip_suffix.before.now is_front, stamp, rw c.patch-then-form-eq2.ensures at c.in_ok-with.ensures),
+      inl (
+        c.in-Some-strip_suffix.before.now,
+        front-second_some _ _ c.in-Some-strip_suffix.before.now is_front,
+        stamp,
+        rw c.patch-then-form-eq2.ensures at c.in_ok-with.ensures,
+      ),
     )
 
 pub returns-clause-none : goal.returns-clause-none
 returns-clause-none c = λ text is.
     let p = parts_in c.args.version.now in
     let b = base-pseudo c.args.version.now text is in
-    let only = c.in-Some.ensures.only b.5.0 b.1 b.2 (front-dot b.0 p.1 p.2 b.5.0 b.5.1) (subst (λ (pre : List ℕ). IsStamp pre b.5.0 b.1 b.2) (sym c.pre.ensures.text) b.5.2) in
-    let is_front : IsFront b.0 c.minor.result c.patch.result c.as_bytes.result.now = rw (c.minor.ensures, c.patch.ensures, c.as_bytes.ensures.value, only.0) b.5.1 in
+    let only = c.in-Some.ensures.only b.5.0 b.1 b.2 (front-dot b.0 p.1 p.2 b.5.0 b.5.1)
+    (subst (λ (pre : List ℕ). IsStamp pre b.5.0 b.1 b.2) (sym c.pre.ensures.text) b.5.2) in
+    let is_front : IsFront b.0 c.minor.result c.patch.result c.as_bytes.result.now =
+    rw (c.minor.ensures, c.patch.ensures, c.as_bytes.ensures.value, only.0) b.5.1 in
     let same = front-unique b.0 c.in-Some-form_of.form c.minor.result c.patch.result c.as_bytes.result.now is_front c.in-Some-form_of.ensures.some in
     absurd (omega (arith, c.if-form-eq2.false, c.if-form-eq3.false))
 

@@ -9,11 +9,13 @@ use Rattle.gm_name.proofs.escaping.push_each_escaped.Goals as goal
 
 pub loop-c-preserved : goal.loop-c-preserved
 loop-c-preserved c =
-    escaped-more (string_bytes c.args.name.now) (string_bytes c.loop-c.name) (string_bytes c.push_escaped_char.new.name) c.loop-c.yielded c.in-Some.c c.loop-c.invariant c.in_ok-push_escaped_char.ensures.ok
+    escaped-more (string_bytes c.args.name.now) (string_bytes c.loop-c.name) (string_bytes c.push_escaped_char.new.name)
+    c.loop-c.yielded c.in-Some.c c.loop-c.invariant c.in_ok-push_escaped_char.ensures.ok
 
 pub returns-clause-ok : goal.returns-clause-ok
 returns-clause-ok c =
-    let end = YieldsList-end (YieldsList-from_chars c.args.text.now c.utf8.text cc) c.loop-c.yielded _ c.loop-c.yielded_by _ _ c.in-None.is c.next.ensures.steps in
+    let end = YieldsList-end (YieldsList-from_chars c.args.text.now c.utf8.text cc) c.loop-c.yielded _
+    c.loop-c.yielded_by _ _ c.in-None.is c.next.ensures.steps in
     escaped-whole (string_bytes c.args.name.now) (string_bytes c.loop-c.name) c.args.text.now c.loop-c.yielded end.0 c.utf8.text c.loop-c.invariant
 
 pub returns-in_err-push_escaped_char-clause-refused : goal.returns-in_err-push_escaped_char-clause-refused
@@ -24,4 +26,6 @@ returns-in_err-push_escaped_char-clause-refused c =
     let rest = encode_utf8_all (drop (length c.loop-c.yielded + 1) (chars c.args.text.now)) in
     let split = name-split c.args.text.now c.loop-c.yielded c.in-Some.c c.utf8.text front turn.0 turn.1 in
     let p = err_from_is_err_and c.from_residual.result c.from_residual.ensures.1 in
-    rw (p.1) (begins-more (string_bytes c.args.name.now) (string_bytes c.loop-c.name) (string_bytes c.push_escaped_char.new.name) c.args.text.now c.loop-c.yielded rest c.in-Some.c c.loop-c.invariant split c.in_err-push_escaped_char.ensures.refused)
+    rw (p.1) (begins-more (string_bytes c.args.name.now) (string_bytes c.loop-c.name)
+    (string_bytes c.push_escaped_char.new.name) c.args.text.now c.loop-c.yielded rest c.in-Some.c c.loop-c.invariant
+    split c.in_err-push_escaped_char.ensures.refused)

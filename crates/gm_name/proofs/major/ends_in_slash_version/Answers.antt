@@ -12,4 +12,9 @@ returns-then-not-is_empty c =
 pub returns-else-not-is_empty : goal.returns-else-not-is_empty
 returns-else-not-is_empty c =
     let none : length c.split_digits_and_dots.result.1.now ≡ 0 = grind (arith, nat_tests) in
-    rw c.if-not-is_empty.false (λ e. cc e, λ ends. absurd (slash_empty c.args.text.now c.split_digits_and_dots.result.1.now c.split_digits_and_dots.ensures.tail none ends))
+    rw c.if-not-is_empty.false (
+      λ e. cc e,
+      λ ends. absurd
+          (slash_empty c.args.text.now c.split_digits_and_dots.result.1.now c.split_digits_and_dots.ensures.tail none
+          ends),
+    )

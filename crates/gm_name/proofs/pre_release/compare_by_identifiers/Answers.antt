@@ -17,7 +17,8 @@ returns-then-ne c =
     let n = rw tx at c.identifier_len-our_len.ensures.value in
     let m = rw ty at c.identifier_len-their_len.ensures.value in
     let o = rw (tx, ty, n, m) at c.compare_identifiers-ordering.ensures in
-    o ∙ sym (c.identifiers.invariant.0 ∙ parts-differ pre_part_cmp (drop c.identifiers.our_start c.args.one.now) (drop c.identifiers.their_start c.args.other.now) (other_from_index _ (rw o at c.if-ne.ensures)))
+    o ∙ sym (c.identifiers.invariant.0 ∙ parts-differ pre_part_cmp (drop c.identifiers.our_start c.args.one.now)
+    (drop c.identifiers.their_start c.args.other.now) (other_from_index _ (rw o at c.if-ne.ensures)))
 
 pub returns-then-their_len-theirs : goal.returns-then-their_len-theirs
 returns-then-their_len-theirs c =
@@ -28,8 +29,11 @@ returns-then-their_len-theirs c =
     let o = rw (tx, ty, n, m) at c.compare_identifiers-ordering.ensures in
     let tie = sym o ∙ equal_from_index _ c.if-ne.ensures in
     let inv = c.identifiers.invariant.0 in
-    let ln : part_length (drop c.identifiers.our_start c.args.one.now) ≡ length (drop c.identifiers.our_start c.args.one.now) = sym n ∙ (c.if-our_len-ours.true ∙ ap length tx) in
-    let lm : part_length (drop c.identifiers.their_start c.args.other.now) ≡ length (drop c.identifiers.their_start c.args.other.now) = sym m ∙ (c.if-their_len-theirs.true ∙ ap length ty) in
+    let ln : part_length (drop c.identifiers.our_start c.args.one.now)
+    ≡ length (drop c.identifiers.our_start c.args.one.now) = sym n ∙ (c.if-our_len-ours.true ∙ ap length tx) in
+    let lm : part_length (drop c.identifiers.their_start c.args.other.now)
+    ≡ length (drop c.identifiers.their_start c.args.other.now) =
+    sym m ∙ (c.if-their_len-theirs.true ∙ ap length ty) in
     sym (inv ∙ parts-both_end pre_part_cmp (drop c.identifiers.our_start c.args.one.now) (drop c.identifiers.their_start c.args.other.now) ln lm tie)
 
 pub returns-else-their_len-theirs : goal.returns-else-their_len-theirs
@@ -41,7 +45,8 @@ returns-else-their_len-theirs c =
     let o = rw (tx, ty, n, m) at c.compare_identifiers-ordering.ensures in
     let tie = sym o ∙ equal_from_index _ c.if-ne.ensures in
     let inv = c.identifiers.invariant.0 in
-    let ln : part_length (drop c.identifiers.our_start c.args.one.now) ≡ length (drop c.identifiers.our_start c.args.one.now) = sym n ∙ (c.if-our_len-ours.true ∙ ap length tx) in
+    let ln : part_length (drop c.identifiers.our_start c.args.one.now)
+    ≡ length (drop c.identifiers.our_start c.args.one.now) = sym n ∙ (c.if-our_len-ours.true ∙ ap length tx) in
     let fits = rw ty at c.identifier_len-their_len.ensures.fits in
     let differ = rw ty at c.if-their_len-theirs.false in
     let lm : part_length (drop c.identifiers.their_start c.args.other.now) < length (drop c.identifiers.their_start c.args.other.now) = omega arith in
@@ -59,7 +64,9 @@ returns-then-their_len-theirs-2 c =
     let fits = rw tx at c.identifier_len-our_len.ensures.fits in
     let differ = rw tx at c.if-our_len-ours.false in
     let ln : part_length (drop c.identifiers.our_start c.args.one.now) < length (drop c.identifiers.our_start c.args.one.now) = omega arith in
-    let lm : part_length (drop c.identifiers.their_start c.args.other.now) ≡ length (drop c.identifiers.their_start c.args.other.now) = sym m ∙ (c.if-their_len-theirs-2.true ∙ ap length ty) in
+    let lm : part_length (drop c.identifiers.their_start c.args.other.now)
+    ≡ length (drop c.identifiers.their_start c.args.other.now) =
+    sym m ∙ (c.if-their_len-theirs-2.true ∙ ap length ty) in
     sym (inv ∙ parts-right_end pre_part_cmp (drop c.identifiers.our_start c.args.one.now) (drop c.identifiers.their_start c.args.other.now) ln lm tie)
 
 pub identifiers-preserved : goal.identifiers-preserved
@@ -81,7 +88,14 @@ identifiers-preserved c =
     let da = length-drop c.identifiers.our_start c.args.one.now in
     let db = length-drop c.identifiers.their_start c.args.other.now in
     let ba = c.identifiers.invariant.1 in
-    let moved = rw (drop-drop (part_length (drop c.identifiers.our_start c.args.one.now) + 1) c.identifiers.our_start c.args.one.now, drop-drop (part_length (drop c.identifiers.their_start c.args.other.now) + 1) c.identifiers.their_start c.args.other.now, ← n, ← m) at step in (
+    let moved = rw (
+      drop-drop (part_length (drop c.identifiers.our_start c.args.one.now) + 1) c.identifiers.our_start
+          c.args.one.now,
+      drop-drop (part_length (drop c.identifiers.their_start c.args.other.now) + 1)
+          c.identifiers.their_start c.args.other.now,
+      ← n,
+      ← m,
+    ) at step in (
       inv ∙ moved,
       omega arith,
       omega arith,

@@ -8,7 +8,9 @@ returns-in_default c = sym (version-after_dash c.args.version.now None c.require
 pub returns-in-Some-split_once : goal.returns-in-Some-split_once
 returns-in-Some-split_once c =
     let rest = version-after_dash c.args.version.now (Some (c.in-Some.field-0-0, c.in-Some.rest)) c.requires c.in-Some.ensures.cases in
-    version-before_plus c.args.version.now c.in-Some.rest.now (Some (c.in-Some-split_once.pre_release, c.in-Some-split_once.field-0-1)) c.requires rest c.in-Some-split_once.ensures.cases
+    version-before_plus c.args.version.now c.in-Some.rest.now
+    (Some (c.in-Some-split_once.pre_release, c.in-Some-split_once.field-0-1)) c.requires rest
+    c.in-Some-split_once.ensures.cases
 
 pub returns-in-None : goal.returns-in-None
 returns-in-None c =

@@ -27,4 +27,6 @@ loop-bucket-preserved c =
 
 pub returns-clause-same : goal.returns-clause-same
 returns-clause-same c =
-    parts_hold place_in_bucket c.args.buckets.now c.loop-bucket.doubled.items (omega (arith, c.loop-bucket.invariant.many, c.loop-bucket-test.false, c.loop-bucket.auto.bucket-end)) c.loop-bucket.invariant.parts
+    parts_hold place_in_bucket c.args.buckets.now c.loop-bucket.doubled.items
+    (omega (arith, c.loop-bucket.invariant.many, c.loop-bucket-test.false, c.loop-bucket.auto.bucket-end))
+    c.loop-bucket.invariant.parts

@@ -11,13 +11,16 @@ returns-clause-rest g c = full_rest 16777217 _ _ _ c.fill.invariant.given c.fill
 pub returns-then-count-eq0-clause-bytes : goal.returns-then-count-eq0-clause-bytes
 returns-then-count-eq0-clause-bytes g c =
     let (room, some, _, adds) = c.in_ok-count.ensures.adds in
-    subst (λ (bytes : List ℕ). IfSome (g.R.ByteReader.remaining c.args.reader.now) (λ all. bytes ≡ take 16777217 all)) (sym {A = List ℕ} c.shrink_to_fit.ensures.items)
-    (ended_by 16777217 room c.in_ok-count.count _ _ _ c.fill.bytes.items c.read_next.new.bytes.items c.fill.invariant.given c.fill.invariant.short adds c.if-count-eq0.true some)
+    subst (λ (bytes : List ℕ). IfSome (g.R.ByteReader.remaining c.args.reader.now) (λ all. bytes ≡ take 16777217 all))
+    (sym {A = List ℕ} c.shrink_to_fit.ensures.items)
+    (ended_by 16777217 room c.in_ok-count.count _ _ _ c.fill.bytes.items c.read_next.new.bytes.items
+    c.fill.invariant.given c.fill.invariant.short adds c.if-count-eq0.true some)
 
 pub returns-then-count-eq0-clause-rest : goal.returns-then-count-eq0-clause-rest
 returns-then-count-eq0-clause-rest g c =
     let (room, some, _, adds) = c.in_ok-count.ensures.adds in
-    rest_ended_by 16777217 room c.in_ok-count.count _ _ _ c.fill.bytes.items c.read_next.new.bytes.items c.fill.invariant.given c.fill.invariant.short adds c.if-count-eq0.true some
+    rest_ended_by 16777217 room c.in_ok-count.count _ _ _ c.fill.bytes.items c.read_next.new.bytes.items
+    c.fill.invariant.given c.fill.invariant.short adds c.if-count-eq0.true some
 
 pub fill-preserved : goal.fill-preserved
 fill-preserved g c =

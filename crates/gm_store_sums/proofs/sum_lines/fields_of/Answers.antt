@@ -6,44 +6,79 @@ use Rattle.gm_store_sums.proofs.sum_lines.fields_of.Goals as goal
 
 pub returns-then-is_empty : goal.returns-then-is_empty
 returns-then-is_empty c =
-    put_none (first_word c.args.line.now) _ _ c.cut_word-path.ensures.fields (is_empty_word _ c.cut_word-path.result.word.now c.is_empty.result c.cut_word-path.ensures.word c.is_empty.ensures c.if-is_empty.true)
+    put_none (first_word c.args.line.now) _ _ c.cut_word-path.ensures.fields
+    (is_empty_word _ c.cut_word-path.result.word.now c.is_empty.result c.cut_word-path.ensures.word
+    c.is_empty.ensures c.if-is_empty.true)
 
 -- one field, or two, are neither valid nor three
-one_field : (all : List (List ℕ)) (a : List ℕ) → all ≡ a ∷ [] → (are_valid_fields all ≡ false) × ((path version hash : List ℕ) → ¬ (all ≡ path ∷ version ∷ hash ∷ []))
+one_field : (all : List (List ℕ)) (a : List ℕ) → all ≡ a ∷ []
+    → (are_valid_fields all ≡ false) × ((path version hash : List ℕ) → ¬ (all ≡ path ∷ version ∷ hash ∷ []))
 one_field all a e = (ap are_valid_fields e, λ path version hash is. cc (sym e ∙ is))
 
-two_fields : (all : List (List ℕ)) (a b : List ℕ) → all ≡ a ∷ b ∷ [] → (are_valid_fields all ≡ false) × ((path version hash : List ℕ) → ¬ (all ≡ path ∷ version ∷ hash ∷ []))
+two_fields : (all : List (List ℕ)) (a b : List ℕ) → all ≡ a ∷ b ∷ []
+    → (are_valid_fields all ≡ false) × ((path version hash : List ℕ) → ¬ (all ≡ path ∷ version ∷ hash ∷ []))
 two_fields all a b e = (ap are_valid_fields e, λ path version hash is. cc (sym e ∙ is))
 
-four_fields : (all : List (List ℕ)) (a b d f : List ℕ) (more : List (List ℕ)) → all ≡ a ∷ b ∷ d ∷ f ∷ more → (are_valid_fields all ≡ false) × ((path version hash : List ℕ) → ¬ (all ≡ path ∷ version ∷ hash ∷ []))
+four_fields : (all : List (List ℕ)) (a b d f : List ℕ) (more : List (List ℕ)) → all ≡ a ∷ b ∷ d ∷ f ∷ more
+    → (are_valid_fields all ≡ false) × ((path version hash : List ℕ) → ¬ (all ≡ path ∷ version ∷ hash ∷ []))
 four_fields all a b d f more e = (ap are_valid_fields e, λ path version hash is. cc (sym e ∙ is))
 
 pub returns-then-is_empty-2 : goal.returns-then-is_empty-2
 returns-then-is_empty-2 c =
-    let one = put_some _ _ _ c.cut_word-path.ensures.fields (is_some _ c.cut_word-path.result.word.now c.is_empty.result c.cut_word-path.ensures.word c.is_empty.ensures c.if-is_empty.false) in
-    let none = put_none _ _ _ c.cut_word-version.ensures.fields (is_empty_word _ c.cut_word-version.result.word.now c.is_empty-2.result c.cut_word-version.ensures.word c.is_empty-2.ensures c.if-is_empty-2.true) in
+    let one = put_some _ _ _ c.cut_word-path.ensures.fields
+    (is_some _ c.cut_word-path.result.word.now c.is_empty.result c.cut_word-path.ensures.word c.is_empty.ensures
+    c.if-is_empty.false) in
+    let none = put_none _ _ _ c.cut_word-version.ensures.fields
+    (is_empty_word _ c.cut_word-version.result.word.now c.is_empty-2.result c.cut_word-version.ensures.word
+    c.is_empty-2.ensures c.if-is_empty-2.true) in
     one_field _ _ (one ∙ ap (λ more. first_word c.args.line.now ∷ more) none)
 
 pub returns-then-is_empty-3 : goal.returns-then-is_empty-3
 returns-then-is_empty-3 c =
-    let one = put_some _ _ _ c.cut_word-path.ensures.fields (is_some _ c.cut_word-path.result.word.now c.is_empty.result c.cut_word-path.ensures.word c.is_empty.ensures c.if-is_empty.false) in
-    let two = put_some _ _ _ c.cut_word-version.ensures.fields (is_some _ c.cut_word-version.result.word.now c.is_empty-2.result c.cut_word-version.ensures.word c.is_empty-2.ensures c.if-is_empty-2.false) in
-    let none = put_none _ _ _ c.cut_word-hash.ensures.fields (is_empty_word _ c.cut_word-hash.result.word.now c.is_empty-3.result c.cut_word-hash.ensures.word c.is_empty-3.ensures c.if-is_empty-3.true) in
+    let one = put_some _ _ _ c.cut_word-path.ensures.fields
+    (is_some _ c.cut_word-path.result.word.now c.is_empty.result c.cut_word-path.ensures.word c.is_empty.ensures
+    c.if-is_empty.false) in
+    let two = put_some _ _ _ c.cut_word-version.ensures.fields
+    (is_some _ c.cut_word-version.result.word.now c.is_empty-2.result c.cut_word-version.ensures.word
+    c.is_empty-2.ensures c.if-is_empty-2.false) in
+    let none = put_none _ _ _ c.cut_word-hash.ensures.fields
+    (is_empty_word _ c.cut_word-hash.result.word.now c.is_empty-3.result c.cut_word-hash.ensures.word
+    c.is_empty-3.ensures c.if-is_empty-3.true) in
     two_fields _ _ _ (one ∙ ap (λ more. first_word c.args.line.now ∷ more) (two ∙ ap (λ more. first_word c.cut_word-path.result.rest.now ∷ more) none))
 
 pub returns-then-not-is_empty : goal.returns-then-not-is_empty
 returns-then-not-is_empty c =
-    let one = put_some _ _ _ c.cut_word-path.ensures.fields (is_some _ c.cut_word-path.result.word.now c.is_empty.result c.cut_word-path.ensures.word c.is_empty.ensures c.if-is_empty.false) in
-    let two = put_some _ _ _ c.cut_word-version.ensures.fields (is_some _ c.cut_word-version.result.word.now c.is_empty-2.result c.cut_word-version.ensures.word c.is_empty-2.ensures c.if-is_empty-2.false) in
-    let three = put_some _ _ _ c.cut_word-hash.ensures.fields (is_some _ c.cut_word-hash.result.word.now c.is_empty-3.result c.cut_word-hash.ensures.word c.is_empty-3.ensures c.if-is_empty-3.false) in
-    let four = put_some _ _ _ c.cut_word-more.ensures.fields (is_some _ c.cut_word-more.result.word.now c.is_empty-4.result c.cut_word-more.ensures.word c.is_empty-4.ensures c.if-not-is_empty.true) in
-    four_fields _ _ _ _ _ _ (one ∙ ap (λ more. first_word c.args.line.now ∷ more) (two ∙ ap (λ more. first_word c.cut_word-path.result.rest.now ∷ more) (three ∙ ap (λ more. first_word c.cut_word-version.result.rest.now ∷ more) four)))
+    let one = put_some _ _ _ c.cut_word-path.ensures.fields
+    (is_some _ c.cut_word-path.result.word.now c.is_empty.result c.cut_word-path.ensures.word c.is_empty.ensures
+    c.if-is_empty.false) in
+    let two = put_some _ _ _ c.cut_word-version.ensures.fields
+    (is_some _ c.cut_word-version.result.word.now c.is_empty-2.result c.cut_word-version.ensures.word
+    c.is_empty-2.ensures c.if-is_empty-2.false) in
+    let three = put_some _ _ _ c.cut_word-hash.ensures.fields
+    (is_some _ c.cut_word-hash.result.word.now c.is_empty-3.result c.cut_word-hash.ensures.word c.is_empty-3.ensures
+    c.if-is_empty-3.false) in
+    let four = put_some _ _ _ c.cut_word-more.ensures.fields
+    (is_some _ c.cut_word-more.result.word.now c.is_empty-4.result c.cut_word-more.ensures.word c.is_empty-4.ensures
+    c.if-not-is_empty.true) in
+    four_fields _ _ _ _ _ _ (one ∙ ap (λ more. first_word c.args.line.now ∷ more)
+    (two ∙ ap (λ more. first_word c.cut_word-path.result.rest.now ∷ more)
+    (three ∙ ap (λ more. first_word c.cut_word-version.result.rest.now ∷ more) four)))
 
 pub returns : goal.returns
 returns c =
-    let one = put_some _ _ _ c.cut_word-path.ensures.fields (is_some _ c.cut_word-path.result.word.now c.is_empty.result c.cut_word-path.ensures.word c.is_empty.ensures c.if-is_empty.false) in
-    let two = put_some _ _ _ c.cut_word-version.ensures.fields (is_some _ c.cut_word-version.result.word.now c.is_empty-2.result c.cut_word-version.ensures.word c.is_empty-2.ensures c.if-is_empty-2.false) in
-    let three = put_some _ _ _ c.cut_word-hash.ensures.fields (is_some _ c.cut_word-hash.result.word.now c.is_empty-3.result c.cut_word-hash.ensures.word c.is_empty-3.ensures c.if-is_empty-3.false) in
-    let none = put_none _ _ _ c.cut_word-more.ensures.fields (is_empty_word _ c.cut_word-more.result.word.now c.is_empty-4.result c.cut_word-more.ensures.word c.is_empty-4.ensures c.if-not-is_empty.false) in
+    let one = put_some _ _ _ c.cut_word-path.ensures.fields
+    (is_some _ c.cut_word-path.result.word.now c.is_empty.result c.cut_word-path.ensures.word c.is_empty.ensures
+    c.if-is_empty.false) in
+    let two = put_some _ _ _ c.cut_word-version.ensures.fields
+    (is_some _ c.cut_word-version.result.word.now c.is_empty-2.result c.cut_word-version.ensures.word
+    c.is_empty-2.ensures c.if-is_empty-2.false) in
+    let three = put_some _ _ _ c.cut_word-hash.ensures.fields
+    (is_some _ c.cut_word-hash.result.word.now c.is_empty-3.result c.cut_word-hash.ensures.word c.is_empty-3.ensures
+    c.if-is_empty-3.false) in
+    let none = put_none _ _ _ c.cut_word-more.ensures.fields
+    (is_empty_word _ c.cut_word-more.result.word.now c.is_empty-4.result c.cut_word-more.ensures.word
+    c.is_empty-4.ensures c.if-not-is_empty.false) in
     rw (c.cut_word-path.ensures.word, c.cut_word-version.ensures.word, c.cut_word-hash.ensures.word)
-    (one ∙ ap (λ more. first_word c.args.line.now ∷ more) (two ∙ ap (λ more. first_word c.cut_word-path.result.rest.now ∷ more) (three ∙ ap (λ more. first_word c.cut_word-version.result.rest.now ∷ more) none)))
+    (one ∙ ap (λ more. first_word c.args.line.now ∷ more)
+    (two ∙ ap (λ more. first_word c.cut_word-path.result.rest.now ∷ more)
+    (three ∙ ap (λ more. first_word c.cut_word-version.result.rest.now ∷ more) none)))

@@ -19,5 +19,6 @@ pub returns-clause-found : goal.returns-clause-found
 returns-clause-found c =
     told (lines_before_invalid c.args.text.now) (length (lines c.args.text.now)) c.position.result
     (position_from_yields_List (λ line. not (are_valid_fields (fields line))) _ _ _ c.position.ensures.ran
-    (YieldsList-from_slice_split _ is_line_end c.args.text.now c.split.ensures.rest c.split.ensures.done c.split.ensures.closure (λ x r q k. search (rules, tests)))
+    (YieldsList-from_slice_split _ is_line_end c.args.text.now c.split.ensures.rest c.split.ensures.done
+    c.split.ensures.closure (λ x r q k. search (rules, tests)))
     (λ x b q k. search (rules, tests)))

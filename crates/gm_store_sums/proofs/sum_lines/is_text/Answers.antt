@@ -8,7 +8,8 @@ no_text : (bytes : List ℕ) (test : Bool) → is_utf8 bytes ≡ test → ¬ (Is
 no_text bytes true e none = absurd (none (IsUtf8-from_is_utf8 bytes e))
 no_text bytes false e none = refl
 
-told : {E : Type 0} (bytes : List ℕ) (r : Result (Bor (List ℕ)) E) (P : E → Type 0) → MatchResult r (λ s. (s.now ≡ bytes) × IsUtf8 bytes) (λ e. ¬ (IsUtf8 bytes) × P e) → is_ok r ≡ is_utf8 bytes
+told : {E : Type 0} (bytes : List ℕ) (r : Result (Bor (List ℕ)) E) (P : E → Type 0)
+    → MatchResult r (λ s. (s.now ≡ bytes) × IsUtf8 bytes) (λ e. ¬ (IsUtf8 bytes) × P e) → is_ok r ≡ is_utf8 bytes
 told bytes (Ok s) P h = sym (is_utf8-from_IsUtf8 bytes h.1)
 told bytes (Err e) P h = sym (no_text bytes (is_utf8 bytes) refl h.0)
 

@@ -5,7 +5,9 @@ use Rattle.gm_store_sums.proofs.sum_table.find.Goals as goal
 
 pub returns-then-start-end : goal.returns-then-start-end
 returns-then-start-end c =
-    unlisted c.args.lines.now c.args.path.now c.args.version.now c.args.hash.now c.lines_before-start.result c.lines_up_to-end.result c.lines_before-start.ensures.point c.lines_up_to-end.ensures.point c.lines_up_to-end.ensures.within c.if-start-end.true
+    unlisted c.args.lines.now c.args.path.now c.args.version.now c.args.hash.now c.lines_before-start.result
+    c.lines_up_to-end.result c.lines_before-start.ensures.point c.lines_up_to-end.ensures.point
+    c.lines_up_to-end.ensures.within c.if-start-end.true
 
 pub returns-then-has_hash-2 : goal.returns-then-has_hash-2
 returns-then-has_hash-2 c =
@@ -14,7 +16,8 @@ returns-then-has_hash-2 c =
     let end = c.lines_up_to-end.result in
     let within = c.lines_up_to-end.ensures.within in
     good lines c.args.path.now c.args.version.now c.args.hash.now start end c.lines_before-start.ensures.point c.lines_up_to-end.ensures.point within
-    (line_at lines start) (line_at lines (end - 1)) c.requires (omega arith) (reads_itself lines start (omega arith)) (reads_itself lines (end - 1) (omega arith))
+    (line_at lines start) (line_at lines (end - 1)) c.requires (omega arith) (reads_itself lines start (omega arith))
+    (reads_itself lines (end - 1) (omega arith))
     (sym c.has_hash.ensures ∙ c.if-has_hash.true) (sym c.has_hash-then-has_hash.ensures ∙ c.if-has_hash-2.true)
 
 pub returns-else-has_hash : goal.returns-else-has_hash

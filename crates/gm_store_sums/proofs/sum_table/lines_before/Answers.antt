@@ -9,6 +9,7 @@ use Rattle.gm_store_sums.proofs.sum_table.lines_before.Goals as goal
 
 pub returns-clause-point : goal.returns-clause-point
 returns-clause-point c =
-    IsPartitionPoint-from_clause (λ line. is_lt (key_cmp (triple line) (c.args.path.now, c.args.version.now))) c.args.lines.now _ c.partition_point.ensures.partitioned
+    IsPartitionPoint-from_clause (λ line. is_lt (key_cmp (triple line) (c.args.path.now, c.args.version.now)))
+    c.args.lines.now _ c.partition_point.ensures.partitioned
     (parted_before c.args.lines.now c.args.path.now c.args.version.now c.requires)
     (λ a r q k. search (rules, tests))

@@ -9,7 +9,8 @@ use Rattle.gm_store_sums.proofs.sum_table.lines_up_to.Goals as goal
 
 pub returns-clause-point : goal.returns-clause-point
 returns-clause-point c =
-    IsPartitionPoint-from_clause (λ line. is_le (key_cmp (triple line) (c.args.path.now, c.args.version.now))) c.args.lines.now _ c.partition_point.ensures.partitioned
+    IsPartitionPoint-from_clause (λ line. is_le (key_cmp (triple line) (c.args.path.now, c.args.version.now)))
+    c.args.lines.now _ c.partition_point.ensures.partitioned
     (parted_up_to c.args.lines.now c.args.path.now c.args.version.now c.requires.order)
     (λ a r q k. search (rules, tests))
 
@@ -20,6 +21,7 @@ returns-then-not-is_for-clause-point c =
 
 pub returns-then-not-is_for-2-clause-point : goal.returns-then-not-is_for-2-clause-point
 returns-then-not-is_for-2-clause-point c =
-    ends_after c.args.lines.now c.args.path.now c.args.version.now c.args.start c.requires.order c.requires.point (c.is_for.ensures.within c.if-not-is_for.false)
+    ends_after c.args.lines.now c.args.path.now c.args.version.now c.args.start c.requires.order c.requires.point
+    (c.is_for.ensures.within c.if-not-is_for.false)
     (λ line. sym c.if-not-is_for.false ∙ c.is_for.ensures.same line (c.is_for.ensures.within c.if-not-is_for.false))
     (λ line within. sym c.if-not-is_for-2.true ∙ c.is_for-2.ensures.same line within)

@@ -13,15 +13,22 @@ returns-in_err-parts-clause-read c =
     rw (told.1, told.2) (read_fault c.args.place.inside c.args.text.now c.in_err-parts.field-0.0 c.in_err-parts.ensures.read)
 
 pub returns-in-Ok-clause-read : goal.returns-in-Ok-clause-read
-returns-in-Ok-clause-read c = one_line c.args.place.inside c.args.text.now (words_of c.in_ok-parts.parts.words.items) (comment_of c.in_ok-parts.parts.comment) c.in_ok-parts.ensures.read (plain (line_of c.in-Ok.line)) (rw c.is_inside.ensures at c.in-Ok.ensures.class)
+returns-in-Ok-clause-read c = one_line c.args.place.inside c.args.text.now (words_of c.in_ok-parts.parts.words.items)
+    (comment_of c.in_ok-parts.parts.comment) c.in_ok-parts.ensures.read (plain (line_of c.in-Ok.line))
+    (rw c.is_inside.ensures at c.in-Ok.ensures.class)
 
 pub returns-in-Ok-clause-placed : goal.returns-in-Ok-clause-placed
 returns-in-Ok-clause-placed c = λ source after whole.
     subst (AreSlicesBetween source c.args.first (c.args.first + length c.args.text.now)) (sym c.in-Ok.ensures.tokens)
-    (stand_take source c.args.first (c.args.first + length c.args.text.now) (length (tokens_of (line_of c.in-Ok.line))) c.in_ok-parts.parts.words.items (c.in_ok-parts.ensures.placed source after whole))
+    (stand_take source c.args.first (c.args.first + length c.args.text.now) (length (tokens_of (line_of c.in-Ok.line)))
+    c.in_ok-parts.parts.words.items (c.in_ok-parts.ensures.placed source after whole))
 
 pub returns-in-Ok-clause-filled : goal.returns-in-Ok-clause-filled
-returns-in-Ok-clause-filled c = line_filled c.args.place.inside c.args.first c.args.text.now c.in_ok-parts.parts.words.items (comment_of c.in_ok-parts.parts.comment) (line_of c.in-Ok.line) (rw c.is_inside.ensures at c.in-Ok.ensures.class) c.in-Ok.ensures.tokens c.in_ok-parts.ensures.filled
+returns-in-Ok-clause-filled c = line_filled c.args.place.inside c.args.first c.args.text.now
+    c.in_ok-parts.parts.words.items (comment_of c.in_ok-parts.parts.comment) (line_of c.in-Ok.line)
+    (rw c.is_inside.ensures at c.in-Ok.ensures.class) c.in-Ok.ensures.tokens c.in_ok-parts.ensures.filled
 
 pub returns-in-Err-clause-read : goal.returns-in-Err-clause-read
-returns-in-Err-clause-read c = one_misplaced c.args.place.inside c.args.text.now (words_of c.in_ok-parts.parts.words.items) (comment_of c.in_ok-parts.parts.comment) c.in_ok-parts.ensures.read c.in-Err.kind (rw c.is_inside.ensures at c.in-Err.ensures.class)
+returns-in-Err-clause-read c = one_misplaced c.args.place.inside c.args.text.now
+    (words_of c.in_ok-parts.parts.words.items) (comment_of c.in_ok-parts.parts.comment) c.in_ok-parts.ensures.read
+    c.in-Err.kind (rw c.is_inside.ensures at c.in-Err.ensures.class)

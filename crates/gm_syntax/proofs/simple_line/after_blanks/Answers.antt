@@ -11,6 +11,7 @@ pub loop-rest-preserved : goal.loop-rest-preserved
 loop-rest-preserved c =
     let begins : BeginsBlank c.loop-rest.rest.now = rw c.as_bytes.ensures.value at c.begins_blank.ensures c.loop-rest-test.true in
     record {
-      utf8 = rw c.split_at.ensures.back (cut c.loop-rest.rest.now 1 c.loop-rest.invariant.utf8 (blank_first c.loop-rest.rest.now c.loop-rest.invariant.utf8 begins)).1;
+      utf8 = rw c.split_at.ensures.back (cut c.loop-rest.rest.now 1 c.loop-rest.invariant.utf8
+          (blank_first c.loop-rest.rest.now c.loop-rest.invariant.utf8 begins)).1;
       blanks = one_more_blank c.args.text.now c.loop-rest.rest.now c.split_at.result.1.now c.loop-rest.invariant.blanks begins c.split_at.ensures.back;
     }

@@ -6,7 +6,8 @@ use Rattle.gm_syntax.proofs.spell.string_value.Goals as goal
 use Rattle.gm_syntax.proofs.spell.string_value.Goals.{After-split_at-2}
 
 whole : (c : After-split_at-2) → Inside c.args.text.now c.split_at.result.1.now c.split_at-2.result.0.now c.requires.0
-whole c = inside_at c.args.text.now c.requires.0 c.split_at.result.1.now c.split_at-2.result.0.now c.requires.1 c.split_at.ensures.back c.split_at-2.ensures.front
+whole c = inside_at c.args.text.now c.requires.0 c.split_at.result.1.now c.split_at-2.result.0.now c.requires.1
+    c.split_at.ensures.back c.split_at-2.ensures.front
 
 pub split_at-requires : goal.split_at-requires
 split_at-requires c = first_boundary c.args.text.now _ _ _ (inside_at c.args.text.now c.requires.0 _ _ c.requires.1 refl refl) c.utf8.text
@@ -19,16 +20,25 @@ split_at-requires-2 c =
     last_boundary c.args.text.now rest _ _ i utf8
 
 pub returns-then-as_bytes-eq96 : goal.returns-then-as_bytes-eq96
-returns-then-as_bytes-eq96 c = raw_string _ _ _ _ (whole (goal.at.returns-then-as_bytes-eq96 c).After-split_at-2) (ap (λ (t : List ℕ). get_or t 0 0) (sym c.as_bytes.ensures.value) ∙ c.if-as_bytes-eq96.true)
+returns-then-as_bytes-eq96 c = raw_string _ _ _ _ (whole (goal.at.returns-then-as_bytes-eq96 c).After-split_at-2)
+    (ap (λ (t : List ℕ). get_or t 0 0) (sym c.as_bytes.ensures.value) ∙ c.if-as_bytes-eq96.true)
 
 pub returns-then-plain_len-inside : goal.returns-then-plain_len-inside
 returns-then-plain_len-inside c =
     let inside = c.split_at-2.result.0.now in
     let plain : plain_len inside ≡ length inside = ap plain_len (sym c.as_bytes-2.ensures.value) ∙ sym c.plain_len.ensures.value ∙ c.if-plain_len-inside.true in
-    quoted_string _ _ _ _ inside (whole (goal.at.returns-then-plain_len-inside c).After-split_at-2) (λ e. c.if-as_bytes-eq96.false (ap (λ (t : List ℕ). get_or t 0 0) c.as_bytes.ensures.value ∙ e)) (sym (plain_all inside plain))
+    quoted_string _ _ _ _ inside (whole (goal.at.returns-then-plain_len-inside c).After-split_at-2)
+    (λ e. c.if-as_bytes-eq96.false (ap (λ (t : List ℕ). get_or t 0 0) c.as_bytes.ensures.value ∙ e))
+    (sym (plain_all inside plain))
 
 pub unescaped-requires : goal.unescaped-requires
-unescaped-requires c = (c.requires.0, in_quotes_of _ _ _ _ (whole (goal.at.unescaped-requires c).After-split_at-2) (λ e. c.if-as_bytes-eq96.false (ap (λ (t : List ℕ). get_or t 0 0) c.as_bytes.ensures.value ∙ e)))
+unescaped-requires c = (
+  c.requires.0,
+  in_quotes_of _ _ _ _ (whole (goal.at.unescaped-requires c).After-split_at-2)
+      (λ e. c.if-as_bytes-eq96.false (ap (λ (t : List ℕ). get_or t 0 0) c.as_bytes.ensures.value ∙ e)),
+)
 
 pub returns : goal.returns
-returns c = quoted_string _ _ _ _ _ (whole (goal.at.returns c).After-split_at-2) (λ e. c.if-as_bytes-eq96.false (ap (λ (t : List ℕ). get_or t 0 0) c.as_bytes.ensures.value ∙ e)) c.in_ok-unescaped.ensures
+returns c = quoted_string _ _ _ _ _ (whole (goal.at.returns c).After-split_at-2)
+    (λ e. c.if-as_bytes-eq96.false (ap (λ (t : List ℕ). get_or t 0 0) c.as_bytes.ensures.value ∙ e))
+    c.in_ok-unescaped.ensures

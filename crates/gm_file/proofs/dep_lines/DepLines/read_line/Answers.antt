@@ -10,7 +10,8 @@ returns-in_err-read_line-clause-read c = λ lines so.
     let block = option_map (λ t. t.now.word) c.as_ref-block.result in
     let same : block ≡ word_of c.args.self.now.block = word-behind c.as_ref-block.result ∙ ap word_of c.as_ref-block.ensures.value in
     let p = err_from_is_err_and c.from_residual.result c.from_residual.ensures.1 in
-    rw (p.1, p.2) (dep-fault lines (plain (line_of c.args.line.now)) block c.args.self.now c.read_line.new.self c.in_err-read_line.field-0.0 so same c.in_err-read_line.ensures.added)
+    rw (p.1, p.2) (dep-fault lines (plain (line_of c.args.line.now)) block c.args.self.now c.read_line.new.self
+    c.in_err-read_line.field-0.0 so same c.in_err-read_line.ensures.added)
 
 pub returns-clause-read : goal.returns-clause-read
 returns-clause-read c = λ lines so.

@@ -14,5 +14,6 @@ returns-in_default-clause-added c = λ ds holds.
 pub returns-clause-added : goal.returns-clause-added
 returns-clause-added c = λ ds holds. (
   say-go holds c.args.text.now c.in-Some.numbers (sym c.is_some.ensures ∙ c.if-is_some.false) (sym c.go_in.ensures ∙ c.in-Some.is),
-  go-right (mode_view c.args.mode) ds c.args.text.now c.in-Some.numbers (holds.is_given ∙ sym c.is_some.ensures ∙ c.if-is_some.false) (sym c.go_in.ensures ∙ c.in-Some.is),
+  go-right (mode_view c.args.mode) ds c.args.text.now c.in-Some.numbers
+      (holds.is_given ∙ sym c.is_some.ensures ∙ c.if-is_some.false) (sym c.go_in.ensures ∙ c.in-Some.is),
 )

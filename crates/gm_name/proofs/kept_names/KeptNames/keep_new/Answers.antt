@@ -12,7 +12,8 @@ pub returns-clause-keeps : goal.returns-clause-keeps
 returns-clause-keeps g c = λ t.
     let old = c.args.self.now in
     let T = g.row.T.Denot in
-    let grown : c.push.new.self.items ≡ old.names.items ++ c.args.name ∷ [] = c.in_ok-push.ensures.items ∙ ap (λ (vs : List T). vs ++ c.args.name ∷ []) c.in_ok-reserve.ensures.items in
+    let grown : c.push.new.self.items ≡ old.names.items ++ c.args.name ∷ [] =
+    c.in_ok-push.ensures.items ∙ ap (λ (vs : List T). vs ++ c.args.name ∷ []) c.in_ok-reserve.ensures.items in
     let place : c.len.result ≡ length old.names.items = c.len.ensures ∙ c.reserve.ensures.len ∙ old.names.ok.0 in
     let puts : place_under c.put.new.self t ≡ cond (nat_eq c.args.tag t) (Some (length old.names.items)) (place_under old.places t) =
     c.in_ok-put.ensures.put t ∙ ap (λ (m : ℕ). cond (nat_eq c.args.tag t) (Some m) (place_under old.places t)) place in

@@ -22,4 +22,7 @@ returns-in-Some c =
     let at = c.in-Some.at in
     let some = c.in-Some.at-test.1 in
     let counted = c.range.ensures.len in
-    below_folder (drop (at + 1) c.args.file.now) (omega arith) (take_drop-at c.args.file.now at last.0 last.1 ∙ ap (λ front. front ++ codes "/" ++ drop (at + 1) c.args.file.now) (whole_take c.args.file.now at ∙ sym c.range.ensures.value)) (no_later_slash c.args.file.now at last.0 last.2)
+    below_folder (drop (at + 1) c.args.file.now) (omega arith)
+    (take_drop-at c.args.file.now at last.0 last.1 ∙ ap
+    (λ front. front ++ codes "/" ++ drop (at + 1) c.args.file.now)
+    (whole_take c.args.file.now at ∙ sym c.range.ensures.value)) (no_later_slash c.args.file.now at last.0 last.2)

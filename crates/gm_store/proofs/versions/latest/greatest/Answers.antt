@@ -11,9 +11,13 @@ loop-version-preserved c =
     let kept = λ (best : Option (Bor (List ℕ))). IsGreatestOrNone only (take (c.loop-version.version-index + 1) xs) (option_map (λ best. best.now) best) in
     elim c.if-is_better.branch [
       | then-is_better w ↦ subst kept (sym w.best-is)
-          (step_more only xs c.loop-version.version-index c.version-item.result _ c.is_better.result c.loop-version-test.true c.version-item.is c.is_better.ensures w.if-is_better.true c.loop-version.invariant)
+          (step_more only xs c.loop-version.version-index c.version-item.result _ c.is_better.result
+          c.loop-version-test.true c.version-item.is c.is_better.ensures w.if-is_better.true
+          c.loop-version.invariant)
       | else-is_better w ↦ subst kept (sym w.best-is)
-          (step_same only xs c.loop-version.version-index c.version-item.result _ c.is_better.result c.loop-version-test.true c.version-item.is c.is_better.ensures w.if-is_better.false c.loop-version.invariant)
+          (step_same only xs c.loop-version.version-index c.version-item.result _ c.is_better.result
+          c.loop-version-test.true c.version-item.is c.is_better.ensures w.if-is_better.false
+          c.loop-version.invariant)
     ]
 
 pub returns : goal.returns

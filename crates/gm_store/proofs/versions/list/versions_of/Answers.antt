@@ -15,6 +15,11 @@ loop-line-preserved c =
 pub returns : goal.returns
 returns c =
     let start = c.into_iter-line-iterator.ensures.into_iter_gives in
-    let end = YieldsList-end (YieldsList-from_slice_split {s = c.into_iter-line-iterator.result} _ is_line_end {f = c.split-line-items.result.pred} c.args.text.now (rw start c.split-line-items.ensures.rest) (rw start c.split-line-items.ensures.done) (rw start refl) (λ x r q k. search (rules, tests))) c.loop-line.yielded _ c.loop-line.yielded_by _ _ c.in-None.is c.next.ensures.steps in
+    let end = YieldsList-end (YieldsList-from_slice_split {s = c.into_iter-line-iterator.result} _ is_line_end
+    {f = c.split-line-items.result.pred} c.args.text.now (rw start c.split-line-items.ensures.rest)
+    (rw start c.split-line-items.ensures.done) (rw start refl) (λ x r q k. search (rules, tests)))
+    c.loop-line.yielded _ c.loop-line.yielded_by _ _ c.in-None.is c.next.ensures.steps in
     rw (dedup_is _ _ _ c.dedup.ensures.filtered)
-    (listed_from c.args.path.now c.args.text.now c.loop-line.versions.items _ (subst (λ lines. HoldsListable c.args.path.now (map first_word lines) c.loop-line.versions.items) end.0 c.loop-line.invariant) c.sort_versions.ensures.permutation c.sort_versions.ensures.sorted)
+    (listed_from c.args.path.now c.args.text.now c.loop-line.versions.items _
+    (subst (λ lines. HoldsListable c.args.path.now (map first_word lines) c.loop-line.versions.items) end.0
+    c.loop-line.invariant) c.sort_versions.ensures.permutation c.sort_versions.ensures.sorted)

@@ -18,8 +18,12 @@ loop-line-preserved c = record {
   read = λ lines so.
       let read = c.loop-line.invariant.read lines so in
       let last = line_of c.in-Some.line ∷ [] in
-      let more = one_more c.next.new.self (lines ++ read.0) c.in_ok-line.field-0 c.in-Some.line c.in-Some.is (c.in_ok-line.ensures.next (lines ++ read.0) read.1) in
-      (read.0 ++ last, subst (λ (left : Unread). HasRead left (lines ++ (read.0 ++ last))) (sym c.recycle.ensures) (subst (HasRead c.next.new.self) (append_assoc lines read.0 last) more));
+      let more = one_more c.next.new.self (lines ++ read.0) c.in_ok-line.field-0 c.in-Some.line c.in-Some.is
+      (c.in_ok-line.ensures.next (lines ++ read.0) read.1) in (
+        read.0 ++ last,
+        subst (λ (left : Unread). HasRead left (lines ++ (read.0 ++ last))) (sym c.recycle.ensures)
+            (subst (HasRead c.next.new.self) (append_assoc lines read.0 last) more),
+      );
 }
 
 pub returns-clause-rest : goal.returns-clause-rest

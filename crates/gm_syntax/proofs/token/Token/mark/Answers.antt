@@ -5,4 +5,5 @@ use Rattle.gm_syntax.proofs.NewWords.{mark_stands}
 use Rattle.gm_syntax.proofs.token.Token.mark.Goals as goal
 
 pub invariant_of-result : goal.invariant_of-result
-invariant_of-result c = subst (λ (l : List ℕ). IsShaped (record { kind = Mark; spelling = l })) (sym (c.in_ok-from_str.ensures.ok ∙ c.mark_text.ensures)) (mark_stands c.args.punct).0
+invariant_of-result c = subst (λ (l : List ℕ). IsShaped (record { kind = Mark; spelling = l }))
+    (sym (c.in_ok-from_str.ensures.ok ∙ c.mark_text.ensures)) (mark_stands c.args.punct).0

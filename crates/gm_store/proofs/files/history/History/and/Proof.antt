@@ -52,4 +52,5 @@ and_spec 𝓤 𝓛 𝓜 𝓡 wired =
     sets ! (agg ! (no_more !)) refl (tt, tt) $ nothing ! $ empty_made ! $ fjoin ! $
     returns ! (look_at ! 0 refl) $ free_all ! refl $
     suffices ! _ (ends_at 𝓛 f.ended stayed c y empty made (tt, (tt, (tt, tt))) (tt, (tt, (tt, tt)))) $
-    nothing ! $ nothing ! $ fjoin ! $ nothing ! $ fjoin ! $ nothing ! $ fjoin ! $ move ! (2 ∷ 0 ∷ 1 ∷ []) $ group ! 3 $ frame ! $ says ! refl $ by ! (fact_i 𝓤 _ _ refl)))
+    nothing ! $ nothing ! $ fjoin ! $ nothing ! $ fjoin ! $ nothing ! $ fjoin ! $ move ! (2 ∷ 0 ∷ 1 ∷ []) $ group ! 3 $
+    frame ! $ says ! refl $ by ! (fact_i 𝓤 _ _ refl)))

@@ -13,7 +13,8 @@ fits limit xs h = grind arith
 exceeds : (limit : ℕ) (xs : List ℕ) → limit < length xs → (if nat_le (length xs) limit then found xs else too_long) ≡ too_long
 exceeds limit xs h = grind arith
 
-seen_short : (held : Option Held) (bytes : Vec ℕ Global) → held ≡ Some (Content bytes) → length bytes.items ≤ 16777216 → found bytes.items ≡ result_for_file held
+seen_short : (held : Option Held) (bytes : Vec ℕ Global) → held ≡ Some (Content bytes) → length bytes.items ≤ 16777216
+    → found bytes.items ≡ result_for_file held
 seen_short held bytes e h = sym (ap result_for_file e ∙ fits 16777216 bytes.items h)
 
 seen_long : (held : Option Held) (bytes : Vec ℕ Global) → held ≡ Some (Content bytes) → 16777216 < length bytes.items → too_long ≡ result_for_file held
@@ -24,7 +25,8 @@ returns-in-None-clause-contents c = sym (ap result_for_file (sym (c.in-None.ensu
 
 pub returns-in-Some-Broken-clause-contents : goal.returns-in-Some-Broken-clause-contents
 returns-in-Some-Broken-clause-contents c =
-    sym (ap result_for_file (sym (c.in-Some-Broken.ensures.value ∙ found_by c.args.name.now c.args.self.now.held.entries) ∙ ap Some c.in-Some-Broken.field-0-is))
+    sym (ap result_for_file (sym (c.in-Some-Broken.ensures.value
+    ∙ found_by c.args.name.now c.args.self.now.held.entries) ∙ ap Some c.in-Some-Broken.field-0-is))
 
 pub returns-then-len-gt-LIMIT-clause-contents : goal.returns-then-len-gt-LIMIT-clause-contents
 returns-then-len-gt-LIMIT-clause-contents c =
