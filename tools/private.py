@@ -18,13 +18,11 @@ PAGE = "page"
 # crates whose private definitions don't stand apart yet
 NOT_MOVED = set("""
 gm_graph gm_graph_select gm_file_edit gomod_words gomod_run
-gomod_laws
 """.split())
 
 # names of two or more files of specs/ that are to have one meaning or another name
 SHARED = set("""
-HasList IsFileOf IsPlaceOf KeepsTurns LeadsTo Says Visits folders_in left_by left_in left_words line_text operations_in
-run_of words_of
+IsFileOf IsPlaceOf KeepsTurns Visits folders_in left_by left_in left_words line_text operations_in words_of
 """.split())
 
 DECLARATION = re.compile(r"(?:(?:abbrev|unfoldable|pub) )*(?:(?:data|record) )?([^\s:(){}]+)(?= :| \(| \{|$)")
@@ -33,7 +31,8 @@ USE = re.compile(r"(?ms)^ *((?:unfoldable |pub |ghost )*)use (Rattle\.[\w.]+?)(?
 NAME = r"[^\s(){}\[\],;.λ⟦⟧|\"]+"
 PATH = re.compile(rf"{NAME}(?:\.{NAME})*")
 RUST_USE = re.compile(r"(?ms)^ *(?:pub(?:\(crate\))? )?use ([^;{]+?)(?:::\{([^;]*)\})?(?: as (\w+))?;")
-ITEM = r"(?m)^{}(?:(pub(?:\([^)]*\))?) )?(?:unsafe |default )?(ghost|fn|struct|enum|trait|impl|type|const|static|mod|use)\b"
+KINDS = "ghost|fn|struct|enum|trait|impl|type|const|static|mod|use"
+ITEM = rf"(?m)^{{}}(?:(pub(?:\([^)]*\))?) )?(?:unsafe |default )?({KINDS})\b"
 HEAD_END = r"(?m)^{}(?! )[^\n]*(?:\{{|\{{\}}|;)$"
 CLAUSE = re.compile(r"(?m)^ +(?:requires|ensures)\b")
 

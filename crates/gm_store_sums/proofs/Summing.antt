@@ -15,7 +15,7 @@ use Rattle.std.specs.Prelude.{◌↔◌, Contains, nat_eq, if◌then◌else◌}
 use Rattle.std.specs.Str.{bytes_eq}
 use Rattle.gm_name.specs.Lines.{fields, lines}
 use Rattle.gm_store_sums.specs.Private.Lines.{AddsGiven, Gives, HoldsSums}
-use Rattle.gm_store_sums.specs.Sums.{HasValidLines, IsSum, Says, are_valid_fields, is_line_for, is_other_hash, lines_before_invalid}
+use Rattle.gm_store_sums.specs.Sums.{HasValidLines, IsSum, SaysOfHash, are_valid_fields, is_line_for, is_other_hash, lines_before_invalid}
 use Rattle.gm_store_sums.specs.declared.sum_table.Sum.TheVariants.{Good, Unlisted, Differs}
 use Rattle.gm_name.proofs.Logic.{cases, or-left}
 
@@ -196,7 +196,7 @@ same_hash path version hash other e = same_by (bytes_eq other hash) (is_line_for
 -- lookups in a table say what the text says
 says_step : (text path version hash : List ℕ) (sums : List Triple) (listed other : Bool) → HoldsSums sums text
     → list_any (is_line_for path version) sums ≡ listed → list_any (is_other_hash path version hash) sums ≡ other
-    → Says text path version hash (if not listed then Unlisted else (if other then Differs else Good))
+    → SaysOfHash text path version hash (if not listed then Unlisted else (if other then Differs else Good))
 says_step text path version hash sums false other holds e f = λ h is.
     let never : true ≡ false = sym (is_for path version h) ∙ any_none (is_line_for path version) sums e (path, version, h) ((holds path version h).1 is) in
     cc never
@@ -222,7 +222,7 @@ holds_moved text sums moved change holds = λ path version hash. (
 )
 
 pub says : (text path version hash : List ℕ) (sums : List Triple) → HoldsSums sums text
-    → Says text path version hash (if not (list_any (is_line_for path version) sums) then Unlisted
+    → SaysOfHash text path version hash (if not (list_any (is_line_for path version) sums) then Unlisted
     else (if list_any (is_other_hash path version hash) sums then Differs else Good))
 says text path version hash sums holds = says_step text path version hash sums
     (list_any (is_line_for path version) sums) (list_any (is_other_hash path version hash) sums) holds refl refl

@@ -34,10 +34,10 @@ pub record IsSum (text path version hash : List ℕ) : Type 0 where
 
 -- what the text says about a hash: `Unlisted` if it lists none, `Differs` if it lists another, even in addition
 -- to this one
-abbrev pub Says : List ℕ → List ℕ → List ℕ → List ℕ → Sum → Type 0
-Says text path version hash Unlisted = (other : List ℕ) → ¬ (IsSum text path version other)
-Says text path version hash Differs = (other : List ℕ) × IsSum text path version other × (other ≢ hash)
-Says text path version hash Good = IsSum text path version hash
+abbrev pub SaysOfHash : List ℕ → List ℕ → List ℕ → List ℕ → Sum → Type 0
+SaysOfHash text path version hash Unlisted = (other : List ℕ) → ¬ (IsSum text path version other)
+SaysOfHash text path version hash Differs = (other : List ℕ) × IsSum text path version other × (other ≢ hash)
+SaysOfHash text path version hash Good = IsSum text path version hash
     × ((other : List ℕ) → IsSum text path version other → other ≡ hash)
 
 -- ---- the table
@@ -60,4 +60,4 @@ check_in sums path version hash = if not (list_any (is_line_for path version) su
 
 -- the table says about each hash what the text says
 abbrev pub ReadsAs : Sums → List ℕ → Type 0
-ReadsAs sums text = (path version hash : List ℕ) → Says text path version hash (check_in sums path version hash)
+ReadsAs sums text = (path version hash : List ℕ) → SaysOfHash text path version hash (check_in sums path version hash)

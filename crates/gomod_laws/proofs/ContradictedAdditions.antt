@@ -16,7 +16,7 @@ use Rattle.gomod_run.specs.Outcome.{Outcome, text_outcome}
 use Rattle.gomod_run.specs.ListingTexts.{edge_text}
 use Rattle.gomod_laws.specs.CounterAdditions.{ChainIsByNoLine, ChainIsToAnother, LineIsLost, RowIsLower, ShowA, UnlistedIsShown, chain_by_b, chain_to_b}
 use Rattle.gomod_laws.specs.Counterexamples.{a_one}
-use Rattle.gomod_laws.specs.RowLaws.{IsExplained, LeadsTo, further, here, text_of}
+use Rattle.gomod_laws.specs.RowLaws.{IsExplained, AreChained, further, here, text_of}
 use Rattle.gomod_laws.proofs.Contradicted.{edge_to, edges_are, list_main, only_row, row_there}
 use Rattle.gomod_laws.proofs.KnownVersions.{first_byte, one_one, one_one_is, one_one_is_above, one_zero, one_zero_is, versions_differ}
 use Rattle.gomod_laws.proofs.ShownTexts.{same_text}
@@ -52,7 +52,7 @@ abbrev the_line : List ℕ
 the_line = codes "m a.b@v1.0.0"
 
 abbrev Ways : List ℕ → List (List ℕ) → Type 0
-Ways last lines = LeadsTo (the_line ∷ []) (codes "m") last lines
+Ways last lines = AreChained (the_line ∷ []) (codes "m") last lines
 
 line_only : (text : List ℕ) → Contains (the_line ∷ []) text → the_line ≡ text
 line_only text there = elim (member_cases the_line text [] there) [
@@ -96,10 +96,10 @@ module _ (rows : List Entry) (edges : List Edge) (main : Main) (list_run graph_r
       let own : main.path ≡ codes "m" = list_main list_run main one_zero rows show.in_list in
       let are : edges ≡ edge_to one_zero ∷ [] = edges_are graph_run main one_zero one_zero_is edges show.in_graph in
       let (lines, leads, says) = law.row (Of a_one, its) there refl in
-      let way : LeadsTo (map (edge_text main.path) (edge_to one_zero ∷ [])) main.path (codes "a.b@v1.0.0") lines =
-      subst (λ (es : List Edge). LeadsTo (map (edge_text main.path) es) main.path (codes "a.b@v1.0.0") lines) are leads in
+      let way : AreChained (map (edge_text main.path) (edge_to one_zero ∷ [])) main.path (codes "a.b@v1.0.0") lines =
+      subst (λ (es : List Edge). AreChained (map (edge_text main.path) es) main.path (codes "a.b@v1.0.0") lines) are leads in
       let by_line : Ways (codes "a.b@v1.0.0") lines =
-      subst (λ (m : List ℕ). LeadsTo (map (edge_text m) (edge_to one_zero ∷ [])) m (codes "a.b@v1.0.0") lines) own way in
+      subst (λ (m : List ℕ). AreChained (map (edge_text m) (edge_to one_zero ∷ [])) m (codes "a.b@v1.0.0") lines) own way in
       says ∙ ap (λ (ls : List (List ℕ)). text_outcome (text_of ls)) (way_to_a (codes "a.b@v1.0.0") lines by_line refl)
 
   no_row_of_b : (row : Entry) → Contains rows row → path_of main.path row.0 ≡ codes "b.c" → ⊥

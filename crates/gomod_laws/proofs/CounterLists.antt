@@ -30,7 +30,7 @@ use Rattle.gomod_run.proofs.PrintedList.{all_rows, texts_join}
 use Rattle.gomod_run.proofs.RunNames.{run_has_names, run_has_proper_rows}
 use Rattle.gomod_words.specs.declared.usage.Command.TheVariants.{List as Rows}
 use Rattle.gomod_laws.specs.Counterexamples.{a_one, list_of_a}
-use Rattle.gomod_laws.specs.CounterListings.{IsRequiredBy, MainIsMissing, PageHasAnotherRow, PageIsMissing, PartHasAnotherRow, PartIsTheWhole, PartIsTooLong, PathIsTwice, RequiredHasNoRow, RowIsNotRequired, RowIsTooLow, RowsAreUnordered, a_two, b_one}
+use Rattle.gomod_laws.specs.CounterListings.{IsRequiredBy, MainIsMissing, PageHasAnotherRow, PageIsMissing, PartHasAnotherRow, PartIsTheWhole, PartIsTooLong, PathIsTwice, RequiredHasNoRow, RowIsNotRequired, RowIsTooLow, RowsAreUnordered, a_two}
 use Rattle.gomod_laws.proofs.Contradicted.{a_is_path, b_is_path, other_name}
 use Rattle.gomod_laws.proofs.KnownVersions.{one_one_is, one_one_is_above, one_zero_is}
 use Rattle.gomod_laws.proofs.PrintedRow.{limited_member, printed_rows, spread_main}
@@ -44,6 +44,9 @@ each_of P (y ∷ xs) all x there = elim (member_cases y x xs there) [
   | inl same ↦ subst P same all.0
   | inr later ↦ each_of P xs all.1 x later
 ]
+
+abbrev pub b_one : ModuleVersion
+b_one = (codes "b.c", codes "v1.0.0")
 
 -- the row of a module that is not replaced
 abbrev row_at : ModuleVersion → Entry

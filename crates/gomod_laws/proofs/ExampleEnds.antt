@@ -82,7 +82,7 @@ none_settled = record {
   few = none_few;
 }
 
-alone_listed : ListEnds None None (example.run_of alone [] []) (text_outcome (codes "m\n"))
+alone_listed : ListEnds None None (example.run_without_sums alone [] []) (text_outcome (codes "m\n"))
 alone_listed =
     no_fault (main_requiring []) None
     (record { read = record { main_file = files_are_read.one; sums = tt }; settled = none_settled; faults_are = none_faulty; none_failed = refl })
@@ -91,7 +91,7 @@ alone_listed =
 pub is_listed_alone : IsListedAlone
 is_listed_alone = record {
   listed = alone_listed;
-  only = λ outcome is. one_outcome (Rows None None) (example.run_of alone [] []) outcome (text_outcome (codes "m\n")) is alone_listed;
+  only = λ outcome is. one_outcome (Rows None None) (example.run_without_sums alone [] []) outcome (text_outcome (codes "m\n")) is alone_listed;
 }
 
 -- ---- a go.sum with a line of two fields
@@ -200,7 +200,7 @@ module _ (asked : List (Name × Reply)) (refusals : List Name) (silent : IsSilen
       let same = the_main again table read in
       subst (λ (m : Main). P (run_of m None asked)) same.0 (subst (λ (t : Option Sums). P (run_of again t asked)) same.1 is)
 
-  not_found : (again : Main) (table : Option Sums) (faults : List Fault) → AreFound (example.run_of requiring asked refusals) again table faults → ⊥
+  not_found : (again : Main) (table : Option Sums) (faults : List Fault) → AreFound (example.run_without_sums requiring asked refusals) again table faults → ⊥
   not_found again table faults found =
       not_settled (here (λ (r : Run). IsSettled r (names_in asked)) again table found.read found.settled) found.none_failed
 

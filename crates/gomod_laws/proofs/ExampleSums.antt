@@ -2,7 +2,7 @@
 use Rattle.std.proofs.Common.{◌≡◌, ◌∷◌, ℕ, true, List, [], Contains, ap, arith, codes, drop, inl, inr, length, nat_eq, refl, subst, sym}
 use Rattle.std.specs.List.{starts_with}
 use Rattle.std.proofs.lemmas.Bool.{false≢true}
-use Rattle.gm_store_sums.specs.Sums.{IsSum, Says}
+use Rattle.gm_store_sums.specs.Sums.{IsSum, SaysOfHash}
 use Rattle.gm_store_sums.specs.declared.sum_table.Sum.{Sum}
 use Rattle.gm_store_sums.specs.declared.sum_table.Sum.TheVariants.{Good, Unlisted, Differs}
 use Rattle.gm_graph_select.proofs.Ascending.{member_cases, no_member}
@@ -12,10 +12,10 @@ use Rattle.gomod_laws.proofs.KnownVersions.{first_byte}
 
 -- ---- a go.sum says one thing of a hash
 
-says_only : (text version hash : List ℕ) (sum : Sum) → Says text (codes "a.b") version hash sum → SaysOnly text version hash sum
+says_only : (text version hash : List ℕ) (sum : Sum) → SaysOfHash text (codes "a.b") version hash sum → SaysOnly text version hash sum
 says_only text version hash sum is other = (
   λ says. one_says text (codes "a.b") version hash other sum says is,
-  λ same. subst (λ (one : Sum). Says text (codes "a.b") version hash one) (sym same) is,
+  λ same. subst (λ (one : Sum). SaysOfHash text (codes "a.b") version hash one) (sym same) is,
 )
 
 -- ---- fields

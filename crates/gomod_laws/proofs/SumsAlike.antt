@@ -4,7 +4,7 @@ use Rattle.std.proofs.lemmas.Bool.{false≢true}
 use Rattle.gm_file.specs.Fields.{Dependency}
 use Rattle.gm_store.specs.Asked.{Name, Reply, answer_in, folder_file, list_file, mod_file, names_in}
 use Rattle.gm_store_sums.specs.Hash.{file_hash}
-use Rattle.gm_store_sums.specs.Sums.{HasValidLines, IsSum, ReadsAs, Says as SumSays, Sums, check_in}
+use Rattle.gm_store_sums.specs.Sums.{HasValidLines, IsSum, ReadsAs, SaysOfHash as SaysOfHash, Sums, check_in}
 use Rattle.gm_store_sums.specs.declared.sum_table.Sum.{Sum}
 use Rattle.gm_store_sums.specs.declared.sum_table.Sum.TheVariants.{Differs, Good, Unlisted}
 use Rattle.gm_file.specs.Main.{Main, IsMainFile}
@@ -38,7 +38,7 @@ use Rattle.gomod_laws.proofs.SumsOutcomes.{QueryEndsOver, sum_table}
 abbrev HaveSame : List ℕ → List ℕ → List ℕ → List ℕ → Type 0
 HaveSame one other path version = (hash : List ℕ) → IsSum one path version hash ↔ IsSum other path version hash
 
-says_too : (one other path version hash : List ℕ) (sum : Sum) → HaveSame one other path version → SumSays one path version hash sum → SumSays other path version hash sum
+says_too : (one other path version hash : List ℕ) (sum : Sum) → HaveSame one other path version → SaysOfHash one path version hash sum → SaysOfHash other path version hash sum
 says_too one other path version hash Unlisted same is = λ h there. is h ((same h).1 there)
 says_too one other path version hash Differs same is = (is.0, (same is.0).0 is.1, is.2)
 says_too one other path version hash Good same is = ((same hash).0 is.0, λ h there. is.1 h ((same h).1 there))

@@ -3,7 +3,7 @@ use Rattle.std.proofs.Common.{◌≡◌, ◌∙◌, List, [], Option, Some, None
 use Rattle.gm_file.specs.Fields.{Dependency}
 use Rattle.gm_store.specs.Asked.{Name, Reply, absent, answer_in, bytes, folder_file, list_file, mod_file, names_in, too_long}
 use Rattle.gm_store_sums.specs.Hash.{file_hash}
-use Rattle.gm_store_sums.specs.Sums.{ReadsAs, Says as SumSays, Sums, check_in}
+use Rattle.gm_store_sums.specs.Sums.{ReadsAs, SaysOfHash as SaysOfHash, Sums, check_in}
 use Rattle.gm_store_sums.specs.declared.sum_table.Sum.TheVariants.{Good}
 use Rattle.gm_graph.specs.declared.cache.class.Class.{Class}
 use Rattle.gm_graph.specs.declared.fault.Fault.{Fault}
@@ -96,7 +96,7 @@ module _ (main : Main) (table : Option Sums) (asked : List (Name × Reply))
 
 -- the right hash of a file, if it comes from a proxy, and no other
 abbrev pub IsRightFor : List ℕ → Name → List ℕ → Type 0
-IsRightFor text (mod_file path version) content = SumSays text path version (file_hash content) Good
+IsRightFor text (mod_file path version) content = SaysOfHash text path version (file_hash content) Good
 IsRightFor text (folder_file folder) content = Unit {0}
 IsRightFor text (list_file path) content = Unit {0}
 

@@ -11,9 +11,6 @@ use Rattle.gomod_laws.specs.Counterexamples.{a_one, chain_to_a, graph_of_a, list
 abbrev pub a_two : ModuleVersion
 a_two = (codes "a.b", codes "v1.1.0")
 
-abbrev pub b_one : ModuleVersion
-b_one = (codes "b.c", codes "v1.0.0")
-
 -- the main file requires that version of that path, and does not exclude it
 abbrev pub IsRequiredBy : Main → ModuleVersion → Type 0
 IsRequiredBy main x = IsTop (run_of main None []) x

@@ -21,8 +21,8 @@ abbrev pub low_name : Name
 low_name = mod_file (codes "low.org") (codes "v1.0.0")
 
 -- a run over these bytes without a go.sum
-abbrev pub run_of : List ℕ → List (Name × Reply) → List Name → Given
-run_of file asked refusals = given_of file None (answers_of asked refusals)
+abbrev pub run_without_sums : List ℕ → List (Name × Reply) → List Name → Given
+run_without_sums file asked refusals = given_of file None (answers_of asked refusals)
 
 -- a main module m without a go version that requires these modules
 abbrev pub main_requiring : List ModuleVersion → Main
@@ -38,13 +38,13 @@ pub record FilesAreRead : Type 0 where
 
 -- A module that requires nothing is listed alone, and nothing else is an outcome.
 pub record IsListedAlone : Type 0 where
-  pub listed : ListEnds None None (run_of alone [] []) (text_outcome (codes "m\n"))
-  pub only : (outcome : Outcome) → ListEnds None None (run_of alone [] []) outcome
+  pub listed : ListEnds None None (run_without_sums alone [] []) (text_outcome (codes "m\n"))
+  pub only : (outcome : Outcome) → ListEnds None None (run_without_sums alone [] []) outcome
       → outcome ≡ text_outcome (codes "m\n")
 
 -- The empty file declares no module.
 abbrev pub EmptyIsRefused : Type 0
-EmptyIsRefused = ListEnds None None (run_of [] [] []) (refusal_outcome (codes "go.mod:0: NoModule\n"))
+EmptyIsRefused = ListEnds None None (run_without_sums [] [] []) (refusal_outcome (codes "go.mod:0: NoModule\n"))
 
 -- a run over `alone` and a go.sum with a line of two fields
 abbrev pub run_with_bad_sum : Given
@@ -58,14 +58,14 @@ pub record BadSumIsRefused : Type 0 where
 
 -- given these answers, `list` on the two lines has no outcome
 abbrev pub HasNoOutcome : List (Name × Reply) → List Name → Type 0
-HasNoOutcome asked refusals = (outcome : Outcome) → ¬ (ListEnds None None (run_of requiring asked refusals) outcome)
+HasNoOutcome asked refusals = (outcome : Outcome) → ¬ (ListEnds None None (run_without_sums requiring asked refusals) outcome)
 
 -- If the required file is missing, that is reported; if the device failed on it, that is. If it was not asked for,
 -- there is no outcome.
 pub record RequiredIsAsked : Type 0 where
-  pub missing : ListEnds None None (run_of requiring ((top_name, absent) ∷ []) [])
+  pub missing : ListEnds None None (run_without_sums requiring ((top_name, absent) ∷ []) [])
       (refusal_outcome (codes "top.org@v1.0.0: Missing\n"))
-  pub device : ListEnds None None (run_of requiring [] (top_name ∷ []))
+  pub device : ListEnds None None (run_without_sums requiring [] (top_name ∷ []))
       (failure_outcome (codes "gomod: device at top.org@v1.0.0\n"))
   pub unasked : HasNoOutcome [] []
   -- nor if the device failed on a file that no opened module has, or on one that was answered: `IsDue` asks for both

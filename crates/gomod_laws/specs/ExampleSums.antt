@@ -1,6 +1,6 @@
 -- Small go.sums, on which the definition of what a go.sum says is tried.
 use Rattle.std.specs.Prelude.{◌≡◌, ◌↔◌, ℕ, List, codes}
-use Rattle.gm_store_sums.specs.Sums.{Says}
+use Rattle.gm_store_sums.specs.Sums.{SaysOfHash}
 use Rattle.gm_store_sums.specs.declared.sum_table.Sum.{Sum}
 use Rattle.gm_store_sums.specs.declared.sum_table.Sum.TheVariants.{Good, Unlisted, Differs}
 
@@ -14,7 +14,7 @@ two_sums = codes "a.b v1.0.0/go.mod h1:A\na.b v1.0.0/go.mod h1:B\n"
 -- the go.sum says this of the hash of a.b's go.mod at this version, and nothing else
 abbrev pub SaysOnly : List ℕ → List ℕ → List ℕ → Sum → Type 0
 SaysOnly text version hash sum =
-    (other : Sum) → Says text (codes "a.b") version hash other ↔ (other ≡ sum)
+    (other : Sum) → SaysOfHash text (codes "a.b") version hash other ↔ (other ≡ sum)
 
 -- The hash that is listed is good, any other differs, even beside it, and another version is not listed. The hash of a
 -- module's files is not that of its go.mod, and a hash of another kind is passed over.

@@ -19,17 +19,17 @@ abbrev pub text_of : List (List ℕ) → List ℕ
 text_of lines = flat_map line lines
 
 -- Lines from the first to the last, of which each two in turn, joined by a space, are among these edges.
-pub data LeadsTo (edges : List (List ℕ)) (first : List ℕ) : List ℕ → List (List ℕ) → Type 0 where
-  here : LeadsTo edges first first (first ∷ [])
-  further : {last : List ℕ} {lines : List (List ℕ)} (next : List ℕ) → LeadsTo edges first last lines
-      → Contains edges (last ++ codes " " ++ next) → LeadsTo edges first next (lines ++ next ∷ [])
+pub data AreChained (edges : List (List ℕ)) (first : List ℕ) : List ℕ → List (List ℕ) → Type 0 where
+  here : AreChained edges first first (first ∷ [])
+  further : {last : List ℕ} {lines : List (List ℕ)} (next : List ℕ) → AreChained edges first last lines
+      → Contains edges (last ++ codes " " ++ next) → AreChained edges first next (lines ++ next ∷ [])
 
 -- What `chain` prints for a path, by the rows of `list` and the lines of `graph`.
 pub record IsExplained (main : List ℕ) (rows : List Entry) (edges : List (List ℕ)) (path : List ℕ)
     (chain : Outcome) : Type 0 where
   -- for the path of a row: lines that lead from the main module to that row's module at its version
   pub row : (entry : Entry) → Contains rows entry → path_of main entry.0 ≡ path
-      → (lines : List (List ℕ)) × LeadsTo edges main (step_text main entry.0) lines
+      → (lines : List (List ℕ)) × AreChained edges main (step_text main entry.0) lines
       × (chain ≡ text_outcome (text_of lines))
   -- for another path: nothing, and it is reported
   pub unlisted : ¬ (HasEntryFor main rows path) → chain ≡ refusal_outcome (not_listed_line path)

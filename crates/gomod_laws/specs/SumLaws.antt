@@ -4,7 +4,7 @@ use Rattle.std.specs.List.{starts_with}
 use Rattle.gm_store.specs.Asked.{Name, Reply, answer_in, bytes, mod_file}
 use Rattle.gm_name.specs.Lines.{fields, lines}
 use Rattle.gm_store_sums.specs.Hash.{file_hash}
-use Rattle.gm_store_sums.specs.Sums.{HasValidLines, Says}
+use Rattle.gm_store_sums.specs.Sums.{HasValidLines, SaysOfHash}
 use Rattle.gm_store_sums.specs.declared.sum_table.Sum.TheVariants.{Good}
 use Rattle.gomod_run.specs.ListingLaws.{AnswerAlike}
 use Rattle.gomod_run.specs.Outcomes.{longest}
@@ -27,7 +27,7 @@ pub record AreRight (main sums : List ℕ) (asked : List (Name × Reply)) : Type
   pub valid : HasValidLines sums
   pub listed : (path version content : List ℕ) → GraphNeeds main None (answer_in asked) (mod_file path version)
       → answer_in asked (mod_file path version) ≡ Some (bytes content)
-      → Says sums path version (file_hash content) Good
+      → SaysOfHash sums path version (file_hash content) Good
 
 -- With such a go.sum a command comes to what it does without one.
 abbrev pub RightSumsChangeNothing : Type 0

@@ -17,7 +17,7 @@ use Rattle.gomod_laws.specs.Runs.{HasOutcome, HasPrinted}
 
 -- The store answered for the list file of the path, and these are the versions that the list names: those that are
 -- canonical, fit the path and are no pseudo-versions, each once, in ascending order.
-pub record HasList (asked : List (Name × Reply)) (path : List ℕ) (versions : List (List ℕ)) : Type 0 where
+pub record ListsVersions (asked : List (Name × Reply)) (path : List ℕ) (versions : List (List ℕ)) : Type 0 where
   pub list : List ℕ
   pub answered : answer_in asked (list_file path) ≡ Some (bytes list)
   pub are : AreListed path list versions
@@ -52,7 +52,7 @@ AreUnretracted asked path versions shown =
 pub record LeavesOutRetracted (asked : List (Name × Reply)) (path : List ℕ) (one other : Outcome) : Type 0 where
   pub versions : List (List ℕ)
   pub shown : List (List ℕ)
-  pub listed : HasList asked path versions
+  pub listed : ListsVersions asked path versions
   pub unretracted : AreUnretracted asked path versions shown
   pub one_prints : one ≡ text_outcome (versions_line path shown)
   pub other_prints : other ≡ text_outcome (versions_line path versions)

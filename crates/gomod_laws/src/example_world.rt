@@ -30,8 +30,9 @@ pub fn answers_tell()
     ensures { AnswersTell }
 {}
 
-/// `Says`: of the go.sum line `a.b v1.0.0/go.mod h1:A`, h1:A is good, h1:B differs, and v1.1.0 is not listed. If the
-/// line of h1:B is there as well, h1:A differs too. Lines without `/go.mod`, and hashes of another kind, list nothing.
+/// `SaysOfHash`: of the go.sum line `a.b v1.0.0/go.mod h1:A`, h1:A is good, h1:B differs, and v1.1.0 is not listed. If
+/// the line of h1:B is there as well, h1:A differs too. Lines without `/go.mod`, and hashes of another kind, list
+/// nothing.
 pub fn sums_say()
     ensures { SumsSay }
 {}

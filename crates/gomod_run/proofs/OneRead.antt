@@ -12,7 +12,7 @@ use Rattle.gm_file.specs.Faults.{Fault, fault_of}
 use Rattle.gm_file.specs.Fields.{Dependency, module_of, go_of, requirements_of, excludes_of, replaces_of}
 use Rattle.gm_store.specs.Asked.{Name, Reply, mod_file, folder_file, list_file, bytes, absent, too_long}
 use Rattle.gm_store_sums.specs.Hash.{file_hash}
-use Rattle.gm_store_sums.specs.Sums.{ReadsAs, Says, Sums, check_in}
+use Rattle.gm_store_sums.specs.Sums.{ReadsAs, SaysOfHash, Sums, check_in}
 use Rattle.gm_store_sums.specs.declared.sum_table.Sum.{Sum}
 use Rattle.gm_store_sums.specs.declared.sum_table.Sum.TheVariants.{Good, Unlisted, Differs}
 use Rattle.gm_file.specs.Main.{Main, IsMainFile, IsMainOf}
@@ -144,7 +144,7 @@ misread_or_sums (Some text) report (Some table) (inl is) other = omega (arith, i
 misread_or_sums (Some text) report (Some table) (inr is) other = let first = is.2.0 in let good = other.1 in omega (arith, first, good)
 
 -- a text says exactly one thing about a hash
-pub one_says : (text path version hash : List ℕ) (a b : Sum) → Says text path version hash a → Says text path version hash b → a ≡ b
+pub one_says : (text path version hash : List ℕ) (a b : Sum) → SaysOfHash text path version hash a → SaysOfHash text path version hash b → a ≡ b
 one_says text path version hash Unlisted Unlisted is other = refl
 one_says text path version hash Unlisted Differs is other = absurd (is other.0 other.1)
 one_says text path version hash Unlisted Good is other = absurd (is hash other.0)
