@@ -24,17 +24,16 @@ use Rattle.gm_graph_select.specs.BuildList.{main_entry, path_cmp}
 use Rattle.gm_graph_select.proofs.Ascending.{member_cases, member_head, no_member}
 use Rattle.gm_graph.specs.Run.{AreFaults, AreOpened, AreRows, AreTooMany, FileSays, IsDue, IsFault, IsNeeded, IsOpened, IsSettled, IsTop, IsVertex, Run, Says, answered, faulty as says_fault, from_deep, from_main, from_top, run_of, sound, unaskable, wrong_path}
 use Rattle.gm_graph.specs.declared.fault.Fault.{Fault}
+use Rattle.gm_graph.proofs.LawProofs.{modules_say_one_thing}
 use Rattle.gomod_run.specs.Outcomes.{AreFound, FilesReadAs, ListEnds, bad_main, bad_sums, device, faulty, no_fault, no_path, too_many}
 use Rattle.gomod_run.specs.Outcome.{text_outcome, refusal_outcome}
 use Rattle.gomod_run.proofs.OneRead.{misread_or_main, one_main}
 use Rattle.gomod_run.proofs.OneStore.{one_outcome}
 use Rattle.gomod_words.specs.declared.usage.Command.TheVariants.{List as Rows}
-use Rattle.gomod_laws.specs.ExampleWorld.{top_one}
-use Rattle.gomod_laws.specs.ExampleRuns.{BadSumIsRefused, EmptyIsRefused, HasNoOutcome, IsListedAlone, RequiredIsAsked, alone, low_name, main_requiring, requiring, run_with_bad_sum, top_name}
+use Rattle.gomod_laws.specs.ExampleRuns.{BadSumIsRefused, EmptyIsRefused, HasNoOutcome, IsListedAlone, RequiredIsAsked, alone, low_name, main_requiring, requiring, run_with_bad_sum, top_name, top_one}
 use Rattle.gomod_laws.specs.ExampleRuns as example
+use Rattle.gomod_laws.proofs.ExampleEdges.{none_opened, pairs_of}
 use Rattle.gomod_laws.proofs.ExampleFiles.{empty_is_malformed, files_are_read}
-use Rattle.gomod_laws.proofs.ExampleSaid.{fault_is}
-use Rattle.gomod_laws.proofs.ExampleWorlds.{fault_with, pairs_of}
 use Rattle.gomod_laws.proofs.KnownVersions.{first_byte}
 
 nothing_twice : IsDistinct same_name []
@@ -46,19 +45,13 @@ nothing_twice = tt
 abbrev lone : Run
 lone = run_of (main_requiring []) None []
 
-none_opened : (x : ModuleVersion) → IsOpened lone x → ⊥
-none_opened x (inl top) = no_member x top
-none_opened x (inr (from_main unpruned top)) = no_member x top
-none_opened y (inr (from_top {x = x} file top says unpruned there)) = no_member x top
-none_opened y (inr (from_deep {x = x} deep requires)) = none_opened x (inr deep)
-
 none_few : (xs : List ModuleVersion) → AreOpened lone xs → length xs ≤ 65536
 none_few [] are = omega arith
-none_few (x ∷ xs) are = absurd (none_opened x (are.each x (member_head x xs)))
+none_few (x ∷ xs) are = absurd (none_opened lone refl x (are.each x (member_head x xs)))
 
 none_leads : (x : ModuleVersion) → IsVertex lone x → ⊥
 none_leads x (FromMain, top) = no_member x top
-none_leads x (Of y, (opens, requires)) = none_opened y opens
+none_leads x (Of y, (opens, requires)) = none_opened lone refl y opens
 
 none_rows : AreRows lone (main_entry ∷ [])
 none_rows = record {
@@ -71,14 +64,14 @@ none_rows = record {
 none_faulty : AreFaults lone []
 none_faulty = record {
   ascending = pairs_of (λ (a b : Fault). pair_cmp a.vertex b.vertex ≡ Less) [] tt;
-  each = λ one. ((λ there. absurd (no_member one there)), λ is. absurd (none_opened one.vertex is.0));
+  each = λ one. ((λ there. absurd (no_member one there)), λ is. absurd (none_opened lone refl one.vertex is.0));
 }
 
 none_settled : IsSettled lone []
 none_settled = record {
   read = λ name reply at. absurd (cc at);
   once = nothing_twice;
-  needed = λ name. ((λ there. absurd (no_member name there)), λ need. absurd (none_opened need.0 need.1));
+  needed = λ name. ((λ there. absurd (no_member name there)), λ need. absurd (none_opened lone refl need.0 need.1));
   few = none_few;
 }
 
@@ -308,6 +301,12 @@ top_is_missing : Says (run_with told) top_one (Err Missing)
 unfolding is_fetchable
 top_is_missing = says_fault (answered absent refl refl refl)
 
+same_fault : (a b : Class) → ◌≡◌ {A = Result Dependency Class} (Err a) (Err b) → a ≡ b
+same_fault a b e = cc e
+
+abbrev fault_with : ModuleVersion → Class → Fault
+fault_with x class = record { vertex = x; class = class }
+
 abbrev top_fault : Fault
 top_fault = fault_with top_one Missing
 
@@ -320,7 +319,7 @@ member_faulty one there = elim (member_cases top_fault one [] there) [
 faulty_member : (one : Fault) → IsFault (run_with told) one → Contains (top_fault ∷ []) one
 faulty_member one (opens, says) =
     let own : one.vertex ≡ top_one = opened_is told missing_silent one.vertex opens in
-    let class : Missing ≡ one.class = fault_is (run_with told) top_one Missing one.class top_is_missing (subst (λ (x : ModuleVersion). Says (run_with told) x (Err one.class)) own says) in
+    let class : Missing ≡ one.class = same_fault Missing one.class (modules_say_one_thing (run_with told) top_one (Err Missing) (Err one.class) top_is_missing (subst (λ (x : ModuleVersion). Says (run_with told) x (Err one.class)) own says)) in
     let same : top_fault ≡ one = ap₂ fault_with (sym own) class in
     subst (Contains (top_fault ∷ [])) same (member_head top_fault [])
 

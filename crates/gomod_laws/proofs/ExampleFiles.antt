@@ -1,119 +1,106 @@
--- The bytes of small main files are read as what they say.
-use Rattle.std.proofs.Common.{◌≡◌, ◌≢◌, ◌∷◌, ◌<◌, ℕ, true, false, IsUtf8, List, [], None, Some, Ok, append-nil, arith, codes, length, refl, subst}
-use Rattle.std.specs.Prelude.{◌==◌, if◌then◌else◌, nat_lt}
-use Rattle.std.specs.List.{AllByRecursion, list_all}
+-- The bytes of small files are read as what they say.
+use Rattle.std.proofs.Common.{◌≡◌, ◌∷◌, ℕ, true, List, [], None, Some, Ok, arith, codes, length, refl}
+use Rattle.std.specs.Prelude.{◌==◌, if◌then◌else◌, map, nat_lt}
 use Rattle.std.specs.Str.{bytes_eq}
-use Rattle.std.proofs.lemmas.Bool.Decides.{nat_tests}
-use Rattle.std.proofs.lemmas.Str.{IsUtf8-from_ascii}
-use Rattle.std.specs.Cmp.{first_so, second_so}
-use Rattle.gm_name.specs.Element.{has_outer_dot, is_dotted_name, is_element, is_path_byte, is_reserved, is_shortened, stem}
+use Rattle.std.proofs.lemmas.Str.{IsUtf8-nil}
+use Rattle.gm_name.specs.Element.{has_outer_dot, is_dotted_name, is_element, is_reserved, is_shortened, stem}
 use Rattle.gm_name.specs.Names.{does_fit, is_path, is_version}
-use Rattle.gm_name.specs.Path.{is_byte_of_path}
 use Rattle.gm_name.specs.Version.{parts_in}
 use Rattle.gm_name.proofs.NameTests.{path-tested, version-tested}
-use Rattle.gm_syntax.specs.Document.{Line, Entry, AreLines, ReadsLines, Whole, start}
-use Rattle.gm_syntax.specs.Layout.{initial_state, layout, layout_from}
+use Rattle.gm_syntax.specs.Document.{Line, ReadsLines, Whole, start}
+use Rattle.gm_syntax.specs.Layout.{layout_from}
 use Rattle.gm_syntax.specs.Private.Layout.{layout_lines}
 use Rattle.gm_syntax.specs.LineViews.{plain_lines}
 use Rattle.gm_syntax.specs.Lines.{lines_of}
 use Rattle.gm_syntax.specs.Parsed.{IsParsedAs}
-use Rattle.gm_syntax.specs.Spelling.{IsWord}
-use Rattle.gm_syntax.specs.Words.{HoldsNoComment, IsBare, Word}
-use Rattle.gm_syntax.proofs.Changes.{entry_stands}
+use Rattle.gm_syntax.specs.Tokens.{Placed}
 use Rattle.gm_syntax.proofs.OneText.{reading_parsed}
 use Rattle.gm_syntax.proofs.Readings.{reading_of}
 use Rattle.gm_file.specs.declared.fault.DirectiveKind.TheVariants.{NoModule}
+use Rattle.gm_file.specs.declared.misreading.Misreading.TheVariants as misreading
 use Rattle.gm_file.specs.Directives.{Lax, Strict, directive_of, item_at}
 use Rattle.gm_file.specs.Faults.{directive_kinds, fault_of, faults}
 use Rattle.gm_file.specs.Fields.{dependency_of}
+use Rattle.gm_file.specs.GoVersions.{first_number, lax_go, lax_go_text, small_number}
 use Rattle.gm_file.specs.Main.{main_of}
-use Rattle.gm_file.specs.declared.misreading.Misreading.TheVariants as misreading
 use Rattle.gm_file.specs.Misreading.{IsMisread}
-use Rattle.gomod_run.proofs.ListLines.{lacks}
-use Rattle.gomod_laws.specs.ExampleRuns.{FilesAreRead, alone, main_requiring, requiring}
-use Rattle.gomod_laws.specs.ExampleWorld.{saying, top_one}
+use Rattle.gomod_laws.specs.ExampleRuns.{FilesAreRead, alone, folder_says, folder_text, main_requiring, requiring, saying, top_file, top_one, top_text}
 use Rattle.gomod_laws.proofs.Contradicted.{m_is_path}
+use Rattle.gomod_laws.proofs.ExampleLines.{laid_parsed, line}
 use Rattle.gomod_laws.proofs.FormattingRead.{placeless}
-use Rattle.gomod_laws.proofs.KnownVersions.{Parts, one_zero_is, one_zero_parts}
-use Rattle.gomod_laws.proofs.ExampleLines.{ascii, bare, doc, laid_parsed, lines, no_arrow, no_comment_before, parsed, word_bytes, words}
+use Rattle.gomod_laws.proofs.KnownVersions.{Parts, one_one_is, one_one_parts, one_ten_is, one_ten_parts, one_zero_is, one_zero_parts}
 
--- ---- words
+-- ---- the documents
 
-byte_below : (b : ℕ) → nat_lt b 128 ≡ true → b < 128
-byte_below b e = grind (arith, nat_tests)
+abbrev doc : List (List (List ℕ)) → List (Line Placed)
+doc texts = placeless (map line texts)
 
-pub all_below : (text : List ℕ) → list_all (λ b. nat_lt b 128) text ≡ true → AllByRecursion (λ b. b < 128) text
-all_below [] all = tt
-all_below (b ∷ text) all = (byte_below b (first_so _ _ all), all_below text (second_so _ _ all))
+abbrev declaring : List ℕ → List (List ℕ)
+declaring path = codes "module" ∷ path ∷ []
 
--- a text of these bytes is a bare word
-pub word_is : (text : List ℕ) → text ≢ [] → list_all is_byte_of_path text ≡ true → list_all is_path_byte text ≡ true → IsWord (bare text)
-word_is text some all path = ((text, (is_bare, refl)), lacks 10 is_path_byte refl text path)
-  where
-    is_bare : IsBare text
-    is_bare = record {
-      filled = some;
-      word_bytes = word_bytes text all;
-      no_comment = subst HoldsNoComment (append-nil text) (no_comment_before text [] (lacks 47 is_path_byte refl text path) tt);
-      no_arrow = no_arrow text all;
-    }
+abbrev going : List ℕ → List (List ℕ)
+going version = codes "go" ∷ version ∷ []
 
--- ---- the document of two lines
+abbrev requires : List ℕ → List ℕ → List (List ℕ)
+requires path version = codes "require" ∷ path ∷ version ∷ []
 
-abbrev required : List Word
-required = bare (codes "require") ∷ bare (codes "top.org") ∷ bare (codes "v1.0.0") ∷ []
+abbrev alone_lines : List (List (List ℕ))
+alone_lines = declaring (codes "m") ∷ []
 
-abbrev requiring_lines : List (Line Word)
-requiring_lines = Entry (words (codes "m")) None ∷ Entry required None ∷ []
+abbrev requiring_lines : List (List (List ℕ))
+requiring_lines = declaring (codes "m") ∷ requires (codes "top.org") (codes "v1.0.0") ∷ []
 
-are_words : AllByRecursion IsWord (words (codes "m"))
-are_words = (word_is (codes "module") (λ e. cc e) refl refl, (word_is (codes "m") (λ e. cc e) refl refl, tt))
+abbrev top_lines : List (List (List ℕ))
+top_lines = declaring (codes "top.org") ∷ going (codes "1.16")
+    ∷ requires (codes "mid.org") (codes "v1.10.0") ∷ requires (codes "low.org") (codes "v1.1.0") ∷ []
 
-are_required : AllByRecursion IsWord required
-are_required = (
-  word_is (codes "require") (λ e. cc e) refl refl,
-  (word_is (codes "top.org") (λ e. cc e) refl refl, (word_is (codes "v1.0.0") (λ e. cc e) refl refl, tt)),
-)
+abbrev folder_lines : List (List (List ℕ))
+folder_lines = going (codes "1.17") ∷ []
 
-document : AreLines start requiring_lines
-document = (
-  entry_stands false (words (codes "m")) None
-      (record { are_words = are_words; is_suffix = tt; filled = omega arith; opens_nothing = refl; closes_nothing = refl }),
-  (
-    entry_stands false required None
-        (record { are_words = are_required; is_suffix = tt; filled = omega arith; opens_nothing = refl; closes_nothing = refl }),
-    refl,
-  ),
-)
+alone_parsed : IsParsedAs alone (Ok (doc alone_lines))
+unfolding layout_from layout_lines
+alone_parsed = laid_parsed alone alone_lines refl refl refl (omega arith) refl
 
-layout_is : layout requiring_lines ≡ requiring
-unfolding layout_from
-layout_is = refl
+requiring_parsed : IsParsedAs requiring (Ok (doc requiring_lines))
+unfolding layout_from layout_lines
+requiring_parsed = laid_parsed requiring requiring_lines refl refl refl (omega arith) refl
 
-laid_is : layout_lines initial_state requiring_lines ≡ requiring_lines
-unfolding layout_lines
-laid_is = refl
+top_parsed : IsParsedAs top_text (Ok (doc top_lines))
+unfolding layout_from layout_lines
+top_parsed = laid_parsed top_text top_lines refl refl refl (omega arith) refl
 
-requiring_utf8 : IsUtf8 requiring
-requiring_utf8 = IsUtf8-from_ascii requiring (ascii requiring (all_below requiring refl))
-
-requiring_parsed : IsParsedAs requiring (Ok (placeless requiring_lines))
-requiring_parsed = laid_parsed requiring requiring_lines document layout_is laid_is (omega arith) requiring_utf8
+folder_parsed : IsParsedAs folder_text (Ok (doc folder_lines))
+unfolding layout_from layout_lines
+folder_parsed = laid_parsed folder_text folder_lines refl refl refl (omega arith) refl
 
 -- ---- names
 
 m_path : is_path (codes "m") ≡ true
 m_path = (path-tested (codes "m")).1 m_is_path
 
-pub top_path : is_path (codes "top.org") ≡ true
+top_path : is_path (codes "top.org") ≡ true
 unfolding is_path is_element is_dotted_name has_outer_dot is_reserved stem is_shortened
 top_path = refl
 
-pub one_zero_version : is_version (codes "v1.0.0") ≡ true
+mid_path : is_path (codes "mid.org") ≡ true
+unfolding is_path is_element is_dotted_name has_outer_dot is_reserved stem is_shortened
+mid_path = refl
+
+low_path : is_path (codes "low.org") ≡ true
+unfolding is_path is_element is_dotted_name has_outer_dot is_reserved stem is_shortened
+low_path = refl
+
+one_zero_version : is_version (codes "v1.0.0") ≡ true
 one_zero_version = (version-tested (codes "v1.0.0")).1 one_zero_is
 
+one_one_version : is_version (codes "v1.1.0") ≡ true
+one_one_version = (version-tested (codes "v1.1.0")).1 one_one_is
+
+one_ten_version : is_version (codes "v1.10.0") ≡ true
+one_ten_version = (version-tested (codes "v1.10.0")).1 one_ten_is
+
 -- a version of these parts fits a path without a suffix
-pub fits_plain : (parts : Parts) (minor : ℕ) → parts ≡ (1, minor, 0, [], [])
+fits_plain : (parts : Parts) (minor : ℕ) → parts ≡ (1, minor, 0, [], [])
     → (if nat_lt parts.0 2 then length parts.4 == 0 else bytes_eq parts.4 (codes "incompatible")) ≡ true
 fits_plain parts minor is = rw is refl
 
@@ -121,40 +108,63 @@ one_zero_fits_top : does_fit (codes "top.org") (codes "v1.0.0") ≡ true
 unfolding does_fit
 one_zero_fits_top = fits_plain (parts_in (codes "v1.0.0")) 0 one_zero_parts
 
+one_ten_fits_mid : does_fit (codes "mid.org") (codes "v1.10.0") ≡ true
+unfolding does_fit
+one_ten_fits_mid = fits_plain (parts_in (codes "v1.10.0")) 10 one_ten_parts
+
+one_one_fits_low : does_fit (codes "low.org") (codes "v1.1.0") ≡ true
+unfolding does_fit
+one_one_fits_low = fits_plain (parts_in (codes "v1.1.0")) 1 one_one_parts
+
 -- ---- what the files say
 
-alone_has_no_fault : fault_of Strict (lines (codes "m")) ≡ None
+alone_has_no_fault : fault_of Strict (plain_lines (doc alone_lines)) ≡ None
 unfolding fault_of faults item_at directive_of directive_kinds
 alone_has_no_fault = rw m_path refl
 
-requiring_has_no_fault : fault_of Strict requiring_lines ≡ None
+requiring_has_no_fault : fault_of Strict (plain_lines (doc requiring_lines)) ≡ None
 unfolding fault_of faults item_at directive_of directive_kinds
 requiring_has_no_fault = rw (m_path, top_path, one_zero_version, one_zero_fits_top) refl
 
-requiring_has_no_lax_fault : fault_of Lax (plain_lines (placeless requiring_lines)) ≡ None
+requiring_has_no_lax_fault : fault_of Lax (plain_lines (doc requiring_lines)) ≡ None
 unfolding fault_of faults item_at directive_of directive_kinds
 requiring_has_no_lax_fault = rw (m_path, top_path, one_zero_version, one_zero_fits_top) refl
 
-requiring_says_as_module : dependency_of (plain_lines (placeless requiring_lines)) ≡ saying (Some (codes "m")) (1, 16) (top_one ∷ [])
-unfolding item_at directive_of
-requiring_says_as_module = refl
+top_has_no_fault : fault_of Lax (plain_lines (doc top_lines)) ≡ None
+unfolding fault_of faults item_at directive_of directive_kinds lax_go lax_go_text first_number small_number
+top_has_no_fault = rw (top_path, mid_path, low_path, one_one_version, one_ten_version, one_ten_fits_mid, one_one_fits_low) refl
 
-alone_says : main_of (doc (codes "m")) ≡ main_requiring []
+folder_has_no_fault : fault_of Lax (plain_lines (doc folder_lines)) ≡ None
+unfolding fault_of faults item_at directive_of directive_kinds lax_go lax_go_text first_number small_number
+folder_has_no_fault = refl
+
+alone_says : main_of (doc alone_lines) ≡ main_requiring []
 unfolding item_at directive_of
 alone_says = refl
 
-requiring_says : main_of (placeless requiring_lines) ≡ main_requiring (top_one ∷ [])
+requiring_says : main_of (doc requiring_lines) ≡ main_requiring (top_one ∷ [])
 unfolding item_at directive_of
 requiring_says = refl
 
-alone_parsed : IsParsedAs alone (Ok (doc (codes "m")))
-alone_parsed = parsed (codes "m") m_is_path (omega arith)
+requiring_says_as_module : dependency_of (plain_lines (doc requiring_lines)) ≡ saying (Some (codes "m")) (1, 16) (top_one ∷ [])
+unfolding item_at directive_of
+requiring_says_as_module = refl
+
+top_says : dependency_of (plain_lines (doc top_lines)) ≡ top_file
+unfolding item_at directive_of lax_go lax_go_text first_number small_number
+top_says = refl
+
+folder_is : dependency_of (plain_lines (doc folder_lines)) ≡ folder_says
+unfolding item_at directive_of lax_go lax_go_text first_number small_number
+folder_is = refl
 
 pub files_are_read : FilesAreRead
 files_are_read = record {
-  one = (doc (codes "m"), (alone_parsed, alone_has_no_fault), alone_says);
-  two = (placeless requiring_lines, (requiring_parsed, requiring_has_no_fault), requiring_says);
-  answered = (placeless requiring_lines, requiring_parsed, requiring_has_no_lax_fault, requiring_says_as_module);
+  one = (doc alone_lines, (alone_parsed, alone_has_no_fault), alone_says);
+  two = (doc requiring_lines, (requiring_parsed, requiring_has_no_fault), requiring_says);
+  answered = (doc requiring_lines, requiring_parsed, requiring_has_no_lax_fault, requiring_says_as_module);
+  required = (doc top_lines, top_parsed, top_has_no_fault, top_says);
+  undeclared = (doc folder_lines, folder_parsed, folder_has_no_fault, folder_is);
 }
 
 -- ---- the empty file
@@ -164,7 +174,7 @@ unfolding lines_of
 empty_reads = refl
 
 empty_parsed : IsParsedAs [] (Ok [])
-empty_parsed = reading_parsed [] (Ok []) ((omega arith, IsUtf8-from_ascii [] (ascii [] tt)), reading_of [] [] Whole empty_reads)
+empty_parsed = reading_parsed [] (Ok []) ((omega arith, IsUtf8-nil), reading_of [] [] Whole empty_reads)
 
 empty_has_none : fault_of Strict [] ≡ Some (0, NoModule)
 unfolding fault_of faults

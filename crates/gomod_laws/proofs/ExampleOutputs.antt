@@ -2,7 +2,7 @@
 use Rattle.std.proofs.Common.{rules, ◌≡◌, ◌⊎◌, ◌∙◌, ◌∷◌, ◌<◌, ℕ, Bool, List, [], Option, None, Some, Result, Ok, Err, ap, arith, codes, drop, false, inl, inr, length, min, refl, subst, sym, take, take_all, true}
 use Rattle.std.proofs.lemmas.List.{length-take}
 use Rattle.std.specs.Global.{Vec}
-use Rattle.std.proofs.lemmas.Str.{IsUtf8-from_ascii, IsUtf8-nil, is_utf8-from_IsUtf8}
+use Rattle.std.proofs.lemmas.Str.{IsUtf8-nil, is_utf8-from_IsUtf8}
 use Rattle.std.specs.Str.{chars, is_utf8}
 use Rattle.gm_store.specs.Asked.{list_file, mod_file}
 use Rattle.gm_store.specs.Memory.{held_at}
@@ -18,8 +18,7 @@ use Rattle.gomod_run.specs.Reads.{HoldsInput, IsUnreadList}
 use Rattle.gomod_words.specs.Given.{first_unreadable}
 use Rattle.gomod_words.specs.Usage.{unreadable_text, version_line}
 use Rattle.gomod_run.specs.Written.{EndsAsStated, IsWritten}
-use Rattle.gomod_laws.proofs.ExampleFiles.{all_below}
-use Rattle.gomod_laws.proofs.ExampleLines.{ascii}
+use Rattle.gomod_laws.proofs.ExampleLines.{ascii_utf8}
 use Rattle.gomod_laws.proofs.KnownVersions.{first_byte}
 use Rattle.gomod_laws.specs.ExampleOutputs.{EndIsStated, EndsBy, FileIsRead, InputIsHeld, InputIsUnread, IsInput, PrintsText, WordsAreGiven, also_unreadable, empty, version_flag, other, path, text, unreadable, with_bad_line, with_no_memory, with_other, with_text}
 
@@ -42,7 +41,7 @@ tells = search rules
 
 pub end_is_stated : EndIsStated
 end_is_stated = record {
-  prints = record { outcome = text_outcome text; as_stated = inl refl; utf8 = IsUtf8-from_ascii text (ascii text (all_below text refl)); written = prints };
+  prints = record { outcome = text_outcome text; as_stated = inl refl; utf8 = ascii_utf8 text refl; written = prints };
   no_memory = record { outcome = out_of_memory; as_stated = inr refl; utf8 = IsUtf8-nil; written = tells };
   other_text = λ status. not_ended with_other empty status (search rules) (search rules);
   reports = λ status. not_ended empty with_bad_line status (search rules) (search rules);
@@ -142,7 +141,7 @@ input_is_held = record {
 
 -- ASCII is UTF-8, and a byte 255 is not
 version_readable : first_unreadable (version_flag ∷ []) ≡ None
-version_readable = rw (is_utf8-from_IsUtf8 version_flag (IsUtf8-from_ascii version_flag (ascii version_flag (all_below version_flag refl)))) refl
+version_readable = rw (is_utf8-from_IsUtf8 version_flag (ascii_utf8 version_flag refl)) refl
 
 byte_unreadable : (words : List (List ℕ)) → first_unreadable (unreadable ∷ words) ≡ Some unreadable
 unfolding is_utf8 chars

@@ -88,4 +88,7 @@ sums_say = record {
   unlisted = says_only one_sum (codes "v1.1.0") (codes "h1:A") Unlisted no_later;
   of_files = says_only (codes "a.b v1.0.0 h1:A\n") (codes "v1.0.0") (codes "h1:A") Unlisted not_of_files;
   other_kind = says_only (codes "a.b v1.0.0/go.mod h2:A\n") (codes "v1.0.0") (codes "h2:A") Unlisted not_other_kind;
+  good_class = refl;
+  differs_class = refl;
+  unlisted_class = refl;
 }

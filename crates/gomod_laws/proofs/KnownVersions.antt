@@ -1,5 +1,5 @@
--- The path a.b and the versions v1.0.0 and v1.1.0, of which the counterexamples are, and v1.9.0 and v1.10.0 of the example
--- world.
+-- The path a.b and the versions v1.0.0 and v1.1.0, of which the counterexamples are, and v1.9.0 and v1.10.0 of the
+-- examples.
 use Rattle.std.proofs.Common.{◌≡◌, ◌∙◌, ◌∷◌, ◌++◌, ◌+◌, ◌<◌, ◌==◌, ℕ, true, false, List, [], ap, ap₂, arith, codes, drop, inl, inr, length, length-append, lit<, refl, subst, sym}
 use Rattle.std.specs.Cmp.Lexicographic.{slice_cmp}
 use Rattle.std.specs.Fmt.{decimal}
@@ -104,9 +104,6 @@ one_zero_is_below = below one_zero one_one (decided one_zero one_one (1, 0, 0, [
 pub one_ten_is_above : version_cmp one_ten one_nine ≡ Greater
 one_ten_is_above = above one_ten one_nine (decided one_ten one_nine (1, 10, 0, [], []) (1, 9, 0, [], []) one_ten_parts one_nine_parts ∙ refl)
 
-pub one_nine_is_below : version_cmp one_nine one_ten ≡ Less
-one_nine_is_below = below one_nine one_ten (decided one_nine one_ten (1, 9, 0, [], []) (1, 10, 0, [], []) one_nine_parts one_ten_parts ∙ refl)
-
 pub same_precedence : precedence (parts_in one_zero) (parts_in one_zero) ≡ Equal
 same_precedence = decided one_zero one_zero (1, 0, 0, [], []) (1, 0, 0, [], []) one_zero_parts one_zero_parts ∙ refl
 
@@ -116,10 +113,7 @@ first_byte a b x y e = cc e
 pub versions_differ : one_zero ≡ one_one → ⊥
 versions_differ e = let digit : 48 ≡ 49 = first_byte 48 49 _ _ (ap (drop 3) e) in omega (arith, digit)
 
-pub nine_is_not_ten : one_nine ≡ one_ten → ⊥
-nine_is_not_ten e = let digit : 57 ≡ 49 = first_byte 57 49 _ _ (ap (drop 3) e) in omega (arith, digit)
-
-pub not_above_itself : (o : Ordering) → o ≡ ordering_reverse o → is_gt o ≡ false
+not_above_itself : (o : Ordering) → o ≡ ordering_reverse o → is_gt o ≡ false
 not_above_itself Less e = refl
 not_above_itself Equal e = refl
 not_above_itself Greater e = cc e

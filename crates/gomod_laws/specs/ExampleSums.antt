@@ -1,8 +1,10 @@
--- Small go.sums, on which the definition of what a go.sum says is tried.
-use Rattle.std.specs.Prelude.{◌≡◌, ◌↔◌, ℕ, List, codes}
+-- Small go.sums, on which the definitions of what a go.sum says, and of the fault that it finds, are tried.
+use Rattle.std.specs.Prelude.{◌≡◌, ◌↔◌, ℕ, List, None, Some, codes}
 use Rattle.gm_store_sums.specs.Sums.{SaysOfHash}
 use Rattle.gm_store_sums.specs.declared.sum_table.Sum.{Sum}
 use Rattle.gm_store_sums.specs.declared.sum_table.Sum.TheVariants.{Good, Unlisted, Differs}
+use Rattle.gm_graph.specs.Reading.{class_of_sum}
+use Rattle.gm_graph.specs.declared.cache.class.Class.TheVariants.{NoSum, SumDiffers}
 
 -- a go.sum with a hash of one go.mod, and one with a second hash of it
 abbrev pub one_sum : List ℕ
@@ -25,3 +27,7 @@ pub record SumsSay : Type 0 where
   pub unlisted : SaysOnly one_sum (codes "v1.1.0") (codes "h1:A") Unlisted
   pub of_files : SaysOnly (codes "a.b v1.0.0 h1:A\n") (codes "v1.0.0") (codes "h1:A") Unlisted
   pub other_kind : SaysOnly (codes "a.b v1.0.0/go.mod h2:A\n") (codes "v1.0.0") (codes "h2:A") Unlisted
+  -- the fault of the file, if it is one
+  pub good_class : class_of_sum Good ≡ None
+  pub differs_class : class_of_sum Differs ≡ Some SumDiffers
+  pub unlisted_class : class_of_sum Unlisted ≡ Some NoSum
