@@ -28,7 +28,8 @@ use Rattle.gomod_run.proofs.ShortestChain.{chain_walk}
 use Rattle.gomod_laws.specs.Counterexamples.{a_one, graph_of_a}
 use Rattle.gomod_laws.specs.CounterListings.{ChainBeginsElsewhere, ChainEndsElsewhere, ChainIsOfAnotherGraph, ChainIsTooLong, IsRequiredBy, ListIsOfAnotherGraph, b_one}
 use Rattle.gomod_laws.proofs.Contradicted.{a_is_path, b_is_path, edge_proper, edge_to, other_name}
-use Rattle.gomod_laws.proofs.CounterLists.{a_is_not_b, each_of, m_lacks, not_refused, rows_are}
+use Rattle.gomod_laws.proofs.CounterLists.{a_is_not_b, each_of, m_lacks, rows_are}
+use Rattle.gomod_laws.proofs.FormattingProofs.{not_printed}
 use Rattle.gomod_laws.proofs.KnownVersions.{one_zero, one_zero_is}
 use Rattle.gomod_laws.proofs.ShownTexts.{same_text}
 
@@ -179,7 +180,7 @@ list_is_of_another_graph path run chain (main, table, edges, rows, found, exact,
 
 pub chain_is_of_another_graph : ChainIsOfAnotherGraph
 chain_is_of_another_graph after limit path run list (main, table, edges, rows, found, exact, one) = elim one.chain_is [
-  | inr (none, says) ↦ not_refused (codes "m\nb.c@v1.0.0\n") (not_listed_line path) says
+  | inr (none, says) ↦ not_printed (codes "m\nb.c@v1.0.0\n") (not_listed_line path) says
   | inl (s, steps, row, chain, says) ↦ (
       let same_graph : AreSame (among edges) (IsEdge (run_of main table run.told.asked)) = λ t y. exact.each (edge t y) in
       let walk : IsWalk (IsEdge (run_of main table run.told.asked)) s steps = chain_walk (IsEdge (run_of main table run.told.asked)) (same_chain (among edges) (IsEdge (run_of main table run.told.asked)) same_graph chain) in

@@ -18,7 +18,7 @@ use Rattle.gm_graph_select.specs.Laws.{entries_of_pages}
 use Rattle.gm_graph_select.proofs.Ascending.{member_cases, member_head, member_tail, no_member}
 use Rattle.gomod_run.specs.ListingLaws.{AreGreatest, ArePrintedPages, ShowsBuildList, no_row, one_page}
 use Rattle.gomod_run.specs.Outcomes.{AreFound, Given, ListEnds, no_path, path_listed, path_unlisted}
-use Rattle.gomod_run.specs.Outcome.{Outcome, text_outcome, refusal_outcome}
+use Rattle.gomod_run.specs.Outcome.{Outcome, text_outcome}
 use Rattle.gomod_run.specs.PrintedLines.{AreProperRows, IsProperRow}
 use Rattle.gomod_run.specs.Reports.{not_listed_line}
 use Rattle.gomod_run.specs.ListingTexts.{up_to, list_text}
@@ -31,7 +31,8 @@ use Rattle.gomod_run.proofs.RunNames.{run_has_names, run_has_proper_rows}
 use Rattle.gomod_words.specs.declared.usage.Command.TheVariants.{List as Rows}
 use Rattle.gomod_laws.specs.Counterexamples.{a_one, list_of_a}
 use Rattle.gomod_laws.specs.CounterListings.{IsRequiredBy, MainIsMissing, PageHasAnotherRow, PageIsMissing, PartHasAnotherRow, PartIsTheWhole, PartIsTooLong, PathIsTwice, RequiredHasNoRow, RowIsNotRequired, RowIsTooLow, RowsAreUnordered, a_two}
-use Rattle.gomod_laws.proofs.Contradicted.{a_is_path, b_is_path, other_name}
+use Rattle.gomod_laws.proofs.Contradicted.{a_is_path, b_is_path, main_is_no_of, of_name, other_name}
+use Rattle.gomod_laws.proofs.FormattingProofs.{not_printed}
 use Rattle.gomod_laws.proofs.KnownVersions.{one_one_is, one_one_is_above, one_zero_is}
 use Rattle.gomod_laws.proofs.PrintedRow.{limited_member, printed_rows, spread_main}
 use Rattle.gomod_laws.proofs.ShownTexts.{same_text}
@@ -58,14 +59,8 @@ a_proper = (a_is_path, one_zero_is, tt)
 b_proper : IsProperRow (row_at b_one)
 b_proper = (b_is_path, one_zero_is, tt)
 
-of_same : (x y : ModuleVersion) → Of x ≡ Of y → x ≡ y
-of_same x y e = cc e
-
 row_same : (x y : ModuleVersion) → row_at x ≡ row_at y → x ≡ y
-row_same x y e = of_same x y (ap (λ (row : Entry). row.0) e)
-
-main_is_no_of : (x : ModuleVersion) → FromMain ≡ Of x → ⊥
-main_is_no_of x e = cc e
+row_same x y e = of_name x y (ap (λ (row : Entry). row.0) e)
 
 main_is_no_row : (x : ModuleVersion) → main_entry ≡ row_at x → ⊥
 main_is_no_row x e = main_is_no_of x (ap (λ (row : Entry). row.0) e)
@@ -138,7 +133,7 @@ vertices_are replaces [] (y ∷ ys) e = absurd (cc e)
 vertices_are replaces (x ∷ xs) [] e = absurd (cc e)
 vertices_are replaces (x ∷ xs) (y ∷ ys) e =
     let head = heads_same (entry_of replaces x) (row_at y) (map (entry_of replaces) xs) (map row_at ys) e in
-    let same : x ≡ y = of_same x y (ap (λ (row : Entry). row.0) head) in
+    let same : x ≡ y = of_name x y (ap (λ (row : Entry). row.0) head) in
     let rest = tails_same (entry_of replaces x) (row_at y) (map (entry_of replaces) xs) (map row_at ys) e in
     ap (λ (z : ModuleVersion). z ∷ xs) same ∙ ap (λ (zs : List ModuleVersion). y ∷ zs) (vertices_are replaces xs ys rest)
 
@@ -279,12 +274,9 @@ main_is_not_later there = elim (member_cases (row_at a_one) main_entry [] there)
   | inr none ↦ no_member main_entry none
 ]
 
-pub not_refused : (text report : List ℕ) → text_outcome text ≡ refusal_outcome report → ⊥
-not_refused text report e = let status : ◌≡◌ {A = ℕ} 0 1 = ap (λ (o : Outcome). o.status) e in omega (arith, status)
-
 pub part_is_the_whole : PartIsTheWhole
 part_is_the_whole path limit run (main, table, rows, found, are, says, no_path none tells) = cc none
-part_is_the_whole path limit run (main, table, rows, found, are, says, path_unlisted other is (none, tells)) = not_refused (codes "m\na.b v1.0.0\n") (not_listed_line other) tells
+part_is_the_whole path limit run (main, table, rows, found, are, says, path_unlisted other is (none, tells)) = not_printed (codes "m\na.b v1.0.0\n") (not_listed_line other) tells
 part_is_the_whole path limit run (main, table, rows, found, are, says, path_listed other rest at_path (entry, at) tells) =
     let (own, same) = whole_is run main table rows found are says in
     let inside : (row : Entry) → Contains (up_to limit rest) row → Contains rows row =

@@ -1,14 +1,15 @@
 -- The edges of a run in which one file is answered.
-use Rattle.std.proofs.Common.{◌≡◌, ◌∷◌, zero, suc, Bool, true, false, List, [], Some, None, Result, Ok, Contains, ap, arith, inl, inr, refl, subst, sym}
-use Rattle.std.specs.Prelude.{AllPairs, if◌then◌else◌}
+use Rattle.std.proofs.Common.{◌≡◌, ◌∷◌, zero, suc, List, [], Result, Ok, Contains, ap, arith, inl, inr, refl, subst, sym}
+use Rattle.std.specs.Prelude.{AllPairs}
 use Rattle.std.specs.List.{All, AllByRecursion}
 use Rattle.std.specs.declared.cmp.Ordering.TheVariants.{Less}
 use Rattle.std.proofs.lemmas.List.Kept.{AllPairs-cons}
+use Rattle.std.proofs.lemmas.Option.{cond_some}
 use Rattle.gm_name.specs.Path.{is_fetchable}
 use Rattle.gm_name.specs.ModuleVersion.{ModuleVersion}
 use Rattle.gm_file.specs.Fields.{Dependency}
 use Rattle.gm_file.specs.Main.{without_excluded}
-use Rattle.gm_store.specs.Asked.{Name, Reply, bytes, folder_file, list_file, mod_file, same_name}
+use Rattle.gm_store.specs.Asked.{Name, bytes, folder_file, list_file, mod_file, same_name}
 use Rattle.gm_store.proofs.NameOrder.{names_equal}
 use Rattle.gm_graph.specs.declared.cache.class.Class.{Class}
 use Rattle.gm_graph.specs.Reading.{file_of}
@@ -18,19 +19,12 @@ use Rattle.gm_graph_select.specs.declared.step.Edge.{Edge}
 use Rattle.gm_graph_select.specs.declared.step.Step.{Step}
 use Rattle.gm_graph_select.specs.declared.step.Step.TheVariants.{Main as FromMain, Of}
 use Rattle.gm_graph_select.specs.Graph.{edge, edge_cmp}
-use Rattle.gm_graph_select.proofs.Ascending.{member_cases, member_head, no_member}
+use Rattle.gm_graph_select.proofs.Ascending.{member_head, no_member}
 use Rattle.gomod_laws.specs.ExampleRuns.{ThreeEdgesLead, edges, low_one, mid_ten, top_file, top_name, top_one, top_text, with_top}
+use Rattle.gomod_laws.proofs.CounterLists.{each_of}
 use Rattle.gomod_laws.proofs.ExampleFiles.{files_are_read}
 
 -- ---- lists that are written out
-
--- what holds of each member that is written out holds of every member
-each_member : {X : Type 0} (P : X → Type 0) (xs : List X) → AllByRecursion P xs → (x : X) → Contains xs x → P x
-each_member P [] h x there = absurd (no_member x there)
-each_member P (y ∷ xs) h x there = elim (member_cases y x xs there) [
-  | inl same ↦ subst P same h.0
-  | inr later ↦ each_member P xs h.1 x later
-]
 
 all_of : {X : Type 0} (P : X → Type 0) (xs : List X) → AllByRecursion P xs → All P xs
 all_of P [] h k d below = absurd (omega (arith, below))
@@ -50,10 +44,6 @@ pairs_of R (x ∷ xs) h = AllPairs-cons R x xs (all_of (R x) xs h.0) (pairs_of R
 same_file : (a b : Dependency) → ◌≡◌ {A = Result Dependency Class} (Ok a) (Ok b) → a ≡ b
 same_file a b e = cc e
 
-found : (is : Bool) (one reply : Reply) → (if is then Some one else None) ≡ Some reply → is ≡ true
-found true one reply e = refl
-found false one reply e = absurd (cc e)
-
 -- the path and the version of a module's own file
 abbrev own : Name → ModuleVersion
 own (mod_file path version) = (path, version)
@@ -70,7 +60,7 @@ module _ (requirements : List ModuleVersion) where
 
   file_is_top : (name : Name) {said : Result Dependency Class} → FileSays run name said → (file : Dependency) → said ≡ Ok file → name ≡ top_name
   file_is_top name (unaskable isnt) file same = absurd (cc same)
-  file_is_top name (answered reply may at is) file same = names_equal name top_name (found (same_name name top_name) (bytes top_text) reply at)
+  file_is_top name (answered reply may at is) file same = names_equal name top_name (cond_some (same_name name top_name) (bytes top_text) reply at).0
 
   says_top : (x : ModuleVersion) {said : Result Dependency Class} → Says run x said → (file : Dependency) → said ≡ Ok file → file_of run.main x ≡ top_name
   says_top x (faulty is) file same = absurd (cc same)
@@ -85,7 +75,7 @@ module _ (requirements : List ModuleVersion) where
       let is : x ≡ top_one = ap own (says_top x says file refl) in
       let same : file ≡ top_file = same_file file top_file (modules_say_one_thing run top_one (Ok file) (Ok top_file) (subst (λ (m : ModuleVersion). Says run m (Ok file)) is says) top_says) in
       let left : Contains (mid_ten ∷ []) y = subst (λ (f : Dependency). Contains (without_excluded run.main f.requirements) y) same there in
-      (is, each_member (λ (z : ModuleVersion). z ≡ mid_ten) (mid_ten ∷ []) (refl, tt) y left)
+      (is, each_of (λ (z : ModuleVersion). z ≡ mid_ten) (mid_ten ∷ []) (refl, tt) y left)
 
 -- ---- the edges
 
@@ -96,7 +86,7 @@ abbrev HasEdge : Step → ModuleVersion → Type 0
 HasEdge s y = Contains edges (edge s y)
 
 edge_member : (s : Step) (y : ModuleVersion) → IsEdge top_run s y → HasEdge s y
-edge_member FromMain y top = each_member (HasEdge FromMain) (top_one ∷ low_one ∷ []) ((1, omega arith, refl), ((0, omega arith, refl), tt)) y top
+edge_member FromMain y top = each_of (HasEdge FromMain) (top_one ∷ low_one ∷ []) ((1, omega arith, refl), ((0, omega arith, refl), tt)) y top
 edge_member (Of x) y (opens, requires) =
     let (from, to) = requires_is (top_one ∷ low_one ∷ []) x y requires in
     subst (λ (z : ModuleVersion). HasEdge (Of z) y) (sym from) (subst (HasEdge (Of top_one)) (sym to) (2, omega arith, refl))
@@ -108,7 +98,7 @@ top_is_top : IsTop top_run top_one
 top_is_top = member_head top_one (low_one ∷ [])
 
 member_leads : (one : Edge) → Contains edges one → Leads one
-member_leads = each_member Leads edges ((1, omega arith, refl), (top_is_top, ((inl top_is_top, top_requires (top_one ∷ low_one ∷ [])), tt)))
+member_leads = each_of Leads edges ((1, omega arith, refl), (top_is_top, ((inl top_is_top, top_requires (top_one ∷ low_one ∷ [])), tt)))
 
 edges_are : AreEdges top_run edges
 edges_are = record {
@@ -130,6 +120,7 @@ none_opened run none y (inr (from_deep {x = x} deep requires)) = none_opened run
 pub three_edges_lead : ThreeEdgesLead
 three_edges_lead = record {
   are = edges_are;
+  by_source = refl;
   idle_requires = top_requires [];
   not_unopened = λ leads. none_opened (with_top []) refl top_one leads.0;
 }

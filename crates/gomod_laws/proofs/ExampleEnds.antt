@@ -6,7 +6,7 @@ use Rattle.std.specs.declared.cmp.Ordering.TheVariants.{Less}
 use Rattle.std.proofs.lemmas.Bool.{false≢true}
 use Rattle.std.proofs.lemmas.Fmt.{decimal_digit}
 use Rattle.std.proofs.lemmas.Map.Keys.{IsDistinct-head}
-use Rattle.std.proofs.lemmas.Option.{same_Some}
+use Rattle.std.proofs.lemmas.Option.{cond_some, same_Some}
 use Rattle.gm_name.specs.Path.{is_fetchable}
 use Rattle.gm_name.specs.ModuleVersion.{ModuleVersion, pair_cmp, pair_eq}
 use Rattle.gm_name.specs.Private.ModuleVersion.{pair-self}
@@ -264,12 +264,8 @@ top_not_twice settled = false≢true (sym (IsDistinct-head same_name top_name (t
 abbrev told : List (Name × Reply)
 told = (top_name, absent) ∷ []
 
-one_absent : (is : Bool) (reply : Reply) → (if is then Some absent else None) ≡ Some reply → reply ≡ absent
-one_absent true reply at = sym (same_Some absent reply at)
-one_absent false reply at = absurd (cc at)
-
 told_absent : (name : Name) (reply : Reply) → (run_with told).answers name ≡ Some reply → reply ≡ absent
-told_absent name reply at = one_absent (same_name name top_name) reply at
+told_absent name reply at = sym (cond_some (same_name name top_name) absent reply at).1
 
 missing_silent : IsSilent (run_with told)
 missing_silent = absent_in told told_absent

@@ -2,7 +2,7 @@
 use Rattle.std.proofs.Common.{◌≡◌, ◌≢◌, ◌<◌, ◌≤◌, ◌∷◌, ℕ, Bool, true, false, IsTrue, IsUtf8, List, [], None, Ok, arith, get_or, length, lit<, refl, subst, suc, sym, zero}
 use Rattle.std.specs.Prelude.{◌&&◌, map, nat_lt, not}
 use Rattle.std.specs.List.{AllByRecursion, list_all}
-use Rattle.std.proofs.lemmas.Bool.{false≢true}
+use Rattle.std.proofs.lemmas.Bool.{false≢true, not-true}
 use Rattle.std.proofs.lemmas.Bool.Decides.{nat_tests}
 use Rattle.std.proofs.lemmas.Str.{IsUtf8-from_ascii}
 use Rattle.std.specs.Cmp.{first_so, second_so}
@@ -80,10 +80,6 @@ abbrev pub is_plain_line : List (List ℕ) → Bool
 is_plain_line [] = false
 is_plain_line texts = list_all is_plain texts && (not (ends_open (map bare texts)) && not (begins_close (map bare texts)))
 
-isnt : (b : Bool) → not b ≡ true → b ≡ false
-isnt true e = absurd (false≢true e)
-isnt false e = refl
-
 line_stands : (texts : List (List ℕ)) → is_plain_line texts ≡ true → IsValidLine false (line texts)
 line_stands [] is = absurd (false≢true is)
 line_stands (first ∷ texts) is =
@@ -92,8 +88,8 @@ line_stands (first ∷ texts) is =
       are_words = plain_words (first ∷ texts) (first_so _ _ is);
       is_suffix = tt;
       filled = omega arith;
-      opens_nothing = isnt _ (first_so _ _ (second_so _ _ is));
-      closes_nothing = isnt _ (second_so _ _ (second_so _ _ is));
+      opens_nothing = not-true _ (first_so _ _ (second_so _ _ is));
+      closes_nothing = not-true _ (second_so _ _ (second_so _ _ is));
     })
 
 lines_stand : (at : Place) → at.inside ≡ false → (texts : List (List (List ℕ))) → list_all is_plain_line texts ≡ true → AreLines at (map line texts)

@@ -2,6 +2,7 @@
 use Rattle.std.proofs.Common.{rules, ◌≡◌, ◌⊎◌, ◌∙◌, ◌∷◌, ◌<◌, ℕ, Bool, List, [], Option, None, Some, Result, Ok, Err, ap, arith, codes, drop, false, inl, inr, length, min, refl, subst, sym, take, take_all, true}
 use Rattle.std.proofs.lemmas.List.{length-take}
 use Rattle.std.specs.Global.{Vec}
+use Rattle.std.proofs.lemmas.Option.{none-some, same_Some}
 use Rattle.std.proofs.lemmas.Str.{IsUtf8-nil, is_utf8-from_IsUtf8}
 use Rattle.std.specs.Str.{chars, is_utf8}
 use Rattle.gm_store.specs.Asked.{list_file, mod_file}
@@ -115,26 +116,20 @@ input_is_unread = record {
   prints = λ unread. let is : 0 ≡ 3 = unread_status _ unread in omega (arith, is);
 }
 
-some_or_none : (file : List ℕ) → Some file ≡ None → ⊥
-some_or_none file e = cc e
-
-same_list : (one other : List ℕ) → Some one ≡ Some other → one ≡ other
-same_list one other e = cc e
-
 -- the list of a store that has standard input is the text
 list_is_text : (files : MemoryFiles) (list : List ℕ) → held_at files (list_file path) ≡ Some list → HoldsInput (IsInput false) path files → list ≡ take 16777217 text
 list_is_text files list there holds =
-    same_list list holds.0.items (sym there ∙ holds.2 (list_file path)) ∙ read_of false (Ok holds.0) holds.1
+    same_Some list holds.0.items (sym there ∙ holds.2 (list_file path)) ∙ read_of false (Ok holds.0) holds.1
 
 pub input_is_held : InputIsHeld
 input_is_held = record {
   held = λ files list is holds. (list, (opened (Some text) false, refl, is ∙ sym (limit_of text (omega arith))), holds);
   another = λ files list is there holds. not_given list text (omega arith) (other_differs list is) (list_is_text files list there holds);
   cut = λ files list is there holds. not_given list text (omega arith) (cut_differs list is) (list_is_text files list there holds);
-  nothing = λ files none holds. some_or_none holds.0.items (sym (holds.2 (list_file path)) ∙ none);
-  other_list = λ files list there holds. some_or_none list (sym there ∙ holds.2 (list_file (codes "n")));
-  other_file = λ files file there holds. some_or_none file (sym there ∙ holds.2 (mod_file path (codes "v1.0.0")));
-  not_empty = λ files list there holds. some_or_none list (sym there ∙ holds (list_file path));
+  nothing = λ files none holds. none-some holds.0.items (sym none ∙ holds.2 (list_file path));
+  other_list = λ files list there holds. none-some list (sym (holds.2 (list_file (codes "n"))) ∙ there);
+  other_file = λ files file there holds. none-some file (sym (holds.2 (mod_file path (codes "v1.0.0"))) ∙ there);
+  not_empty = λ files list there holds. none-some list (sym (holds (list_file path)) ∙ there);
 }
 
 -- ---- the words

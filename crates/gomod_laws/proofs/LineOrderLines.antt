@@ -1,7 +1,7 @@
 -- Valid main files that hold the same directives say the same.
 use Rattle.std.proofs.Common.{◌≡◌, ◌∙◌, ◌⊎◌, ℕ, Bool, true, false, cond, not, List, [], ◌∷◌, filter, Option, Some, None, Contains, sym, ap, ap₂, refl, subst, inl, inr}
 use Rattle.std.specs.Prelude.{find, option_and_then, unwrap_or}
-use Rattle.std.specs.Cmp.Lexicographic.{nat_list_eq_equiv, same_text}
+use Rattle.std.specs.Cmp.Lexicographic.{same_text}
 use Rattle.std.specs.List.{cons_option, filter_map, list_any}
 use Rattle.std.specs.Option.{option_map, option_or}
 use Rattle.std.specs.Str.{bytes_eq}
@@ -16,6 +16,7 @@ use Rattle.gm_file.specs.Pairwise.{do_clash}
 use Rattle.gm_file.proofs.Pairwise.{AreApart, clash-mutual, faultless-apart}
 use Rattle.gm_file.specs.Fields.{as_exclusion, as_go, as_module, as_replacing, as_requirement, first, right_for}
 use Rattle.gm_file.specs.Main.{is_excluded, is_pruned_by, main_of}
+use Rattle.gm_file_edit.proofs.Renewals.{left-itself}
 use Rattle.gm_graph_select.proofs.Ascending.{member_cases, member_head, member_tail, no_member}
 use Rattle.gomod_laws.specs.LineOrderLaws.{HoldTheSame, LinesInAnyOrder}
 use Rattle.gomod_laws.proofs.FormattingBlanks.{main_said}
@@ -55,10 +56,6 @@ same_version None (Some w) e = absurd cc
 same_version (Some v) None e = absurd cc
 same_version (Some v) (Some w) e = ap Some (same_text v w (sym e))
 
-version_itself : (a : Option (List ℕ)) → is_same_version a a ≡ true
-version_itself None = refl
-version_itself (Some v) = nat_list_eq_equiv.refl v
-
 abbrev left_by : List ℕ → Option (List ℕ) → Left
 left_by path version = record { path = path; version = version }
 
@@ -66,9 +63,6 @@ same_left : (a b : Left) → is_same_left a b ≡ true → a ≡ b
 same_left a b e =
     let p = and_both (bytes_eq a.path b.path) (is_same_version a.version b.version) e in
     ap₂ left_by (same_text a.path b.path (sym p.0)) (same_version a.version b.version p.1)
-
-left_itself : (a : Left) → is_same_left a a ≡ true
-left_itself a = rw (nat_list_eq_equiv.refl a.path, version_itself a.version) refl
 
 same_right : (a b : Right) → is_same_right a b ≡ true → a ≡ b
 same_right (Folder a) (Folder b) e = ap Folder (same_text a b (sym e))
@@ -224,7 +218,7 @@ module _ (ds : List Directive) (are : AreApart ds) where
       elim (cases_Bool (is_same_right r.1 s.1)) [
         | inl same ↦ same_right r.1 s.1 same
         | inr apart ↦
-            let same : is_same_left r.0 s.0 ≡ true = subst (λ (x : Left). is_same_left r.0 x ≡ true) lefts (left_itself r.0) in
+            let same : is_same_left r.0 s.0 ≡ true = subst (λ (x : Left). is_same_left r.0 x ≡ true) lefts (left-itself r.0) in
             let clash : do_clash (Replaces r) (Replaces s) ≡ true = rw (same, apart) refl in
             let one : Replaces r ≡ Replaces s = one_of_two ds (Replaces r) (Replaces s) are first_in second_in clash in
             let both : r ≡ s = cc in

@@ -8,7 +8,7 @@ use Rattle.gomod_run.proofs.ListLines.{version_has_no_blank, version_has_no_feed
 use Rattle.gomod_run.specs.Versions.{versions_line}
 use Rattle.gomod_laws.specs.VersionLaws.{LineSaysVersions}
 use Rattle.gomod_laws.proofs.KnownVersions.{first_byte}
-use Rattle.gomod_laws.proofs.PrintedRow.{IsStop, IsWhole, cut_whole}
+use Rattle.gomod_laws.proofs.PrintedRow.{IsStop, IsWhole, cut_whole, tails}
 
 -- the versions, each after a blank
 abbrev spaced : List (List ℕ) → List ℕ
@@ -33,9 +33,6 @@ stops (version ∷ versions) = (32, (version ++ spaced versions) ++ (10 ∷ []),
 whole : (version : List ℕ) → IsVersion version → IsWhole version
 whole version is = (version_has_no_blank version is, version_has_no_feed version is)
 
-behind : (a b : ℕ) (x y : List ℕ) → a ∷ x ≡ b ∷ y → x ≡ y
-behind a b x y e = cc e
-
 abbrev AreVersions : List (List ℕ) → Type 0
 AreVersions versions = (version : List ℕ) → Contains versions version → IsVersion version
 
@@ -45,7 +42,7 @@ same_versions [] (other ∷ others) p q e = let wrong : 10 ≡ 32 = first_byte 1
 same_versions (version ∷ versions) [] p q e = let wrong : 32 ≡ 10 = first_byte 32 10 _ _ e in absurd (omega (arith, wrong))
 same_versions (version ∷ versions) (other ∷ others) p q e =
     let inner : version ++ ended versions ≡ other ++ ended others =
-    sym (append_assoc version (spaced versions) (10 ∷ [])) ∙ behind 32 32 _ _ e ∙ append_assoc other (spaced others) (10 ∷ []) in
+    sym (append_assoc version (spaced versions) (10 ∷ [])) ∙ tails 32 32 _ _ e ∙ append_assoc other (spaced others) (10 ∷ []) in
     let same : version ≡ other = cut_whole version other (ended versions) (ended others)
     (whole version (p version (member_head version versions))) (whole other (q other (member_head other others))) (stops versions) (stops others) inner in
     let rest : ended versions ≡ ended others =

@@ -1,6 +1,6 @@
 -- Small files, and runs over them, on which the definitions of an outcome are tried.
 use Rattle.std.specs.Prelude.{◌≡◌, ℕ, List, [], ◌∷◌, Option, Some, None, Ok, codes}
-use Rattle.std.specs.declared.cmp.Ordering.TheVariants.{Greater}
+use Rattle.std.specs.declared.cmp.Ordering.TheVariants.{Greater, Less}
 use Rattle.gm_name.specs.ModuleVersion.{ModuleVersion}
 use Rattle.gm_name.specs.Version.{version_cmp}
 use Rattle.gm_store.specs.Asked.{Name, Reply, mod_file, absent, bytes}
@@ -10,7 +10,7 @@ use Rattle.gm_graph.specs.Reading.{IsFileReading}
 use Rattle.gm_graph.specs.Run.{AreEdges, IsEdge, Requires, Run, run_of}
 use Rattle.gm_graph_select.specs.declared.step.Edge.{Edge}
 use Rattle.gm_graph_select.specs.declared.step.Step.TheVariants.{Main as FromMain, Of}
-use Rattle.gm_graph_select.specs.Graph.{edge}
+use Rattle.gm_graph_select.specs.Graph.{edge, edge_cmp}
 use Rattle.gomod_run.specs.Outcomes.{Given, ListEnds, answers_of, given_of}
 use Rattle.gomod_run.specs.Outcome.{Outcome, failure_outcome, text_outcome, refusal_outcome}
 
@@ -92,6 +92,8 @@ edges = edge FromMain low_one ∷ edge FromMain top_one ∷ edge (Of top_one) mi
 -- None leads to the excluded version, and none leaves a module that isn't opened, though its file requires one.
 pub record ThreeEdgesLead : Type 0 where
   pub are : AreEdges (with_top (top_one ∷ low_one ∷ [])) edges
+  -- the module that an edge leaves counts before the one that it leads to
+  pub by_source : edge_cmp (edge (Of low_one) top_one) (edge (Of top_one) low_one) ≡ Less
   pub idle_requires : Requires (with_top []) top_one mid_ten
   pub not_unopened : ¬ (IsEdge (with_top []) (Of top_one) mid_ten)
 

@@ -24,9 +24,10 @@ pub fn sums_say()
     ensures { SumsSay }
 {}
 
-/// `IsEdge`, `AreEdges`: the main file requires top.org v1.0.0 and low.org v1.0.0, and excludes low.org v1.1.0; the file
-/// of top.org requires mid.org v1.10.0 and the excluded version. Edges lead from the main module to low.org and top.org,
-/// and from top.org to mid.org. If the main file requires nothing, none leaves top.org.
+/// `IsEdge`, `AreEdges`, `edge_cmp`: the main file requires top.org v1.0.0 and low.org v1.0.0, and excludes low.org
+/// v1.1.0; the file of top.org requires mid.org v1.10.0 and the excluded version. Edges lead from the main module to
+/// low.org and top.org, and from top.org to mid.org. If the main file requires nothing, none leaves top.org. The module
+/// that an edge leaves counts before the one that it leads to.
 pub fn three_edges_lead()
     ensures { ThreeEdgesLead }
 {}
