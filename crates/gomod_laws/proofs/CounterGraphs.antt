@@ -26,9 +26,9 @@ use Rattle.gomod_run.proofs.PrintedList.{all_rows}
 use Rattle.gomod_run.proofs.RunNames.{end_name, run_has_names, run_has_proper_edges}
 use Rattle.gomod_run.proofs.ShortestChain.{chain_walk}
 use Rattle.gomod_laws.specs.Counterexamples.{a_one, graph_of_a}
-use Rattle.gomod_laws.specs.CounterListings.{ChainBeginsElsewhere, ChainEndsElsewhere, ChainIsOfAnotherGraph, ChainIsTooLong, IsRequiredBy, ListIsOfAnotherGraph, b_one}
+use Rattle.gomod_laws.specs.CounterListings.{ChainBeginsElsewhere, ChainEndsElsewhere, ChainIsOfAnotherGraph, ChainIsTooLong, IsRequiredBy, ListIsOfAnotherGraph}
 use Rattle.gomod_laws.proofs.Contradicted.{a_is_path, b_is_path, edge_proper, edge_to, other_name}
-use Rattle.gomod_laws.proofs.CounterLists.{a_is_not_b, each_of, m_lacks, rows_are}
+use Rattle.gomod_laws.proofs.CounterLists.{a_is_not_b, b_one, each_of, m_lacks, rows_are}
 use Rattle.gomod_laws.proofs.FormattingProofs.{not_printed}
 use Rattle.gomod_laws.proofs.KnownVersions.{one_zero, one_zero_is}
 use Rattle.gomod_laws.proofs.ShownTexts.{same_text}
