@@ -7,14 +7,14 @@ use Rattle.page.specs.Asked.{bytes}
 use Rattle.page.specs.BuildList.{Entry, HasEntryFor, IsRestAfter, IsSelected, path_of}
 use Rattle.page.specs.Fields.{Dependency}
 use Rattle.page.specs.Files.{end_one, local_file, low_ten, main_file, mid_nine, mid_ten, own_one, top_file, top_one, top_text}
-use Rattle.page.specs.Files.RowFiles.{file_requiring, first_of, huge_text, one_file}
+use Rattle.page.specs.Files.RowFiles.{alone_file, file_requiring, first_of, huge_text, one_file}
 use Rattle.page.specs.Main.{is_pruned_by, without_excluded}
 use Rattle.page.specs.ModuleVersion.{ModuleVersion}
 use Rattle.page.specs.Outcome.{Outcome}
 use Rattle.page.specs.Outcomes.{PrintsRows, no_path, path_listed, path_unlisted}
 use Rattle.page.specs.Path.{is_fetchable}
 use Rattle.page.specs.Reading.{IsFileReading}
-use Rattle.page.specs.Run.{FileSays, IsDeep, IsEdge, IsNeeded, IsRead, IsTop, Requires, Says, answered, from_deep, from_main, from_top, run_of, sound, unaskable}
+use Rattle.page.specs.Run.{FileSays, IsDeep, IsEdge, IsNeeded, IsOpened, IsRead, IsTop, Requires, Says, answered, from_deep, from_main, from_top, run_of, sound, unaskable}
 use Rattle.page.specs.Types.{Class, Malformed, NotFetchable, Of, TooMany, WrongPath}
 use Rattle.page.specs.Worlds.{printing, pruned_answers, wrong_answers}
 use Rattle.page.specs.Worlds.Parts.{OthersDoNotHold, huge_answers, local_answers, local_name, pruned_run, stray_answers, three_rows, to_own, twice_rows}
@@ -96,6 +96,15 @@ not_wrong_deep y (from_top {x = x} file top tells unpruned there) = elim (member
 ]
 not_wrong_deep y (from_deep {x = x} is requires) = not_wrong_deep x is
 
+idle_deep : (x : ModuleVersion) → IsDeep (run_of alone_file None unopened_answers) x → ⊥
+idle_deep x (from_main unpruned top) = no_member x top
+idle_deep y (from_top {x = x} file top tells unpruned there) = no_member x top
+idle_deep y (from_deep {x = x} is requires) = idle_deep x is
+
+idle_opened : (x : ModuleVersion) → IsOpened (run_of alone_file None unopened_answers) x → ⊥
+idle_opened x (inl top) = no_member x top
+idle_opened x (inr is) = idle_deep x is
+
 -- ---- a file that may not be asked for
 
 not_otherwise : (said : Result Dependency Class) → FileSays (run_of local_file None local_answers) local_name said → said ≡ Err NotFetchable
@@ -168,6 +177,7 @@ others_do_not_hold = record {
   wrong = not_wrong;
   deep = not_deep;
   wrong_deep = not_wrong_deep;
+  unopened = λ leads. idle_opened (first_of (codes "a")) leads.0;
   said = not_otherwise;
   needed = not_needed;
   unread = not_read;

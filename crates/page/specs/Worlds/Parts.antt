@@ -2,17 +2,19 @@
 use Rattle.std.specs.Prelude.{◌≡◌, ◌⊎◌, List, [], ◌∷◌, Some, None, Result, Ok, Err, codes}
 use Rattle.page.specs.Asked.{Name, Reply, absent, answer_in, bytes, mod_file, too_long}
 use Rattle.page.specs.BuildList.{Entry, HasEntryFor, IsRestAfter, IsSelected, main_entry}
+use Rattle.page.specs.Directives.{Module}
 use Rattle.page.specs.Fields.{Dependency}
 use Rattle.page.specs.Files.{end_one, local_file, low_nine, low_ten, main_file, mid_nine, mid_ten, old_file, own_one, top_file, top_one, top_text}
-use Rattle.page.specs.Files.RowFiles.{first_of, huge_text, malformed_text, one_file, three_file}
+use Rattle.page.specs.Files.RowFiles.{alone_file, first_of, huge_text, malformed_text, one_file, three_file}
 use Rattle.page.specs.Graph.{Edges, IsEdgeEnd}
+use Rattle.page.specs.ListingTexts.{replacement_text}
 use Rattle.page.specs.Main.{without_excluded}
 use Rattle.page.specs.ModuleVersion.{ModuleVersion}
 use Rattle.page.specs.Outcome.{Outcome}
 use Rattle.page.specs.Outcomes.{PrintsRows}
-use Rattle.page.specs.Reading.{IsContentReading, IsReadUnless}
+use Rattle.page.specs.Reading.{IsContentReading, IsFileReading, IsReadUnless}
 use Rattle.page.specs.Run.{FileSays, IsDeep, IsEdge, IsFault, IsNeeded, IsOpened, IsRead, IsTop, Requires, Run, Says, run_of}
-use Rattle.page.specs.Types.{Class, Malformed, NoSum, NotFetchable, Of, WrongArguments, WrongPath, sums_table}
+use Rattle.page.specs.Types.{Class, Malformed, Missing, NoSum, NotFetchable, Of, TooLong, WrongArguments, WrongPath, sums_table}
 use Rattle.page.specs.Worlds.{asked_folder, printing, pruned_answers, unpruned_answers, wrong_answers}
 use Rattle.page.specs.Worlds.Rows.{a_name, answer, fork_name, malformed_answers, name_at, sums_answers, unopened_answers}
 
@@ -53,6 +55,9 @@ twice_rows = (Of end_one, None) ∷ (Of low_nine, None) ∷ (Of end_one, None) �
 pub record PartsAreShown : Type 0 where
   -- a name has its own answer
   pub answered : answer_in ((a_name, absent) ∷ (fork_name, too_long) ∷ []) fork_name ≡ Some too_long
+  -- a file that is missing, and one that is too long
+  pub missing : IsFileReading None a_name absent (Err Missing)
+  pub long : IsFileReading None a_name too_long (Err TooLong)
   -- a fault of the go.sum comes before the contents, which are read laxly
   pub first : IsReadUnless (Some NoSum) malformed_text (Err NoSum)
   pub lax : IsContentReading malformed_text (Err (Malformed 3 WrongArguments))
@@ -78,6 +83,8 @@ pub record PartsAreShown : Type 0 where
   -- the greater of two versions is selected, whatever the versions of other paths are
   pub greater : IsSelected (codes "m") two_versions mid_ten
   pub other_path : IsSelected (codes "m") two_paths mid_nine
+  -- what stands behind the arrow of a row
+  pub replacing : replacement_text (Module (codes "fork.org") (codes "v1.9.0")) ≡ codes "fork.org v1.9.0"
   -- a row, and what follows it
   pub has_row : HasEntryFor (codes "m") three_rows (codes "end.org")
   pub rest : IsRestAfter (codes "m") three_rows (codes "end.org") ((Of low_nine, None) ∷ [])
@@ -93,6 +100,8 @@ pub record OthersDoNotHold : Type 0 where
   pub deep : (x : ModuleVersion) → IsDeep (run_of one_file None unopened_answers) x → ⊥
   -- or below one that requires a module with an unpruned file of a wrong path
   pub wrong_deep : (x : ModuleVersion) → IsDeep (run_of one_file None stray_answers) x → ⊥
+  -- an edge leaves a module that is not opened, though its file requires one
+  pub unopened : IsEdge (run_of alone_file None unopened_answers) (Of (first_of (codes "a"))) (first_of (codes "c")) → ⊥
   -- a file that may not be asked for says anything else, even if it was answered
   pub said : (said : Result Dependency Class) → FileSays (run_of local_file None local_answers) local_name said
       → said ≡ Err NotFetchable
