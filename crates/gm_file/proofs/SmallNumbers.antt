@@ -10,7 +10,8 @@ use Rattle.std.specs.Str.Parse.{ParsesUnsigned, digits_value}
 use Rattle.gm_file.specs.GoVersions.{small_number}
 use Rattle.gm_name.specs.Number.{starts_as_no_number}
 use Rattle.gm_name.specs.Names.{is_decimal}
-use Rattle.gm_name.proofs.NameTests.{and_both, digits, not_true}
+use Rattle.gm_name.proofs.Marks.{digits}
+use Rattle.gm_name.proofs.NameTests.{and_both, not_true}
 
 unread-by : (text : List ℕ) (b : Bool) → b ≡ nat_lt (digits_value 10 text) 1000000000 → is_decimal text ≡ true
     → ¬ ((list_all is_ascii_digit text ≡ true) × (0 < length text) × (digits_value 10 text < 2 ^ 32))
