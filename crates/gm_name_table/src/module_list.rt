@@ -132,13 +132,16 @@ impl ModuleList {
         self.numbers.truncate(len);
     }
 
-    /// The distinct modules, in the order of their numbers.
-    pub fn into_modules(self) -> Vec<ModVer>
-        ensures modules { result.items ≡ self.modules }
-        ensures distinct { IsDistinct pair_eq result.items }
-        ensures few { length result.items ≤ 4294967295 }
+    /// The distinct modules, in the order of their numbers, and the number of each module of the list.
+    pub fn into_parts(self) -> (Vec<ModVer>, Vec<u32>)
+        ensures modules { result.0.items ≡ self.modules }
+        ensures numbers { result.1.items ≡ self.numbers }
+        ensures below { AreModuleNumbers result.0.items result.1.items }
+        ensures distinct { IsDistinct pair_eq result.0.items }
+        ensures few { length result.0.items ≤ 4294967295 }
     {
-        self.table.into_modules()
+        let ModuleList { table, numbers } = self;
+        (table.into_modules(), numbers)
     }
 
     /// The numbers of the modules from one place of the list to another.
