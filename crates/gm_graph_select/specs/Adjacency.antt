@@ -1,6 +1,5 @@
 -- Edges by numbers. The number of a vertex is its place in a list of vertices.
-use Rattle.std.specs.Prelude.{◌≡◌, ◌<◌, ◌++◌, ⊤, ℕ, Bool, All, AllPairs, Contains, List, [], ◌∷◌, Option, None, Some, length, map, slice_index_or}
-use Rattle.std.specs.Global.{Vec}
+use Rattle.std.specs.Prelude.{◌≡◌, ◌≢◌, ◌<◌, ◌++◌, ⊤, ℕ, Bool, All, AllPairs, Contains, List, [], ◌∷◌, Option, None, Some, length, map, slice_index_or}
 use Rattle.std.specs.List.Sorted.{IsPermutation, IsSortedByKey}
 use Rattle.std.specs.Option.{option_cmp, option_map}
 use Rattle.std.specs.Ordering.{nat_cmp}
@@ -20,20 +19,20 @@ pub record StepEdges : Type 0 where
   pub to : List ℕ
 
 -- the list at a place: there is nothing at a place past the end
-abbrev pub list_at : List (Vec ℕ) → ℕ → List ℕ
-list_at lists place = slice_index_or (map (λ list. list.items) lists) place []
+abbrev pub list_at : List (List ℕ) → ℕ → List ℕ
+list_at lists place = slice_index_or lists place []
 
 -- the edges that leave the step of a source
-abbrev pub step_edges : List (Vec ℕ) → Source → StepEdges
+abbrev pub step_edges : List (List ℕ) → Source → StepEdges
 step_edges lists one = record { from = one.from; to = list_at lists one.list }
 
 -- the edges that leave the step of each source
-abbrev pub by_step : List (Vec ℕ) → List Source → List StepEdges
+abbrev pub by_step : List (List ℕ) → List Source → List StepEdges
 by_step lists sources = map (step_edges lists) sources
 
--- Each list is that of a source.
-abbrev pub AreUsed : List (Vec ℕ) → List Source → Type 0
-AreUsed lists sources = (place : ℕ) → place < length lists → (one : Source) × Contains sources one × (one.list ≡ place)
+-- Each list that isn't empty is that of a source.
+abbrev pub AreUsed : List (List ℕ) → List Source → Type 0
+AreUsed lists sources = (place : ℕ) → list_at lists place ≢ [] → (one : Source) × Contains sources one × (one.list ≡ place)
 
 -- the step with a number: the main module has none
 abbrev pub step_with : List ModuleVersion → Option ℕ → Step
@@ -81,13 +80,13 @@ abbrev pub rank_of : List ℕ → ℕ → ℕ
 rank_of ranks number = slice_index_or ranks number 0
 
 -- Each number of a list is that of one of so many vertices.
-abbrev pub IsNumberedList : ℕ → Vec ℕ → Type 0
-IsNumberedList count list = All (λ number. number < count) list.items
+abbrev pub IsNumberedList : ℕ → List ℕ → Type 0
+IsNumberedList count list = All (λ number. number < count) list
 
 -- The new list has ranks in the places of the old one's numbers, in ascending order.
-pub record IsByRanks (ranks : List ℕ) (old new : Vec ℕ) : Type 0 where
-  pub ascending : IsAscending nat_cmp new.items
-  pub members : HaveSame (map (rank_of ranks) old.items) new.items
+pub record IsByRanks (ranks old new : List ℕ) : Type 0 where
+  pub ascending : IsAscending nat_cmp new
+  pub members : HaveSame (map (rank_of ranks) old) new
 
 -- the source, with the rank of its step in the place of the number
 abbrev pub source_by_ranks : List ℕ → Source → Source

@@ -2,6 +2,7 @@ pub mod Graph
 pub mod Adjacency
 pub mod EdgeList
 pub mod Marking
+pub mod Spans
 pub mod StepOrder
 pub mod Order
 pub mod BuildList

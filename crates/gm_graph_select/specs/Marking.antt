@@ -1,6 +1,5 @@
 -- Numbers that are marked.
 use Rattle.std.specs.Prelude.{◌≡◌, ◌⊎◌, ◌↔◌, ℕ, Bool, true, false, List, Contains, length, slice_index_or}
-use Rattle.std.specs.Global.{Vec}
 use Rattle.std.specs.List.{flat_map}
 use Rattle.std.specs.Option.{option_to_list}
 use Rattle.gm_graph_select.specs.declared.adjacency.Source.{Source}
@@ -18,5 +17,5 @@ abbrev pub numbers_left : List Source → List ℕ
 numbers_left sources = flat_map (λ one. option_to_list one.from) sources
 
 -- the numbers in any of these lists
-abbrev pub numbers_listed : List (Vec ℕ) → List ℕ
-numbers_listed lists = flat_map (λ list. list.items) lists
+abbrev pub numbers_listed : List (List ℕ) → List ℕ
+numbers_listed lists = flat_map (λ list. list) lists

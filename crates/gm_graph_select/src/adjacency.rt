@@ -3,10 +3,9 @@
 //! A vertex may be as long as a file. While a graph is made a vertex is its number, which takes four bytes, and is
 //! compared at once. Steps with the same requirements share a list of these, so that it is held and sorted once.
 
-ghost use Rattle.std.specs.Prelude.{◌≡◌, ◌<◌, All, length, map};
-ghost use Rattle.std.specs.List.{AllZip};
+ghost use Rattle.std.specs.Prelude.{◌≡◌, ◌<◌, ◌≤◌, All, length, map, take};
 ghost use Rattle.std.specs.Option.{option_map};
-ghost use Rattle.gm_graph_select.specs.Adjacency.{AreSourcesByRanks, IsBelow, IsByRanks, IsNumberedList, list_at, rank_of, source_by_ranks};
+ghost use Rattle.gm_graph_select.specs.Adjacency.{AreSourcesByRanks, IsBelow, IsByRanks, IsNumberedList, rank_of, source_by_ranks};
 
 use crate::sorting::put_in_order;
 
@@ -18,16 +17,6 @@ pub struct Source {
     pub from: Option<u32>,
     /// The place of the list of the vertices that they lead to, among lists of numbers. Sources may share a list.
     pub list: usize,
-}
-
-/// The list at a place. There is nothing at a place past the end.
-pub(crate) fn list_at(lists: &[Vec<u32>], place: usize) -> &[u32]
-    ensures { result.now ≡ list_at lists.now place }
-{
-    match lists.get(place) {
-        None => &[],
-        Some(list) => list,
-    }
 }
 
 /// The rank at this number, if it is one.
@@ -51,25 +40,16 @@ fn put_ranks(numbers: &mut [u32], ranks: &[u32])
     }
 }
 
-/// Puts ranks in the places of a list's numbers, in ascending order, each once. It takes no memory. For n numbers it
-/// takes n log n comparisons, or only n if the ranks come in ascending order.
-fn rank_list(list: &mut Vec<u32>, ranks: &[u32])
-    requires { IsNumberedList (length ranks.now) list.old }
-    ensures { IsByRanks ranks.now list.old list.new }
+/// Puts ranks in the places of these numbers, in ascending order, each once, and returns how many there are. They are at
+/// the front. It takes no memory. For n numbers it takes n log n comparisons, or only n if the ranks come in ascending
+/// order.
+pub(crate) fn rank_list(numbers: &mut [u32], ranks: &[u32]) -> usize
+    requires { IsNumberedList (length ranks.now) numbers.old }
+    ensures count { result ≤ length numbers.old }
+    ensures ranks { IsByRanks ranks.now numbers.old (take result numbers.new) }
 {
-    put_ranks(list, ranks);
-    put_in_order(list);
-}
-
-/// These lists by ranks, each in ascending order.
-pub(crate) fn lists_by_ranks(mut lists: Vec<Vec<u32>>, ranks: &[u32]) -> Vec<Vec<u32>>
-    requires { All (IsNumberedList (length ranks.now)) lists.items }
-    ensures { AllZip (IsByRanks ranks.now) lists.items result.items }
-{
-    for list in lists.iter_mut() {
-        rank_list(list, ranks);
-    }
-    lists
+    put_ranks(numbers, ranks);
+    put_in_order(numbers)
 }
 
 /// Puts ranks in the places of the numbers of the steps that sources are.

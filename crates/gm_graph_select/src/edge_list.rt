@@ -5,7 +5,8 @@ ghost use Rattle.std.specs.Iterator.{YieldsFirst, YieldsFirstBy, item_count};
 ghost use Rattle.gm_graph_select.specs.Adjacency.{HaveNumbers, IsBelow, by_step, edges_of, step_with};
 ghost use Rattle.gm_graph_select.specs.EdgeList.{edge_of_ref, numbered_edges, step_of_ref};
 
-use crate::adjacency::{Source, list_at};
+use crate::adjacency::Source;
+use crate::number_lists::NumberLists;
 use crate::step::{Edge, Step};
 use gm_name::ModVer;
 use std::alloc::{AllocError, Global};
@@ -21,7 +22,7 @@ pub(crate) struct Pairs<'a> {
     /// The sources of the edges after them.
     sources: &'a [Source],
     /// The lists of the sources.
-    lists: &'a [Vec<u32>],
+    lists: &'a NumberLists,
 }
 
 impl<'a> Model for Pairs<'a> {
@@ -36,7 +37,7 @@ impl<'a> Model for Pairs<'a> {
 
 impl<'a> Pairs<'a> {
     /// The edges that leave all sources.
-    fn all(lists: &'a [Vec<u32>], sources: &'a [Source]) -> Pairs<'a>
+    fn all(lists: &'a NumberLists, sources: &'a [Source]) -> Pairs<'a>
         ensures { result ≡ numbered_edges (by_step lists.now sources.now) }
     {
         Pairs {
@@ -50,14 +51,14 @@ impl<'a> Pairs<'a> {
 
 /// The first edge that leaves one of these sources, and those after it.
 fn first_of<'a>(
-    lists: &'a [Vec<u32>],
+    lists: &'a NumberLists,
     sources: &'a [Source],
 ) -> Option<((Option<u32>, u32), Pairs<'a>)>
     ensures some { IfSome result (λ found. numbered_edges (by_step lists.now sources.now) ≡ found.0 ∷ found.1) }
     ensures none { IfNone result (numbered_edges (by_step lists.now sources.now) ≡ []) }
 {
     for (place, one) in sources.iter().enumerate() {
-        if let Some((number, to)) = list_at(lists, one.list).split_first() {
+        if let Some((number, to)) = lists.at(one.list).split_first() {
             let rest = Pairs {
                 from: one.from,
                 to,
@@ -168,7 +169,7 @@ impl<'a> Edges<'a> {
     /// The edges that leave all sources, by the numbers of these vertices.
     pub(crate) fn all(
         vertices: &'a [ModVer],
-        lists: &'a [Vec<u32>],
+        lists: &'a NumberLists,
         sources: &'a [Source],
     ) -> Edges<'a>
         requires { HaveNumbers (length vertices.now) (by_step lists.now sources.now) }

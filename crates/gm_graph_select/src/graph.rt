@@ -12,10 +12,12 @@ ghost use Rattle.gm_graph_select.specs.declared.step.Step.TheVariants.{Of};
 ghost use Rattle.gm_graph_select.specs.BuildList.{AreSelected};
 ghost use Rattle.gm_graph_select.specs.Graph.{AreEnds, IsEdgeEnd, among, edge_cmp};
 ghost use Rattle.gm_graph_select.specs.Order.{HaveSame, IsAscending};
+ghost use Rattle.gm_graph_select.specs.Spans.{AreApart, lists_at};
 
-use crate::adjacency::{Source, lists_by_ranks, sources_by_ranks};
+use crate::adjacency::{Source, sources_by_ranks};
 use crate::edge_list::Edges;
 use crate::marking::marks_of;
+use crate::number_lists::{NumberLists, Span};
 use crate::ranking::ranked;
 use crate::selecting::Selection;
 use gm_name::{ModPath, ModVer, NoMemory};
@@ -28,7 +30,7 @@ pub struct Graph {
     /// The vertices, in strictly ascending order.
     pub(crate) vertices: Vec<ModVer>,
     /// Lists of the ranks of vertices, each in strictly ascending order.
-    pub(crate) lists: Vec<Vec<u32>>,
+    pub(crate) lists: NumberLists,
     /// For each step that edges leave, by its rank, the list of the vertices that they lead to. The steps ascend.
     pub(crate) sources: Vec<Source>,
 }
@@ -40,17 +42,20 @@ impl Model for Graph {
 
     ghost view = { λ g. record {
       vertices = g.vertices.items;
-      edges = edges_of g.vertices.items (by_step g.lists.items g.sources.items);
+      edges = edges_of g.vertices.items (by_step g.lists g.sources.items);
       sources = g.sources.items;
     } };
 
-    ghost invariant = { λ g. AreRanked g.vertices.items (by_step g.lists.items g.sources.items) };
+    ghost invariant = { λ g. AreRanked g.vertices.items (by_step g.lists g.sources.items) };
 }
 
 impl Graph {
-    /// The graph of these edges by the numbers of modules. At most one source is each step, and each list is that of a
-    /// source; several may share a list. A list may have its numbers in any order, and twice. The modules are distinct;
-    /// those that no edge leads to and that are no sources are left out.
+    /// The graph of these edges by the numbers of modules. Each span is that of a list of numbers, and none begins before
+    /// the end of the one before it. At most one source is each step, and each list that isn't empty is that of a source;
+    /// several may share a list. A list may have its numbers in any order, and twice. The modules are distinct; those that
+    /// no edge leads to and that are no sources are left out.
+    ///
+    /// The numbers aren't copied: the graph has ranks in their places.
     ///
     /// The only refusal is `NoMemory`. For n vertices, s sources and lists of m numbers in all it takes n log n
     /// comparisons of vertices, and of numbers m log m + s log s at most, however many edges there are. Time and memory
@@ -58,24 +63,29 @@ impl Graph {
     pub fn new(
         alloc: Global,
         modules: Vec<ModVer>,
-        lists: Vec<Vec<u32>>,
+        numbers: Vec<u32>,
+        spans: Vec<Span>,
         sources: Vec<Source>,
     ) -> Result<Graph, NoMemory>
         requires few { length modules.items ≤ 4294967295 }
         requires distinct { IsDistinct pair_eq modules.items }
-        requires numbered { HaveNumbers (length modules.items) (by_step lists.items sources.items) }
-        requires once { IsDistinct (same_step modules.items) (by_step lists.items sources.items) }
-        requires used { AreUsed lists.items sources.items }
+        requires apart { AreApart 0 spans.items (length numbers.items) }
+        requires numbered { HaveNumbers (length modules.items)
+            (by_step (lists_at numbers.items spans.items) sources.items) }
+        requires once { IsDistinct (same_step modules.items)
+            (by_step (lists_at numbers.items spans.items) sources.items) }
+        requires used { AreUsed (lists_at numbers.items spans.items) sources.items }
         ensures vertices { IfOk result (λ graph. (x : ModuleVersion) → Contains graph.vertices x
-            ↔ (IsEdgeEnd (among graph.edges) x
-            ⊎ Contains (sources_of modules.items (by_step lists.items sources.items)) (Of x))) }
-        ensures edges { IfOk result (λ graph.
-            HaveSame (edges_of modules.items (by_step lists.items sources.items)) graph.edges) }
+            ↔ (IsEdgeEnd (among graph.edges) x ⊎ Contains (sources_of modules.items
+            (by_step (lists_at numbers.items spans.items) sources.items)) (Of x))) }
+        ensures edges { IfOk result (λ graph. HaveSame (edges_of modules.items
+            (by_step (lists_at numbers.items spans.items) sources.items)) graph.edges) }
         ensures ascending { IfOk result (λ graph. IsAscending edge_cmp graph.edges) }
     {
+        let lists = NumberLists::new(numbers, spans);
         let is_vertex = marks_of(alloc, modules.len(), &lists, &sources)?;
         let ranking = ranked(alloc, modules, &is_vertex)?;
-        let lists = lists_by_ranks(lists, &ranking.ranks);
+        let lists = lists.by_ranks(&ranking.ranks);
         let sources = sources_by_ranks(sources, &ranking.ranks);
         Ok(Graph {
             vertices: ranking.vertices,

@@ -6,6 +6,7 @@ ghost use Rattle.gm_graph_select.specs.Adjacency.{IsBelow, IsNumberedList};
 ghost use Rattle.gm_graph_select.specs.Marking.{AreMarked, HasMark, numbers_left, numbers_listed};
 
 use crate::adjacency::Source;
+use crate::number_lists::NumberLists;
 use std::alloc::{AllocError, Global};
 
 /// Marks this number, if it is one.
@@ -39,12 +40,12 @@ fn mark_sources(marks: &mut [bool], sources: &[Source])
 }
 
 /// Marks the numbers that any of these lists has.
-fn mark_lists(marks: &mut [bool], lists: &[Vec<u32>])
+fn mark_lists(marks: &mut [bool], lists: &NumberLists)
     requires { All (IsNumberedList (length marks.old)) lists.now }
     ensures { AreMarked marks.old (numbers_listed lists.now) marks.new }
 {
-    for list in lists {
-        mark_each(marks, list);
+    for place in 0..lists.len() {
+        mark_each(marks, lists.at(place));
     }
 }
 
@@ -52,7 +53,7 @@ fn mark_lists(marks: &mut [bool], lists: &[Vec<u32>])
 pub(crate) fn marks_of(
     alloc: Global,
     count: usize,
-    lists: &[Vec<u32>],
+    lists: &NumberLists,
     sources: &[Source],
 ) -> Result<Vec<bool>, AllocError>
     requires sources { All (λ one. IsBelow count one.from) sources.now }

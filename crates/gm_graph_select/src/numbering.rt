@@ -7,7 +7,7 @@ ghost use Rattle.gm_name.specs.ModuleVersion.{module_at};
 ghost use Rattle.gm_graph_select.specs.declared.step.Step.TheVariants.{Main, Of};
 ghost use Rattle.gm_graph_select.specs.Numbering.{AreInList, AreLeaving, HasList, IsGraph, number_left, step_at, steps_of};
 
-use crate::adjacency::{Source, list_at};
+use crate::adjacency::Source;
 use crate::graph::Graph;
 use gm_name::ModVer;
 
@@ -84,6 +84,6 @@ impl Graph {
     pub(crate) fn ranks_in(&self, list: usize) -> &[u32]
         ensures { AreInList self.now list result.now }
     {
-        list_at(&self.lists, list)
+        self.lists.at(list)
     }
 }

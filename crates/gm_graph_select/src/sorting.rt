@@ -2,7 +2,9 @@
 //!
 //! The graph's lists are stated as strictly ascending, so that equal graphs have equal lists.
 
-ghost use Rattle.std.specs.Prelude.{◌≡◌, false, true};
+ghost use Rattle.std.specs.Prelude.{◌≡◌, ◌≤◌, false, length, take, true};
+ghost use Rattle.std.specs.List.Sorted.{IsSorted};
+ghost use Rattle.std.specs.Ordering.{nat_cmp};
 ghost use Rattle.gm_name.specs.ModuleVersion.{pair_cmp};
 ghost use Rattle.gm_graph_select.specs.Order.{TiesAreEqual, HaveSame, IsAscending};
 
@@ -16,28 +18,51 @@ pub fn is_ascending<T: Ord>(items: &[T]) -> bool
     items.is_sorted_by(|a, b| a.cmp(b).is_lt())
 }
 
-/// Puts the items in strictly ascending order, without duplicates. Items that compare as equal must be the same. It
+/// The same items in strictly ascending order, without duplicates. Items that compare as equal must be the same. It
 /// takes no memory, and n log n comparisons, or only n if the items are in that order already.
-pub(crate) fn put_in_order<T: Ord + Drop>(items: &mut Vec<T>)
-    requires { TiesAreEqual T.cmp items.old.items }
-    ensures ascending { IsAscending T.cmp items.new.items }
-    ensures members { HaveSame items.old.items items.new.items }
-{
-    if is_ascending(items) {
-        return;
-    }
-    items.sort_unstable();
-    items.dedup();
-}
-
-/// The same items in strictly ascending order, without duplicates, as `put_in_order` leaves them.
 pub fn sorted<T: Ord + Drop>(mut items: Vec<T>) -> Vec<T>
     requires { TiesAreEqual T.cmp items.items }
     ensures ascending { IsAscending T.cmp result.items }
     ensures members { HaveSame items.items result.items }
 {
-    put_in_order(&mut items);
+    if is_ascending(&items) {
+        return items;
+    }
+    items.sort_unstable();
+    items.dedup();
     items
+}
+
+/// Moves numbers in ascending order to the front, each once, and returns how many there are.
+fn move_distinct(numbers: &mut [u32]) -> usize
+    requires { IsSorted nat_cmp numbers.old }
+    ensures count { result ≤ length numbers.old }
+    ensures ascending { IsAscending nat_cmp (take result numbers.new) }
+    ensures members { HaveSame numbers.old (take result numbers.new) }
+{
+    let mut count = 0;
+    for place in 0..numbers.len() {
+        let number = numbers[place];
+        if count == 0 || numbers[count - 1] != number {
+            numbers[count] = number;
+            count += 1;
+        }
+    }
+    count
+}
+
+/// Puts numbers in strictly ascending order at the front, without duplicates, and returns how many there are. It takes
+/// no memory, and n log n comparisons, or only n if the numbers are in that order already.
+pub(crate) fn put_in_order(numbers: &mut [u32]) -> usize
+    ensures count { result ≤ length numbers.old }
+    ensures ascending { IsAscending nat_cmp (take result numbers.new) }
+    ensures members { HaveSame numbers.old (take result numbers.new) }
+{
+    if is_ascending(numbers) {
+        return numbers.len();
+    }
+    numbers.sort_unstable();
+    move_distinct(numbers)
 }
 
 /// The same vertices in strictly ascending order, without duplicates. It takes no memory, and n log n comparisons, or
