@@ -87,7 +87,7 @@ gm_graph/src/worklist.rt make_marks: as many marks as it is told
 gm_graph_select/src/chaining.rt chain_to: one step
   let Step::Of(goal) = last else { return Ok(Some(vec![in alloc; Step::Main]?))
 gm_graph_select/src/graph.rt new: as many as there are modules
-  let is_vertex = marks_of(alloc, modules.len(), &lists, &sources)?
+  let lists = NumberLists::new(numbers, spans); let is_vertex = marks_of(alloc, modules.len(), &lists, &sources)?
 gm_graph_select/src/marking.rt marks_of: as many as it is told
   let mut marks = vec![in alloc; false; count]?
 gm_graph_select/src/ranking.rt ranking_of: one for each of them

@@ -1,11 +1,12 @@
 -- Ascending lists with the same members are equal.
-use Rattle.std.proofs.Common.{◌≡◌, zero, suc, List, [], ◌∷◌, ◌++◌, Contains, ap₂, ◌∙◌, sym, refl, subst, inl, inr, ◌⊎◌, ◌↔◌, arith}
-use Rattle.std.specs.Prelude.{AllPairs}
+use Rattle.std.proofs.Common.{◌≡◌, zero, suc, List, [], ◌∷◌, ◌++◌, Contains, ap₂, ◌∙◌, get_or, length, sym, refl, subst, inl, inr, ◌⊎◌, ◌↔◌, arith}
+use Rattle.std.specs.Prelude.{All, AllPairs}
 use Rattle.std.specs.Cmp.{IsTotalOrder}
 use Rattle.std.specs.declared.cmp.Ordering.{Ordering}
 use Rattle.std.specs.declared.cmp.Ordering.TheVariants.{Less, Equal}
-use Rattle.std.proofs.lemmas.List.Elements.{Contains-append_right}
-use Rattle.gm_graph_select.specs.Order.{IsAscending}
+use Rattle.std.proofs.lemmas.List.Elements.{Contains-append_cases, Contains-append_left, Contains-append_right, Contains-get_or}
+use Rattle.std.proofs.lemmas.List.Kept.{AllPairs-cons}
+use Rattle.gm_graph_select.specs.Order.{HaveSame, IsAscending}
 use Rattle.gm_graph_select.proofs.Ranges.{own_turn}
 
 -- ---- pairs of a list
@@ -37,6 +38,32 @@ module _ {T : Type 0} where
     | inl is ↦ subst (λ (z : T). R z e) is (pairs_head R b e (before ++ e ∷ after) h (Contains-append_right before (e ∷ after) e (member_head e after)))
     | inr rest ↦ pairs_split R before after e x (pairs_tail R b (before ++ e ∷ after) h) rest
   ]
+
+-- ---- two lists
+
+-- pairs within two lists and between them
+pub pairs_append : {T : Type 0} (R : T → T → Type 0) (xs ys : List T) → AllPairs R xs → AllPairs R ys → ((x y : T) → Contains xs x → Contains ys y → R x y) → AllPairs R (xs ++ ys)
+pairs_append R [] ys a b between = b
+pairs_append {T} R (x ∷ xs) ys a b between =
+    AllPairs-cons R x (xs ++ ys) firsts (pairs_append R xs ys (pairs_tail R x xs a) b (λ y z h k. between y z (member_tail x y xs h) k))
+  where
+    firsts : All (R x) (xs ++ ys)
+    firsts k d below = elim (Contains-append_cases xs ys (get_or (xs ++ ys) k d) (Contains-get_or (xs ++ ys) k d below)) [
+      | inl h ↦ pairs_head R x (get_or (xs ++ ys) k d) xs a h
+      | inr h ↦ between x (get_or (xs ++ ys) k d) (member_head x xs) h
+    ]
+
+pub same_append : {T : Type 0} (xs ys us vs : List T) → HaveSame xs ys → HaveSame us vs → HaveSame (xs ++ us) (ys ++ vs)
+same_append {T} xs ys us vs front back x = (
+  along xs ys us vs (λ h. (front x).0 h) (λ h. (back x).0 h),
+  along ys xs vs us (λ h. (front x).1 h) (λ h. (back x).1 h),
+)
+  where
+    along : (olds news cs ds : List T) → (Contains olds x → Contains news x) → (Contains cs x → Contains ds x) → Contains (olds ++ cs) x → Contains (news ++ ds) x
+    along olds news cs ds f g h = elim (Contains-append_cases olds cs x h) [
+      | inl here ↦ Contains-append_left news ds x (f here)
+      | inr later ↦ Contains-append_right news ds x (g later)
+    ]
 
 -- ---- ascending lists
 

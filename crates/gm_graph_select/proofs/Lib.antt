@@ -13,4 +13,6 @@ pub mod Marks
 pub mod Ranks
 pub mod RankedLists
 pub mod EdgeLists
+pub mod Moving
+pub mod Parts
 pub mod Vertices

@@ -5,7 +5,6 @@ use Rattle.std.specs.declared.cmp.Ordering.{Ordering}
 use Rattle.std.specs.declared.cmp.Ordering.TheVariants.{Less, Equal, Greater}
 use Rattle.std.specs.Cmp.{IsTotalOrder}
 use Rattle.std.specs.FinMap.{nat_cmp-IsAntisymmetric}
-use Rattle.std.specs.Global.{Vec}
 use Rattle.std.specs.List.Sorted.{IsNonDecreasingBy, IsPartitionPoint, IsSortedBy}
 use Rattle.std.specs.Option.{option_cmp}
 use Rattle.std.specs.Ordering.{is_lt, nat_cmp, ordering_index, ordering_reverse}
@@ -26,8 +25,9 @@ use Rattle.gm_graph_select.specs.Numbering.{AreInList, AreLeaving, HasList, IsGr
 use Rattle.gm_graph_select.specs.Order.{IsAscending}
 use Rattle.gm_graph_select.specs.StepOrder.{step_total}
 use Rattle.gm_graph_select.proofs.Ascending.{less_itself}
+use Rattle.gm_graph_select.proofs.Moving.{lower_number}
 use Rattle.gm_graph_select.proofs.Ranges.{lt_less}
-use Rattle.gm_graph_select.proofs.RankedLists.{edges_each, edges_only, from_mapped, in_mapped, lower_number}
+use Rattle.gm_graph_select.proofs.RankedLists.{edges_each, edges_only, from_mapped, in_mapped}
 
 pub number_in : (steps : List Step) (s : Step) → Contains steps s → (i : ℕ) × (i < length steps) × (step_at steps i ≡ s)
 number_in steps s (i, below, at) = (i, below, get_or_default steps i Main s below ∙ at)
@@ -198,7 +198,7 @@ module _ (vertices : List ModuleVersion) (all : List StepEdges) (sources : List 
 
 -- ---- sources by ranks
 
-module _ (vertices : List ModuleVersion) (lists : List (Vec ℕ)) (sources : List Source) (are : AreRanked vertices (by_step lists sources)) where
+module _ (vertices : List ModuleVersion) (lists : List (List ℕ)) (sources : List Source) (are : AreRanked vertices (by_step lists sources)) where
   abbrev pub its_graph : GraphView
   its_graph = record { vertices = vertices; edges = edges_of vertices (by_step lists sources); sources = sources }
 

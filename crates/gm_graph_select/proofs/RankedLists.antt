@@ -6,7 +6,6 @@ use Rattle.std.specs.declared.cmp.Ordering.TheVariants.{Less, Equal, Greater}
 use Rattle.std.specs.Cmp.{IsTotalOrder, nat_cmp_total, on_total}
 use Rattle.std.specs.Cmp.Lexicographic.{options_total}
 use Rattle.std.specs.FinMap.{nat_cmp-IsAntisymmetric}
-use Rattle.std.specs.Global.{Vec}
 use Rattle.std.specs.List.{AllZip, IsDistinct}
 use Rattle.std.specs.List.Sorted.{IsPermutation, IsSortedByKey}
 use Rattle.std.specs.Option.{option_cmp, option_map}
@@ -29,7 +28,8 @@ use Rattle.gm_graph_select.specs.Marking.{HasMark}
 use Rattle.gm_graph_select.specs.Order.{HaveSame, IsAscending}
 use Rattle.gm_graph_select.specs.Ranking.{AreRanks}
 use Rattle.gm_graph_select.specs.StepOrder.{step_eq, step_equiv}
-use Rattle.gm_graph_select.proofs.Ascending.{member_head, member_tail, pairs_head, pairs_tail}
+use Rattle.gm_graph_select.proofs.Ascending.{pairs_append, pairs_head, pairs_tail, same_append}
+use Rattle.gm_graph_select.proofs.Moving.{lower_number}
 use Rattle.gm_graph_select.proofs.Ranges.{step_itself}
 use Rattle.gm_graph_select.proofs.Sorts.{from_adjacent}
 
@@ -68,34 +68,7 @@ edges_permuted vertices old new same e = (along old new same, along new old (IsP
     along : (a b : List StepEdges) → IsPermutation a b → Contains (edges_of vertices a) e → Contains (edges_of vertices b) e
     along a b is h = let (one, there, at) = edges_only vertices a e h in edges_each vertices b one e (Contains-permutation a b one is there) at
 
-same_append : {T : Type 0} (xs ys us vs : List T) → HaveSame xs ys → HaveSame us vs → HaveSame (xs ++ us) (ys ++ vs)
-same_append {T} xs ys us vs front back x = (
-  along xs ys us vs (λ h. (front x).0 h) (λ h. (back x).0 h),
-  along ys xs vs us (λ h. (front x).1 h) (λ h. (back x).1 h),
-)
-  where
-    along : (olds news cs ds : List T) → (Contains olds x → Contains news x) → (Contains cs x → Contains ds x) → Contains (olds ++ cs) x → Contains (news ++ ds) x
-    along olds news cs ds f g h = elim (Contains-append_cases olds cs x h) [
-      | inl here ↦ Contains-append_left news ds x (f here)
-      | inr later ↦ Contains-append_right news ds x (g later)
-    ]
-
 -- ---- ascending edges
-
--- pairs within two lists and between them
-pairs_append : {T : Type 0} (R : T → T → Type 0) (xs ys : List T) → AllPairs R xs → AllPairs R ys → ((x y : T) → Contains xs x → Contains ys y → R x y) → AllPairs R (xs ++ ys)
-pairs_append R [] ys a b between = b
-pairs_append {T} R (x ∷ xs) ys a b between =
-    AllPairs-cons R x (xs ++ ys) firsts (pairs_append R xs ys (pairs_tail R x xs a) b (λ y z h k. between y z (member_tail x y xs h) k))
-  where
-    firsts : All (R x) (xs ++ ys)
-    firsts k d below = elim (Contains-append_cases xs ys (get_or (xs ++ ys) k d) (Contains-get_or (xs ++ ys) k d below)) [
-      | inl h ↦ pairs_head R x (get_or (xs ++ ys) k d) xs a h
-      | inr h ↦ between x (get_or (xs ++ ys) k d) (member_head x xs) h
-    ]
-
-pub lower_number : (a b : ℕ) → nat_cmp a b ≡ Less → a < b
-lower_number a b e = ranked a b Less (sym e)
 
 module _ (vertices : List ModuleVersion) (up : IsAscending pair_cmp vertices) where
   to_ascends : (s : Step) (to : List ℕ) → IsAscending nat_cmp to → All (λ n. n < length vertices) to → IsAscending edge_cmp (map (λ (n : ℕ). edge s (module_at vertices n)) to)
@@ -178,26 +151,6 @@ same_options None (Some b) e = absurd (cc e)
 same_options (Some a) None e = absurd (cc e)
 same_options (Some a) (Some b) e = ap Some (nat_cmp-IsAntisymmetric a b (tie (nat_cmp a b) e))
 
--- ---- one more list with ranks
-
--- A list that was not changed yet.
-pub same_here : (now old : List (Vec ℕ)) (i : ℕ) (d : Vec ℕ) → length now ≡ length old → i < length old → drop i now ≡ drop i old → get_or now i d ≡ get_or old i d
-same_here now old i d size inside rest =
-    let first : i < length now = omega (arith, size) in
-    first_is (get_or now i d) (get_or old i d) (drop (i + 1) now) (drop (i + 1) old) (sym (drop_more now i d first) ∙ rest ∙ drop_more old i d inside)
-  where
-    first_is : (a b : Vec ℕ) (xs ys : List (Vec ℕ)) → a ∷ xs ≡ b ∷ ys → a ≡ b
-    first_is a b xs ys e = cc
-
--- Those after it.
-pub same_rest : (now old : List (Vec ℕ)) (i : ℕ) (new : Vec ℕ) → drop i now ≡ drop i old → drop (i + 1) (set now i new) ≡ drop (i + 1) old
-same_rest now old i new rest = drop-set-lt (i + 1) now i new (omega arith) ∙ sym (drop-drop 1 i now) ∙ ap (λ (all : List (Vec ℕ)). drop 1 all) rest ∙ drop-drop 1 i old
-
-pub zip_step : (ranks : List ℕ) (old now : List (Vec ℕ)) (i : ℕ) (one new : Vec ℕ) → i < length old → i < length now → AllZip (IsByRanks ranks) (take i old) (take i now) → IsByRanks ranks (get_or old i one) new → AllZip (IsByRanks ranks) (take (i + 1) old) (take (i + 1) (set now i new))
-zip_step ranks old now i one new inside within front has =
-    subst (λ (all : List (Vec ℕ)). AllZip (IsByRanks ranks) (take (i + 1) old) all) (sym (take_more_set now i new within))
-    (all_zip_more (IsByRanks ranks) old (take i now) i (get_or old i one) new inside (get_or_default old i one (get_or old i one) inside) front has)
-
 -- ---- the edges of each step, from sources and lists
 
 -- The new edges have ranks in the places of the old ones' numbers, those of their ends in ascending order.
@@ -215,14 +168,14 @@ pub record AreByRanks (ranks : List ℕ) (old new : List StepEdges) : Type 0 whe
 
 module _ (ranks : List ℕ) where
   -- The same holds at each place, also past the end.
-  list_ranked : (olds news : List (Vec ℕ)) → AllZip (IsByRanks ranks) olds news → (place : ℕ) → IsAscending nat_cmp (list_at news place) × HaveSame (map (rank_of ranks) (list_at olds place)) (list_at news place)
+  list_ranked : (olds news : List (List ℕ)) → AllZip (IsByRanks ranks) olds news → (place : ℕ) → IsAscending nat_cmp (list_at news place) × HaveSame (map (rank_of ranks) (list_at olds place)) (list_at news place)
   list_ranked [] [] zip place = ((λ i j d lt below. absurd (omega (arith, below))), (λ x. ((λ h. h), (λ h. h))))
   list_ranked [] (b ∷ news) zip place = absurd zip
   list_ranked (a ∷ olds) [] zip place = absurd zip
   list_ranked (a ∷ olds) (b ∷ news) (one, rest) zero = (one.ascending, one.members)
   list_ranked (a ∷ olds) (b ∷ news) (one, rest) (suc place) = list_ranked olds news rest place
 
-  module _ (olds news : List (Vec ℕ)) (zip : AllZip (IsByRanks ranks) olds news) where
+  module _ (olds news : List (List ℕ)) (zip : AllZip (IsByRanks ranks) olds news) where
     zip_steps : (sources : List Source) → AllZip (HasRanks ranks) (by_step olds sources) (by_step news (map (source_by_ranks ranks) sources))
     zip_steps [] = tt
     zip_steps (one ∷ sources) =

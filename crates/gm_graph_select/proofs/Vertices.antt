@@ -1,10 +1,9 @@
 -- The vertices of a graph: the modules that its sources and lists name.
 use Rattle.std.proofs.Common.{◌≡◌, ◌⊎◌, ◌↔◌, ◌∙◌, ◌<◌, ◌++◌, ◌∷◌, [], ℕ, zero, suc, Bool, List, Option, None, Some, Contains, get_or, length, ap, arith, inl, inr, refl, subst, sym}
 use Rattle.std.specs.Prelude.{All}
-use Rattle.std.specs.Global.{Vec}
 use Rattle.std.specs.List.{AllZip, IsDistinct}
 use Rattle.std.specs.Option.{option_to_list}
-use Rattle.std.proofs.lemmas.List.{get_or-map, length-map}
+use Rattle.std.proofs.lemmas.List.{get_or-map, get_or_default, length-map}
 use Rattle.std.proofs.lemmas.List.Elements.{All-contains, Contains-append_cases, Contains-append_left, Contains-append_right, Contains-get_or}
 use Rattle.gm_name.specs.ModuleVersion.{ModuleVersion, module_at, pair_cmp}
 use Rattle.gm_graph_select.specs.declared.adjacency.Source.{Source}
@@ -16,6 +15,7 @@ use Rattle.gm_graph_select.specs.Graph.{IsEdgeEnd, among, edge}
 use Rattle.gm_graph_select.specs.Marking.{HasMark, numbers_left, numbers_listed}
 use Rattle.gm_graph_select.specs.Order.{HaveSame, IsAscending}
 use Rattle.gm_graph_select.specs.Ranking.{AreRanks, IsMarkedModule}
+use Rattle.gm_graph_select.proofs.Ascending.{no_member}
 use Rattle.gm_graph_select.proofs.Marks.{marked_inside, named_by, named_from, named_only, names_from, names_only, names_to, numbers_named}
 use Rattle.gm_graph_select.proofs.RankedLists.{AreByRanks, IsFromMarked, NamesMarked, edges_each, edges_only, from_mapped, in_mapped, lists_are_ranked, same_edges, steps_by_ranks}
 
@@ -85,15 +85,17 @@ module _ (modules : List ModuleVersion) (marks : List Bool) (all : List StepEdge
 
 -- ---- what sources and lists name
 
-listed_at : (lists : List (Vec ℕ)) (place number : ℕ) → Contains (list_at lists place) number → Contains (numbers_listed lists) number
+listed_at : (lists : List (List ℕ)) (place number : ℕ) → Contains (list_at lists place) number → Contains (numbers_listed lists) number
 listed_at [] place number h = absurd (omega (arith, h.1))
-listed_at (first ∷ lists) zero number h = Contains-append_left first.items (numbers_listed lists) number h
-listed_at (first ∷ lists) (suc place) number h = Contains-append_right first.items (numbers_listed lists) number (listed_at lists place number h)
+listed_at (first ∷ lists) zero number h = Contains-append_left first (numbers_listed lists) number h
+listed_at (first ∷ lists) (suc place) number h = Contains-append_right first (numbers_listed lists) number (listed_at lists place number h)
 
-module _ (lists : List (Vec ℕ)) (sources : List Source) where
-  -- A list that is used has the numbers that its sources lead to.
-  list_there : (place : ℕ) (d : Vec ℕ) (one : Source) → place < length lists → one.list ≡ place → list_at lists one.list ≡ (get_or lists place d).items
-  list_there place d one below is = ap (λ (n : ℕ). list_at lists n) is ∙ get_or-map (λ (list : Vec ℕ). list.items) lists place d [] below
+module _ (lists : List (List ℕ)) (sources : List Source) where
+  -- A list with a number is used.
+  its_source : AreUsed lists sources → (place number : ℕ) → Contains (list_at lists place) number → (one : Source) × Contains sources one × (list_at lists one.list ≡ list_at lists place)
+  its_source used place number h =
+      let (one, found, is) = used place (λ none. no_member number (subst (λ (ns : List ℕ). Contains ns number) none h)) in
+      (one, found, ap (λ (n : ℕ). list_at lists n) is)
 
   -- If each list is used, they name what the edges of steps name.
   steps_name : AreUsed lists sources → (number : ℕ) → Contains (numbers_left sources ++ numbers_listed lists) number ↔ Contains (numbers_named (by_step lists sources)) number
@@ -108,10 +110,11 @@ module _ (lists : List (Vec ℕ)) (sources : List Source) where
             (let (one, found, at) = named_only (λ (o : Source). option_to_list o.from) sources number left in
             named_by_source one found (Contains-append_left (option_to_list one.from) (list_at lists one.list) number at))
         | inr listed ↦
-            (let (list, (place, below, is), at) = named_only (λ (l : Vec ℕ). l.items) lists number listed in
-            let (one, found, same) = used place below in
+            (let (list, (place, below, is), at) = named_only (λ (ns : List ℕ). ns) lists number listed in
+            let here : list ≡ list_at lists place = sym is ∙ get_or_default lists place list [] below in
+            let (one, found, same) = its_source used place number (subst (λ (ns : List ℕ). Contains ns number) here at) in
             named_by_source one found (Contains-append_right (option_to_list one.from) (list_at lists one.list) number
-            (subst (λ (ns : List ℕ). Contains ns number) (sym (list_there place list one below same ∙ ap (λ (l : Vec ℕ). l.items) is)) at)))
+            (subst (λ (ns : List ℕ). Contains ns number) (here ∙ sym same) at)))
       ]
 
       back : Contains (numbers_named (by_step lists sources)) number → Contains (numbers_left sources ++ numbers_listed lists) number
@@ -130,10 +133,12 @@ module _ (lists : List (Vec ℕ)) (sources : List Source) where
         subst (λ (e : StepEdges). IsBelow count e.from) (get_or-map (step_edges lists) sources k d (step_edges lists d) below) is.from
 
     pub lists_below : AreUsed lists sources → All (IsNumberedList count) lists
-    lists_below used k d below =
-        let (one, found, same) = used k below in
+    lists_below used place d below k e inside =
+        let list = get_or lists place d in
+        let here : list ≡ list_at lists place = get_or_default lists place d [] below in
+        let (one, found, same) = its_source used place (get_or list k e) (subst (λ (ns : List ℕ). Contains ns (get_or list k e)) here (Contains-get_or list k e inside)) in
         let is = All-contains (IsNumbered count) (by_step lists sources) (step_edges lists one) numbered (in_mapped (step_edges lists) sources one found) in
-        subst (λ (ns : List ℕ). All (λ n. n < count) ns) (list_there k d one below same) is.to
+        subst (λ (ns : List ℕ). All (λ n. n < count) ns) (same ∙ sym here) is.to k e inside
 
 -- ---- a graph that was made
 
@@ -163,11 +168,11 @@ from_steps modules marks vertices ranks old new count are contains up ranked by 
 
 -- `lists`, `sources`, `is_vertex` and `places` are what the calls were given: the lists, the sources, the marks and the
 -- ranks.
-pub is_graph_of : (modules : List ModuleVersion) (marks is_vertex : List Bool) (vertices : List ModuleVersion) (ranks places others : List ℕ) (old_lists lists new_lists : List (Vec ℕ)) (old_sources sources new_sources : List Source)
+pub is_graph_of : (modules : List ModuleVersion) (marks is_vertex : List Bool) (vertices : List ModuleVersion) (ranks places others : List ℕ) (old_lists lists new_lists : List (List ℕ)) (old_sources sources new_sources : List Source)
     → lists ≡ old_lists → sources ≡ old_sources → is_vertex ≡ marks → places ≡ ranks → others ≡ ranks → AreUsed old_lists old_sources
     → length marks ≡ length modules → ((number : ℕ) → HasMark marks number ↔ Contains (numbers_left sources ++ numbers_listed lists) number)
     → ((x : ModuleVersion) → Contains vertices x ↔ IsMarkedModule modules is_vertex x) → IsAscending pair_cmp vertices → AreRanks modules is_vertex vertices ranks
-    → AllZip (IsByRanks places) old_lists new_lists → AreSourcesByRanks others old_sources new_sources → IsDistinct (same_step modules) (by_step old_lists old_sources)
+    → AllZip (IsByRanks places) lists new_lists → AreSourcesByRanks others old_sources new_sources → IsDistinct (same_step modules) (by_step old_lists old_sources)
     → IsGraphOf modules (by_step old_lists old_sources) vertices (by_step new_lists new_sources)
 is_graph_of modules marks is_vertex vertices ranks places others old_lists lists new_lists old_sources sources new_sources lists_are sources_are marks_are places_are others_are used count are contains up ranked zip by once =
     from_steps modules marks vertices ranks (by_step old_lists old_sources) (by_step new_lists new_sources) count named
@@ -175,13 +180,14 @@ is_graph_of modules marks is_vertex vertices ranks places others old_lists lists
     up
     (subst (λ (bs : List Bool). AreRanks modules bs vertices ranks) marks_are ranked)
     (steps_by_ranks ranks old_lists new_lists
-    (subst (λ (ns : List ℕ). AllZip (IsByRanks ns) old_lists new_lists) places_are zip) old_sources new_sources
+    (subst (λ (ls : List (List ℕ)). AllZip (IsByRanks ranks) ls new_lists) lists_are
+    (subst (λ (ns : List ℕ). AllZip (IsByRanks ns) lists new_lists) places_are zip)) old_sources new_sources
     (subst (λ (ns : List ℕ). AreSourcesByRanks ns old_sources new_sources) others_are by))
     once
   where
     given : (number : ℕ) → HasMark marks number ↔ Contains (numbers_left old_sources ++ numbers_listed old_lists) number
     given = subst (λ (ss : List Source). (number : ℕ) → HasMark marks number ↔ Contains (numbers_left ss ++ numbers_listed old_lists) number) sources_are
-        (subst (λ (ls : List (Vec ℕ)). (number : ℕ) → HasMark marks number ↔ Contains (numbers_left sources ++ numbers_listed ls) number) lists_are are)
+        (subst (λ (ls : List (List ℕ)). (number : ℕ) → HasMark marks number ↔ Contains (numbers_left sources ++ numbers_listed ls) number) lists_are are)
 
     named : (number : ℕ) → HasMark marks number ↔ Contains (numbers_named (by_step old_lists old_sources)) number
     named number =

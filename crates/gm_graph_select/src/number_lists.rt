@@ -19,6 +19,14 @@ pub struct Span {
     pub end: u32,
 }
 
+/// The numbers at a span.
+fn part(numbers: &[u32], span: Span) -> &[u32]
+    requires { IsWithin (length numbers.now) span }
+    ensures { result.now ≡ part_at numbers.now span }
+{
+    &numbers[span.start as usize..span.end as usize]
+}
+
 /// Puts ranks in the places of the numbers at a span, in ascending order, each once, and returns where they are: at the
 /// front of the span.
 fn rank_part(numbers: &mut [u32], span: Span, ranks: &[u32]) -> Span
@@ -90,7 +98,7 @@ impl NumberLists {
     {
         match self.spans.get(place) {
             None => &[],
-            Some(span) => &self.numbers[span.start as usize..span.end as usize],
+            Some(span) => part(&self.numbers, *span),
         }
     }
 

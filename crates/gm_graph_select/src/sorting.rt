@@ -3,7 +3,7 @@
 //! The graph's lists are stated as strictly ascending, so that equal graphs have equal lists.
 
 ghost use Rattle.std.specs.Prelude.{◌≡◌, ◌≤◌, false, length, take, true};
-ghost use Rattle.std.specs.List.Sorted.{IsSorted};
+ghost use Rattle.std.specs.List.Sorted.{IsNonDecreasing};
 ghost use Rattle.std.specs.Ordering.{nat_cmp};
 ghost use Rattle.gm_name.specs.ModuleVersion.{pair_cmp};
 ghost use Rattle.gm_graph_select.specs.Order.{TiesAreEqual, HaveSame, IsAscending};
@@ -35,7 +35,7 @@ pub fn sorted<T: Ord + Drop>(mut items: Vec<T>) -> Vec<T>
 
 /// Moves numbers in ascending order to the front, each once, and returns how many there are.
 fn move_distinct(numbers: &mut [u32]) -> usize
-    requires { IsSorted nat_cmp numbers.old }
+    requires { IsNonDecreasing numbers.old }
     ensures count { result ≤ length numbers.old }
     ensures ascending { IsAscending nat_cmp (take result numbers.new) }
     ensures members { HaveSame numbers.old (take result numbers.new) }

@@ -1,15 +1,16 @@
-use Rattle.std.proofs.Common.{sym, subst, List}
-use Rattle.std.proofs.lemmas.List.Filters.{dedup_is}
-use Rattle.gm_graph_select.specs.Order.{HaveSame, IsAscending}
-use Rattle.gm_graph_select.proofs.Sorts.{ascending, members}
+use Rattle.std.proofs.lemmas.List.Sorted.{Contains-permutation, IsNonDecreasingBy-from_sort, IsPermutation-sym}
+use Rattle.std.proofs.Common.{ℕ}
 use Rattle.gm_graph_select.proofs.sorting.put_in_order.Goals as goal
 
-pub returns-clause-ascending : goal.returns-clause-ascending
-returns-clause-ascending g c =
-    subst (λ (xs : List g.row.T.Denot). IsAscending g.T.Ord.cmp xs) (sym (dedup_is g.T.PartialEq.eq c.sort_unstable.new.self.items c.dedup.new.self.items c.dedup.ensures.filtered))
-    (ascending g.met.T.Ord.total g.met.T.Ord.matches_eq c.sort_unstable.new.self.items c.sort_unstable.ensures.sorted)
+pub move_distinct-requires : goal.move_distinct-requires
+move_distinct-requires c = IsNonDecreasingBy-from_sort (λ (n : ℕ). n) c.sort_unstable.new.self c.sort_unstable.ensures.sorted
 
 pub returns-clause-members : goal.returns-clause-members
-returns-clause-members g c =
-    subst (λ (xs : List g.row.T.Denot). HaveSame c.args.items.now.items xs) (sym (dedup_is g.T.PartialEq.eq c.sort_unstable.new.self.items c.dedup.new.self.items c.dedup.ensures.filtered))
-    (members g.met.T.Ord.total g.met.T.Ord.matches_eq g.met.T.Eq.laws c.args.items.now.items c.sort_unstable.new.self.items c.requires c.sort_unstable.ensures.permutation)
+returns-clause-members c = λ x.
+    let old = c.args.numbers.now in
+    let sorted = c.sort_unstable.new.self in
+    let same = c.sort_unstable.ensures.permutation in
+    let moved = c.move_distinct.ensures.members x in (
+      (λ h. moved.0 (Contains-permutation old sorted x same h)),
+      (λ h. Contains-permutation sorted old x (IsPermutation-sym old sorted same) (moved.1 h)),
+    )

@@ -20,7 +20,7 @@ returns-in-Ok-clause-some c =
     ap (λ (o : Source). nat_cmp (number_left o) number) (c.index.ensures ∙ ap (λ (xs : List Source). get_or xs place one) (sym c.deref.ensures.value))
     ∙ c.in-Ok.ensures.position (λ (o : Source). number_left o) (always_returns_same _ _ _ (λ a r f k. search (rules, of_calls))) one in
     subst (λ (g : GraphView). HasList g number one.list) c.self.view_is
-    (source_found c.self.inside.vertices.items c.self.inside.lists.items sources c.self.invariant number place one inside c.index.ensures equal)
+    (source_found c.self.inside.vertices.items c.self.inside.lists sources c.self.invariant number place one inside c.index.ensures equal)
 
 pub returns-in-Err-clause-none : goal.returns-in-Err-clause-none
 returns-in-Err-clause-none c =
@@ -29,4 +29,4 @@ returns-in-Err-clause-none c =
     let below = subst (λ (g : GraphView). number < length (steps_of g)) (sym c.self.view_is) c.requires in
     let says = c.in-Err.ensures.position (λ (o : Source). number_left o) (always_returns_same _ _ _ (λ a r f k. search (rules, of_calls))) in
     let says_all = subst (λ (xs : List Source). IsNonDecreasingBy (λ (y : Source). ordering_index (nat_cmp (number_left y) number)) xs → IsPartitionPoint (λ (y : Source). nat_cmp (number_left y) number ≡ Less) (λ (y : Source). nat_cmp (number_left y) number ≡ Greater) xs i) c.deref.ensures.value says in
-    subst (λ (g : GraphView). AreLeaving g number []) c.self.view_is (source_not_found c.self.inside.vertices.items c.self.inside.lists.items c.self.inside.sources.items c.self.invariant number i says_all below)
+    subst (λ (g : GraphView). AreLeaving g number []) c.self.view_is (source_not_found c.self.inside.vertices.items c.self.inside.lists c.self.inside.sources.items c.self.invariant number i says_all below)

@@ -11,7 +11,7 @@ use Rattle.gm_graph_select.proofs.NumberedSteps.{is_graph, vertex_not_found}
 use Rattle.gm_graph_select.proofs.graph.Graph.rank_of.Goals as goal
 
 pub returns-in-Ok-clause-graph : goal.returns-in-Ok-clause-graph
-returns-in-Ok-clause-graph c = subst IsGraph c.self.view_is (is_graph c.self.inside.vertices.items (by_step c.self.inside.lists.items c.self.inside.sources.items) c.self.inside.sources.items c.self.invariant)
+returns-in-Ok-clause-graph c = subst IsGraph c.self.view_is (is_graph c.self.inside.vertices.items (by_step c.self.inside.lists c.self.inside.sources.items) c.self.inside.sources.items c.self.invariant)
 
 pub returns-in-Ok-clause-some : goal.returns-in-Ok-clause-some
 returns-in-Ok-clause-some c =
@@ -21,7 +21,7 @@ returns-in-Ok-clause-some c =
     (c.in-Ok.ensures.bound, pair-anti (module_at c.deref.result.now rank) c.args.vertex.now (c.in-Ok.ensures.ok ([], []))))
 
 pub returns-in-Err-clause-graph : goal.returns-in-Err-clause-graph
-returns-in-Err-clause-graph c = subst IsGraph c.self.view_is (is_graph c.self.inside.vertices.items (by_step c.self.inside.lists.items c.self.inside.sources.items) c.self.inside.sources.items c.self.invariant)
+returns-in-Err-clause-graph c = subst IsGraph c.self.view_is (is_graph c.self.inside.vertices.items (by_step c.self.inside.lists c.self.inside.sources.items) c.self.inside.sources.items c.self.invariant)
 
 pub returns-in-Err-clause-none : goal.returns-in-Err-clause-none
 returns-in-Err-clause-none c =
