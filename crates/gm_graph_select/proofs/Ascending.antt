@@ -1,5 +1,5 @@
 -- Ascending lists with the same members are equal.
-use Rattle.std.proofs.Common.{◌≡◌, zero, suc, List, [], ◌∷◌, ◌++◌, Contains, ap₂, ◌∙◌, get_or, length, sym, refl, subst, inl, inr, ◌⊎◌, ◌↔◌, arith}
+use Rattle.std.proofs.Common.{◌≡◌, zero, suc, List, [], ◌∷◌, ◌++◌, Contains, ap₂, ◌∙◌, get_or, sym, refl, subst, inl, inr, ◌⊎◌, ◌↔◌, arith}
 use Rattle.std.specs.Prelude.{All, AllPairs}
 use Rattle.std.specs.Cmp.{IsTotalOrder}
 use Rattle.std.specs.declared.cmp.Ordering.{Ordering}
@@ -30,6 +30,10 @@ module _ {T : Type 0} where
 
   pub no_member : (x : T) → Contains [] x → ⊥
   no_member x h = omega (arith, h.1)
+
+  -- the member of a list of one
+  pub one_member : (x y : T) → Contains (x ∷ []) y → x ≡ y
+  one_member x y h = elim (member_cases x y [] h) [ inl is ↦ is | inr never ↦ absurd (no_member y never) ]
 
   -- a member before another one
   pub pairs_split : (R : T → T → Type 0) (before after : List T) (e x : T) → AllPairs R (before ++ e ∷ after) → Contains before x → R x e

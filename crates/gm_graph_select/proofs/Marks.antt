@@ -1,14 +1,16 @@
 -- Marks of the numbers that sources and lists name.
-use Rattle.std.proofs.Common.{◌≡◌, ◌⊎◌, ◌<◌, ◌+◌, ◌∙◌, ℕ, zero, suc, Bool, List, [], ◌∷◌, ◌++◌, Option, Some, None, Contains, length, append-nil, false, get_or, replicate, take, ap, arith, inl, inr, refl, subst, sym}
+use Rattle.std.proofs.Common.{◌≡◌, ◌⊎◌, ◌<◌, ◌+◌, ◌∙◌, ℕ, zero, suc, Bool, cond, List, [], ◌∷◌, ◌++◌, Option, Some, None, Contains, length, append-nil, true, false, get_or, replicate, set, take, ap, arith, inl, inr, refl, subst, sym}
 use Rattle.std.specs.List.{flat_map}
 use Rattle.std.specs.Option.{option_to_list}
-use Rattle.std.proofs.lemmas.Bool.{cases_lt, false≢true}
-use Rattle.std.proofs.lemmas.List.{get_or-replicate, get_or_past, length-replicate, take_more}
+use Rattle.std.proofs.lemmas.Bool.{cases_eq, cases_lt, false≢true}
+use Rattle.std.proofs.lemmas.List.{get_or-replicate, get_or-set_other, get_or-set_same, get_or_past, length-replicate, length-set, take_more}
 use Rattle.std.proofs.lemmas.List.Concat.{flat_map-append}
 use Rattle.std.proofs.lemmas.List.Elements.{Contains-append_cases, Contains-append_left, Contains-append_right}
+use Rattle.std.proofs.lemmas.List.Sums.{sum_by-set}
 use Rattle.gm_graph_select.specs.Adjacency.{StepEdges}
 use Rattle.gm_graph_select.specs.Marking.{AreMarked, HasMark}
-use Rattle.gm_graph_select.proofs.Ascending.{member_head, no_member}
+use Rattle.gm_graph_select.specs.Searching.{count_left}
+use Rattle.gm_graph_select.proofs.Ascending.{member_head, no_member, one_member}
 
 -- A marked number is one of those that there are.
 pub marked_inside : (marks : List Bool) (number : ℕ) → HasMark marks number → number < length marks
@@ -23,7 +25,38 @@ none_marked count number h = elim (cases_lt number count) [
   | inr past ↦ false≢true (sym (get_or_past (replicate count false) number false (omega (arith, past, length-replicate count false))) ∙ h)
 ]
 
+-- One number fewer is left.
+pub count_set : (marks : List Bool) (i : ℕ) → i < length marks → get_or marks i false ≡ false → count_left (set marks i true) + 1 ≡ count_left marks
+count_set marks i below none =
+    let sums = sum_by-set (λ (b : Bool). cond b 0 1) marks i true false below in
+    let one : cond (get_or marks i false) 0 1 ≡ 1 = ap {B = ℕ} (λ (b : Bool). cond b 0 1) none in
+    omega (arith, sums, one)
+
 -- ---- one more item that names numbers
+
+pub none_more : (marks : List Bool) → AreMarked marks [] marks
+none_more marks = record { count = refl; each = λ k. ((λ h. inl h), (λ so. elim so [ inl h ↦ h | inr never ↦ absurd (no_member k never) ])) }
+
+pub one_marked : (marks : List Bool) (number : ℕ) → number < length marks → AreMarked marks (number ∷ []) (set marks number true)
+one_marked marks number inside = record { count = length-set marks number true; each = λ k. (there k, back k) }
+  where
+    there : (k : ℕ) → HasMark (set marks number true) k → HasMark marks k ⊎ Contains (number ∷ []) k
+    there k h = elim (cases_eq k number) [
+      | inl is ↦ inr (0, omega arith, sym is)
+      | inr ne ↦ inl (sym (get_or-set_other marks number k true false ne) ∙ h)
+    ]
+
+    marked : HasMark (set marks number true) number
+    marked = get_or-set_same marks number true false inside
+
+    back : (k : ℕ) → HasMark marks k ⊎ Contains (number ∷ []) k → HasMark (set marks number true) k
+    back k so = elim (cases_eq k number) [
+      | inl is ↦ subst (λ (n : ℕ). HasMark (set marks number true) n) (sym is) marked
+      | inr ne ↦ get_or-set_other marks number k true false ne ∙ elim so [
+        | inl h ↦ h
+        | inr here ↦ absurd (ne (sym (one_member number k here)))
+      ]
+    ]
 
 -- Some numbers were marked, and then others.
 pub both_marked : (old mid new : List Bool) (first second : List ℕ) → AreMarked old first mid → AreMarked mid second new → AreMarked old (first ++ second) new

@@ -1,6 +1,5 @@
 -- Numbers in ascending order that are moved to the front, each once.
 use Rattle.std.proofs.Common.{◌≡◌, ◌≢◌, ◌+◌, ◌-◌, ◌<◌, ◌≤◌, ◌∙◌, ℕ, zero, suc, List, [], ◌∷◌, ◌++◌, Contains, ap, arith, drop, get_or, inl, inr, length, refl, set, subst, sym, take}
-use Rattle.std.specs.Prelude.{AllPairs}
 use Rattle.std.specs.Cmp.{nat_cmp_is}
 use Rattle.std.specs.declared.cmp.Ordering.TheVariants.{Less}
 use Rattle.std.specs.List.Sorted.{IsNonDecreasing}
@@ -10,7 +9,7 @@ use Rattle.std.proofs.lemmas.Cmp.{ranked}
 use Rattle.std.proofs.lemmas.List.{drop-drop, drop-set-lt, drop_more, get_or-take, get_or_default, length-set, length-take-le, take_more, take_more_set}
 use Rattle.std.proofs.lemmas.List.Elements.{Contains-append_left, Contains-get_or, Contains-push_cases}
 use Rattle.gm_graph_select.specs.Order.{HaveSame, IsAscending}
-use Rattle.gm_graph_select.proofs.Ascending.{no_member, pairs_append, same_append}
+use Rattle.gm_graph_select.proofs.Ascending.{pairs_append, same_append}
 
 lower_cmp : (a b : ℕ) → a < b → nat_cmp a b ≡ Less
 lower_cmp a b lt = sym (nat_cmp_is a b Less lt)

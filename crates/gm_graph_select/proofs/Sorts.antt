@@ -1,14 +1,15 @@
 -- Sorted lists without duplicates.
-use Rattle.std.proofs.Common.{◌≡◌, ◌+◌, ◌<◌, ℕ, Bool, true, false, List, [], ◌∷◌, length, get_or, Contains, ap, ◌∙◌, sym, refl, subst, arith}
+use Rattle.std.proofs.Common.{◌≡◌, ◌+◌, ◌<◌, ◌≤◌, ℕ, Bool, true, false, List, [], ◌∷◌, length, get_or, Contains, ap, ◌∙◌, sym, refl, subst, arith}
 use Rattle.std.proofs.lemmas.Bool.{false≢true}
+use Rattle.std.proofs.lemmas.Cmp.{by_ranked, ranked}
 use Rattle.std.specs.declared.cmp.Ordering.{Ordering}
 use Rattle.std.specs.declared.cmp.Ordering.TheVariants.{Less, Equal, Greater}
-use Rattle.std.specs.Ordering.{eq_by_cmp, is_lt}
+use Rattle.std.specs.Ordering.{eq_by_cmp, is_lt, nat_cmp, ordering_then}
 use Rattle.std.specs.Cmp.{IsTotalOrder, IsEquivalence, Equal-is}
 use Rattle.std.specs.List.{AllAdjacentBelow, dedup}
-use Rattle.std.specs.List.Sorted.{IsSorted, IsPermutation}
+use Rattle.std.specs.List.Sorted.{IsNonDecreasingBy, IsSorted, IsPermutation}
 use Rattle.std.proofs.lemmas.List.Kept.{Any-dedup, Contains-from_dedup, IsStrictlySortedBy-dedup}
-use Rattle.std.proofs.lemmas.List.Sorted.{Contains-permutation, IsPermutation-sym}
+use Rattle.std.proofs.lemmas.List.Sorted.{Contains-permutation, IsNonDecreasingBy-from_all_adjacent, IsPermutation-sym}
 use Rattle.std.proofs.lemmas.Map.Keys.{Less-from_sorted, sorted_from_all_adjacent}
 use Rattle.gm_graph_select.specs.Order.{IsAscending, HaveSame, TiesAreEqual}
 
@@ -45,3 +46,13 @@ from_adjacent {T} {cmp} total xs each i j d lt below =
 pub not_ascending : {T : Type 0} (cmp : T → T → Ordering) (xs : List T) (k : ℕ) → k + 1 < length xs → ((d : T) → false ≡ is_lt (cmp (get_or xs k d) (get_or xs (k + 1) d))) → IsAscending cmp xs → ⊥
 not_ascending cmp [] k below low up = omega (arith, below)
 not_ascending cmp (x ∷ xs) k below low up = false≢true (low x ∙ ap is_lt (up k (k + 1) x (omega arith) below))
+
+-- A list that ascends by a number first is in the order of these numbers.
+pub numbers_ascend : {T : Type 0} (number : T → ℕ) (cmp : T → T → Ordering) (xs : List T) → IsAscending (λ a b. ordering_then (nat_cmp (number a) (number b)) (cmp a b)) xs → IsNonDecreasingBy number xs
+numbers_ascend number cmp xs up = IsNonDecreasingBy-from_all_adjacent number xs (λ k d below.
+    at_most (number (get_or xs k d)) (number (get_or xs (k + 1) d)) (cmp (get_or xs k d) (get_or xs (k + 1) d)) (up k (k + 1) d (omega arith) below))
+  where
+    at_most : (m n : ℕ) (r : Ordering) → ordering_then (nat_cmp m n) r ≡ Less → m ≤ n
+    at_most m n r e = by_ranked (m < n) (m ≡ n) (n < m) (nat_cmp m n) (ranked m n (nat_cmp m n) refl)
+        (λ is low. omega (arith, low)) (λ is same. omega (arith, same))
+        (λ is high. absurd (let wrong : Greater ≡ Less = sym (ap (λ (o : Ordering). ordering_then o r) is) ∙ e in cc wrong))

@@ -1,5 +1,6 @@
 -- A breadth-first search for a vertex over the steps of a module graph.
-use Rattle.std.specs.Prelude.{◌≡◌, ◌≢◌, ◌↔◌, ◌<◌, ◌≤◌, ◌⊎◌, ◌+◌, ◌-◌, ℕ, suc, Bool, true, false, List, [], ◌∷◌, length, replicate, slice_index_or, slice_set, sum_by, Contains, if◌then◌else◌}
+use Rattle.std.specs.Prelude.{◌≡◌, ◌≢◌, ◌↔◌, ◌<◌, ◌≤◌, ◌⊎◌, ◌+◌, ◌-◌, ℕ, suc, Bool, true, false, List, [], length, map, replicate, slice_index_or, slice_set, sum_by, Contains, if◌then◌else◌}
+use Rattle.std.specs.List.Sorted.{IsNonDecreasingBy}
 use Rattle.std.specs.Ordering.{is_lt}
 use Rattle.gm_name.specs.ModuleVersion.{ModuleVersion}
 use Rattle.gm_graph_select.specs.declared.step.Step.{Step}
@@ -10,7 +11,7 @@ use Rattle.gm_graph_select.specs.declared.searching.Search.{Search}
 use Rattle.gm_graph_select.specs.Adjacency.{GraphView}
 use Rattle.gm_graph_select.specs.Graph.{Edges, edge, step_cmp}
 use Rattle.gm_graph_select.specs.Chains.{IsLevel, IsPredecessor, Leads}
-use Rattle.gm_graph_select.specs.Marking.{HasMark}
+use Rattle.gm_graph_select.specs.Marking.{AreMarked, HasMark}
 use Rattle.gm_graph_select.specs.Numbering.{HasList, graph_edges, step_at, steps_of}
 
 -- A path of at most that many edges leads from the main module to the step.
@@ -43,9 +44,9 @@ pub record IsTracedTo (graph : GraphView) (goal : ModuleVersion) (visits : List 
   pub some : 0 < length visits
   pub last : IsPredecessor (graph_edges graph) (visited_step (steps_of graph) visits (length visits - 1)) goal
 
--- No two of the visits are to the same step.
-abbrev pub AreOnce : List Visit → Type 0
-AreOnce visits = (v w : Visit) → Contains visits v → Contains visits w → v.number ≡ w.number → v ≡ w
+-- the numbers of the steps that are visited
+abbrev pub numbers_of : List Visit → List ℕ
+numbers_of visits = map (λ visit. visit.number) visits
 
 -- ---- what was found
 
@@ -73,12 +74,9 @@ first_state steps lists = record {
   passed = replicate lists false;
 }
 
-abbrev pub is_found_at : List Bool → ℕ → Bool
-is_found_at found number = slice_index_or found number false
-
 -- The vertex isn't the goal, and was found if it has a number.
 pub record IsFoundEnd (graph : GraphView) (goal : ModuleVersion) (found : List Bool) (y : ModuleVersion) : Type 0 where
-  pub end : (i : ℕ) → i < length (steps_of graph) → step_at (steps_of graph) i ≡ Of y → is_found_at found i ≡ true
+  pub end : (i : ℕ) → i < length (steps_of graph) → step_at (steps_of graph) i ≡ Of y → HasMark found i
   pub miss : y ≢ goal
 
 -- The edges that leave a step whose list was passed lead to vertices that were found and aren't the goal.
@@ -91,10 +89,11 @@ ArePassed graph goal found passed = (number list : ℕ) → number < length (ste
 abbrev pub count_left : List Bool → ℕ
 count_left found = sum_by (λ is_found. if is_found then 0 else 1) found
 
--- 1 if visits are due
-abbrev pub flag : List Visit → ℕ
-flag [] = 0
-flag (v ∷ due) = 1
+-- A visit of a step of the level, which names the place at which the step's predecessor was visited.
+pub record IsDue (graph : GraphView) (level : ℕ) (visits : List Visit) (visit : Visit) : Type 0 where
+  pub inside : visit.number < length (steps_of graph)
+  pub on_level : IsLevel (graph_edges graph) (step_at (steps_of graph) visit.number) level
+  pub traced : IsTraced (graph_edges graph) (steps_of graph) visits (length visits) visit
 
 -- All steps up to a level were visited but those due, which are the steps of the level in ascending order. The steps
 -- found are exactly those up to the level, and the goal is none of these.
@@ -102,16 +101,12 @@ pub record IsSearchedTo (graph : GraphView) (goal : ModuleVersion) (level : ℕ)
     (due : List Visit) : Type 0 where
   pub size : length state.found ≡ length (steps_of graph)
   pub found : (i : ℕ) → i < length (steps_of graph)
-      → (is_found_at state.found i ≡ true) ↔ IsWithin (graph_edges graph) level (step_at (steps_of graph) i)
+      → HasMark state.found i ↔ IsWithin (graph_edges graph) level (step_at (steps_of graph) i)
   pub listed : (i : ℕ) → i < length (steps_of graph)
       → IsLevel (graph_edges graph) (step_at (steps_of graph) i) level
       → (v : Visit) × Contains due v × (v.number ≡ i)
-  pub inside : (v : Visit) → Contains due v → v.number < length (steps_of graph)
-  pub on_level : (v : Visit) → Contains due v
-      → IsLevel (graph_edges graph) (step_at (steps_of graph) v.number) level
-  pub traced : (v : Visit) → Contains due v
-      → IsTraced (graph_edges graph) (steps_of graph) state.visits (length state.visits) v
-  pub ascending : (i j : ℕ) → i < j → j < length due → (visit_at due i).number < (visit_at due j).number
+  pub each : (v : Visit) → Contains due v → IsDue graph level state.visits v
+  pub ascending : IsNonDecreasingBy (λ visit. visit.number) due
   pub visits : AreTraced (graph_edges graph) (steps_of graph) state.visits
   pub far : IsWithin (graph_edges graph) level (Of goal) → ⊥
   pub none : state.next ≡ []
@@ -121,20 +116,11 @@ pub record IsSearchedTo (graph : GraphView) (goal : ModuleVersion) (level : ℕ)
 -- before and those of the next level that these edges lead to.
 pub record IsFollowed (graph : GraphView) (goal : ModuleVersion) (level : ℕ) (before : List Bool) (tried : List Edge)
     (state : State) : Type 0 where
-  pub size : length state.found ≡ length (steps_of graph)
-  pub keeps : (i : ℕ) → is_found_at before i ≡ true → is_found_at state.found i ≡ true
-  pub news : (i : ℕ) → is_found_at state.found i ≡ true
-      → (is_found_at before i ≡ true) ⊎ ((v : Visit) × Contains state.next v × (v.number ≡ i))
-  pub inside : (v : Visit) → Contains state.next v → v.number < length (steps_of graph)
-  pub found : (v : Visit) → Contains state.next v → is_found_at state.found v.number ≡ true
-  pub on_level : (v : Visit) → Contains state.next v
-      → IsLevel (graph_edges graph) (step_at (steps_of graph) v.number) (suc level)
-  pub traced : (v : Visit) → Contains state.next v
-      → IsTraced (graph_edges graph) (steps_of graph) state.visits (length state.visits) v
-  pub once : AreOnce state.next
+  pub found : AreMarked before (numbers_of state.next) state.found
+  pub count : count_left state.found + length state.next ≡ count_left before
+  pub each : (v : Visit) → Contains state.next v → IsDue graph (suc level) state.visits v
   pub ends : (e : Edge) → Contains tried e → IsFoundEnd graph goal state.found e.to
   pub visits : AreTraced (graph_edges graph) (steps_of graph) state.visits
-  pub count : count_left state.found + length state.next ≡ count_left before
   pub passed : ArePassed graph goal state.found state.passed
 
 -- It is a step's turn: it is on the level, and all edges of the level's lesser steps were followed. All steps up to
@@ -144,7 +130,19 @@ pub record IsTurn (graph : GraphView) (level : ℕ) (before : List Bool) (tried 
   pub lower : (t : Step) (y : ModuleVersion) → graph_edges graph t y → IsLevel (graph_edges graph) t level
       → is_lt (step_cmp t s) ≡ true → Contains tried (edge t y)
   pub full : (i : ℕ) → i < length (steps_of graph)
-      → IsWithin (graph_edges graph) level (step_at (steps_of graph) i) → is_found_at before i ≡ true
+      → IsWithin (graph_edges graph) level (step_at (steps_of graph) i) → HasMark before i
+
+-- The edge leaves the step that was visited at a place, whose turn it is. It leads to the step with a number, which isn't
+-- the goal.
+pub record IsNextEdge (graph : GraphView) (goal : ModuleVersion) (level : ℕ) (before : List Bool) (tried : List Edge)
+    (visits : List Visit) (place number : ℕ) (e : Edge) : Type 0 where
+  pub there : Contains graph.edges e
+  pub turn : IsTurn graph level before tried e.from
+  pub visited : place < length visits
+  pub inside : number < length (steps_of graph)
+  pub from : visited_step (steps_of graph) visits place ≡ e.from
+  pub to : step_at (steps_of graph) number ≡ Of e.to
+  pub miss : e.to ≢ goal
 
 -- The visit comes next, after those whose edges were followed.
 pub record IsVisitedNext (graph : GraphView) (goal : ModuleVersion) (level : ℕ) (before : List Bool) (tried : List Edge)

@@ -7,15 +7,16 @@
 //! If steps share a list, their edges lead to the same vertices, so those of a later one find nothing new. Each list is
 //! passed over once.
 
-ghost use Rattle.std.specs.Prelude.{◌≡◌, ◌≢◌, ◌<◌, ◌++◌, ◌∷◌, [], false, true, ℕ, Bool, Contains, IfNone, IfOk, IfSome, List, OnOk, length, slice_index_or, slice_set};
+ghost use Rattle.std.specs.Prelude.{◌≡◌, ◌<◌, ◌≤◌, ◌++◌, ◌∷◌, [], false, true, ℕ, Bool, IfNone, IfOk, IfSome, List, OnOk, length, slice_index_or, slice_set};
+ghost use Rattle.std.specs.List.Sorted.{IsNonDecreasingBy};
 ghost use Rattle.gm_name.specs.ModuleVersion.{ModuleVersion, module_at};
 ghost use Rattle.gm_graph_select.specs.declared.step.Edge.{Edge};
 ghost use Rattle.gm_graph_select.specs.declared.step.Step.TheVariants.{Of};
 ghost use Rattle.gm_graph_select.specs.Adjacency.{GraphView};
 ghost use Rattle.gm_graph_select.specs.Order.{HaveSame};
 ghost use Rattle.gm_graph_select.specs.Chains.{IsReached};
-ghost use Rattle.gm_graph_select.specs.Numbering.{IsGraph, graph_edges, step_at, steps_of};
-ghost use Rattle.gm_graph_select.specs.Searching.{AreOnce, AreTried, IsVisitedNext, IsFollowed, IsSearchedTo, IsTracedTo, IsTurn, first_state, state_of, visit_at, visited_step};
+ghost use Rattle.gm_graph_select.specs.Numbering.{IsGraph, graph_edges, steps_of};
+ghost use Rattle.gm_graph_select.specs.Searching.{AreTried, IsFollowed, IsNextEdge, IsSearchedTo, IsTracedTo, IsVisitedNext, first_state, state_of};
 
 use crate::graph::Graph;
 use crate::sorting::sorted;
@@ -73,10 +74,8 @@ impl Search {
 
     /// Notes that the list at this place was passed. There is nothing to note at a place past the end.
     fn pass(&mut self, list: usize)
-        ensures passed { self.new.is_passed.items ≡ slice_set self.old.is_passed.items list true }
-        ensures found { self.new.is_found ≡ self.old.is_found }
-        ensures visits { self.new.visits ≡ self.old.visits }
-        ensures next { self.new.next ≡ self.old.next }
+        ensures { state_of self.new
+            ≡ record (state_of self.old) { passed = slice_set self.old.is_passed.items list true } }
     {
         if list < self.is_passed.len() {
             self.is_passed[list] = true;
@@ -89,12 +88,9 @@ impl Search {
         requires { number < length self.old.is_found.items }
         ensures size { length self.new.is_found.items ≡ length self.old.is_found.items }
         ensures visits { self.new.visits ≡ self.old.visits }
-        ensures passed { self.new.is_passed ≡ self.old.is_passed }
         ensures followed { OnOk result ((graph : GraphView) (goal : ModuleVersion) (level : ℕ) (found : List Bool)
-            (tried : List Edge) (e : Edge) → IsGraph graph → length self.old.is_found.items ≡ length (steps_of graph)
-            → IsTurn graph level found tried e.from → visited_step (steps_of graph) self.old.visits.items before ≡ e.from
-            → before < length self.old.visits.items → step_at (steps_of graph) number ≡ Of e.to
-            → Contains graph.edges e → e.to ≢ goal
+            (tried : List Edge) (e : Edge) → IsGraph graph
+            → IsNextEdge graph goal level found tried self.old.visits.items before number e
             → IsFollowed graph goal level found tried (state_of self.old)
             → IsFollowed graph goal level found (tried ++ e ∷ []) (state_of self.new)) }
     {
@@ -166,15 +162,12 @@ impl Search {
         Ok(false)
     }
 
-    /// Takes the visits to the next level, in ascending order of their steps. No step may be found twice.
+    /// Takes the visits to the next level, in ascending order of their steps.
     fn take_level(&mut self, alloc: Global) -> Vec<Visit>
-        ensures found { self.new.is_found ≡ self.old.is_found }
-        ensures visits { self.new.visits ≡ self.old.visits }
-        ensures passed { self.new.is_passed ≡ self.old.is_passed }
-        ensures none { self.new.next.items ≡ [] }
+        ensures state { state_of self.new ≡ record (state_of self.old) { next = [] } }
         ensures members { HaveSame self.old.next.items result.items }
-        ensures ascending { AreOnce self.old.next.items → (i j : ℕ) → i < j → j < length result.items
-            → (visit_at result.items i).number < (visit_at result.items j).number }
+        ensures fewer { length result.items ≤ length self.old.next.items }
+        ensures ascending { IsNonDecreasingBy (λ visit. visit.number) result.items }
     {
         sorted(mem::replace(&mut self.next, Vec::new(alloc)))
     }

@@ -24,6 +24,7 @@ pub fn sorted<T: Ord + Drop>(mut items: Vec<T>) -> Vec<T>
     requires { TiesAreEqual T.cmp items.items }
     ensures ascending { IsAscending T.cmp result.items }
     ensures members { HaveSame items.items result.items }
+    ensures fewer { length result.items ≤ length items.items }
 {
     if is_ascending(&items) {
         return items;

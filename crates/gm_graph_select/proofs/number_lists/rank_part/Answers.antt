@@ -1,4 +1,4 @@
-use Rattle.std.proofs.Common.{◌≡◌, ◌-◌, ◌≤◌, arith, length, ℕ}
+use Rattle.std.proofs.Common.{arith}
 use Rattle.std.proofs.lemmas.List.Edits.{length-between}
 use Rattle.gm_graph_select.proofs.Parts.{part_ranked}
 use Rattle.gm_graph_select.proofs.number_lists.rank_part.Goals as goal

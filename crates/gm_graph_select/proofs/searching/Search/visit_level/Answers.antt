@@ -6,7 +6,8 @@ use Rattle.gm_name.specs.ModuleVersion.{module_at}
 use Rattle.gm_graph_select.specs.declared.searching.Visit.{Visit}
 use Rattle.gm_graph_select.specs.Numbering.{graph_edges, steps_of}
 use Rattle.gm_graph_select.specs.Searching.{AreTried, IsTraced, state_of, visit_at}
-use Rattle.gm_graph_select.proofs.BreadthFirst.{due_next, level_begins, traced_more, tried_more, tried_none}
+use Rattle.gm_graph_select.proofs.Ascending.{no_member}
+use Rattle.gm_graph_select.proofs.BreadthFirst.{due_next, level_begins, traced_more, tried_more}
 use Rattle.gm_graph_select.proofs.searching.Search.visit_level.Goals as goal
 
 pub loop-visit-init : goal.loop-visit-init
@@ -14,14 +15,14 @@ loop-visit-init c =
     let (level, h) = c.requires.searched in
     record {
       size = h.size;
-      traced = h.traced;
-      followed = λ level h. ([], tried_none c.args.graph.now c.args.due.now, level_begins c.args.graph.now (module_at c.args.graph.now.vertices c.args.goal) level (state_of c.args.self.now) c.args.due.now h);
+      traced = λ v there. (h.each v there).traced;
+      followed = λ level h. ([], (λ v there. absurd (no_member v there)), level_begins c.args.graph.now (module_at c.args.graph.now.vertices c.args.goal) level (state_of c.args.self.now) c.args.due.now c.requires.graph h);
     }
 
 pub visit-requires-clause-inside : goal.visit-requires-clause-inside
 visit-requires-clause-inside c =
     let (level, h) = c.requires.searched in
-    h.inside (visit_at c.args.due.now c.loop-visit.visit-index) (Contains-get_or c.args.due.now c.loop-visit.visit-index (record { number = 0; before = 0 }) (omega arith))
+    (h.each (visit_at c.args.due.now c.loop-visit.visit-index) (Contains-get_or c.args.due.now c.loop-visit.visit-index (record { number = 0; before = 0 }) (omega arith))).inside
 
 pub returns-then-branch-clause-found : goal.returns-then-branch-clause-found
 returns-then-branch-clause-found c = λ e.
@@ -32,7 +33,7 @@ returns-then-branch-clause-found c = λ e.
     let v = visit_at due i in
     let member : Contains due v = Contains-get_or due i (record { number = 0; before = 0 }) (omega arith) in
     c.in_ok-visit.ensures.found c.if-branch.true level c.args.self.now.is_found.items tried
-    (due_next c.args.graph.now (module_at c.args.graph.now.vertices c.args.goal) level (state_of c.args.self.now) (state_of c.loop-visit.self) due tried i v c.requires.graph h (omega arith)
+    (due_next c.args.graph.now (module_at c.args.graph.now.vertices c.args.goal) level (state_of c.args.self.now) due c.requires.graph h (state_of c.loop-visit.self) tried i v (omega arith)
     (get_or_default due i (record { number = 0; before = 0 }) v (omega arith)) all (c.loop-visit.invariant.traced v member) f)
 
 pub loop-visit-preserved : goal.loop-visit-preserved
@@ -48,7 +49,7 @@ loop-visit-preserved c = record {
       let is : v ≡ get_or due i v = get_or_default due i (record { number = 0; before = 0 }) v (omega arith) in
       let member : Contains due v = Contains-get_or due i (record { number = 0; before = 0 }) (omega arith) in
       let (more, g, new) = c.in_ok-visit.ensures.missed c.if-branch.false level c.args.self.now.is_found.items tried
-      (due_next c.args.graph.now (module_at c.args.graph.now.vertices c.args.goal) level (state_of c.args.self.now) (state_of c.loop-visit.self) due tried i v c.requires.graph h (omega arith) is all (c.loop-visit.invariant.traced v member) f) in
+      (due_next c.args.graph.now (module_at c.args.graph.now.vertices c.args.goal) level (state_of c.args.self.now) due c.requires.graph h (state_of c.loop-visit.self) tried i v (omega arith) is all (c.loop-visit.invariant.traced v member) f) in
       (tried ++ more, tried_more c.args.graph.now due i v tried more (omega arith) is all new, g);
 }
 
