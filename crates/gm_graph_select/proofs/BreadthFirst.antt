@@ -19,7 +19,7 @@ use Rattle.gm_graph_select.specs.Chains.{IsChain, IsLevel, IsPredecessor, IsReac
 use Rattle.gm_graph_select.specs.Marking.{AreMarked, HasMark}
 use Rattle.gm_graph_select.specs.Numbering.{AreInList, AreLeaving, HasList, IsGraph, edge_leaving, edges_leaving, graph_edges, step_at, steps_of}
 use Rattle.gm_graph_select.specs.Order.{HaveSame}
-use Rattle.gm_graph_select.specs.Searching.{ArePassed, AreTraced, AreTried, IsDue, IsFollowed, IsFoundEnd, IsNextEdge, IsSearchedTo, IsTraced, IsTracedTo, IsTurn, IsVisitedNext, IsWithin, State, first_state, numbers_of, visit_at, visited_step}
+use Rattle.gm_graph_select.specs.Searching.{ArePassed, AreTraced, AreTried, IsVisitDue, IsFollowed, IsFoundEnd, IsNextEdge, IsSearchedTo, IsTraced, IsTracedTo, IsTurn, IsVisitedNext, IsWithin, State, first_state, numbers_visited, visit_at, visited_step}
 use Rattle.gm_graph_select.proofs.Ascending.{member_head, no_member, one_member}
 use Rattle.gm_graph_select.proofs.Marks.{both_marked, count_set, none_marked, none_more, one_marked}
 use Rattle.gm_graph_select.proofs.NumberedSteps.{less_number, same_number, step_number, steps_ascend}
@@ -178,7 +178,7 @@ module _ (G : GraphView) (goal : ModuleVersion) (level : ℕ) (before : List Boo
       far : IsWithin E level (Of e.to) → ⊥
       far w = false≢true (sym none ∙ (f.found.each number).1 (inl (next.turn.full number next.inside (subst (λ (s : Step). IsWithin E level s) (sym next.to) w))))
 
-      its_visit : IsDue G (suc level) state.visits v
+      its_visit : IsVisitDue G (suc level) state.visits v
       its_visit = record {
         inside = next.inside;
         on_level = subst (λ (s : Step). IsLevel E s (suc level)) (sym next.to) (is_further E level e.to far e.from next.turn.on_level next.there);
@@ -195,11 +195,11 @@ module _ (G : GraphView) (goal : ModuleVersion) (level : ℕ) (before : List Boo
       pub new_end : IsFollowed G goal level before (tried ++ e ∷ []) after
       new_end = with_edges after (e ∷ []) (end_at after.found ((marked.each number).1 (inr (member_head number [])))) (record {
         found = subst (λ (ns : List ℕ). AreMarked before ns after.found) (sym (map-append (λ (w : Visit). w.number) state.next (v ∷ [])))
-            (both_marked before state.found after.found (numbers_of state.next) (number ∷ []) f.found marked);
+            (both_marked before state.found after.found (numbers_visited state.next) (number ∷ []) f.found marked);
         count = (let fewer = count_set state.found number below none in let old = f.count in omega (arith, length-append state.next (v ∷ []), fewer, old));
         each = λ w h. elim (Contains-push_cases state.next v w h) [
           | inl old ↦ f.each w old
-          | inr new ↦ subst (λ (u : Visit). IsDue G (suc level) state.visits u) new its_visit
+          | inr new ↦ subst (λ (u : Visit). IsVisitDue G (suc level) state.visits u) new its_visit
         ];
         ends = λ a h. later a.to (f.ends a h);
         visits = f.visits;
@@ -281,7 +281,7 @@ module _ (G : GraphView) (goal : ModuleVersion) (level : ℕ) (start : State) (d
   -- No edge was followed yet.
   pub level_begins : IsFollowed G goal level start.found [] start
   level_begins = record {
-    found = subst (λ (vs : List Visit). AreMarked start.found (numbers_of vs) start.found) (sym h.none) (none_more start.found);
+    found = subst (λ (vs : List Visit). AreMarked start.found (numbers_visited vs) start.found) (sym h.none) (none_more start.found);
     count = (let long = ap length h.none in omega (arith, long));
     each = λ v g. absurd (no_member v (subst (λ (vs : List Visit). Contains vs v) h.none g));
     ends = λ e g. absurd (no_member e g);
@@ -383,7 +383,7 @@ first_level G goal lists due are some main is = subst (λ (d : List Visit). IsSe
     (λ w. (marked.each i).1 (inr (0, omega arith, sym (only i inside (within_none (graph_edges G) (step_at (steps_of G) i) w))))),
   );
   listed = λ i inside l. (v, (0, omega arith, refl), sym (only i inside (within_none (graph_edges G) (step_at (steps_of G) i) (0, omega arith, l.leads))));
-  each = λ w there. subst (λ (u : Visit). IsDue G 0 [] u) (one_member v w there)
+  each = λ w there. subst (λ (u : Visit). IsVisitDue G 0 [] u) (one_member v w there)
       (record { inside = some; on_level = subst (λ (s : Step). IsLevel (graph_edges G) s 0) (sym main) (main_level (graph_edges G)); traced = inl main });
   ascending = IsNonDecreasingBy-short (λ (u : Visit). u.number) (v ∷ []) (omega arith);
   visits = record { inside = λ k below. absurd (omega (arith, below)); traced = λ k below. absurd (omega (arith, below)) };

@@ -9,7 +9,7 @@ use Rattle.std.proofs.lemmas.Slice.{between-put_mid, between_is, drop-put_mid, t
 use borrow.Rule.Slice.PartMut.{post_of, put_mid}
 use Rattle.gm_graph_select.specs.declared.number_lists.Span.{Span}
 use Rattle.gm_graph_select.specs.Adjacency.{IsByRanks}
-use Rattle.gm_graph_select.specs.Spans.{AreApart, IsPartByRanks, IsWithin, lists_at, part_at}
+use Rattle.gm_graph_select.specs.Spans.{AreApart, IsPartByRanks, IsPart, lists_at, part_at}
 use Rattle.gm_graph_select.proofs.Moving.{same_here, same_later}
 
 -- ---- spans that lie apart
@@ -19,10 +19,10 @@ apart_order [] from to h = h
 apart_order (span ∷ spans) from to (low, order, rest) = omega (arith, low, order, apart_order spans span.end to rest)
 
 -- each of them
-pub all_within : (spans : List Span) (from to : ℕ) → AreApart from spans to → All (IsWithin to) spans
-all_within [] from to h = All-nil (IsWithin to)
+pub all_within : (spans : List Span) (from to : ℕ) → AreApart from spans to → All (IsPart to) spans
+all_within [] from to h = All-nil (IsPart to)
 all_within (span ∷ spans) from to (low, order, rest) =
-    All-cons (IsWithin to) span spans (record { order = order; within = apart_order spans span.end to rest }) (all_within spans span.end to rest)
+    All-cons (IsPart to) span spans (record { order = order; within = apart_order spans span.end to rest }) (all_within spans span.end to rest)
 
 apart_further : (spans : List Span) (from to more : ℕ) → AreApart from spans to → to ≤ more → AreApart from spans more
 apart_further [] from to more h le = omega (arith, h, le)
@@ -83,7 +83,7 @@ module _ (ranks old : List ℕ) (spans : List Span) (now : List ℕ) (left : Lis
     next : AreApart are.end (one ∷ drop (place + 1) spans) (length old)
     next = subst (λ (all : List Span). AreApart are.end all (length old)) (drop_more spans place one inside ∙ ap (λ (s : Span). s ∷ drop (place + 1) spans) (sym here)) are.ahead
 
-    pub within_now : IsWithin (length now) one
+    pub within_now : IsPart (length now) one
     within_now = record { order = next.1; within = omega (arith, are.size, apart_order (drop (place + 1) spans) one.end (length old) next.2) }
 
     pub part_is : part_at now one ≡ part_at old (get_or spans place one)
@@ -146,7 +146,7 @@ module _ (ranks old : List ℕ) (span : Span) (part : List ℕ) (count : ℕ) wh
   abbrev new : List ℕ
   new = put_mid start width old part
 
-  module _ (within : IsWithin (length old) span) (size : length part ≡ width) (few : count ≤ width) where
+  module _ (within : IsPart (length old) span) (size : length part ≡ width) (few : count ≤ width) where
     front : between start (start + count) new ≡ take count part
     front = ap (λ (n : ℕ). take n (drop start new)) (let same : start + count - start ≡ count = omega arith in same)
         ∙ sym (take-take count width (drop start new) few)

@@ -45,8 +45,8 @@ pub record IsTracedTo (graph : GraphView) (goal : ModuleVersion) (visits : List 
   pub last : IsPredecessor (graph_edges graph) (visited_step (steps_of graph) visits (length visits - 1)) goal
 
 -- the numbers of the steps that are visited
-abbrev pub numbers_of : List Visit → List ℕ
-numbers_of visits = map (λ visit. visit.number) visits
+abbrev pub numbers_visited : List Visit → List ℕ
+numbers_visited visits = map (λ visit. visit.number) visits
 
 -- ---- what was found
 
@@ -90,7 +90,7 @@ abbrev pub count_left : List Bool → ℕ
 count_left found = sum_by (λ is_found. if is_found then 0 else 1) found
 
 -- A visit of a step of the level, which names the place at which the step's predecessor was visited.
-pub record IsDue (graph : GraphView) (level : ℕ) (visits : List Visit) (visit : Visit) : Type 0 where
+pub record IsVisitDue (graph : GraphView) (level : ℕ) (visits : List Visit) (visit : Visit) : Type 0 where
   pub inside : visit.number < length (steps_of graph)
   pub on_level : IsLevel (graph_edges graph) (step_at (steps_of graph) visit.number) level
   pub traced : IsTraced (graph_edges graph) (steps_of graph) visits (length visits) visit
@@ -105,7 +105,7 @@ pub record IsSearchedTo (graph : GraphView) (goal : ModuleVersion) (level : ℕ)
   pub listed : (i : ℕ) → i < length (steps_of graph)
       → IsLevel (graph_edges graph) (step_at (steps_of graph) i) level
       → (v : Visit) × Contains due v × (v.number ≡ i)
-  pub each : (v : Visit) → Contains due v → IsDue graph level state.visits v
+  pub each : (v : Visit) → Contains due v → IsVisitDue graph level state.visits v
   pub ascending : IsNonDecreasingBy (λ visit. visit.number) due
   pub visits : AreTraced (graph_edges graph) (steps_of graph) state.visits
   pub far : IsWithin (graph_edges graph) level (Of goal) → ⊥
@@ -116,9 +116,9 @@ pub record IsSearchedTo (graph : GraphView) (goal : ModuleVersion) (level : ℕ)
 -- before and those of the next level that these edges lead to.
 pub record IsFollowed (graph : GraphView) (goal : ModuleVersion) (level : ℕ) (before : List Bool) (tried : List Edge)
     (state : State) : Type 0 where
-  pub found : AreMarked before (numbers_of state.next) state.found
+  pub found : AreMarked before (numbers_visited state.next) state.found
   pub count : count_left state.found + length state.next ≡ count_left before
-  pub each : (v : Visit) → Contains state.next v → IsDue graph (suc level) state.visits v
+  pub each : (v : Visit) → Contains state.next v → IsVisitDue graph (suc level) state.visits v
   pub ends : (e : Edge) → Contains tried e → IsFoundEnd graph goal state.found e.to
   pub visits : AreTraced (graph_edges graph) (steps_of graph) state.visits
   pub passed : ArePassed graph goal state.found state.passed

@@ -13,7 +13,7 @@ abbrev pub lists_at : List ℕ → List Span → List (List ℕ)
 lists_at numbers spans = map (part_at numbers) spans
 
 -- The span is that of a part of a list of this length.
-pub record IsWithin (count : ℕ) (span : Span) : Type 0 where
+pub record IsPart (count : ℕ) (span : Span) : Type 0 where
   pub order : span.start ≤ span.end
   pub within : span.end ≤ count
 

@@ -5,7 +5,7 @@
 ghost use Rattle.std.specs.Prelude.{◌≡◌, ◌≤◌, All, length};
 ghost use Rattle.std.specs.List.{AllZip};
 ghost use Rattle.gm_graph_select.specs.Adjacency.{IsByRanks, IsNumberedList, list_at};
-ghost use Rattle.gm_graph_select.specs.Spans.{AreApart, IsPartByRanks, IsWithin, lists_at, part_at};
+ghost use Rattle.gm_graph_select.specs.Spans.{AreApart, IsPartByRanks, IsPart, lists_at, part_at};
 
 use crate::adjacency::rank_list;
 use std::marker::Model;
@@ -21,7 +21,7 @@ pub struct Span {
 
 /// The numbers at a span.
 fn part(numbers: &[u32], span: Span) -> &[u32]
-    requires { IsWithin (length numbers.now) span }
+    requires { IsPart (length numbers.now) span }
     ensures { result.now ≡ part_at numbers.now span }
 {
     &numbers[span.start as usize..span.end as usize]
@@ -30,7 +30,7 @@ fn part(numbers: &[u32], span: Span) -> &[u32]
 /// Puts ranks in the places of the numbers at a span, in ascending order, each once, and returns where they are: at the
 /// front of the span.
 fn rank_part(numbers: &mut [u32], span: Span, ranks: &[u32]) -> Span
-    requires within { IsWithin (length numbers.old) span }
+    requires within { IsPart (length numbers.old) span }
     requires numbered { IsNumberedList (length ranks.now) (part_at numbers.old span) }
     ensures { IsPartByRanks ranks.now numbers.old span numbers.new result }
 {
