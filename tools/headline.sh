@@ -5,8 +5,7 @@
 #   tools/headline.sh          writes the shown definitions into the pages anew: HEADLINE, REPORTS, BYTES, DIRECTIVES,
 #                              EDITS, NAMES, OTHERS; and copies of those that `list` needs into crates/page/specs
 #   tools/headline.sh --check  changes nothing, and tells which page or copy is out of step, or too long
-#   tools/headline.sh --names  lists the names that stand in two files of specs/, and what each exported contract
-#                              reaches
+#   tools/headline.sh --names  lists what each exported contract reaches
 #
 # Between the marks `<!-- show .. -->` and `<!-- end -->` of a page stands what the sources say, and it is written anew:
 #
@@ -68,9 +67,9 @@ def without_comments(text):
 class Definition:
     """A definition of a file in specs/: its comment, its text, and the names that it brings."""
 
-    def __init__(self, file, name, kind, comment, text, is_public):
+    def __init__(self, file, name, kind, comment, text):
         self.file, self.name, self.kind = file, name, kind
-        self.comment, self.text, self.is_public = comment, text, is_public
+        self.comment, self.text = comment, text
         self.code = without_comments(text)
         self.constructors = set(re.findall(r"(?m)^  ([A-Za-z_]\w*) :", self.code)) if kind == "data" else set()
 
@@ -107,9 +106,8 @@ def read(file):
         while first > 0 and lines[first - 1].startswith("--"):
             first -= 1
         head = HEAD.match(lines[at])
-        is_public = bool(re.match(r"(?:\w+ )?pub ", lines[at]))
         comment, body = "\n".join(lines[first:at]), "\n".join(lines[at:last + 1])
-        found[head[2]] = Definition(file, head[2], head[1], comment, body, is_public)
+        found[head[2]] = Definition(file, head[2], head[1], comment, body)
     return found, Scope(text)
 
 
@@ -392,16 +390,6 @@ def linked(source):
     return re.sub(r"`crates/([^`]+)`", r"[\1](../../crates/\1)", source)
 
 
-def duplicates():
-    """Public names that stand in two files of specs/."""
-    files = defaultdict(set)
-    for file, (definitions, _) in FILES.items():
-        for one in definitions.values():
-            if one.is_public:
-                files[one.name].add(file)
-    return {name: sorted(it) for name, it in files.items() if len(it) > 1}
-
-
 @functools.cache
 def exports(crate):
     """The names that a crate exports, and its public modules."""
@@ -588,11 +576,6 @@ def counts(option, pages):
     if option == "--names":
         for _, row, private in sorted(rows, key=lambda it: it[1]):
             print(f"  {row}{'; private: ' if private else ''}{' '.join(private)}")
-    found = duplicates()
-    print(f"{len(found)} names stand in two files of specs/")
-    if option == "--names":
-        for name, files in sorted(found.items()):
-            print(f"  {name}: {' '.join(files)}")
     return len(unshown(every, pages)[0])
 
 
