@@ -1,0 +1,188 @@
+"""Compares the man page and the completions with what `gomod --help` shows, as tools/check-help.sh says.
+
+    check_help.py
+"""
+import re
+import shlex
+import subprocess
+import sys
+
+MAN = "share/man/gomod.1"
+BASH, ZSH, FISH = (f"share/completions/{it}" for it in ("gomod.bash", "_gomod", "gomod.fish"))
+HELP = {"-h", "--help"}
+
+
+class Known:
+    """What --help shows, or a file has: commands, the options of each ("" is gomod itself), and operations."""
+
+    def __init__(self):
+        self.commands, self.options, self.operations = set(), {}, set()
+
+    def add(self, command, options):
+        """Adds options of a command."""
+        self.options.setdefault(command, set()).update(options)
+
+
+def text_of(name):
+    """The text of a file."""
+    with open(name, encoding="utf-8") as it:
+        return it.read()
+
+
+def section(text, head):
+    """The lines of help below a head, up to the next head."""
+    found = re.search(rf"(?ms)^{head}:\n(.*?)(?=^\S|\Z)", text)
+    return found[1] if found else ""
+
+
+def from_help():
+    """What --help shows."""
+
+    def help_of(*command):
+        return subprocess.run(["bin/gomod", *command, "--help"], capture_output=True, text=True, check=True).stdout
+
+    def options_of(text):
+        found = re.findall(r"(?m)^ {2,6}(?:(-\w), )?(--[\w-]+)", section(text, "Options"))
+        return {it for pair in found for it in pair if it}
+
+    known = Known()
+    known.add("", options_of(help_of()))
+    known.commands.update(re.findall(r"(?m)^  (\w+)", section(help_of(), "Commands")))
+    # the command help has no options of its own
+    for command in known.commands - {"help"}:
+        known.add(command, options_of(help_of(command)))
+    known.operations.update(re.findall(r"(?m)^  (\w+=)", help_of("edit").split("Usage:")[0]))
+    return known
+
+
+def flags(line):
+    """The options of a line of the man page: the words that follow Fl."""
+    found, is_flag = set(), False
+    for word in line.removeprefix(".").split():
+        if re.fullmatch(r"[A-Z][a-z]", word):
+            is_flag = word == "Fl"
+        elif is_flag and word not in ("|", ","):
+            found.add("-" + word)
+    return found
+
+
+def from_man():
+    """What the man page has in SYNOPSIS and OPERATIONS, and the names that COMMANDS and OPTIONS list."""
+    parts = dict(re.findall(r"(?ms)^\.Sh ([^\n]*)\n(.*?)(?=^\.Sh|\Z)", text_of(MAN)))
+    known = Known()
+    for form in re.split(r"(?m)^\.Nm$", parts["SYNOPSIS"])[1:]:
+        command = re.search(r"(?m)^\.Cm (\w+)", form)
+        name = command[1] if command else ""
+        known.commands.update([name] if name else [])
+        known.add(name, set().union(*map(flags, form.split("\n"))))
+        # -h and --help stand once, for all commands
+        if name and name != "help":
+            known.add(name, HELP)
+    known.operations.update(re.findall(r"(?m)^\.It Cm (\w+=)", parts["OPERATIONS"]))
+    items = re.findall(r"(?m)^\.It (Fl .*)", parts["OPTIONS"])
+    return known, set(re.findall(r"(?m)^\.It Cm (\w+)", parts["COMMANDS"])), set().union(*map(flags, items))
+
+
+def from_bash(commands):
+    """What the completion for bash offers."""
+
+    def completed(*words):
+        script = f'. {BASH}; COMP_WORDS=(gomod "$@"); COMP_CWORD=$#; _gomod; printf "%s\\n" "${{COMPREPLY[@]}}"'
+        ran = subprocess.run(["bash", "-c", script, "bash", *words], stdout=subprocess.PIPE, text=True, check=True)
+        return set(ran.stdout.split())
+
+    known = Known()
+    known.commands = completed("")
+    known.add("", completed("-"))
+    for command in commands | known.commands:
+        known.add(command, completed(command, "-"))
+    known.operations = completed("edit", "go.mod", "")
+    return known
+
+
+def from_zsh():
+    """What the completion for zsh has."""
+    text = re.sub(r"(?m)^ *#.*\n", "", text_of(ZSH)).replace("\\\n", "")
+    named = dict(re.findall(r"(?m)^  local (\w+)='(.*)'$", text))
+
+    def options_of(arguments):
+        found = set()
+        for word in shlex.split(arguments):
+            word = named.get(word[1:], word) if word.startswith("$") else word
+            option = re.match(r"(?:\([^)]*\))?(?:\{([-\w,]+)\}|(--?\w[-\w]*))", word)
+            found.update((option[1] or option[2]).split(",") if option else [])
+        return found
+
+    def array(name):
+        return shlex.split(re.search(rf"(?ms)^  {name}=\((.*?)\)$", text)[1])
+
+    known = Known()
+    known.add("", options_of(re.search(r"(?m)^  _arguments -C (.*?)&& return", text)[1]) - {"-C"})
+    known.commands.update(it.split(":")[0] for it in array("commands"))
+    branches = text[text.index("case $words[1] in"):]
+    for command, body in re.findall(r"(?ms)^    (\w+)\)\n(.*?)^      ;;", branches):
+        known.add(command, options_of(body.strip().removeprefix("_arguments ")))
+    known.operations.update(array("operations"))
+    return known
+
+
+def from_fish(commands):
+    """What the completion for fish has."""
+    known = Known()
+    for line in re.findall(r"(?m)^complete .*", text_of(FISH).replace("\\\n", "")):
+        words = shlex.split(line, comments=True)
+        given = [(name, value) for name, value in zip(words, words[1:]) if name in ("-n", "-l", "-s", "-a")]
+        condition = dict(given).get("-n", "")
+        seen = re.match(r"__fish_seen_subcommand_from ([\w ]+)", condition)
+        places = seen[1].split() if seen else [""] if condition else ["", *commands] if given else []
+        options = {"--" + value for name, value in given if name == "-l"}
+        options |= {"-" + value for name, value in given if name == "-s"}
+        for command in places:
+            known.add(command, options)
+        for value in [value for name, value in given if name == "-a"]:
+            if condition == "__fish_use_subcommand":
+                known.commands.update(value.split())
+            elif "edit" in places and "=" in value:
+                known.operations.update(value.split())
+    return known
+
+
+def compare(name, what, wanted, has):
+    """Prints what a part of a file lacks or has beyond what is wanted, and returns how much that is."""
+    for it in sorted(wanted - has):
+        print(f"{name}: {what}: lacks {it}")
+    for it in sorted(has - wanted):
+        print(f"{name}: {what}: has {it}, which --help does not show")
+    return len(wanted ^ has)
+
+
+def compare_all(name, wanted, has):
+    """The same for all that a file has."""
+    wrong = compare(name, "commands", wanted.commands, has.commands)
+    for command in sorted({*wanted.options, *has.options}):
+        options = wanted.options.get(command, set()), has.options.get(command, set())
+        wrong += compare(name, f"gomod {command}".strip(), *options)
+    return wrong + compare(name, "operations", wanted.operations, has.operations)
+
+
+def main():
+    """Compares each file, prints what was compared, and returns the status."""
+    wanted = from_help()
+    in_synopsis, listed_commands, listed_options = from_man()
+    wrong = compare_all(MAN, wanted, in_synopsis)
+    wrong += compare(MAN, "COMMANDS", wanted.commands, listed_commands)
+    wrong += compare(MAN, "OPTIONS", set().union(*wanted.options.values()), listed_options)
+    wrong += compare_all(BASH, wanted, from_bash(wanted.commands))
+    wrong += compare_all(ZSH, wanted, from_zsh())
+    wrong += compare_all(FISH, wanted, from_fish(wanted.commands))
+    counts = len(wanted.commands), sum(map(len, wanted.options.values())), len(wanted.operations)
+    print("%d commands, %d options and %d operations" % counts, end=", ")
+    print(f"in the man page and three completions: {wrong} wrong")
+    return 1 if wrong else 0
+
+
+if __name__ == "__main__":
+    if sys.argv[1:] in (["-h"], ["--help"]):
+        print(__doc__.strip())
+        sys.exit()
+    sys.exit(main(*sys.argv[1:]))

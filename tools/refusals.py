@@ -1,0 +1,186 @@
+"""Tries the edits that must fail, and their harmless twins, as tools/refusals.sh says.
+
+    refusals.py [--only | --table] [NAME..] [NAME/EDIT..]
+"""
+import os
+import re
+import shutil
+import subprocess
+import sys
+import tempfile
+
+PARTS = ("src", "specs", "proofs")
+# what antt says of an answer that names what is no longer there, and what follows its goal here
+GONE = re.compile(r"is not in scope|has no field|has no `|was not admitted")
+IS_GONE = " (its answer names what is gone)"
+
+
+def crates_below(name, lines):
+    """All crates of the repository below one, each once."""
+    found = []
+    for lower in lines.get(name, []):
+        if os.path.isdir(f"crates/{lower}"):
+            found += [it for it in [*crates_below(lower, lines), lower] if it not in found]
+    return found
+
+
+def read_edit(file):
+    """Its pairs as (path, old, new, twin), and the clause that it names."""
+    path, old, pairs, clause = None, None, [], None
+    for line in open(file, encoding="utf-8").read().split("\n"):
+        if line.startswith("file: "):
+            path = line[len("file: "):].strip()
+        elif line.startswith("old: "):
+            old = line[len("old: "):]
+        elif line.startswith("new:"):
+            pairs.append([path, old, line[len("new:"):].removeprefix(" "), None])
+        elif line.startswith("# twin: "):
+            pairs[-1][3] = line[len("# twin: "):]
+        elif line.startswith("# clause: "):
+            clause = line[len("# clause: "):].split()
+    return pairs, clause
+
+
+def changed(room, pairs, is_twin):
+    """The crate's files with the edit, or with its twin."""
+    texts = {}
+    for path, old, new, twin in pairs:
+        text = texts.get(path) or open(f"{room}/{path}", encoding="utf-8").read()
+        if is_twin and twin is None:
+            texts.setdefault(path, text)
+            continue
+        if text.count(old) != 1:
+            sys.exit(f"refusals: {path} has `{old}` {text.count(old)} times")
+        texts[path] = text.replace(old, twin if is_twin else new)
+    return texts
+
+
+def check(room, texts, only=None):
+    """Whether the crate, or one function of it, is proved with these texts, and where it is not: (function, goal)."""
+    kept = {path: open(f"{room}/{path}", encoding="utf-8").read() for path in texts}
+    for path, text in texts.items():
+        open(f"{room}/{path}", "w", encoding="utf-8").write(text)
+    words = ["rt", "check", "--jobs", "1", *(["--only", only] if only else [])]
+    ran = subprocess.run(words, cwd=room, stdin=subprocess.DEVNULL, stdout=subprocess.PIPE, stderr=subprocess.STDOUT,
+                         errors="replace")
+    for path, text in kept.items():
+        open(f"{room}/{path}", "w", encoding="utf-8").write(text)
+    goals, noted, unproved = [], [], []
+    for line in ran.stdout.splitlines():
+        answered = re.match(r"\./proofs/(\S+)/\w+\.antt:\d+:\d+: error: `([^`]*)`(.*)", line)
+        searched = re.match(r"fn \w+::(\S+): no proof: .*did not prove (.*)", line)
+        # where an answer fails, too, the goals that the search left open are told by file alone
+        told_by_file = re.match(r"note: src/(\S+)\.rt:\d+:\d+: it is not proved .*\(`([^`]*)`\)", line)
+        if answered:
+            is_gone = IS_GONE if GONE.search(answered[3]) else ""
+            goals.append((answered[1].replace("/", "::"), answered[2] + is_gone))
+        elif searched:
+            goals += [(searched[1], goal) for goal in re.findall(r"`([^`]*)`", searched[2])]
+        elif told_by_file:
+            noted.append((told_by_file[1].replace("/", "::"), told_by_file[2]))
+        elif function := re.match(r"fn \w+::(\S+): not proved$", line):
+            unproved.append(function[1])
+    goals += [(function, goal) for function in unproved for file, goal in noted if function.startswith(f"{file}::")]
+    return ran.returncode == 0, goals, ran.stdout
+
+
+def is_at(clause, goals):
+    """Whether one of the goals is that of the named function and clause, and its answer names nothing that is gone."""
+    function, name = clause[0], clause[1]
+    at_function = [goal for at, goal in goals
+                   if (at == function or at.endswith(f"::{function}")) and not goal.endswith(IS_GONE)]
+    if name == "returns":
+        return any(goal.startswith("returns") and "-clause-" not in goal for goal in at_function)
+    return any(goal == name or goal.endswith(f"-clause-{name}") for goal in at_function)
+
+
+def told(goals):
+    """The first goals, in words."""
+    return ", ".join(f"{at} {goal}" for at, goal in goals[:4]) or "no goal was named"
+
+
+def try_edit(room, name, edit, is_quick):
+    """Whether an edit is refused at its clause, and its twin proved. Prints how they went."""
+    pairs, clause = read_edit(f"crates/{name}/must-fail/{edit}.edit")
+    only = clause[0] if is_quick and clause else None
+    is_proved, goals, said = check(room, changed(room, pairs, False), only)
+    is_well = not is_proved and clause is not None and is_at(clause, goals)
+    found = "PROVED" if is_proved else "refused at " + " ".join(clause) if is_well else "other: " + told(goals)
+    if any(twin is not None for _, _, _, twin in pairs):
+        is_twin_proved, twin_goals, _ = check(room, changed(room, pairs, True), only)
+        found += "; twin proved" if is_twin_proved else "; twin REFUSED: " + told(twin_goals)
+        is_well = is_well and is_twin_proved
+    print(f"{name}/{edit}: {found}", flush=True)
+    return is_well
+
+
+def make_room(work, name, lines):
+    """A copy of the crate with what its last check kept, and the libraries below it."""
+    with open(f"{work}/crates.txt", "w") as out:
+        for it in [*crates_below(name, lines), name]:
+            out.write(f"{it}: {' '.join(lines[it])}\n")
+            os.makedirs(f"{work}/crates/{it}/out")
+            for part in PARTS:
+                if os.path.isdir(f"crates/{it}/{part}"):
+                    shutil.copytree(f"crates/{it}/{part}", f"{work}/crates/{it}/{part}")
+            kept = "incremental" if it == name else "rlib"
+            if os.path.isdir(f"crates/{it}/out/{kept}"):
+                # a check writes to what it kept, and only reads libraries
+                by = shutil.copy2 if it == name else os.link
+                shutil.copytree(f"crates/{it}/out/{kept}", f"{work}/crates/{it}/out/{kept}", copy_function=by)
+    subprocess.run(["git", "init", "-q", work], check=True)
+    return f"{work}/crates/{name}"
+
+
+def print_table(edits_by_crate):
+    """A row for each edit: its name in words, its crate and name, and the clause at which it is refused."""
+    is_well = True
+    print("| Body | Edit | Clause |\n|---|---|---|")
+    for name, edits in edits_by_crate:
+        for edit in edits:
+            pairs, clause = read_edit(f"crates/{name}/must-fail/{edit}.edit")
+            lacks = ["no clause is named"] if clause is None else []
+            lacks += ["no twin"] if all(twin is None for _, _, _, twin in pairs) else []
+            lacks += [f"changes {path}" for path in dict.fromkeys(it[0] for it in pairs) if not path.startswith("src/")]
+            place = [f"`{clause[1]}` of `{clause[0]}`"] if clause else []
+            print(f"| {edit.replace('_', ' ')} | {name}/{edit} | {'; '.join(place + lacks)} |")
+            if lacks:
+                print(f"crates/{name}/must-fail/{edit}.edit: {', '.join(lacks)}", file=sys.stderr)
+            is_well &= not lacks
+    return is_well
+
+
+def edits_of(name, chosen):
+    """The edits of a crate that the arguments choose."""
+    if name in chosen:
+        return sorted(it[:-len(".edit")] for it in os.listdir(f"crates/{name}/must-fail") if it.endswith(".edit"))
+    return [word.split("/", 1)[1] for word in chosen if word.startswith(f"{name}/")]
+
+
+def main(*words):
+    """Tries the edits that the words choose, or prints their table, and returns the status."""
+    rows = [line.split(":", 1) for line in open("crates.txt") if ":" in line and not line.startswith("#")]
+    lines = {name.strip(): below.split() for name, below in rows}
+    is_quick = "--only" in words
+    chosen = [word for word in words if word not in ("--only", "--table")]
+    chosen = chosen or [name for name in lines if os.path.isdir(f"crates/{name}/must-fail")]
+    edits_by_crate = [(name, edits_of(name, chosen)) for name in dict.fromkeys(it.split("/")[0] for it in chosen)]
+    if "--table" in words:
+        return 0 if print_table(edits_by_crate) else 1
+    is_well = True
+    for name, edits in edits_by_crate:
+        with tempfile.TemporaryDirectory(prefix="refusals-") as work:
+            room = make_room(work, name, lines)
+            is_proved, _, said = (True, [], "") if is_quick else check(room, {})
+            if not is_proved:
+                sys.exit(f"refusals: {name} itself is not proved\n{said[-2000:]}")
+            for edit in edits:
+                is_well &= try_edit(room, name, edit, is_quick)
+    return 0 if is_well else 1
+
+
+if __name__ == "__main__":
+    if sys.argv[1:] in (["-h"], ["--help"]):
+        print(__doc__.strip())
+        sys.exit()
+    sys.exit(main(*sys.argv[1:]))
