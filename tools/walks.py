@@ -1,4 +1,4 @@
-"""Prints the walks of docs/dev/WALKS.md call by call, for tools/walks.sh, and checks them in the sources.
+"""Prints the walks through the code call by call, for tools/walks.sh, and checks them in the sources.
 
     walks.py [--check]    --check prints only what is wrong; the status is 1 if something is
 """
