@@ -10,8 +10,9 @@ import re
 import shutil
 import socket
 import stat
-import sys
 import threading
+
+import script
 
 DATA = "crates/run_cases/data"
 ESCAPE = re.compile(rb'\\(?:(n|r|t|0|\\|"|x[0-9a-fA-F]{2})|\*([0-9]+)\*(?:\(([^)]*)\)|(.)))', re.S)
@@ -358,7 +359,7 @@ def lines_of_cases(path, choose):
 
 
 def chosen_cases(words, choose):
-    """Of each case that words name, by its file or a text in its title, or of all, the file and what `case_of` takes."""
+    """The file of each case that words name, by it or a text in its title, or of all, and what `case_of` takes."""
     folders = DATA, os.path.join(DATA, "sizes"), os.path.join(DATA, "program")
     every = [os.path.join(data, it) for data in folders for it in sorted(os.listdir(data)) if it.endswith(".txt")]
     titles = [it.encode() for it in words if not it.endswith(".txt")]
@@ -423,5 +424,4 @@ def remove(folder):
 
 
 if __name__ == "__main__":
-    print(__doc__.strip())
-    sys.exit(0 if sys.argv[1:] in (["-h"], ["--help"]) else 2)
+    script.run()

@@ -20,11 +20,11 @@
 # law and for a run without an outcome it has to be: whether the change allows another outcome, a reader of the error
 # that is printed judges. If it doesn't, the change needs a proof after `against`.
 #
-# If a change is refused only since a lemma that the worlds share no longer fits, that doesn't count: it says that a proof
-# rests on what was changed, not that the list would differ. The last changes say the same in other words, and must be
-# proved. For each that it tries it prints which of these it was, and the first error that shows it. The status is 1 if
-# one was otherwise, can't be made since its text isn't there once, or if a count differs. .ci/run tries some. It needs
-# python3, and to try changes rt and 2 GB of memory.
+# If a change is refused only since a lemma that the worlds share no longer fits, that doesn't count: it says that a
+# proof rests on what was changed, not that the list would differ. The last changes say the same in other words, and
+# must be proved. For each that it tries it prints which of these it was, and the first error that shows it. The status
+# is 1 if one was otherwise, can't be made since its text isn't there once, or if a count differs. .ci/run tries some.
+# It needs python3, and to try changes rt and 2 GB of memory.
 set -euo pipefail
 cd "$(dirname "$0")/.."
 # shellcheck source=tools/lib.sh
@@ -32,7 +32,10 @@ cd "$(dirname "$0")/.."
 help_if_asked tools/change-page.sh "$@"
 case ${1-} in
   --all) [ $# -eq 1 ] || refuse_arguments tools/change-page.sh "--all stands alone" ;;
-  --some) [[ $# -eq 2 && $2 =~ ^[1-9][0-9]{0,5}$ ]] || refuse_arguments tools/change-page.sh "--some takes a number of seconds" ;;
+  --some)
+    [[ $# -eq 2 && $2 =~ ^[1-9][0-9]{0,5}$ ]] ||
+      refuse_arguments tools/change-page.sh "--some takes a number of seconds"
+    ;;
   *)
     for word in "$@"; do
       [[ $word =~ ^[1-9][0-9]{0,2}$ ]] || refuse_arguments tools/change-page.sh "'$word' is not a number from 1"

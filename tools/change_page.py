@@ -15,6 +15,8 @@ import subprocess
 import sys
 import tempfile
 
+import script
+
 PAGE = pathlib.Path("crates/page")
 CHANGES = pathlib.Path("tools/page_changes.txt")
 COUNTED = pathlib.Path("docs/proof/HEADLINE.md")
@@ -69,7 +71,7 @@ SAID = {**REFUSED, SHAPE: "only a proof no longer fits", PROVED: "PROVED", UNREA
 
 @dataclasses.dataclass
 class Change:
-    """One change: what it changes, the file, the text that goes, the one that comes, import lines, and a proof of `⊥`."""
+    """One change: what it changes, the file, the text that goes, the one that comes, imports, and a proof of `⊥`."""
 
     title: str
     file: str
@@ -101,7 +103,7 @@ def changes():
 
 
 def constructors():
-    """The names of all constructors of the crate, of those of the library that values have, and of the worlds' modules."""
+    """The names of the crate's constructors, of those of the library that values have, and of the worlds' modules."""
     names = set("true false None Some Ok Err Less Equal Greater zero suc codes ◌∷◌".split())
     for path in [*PAGE.glob("specs/*.antt"), PAGE / "proofs/Checked.antt"]:
         names |= set(re.findall(r"(?m)^  (\w+) : ", path.read_text()))
@@ -129,7 +131,8 @@ def differing(message):
     """The pairs of terms in which an error says that two types differ."""
     sides = re.match(r"`\w+`: expected type `(.*) ≡ (.*)`, but this has type `(.*) ≡ (.*)`$", message.split("\n")[0])
     yield from zip(sides.groups()[:2], sides.groups()[2:]) if sides else ()
-    yield from re.findall(r"one has `([^`]*)`\s*\(expected\)[^`]*(?:`[^`]*`[^`]*)??and the other has `([^`]*)`\s*\(found\)", message)
+    pair = r"one has `([^`]*)`\s*\(expected\)[^`]*(?:`[^`]*`[^`]*)??and the other has `([^`]*)`\s*\(found\)"
+    yield from re.findall(pair, message)
 
 
 def verdict(said, names, change=None):
@@ -185,7 +188,8 @@ class Room:
 
     def tried(self, change):
         """What a check says of the crate with a change."""
-        file, modules, against = (self.copy / it for it in (change.path(), "proofs/Lib.antt", f"proofs/{AGAINST_FILE}.antt"))
+        names = change.path(), "proofs/Lib.antt", f"proofs/{AGAINST_FILE}.antt"
+        file, modules, against = (self.copy / it for it in names)
         texts = {it: it.read_text() for it in (file, modules)}
         try:
             file.write_text(change.applied(texts[file]))
@@ -229,7 +233,8 @@ def unreadable(numbered):
     for number, change in numbered:
         count = (PAGE / change.path()).read_text().count(change.old)
         if count != 1:
-            print(f"change-page: change {number}: its text is there {count} times in {PAGE / change.path()}", file=sys.stderr)
+            file = PAGE / change.path()
+            print(f"change-page: change {number}: its text is there {count} times in {file}", file=sys.stderr)
             wrong += 1
     return wrong
 
@@ -237,8 +242,9 @@ def unreadable(numbered):
 def miscounted(all_changes):
     """Whether the page has other counts of the changes than these; it prints what it should say."""
     wrong, equal = ([it for it in all_changes if it.is_equal == is_equal] for is_equal in (False, True))
-    says = f"lists {len(wrong)} changes that are wrong, of which {sum(it.is_seen for it in wrong)} were seen to be refused"
-    says += f", and {len(equal)} that say the same in other words, of which {sum(it.is_seen for it in equal)} were seen to be proved"
+    refused, proved = (sum(it.is_seen for it in of) for of in (wrong, equal))
+    says = f"lists {len(wrong)} changes that are wrong, of which {refused} were seen to be refused"
+    says += f", and {len(equal)} that say the same in other words, of which {proved} were seen to be proved"
     if says in COUNTED.read_text():
         return False
     print(f"change-page: {COUNTED} should say: {says}", file=sys.stderr)
@@ -253,9 +259,7 @@ def in_turn(numbered):
 
 
 def main(*words):
-    if words in (("-h",), ("--help",)):
-        print(__doc__, end="")
-        return 0
+    """Does what the words say, and returns the status."""
     numbered = [*enumerate(changes(), 1)]
     wrong = unreadable(numbered)
     if wrong or not words:
@@ -271,4 +275,4 @@ def main(*words):
 
 
 if __name__ == "__main__":
-    sys.exit(main(*sys.argv[1:]))
+    script.run(main)

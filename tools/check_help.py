@@ -5,7 +5,8 @@
 import re
 import shlex
 import subprocess
-import sys
+
+import script
 
 MAN = "share/man/gomod.1"
 BASH, ZSH, FISH = (f"share/completions/{it}" for it in ("gomod.bash", "_gomod", "gomod.fish"))
@@ -182,7 +183,4 @@ def main():
 
 
 if __name__ == "__main__":
-    if sys.argv[1:] in (["-h"], ["--help"]):
-        print(__doc__.strip())
-        sys.exit()
-    sys.exit(main(*sys.argv[1:]))
+    script.run(main)

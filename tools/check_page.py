@@ -8,9 +8,9 @@ import os
 import random
 import re
 import subprocess
-import sys
 import tempfile
 
+import script
 from go_worlds import hash_of, order_of, write
 
 MAIN = "example.com/m"
@@ -34,6 +34,7 @@ class File:
     replaces: dict = dataclasses.field(default_factory=dict)
 
     def text(self):
+        """The text of the file."""
         lines = [f"module {self.declared}"] * (self.declared is not None)
         lines += [f"go {self.go[0]}.{self.go[1]}"] * (self.go != (1, 16))
         lines += [f"require {path} {version}" for path, version in self.requirements]
@@ -107,6 +108,7 @@ class Page:
         return self.known[x]
 
     def first_that_applies(self, x, name):
+        """What the file of a module says: the first answer of the page that applies."""
         if not self.is_askable(x):
             return "NotFetchable"
         if name not in self.answers:
@@ -202,6 +204,7 @@ class Page:
         return path is not None and path not in [row[0] for row in rows]
 
     def outcome(self, after, limit):
+        """What `list` prints and reports, and its status."""
         if report := self.invalid_file():
             return "", report, 1
         if found := self.faults():
@@ -268,6 +271,7 @@ class World:
         self.answers[third] = File(third[0], (1, 17), [self.module()]).text()
 
     def add_replaces(self):
+        """Adds up to three replacements to the main file, and some of what they need."""
         for _ in range(self.random.choice([0, 0, 1, 2, 3])):
             path, version = ("local", "v1.0.0") if self.chance(0.2) else self.module()
             if path == "local" and self.chance(0.4):
@@ -289,6 +293,7 @@ class World:
             self.main.replaces[MAIN, None] = (self.random.choice(FOLDERS),)
 
     def add_sums(self):
+        """Makes a go.sum, or none, with some lines left out, wrong or doubled."""
         self.sums = None
         if self.chance(0.45):
             self.sums = {name: [hash_of(text)] for name, text in self.answers.items() if len(name) == 2}
@@ -449,7 +454,8 @@ WRONG = [
     wrong("no file is pruned", is_pruned=lambda self, go: False),
     wrong("the main file opens nothing deeply", from_main=lambda self: set()),
     wrong("an unpruned file opens nothing deeply", from_top=lambda self: set()),
-    wrong("a pruned file opens deeply too", from_top=lambda self: {y for x in self.top() for y in self.requirements(x)}),
+    wrong("a pruned file opens deeply too",
+          from_top=lambda self: {y for x in self.top() for y in self.requirements(x)}),
     wrong("deep modules end at pruned files", from_deep=lambda self, deep: {
         y for x in deep if self.is_unpruned(x) for y in self.requirements(x)}),
     wrong("deep modules open nothing", from_deep=lambda self, deep: set()),
@@ -461,8 +467,10 @@ WRONG = [
     wrong("go 2.0 is not pruned", is_pruned=lambda self, go: go[0] == 1 and go >= (1, 17)),
     wrong("a .mod file without a module line is right", is_right_path=lambda self, x, declared: declared is None
           or Page.is_right_path(self, x, declared)),
-    wrong("a host name may begin with a dash", is_fetchable=lambda self, path: Page.is_fetchable(self, path.lstrip("-"))),
-    wrong("a host name may have capital letters", is_fetchable=lambda self, path: Page.is_fetchable(self, path.lower())),
+    wrong("a host name may begin with a dash",
+          is_fetchable=lambda self, path: Page.is_fetchable(self, path.lstrip("-"))),
+    wrong("a host name may have capital letters",
+          is_fetchable=lambda self, path: Page.is_fetchable(self, path.lower())),
     wrong("the first replace that matches counts", replacement=lambda self, x: next(
         (right for left, right in self.main.replaces.items() if left[0] == x[0] and left[1] in (None, x[1])), None)),
     wrong("the patch number does not count", is_greater=lambda self, version, other: [
@@ -549,6 +557,7 @@ def run(program, world, room):
 
 
 def compare(program, count, seed, is_listing):
+    """Compares the program with the page in each world, and looks for one that refutes each misreading."""
     unrefuted, refuted, differing, printed = dict.fromkeys(WRONG), {}, 0, 0
     for number in range(seed, seed + count):
         world = World(number)
@@ -573,12 +582,9 @@ def compare(program, count, seed, is_listing):
 
 
 def main(*words):
-    if words in (("-h",), ("--help",)):
-        print(__doc__, end="")
-        return 0
     program, count, seed, *listing = words
     return compare(program, int(count), int(seed), bool(listing))
 
 
 if __name__ == "__main__":
-    sys.exit(main(*sys.argv[1:]))
+    script.run(main)

@@ -73,6 +73,7 @@ class Differences:
             self.counts[command].update(counts)
 
     def report(self, where, command, came, wanted, note=""):
+        """Counts and prints a difference that has no reason."""
         self.unexplained += 1
         print(f"{where}: {command}: a difference that docs/use/GO.md does not name{note and ': ' + note}")
         for what, text in (("gomod", came), ("go", wanted)):
@@ -90,6 +91,8 @@ class Differences:
 
 
 class Result:
+    """What a command came to: its status, its output and its report."""
+
     def __init__(self, ran):
         self.status, self.out = ran.returncode, ran.stdout.decode("utf-8", "surrogateescape")
         self.err = ran.stderr.decode("utf-8", "replace")
@@ -186,6 +189,7 @@ class Comparison:
                    for name, kind in faults for blamed, classes in go_faults(wanted.err))
 
     def same_lines(self, came, wanted, is_graph):
+        """Whether both printed the same lines; of a graph in any order, and without go's newer kinds of modules."""
         if came.status or wanted.status:
             return False
         ours, theirs = came.out.splitlines(), wanted.out.splitlines()
@@ -317,6 +321,7 @@ class Comparison:
                 self.compare_row(path, came, *rows[path], words, excludes)
 
     def compare_row(self, path, came, row, error, words, excludes):
+        """Compares the versions of a path that gomod prints with those of go's row."""
         command = "versions --retracted" if words else "versions"
         ours, theirs = came.out.split()[1:], row.split(" ")[1:]
         once = list(dict.fromkeys(theirs))
@@ -345,6 +350,7 @@ class Comparison:
         return self.found.report(self.where, f"{command} {path}", came.text(), f"{row}\n{error}")
 
     def compare_edit(self, main, operations):
+        """Compares what operations make of a main file."""
         flags = [f"-{it}" for it in operations]
         wanted = self.commands.ask_go(main, "mod", "edit", "-print", *flags, "go.mod", mod="")
         came = self.commands.ask(main, "edit", "go.mod", *operations)
@@ -356,6 +362,7 @@ class Comparison:
             self.found.report(self.where, "edit", came.text(), wanted.text(), note)
 
     def kinds_of_edit(self, main, came, wanted, operations):
+        """The kinds of a difference between two edits; none if there is no reason for it."""
         if came.status and wanted.status:
             return [BOTH]
         if came.status:
@@ -407,6 +414,7 @@ class Comparison:
         return [None] if None in kinds else sorted(kinds)
 
     def compare_layout(self, main, is_laid_out):
+        """Compares how a main file is laid out."""
         wanted = self.commands.ask_go(main, "mod", "edit", "-fmt", "-print", "go.mod", mod="")
         came = self.commands.ask(main, "fmt", "go.mod")
         if came.status or wanted.status:
@@ -472,6 +480,7 @@ def lost_by_go(text):
 
 
 def compare_world(go, seed, room, found):
+    """Compares all commands in the world of a seed."""
     world = World(seed, room)
     at = Comparison(f"world {seed}", Commands(go, room, world.proxy), found)
     for (path, version), (right, _) in world.replaces.items():
@@ -611,6 +620,7 @@ def compare_rows(go, name, found):
 
 
 def in_scratch(compare, *words):
+    """Calls a comparison with a folder before its last argument, which it removes at the end."""
     room = tempfile.mkdtemp(prefix="gomod-world-")
     try:
         compare(*words[:-1], room, words[-1])
@@ -621,6 +631,7 @@ def in_scratch(compare, *words):
 
 
 def main():
+    """Compares worlds, rows of GO.md or a module, as the words say."""
     parser = argparse.ArgumentParser(description=__doc__, formatter_class=argparse.RawDescriptionHelpFormatter)
     parser.add_argument("worlds", nargs="?", type=int, default=100)
     parser.add_argument("seed", nargs="?", type=int, default=1)

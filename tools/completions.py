@@ -20,6 +20,8 @@ import sys
 import tempfile
 import time
 
+import script
+
 TOP = os.path.dirname(os.path.dirname(os.path.abspath(__file__)))
 SECONDS = 30
 GO_MOD = """module example.com/hello
@@ -179,9 +181,6 @@ def differences(name, room):
 
 def main(*words):
     """Completes all lines in all shells."""
-    if words in (("-h",), ("--help",)):
-        print(__doc__, end="")
-        return 0
     if words:
         print("completions: completions.py --help says what it takes", file=sys.stderr)
         return 2
@@ -203,4 +202,4 @@ def main(*words):
 
 
 if __name__ == "__main__":
-    sys.exit(main(*sys.argv[1:]))
+    script.run(main)

@@ -14,6 +14,8 @@ import re
 import subprocess
 import sys
 
+import script
+
 # Names of the toolchain and of its crates that documents have and no source imports.
 ELSEWHERE = set("""
 Abort AllocError BTreeSet by_true CowStr get_or_insert get_or_insert_with index_mut into_iter not-source or_else
@@ -97,7 +99,7 @@ class Sources:
             if path.endswith((".rt", ".antt")):
                 for found in re.finditer(r"(?m)^\s*(?:ghost )?use Rattle[^{\n]*\{([^}]*)\}", "\n".join(lines_of(path))):
                     names = self.inner if "/proofs/" in path else self.imported
-                    names |= set(re.findall(r"[^\s,]+", found[1]))
+                    names.update(re.findall(r"[^\s,]+", found[1]))
             if path.endswith(".rt"):
                 self.read_code(crate, path)
             elif path.endswith(".antt") and crate:
@@ -108,6 +110,7 @@ class Sources:
         self.is_shallow = is_shallow()
 
     def read_code(self, crate, path):
+        """Reads what a source declares: names, with the modules and types that they are in, clauses, laws and tests."""
         module = os.path.basename(path)[:-3]
         parts = path.split("/")[3:-1] + [module]
         for it in parts:
@@ -166,6 +169,7 @@ class Sources:
             self.inner |= set(re.findall(r"(\w+):", line)) | set(re.findall(r"\blet (?:mut )?(\w+)", line))
 
     def read_definitions(self, path):
+        """Reads the names that a file of specs/ or proofs/ declares."""
         word = r"[^\s:(){},;.]+"
         names = self.defined if path.split("/")[2] == "specs" else self.inner
         self.defined.add(os.path.basename(path)[:-5])
@@ -248,6 +252,7 @@ class Document:
         return (self.section | named) if self.section else self.sources.crates
 
     def read(self):
+        """Looks up all that the document names."""
         is_fenced, lines = False, lines_of(self.name)
         for self.number, line in enumerate(lines, 1):
             if line.startswith("```"):
@@ -271,6 +276,7 @@ class Document:
             self.read_line(line)
 
     def read_line(self, line):
+        """Looks up what a line of text names."""
         self.read_files(line)
         self.read_names(line)
         self.read_clauses(line)
@@ -288,6 +294,7 @@ class Document:
         return list(zip(self.header, re.split(r"(?<!\\)\|", line.strip()[1:-1])))
 
     def read_files(self, line, is_block=False):
+        """Looks up files and folders."""
         sources = self.sources
         for found in re.finditer(r"(?<![\w/.@:~$!-])\.?\w[\w.-]*(?:/[\w.*-]+)*/?", line):
             word = found[0].rstrip(".").rstrip("/")
@@ -307,6 +314,7 @@ class Document:
                 self.tell("files", word in sources.bases, f"there is no file {word}")
 
     def is_file(self, path):
+        """Whether there is such a file or folder; a part in capitals is any name."""
         sources = self.sources
         path = "/".join(re.sub(r"^[A-Z]+(?=\.|$)", "*", it) for it in path.split("/"))
         names = (path, f"{path}.antt", f"{path}.rt")
@@ -315,6 +323,7 @@ class Document:
         return any(it in sources.files or it in sources.folders for it in names)
 
     def read_names(self, line):
+        """Looks up names in backquotes."""
         sources = self.sources
         is_inner = os.path.basename(self.name) == "PROOFS.md" or "proofs/" in line
         for found in re.finditer(TICKED, line):
@@ -336,6 +345,7 @@ class Document:
                 self.tell(f"{found[1]}s", name in known, f"there is no {found[1]} `{name}`")
 
     def read_clauses(self, line):
+        """Looks up the clauses of calls."""
         crates = self.crates_for(line)
         form = rf"{CALL}(?: \([^()]*\))?,? \(?(?:and )?clauses? ({LIST})(?! of `)"
         forms = [(it[1], it[2]) for it in re.finditer(form, line)]
@@ -348,6 +358,7 @@ class Document:
                 self.tell("clauses", known is not None and name in known, f"`{call}` has no clause `{name}`")
 
     def read_edits(self, line):
+        """Looks up edits that must fail."""
         sources = self.sources
         went = bool(self.header) and self.header[0] == "Edit that went"
         for found in re.finditer(r"(?<![\w/])(\w+)/([a-z]\w*)(?![\w/.])", line):
@@ -361,6 +372,7 @@ class Document:
                     self.tell("edits", is_right, f"there is no edit `{name}`")
 
     def read_commits(self, line):
+        """Looks up commits."""
         for found in re.finditer(r"(?<![\w.=-])(?:[0-9a-f]{40}|[0-9a-f]{7,12})(?![\w-])", line):
             if re.search("[a-f]", found[0]) and re.search("[0-9]", found[0]):
                 if self.sources.is_shallow:
@@ -370,6 +382,7 @@ class Document:
                     self.tell("commits", is_right, f"there is no commit {found[0]} before this one")
 
     def read_titles(self, line):
+        """Looks up the titles of cases."""
         known = set().union(*self.sources.titles.values())
         after = set()
         for found in re.finditer(r'\b([a-z_]+\.txt), ("[^"]+"(?:(?:, and |, | and )"[^"]+")*)', line):
@@ -396,6 +409,7 @@ class Document:
             self.tell("counts", number == there, f"there are {there:,} {found[2]}, not {found[1]}")
 
     def read_others(self, line):
+        """Looks up versions of the program and headings."""
         version = self.sources.version
         for found in re.finditer(r"gomod (\d+\.\d+\.\d+ \([^()]*\))", line):
             self.tell("versions", found[1] == version, f"gomod --version prints {version}")
@@ -408,6 +422,7 @@ class Document:
             self.tell("headings", is_right, f'{found[1]} has no section "{found[2]}"')
 
     def read_cell(self, name, cell, line):
+        """Looks up what a cell has that is a name because of its column."""
         sources = self.sources
         is_looked_up = re.search(r"\bCalls?\b|\bLaws?\b|\bClause\b|\bCarried by\b", name)
         if is_looked_up and os.path.basename(self.name) != "CASES.md":
@@ -439,7 +454,8 @@ def budgets():
 
 def words_in(lines):
     """How many words these lines have, outside examples, tables and comments."""
-    return sum(len(it.split()) for it in lines if not it.startswith(("    ", "|")) and not it.strip().startswith("<!--"))
+    text = [it for it in lines if not it.startswith(("    ", "|")) and not it.strip().startswith("<!--")]
+    return sum(len(it.split()) for it in text)
 
 
 def sections_of(path):
@@ -521,9 +537,7 @@ def keep_messages(tally):
 
 
 def main(*names):
-    if names in (("-h",), ("--help",)):
-        print(__doc__, end="")
-        return 0
+    """Looks up what the documents name, prints what isn't there, and returns the status."""
     if git("rev-parse", "HEAD").returncode:
         sys.exit("documents: this is no repository of git, so nothing can be looked up")
     sources = Sources()
@@ -543,4 +557,4 @@ def main(*names):
 
 
 if __name__ == "__main__":
-    sys.exit(main(*sys.argv[1:]))
+    script.run(main)

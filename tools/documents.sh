@@ -11,9 +11,9 @@
 #   tools/documents.sh FILE..    these, and neither budgets, figures nor usage errors
 #   tools/documents.sh --accept NAME..  writes the checksums anew of the sentences bound to these laws, or to `all`
 #
-# Beside each sentence of README.md on what is verified, and each of docs/proof/PROVED.md that names a law, a comment has
-# a checksum of the sentence and one of what the law states (tools/sentences.py). If one is no longer right, both texts
-# are printed. Who changes one compares them before --accept.
+# Beside each sentence of README.md on what is verified, and each of docs/proof/PROVED.md that names a law, a comment
+# has a checksum of the sentence and one of what the law states (tools/sentences.py). If one is no longer right, both
+# texts are printed. Who changes one compares them before --accept.
 #
 # What is looked at is what stands in the notation of docs/dev/DEVELOPING.md ("What a document names"); anything else
 # isn't. The other budgets are a table below, of single documents and of several together. Their words are what blanks

@@ -18,6 +18,8 @@ import sys
 import tempfile
 from typing import Callable, NamedTuple
 
+import script
+
 MOST = 2.4
 # without valgrind CPU time is measured: of greater inputs, and the least of so many runs
 LARGER, RUNS = 16, 5
@@ -218,7 +220,4 @@ def main(program):
 
 
 if __name__ == "__main__":
-    if sys.argv[1:2] in (["-h"], ["--help"]):
-        print(__doc__.strip())
-        sys.exit()
-    sys.exit(main(*sys.argv[1:]))
+    script.run(main)

@@ -14,10 +14,11 @@ import random
 import re
 import shutil
 import subprocess
-import sys
 import tempfile
 import time
 from typing import NamedTuple
+
+import script
 
 # the errors that the manual pages of Linux name for each call: open(2), read(2), write(2), close(2)
 ERRORS = {
@@ -32,8 +33,8 @@ LENGTHS = {"read": range(1, 20), "write": range(20)}
 with open("example/go.mod", "rb") as main_file, open("example/go.sum", "rb") as sum_file:
     MAIN, SUMS = main_file.read(), sum_file.read()
 # Two command lines or more of each command, each with its standard input. Together those of a command read each kind of
-# file that it has: by name and from standard input, of a proxy and a folder, with and without sums. E is example/, D and
-# V are of the cases, and M has a main file whose faults are longer than what is written at once.
+# file that it has: by name and from standard input, of a proxy and a folder, with and without sums. E is example/, D
+# and V are of the cases, and M has a main file whose faults are longer than what is written at once.
 LINES = [
     ("fmt E/hand-written.mod", b""),
     ("fmt -", MAIN),
@@ -83,7 +84,7 @@ class Fault(NamedTuple):
 
 
 class Call(NamedTuple):
-    """A call of the run without a fault: the file of an open, read or close, or the stream of a write, and the result."""
+    """A call of the run without a fault: the file of an open, read or close or the stream of a write, and the result."""
 
     call: str
     file: str
@@ -290,7 +291,4 @@ def main(program, library, seconds, seed):
 
 
 if __name__ == "__main__":
-    if sys.argv[1:2] in (["-h"], ["--help"]):
-        print(__doc__.strip())
-        sys.exit()
-    sys.exit(main(*sys.argv[1:]))
+    script.run(main)

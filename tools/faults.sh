@@ -16,9 +16,9 @@
 # among them, the result is one that one of them has, or a beginning of it. tools/refuse-memory.sh refuses each
 # allocation.
 #
-# It prints each fault after which a result is wrong, as a value of FAULTS (tools/faults.c), and how many runs there were.
-# The status is 1 if one was wrong. It needs a C compiler (`cc`, or what CC names), python3 and bin/gomod (./build makes
-# it), and takes 30 s of CPU time beside the seconds for two faults, on all processors.
+# It prints each fault after which a result is wrong, as a value of FAULTS (tools/faults.c), and how many runs there
+# were. The status is 1 if one was wrong. It needs a C compiler (`cc`, or what CC names), python3 and bin/gomod (./build
+# makes it), and takes 30 s of CPU time beside the seconds for two faults, on all processors.
 set -euo pipefail
 cd "$(dirname "$0")/.."
 # shellcheck source=tools/lib.sh

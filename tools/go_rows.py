@@ -3,6 +3,7 @@ import json
 import os
 import typing
 
+import script
 from go_worlds import escaped, hash_of, write
 
 MAIN = "module example.com/m\n\ngo 1.19\n\nrequire example.com/a v1.0.0\n"
@@ -185,4 +186,4 @@ def lay(row, proxy, main):
 
 
 if __name__ == "__main__":
-    print(__doc__)
+    script.run()

@@ -8,6 +8,8 @@ import random
 import re
 import zipfile
 
+import script
+
 RELEASES = ["v0.1.0", "v0.2.0", "v1.0.0", "v1.1.0", "v1.2.0-rc.1", "v1.2.0", "v1.10.0"]
 PSEUDO = ["v0.0.0-20200101000000-0123456789ab", "v1.2.0-rc.1.0.20200102000000-0123456789ab",
           "v1.2.1-0.20200103000000-0123456789ab"]
@@ -121,6 +123,7 @@ class World:
         return self.random.sample(things, min(len(things), self.random.randint(low, high)))
 
     def make_modules(self):
+        """Makes the modules, their versions and their files."""
         self.versions = {}
         for path in self.some(PATHS, 4, len(PATHS)):
             self.versions[path] = self.some(PATHS[path], 1, 6)
@@ -134,6 +137,7 @@ class World:
         return self.random.choice(self.versions[path])
 
     def module_text(self, path, version):
+        """The file of a module, with up to three requirements."""
         go = self.random.choice(self.style)
         pool = [it for it in self.versions if it != path and (it not in UNFETCHABLE or self.chance(0.05))]
         needs = [(it, self.some_version(it)) for it in self.some(pool, 0, 3)]
@@ -167,6 +171,7 @@ class World:
                                    ["retract (", f"\t{high} // bad", f"\t[{low}, {low}]", ")"]])
 
     def make_main(self):
+        """Makes what the main file requires, excludes and replaces."""
         pool = [it for it in self.versions if it not in UNFETCHABLE or self.chance(0.4)]
         for path in self.some(pool, 1, 6):
             self.requires[path] = self.some_version(path)
@@ -270,6 +275,7 @@ class World:
         return text
 
     def lay(self):
+        """Lays the proxy folder, some of whose files may be missing or faulty, and the main module."""
         texts = dict(self.texts)
         for pair in self.some(texts, 1, 2) if self.is_faulty else []:
             texts[pair] = self.random.choice([
@@ -305,6 +311,7 @@ class World:
         self.lay_sums(texts)
 
     def lay_sums(self, texts):
+        """Lays the go.sum, or none; it may lack lines, or have wrong or second ones."""
         self.sums = self.random.choice(["all"] * 6 + ["none", "none", "lacking", "wrong", "second"])
         lines = [[pair, hash_of(text)] for pair, text in sorted(texts.items()) if text is not None]
         odd = self.some(range(len(lines)), 1, 3)
@@ -350,4 +357,4 @@ def operations(some, requires, replaces, excludes):
 
 
 if __name__ == "__main__":
-    print(__doc__)
+    script.run()

@@ -8,6 +8,8 @@ import re
 import sys
 from collections import defaultdict
 
+import script
+
 CRATES = pathlib.Path("crates")
 NAMES_OF_PAGES = ("HEADLINE", "REPORTS", "BYTES", "DIRECTIVES", "EDITS", "NAMES", "OTHERS")
 PAGES = [pathlib.Path("docs/proof") / f"{name}.md" for name in NAMES_OF_PAGES]
@@ -582,7 +584,4 @@ def main(option=""):
 
 
 if __name__ == "__main__":
-    if sys.argv[1:] in (["-h"], ["--help"]):
-        print(__doc__.strip())
-        sys.exit()
-    sys.exit(main(*sys.argv[1:]))
+    script.run(main)

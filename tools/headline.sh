@@ -32,7 +32,8 @@
 # it has as many lines as are neither empty nor a comment. A type of the code is private if its crate doesn't export
 # it.
 #
-# The status of --check is 1 if a page or a copy is out of step. .ci/run runs it before the merge gate. It needs python3.
+# The status of --check is 1 if a page or a copy is out of step. .ci/run runs it before the merge gate. It needs
+# python3.
 set -euo pipefail
 cd "$(dirname "$0")/.."
 # shellcheck source=tools/lib.sh

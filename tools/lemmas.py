@@ -7,6 +7,8 @@ import pathlib
 import re
 import sys
 
+import script
+
 MOST_SHARED = 20
 DECLARED = re.compile(r"(?:pub )?([^\s:(){}]+) : (.+)")
 NAME = re.compile(r"[^\s(){}\[\],;.]+")
@@ -43,9 +45,7 @@ def plain(statement):
 
 
 def main(kit, *words):
-    if kit in ("-h", "--help"):
-        print(__doc__, end="")
-        return
+    """Compares the lemmas of crates with those of the standard library, or lists them, as the words say."""
     is_checked = "--check" in words
     is_listed = is_checked or "--list" in words
     chosen = [word for word in words if word not in ("--check", "--list")]
@@ -80,4 +80,4 @@ def main(kit, *words):
 
 
 if __name__ == "__main__":
-    main(*sys.argv[1:])
+    script.run(main)

@@ -18,9 +18,10 @@ import resource
 import shutil
 import signal
 import subprocess
-import sys
 import tempfile
 import time
+
+import script
 
 LIST = b"v1.0.0\nv1.1.0\n"
 LINES = [
@@ -286,7 +287,4 @@ def main(program):
 
 
 if __name__ == "__main__":
-    if sys.argv[1:2] in (["-h"], ["--help"]):
-        print(__doc__.strip())
-        sys.exit()
-    sys.exit(main(*sys.argv[1:]))
+    script.run(main)

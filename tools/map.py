@@ -10,6 +10,8 @@ import pathlib
 import re
 import sys
 
+import script
+
 CRATES = pathlib.Path("crates")
 PAGE = pathlib.Path("docs/lib/CRATES.md")
 INTRODUCTION = """\
@@ -74,6 +76,7 @@ class Library:
             self.read_items("lib", "")
 
     def read_calls(self, text):
+        """Reads the public calls of each type and trait."""
         declared = {name for _, name in DECLARATION.findall(text)}
         for kind, head, body in BLOCK.findall(text):
             if " for " in head:
@@ -113,6 +116,7 @@ class Library:
         return declared[name]
 
     def put(self, kind, prefix, name, calls):
+        """Adds a public item, and the calls that it owns."""
         if kind == "fn" and prefix:
             self.modules.setdefault(f"module `{prefix.removesuffix('::')}`", []).append(name)
         elif kind == "fn":
@@ -141,6 +145,7 @@ def listed(names):
 
 
 def page(needs):
+    """The text of the page."""
     rows, sections = [], []
     for crate in needs:
         section = Library(crate).section()
@@ -182,9 +187,7 @@ def is_same(text):
 
 
 def main(option="", crate=""):
-    if option in ("-h", "--help"):
-        print(__doc__, end="")
-        return
+    """Writes or compares the page, or prints a part of it, as the words say."""
     needs = crates()
     if option in ("--print", "--copy"):
         if crate not in needs:
@@ -201,4 +204,4 @@ def main(option="", crate=""):
 
 
 if __name__ == "__main__":
-    main(*sys.argv[1:])
+    script.run(main)

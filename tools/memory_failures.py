@@ -4,8 +4,9 @@
 """
 import pathlib
 import re
-import sys
 import textwrap
+
+import script
 
 # file, function, why memory has run out there, and below it the condition
 LISTED = r"""
@@ -388,7 +389,4 @@ def main(option=""):
 
 
 if __name__ == "__main__":
-    if sys.argv[1:2] in (["-h"], ["--help"]):
-        print(__doc__.strip())
-        sys.exit()
-    sys.exit(main(*sys.argv[1:]))
+    script.run(main)

@@ -13,6 +13,8 @@ import subprocess
 import sys
 from typing import NamedTuple
 
+import script
+
 CALLS = "%file,%network,%ipc,read,readv,pread64,preadv,preadv2,clone,clone3,fork,vfork,ftruncate,fchmod,fchown"
 LINE = re.compile(rb"(\d+) +(.*)\n")
 UNFINISHED, RESUMED = re.compile(rb"(.*) <unfinished \.\.\.>"), re.compile(rb"<\.\.\. \w+ resumed>(.*)")
@@ -180,5 +182,4 @@ def all_faults(path, program, started):
 
 
 if __name__ == "__main__":
-    print(__doc__.strip())
-    sys.exit(0 if sys.argv[1:] in (["-h"], ["--help"]) else 2)
+    script.run()

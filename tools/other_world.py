@@ -34,6 +34,7 @@ import tty
 from typing import NamedTuple
 
 import opened
+import script
 from case_files import case_of, changed, remove, tree_of
 
 NOBODY = 65534
@@ -370,7 +371,4 @@ def run(program, is_proved, jobs):
 
 
 if __name__ == "__main__":
-    if sys.argv[1:] in (["-h"], ["--help"]):
-        print(__doc__.strip())
-        sys.exit()
-    start_commands(int(sys.argv[1]))
+    script.run(lambda number: start_commands(int(number)))

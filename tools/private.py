@@ -12,6 +12,8 @@ import pathlib
 import re
 import sys
 
+import script
+
 CRATES = pathlib.Path("crates")
 # its definitions are copies of others, which each contract of the crate reaches
 PAGE = "page"
@@ -391,9 +393,7 @@ class Program:
 
 
 def main(*words):
-    if words[:1] in (("-h",), ("--help",)):
-        print(__doc__, end="")
-        return
+    """Compares the folders of all definitions, or lists some, as the words say."""
     program = Program()
     if words == ("--list",):
         for module in program.modules.values():
@@ -415,4 +415,4 @@ def main(*words):
 
 
 if __name__ == "__main__":
-    main(*sys.argv[1:])
+    script.run(main)

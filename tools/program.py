@@ -18,6 +18,7 @@ import sys
 import tempfile
 
 import other_world
+import script
 from case_files import (
     PIPES, bytes_below, case_of, changed, chosen_cases, greatest_sizes, moderate_sizes, remove, tree_of
 )
@@ -47,7 +48,7 @@ PASSED = b"all allocations passed\n"
 # how many seconds a command has
 LIMIT = 100
 # a standard input without a byte, which ends when this script does
-OPEN_INPUT, ITS_WRITER = os.pipe()
+OPEN_INPUT, _WRITER = os.pipe()
 # the address space that a command may have beside FACTOR times the bytes of its words and files
 SPARE, FACTOR = 64 << 20, 100
 # an output that takes no byte
@@ -355,7 +356,4 @@ def main(program, *words):
 
 
 if __name__ == "__main__":
-    if sys.argv[1:] in (["-h"], ["--help"]):
-        print(__doc__.strip())
-        sys.exit()
-    sys.exit(main(*sys.argv[1:]))
+    script.run(main)

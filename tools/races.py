@@ -19,6 +19,8 @@ import tempfile
 import threading
 import time
 
+import script
+
 MODULES, AT_ONCE, LIMIT = 12, 200, 60
 WAYS = ["in place", "in place", "renamed", "renamed", "cut", "longer", "gone", "folder", "link"]
 LINES = [
@@ -188,7 +190,4 @@ def main(program, seconds, seed="1"):
 
 
 if __name__ == "__main__":
-    if sys.argv[1:2] in (["-h"], ["--help"]):
-        print(__doc__.strip())
-        sys.exit()
-    sys.exit(main(*sys.argv[1:]))
+    script.run(main)

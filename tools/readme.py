@@ -13,14 +13,17 @@ import os
 import re
 import shutil
 import subprocess
-import sys
 import tempfile
+
+import script
 
 SECONDS = 300
 OPTIONAL = ("curl", "dot", "git", "jq", "vim")
 COPIED = ("README.md", "CHANGELOG.md", "docs", "example", "share")
 # The passes over a document: what they are called, the shell, and whether its blocks run from the last to the first.
-PASSES = (("in order", ["bash", "-c"], False), ("backwards", ["bash", "-c"], True), ("in zsh", ["zsh", "-f", "-c"], False))
+PASSES = (
+    ("in order", ["bash", "-c"], False), ("backwards", ["bash", "-c"], True), ("in zsh", ["zsh", "-f", "-c"], False)
+)
 # What users paste into a shell that they type in.
 PASTED = r"README\.md|docs/use/\w+\.md"
 # The section whose program is compiled, and how many lines that may have.
@@ -236,11 +239,12 @@ def problem_of(text):
     make, program, run = re.sub(r"(?m)^    ", "", parts[1]), parts[2], re.sub(r"(?m)^    ", "", parts[3])
     code = [it for it in program.split("\n") if it.strip() and not re.match(r"\s*//|(?:ghost )?use ", it)]
     if len(code) > PROGRAM_LINES:
-        return f"the program has {len(code)} lines outside use, blank lines and comments, and at most {PROGRAM_LINES} should"
+        return f"the program has {len(code)} lines outside use, blank lines and comments; {PROGRAM_LINES} are the most"
     command, _, wanted = run.partition("\n")
     with tempfile.TemporaryDirectory(prefix="gomod-library-") as folder:
         os.symlink(os.path.abspath("."), f"{folder}/gomod")
-        steps = f"set -eu\nexec 3>&1 > /dev/null\n{make}cat > crates/hello/src/main.rt\nexec >&3\n{command.removeprefix('$ ')}\n"
+        command = command.removeprefix("$ ")
+        steps = f"set -eu\nexec 3>&1 > /dev/null\n{make}cat > crates/hello/src/main.rt\nexec >&3\n{command}\n"
         ran = subprocess.run(["bash", "-c", steps], cwd=folder, input=program, text=True, capture_output=True,
                              env={**os.environ, "TMPDIR": folder})
     return "" if (ran.returncode, ran.stdout) == (0, wanted) else f"it prints\n{quoted(ran.stdout + ran.stderr)}"
@@ -248,9 +252,6 @@ def problem_of(text):
 
 def main(*names):
     """Tries the documents that the words name."""
-    if names in (("-h",), ("--help",)):
-        print(__doc__, end="")
-        return 0
     is_quick = names[:1] == ("--quick",)
     names = names[1:] if is_quick else names
     program = os.path.abspath("bin")
@@ -280,4 +281,4 @@ def main(*names):
 
 
 if __name__ == "__main__":
-    sys.exit(main(*sys.argv[1:]))
+    script.run(main)

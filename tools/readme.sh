@@ -13,17 +13,17 @@
 # folder with the files of the repository, which they have to leave as it was, and with bin/ on the PATH. A block is
 # skipped if it, or a script that it runs, calls curl, dot, git, jq or vim and there is no such command.
 #
-# It also compares the pieces of code of docs/lib/LIBRARY.md, fenced as rust, with sources of crates/library_example. The
-# one that is a whole program it compiles and runs in a fresh folder, by the commands beside it. It tests that each link
-# of a document to a file of the repository, or to a heading of one, leads there, and that in README.md and docs/use no
-# comment follows a command, since zsh takes one that is typed for words.
+# It also compares the pieces of code of docs/lib/LIBRARY.md, fenced as rust, with sources of crates/library_example.
+# The one that is a whole program it compiles and runs in a fresh folder, by the commands beside it. It tests that each
+# link of a document to a file of the repository, or to a heading of one, leads there, and that in README.md and
+# docs/use no comment follows a command, since zsh takes one that is typed for words.
 #
 # Of a release the documents and the files of the examples are in share/doc/gomod, and no code is compared.
 #
-# It needs bin/gomod (./build makes it), bash and python3, and unless --quick is given the toolchain of Rattle and 3.4 GB
-# of memory. It prints each difference, how many examples, folders, lines, pieces of code, programs and links were right
-# and wrong, and how many examples were skipped for want of which commands. The status is 1 if one was wrong. .ci/run
-# runs it after the merge gate.
+# It needs bin/gomod (./build makes it), bash and python3, and unless --quick is given the toolchain of Rattle and 3.4
+# GB of memory. It prints each difference, how many examples, folders, lines, pieces of code, programs and links were
+# right and wrong, and how many examples were skipped for want of which commands. The status is 1 if one was wrong.
+# .ci/run runs it after the merge gate.
 set -euo pipefail
 cd "$(dirname "$0")/.."
 # shellcheck source=tools/lib.sh

@@ -20,10 +20,12 @@ import subprocess
 import sys
 import tempfile
 
+import script
+
 TOP = os.path.dirname(os.path.dirname(os.path.abspath(__file__)))
 ANSWERS = os.path.join(TOP, "tools", "go_answers.json")
 # What a comparison reads of the repository.
-TOOLS = ("compare-go.sh", "compare_go.py", "go_rows.py", "go_worlds.py", "lib.sh")
+TOOLS = ("compare-go.sh", "compare_go.py", "go_rows.py", "go_worlds.py", "lib.sh", "script.py")
 FILES = [f"tools/{it}" for it in TOOLS] + ["docs/use/GO.md"]
 SECONDS = 900
 # Mistakes: without the .info of modules that are pruned out; a row with no world; none, where a difference has one.
@@ -206,6 +208,7 @@ def real_go(command):
 
 
 def main(*words):
+    """Does what the words say, and returns the status."""
     match words:
         case ["--answer", file, real, *rest]:
             return answer(file, real, *rest)
@@ -214,9 +217,6 @@ def main(*words):
         case ["--record", command]:
             real, version = real_go(command)
             write(ANSWERS, json.dumps({"version": version, "answers": {}}))
-        case ["-h" | "--help"]:
-            print(__doc__, end="")
-            return 0
         case _:
             print("compare-go: --check takes nothing, --record the name of a go command", file=sys.stderr)
             return 2
@@ -228,4 +228,4 @@ def main(*words):
 
 
 if __name__ == "__main__":
-    sys.exit(main(*sys.argv[1:]))
+    script.run(main)

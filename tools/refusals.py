@@ -9,6 +9,8 @@ import subprocess
 import sys
 import tempfile
 
+import script
+
 PARTS = ("src", "specs", "proofs")
 # what antt says of an answer that names what is no longer there, and what follows its goal here
 GONE = re.compile(r"is not in scope|has no field|has no `|was not admitted")
@@ -103,7 +105,7 @@ def try_edit(room, name, edit, is_quick):
     """Whether an edit is refused at its clause, and its twin proved. Prints how they went."""
     pairs, clause = read_edit(f"crates/{name}/must-fail/{edit}.edit")
     only = clause[0] if is_quick and clause else None
-    is_proved, goals, said = check(room, changed(room, pairs, False), only)
+    is_proved, goals, _ = check(room, changed(room, pairs, False), only)
     is_well = not is_proved and clause is not None and is_at(clause, goals)
     found = "PROVED" if is_proved else "refused at " + " ".join(clause) if is_well else "other: " + told(goals)
     if any(twin is not None for _, _, _, twin in pairs):
@@ -180,7 +182,4 @@ def main(*words):
 
 
 if __name__ == "__main__":
-    if sys.argv[1:] in (["-h"], ["--help"]):
-        print(__doc__.strip())
-        sys.exit()
-    sys.exit(main(*sys.argv[1:]))
+    script.run(main)

@@ -18,8 +18,8 @@
 # before that one the output has to be empty, the report `gomod: no memory` and the status 3. It takes 55 s of CPU
 # time, on all processors.
 #
-# Without arguments it removes bin/refused.txt, and if nothing goes wrong makes it anew for tools/release.sh: the number of
-# runs, the day and the commit, and the sha256 of bin/gomod.
+# Without arguments it removes bin/refused.txt, and if nothing goes wrong makes it anew for tools/release.sh: the number
+# of runs, the day and the commit, and the sha256 of bin/gomod.
 #
 # It needs a C compiler (`cc`, or what CC names), bin/gomod (./build makes it) and python3 for the cases, and `rt` for a
 # crate whose tests are not built: `rt test` leaves them in out/NAME_tests.

@@ -11,6 +11,8 @@ import os
 import re
 import sys
 
+import script
+
 # What README.md has of making a program: all sections from the first of these to the one before the last.
 FIRST, LAST = "Try it", "When to use it"
 NOTE = """\
@@ -48,9 +50,6 @@ def adapt_readme(text, sentence, archive):
 
 def main(*words):
     """Adapts all documents of a folder."""
-    if words in (("-h",), ("--help",)):
-        print(__doc__, end="")
-        return 0
     if len(words) != 3:
         print("release: release.py --help says what it takes", file=sys.stderr)
         return 2
@@ -68,4 +67,4 @@ def main(*words):
 
 
 if __name__ == "__main__":
-    sys.exit(main(*sys.argv[1:]))
+    script.run(main)

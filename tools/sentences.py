@@ -17,6 +17,8 @@ import pathlib
 import re
 import sys
 
+import script
+
 SECTIONS = {"README.md": "What is verified", "docs/proof/PROVED.md": "What you can rely on"}
 BOUND = re.compile(r"^\s*<!-- bound to ([\w:, ]+): (\w*) (\w*) -->$")
 BULLET = re.compile(r"\s*- ")
@@ -41,7 +43,7 @@ class Sentence:
 
 
 def checksum(text):
-    """Eight letters from a text's sha256, whatever blanks separate it; letters, so that it doesn't look like a commit."""
+    """Eight letters from a text's sha256, whatever blanks separate it: letters, since a commit would have digits."""
     digits = hashlib.sha256(" ".join(text.split()).encode()).hexdigest()[:8]
     return digits.translate(str.maketrans("0123456789abcdef", "ghijklmnopqrstuv"))
 
@@ -60,7 +62,8 @@ def functions():
         for head in re.finditer(r"(?m)^pub fn (\w+)[^\n]*\n((?:    .*\n|\)[^\n]*\n|\n(?=    ))*?)^\{", text):
             contract = re.sub(r"(?m)^[ \t]*//.*\n", "", head[2])
             clauses = re.search(r"(?m)^    (requires|ensures)", contract)
-            found[head[1]].append((crate, is_law, contract[clauses.start():] if clauses else contract, imports(crate, text)))
+            stated = contract[clauses.start():] if clauses else contract
+            found[head[1]].append((crate, is_law, stated, imports(crate, text)))
     return found
 
 
@@ -104,7 +107,8 @@ def statement(name):
             seen[module, word] = known[word]
             for it in re.findall(r"\w+", known[word]):
                 other = more.get(it, "")
-                left.append((module if it in known else other if crate == WHOLE or other.endswith("Laws") else None, it))
+                is_followed = crate == WHOLE or other.endswith("Laws")
+                left.append((module if it in known else other if is_followed else None, it))
     return "\n".join([f"{name}:", contract.rstrip(), *(seen[it] for it in sorted(seen))])
 
 
@@ -186,9 +190,7 @@ def accept(names):
 
 
 def main(*words):
-    if words in (("-h",), ("--help",)):
-        print(__doc__, end="")
-        return 0
+    """Does what the words say, and returns the status."""
     if words[:1] == ("--accept",):
         return int(accept(list(words[1:])) > 0)
     if words == ("--pairs",):
@@ -201,4 +203,4 @@ def main(*words):
 
 
 if __name__ == "__main__":
-    sys.exit(main(*sys.argv[1:]))
+    script.run(main)

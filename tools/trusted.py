@@ -1,7 +1,8 @@
 """What the check of gomod says that it trusts, for tools/trusted.sh: from a log into docs/proof/PROVED.md."""
 import pathlib
 import re
-import sys
+
+import script
 
 PAGE = pathlib.Path("docs/proof/PROVED.md")
 MARKS = re.compile(r"(?ms)^<!-- show trusted -->\n(.*?)^<!-- end -->$")
@@ -20,9 +21,7 @@ def said(log):
 
 
 def main(log, option=""):
-    if log in ("-h", "--help"):
-        print(__doc__)
-        return 0
+    """Compares what a log says with the page, or writes it there, and returns the status."""
     text, lines = PAGE.read_text(), said(pathlib.Path(log).read_text(errors="replace"))
     shown = MARKS.search(text)
     if shown is None:
@@ -36,11 +35,12 @@ def main(log, option=""):
         print(f"trusted: {PAGE} has what the check of gomod says, {len(lines)} lines")
         return 0
     if option == "--check":
-        print(f"trusted: {PAGE} does not have what the check of gomod says; tools/trusted.sh LOG writes it:\n{new}", end="")
+        print(f"trusted: {PAGE} does not have what the check of gomod says; tools/trusted.sh LOG writes it:")
+        print(new, end="")
         return 1
     PAGE.write_text(text[: shown.start(1)] + new + text[shown.end(1):])
     return 0
 
 
 if __name__ == "__main__":
-    sys.exit(main(*sys.argv[1:]))
+    script.run(main)

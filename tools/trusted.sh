@@ -1,5 +1,6 @@
 #!/usr/bin/env bash
-# Keeps docs/proof/PROVED.md in step with what the check of gomod says that it trusts: its `axioms` lines and its verdict.
+# Keeps docs/proof/PROVED.md in step with what the check of gomod says that it trusts: its `axioms` lines and its
+# verdict.
 #
 #   tools/trusted.sh LOG           writes them into PROVED.md, from what `rt ci`, or `rt check` in crates/gomod, printed
 #   tools/trusted.sh --check LOG   changes nothing, and says what the page has otherwise

@@ -4,7 +4,8 @@
 """
 import pathlib
 import re
-import sys
+
+import script
 
 # a walk: its title, the most functions before its last one, and its functions, each after its file below crates/ where
 # that isn't the file of the one before
@@ -93,9 +94,7 @@ def places_of(pattern):
 
 
 def main(*words):
-    if words in (("-h",), ("--help",)):
-        print(__doc__, end="")
-        return 0
+    """Prints and checks the walks, and returns the status."""
     status = 0
     tell = (lambda line: None) if words else print
     for title, most, listed in WALKS:
@@ -122,4 +121,4 @@ def main(*words):
 
 
 if __name__ == "__main__":
-    sys.exit(main(*sys.argv[1:]))
+    script.run(main)
