@@ -11,8 +11,8 @@
 # these all that stands before it in the function. The constants of the file that it names follow.
 #
 # A call such as `reserve` or `with_capacity` could ask for more than there is, and so make a failure up. A second list
-# has each of them, and each call in a crate of its function that asks for as much as it is told to. Below a row stands
-# all that its function has before the call, and the functions and constants of the file that the call names.
+# has each of them, and each call in a crate of its function that asks for as much as it is told to. Below a row stand
+# the same steps to the call, and what the functions and constants of the file and the variables are that say how much.
 #
 # Prints each failure or call that has no row, or another text than its row, each row that is left, and how many there
 # are. The status is 1 if one is wrong. Tests and the runner of cases are not looked at. It needs python3.

@@ -59,54 +59,52 @@ gomod_words/src/usage.rt line: the text could not be made
 # the same for each call that asks for room by its size: why the size is no more than is needed
 SIZED = r"""
 gm_file/src/dep_file.rt read_twice: a pair takes 40 bytes
-  let retracts = retractions_of_bytes(alloc, names, bytes)?; let pairs = Vec::with_capacity(alloc, bytes.len() /
-  BYTES_OF_ONE)? where BYTES_OF_ONE is 40
+  let pairs = Vec::with_capacity(alloc, bytes.len() / BYTES_OF_ONE)? where BYTES_OF_ONE is 40
 gm_file_edit/src/keyed_lines.rt keys_of: one for each line
   let mut keys = Vec::with_capacity(alloc, lines.len())?
 gm_file_edit/src/keyed_lines.rt make_room: as much as it is told
   lines.reserve(count)?
 gm_file_edit/src/keyed_lines.rt make_room: the same
-  lines.reserve(count)?; keys.reserve(count)
+  keys.reserve(count)
 gm_file_edit/src/keyed_lines.rt insert: one line
   make_room(&mut self.lines, &mut self.keys, 1)? where make_room is { lines.reserve(count)?; keys.reserve(count) }
 gm_file_edit/src/keyed_lines.rt insert_after_blank: two lines
   make_room(&mut self.lines, &mut self.keys, 2)? where make_room is { lines.reserve(count)?; keys.reserve(count) }
 gm_file_edit/src/marking.rt marks: a mark for each line
-  let Aim { verb, sought } = aim_of(change); let number = sought_key(sought); let mut marks = vec![in alloc; false;
-  lines.len()]?
+  let mut marks = vec![in alloc; false; lines.len()]?
 gm_graph/src/cache/file_table.rt reach: up to the place that is put in
-  let number = number as usize; if number < self.places.len() { return Ok(()); } self.places.resize(number + 1,
-  OptionalPlace::none())?
+  self.places.resize(number + 1, OptionalPlace::none())? where number is number as usize
 gm_graph/src/graph_builder.rt new: as many as it is told
-  Ok(GraphBuilder { alloc, marks: Vec::with_capacity(alloc, count)?
+  marks: Vec::with_capacity(alloc, count)?
 gm_graph/src/loading.rt turn_list: one for each turn
   let mut list = Vec::with_capacity(alloc, turns.len())?
 gm_graph/src/starting.rt first_graph: one for each module that is there
-  let required = cache.first_requirements(); let mut builder = GraphBuilder::new(alloc, required.module_count())?
+  let mut builder = GraphBuilder::new(alloc, required.module_count())? where required is cache.first_requirements()
 gm_graph/src/worklist.rt make_marks: as many marks as it is told
   if self.marks.len() < count { self.marks.resize(count, Marks::none())?
 gm_graph_select/src/chaining.rt chain_to: one step
   let Step::Of(goal) = last else { return Ok(Some(vec![in alloc; Step::Main]?))
 gm_graph_select/src/graph.rt new: as many as there are modules
-  let lists = NumberLists::new(numbers, spans); let is_vertex = marks_of(alloc, modules.len(), &lists, &sources)?
+  let is_vertex = marks_of(alloc, modules.len(), &lists, &sources)? where is_vertex is marks_of(alloc, modules.len(),
+  &lists, &sources)? where lists is NumberLists::new(numbers, spans), lists.by_ranks(&ranking.ranks) where ranking is
+  ranked(alloc, modules, &is_vertex)? where sources is sources_by_ranks(sources, &ranking.ranks)
 gm_graph_select/src/marking.rt marks_of: as many as it is told
   let mut marks = vec![in alloc; false; count]?
 gm_graph_select/src/ranking.rt ranking_of: one for each of them
   let mut vertices = Vec::with_capacity(alloc, all.len())?
 gm_graph_select/src/ranking.rt ranking_of: as many as it is told
-  let mut vertices = Vec::with_capacity(alloc, all.len())?; let mut ranks = vec![in alloc; 0; modules]?
+  let mut ranks = vec![in alloc; 0; modules]?
 gm_graph_select/src/ranking.rt ranked: one for each mark
-  let mut all = with_numbers(alloc, modules, is_vertex)?; all.sort_unstable(); ranking_of(alloc, all, is_vertex.len())
-  where ranking_of is { let mut vertices = Vec::with_capacity(alloc, all.len())?; let mut ranks = vec![in alloc; 0;
-  modules]?; for next in all { ranks[next.number as usize] = vertices.len() as u32; vertices.push(next.vertex)?; }
-  Ok(Ranking { vertices, ranks }) }
+  ranking_of(alloc, all, is_vertex.len()) where all is with_numbers(alloc, modules, is_vertex)? where ranking_of is {
+  let mut vertices = Vec::with_capacity(alloc, all.len())?; let mut ranks = vec![in alloc; 0; modules]?; for next in
+  all { ranks[next.number as usize] = vertices.len() as u32; vertices.push(next.vertex)?; } Ok(Ranking { vertices,
+  ranks }) }
 gm_graph_select/src/searching.rt new: one for each step
   let mut is_found = vec![in alloc; false; graph.step_count()]?
 gm_graph_select/src/searching.rt new: one for each list
-  let mut is_found = vec![in alloc; false; graph.step_count()]?; is_found[0] = true; let is_passed = vec![in alloc;
-  false; graph.list_count()]?
+  let is_passed = vec![in alloc; false; graph.list_count()]?
 gm_graph_select/src/searching.rt visits_to: one visit
-  let main = Visit { number: 0, before: 0, }; let mut due = vec![in alloc; main]?
+  let mut due = vec![in alloc; main]? where main is Visit { number: 0, before: 0, }
 gm_name/src/escaping.rt escape: at least as long as the text
   let mut name = String::with_capacity(alloc, text.len())?
 gm_name/src/kept_names.rt keep_new: one more
@@ -114,54 +112,47 @@ gm_name/src/kept_names.rt keep_new: one more
 gm_name/src/tag_index.rt empty_buckets: as many as it is told
   Ok(vec![in alloc; Bucket::new(); many]?)
 gm_name/src/tag_index.rt doubled: twice as many as there are
-  let many = buckets.len() * 2; let mut doubled = Vec::with_capacity(alloc, many)?
+  let mut doubled = Vec::with_capacity(alloc, many)? where many is buckets.len() * 2
 gm_name/src/tag_index.rt make_room: 64 at first
-  let many = self.buckets.len(); if many == 0 { self.buckets = empty_buckets(self.alloc, FIRST)? where empty_buckets
-  is { Ok(vec![in alloc; Bucket::new(); many]?) } where FIRST is 64
+  if many == 0 { self.buckets = empty_buckets(self.alloc, FIRST)? where empty_buckets is { Ok(vec![in alloc;
+  Bucket::new(); many]?) } where FIRST is 64
 gm_name/src/tag_marks.rt no_marks: as many as it is told
   Ok(vec![in alloc; false; many]?)
 gm_name/src/tag_marks.rt make: 1,024
   if self.marks.len() != MANY { self.marks = no_marks(self.alloc, MANY)? where no_marks is { Ok(vec![in alloc; false;
   many]?) } where MANY is 1024
 gm_name_table/src/module_table.rt number: one more
-  let tag = pair_tag(pair); let first = self.index.first_with(tag); if let Some(number) =
-  self.index.find(&self.modules, first, pair) { return Ok(number); } if self.modules.len() >= MOST_PLACES as usize {
-  return Err(AllocError); } let copy = pair.copy(self.alloc)?; self.modules.reserve(1)?
+  self.modules.reserve(1)?
 gm_store/src/folders/relative_path.rt relative_name: 128 bytes, more than most names have
   let mut text = String::with_capacity(alloc, ROOM)? where ROOM is 128
 gm_store/src/reading.rt make_room: as many bytes as it is told
   piece.resize(length, 0u8)
 gm_store/src/reading.rt read_next: at most 65,536 bytes
-  let wanted = (LIMIT + 1 - bytes.len()).min(piece.len()); let count = read_piece(reader, &mut piece[..wanted],
-  bytes)?; if count == piece.len() && count < MOST { make_room(piece, (count * GROWTH).min(MOST))? where make_room is
-  { piece.resize(length, 0u8) } where GROWTH is 16 where LIMIT is 16_777_216 where MOST is 65_536
+  if count == piece.len() && count < MOST { make_room(piece, (count * GROWTH).min(MOST))? where count is
+  read_piece(reader, &mut piece[..wanted], bytes)? where make_room is { piece.resize(length, 0u8) } where GROWTH is 16
+  where MOST is 65_536
 gm_store/src/reading.rt read_by_pieces: 4,096 bytes
   if piece.is_empty() { make_room(piece, FIRST)? where make_room is { piece.resize(length, 0u8) } where FIRST is 4_096
 gm_store/src/sinks/memory.rt new: as many bytes as it is told
-  Ok(MemorySink { bytes: Vec::with_capacity(alloc, room)?
+  bytes: Vec::with_capacity(alloc, room)?
 gm_store/src/versions/list.rt versions_of: no more than lines, or than versions that the text has room for
   let mut versions = Vec::with_capacity(alloc, room_for(text))? where room_for is { let line_ends =
   text.iter().filter(|byte| **byte == b'\n').count(); line_ends.min(text.len() / SHORTEST) + 1 } where SHORTEST is 7
 gm_store_sums/src/hashing.rt text_of: the length of each hash
   let mut hash = String::with_capacity(alloc, HASH_LEN)? where HASH_LEN is 47
 gm_syntax/src/doc.rt parse: at most 64 lines, and one for 16 bytes
-  let mut reader = LineReader::new(alloc, bytes)?; let ready = (reader.bytes_left() /
-  BYTES_PER_LINE).min(MAX_RESERVED_LINES); let mut lines = Vec::with_capacity(alloc, ready)? where BYTES_PER_LINE is
-  16 where MAX_RESERVED_LINES is 64
+  let mut lines = Vec::with_capacity(alloc, ready)? where reader is LineReader::new(alloc, bytes)? where ready is
+  (reader.bytes_left() / BYTES_PER_LINE).min(MAX_RESERVED_LINES) where BYTES_PER_LINE is 16 where MAX_RESERVED_LINES
+  is 64
 gm_syntax/src/reader.rt push_word: at most three words
   if words.is_empty() { words.reserve_exact(line_len.min(3))?
 gm_syntax/src/reader.rt read_line: no more than its bytes
-  let mut rest = line; let mut after_bare = false; 'pieces: loop { let at = first + (line.len() - rest.len()); match
-  piece_of(after_bare, rest.as_bytes()) { Piece::End => { return Ok(LineParts { words, comment: None, }); }
-  Piece::Comment => { let (text, _) = rest.split_at(trimmed_len(rest.as_bytes())); return Ok(LineParts { words,
-  comment: Some(CowStr::Borrowed(text)), }); } Piece::Fault(kind) => return Err(LineSyntaxFault::Syntax(kind)),
-  Piece::Blank => { let (_, after) = rest.split_at(1); rest = after; after_bare = false; } Piece::Word(kind, len) => {
-  let (text, after) = rest.split_at(len); push_word( &mut words, Token::in_source(kind, text, at as u32, number as
-  u32), line.len(), )? where push_word is { if words.is_empty() { words.reserve_exact(line_len.min(3))?; }
-  words.push(word)?; Ok(()) }
+  match piece_of(after_bare, rest.as_bytes()) { push_word( &mut words, Token::in_source(kind, text, at as u32, number
+  as u32), line.len(), )? where at is first + (line.len() - rest.len()) where push_word is { if words.is_empty() {
+  words.reserve_exact(line_len.min(3))?; } words.push(word)?; Ok(()) } where rest is line, after, after
 gomod_words/src/given.rt word_at: 256 bytes at first, then twice as many while the word is longer
-  let mut room = FIRST_ROOM; for _ in 0..usize::BITS { let mut word = Vec::new(rt.alloc()); word.resize(room, 0u8)?
-  where FIRST_ROOM is 256
+  for _ in 0..usize::BITS { word.resize(room, 0u8)? where room is FIRST_ROOM, room.saturating_mul(2) where FIRST_ROOM
+  is 256
 """
 
 NAMES = r"(?:NoMemory|AllocError|AllocFailed|OutOfMemory|Memory)"
@@ -267,9 +258,9 @@ class Source:
             and at < self.arrow_of(begin, brace)
         )
 
-    def condition_of(self, body, at):
-        """The text that leads from the brace of a body to a value in it, or None if it is in a pattern, is compared, or
-        stands in an arm that was given it."""
+    def steps_to(self, body, at):
+        """The texts of the branches that lead from the brace of a body to a value in it, and its statement; None if it
+        is in a pattern, is compared, or stands in an arm that was given it."""
         brace = self.brace_around(at)
         begin = self.begin_of(brace, at)
         if self.is_pattern(brace, begin, at):
@@ -288,18 +279,36 @@ class Source:
             elif BRANCH.match(self.head_of(brace)):
                 steps.append(self.text[start : brace + 1])
             brace, begin = around, start
-        if len(steps) == 1:
+        return steps[::-1]
+
+    def condition_of(self, body, at):
+        """The text of these steps, or of all that stands before the value if there is no branch."""
+        steps = self.steps_to(body, at)
+        if steps and len(steps) == 1:
             steps = [self.text[body + 1 : self.end_of(body, at)]]
-        return joined(" ".join(reversed(steps)))
+        return steps and joined(" ".join(steps))
+
+    def values_in(self, body):
+        """The texts that are assigned to each variable in a body, in order."""
+        values = {}
+        for found in re.finditer(r"(?<![.\w])([a-z]\w*)(?:: [^=;{]*)? [-+*/]?= ", self.code[body : self.other[body]]):
+            begin = body + found.end()
+            value = joined(self.text[begin : self.end_of(self.brace_around(begin), begin)])
+            values[found[1]] = f"{values[found[1]]}, {value}" if found[1] in values else value
+        return values
 
     def size_of(self, body, at):
-        """All that stands in a body before the end of the statement that has a call, and after that the functions of
-        the file that are called there for its arguments."""
-        brace = self.brace_around(at)
-        text = joined(self.text[body + 1 : self.end_of(brace, at)])
-        called = set(re.findall(r"(?<![.:\w])[a-z]\w*(?=\()", self.code[at : self.end_of(brace, at)]))
-        own = {name: joined(self.text[it : self.other[it] + 1]) for name, _, it in self.bodies() if name in called}
-        return text + "".join(f" where {name} is {body}" for name, body in sorted(own.items()))
+        """The steps to a call, and what the functions of the file and the variables in it are, and those in these."""
+        call = self.code[at : self.end_of(self.brace_around(at), at)]
+        called = set(re.findall(r"(?<![.:\w])[a-z]\w*(?=\()", call))
+        known = {name: joined(self.text[it : self.other[it] + 1]) for name, _, it in self.bodies() if name in called}
+        values, left = self.values_in(body), [call]
+        while left:
+            found = set(re.findall(r"(?<![.:\w])[a-z]\w*(?![\w(])", left.pop())) & values.keys() - known.keys()
+            left += [values[it] for it in found]
+            known |= {it: values[it] for it in found}
+        text = joined(" ".join(self.steps_to(body, at)))
+        return text + "".join(f" where {name} is {it}" for name, it in sorted(known.items()))
 
     def with_constants(self, condition):
         """A condition, and the constants of the file that it names."""
