@@ -47,8 +47,8 @@ class Page:
     """The outcome of `list`: what is printed, what is reported and the exit status.
 
     A module is a pair of a path and a version, a right side of a replace a folder alone or such a pair. The name of a
-    file is a right side too. `answers` has the texts of the files that there are, `sums` the hashes of each .mod file or
-    nothing, if no go.sum is given.
+    file is a right side too. `answers` has the texts of the files that there are, `sums` the hashes of each .mod file,
+    or nothing if no go.sum is given.
     """
 
     def __init__(self, world):
@@ -483,8 +483,8 @@ WRONG = [
     wrong("go 1.18 and later are not pruned", is_pruned=lambda self, go: go == (1, 17)),
     wrong("a path without a dot may be asked for", is_fetchable=lambda self, path: bool(
         re.fullmatch(r"[a-z0-9.][a-z0-9.-]*", path.split("/")[0]))),
-    wrong("a path that may not be asked for is missing", first_that_applies=lambda self, x, name: Page.first_that_applies(
-        self, x, name) if self.is_askable(x) else "Missing"),
+    wrong("a path that may not be asked for is missing", first_that_applies=lambda self, x, name: (
+        Page.first_that_applies(self, x, name) if self.is_askable(x) else "Missing")),
     wrong("the go.sum is asked for the replaced module", first_that_applies=sum_fault_of_replaced),
     wrong("a wrong path comes before a wrong hash", first_that_applies=path_before_sum),
     wrong("a replacement is replaced itself", file_of=replaced_twice),

@@ -147,8 +147,9 @@ class Fish:
     def completed(self, line):
         """The line with its last word completed, if there is one way to do that."""
         script = f"source {TOP}/share/completions/gomod.fish; complete -C $argv[1]"
-        ran = subprocess.run(["fish", "--no-config", "-c", script, line], cwd=f"{self.room}/module", text=True, timeout=SECONDS,
-                             env=environment(self.room), stdin=subprocess.DEVNULL, capture_output=True)
+        ran = subprocess.run(["fish", "--no-config", "-c", script, line], cwd=f"{self.room}/module",
+                             env=environment(self.room), stdin=subprocess.DEVNULL, capture_output=True, text=True,
+                             timeout=SECONDS)
         found = sorted({it.split("\t")[0] for it in ran.stdout.split("\n") if it})
         if len(found) != 1:
             return line

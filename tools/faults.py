@@ -65,8 +65,8 @@ AT_ONCE = len(os.sched_getaffinity(0))
 
 
 class Fault(NamedTuple):
-    """The call with a number fails with an error, with all later ones if `later` is 1; with a length that isn't negative
-    it moves no more bytes instead."""
+    """The call with a number fails with an error, with all later ones if `later` is 1; with a length that isn't
+    negative it moves no more bytes instead."""
 
     call: str
     at: int
@@ -84,7 +84,7 @@ class Fault(NamedTuple):
 
 
 class Call(NamedTuple):
-    """A call of the run without a fault: the file of an open, read or close or the stream of a write, and the result."""
+    """A call of a run without a fault: the file of an open, read or close or the stream of a write, and the result."""
 
     call: str
     file: str

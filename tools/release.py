@@ -2,8 +2,8 @@
 
     release.py FOLDER SENTENCE ARCHIVE     the documents in FOLDER; SENTENCE describes the release, ARCHIVE is its name
 
-A link to a file that the release lacks becomes its text alone, and examples call `gomod`. README.md tells how to try the
-program of the archive instead of how to make one.
+A link to a file that the release lacks becomes its text alone, and examples call `gomod`. README.md tells how to try
+the program of the archive instead of how to make one.
 """
 
 import glob

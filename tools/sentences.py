@@ -1,9 +1,9 @@
 """Keeps sentences of README.md and docs/proof/PROVED.md bound to the laws that state them, for tools/documents.sh.
 
 Beside a sentence that names a law, in PROVED.md's "What you can rely on", and beside each of README.md's "What is
-verified", stands a comment: the laws' names, a checksum of the sentence and one of what the laws state. A law states the
-clauses of its function, and the definitions that these cite in the specs/ of its crate, with what those cite there: in
-gomod_laws in any file, elsewhere in the same one and in those of laws. Comments of sources and blanks don't count.
+verified", stands a comment: the laws' names, a checksum of the sentence and one of what the laws state. A law states
+the clauses of its function, and the definitions that these cite in the specs/ of its crate, with what those cite there:
+in gomod_laws in any file, elsewhere in the same one and in those of laws. Comments of sources and blanks don't count.
 
     sentences.py                compares; prints each sentence with what its laws state if a checksum is no longer right
     sentences.py --accept NAME..  writes the checksums anew of the sentences bound to these laws, or of all with `all`
