@@ -4,7 +4,9 @@
 #   tools/cases.sh              as both compilers built it for the merge gate, in crates/run_cases/out
 #   tools/cases.sh PROGRAM..    these executables
 #   tools/cases.sh --quick PROGRAM..
-#                               these on the cases that the gate runs in place of those with sizes
+#                               these, which tools/unproved.sh --both made, on the cases of the gate and the wrong ones;
+#                               where a case has the version of a proved program, it wants the marked one, and so many
+#                               runs fewer as that has bytes fewer: run_cases cuts each output after each byte
 #   tools/cases.sh --checked    before a release: all cases, with a program that has Rattle's checks and the address
 #                               sanitizer, which it compiles (tools/unproved.sh --checked)
 #
@@ -14,9 +16,10 @@
 # of the gate crates/run_cases has these files.
 #
 # As in the gate, a program runs in a copy of the folder, as nobody if root starts it. It has 1,000 seconds, one with
-# checks 4,000. All programs and folders run side by side. What differs is printed, then how many runs passed and failed.
-# The status is 1 if one failed, or if a folder has a file of cases that its `args` doesn't name. .ci/run runs it after
-# the gate, and .ci/run --quick with --quick: there tools/program.sh runs the cases with sizes, each at its greatest.
+# checks 4,000. All programs and folders run side by side. What differs is printed, then how many runs passed and
+# failed. The status is 1 if one failed, or if a folder has a file of cases that its `args` doesn't name. .ci/run runs
+# it after the gate, and .ci/run --quick with --quick: there tools/program.sh runs the cases with sizes, each at its
+# greatest.
 # --checked removes bin/checked.txt, and if nothing fails makes it anew for tools/release.sh: the day, the commit, and a
 # checksum of the sources.
 set -euo pipefail
@@ -24,7 +27,7 @@ cd "$(dirname "$0")/.."
 # shellcheck source=tools/lib.sh
 . tools/lib.sh
 help_if_asked tools/cases.sh "$@"
-names=(sizes wrong) limit=1000 checked=
+names=(sizes wrong) limit=1000 checked='' quick=''
 case $#:${1-} in
   1:--checked)
     names=(gate sizes wrong) limit=4000 checked=yes
@@ -32,7 +35,7 @@ case $#:${1-} in
     ;;
   1:--quick) refuse_arguments tools/cases.sh "--quick takes programs" ;;
   *:--quick)
-    names=(gate wrong)
+    names=(gate wrong) quick=yes
     shift
     ;;
 esac
@@ -81,23 +84,36 @@ run_on() {
   local name=$1 at=$work/$1.$2 status=0 begun=$SECONDS words
   mkdir "$at"
   cp -r "$(cases_of "$name")" "$at/data"
+  [ -z "$quick" ] || find "$at/data" -name '*.txt' -exec sed -Ei "s/$PROVED_MARK/$UNPROVED_MARK/" {} +
   [ ${#as_user[@]} -eq 0 ] || chown -R "$NOBODY:$NOBODY" "$at/data"
   mapfile -t words < "$(run_of "$name")/args"
   (
     cd "$at/data"
     exec env -i PATH=/usr/local/bin:/usr/bin:/bin HOME="$PWD" TMPDIR="$PWD" LANG=C.UTF-8 \
-      timeout "$limit" "${as_user[@]}" "$work/program.$2" "${words[@]}"
+      timeout "$limit" "${as_user[@]}" "$work/$2.run_cases" "${words[@]}"
   ) < /dev/null > "$at/stdout" 2> "$at/stderr" || status=$?
   [ "$status" -ne 124 ] || echo "It had not ended after $limit seconds." >> "$at/stderr"
   echo "$status" > "$at/status"
   echo "$((SECONDS - begun))" > "$at/seconds"
 }
 
+# Prints what the gate's cases print if their version is the marked one.
+print_marked() {
+  local marks bytes said
+  marks=$(grep -hoE "$PROVED_MARK" "$CRATE"/data/*.txt)
+  bytes=$((${#marks} + 1 - $(wc -l <<< "$marks") * (${#UNPROVED_MARK} + 1)))
+  said=$(cat "$CRATE/stdout")
+  said=${said% runs}
+  echo "${said% *} $((${said##* } - bytes)) runs"
+}
+
 # The file of a folder that says what is wanted, or a file that says the same if there is none.
 wanted() {
   local file
   file=$(run_of "$1")/$2
-  if [ -e "$file" ]; then
+  if [ "$1:$2:$quick" = gate:stdout:yes ]; then
+    echo "$work/marked"
+  elif [ -e "$file" ]; then
     echo "$file"
   elif [ "$2" = status ]; then
     echo "$work/success"
@@ -120,8 +136,9 @@ is_right() {
 }
 
 echo 0 > "$work/success"
+[ -z "$quick" ] || print_marked > "$work/marked"
 for number in "${!programs[@]}"; do
-  install -m 755 "${programs[$number]}" "$work/program.$number"
+  install -m 755 "${programs[$number]}" "$work/$number.run_cases"
 done
 passed=0 failed=0
 lacking=$(unnamed "$CRATE/data" "$CRATE/args")
@@ -135,7 +152,8 @@ wait
 for name in "${names[@]}"; do
   for number in "${!programs[@]}"; do
     if is_right "$name" "$number"; then
-      echo "cases: $name, ${programs[$number]}: $(cat "$work/$name.$number/stdout") ($(cat "$work/$name.$number/seconds") s)"
+      at=$work/$name.$number
+      echo "cases: $name, ${programs[$number]}: $(cat "$at/stdout") ($(cat "$at/seconds") s)"
       passed=$((passed + 1))
     else
       failed=$((failed + 1))

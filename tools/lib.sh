@@ -42,12 +42,13 @@ checksum_of_program() {
   program_sources | sort -z | xargs -0 sha256sum -- tools/unproved.sh tools/unproved.py | sha256sum | cut -d ' ' -f 1
 }
 
-# Where a proof leaves the program, and how its version ends: tools/unproved.sh puts other words there.
-readonly PROVED_PROGRAM=crates/gomod/out/gomod PROVED_VERSION=' \(Rattle, logic [0-9a-f]{16}\)$'
+# Where a proof leaves the program, how its version ends, and what tools/unproved.sh puts there.
+readonly PROVED_PROGRAM=crates/gomod/out/gomod PROVED_MARK='\(Rattle, logic [0-9a-f]{16}\)'
+readonly UNPROVED_MARK='(Rattle, nothing is proved)'
 
 # Whether bin/gomod is the program that the last proof left.
 is_last_proved() {
-  [ -x bin/gomod ] && cmp -s bin/gomod "$PROVED_PROGRAM" && [[ $(bin/gomod --version) =~ $PROVED_VERSION ]]
+  [ -x bin/gomod ] && cmp -s bin/gomod "$PROVED_PROGRAM" && [[ $(bin/gomod --version) =~ $PROVED_MARK$ ]]
 }
 
 # Warns, for a script, the first argument, if bin/gomod is older than a source.

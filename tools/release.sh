@@ -120,7 +120,7 @@ if [ -z "$check" ]; then
 fi
 
 version=$(bin/gomod --version)
-[[ -n $unproved || $version =~ $PROVED_VERSION ]] || refuse "bin/gomod isn't proved: its version is '$version'"
+[[ -n $unproved || $version =~ $PROVED_MARK$ ]] || refuse "bin/gomod isn't proved: its version is '$version'"
 version=${version#gomod }
 name=gomod-${version%% *}-x86_64-linux
 work=$(mktemp -d)
