@@ -12,7 +12,9 @@ import sys
 import tempfile
 
 import go_rows
-from go_worlds import UNFETCHABLE, World, escaped, fits, lay_tidy_world, operations, order_of, read, write
+from go_worlds import (
+    UNFETCHABLE, World, escaped, fits, lay_tidy_world, operations, order_of, read, unescaped, write
+)
 
 TOP = os.path.dirname(os.path.dirname(os.path.abspath(__file__)))
 GOMOD = os.path.join(TOP, "bin", "gomod")
@@ -519,10 +521,6 @@ def lay_cache(cache, proxy, named):
         info = {"Version": version, "Time": "2020-01-01T00:00:00Z"}
         write(f"{proxy}/{escaped(path)}/@v/{escaped(version)}.info", json.dumps(info))
     return sorted(paths)
-
-
-def unescaped(name):
-    return re.sub("!([a-z])", lambda it: it[1].upper(), name)
 
 
 def named_versions(text):

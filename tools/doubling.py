@@ -5,9 +5,7 @@
 tools/doubling.sh says what is measured.
 """
 
-import base64
 import concurrent.futures
-import hashlib
 import math
 import os
 import re
@@ -19,6 +17,7 @@ import tempfile
 from typing import Callable, NamedTuple
 
 import script
+from go_worlds import hash_of
 
 MOST = 2.4
 # without valgrind CPU time is measured: of greater inputs, and the least of so many runs
@@ -54,9 +53,7 @@ def ring(count):
 
 def sum_of(path, text):
     """The line of a go.sum for the go.mod with a text."""
-    inner = hashlib.sha256(text.encode()).hexdigest()
-    digest = hashlib.sha256(f"{inner}  go.mod\n".encode()).digest()
-    return f"{path} v1.0.0/go.mod h1:{base64.b64encode(digest).decode()}\n"
+    return f"{path} v1.0.0/go.mod {hash_of(text)}\n"
 
 
 def wide(count):

@@ -19,6 +19,7 @@ import time
 from typing import NamedTuple
 
 import script
+from go_worlds import unescaped
 
 # the errors that the manual pages of Linux name for each call: open(2), read(2), write(2), close(2)
 ERRORS = {
@@ -89,11 +90,6 @@ class Call(NamedTuple):
     call: str
     file: str
     result: int
-
-
-def unescaped(text):
-    """A module path or version, given its text in the names of files."""
-    return re.sub("!([a-z])", lambda it: it[1].upper(), text)
 
 
 class Line:

@@ -31,10 +31,17 @@ def escaped(name):
     return re.sub("[A-Z]", lambda it: "!" + it[0].lower(), name)
 
 
-def write(name, text):
+def unescaped(name):
+    return re.sub("!([a-z])", lambda it: it[1].upper(), name)
+
+
+def write(name, text, mode=None):
+    """Writes a file, with its folders, and sets its mode if one is given."""
     os.makedirs(os.path.dirname(name), exist_ok=True)
     with open(name, "w", encoding="utf-8", errors="surrogateescape", newline="") as file:
         file.write(text)
+    if mode:
+        os.chmod(name, mode)
 
 
 def read(name):

@@ -101,11 +101,7 @@ def lost_words(run, tip, left, folder):
 
 def told(what, out, report, status):
     """Prints a result."""
-    print(f"  {what}:")
-    for mark, text in ((">", out), ("!", report)):
-        for line in text[:2000].decode("utf-8", "replace").splitlines():
-            print(f"{mark} {line}")
-    print(f"? {status}")
+    print(f"  {what}:\n{other_world.shown(out, report, status)}")
 
 
 class Commands:

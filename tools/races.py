@@ -7,9 +7,7 @@ gone, a folder, a link. A run prints what is right of some state of the files, o
 list that it prints is the only right one. Then 200 run at once. tools/faults.sh runs it if --whole is given.
 """
 
-import base64
 import contextlib
-import hashlib
 import os
 import random
 import shutil
@@ -20,6 +18,7 @@ import threading
 import time
 
 import script
+from go_worlds import hash_of
 
 MODULES, AT_ONCE, LIMIT = 12, 200, 60
 WAYS = ["in place", "in place", "renamed", "renamed", "cut", "longer", "gone", "folder", "link"]
@@ -65,9 +64,7 @@ def lay():
         text = text_of(number, False)
         write(place(number), text)
         write(f"P/q.x/extra{number}/@v/v1.0.0.mod", f"module q.x/extra{number}\n")
-        inner = hashlib.sha256(text.encode()).hexdigest()
-        digest = hashlib.sha256(f"{inner}  go.mod\n".encode()).digest()
-        sums += f"q.x/m{number} v1.0.0/go.mod h1:{base64.b64encode(digest).decode()}\n"
+        sums += f"q.x/m{number} v1.0.0/go.mod {hash_of(text)}\n"
     write("go.sum", sums)
 
 

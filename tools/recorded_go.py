@@ -21,6 +21,7 @@ import sys
 import tempfile
 
 import script
+from go_worlds import read, write
 
 TOP = os.path.dirname(os.path.dirname(os.path.abspath(__file__)))
 ANSWERS = os.path.join(TOP, "tools", "go_answers.json")
@@ -34,18 +35,6 @@ ROW, PAGE = "A comment that is not UTF-8", "docs/use/GO.md"
 ONE_MORE = (PAGE, f"| {ROW} |", f"| Another | | |\n| {ROW} |")
 ONE_LESS = (PAGE, f"| {ROW} |", "")
 NO_NAME = ("tools/compare_go.py", r'(r" NotUtf8$", go_rows.COMMENTS),', "")
-
-
-def read(name):
-    with open(name, encoding="utf-8", errors="surrogateescape", newline="") as file:
-        return file.read()
-
-
-def write(name, text, mode=0o644):
-    os.makedirs(os.path.dirname(name), exist_ok=True)
-    with open(name, "w", encoding="utf-8", errors="surrogateescape", newline="") as file:
-        file.write(text)
-    os.chmod(name, mode)
 
 
 # The stand-in for go.
