@@ -1,4 +1,4 @@
-# shellcheck shell=bash
+# shellcheck shell=bash disable=SC2034
 # Functions that the scripts share. It is sourced in the root of the repository, and runs nothing by itself:
 #
 #   . tools/lib.sh

@@ -19,5 +19,5 @@ if [ "${1-}" = --check ]; then
   option=--check
   shift
 fi
-[ $# -eq 1 ] && [ -r "$1" ] || refuse_arguments tools/trusted.sh "it takes the log of a check"
+[[ $# -eq 1 && -r $1 ]] || refuse_arguments tools/trusted.sh "it takes the log of a check"
 exec python3 -B tools/trusted.py "$1" $option
