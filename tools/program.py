@@ -1,6 +1,6 @@
 """Runs the cases of command lines with bin/gomod, as tools/program.sh says, and then once more in another world.
 
-    program.py PROGRAM [--unproved] [FILE.txt..] [TITLE..]
+    program.py PROGRAM [--unproved] [--this | --other] [FILE.txt..] [TITLE..]
 
 tools/case_files.py reads the cases, and tools/other_world.py has the other world.
 """
@@ -323,10 +323,9 @@ def is_run_here(case):
     return not (case.is_rooted() or is_large or (is_root and any(it.has_mode() for it in case.pieces)))
 
 
-def main(program, *words):
-    """Runs the cases, in this world and in another one, and prints how many passed and failed."""
-    is_proved = words[:1] != ("--unproved",)
-    words = words if is_proved else words[1:]
+def run_here(program, is_proved, words):
+    """Runs the cases in this world. Returns how many passed and failed, and of how many runs an allocation was
+    refused."""
     counts = {True: 0, False: 0}
     scratch = tempfile.mkdtemp(prefix="gomod-program-")
     try:
@@ -337,18 +336,33 @@ def main(program, *words):
                 counts[commands.passes(path, case)] += 1
         if not words and not REFUSE_MEMORY:
             counts[reads_each_input(program)] += 1
-        if REFUSE_MEMORY:
-            print(f"{counts[True]} passed, {counts[False]} failed, {commands.refusals} runs with an allocation refused")
-            return 1 if counts[False] else 0
+        return counts[True], counts[False], commands.refusals
     finally:
         shutil.rmtree(scratch)
-    chosen = chosen_cases(words, moderate_sizes)
-    passed, failed, seen = other_world.run(program, is_proved, chosen)
-    if seen is None:
-        print("skipped, for want of strace: what each command opens")
-    said = "; what they open was not looked at" if seen is None else f", {seen} commands open nothing else"
-    print(f"{counts[True]} passed, {counts[False]} failed; in the other world {passed} passed, {failed} failed{said}")
-    return 1 if counts[False] or failed else 0
+
+
+def main(program, *words):
+    """Runs the cases, in this world and in another one, and prints how many passed and failed."""
+    options = {it for it in words if it in ("--unproved", "--this", "--other")}
+    words = [it for it in words if it not in options]
+    if {"--this", "--other"} <= options:
+        sys.exit("program: --this and --other are for one world each")
+    is_proved, said, wrong = "--unproved" not in options, [], 0
+    if "--other" not in options:
+        passed, wrong, refusals = run_here(program, is_proved, words)
+        said.append(f"{passed} passed, {wrong} failed")
+        if REFUSE_MEMORY:
+            print(f"{said[0]}, {refusals} runs with an allocation refused")
+            return 1 if wrong else 0
+    if "--this" not in options:
+        passed, failed, seen = other_world.run(program, is_proved, chosen_cases(words, moderate_sizes))
+        if seen is None:
+            print("skipped, for want of strace: what each command opens")
+        looked = "; what they open was not looked at" if seen is None else f", {seen} commands open nothing else"
+        said.append(f"in the other world {passed} passed, {failed} failed{looked}")
+        wrong += failed
+    print("; ".join(said))
+    return 1 if wrong else 0
 
 
 if __name__ == "__main__":

@@ -5,6 +5,8 @@
 #   tools/program.sh FILE.txt.. TITLE..   those of these files, or those whose titles have one of these texts
 #   tools/program.sh --unproved ..        the same with a program that tools/unproved.sh made: where a case has the
 #                                         version of a proved one, what it prints has to say that nothing is proved
+#   tools/program.sh --this ..            the same in this world alone
+#   tools/program.sh --other ..           the same in the other one alone, which is told of below
 #
 # The merge gate runs the same cases inside a process, with outputs in memory; of the program itself it compares what
 # one stored run writes to standard output. What this adds is standard error and the whole way from the words to the
