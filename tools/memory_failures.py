@@ -26,10 +26,8 @@ gm_store_sums/src/sum_lines.rt fault_of: no line is invalid, so reading stopped 
   match first_invalid_line(text) { None => SumFault::NoMemory
 gomod_run/src/program.rt ending_of: the list of words could not be made
   match texts_of(rt.alloc(), words.as_slice()) { Err(_) => Ending::Run(write_report(report, &Report::NoMemory))
-gomod_words/src/advice.rt advised: what to type could not be made
-  match tip_for(alloc, kind, refusal, words) { Err(_) => UsageFault::NoMemory
-gomod_words/src/advice.rt with_tip: the message could not be made
-  match format!(in alloc; "{message}\n\n tip: {tip}") { Err(_) => UsageFault::NoMemory
+gomod_words/src/advice.rt advised: the message could not be made
+  match message_on(alloc, kind, text, words) { Err(_) => UsageFault::NoMemory
 gomod_words/src/dashed.rt dashed: the message could not be made
   match dashed_message(alloc, operation, words_after(words)) { Err(_) => UsageFault::NoMemory
 gomod_words/src/given.rt given_words: the list of words could not grow, or has the greatest size

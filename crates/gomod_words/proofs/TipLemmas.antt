@@ -1,11 +1,12 @@
 -- What a tip accounts for, step by step.
-use Rattle.std.proofs.Common.{◌≡◌, ℕ, Global, List, Option, None, Some, Result, String, map, subst}
+use Rattle.std.proofs.Common.{◌≡◌, ℕ, All, Bool, Global, List, Option, None, Some, Result, String, map, refl, subst}
 use Rattle.std.proofs.lemmas.Result.{IfOk-weaker}
 use Rattle.std.specs.Prelude.{IfOk, IfSome}
 use Rattle.std.specs.String.{string_bytes}
 use Rattle.std.specs.declared.alloc.AllocError.{AllocError}
 use Rattle.clap.specs.Walk.{Text}
 use Rattle.gomod_words.specs.Placed.{shown_words}
+use Rattle.gomod_words.specs.Rows.{Becomes, is_over_file}
 use Rattle.gomod_words.specs.Tips.{IsShown, IsTipOf, IsTold}
 use Rattle.gomod_words.specs.declared.items.Item.{Item}
 use Rattle.gomod_words.specs.declared.placed.Placed.{Placed}
@@ -17,17 +18,24 @@ of_text P Q gives None is = is
 of_text P Q gives (Some text) is = gives (string_bytes text) is
 
 -- the words that the tip shows are made of what is placed
-pub shown_by : (r : Result (Option (String Global)) AllocError) (name : Text) (files folders words : List Text) (placed : List Placed)
-    → words ≡ shown_words name files folders placed
+pub shown_by : (r : Result (Option (String Global)) AllocError) (name : Text) (files lists words : List Text) (placed : List Placed)
+    → words ≡ shown_words name files lists placed
     → IfOk r (λ tip. IfSome tip (λ text. IsTold words placed (string_bytes text)))
-    → IfOk r (λ tip. IfSome tip (λ text. IsShown placed (string_bytes text)))
-shown_by r name files folders words placed is told = IfOk-weaker r _ _ (of_text (IsTold words placed) (IsShown placed) (λ text t.
-    record { name = name; files = files; folders = folders; told = subst (λ (ws : List Text). IsTold ws placed text) is t })) told
+    → IfOk r (λ tip. IfSome tip (λ text. IsShown (is_over_file name) placed (string_bytes text)))
+shown_by r name files lists words placed is told = IfOk-weaker r _ _ (of_text (IsTold words placed) (IsShown (is_over_file name) placed) (λ text t.
+    record { name = name; files = files; lists = lists; kind = refl; told = subst (λ (ws : List Text). IsTold ws placed text) is t })) told
 
--- what is placed is all items
-pub of_items : (r : Result (Option (String Global)) AllocError) (placed : List Placed) (items : List Item)
+-- the tip is of one kind of command if it is of the other, where the two are the same
+pub shown_as : (r : Result (Option (String Global)) AllocError) (one other : Bool) (placed : List Placed) → one ≡ other
+    → IfOk r (λ tip. IfSome tip (λ text. IsShown one placed (string_bytes text)))
+    → IfOk r (λ tip. IfSome tip (λ text. IsShown other placed (string_bytes text)))
+shown_as r one other placed same shown = subst (λ (kind : Bool). IfOk r (λ tip. IfSome tip (λ text. IsShown kind placed (string_bytes text)))) same shown
+
+-- what is placed is all items, each as what it may become
+pub of_items : (r : Result (Option (String Global)) AllocError) (is_file : Bool) (placed : List Placed) (items : List Item)
     → map (λ each. each.item) placed ≡ items
-    → IfOk r (λ tip. IfSome tip (λ text. IsShown placed (string_bytes text)))
+    → All (λ each. Becomes is_file each.item each.row) placed
+    → IfOk r (λ tip. IfSome tip (λ text. IsShown is_file placed (string_bytes text)))
     → IfOk r (λ tip. IfSome tip (λ text. IsTipOf items (string_bytes text)))
-of_items r placed items all shown = IfOk-weaker r _ _ (of_text (IsShown placed) (IsTipOf items) (λ text s.
-    record { placed = placed; all = all; shown = s })) shown
+of_items r is_file placed items all become shown = IfOk-weaker r _ _ (of_text (IsShown is_file placed) (IsTipOf items) (λ text s.
+    record { is_file = is_file; placed = placed; all = all; each = become; shown = s })) shown

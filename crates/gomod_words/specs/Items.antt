@@ -1,17 +1,16 @@
 -- The words of a command line as they were meant: options, each with its value, and other words.
-use Rattle.std.specs.Prelude.{◌∷◌, List, [], Option}
+use Rattle.std.specs.Prelude.{◌==◌, ◌∷◌, ℕ, Bool, List, [], None, Option, Some, if◌then◌else◌}
 use Rattle.std.specs.Borrow.{Bor}
-use Rattle.std.specs.List.{flat_map}
-use Rattle.std.specs.Option.{option_map_or}
+use Rattle.std.specs.List.{after_first, before_first, flat_map}
+use Rattle.std.specs.Option.{option_and_then, option_map, option_map_or}
 use Rattle.clap.specs.Walk.{Text}
+use Rattle.gomod_words.specs.Dashed.{begins_with_dash, without_dashes}
 use Rattle.gomod_words.specs.declared.items.Item.{Item}
-use Rattle.gomod_words.specs.declared.items.Item.TheVariants.{Word, Flag, Joined, Pair}
+use Rattle.gomod_words.specs.declared.items.Item.TheVariants.{Word, Pair}
 
 -- the words that an item was typed as
 abbrev pub words_of : Item → List Text
 words_of (Word word) = word.now ∷ []
-words_of (Flag option) = option.now ∷ []
-words_of (Joined word name value) = word.now ∷ []
 words_of (Pair option value) = option.now ∷ value.now ∷ []
 
 -- the words that items were typed as, in order
@@ -21,3 +20,30 @@ words_in items = flat_map words_of items
 -- the option that waits for its value, if there is one
 abbrev pub waiting : Option (Bor Text) → List Text
 waiting option = option_map_or (λ word. word.now ∷ []) option []
+
+-- the text, unless it is empty
+abbrev pub not_empty : Text → Option Text
+not_empty [] = None
+not_empty (first ∷ rest) = Some (first ∷ rest)
+
+-- the sign `=`, between the name of an option and its value
+abbrev pub is_equals : ℕ → Bool
+is_equals b = b == 61
+
+-- the value in the word of an option
+abbrev pub value_after : Text → Option Text
+value_after option = not_empty (after_first is_equals option)
+
+-- the option that a word is, without its dashes
+abbrev pub option_in : Text → Option Text
+option_in word = if begins_with_dash word then Some (without_dashes word) else None
+
+-- the name of an option, without its dashes; another word has none
+abbrev pub option_name : Item → Option Text
+option_name (Word word) = option_map (before_first is_equals) (option_in word.now)
+option_name (Pair option value) = option_in option.now
+
+-- the value of an option, if it is not empty
+abbrev pub option_value : Item → Option Text
+option_value (Word word) = option_and_then value_after (option_in word.now)
+option_value (Pair option value) = not_empty value.now

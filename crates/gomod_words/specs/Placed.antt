@@ -1,48 +1,20 @@
--- What becomes of each item of a command line that is meant for another one, and the command lines that are made of it.
-use Rattle.std.specs.Prelude.{◌||◌, ◌∷◌, ◌++◌, if◌then◌else◌, ℕ, Bool, List, [], codes, flat_map, unwrap_or}
+-- The command lines that are made of what becomes of each item of another one.
+use Rattle.std.specs.Prelude.{◌||◌, ◌∷◌, ◌++◌, if◌then◌else◌, ℕ, Bool, List, [], codes, false, flat_map, true, unwrap_or}
+use Rattle.std.specs.List.{list_any}
 use Rattle.std.specs.Str.{bytes_eq}
 use Rattle.clap.specs.Walk.{Text}
 use Rattle.gomod_words.specs.Dashed.{operation_in, without_dashes}
 use Rattle.gomod_words.specs.Items.{words_of}
 use Rattle.gomod_words.specs.Typed.{typed_words}
 use Rattle.gomod_words.specs.declared.items.Item.{Item}
-use Rattle.gomod_words.specs.declared.items.Item.TheVariants.{Word, Flag, Joined, Pair}
+use Rattle.gomod_words.specs.declared.items.Item.TheVariants.{Word, Pair}
+use Rattle.gomod_words.specs.declared.placed.Group.{Group}
+use Rattle.gomod_words.specs.declared.placed.Group.TheVariants as g
 use Rattle.gomod_words.specs.declared.placed.Placed.{Placed}
 use Rattle.gomod_words.specs.declared.rows.Row.{Row}
-use Rattle.gomod_words.specs.declared.rows.Row.TheVariants.{Part, Release, Proxy, Operation, NoFolder, LeftOut, Unknown}
+use Rattle.gomod_words.specs.declared.rows.Row.TheVariants.{Part, Release, Operation, LeftOut, Unknown}
 use Rattle.gomod_words.specs.declared.rows.Slot.{Slot}
-use Rattle.gomod_words.specs.declared.rows.Slot.TheVariants.{Operand, Main, Sums, After, Limit, Retracted, Folder, Output}
-
--- the words that are left out of an item of which this becomes
-abbrev pub left_by : Item → Row → List Text
-left_by item LeftOut = words_of item
-left_by item NoFolder = words_of item
-left_by item Unknown = words_of item
-left_by item (Release path version) = version.now ∷ []
-left_by item _ = []
-
--- the words that are left out
-abbrev pub left_in : List Placed → List Text
-left_in placed = flat_map (λ each. left_by each.item each.row) placed
-
--- FILE or PATH, if it is one
-abbrev pub operand_by : Row → List Text
-operand_by (Part Operand text) = text.now ∷ []
-operand_by (Release path version) = path.now ∷ []
-operand_by _ = []
-
--- FILE or PATH
-abbrev pub operands_in : List Placed → List Text
-operands_in placed = flat_map (λ each. operand_by each.row) placed
-
--- the folders that `--proxy` names
-abbrev pub folders_by : Row → List Text
-folders_by (Proxy folders) = folders.now ∷ []
-folders_by _ = []
-
--- the lists of proxy folders
-abbrev pub folders_in : List Placed → List Text
-folders_in placed = flat_map (λ each. folders_by each.row) placed
+use Rattle.gomod_words.specs.declared.rows.Slot.TheVariants.{Operand, Main, Sums, After, Limit, Retracted, Folder, Output, Json, Format, Proxy, Cache}
 
 -- a part that is an option, with its text
 abbrev pub option_words : Slot → Text → List Text
@@ -53,14 +25,42 @@ option_words Limit text = codes "--limit" ∷ text ∷ []
 option_words Retracted text = codes "--retracted" ∷ []
 option_words _ text = []
 
--- the option that is typed for it
-abbrev pub options_by : Row → List Text
-options_by (Part slot text) = option_words slot text.now
-options_by _ = []
+-- a part of this slot is a word of this group
+abbrev pub is_of : Group → Slot → Bool
+is_of g.Operands Operand = true
+is_of g.Lists Proxy = true
+is_of g.Lists Cache = true
+is_of g.Folders Folder = true
+is_of g.Outputs Output = true
+is_of _ slot = false
 
--- the options of a command over a module graph but `--proxy`
-abbrev pub options_in : List Placed → List Text
-options_in placed = flat_map (λ each. options_by each.row) placed
+-- the words of this group that a part with this text has
+abbrev pub part_words : Group → Slot → Text → List Text
+part_words g.Options slot text = option_words slot text
+part_words group slot text = if is_of group slot then text ∷ [] else []
+
+-- the words of this group that PATH and a version have, which is left out
+abbrev pub release_words : Group → Text → Text → List Text
+release_words g.Operands path version = path ∷ []
+release_words g.Left path version = version ∷ []
+release_words _ path version = []
+
+-- the words of this group that an item has which is left out: all of it is named
+abbrev pub left_by : Group → Item → List Text
+left_by g.Left item = words_of item
+left_by _ item = []
+
+-- the words of this group that there are of an item of which this becomes
+abbrev pub words_by : Group → Item → Row → List Text
+words_by group item (Part slot text) = part_words group slot text.now
+words_by group item (Release path version) = release_words group path.now version.now
+words_by group item Operation = []
+words_by group item LeftOut = left_by group item
+words_by group item Unknown = left_by group item
+
+-- the words of this group
+abbrev pub grouped : Group → List Placed → List Text
+grouped group placed = flat_map (λ each. words_by group each.item each.row) placed
 
 -- the operation that a word is, without a dash, or the word
 abbrev pub undashed : Text → Text
@@ -69,8 +69,6 @@ undashed word = unwrap_or (operation_in word) word
 -- the operation that an item is, in one word without a dash
 abbrev pub operation_text : Item → Text
 operation_text (Word word) = undashed word.now
-operation_text (Flag option) = undashed option.now
-operation_text (Joined word name value) = undashed word.now
 operation_text (Pair option value) = without_dashes option.now ++ codes "=" ++ value.now
 
 -- the operation that an item is, if this becomes of it
@@ -82,14 +80,17 @@ operations_by item _ = []
 abbrev pub operations_in : List Placed → List Text
 operations_in placed = flat_map (λ each. operations_by each.item each.row) placed
 
--- the folder to go to first
-abbrev pub place_by : Row → List Text
-place_by (Part Folder text) = text.now ∷ []
-place_by _ = []
+-- JSON is asked for by this
+abbrev pub asks_for_json : Row → Bool
+asks_for_json (Part Json text) = true
+asks_for_json (Part Format text) = true
+asks_for_json _ = false
 
--- the folders to go to first
-abbrev pub places_in : List Placed → List Text
-places_in placed = flat_map (λ each. place_by each.row) placed
+-- what is said of JSON, if something asks for it
+abbrev pub json_text : List Placed → List ℕ
+json_text placed =
+    if list_any (λ each. asks_for_json each.row) placed
+    then codes "\n       for JSON see docs/use/RECIPES.md, which makes it of the rows" else []
 
 -- an option that says that the output is kept in the file, and not compared with it
 abbrev pub keeps_output : Text → Bool
@@ -102,14 +103,9 @@ end_of file option =
     if keeps_output option then codes " > go.mod.new && mv go.mod.new" ++ typed_words (file ∷ [])
     else codes " | diff" ++ typed_words (file ∷ codes "-" ∷ [])
 
--- what is done with the output, if an option says so
-abbrev pub end_by : Text → Row → List ℕ
-end_by file (Part Output option) = end_of file option.now
-end_by file _ = []
-
--- what is done with the output of a command over this file
-abbrev pub end_in : Text → List Placed → List ℕ
-end_in file placed = flat_map (λ each. end_by file each.row) placed
+-- what options do with the output of a command over this file
+abbrev pub end_in : Text → List Text → List ℕ
+end_in file options = flat_map (end_of file) options
 
 -- these, or others if there are none
 abbrev pub or_else : List Text → List Text → List Text
@@ -122,11 +118,11 @@ proxy_words [] = []
 proxy_words (first ∷ lists) = codes "--proxy" ∷ (first ++ flat_map (λ list. codes "," ++ list) lists) ∷ []
 
 -- The words of a command line of gomod: the name of a command, FILE or PATH, `--proxy`, the other options and the
--- operations. If no item is FILE or PATH, or a folder of `--proxy`, others stand there.
+-- operations. If no item is FILE or PATH, or a list of proxy folders, others stand there.
 abbrev pub shown_words : Text → List Text → List Text → List Placed → List Text
-shown_words name files folders placed =
-    (codes "gomod" ∷ name ∷ []) ++ or_else files (operands_in placed)
-    ++ proxy_words (or_else folders (folders_in placed)) ++ options_in placed ++ operations_in placed
+shown_words name files lists placed =
+    (codes "gomod" ∷ name ∷ []) ++ or_else files (grouped g.Operands placed)
+    ++ proxy_words (or_else lists (grouped g.Lists placed)) ++ grouped g.Options placed ++ operations_in placed
 
 -- the words after the program's name
 abbrev pub after_program : List Text → List Text

@@ -5,6 +5,8 @@
 ghost use Rattle.std.specs.Prelude.{◌≡◌, ◌++◌, IfOk, IfSome, Some, map, option_map, true};
 ghost use Rattle.std.specs.String.{string_bytes};
 ghost use Rattle.gomod_words.specs.Items.{words_in};
+ghost use Rattle.gomod_words.specs.Made.{name_in};
+ghost use Rattle.gomod_words.specs.Rows.{is_over_file};
 ghost use Rattle.gomod_words.specs.Tips.{IsShown, IsTipOf, is_mod, is_versions, is_word, without_name, without_versions};
 ghost use Rattle.gomod_words.specs.Typed.{left_text, typed_words};
 ghost use Rattle.gomod_words.specs.Usage.{ShowsLine, is_line_or_memory, usage_of};
@@ -13,9 +15,9 @@ use crate::dashed::{begins_with_dash, without_dashes};
 use crate::help::usage_of;
 use crate::items::{Item, items, push_all_words, word_in};
 use crate::lines::shown;
-use crate::placed::{CACHE, Placed, has, has_cache_alone, has_operation, place_all};
+use crate::placed::{Placed, has, has_cache_alone, has_operation, place_all};
 use crate::refusal::{Refusal, refusal_in};
-use crate::rows::{Row, Slot, Target, is_edit_of_go, row_of, target_of};
+use crate::rows::{CACHE, Row, Slot, Target, is_edit_of_go, row_of, target_of};
 use crate::table::{CommandName, command_row};
 use crate::typed::{followed, push_left};
 use crate::usage::{UsageFault, line};
@@ -40,9 +42,6 @@ const ABOUT_PATH: &str = "\n       prints the modules; name one of them as PATH"
 /// What is said if no operation is named.
 const ABOUT_OPERATION: &str = "\n       'gomod edit --help' lists the operations";
 
-/// What is said of JSON.
-const ABOUT_JSON: &str = "\n       for JSON see docs/use/RECIPES.md, which makes it of the rows";
-
 /// What to type, unless nothing is known that works or memory ran out.
 type Tip = Result<Option<String>, AllocError>;
 
@@ -53,24 +52,29 @@ pub(crate) fn advised(alloc: Global, kind: ErrorKind, text: &str, words: &[&str]
     ensures kind { is_line_or_memory result ≡ true }
     ensures usage { ShowsLine (usage_of (map (λ word. word.now) words.now)) result }
 {
-    let refusal = refusal_in(kind, text, words);
-    match tip_for(alloc, kind, refusal, words) {
-        Ok(Some(tip)) => with_tip(alloc, refusal.message, tip.as_str(), usage_of(words)),
-        Ok(None) => line(alloc, refusal.message, usage_of(words)),
+    match message_on(alloc, kind, text, words) {
+        Ok(message) => line(alloc, message.as_str(), usage_of(words)),
         Err(_) => UsageFault::NoMemory,
     }
 }
 
-/// The usage error with a tip.
-#[tactic(auto, using(crate::proofs::UsageLines::line_shows))]
-fn with_tip(alloc: Global, message: &str, tip: &str, usage: &str) -> UsageFault
-    ensures kind { is_line_or_memory result ≡ true }
-    ensures usage { ShowsLine usage.now result }
-{
-    match format!(in alloc; "{message}\n\n  tip: {tip}") {
-        Ok(message) => line(alloc, message.as_str(), usage),
-        Err(_) => UsageFault::NoMemory,
+/// What is wrong with words that the parser refuses, and what to type, if that is known.
+fn message_on(
+    alloc: Global,
+    kind: ErrorKind,
+    text: &str,
+    words: &[&str],
+) -> Result<String, AllocError> {
+    let refusal = refusal_in(kind, text, words);
+    match tip_for(alloc, kind, refusal, words)? {
+        Some(tip) => with_tip(alloc, refusal.message, tip.as_str()),
+        None => String::from_str(alloc, refusal.message),
     }
+}
+
+/// A message with a tip.
+fn with_tip(alloc: Global, message: &str, tip: &str) -> Result<String, AllocError> {
+    Ok(format!(in alloc; "{message}\n\n  tip: {tip}")?)
 }
 
 /// What to type instead of these words, or what the parser says is similar.
@@ -117,15 +121,15 @@ fn tip_by_words(alloc: Global, has_similar: bool, words: &[&str]) -> Tip {
 /// What to type instead of these items.
 fn tip_of(alloc: Global, has_similar: bool, items: &[Item<'_>]) -> Tip {
     let name = command_in(items);
+    let target = target_in(alloc, name)?;
     let rest = without_name(alloc, items)?;
+    tip_to(alloc, target, name, has_similar, rest.as_slice())
+}
+
+/// What a word in the place of a command asks for, in any letters.
+fn target_in(alloc: Global, name: &str) -> Result<Target, AllocError> {
     let small = name.to_ascii_lowercase(alloc)?;
-    tip_to(
-        alloc,
-        target_of(small.as_str()),
-        name,
-        has_similar,
-        rest.as_slice(),
-    )
+    Ok(target_of(small.as_str()))
 }
 
 /// The word in the place of a command: the first that is no option, after `mod`, or the first option.
@@ -145,9 +149,10 @@ fn command_in<'a>(items: &[Item<'a>]) -> &'a str {
 
 /// The command, by what was taken for it before an item.
 fn named<'a>(name: Option<&'a str>, item: Item<'a>) -> Option<&'a str> {
-    match item {
-        Item::Word(word) => if is_open(name) { Some(word) } else { name },
-        _ => name,
+    if is_open(name) && is_word(item) {
+        Some(word_in(item))
+    } else {
+        name
     }
 }
 
@@ -164,7 +169,7 @@ fn is_word(item: Item<'_>) -> bool
     ensures { result ≡ is_word item.entry }
 {
     match item {
-        Item::Word(_) => true,
+        Item::Word(word) => !begins_with_dash(word),
         _ => false,
     }
 }
@@ -244,7 +249,7 @@ fn is_versions(item: Item<'_>) -> bool
     ensures { result ≡ is_versions item.entry }
 {
     match item {
-        Item::Flag(option) => without_dashes(option) == "versions",
+        Item::Word(word) => begins_with_dash(word) && without_dashes(word) == "versions",
         _ => false,
     }
 }
@@ -309,12 +314,23 @@ fn version_tip(alloc: Global, name: &str, rest: &[Item<'_>]) -> Tip {
 
 /// What to type for help: on the command that the words name, or on the program.
 fn help_tip(alloc: Global, rest: &[Item<'_>]) -> Tip {
-    if let [Item::Word(name), more @ ..] = rest {
-        if let Target::Ours(command) = target_of(*name) {
+    if let [item, more @ ..] = rest {
+        if let Some(command) = command_of(*item) {
             return command_help(alloc, command_row(command).name, more);
         }
     }
     with_left(alloc, "gomod --help", rest)
+}
+
+/// The command of gomod that an item names, if it names one.
+fn command_of(item: Item<'_>) -> Option<CommandName> {
+    if !is_word(item) {
+        return None;
+    }
+    match target_of(word_in(item)) {
+        Target::Ours(command) => Some(command),
+        _ => None,
+    }
 }
 
 /// What to type for help on this command.
@@ -345,19 +361,30 @@ fn command_tip(alloc: Global, command: CommandName, items: &[Item<'_>]) -> Tip
     }
 }
 
-/// A command over one file: `edit` if there is an operation, otherwise `fmt`.
+/// A command over one file: `edit` if there is an operation, otherwise `fmt`. Both take the same.
 #[tactic(auto, using(crate::proofs::TipLemmas::of_items))]
 fn over_file(alloc: Global, command: CommandName, items: &[Item<'_>]) -> Tip
     ensures { IfOk result (λ tip. IfSome tip (λ text. IsTipOf items.now (string_bytes text))) }
 {
-    let placed = place_all(alloc, command, items)?;
-    let has_operation = has_operation(placed.as_slice());
-    let name = if has_operation { "edit" } else { "fmt" };
-    let about = about_operation(
-        command,
-        has_operation || has(placed.as_slice(), Slot::Print),
-    );
-    shown(alloc, name, &["go.mod"], &[], &[about], placed.as_slice())
+    let placed = place_all(alloc, CommandName::Fmt, items)?;
+    file_line(alloc, command, placed.as_slice())
+}
+
+/// The tip for items of this command over one file that are placed.
+#[tactic(auto, using(crate::proofs::TipLemmas::shown_as))]
+fn file_line(alloc: Global, command: CommandName, placed: &[Placed<'_>]) -> Tip
+    ensures { IfOk result (λ tip. IfSome tip (λ text. IsShown true placed.now (string_bytes text))) }
+{
+    let name = file_command(has_operation(placed));
+    let note = about_operation(command, has_operation(placed) || has(placed, Slot::Print));
+    shown(alloc, name, &["go.mod"], &[], (note, ""), placed)
+}
+
+/// The name of the command over one file, with operations or without.
+fn file_command(has_operation: bool) -> &'static str
+    ensures { is_over_file result.now ≡ true }
+{
+    if has_operation { "edit" } else { "fmt" }
 }
 
 /// What is said of `fmt` in the place of this command.
@@ -391,21 +418,22 @@ fn over_graph(alloc: Global, command: CommandName, about: &'static str, items: &
 }
 
 /// The tip for items of a command over proxy folders that are placed, and this after it.
+#[tactic(auto, using(crate::proofs::TipLemmas::shown_as))]
 fn graph_line(
     alloc: Global,
     command: CommandName,
     about: &'static str,
     placed: &[Placed<'_>],
 ) -> Tip
-    ensures { IfOk result (λ tip. IfSome tip (λ text. IsShown placed.now (string_bytes text))) }
+    ensures { IfOk result (λ tip. IfSome tip (λ text.
+        IsShown (is_over_file (name_in command)) placed.now (string_bytes text))) }
 {
-    let notes = &[about_folder(placed), about_json(placed), about];
     shown(
         alloc,
         command_row(command).name,
         &[],
         &[CACHE],
-        notes,
+        (about_folder(placed), about),
         placed,
     )
 }
@@ -414,15 +442,6 @@ fn graph_line(
 fn about_folder(placed: &[Placed<'_>]) -> &'static str {
     if has_cache_alone(placed) {
         ABOUT_CACHE
-    } else {
-        ""
-    }
-}
-
-/// What is said of JSON.
-fn about_json(placed: &[Placed<'_>]) -> &'static str {
-    if has(placed, Slot::Json) {
-        ABOUT_JSON
     } else {
         ""
     }

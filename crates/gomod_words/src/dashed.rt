@@ -214,7 +214,7 @@ pub(crate) fn names_operation(name: &str) -> bool
 }
 
 /// Whether a word is the name of an operation, with one dash or two, so that the next word is its value.
-fn is_operation_name(word: &str) -> bool
+pub(crate) fn is_operation_name(word: &str) -> bool
     ensures { result ≡ is_operation_name word.now }
 {
     begins_with_dash(word) && names_operation(without_dashes(word))

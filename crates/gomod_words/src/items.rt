@@ -1,7 +1,9 @@
 //! The words of a command line as they were meant: options, each with its value, and other words.
 
-ghost use Rattle.std.specs.Prelude.{◌≡◌, ◌∷◌, ◌++◌, IfOk, List, [], OnOk, map};
-ghost use Rattle.gomod_words.specs.Items.{waiting, words_in, words_of};
+ghost use Rattle.std.specs.Prelude.{◌≡◌, ◌∷◌, ◌++◌, IfOk, [], OnOk, map};
+ghost use Rattle.std.specs.List.{before_first};
+ghost use Rattle.std.specs.Option.{option_copied};
+ghost use Rattle.gomod_words.specs.Items.{is_equals, not_empty, option_in, option_name, option_value, value_after, waiting, words_in, words_of};
 
 use crate::dashed::{begins_with_dash, names_operation, without_dashes};
 use std::alloc::{AllocError, Global};
@@ -9,47 +11,75 @@ use std::alloc::{AllocError, Global};
 /// An option with its value, or another word.
 #[derive(Clone, Copy)]
 pub(crate) enum Item<'a> {
-    /// A word that is no option.
+    /// A word: an option, which may have its value after `=`, if it begins with a dash.
     Word(&'a str),
-    /// An option without a value.
-    Flag(&'a str),
-    /// An option and its value in one word.
-    Joined(&'a str, &'a str, &'a str),
     /// An option, and its value in the next word.
     Pair(&'a str, &'a str),
-}
-
-/// The name of an option, without its dashes. Another word has none.
-pub(crate) fn name_in<'a>(item: Item<'a>) -> Option<&'a str> {
-    match item {
-        Item::Word(_) => None,
-        Item::Flag(option) => Some(without_dashes(option)),
-        Item::Joined(_, name, _) => Some(name),
-        Item::Pair(option, _) => Some(without_dashes(option)),
-    }
-}
-
-/// The value of an option, if it is not empty.
-pub(crate) fn value_in<'a>(item: Item<'a>) -> Option<&'a str> {
-    match item {
-        Item::Joined(_, _, value) => not_empty(value),
-        Item::Pair(_, value) => not_empty(value),
-        _ => None,
-    }
-}
-
-/// The text, unless it is empty.
-fn not_empty(text: &str) -> Option<&str> {
-    if text.is_empty() { None } else { Some(text) }
 }
 
 /// The first word of an item.
 pub(crate) fn word_in<'a>(item: Item<'a>) -> &'a str {
     match item {
         Item::Word(word) => word,
-        Item::Flag(option) => option,
-        Item::Joined(word, _, _) => word,
         Item::Pair(option, _) => option,
+    }
+}
+
+/// The option that a word is, without its dashes.
+fn option_in(word: &str) -> Option<&str>
+    ensures { option_copied result ≡ option_in word.now }
+{
+    if begins_with_dash(word) {
+        Some(without_dashes(word))
+    } else {
+        None
+    }
+}
+
+/// The name of an option that is written without its dashes.
+fn name_before(option: &str) -> &str
+    ensures { result.now ≡ before_first is_equals option.now }
+{
+    match option.split_once('=') {
+        Some((name, _)) => name,
+        None => option,
+    }
+}
+
+/// The value in the word of an option, if it is not empty.
+fn value_after(option: &str) -> Option<&str>
+    ensures { option_copied result ≡ value_after option.now }
+{
+    match option.split_once('=') {
+        Some((_, value)) => not_empty(value),
+        None => None,
+    }
+}
+
+/// The text, unless it is empty.
+fn not_empty(text: &str) -> Option<&str>
+    ensures { option_copied result ≡ not_empty text.now }
+{
+    if text.is_empty() { None } else { Some(text) }
+}
+
+/// The name of an option, without its dashes. Another word has none.
+pub(crate) fn name_in<'a>(item: Item<'a>) -> Option<&'a str>
+    ensures { option_copied result ≡ option_name item.entry }
+{
+    match item {
+        Item::Word(word) => Some(name_before(option_in(word)?)),
+        Item::Pair(option, _) => option_in(option),
+    }
+}
+
+/// The value of an option, if it is not empty.
+pub(crate) fn value_in<'a>(item: Item<'a>) -> Option<&'a str>
+    ensures { option_copied result ≡ option_value item.entry }
+{
+    match item {
+        Item::Word(word) => value_after(option_in(word)?),
+        Item::Pair(_, value) => not_empty(value),
     }
 }
 
@@ -60,8 +90,6 @@ pub(crate) fn push_words<'a>(words: &mut Vec<&'a str>, item: Item<'a>) -> Result
 {
     match item {
         Item::Word(word) => words.push(word)?,
-        Item::Flag(option) => words.push(option)?,
-        Item::Joined(word, _, _) => words.push(word)?,
         Item::Pair(option, value) => words.extend_from_slice(&[option, value])?,
     }
     Ok(())
@@ -90,16 +118,16 @@ pub(crate) fn items<'a>(alloc: Global, words: &[&'a str]) -> Result<Vec<Item<'a>
     for word in words {
         option = push_item(&mut items, option, *word)?;
     }
-    push_flag(&mut items, option)?;
+    push_waiting(&mut items, option)?;
     Ok(items)
 }
 
 /// Appends an option that has no value, if there is one.
-fn push_flag<'a>(items: &mut Vec<Item<'a>>, option: Option<&'a str>) -> Result<(), AllocError>
+fn push_waiting<'a>(items: &mut Vec<Item<'a>>, option: Option<&'a str>) -> Result<(), AllocError>
     ensures { OnOk result (words_in items.new.items ≡ words_in items.old.items ++ waiting option.entry) }
 {
     if let Some(option) = option {
-        items.push(Item::Flag(option))?;
+        items.push(Item::Word(option))?;
     }
     Ok(())
 }
@@ -119,25 +147,12 @@ fn push_item<'a>(
             return Ok(None);
         }
     }
-    push_flag(items, option)?;
+    push_waiting(items, option)?;
     if takes_value(word) {
         return Ok(Some(word));
     }
-    items.push(alone(word))?;
+    items.push(Item::Word(word))?;
     Ok(None)
-}
-
-/// The item that a word is alone.
-fn alone(word: &str) -> Item<'_>
-    ensures { words_of result ≡ word.now ∷ [] }
-{
-    if !begins_with_dash(word) {
-        return Item::Word(word);
-    }
-    match without_dashes(word).split_once('=') {
-        Some((name, value)) => Item::Joined(word, name, value),
-        None => Item::Flag(word),
-    }
 }
 
 /// Whether a word is an option, of gomod or of go, that takes the next word as its value.

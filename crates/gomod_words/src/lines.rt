@@ -1,20 +1,21 @@
 //! The command lines that tips show: their words, and how they are typed.
 
-ghost use Rattle.std.specs.Prelude.{◌≡◌, ◌∷◌, ◌++◌, IfOk, IfSome, OnOk, [], codes, flat_map, map};
+ghost use Rattle.std.specs.Prelude.{◌≡◌, ◌++◌, IfOk, IfSome, OnOk, [], codes, flat_map, map};
 ghost use Rattle.std.specs.String.{string_bytes};
-ghost use Rattle.gomod_words.specs.Placed.{after_program, command_text, end_by, end_in, end_of, folders_in, keeps_output, left_in, line_text, operands_in, operations_in, options_in, or_else, places_in, proxy_words, second_of, shown_words};
+ghost use Rattle.gomod_words.specs.Placed.{after_program, command_text, end_in, end_of, grouped, json_text, keeps_output, line_text, or_else, proxy_words, second_of, shown_words};
+ghost use Rattle.gomod_words.specs.Rows.{is_over_file};
 ghost use Rattle.gomod_words.specs.Tips.{IsShown, IsTold};
 ghost use Rattle.gomod_words.specs.Typed.{left_text};
+ghost use Rattle.gomod_words.specs.declared.placed.Group.TheVariants.{Folders, Left, Lists, Operands, Options, Outputs};
 
 use crate::dashed::without_dashes;
-use crate::placed::{
-    Placed, push_folders, push_left_words, push_operands, push_operations, push_options,
-    push_places,
-};
-use crate::rows::{Row, Slot};
+use crate::placed::{Group, Placed, grouped, has_json, push_operations};
 use crate::typed::{followed, push_left};
 use crate::usage::is_command;
 use std::alloc::{AllocError, Global};
+
+/// What is said of JSON.
+const ABOUT_JSON: &str = "\n       for JSON see docs/use/RECIPES.md, which makes it of the rows";
 
 /// Appends copies of words.
 fn push_copies(alloc: Global, texts: &mut Vec<String>, words: &[&str]) -> Result<(), AllocError>
@@ -115,10 +116,9 @@ fn push_files(
     placed: &[Placed<'_>],
 ) -> Result<(), AllocError>
     ensures { OnOk result (map string_bytes texts.new.items ≡ map string_bytes texts.old.items
-        ++ or_else (map (λ word. word.now) others.now) (operands_in placed.now)) }
+        ++ or_else (map (λ word. word.now) others.now) (grouped Operands placed.now)) }
 {
-    let mut named = Vec::new(alloc);
-    push_operands(&mut named, placed)?;
+    let named = grouped(alloc, Group::Operands, placed)?;
     push_or_else(alloc, texts, others, named.as_slice())
 }
 
@@ -130,10 +130,9 @@ fn push_proxy(
     placed: &[Placed<'_>],
 ) -> Result<(), AllocError>
     ensures { OnOk result (map string_bytes texts.new.items ≡ map string_bytes texts.old.items
-        ++ proxy_words (or_else (map (λ list. list.now) others.now) (folders_in placed.now))) }
+        ++ proxy_words (or_else (map (λ list. list.now) others.now) (grouped Lists placed.now))) }
 {
-    let mut named = Vec::new(alloc);
-    push_folders(&mut named, placed)?;
+    let named = grouped(alloc, Group::Lists, placed)?;
     push_list_or_else(alloc, texts, others, named.as_slice())
 }
 
@@ -144,10 +143,9 @@ fn push_other_options(
     placed: &[Placed<'_>],
 ) -> Result<(), AllocError>
     ensures { OnOk result (map string_bytes texts.new.items
-        ≡ map string_bytes texts.old.items ++ options_in placed.now) }
+        ≡ map string_bytes texts.old.items ++ grouped Options placed.now) }
 {
-    let mut words = Vec::new(alloc);
-    push_options(&mut words, placed)?;
+    let words = grouped(alloc, Group::Options, placed)?;
     push_copies(alloc, texts, words.as_slice())
 }
 
@@ -200,26 +198,31 @@ fn end_of(alloc: Global, file: &str, option: &str) -> Result<String, AllocError>
     }
 }
 
-/// Appends what is done with the output, if an option says so.
-fn push_end(alloc: Global, text: &mut String, file: &str, row: Row<'_>) -> Result<(), AllocError>
-    ensures { OnOk result (string_bytes text.new ≡ string_bytes text.old ++ end_by file.now row.entry) }
+/// What options do with the output of a command over this file.
+fn end_in(alloc: Global, file: &str, options: &[&str]) -> Result<String, AllocError>
+    ensures { IfOk result (λ end. string_bytes end ≡ end_in file.now (map (λ option. option.now) options.now)) }
 {
-    if let Row::Part(Slot::Output, option) = row {
-        let end = end_of(alloc, file, option)?;
-        text.push_str(end.as_str())?;
+    let mut ends = String::new(alloc);
+    for option in options {
+        push_end(alloc, &mut ends, file, option)?;
     }
-    Ok(())
+    Ok(ends)
+}
+
+/// Appends what an option does with the output of a command over this file.
+fn push_end(alloc: Global, ends: &mut String, file: &str, option: &str) -> Result<(), AllocError>
+    ensures { OnOk result (string_bytes ends.new ≡ string_bytes ends.old ++ end_of file.now option.now) }
+{
+    let end = end_of(alloc, file, option)?;
+    ends.push_str(end.as_str())
 }
 
 /// What is done with the output of a command over this file.
-fn end_in(alloc: Global, file: &str, placed: &[Placed<'_>]) -> Result<String, AllocError>
-    ensures { IfOk result (λ end. string_bytes end ≡ end_in file.now placed.now) }
+fn end_for(alloc: Global, file: &str, placed: &[Placed<'_>]) -> Result<String, AllocError>
+    ensures { IfOk result (λ end. string_bytes end ≡ end_in file.now (grouped Outputs placed.now)) }
 {
-    let mut end = String::new(alloc);
-    for each in placed {
-        push_end(alloc, &mut end, file, each.row)?;
-    }
-    Ok(end)
+    let options = grouped(alloc, Group::Outputs, placed)?;
+    end_in(alloc, file, options.as_slice())
 }
 
 /// A command line of gomod with these words and this end.
@@ -264,31 +267,27 @@ fn command_text(
 
 /// The command line of gomod with these words that is made of the items.
 fn line_of(alloc: Global, words: &[&str], placed: &[Placed<'_>]) -> Result<String, AllocError>
-    ensures { IfOk result (λ text. string_bytes text ≡ command_text (places_in placed.now)
-        (map (λ word. word.now) words.now) (end_in (second_of (map (λ word. word.now) words.now)) placed.now)) }
+    ensures { IfOk result (λ text. string_bytes text ≡ command_text (grouped Folders placed.now)
+        (map (λ word. word.now) words.now)
+        (end_in (second_of (map (λ word. word.now) words.now)) (grouped Outputs placed.now))) }
 {
-    let mut folders = Vec::new(alloc);
-    push_places(&mut folders, placed)?;
-    let end = end_in(alloc, second_of(words), placed)?;
+    let folders = grouped(alloc, Group::Folders, placed)?;
+    let end = end_for(alloc, second_of(words), placed)?;
     command_text(alloc, folders.as_slice(), words, end.as_str())
 }
 
-/// Appends texts.
-fn push_all(tip: &mut String, texts: &[&str]) -> Result<(), AllocError>
-    ensures { OnOk result (string_bytes tip.new ≡ string_bytes tip.old ++ flat_map (λ text. text.now) texts.now) }
+/// What is said of JSON, if something asks for it.
+fn json_text(placed: &[Placed<'_>]) -> &'static str
+    ensures { result.now ≡ json_text placed.now }
 {
-    for text in texts {
-        tip.push_str(text)?;
-    }
-    Ok(())
+    if has_json(placed) { ABOUT_JSON } else { "" }
 }
 
 /// Appends what is left out of the items.
 fn push_left_of(alloc: Global, tip: &mut String, placed: &[Placed<'_>]) -> Result<(), AllocError>
-    ensures { OnOk result (string_bytes tip.new ≡ string_bytes tip.old ++ left_text (left_in placed.now)) }
+    ensures { OnOk result (string_bytes tip.new ≡ string_bytes tip.old ++ left_text (grouped Left placed.now)) }
 {
-    let mut left = Vec::new(alloc);
-    push_left_words(&mut left, placed)?;
+    let left = grouped(alloc, Group::Left, placed)?;
     push_left(tip, left.as_slice())
 }
 
@@ -303,11 +302,12 @@ fn after_program<'w, 'a>(words: &'w [&'a str]) -> &'w [&'a str]
 }
 
 /// The tip for the items of a command that are placed: the command line of gomod that is made of them, if it asks for
-/// something, what is said of it, and what is left out.
+/// something, what is said of it, before what is said of JSON and after, and what is left out.
 fn told(
     alloc: Global,
     words: &[&str],
-    about: &[&str],
+    before: &str,
+    after: &str,
     placed: &[Placed<'_>],
 ) -> Result<Option<String>, AllocError>
     ensures { IfOk result (λ tip. IfSome tip (λ text.
@@ -317,26 +317,35 @@ fn told(
         return Ok(None);
     }
     let mut tip = line_of(alloc, after_program(words), placed)?;
-    push_all(&mut tip, about)?;
+    push_notes(&mut tip, before, json_text(placed), after)?;
     push_left_of(alloc, &mut tip, placed)?;
     Ok(Some(tip))
 }
 
+/// Appends what is said of a command line.
+fn push_notes(tip: &mut String, before: &str, json: &str, after: &str) -> Result<(), AllocError>
+    ensures { OnOk result (string_bytes tip.new ≡ string_bytes tip.old ++ before.now ++ json.now ++ after.now) }
+{
+    tip.push_str(before)?;
+    tip.push_str(json)?;
+    tip.push_str(after)
+}
+
 /// The tip for items that are placed, with a command of this name. What is named here stands in the place of FILE or
-/// PATH, and of the proxy folders, if no item does.
+/// PATH, and of the lists of proxy folders, if no item does.
 #[tactic(auto, using(crate::proofs::TipLemmas::shown_by))]
 pub(crate) fn shown(
     alloc: Global,
     name: &str,
     files: &[&str],
-    folders: &[&str],
-    about: &[&str],
+    lists: &[&str],
+    notes: (&str, &str),
     placed: &[Placed<'_>],
 ) -> Result<Option<String>, AllocError>
-    ensures { IfOk result (λ tip. IfSome tip (λ text. IsShown placed.now (string_bytes text))) }
+    ensures { IfOk result (λ tip. IfSome tip (λ text. IsShown (is_over_file name.now) placed.now (string_bytes text))) }
 {
-    let texts = shown_words(alloc, name, files, folders, placed)?;
+    let texts = shown_words(alloc, name, files, lists, placed)?;
     let mut words = Vec::new(alloc);
     push_texts(&mut words, texts.as_slice())?;
-    told(alloc, words.as_slice(), about, placed)
+    told(alloc, words.as_slice(), notes.0, notes.1, placed)
 }

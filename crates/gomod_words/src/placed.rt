@@ -1,13 +1,16 @@
 //! What becomes of each item of a command line that is meant for another one: an item is a part of the command line that
 //! is shown instead, or it is left out.
 
-ghost use Rattle.std.specs.Prelude.{◌≡◌, ◌++◌, IfOk, OnOk, codes, map};
+ghost use Rattle.std.specs.Prelude.{◌≡◌, ◌∷◌, ◌++◌, All, IfOk, [], OnOk, codes, map};
+ghost use Rattle.std.specs.List.{list_any};
 ghost use Rattle.std.specs.String.{string_bytes};
-ghost use Rattle.gomod_words.specs.Placed.{folders_by, folders_in, left_by, left_in, operand_by, operands_in, operation_text, operations_by, operations_in, option_words, options_by, options_in, place_by, places_in, undashed};
+ghost use Rattle.gomod_words.specs.Made.{name_in};
+ghost use Rattle.gomod_words.specs.Placed.{asks_for_json, grouped, is_of, left_by, operation_text, operations_by, operations_in, option_words, part_words, release_words, undashed, words_by};
+ghost use Rattle.gomod_words.specs.Rows.{Becomes, is_over_file};
 
 use crate::dashed::{operation_in, without_dashes};
 use crate::items::{Item, push_words};
-use crate::rows::{Row, Slot, row_of};
+use crate::rows::{CACHE, Row, Slot, row_of};
 use crate::table::CommandName;
 use std::alloc::{AllocError, Global};
 
@@ -20,8 +23,22 @@ pub(crate) struct Placed<'a> {
     pub(crate) row: Row<'a>,
 }
 
-/// The proxy folder that is named if the words name none: the module cache of the go command, in its usual place.
-pub(crate) const CACHE: &str = "~/go/pkg/mod/cache/download";
+/// A group of the words of a tip.
+#[derive(Clone, Copy)]
+pub(crate) enum Group {
+    /// The folder to go to first.
+    Folders,
+    /// FILE or PATH.
+    Operands,
+    /// The lists of proxy folders.
+    Lists,
+    /// The other options.
+    Options,
+    /// What says what is done with the output.
+    Outputs,
+    /// The words that are left out.
+    Left,
+}
 
 /// What all items of a command say together.
 #[derive(Clone, Copy)]
@@ -38,16 +55,18 @@ pub(crate) fn place_all<'a>(
     command: CommandName,
     items: &[Item<'a>],
 ) -> Result<Vec<Placed<'a>>, AllocError>
-    ensures { IfOk result (λ placed. map (λ each. each.item) placed.items ≡ items.now) }
+    ensures all { IfOk result (λ placed. map (λ each. each.item) placed.items ≡ items.now) }
+    ensures each { IfOk result (λ placed.
+        All (λ each. Becomes (is_over_file (name_in command)) each.item each.row) placed.items) }
 {
     let whole = Whole {
         is_input: names_input(command, items),
-        has_folders: items.iter().any(|item| is_folders(row_of(command, *item))),
+        has_folders: items.iter().any(|item| is_list(row_of(command, *item))),
     };
     let mut seen = Vec::new(alloc);
     let mut placed = Vec::new(alloc);
     for item in items {
-        let row = settled(&mut seen, whole, row_of(command, *item))?;
+        let row = settled(&mut seen, whole, command, *item)?;
         placed.push(Placed { item: *item, row })?;
     }
     Ok(placed)
@@ -64,24 +83,38 @@ fn names_input(command: CommandName, items: &[Item<'_>]) -> bool {
 }
 
 /// Whether this is a list of proxy folders.
-fn is_folders(row: Row<'_>) -> bool {
-    match row {
-        Row::Proxy(_) => true,
-        _ => false,
-    }
+fn is_list(row: Row<'_>) -> bool {
+    matches!(row, Row::Part(Slot::Proxy, _))
 }
 
 /// What becomes of an item after those that have filled these slots. A part that there is already is left out, and so
 /// are what can't be done with the output if the file is standard input, and `--proxy` without a folder beside another.
-fn settled<'a>(seen: &mut Vec<Slot>, whole: Whole, row: Row<'a>) -> Result<Row<'a>, AllocError> {
+fn settled<'a>(
+    seen: &mut Vec<Slot>,
+    whole: Whole,
+    command: CommandName,
+    item: Item<'a>,
+) -> Result<Row<'a>, AllocError>
+    ensures { IfOk result (λ row. Becomes (is_over_file (name_in command)) item.entry row) }
+{
+    let row = row_of(command, item);
+    if is_free(seen, whole, row)? {
+        Ok(row)
+    } else {
+        Ok(Row::LeftOut)
+    }
+}
+
+/// Whether the place of this is free, after those that have filled these slots. It is filled then.
+fn is_free(seen: &mut Vec<Slot>, whole: Whole, row: Row<'_>) -> Result<bool, AllocError> {
     let Some(slot) = slot_of(row) else {
-        return Ok(row);
+        return Ok(true);
     };
     if is_void(whole, slot) || seen.iter().any(|filled| *filled == slot) {
-        return Ok(Row::LeftOut);
+        return Ok(false);
     }
     seen.push(slot)?;
-    Ok(filled(row))
+    Ok(true)
 }
 
 /// Whether all items together leave nothing for this slot.
@@ -93,20 +126,13 @@ fn is_void(whole: Whole, slot: Slot) -> bool {
     }
 }
 
-/// What becomes of an item whose slot is free.
-fn filled(row: Row<'_>) -> Row<'_> {
-    match row {
-        Row::NoFolder => Row::Proxy(CACHE),
-        _ => row,
-    }
-}
-
-/// The slot that this fills, if it fills one.
+/// The slot that this fills, if it fills one. There may be many lists of proxy folders. JSON is asked for once.
 fn slot_of(row: Row<'_>) -> Option<Slot> {
     match row {
+        Row::Part(Slot::Proxy, _) => None,
+        Row::Part(Slot::Format, _) => Some(Slot::Json),
         Row::Part(slot, _) => Some(slot),
         Row::Release(_, _) => Some(Slot::Operand),
-        Row::NoFolder => Some(Slot::Cache),
         _ => None,
     }
 }
@@ -114,6 +140,24 @@ fn slot_of(row: Row<'_>) -> Option<Slot> {
 /// Whether there is a part of this slot.
 pub(crate) fn has(placed: &[Placed<'_>], slot: Slot) -> bool {
     placed.iter().any(|each| slot_of(each.row) == Some(slot))
+}
+
+/// Whether something asks for JSON.
+pub(crate) fn has_json(placed: &[Placed<'_>]) -> bool
+    ensures { result ≡ list_any (λ each. asks_for_json each.row) placed.now }
+{
+    placed.iter().any(|each| asks_for_json(each.row))
+}
+
+/// Whether this asks for JSON.
+fn asks_for_json(row: Row<'_>) -> bool
+    ensures { result ≡ asks_for_json row.entry }
+{
+    match row {
+        Row::Part(Slot::Json, _) => true,
+        Row::Part(Slot::Format, _) => true,
+        _ => false,
+    }
 }
 
 /// Whether the only proxy folder is the module cache of the go command.
@@ -124,7 +168,7 @@ pub(crate) fn has_cache_alone(placed: &[Placed<'_>]) -> bool {
 /// Whether this is a list of proxy folders other than the module cache of the go command.
 fn names_other(row: Row<'_>) -> bool {
     match row {
-        Row::Proxy(folders) => folders != CACHE,
+        Row::Part(Slot::Proxy, folders) => folders != CACHE,
         _ => false,
     }
 }
@@ -136,117 +180,24 @@ pub(crate) fn has_operation(placed: &[Placed<'_>]) -> bool {
 
 /// Whether this is an operation.
 fn is_operation(row: Row<'_>) -> bool {
-    match row {
-        Row::Operation => true,
-        _ => false,
-    }
+    matches!(row, Row::Operation)
 }
 
-/// Appends the words that are left out of an item.
-fn push_left_of<'a>(words: &mut Vec<&'a str>, each: Placed<'a>) -> Result<(), AllocError>
+/// Appends a word.
+fn push_word<'a>(words: &mut Vec<&'a str>, word: &'a str) -> Result<(), AllocError>
     ensures { OnOk result (map (λ word. word.now) words.new.items
-        ≡ map (λ word. word.now) words.old.items ++ left_by each.entry.item each.entry.row) }
+        ≡ map (λ word. word.now) words.old.items ++ (word.now ∷ [])) }
 {
-    match each.row {
-        Row::LeftOut => push_words(words, each.item)?,
-        Row::NoFolder => push_words(words, each.item)?,
-        Row::Unknown => push_words(words, each.item)?,
-        Row::Release(_, version) => words.push(version)?,
-        _ => {}
-    }
+    words.push(word)?;
     Ok(())
 }
 
-/// Appends the words that are left out.
-pub(crate) fn push_left_words<'a>(
-    words: &mut Vec<&'a str>,
-    placed: &[Placed<'a>],
-) -> Result<(), AllocError>
+/// Appends an option and its value.
+fn push_pair<'a>(words: &mut Vec<&'a str>, name: &'a str, value: &'a str) -> Result<(), AllocError>
     ensures { OnOk result (map (λ word. word.now) words.new.items
-        ≡ map (λ word. word.now) words.old.items ++ left_in placed.now) }
+        ≡ map (λ word. word.now) words.old.items ++ (name.now ∷ value.now ∷ [])) }
 {
-    for each in placed {
-        push_left_of(words, *each)?;
-    }
-    Ok(())
-}
-
-/// Appends what is FILE or PATH.
-fn push_operand<'a>(words: &mut Vec<&'a str>, row: Row<'a>) -> Result<(), AllocError>
-    ensures { OnOk result (map (λ word. word.now) words.new.items
-        ≡ map (λ word. word.now) words.old.items ++ operand_by row.entry) }
-{
-    match row {
-        Row::Part(Slot::Operand, text) => words.push(text)?,
-        Row::Release(path, _) => words.push(path)?,
-        _ => {}
-    }
-    Ok(())
-}
-
-/// Appends FILE or PATH, if there is one.
-pub(crate) fn push_operands<'a>(
-    words: &mut Vec<&'a str>,
-    placed: &[Placed<'a>],
-) -> Result<(), AllocError>
-    ensures { OnOk result (map (λ word. word.now) words.new.items
-        ≡ map (λ word. word.now) words.old.items ++ operands_in placed.now) }
-{
-    for each in placed {
-        push_operand(words, each.row)?;
-    }
-    Ok(())
-}
-
-/// Appends the proxy folders of an item.
-fn push_folder<'a>(words: &mut Vec<&'a str>, row: Row<'a>) -> Result<(), AllocError>
-    ensures { OnOk result (map (λ word. word.now) words.new.items
-        ≡ map (λ word. word.now) words.old.items ++ folders_by row.entry) }
-{
-    match row {
-        Row::Proxy(folders) => words.push(folders)?,
-        _ => {}
-    }
-    Ok(())
-}
-
-/// Appends the lists of proxy folders.
-pub(crate) fn push_folders<'a>(
-    words: &mut Vec<&'a str>,
-    placed: &[Placed<'a>],
-) -> Result<(), AllocError>
-    ensures { OnOk result (map (λ word. word.now) words.new.items
-        ≡ map (λ word. word.now) words.old.items ++ folders_in placed.now) }
-{
-    for each in placed {
-        push_folder(words, each.row)?;
-    }
-    Ok(())
-}
-
-/// Appends the folder to go to first that an item names.
-fn push_place<'a>(words: &mut Vec<&'a str>, row: Row<'a>) -> Result<(), AllocError>
-    ensures { OnOk result (map (λ word. word.now) words.new.items
-        ≡ map (λ word. word.now) words.old.items ++ place_by row.entry) }
-{
-    match row {
-        Row::Part(Slot::Folder, folder) => words.push(folder)?,
-        _ => {}
-    }
-    Ok(())
-}
-
-/// Appends the folder to go to first, if there is one.
-pub(crate) fn push_places<'a>(
-    words: &mut Vec<&'a str>,
-    placed: &[Placed<'a>],
-) -> Result<(), AllocError>
-    ensures { OnOk result (map (λ word. word.now) words.new.items
-        ≡ map (λ word. word.now) words.old.items ++ places_in placed.now) }
-{
-    for each in placed {
-        push_place(words, each.row)?;
-    }
+    words.extend_from_slice(&[name, value])?;
     Ok(())
 }
 
@@ -256,40 +207,115 @@ fn push_option<'a>(words: &mut Vec<&'a str>, slot: Slot, text: &'a str) -> Resul
         ≡ map (λ word. word.now) words.old.items ++ option_words slot text.now) }
 {
     match slot {
-        Slot::Main => words.extend_from_slice(&["--mod", text])?,
-        Slot::Sums => words.extend_from_slice(&["--sum", text])?,
-        Slot::After => words.extend_from_slice(&["--after", text])?,
-        Slot::Limit => words.extend_from_slice(&["--limit", text])?,
-        Slot::Retracted => words.push("--retracted")?,
-        _ => {}
+        Slot::Main => push_pair(words, "--mod", text),
+        Slot::Sums => push_pair(words, "--sum", text),
+        Slot::After => push_pair(words, "--after", text),
+        Slot::Limit => push_pair(words, "--limit", text),
+        Slot::Retracted => push_word(words, "--retracted"),
+        _ => Ok(()),
     }
-    Ok(())
 }
 
-/// Appends the option that an item becomes.
-fn push_option_of<'a>(words: &mut Vec<&'a str>, row: Row<'a>) -> Result<(), AllocError>
-    ensures { OnOk result (map (λ word. word.now) words.new.items
-        ≡ map (λ word. word.now) words.old.items ++ options_by row.entry) }
+/// Whether a part of this slot is a word of this group.
+fn is_of(group: Group, slot: Slot) -> bool
+    ensures { result ≡ is_of group slot }
 {
-    match row {
-        Row::Part(slot, text) => push_option(words, slot, text)?,
-        _ => {}
+    match group {
+        Group::Operands => matches!(slot, Slot::Operand),
+        Group::Lists => matches!(slot, Slot::Proxy | Slot::Cache),
+        Group::Folders => matches!(slot, Slot::Folder),
+        Group::Outputs => matches!(slot, Slot::Output),
+        _ => false,
     }
-    Ok(())
 }
 
-/// Appends the options but `--proxy`.
-pub(crate) fn push_options<'a>(
+/// Appends the words of this group that a part with this text has.
+fn push_part<'a>(
     words: &mut Vec<&'a str>,
+    group: Group,
+    slot: Slot,
+    text: &'a str,
+) -> Result<(), AllocError>
+    ensures { OnOk result (map (λ word. word.now) words.new.items
+        ≡ map (λ word. word.now) words.old.items ++ part_words group slot text.now) }
+{
+    match group {
+        Group::Options => push_option(words, slot, text),
+        _ => if is_of(group, slot) {
+            push_word(words, text)
+        } else {
+            Ok(())
+        },
+    }
+}
+
+/// Appends the words of this group that PATH and a version have.
+fn push_release<'a>(
+    words: &mut Vec<&'a str>,
+    group: Group,
+    path: &'a str,
+    version: &'a str,
+) -> Result<(), AllocError>
+    ensures { OnOk result (map (λ word. word.now) words.new.items
+        ≡ map (λ word. word.now) words.old.items ++ release_words group path.now version.now) }
+{
+    match group {
+        Group::Operands => push_word(words, path),
+        Group::Left => push_word(words, version),
+        _ => Ok(()),
+    }
+}
+
+/// Appends the words of this group that an item has which is left out.
+fn push_left<'a>(words: &mut Vec<&'a str>, group: Group, item: Item<'a>) -> Result<(), AllocError>
+    ensures { OnOk result (map (λ word. word.now) words.new.items
+        ≡ map (λ word. word.now) words.old.items ++ left_by group item.entry) }
+{
+    match group {
+        Group::Left => push_words(words, item),
+        _ => Ok(()),
+    }
+}
+
+/// Appends the words of this group that there are of an item.
+fn push_of<'a>(words: &mut Vec<&'a str>, group: Group, each: Placed<'a>) -> Result<(), AllocError>
+    ensures { OnOk result (map (λ word. word.now) words.new.items
+        ≡ map (λ word. word.now) words.old.items ++ words_by group each.entry.item each.entry.row) }
+{
+    match each.row {
+        Row::Part(slot, text) => push_part(words, group, slot, text),
+        Row::Release(path, version) => push_release(words, group, path, version),
+        Row::Operation => Ok(()),
+        Row::LeftOut | Row::Unknown => push_left(words, group, each.item),
+    }
+}
+
+/// Appends the words of this group.
+fn push_group<'a>(
+    words: &mut Vec<&'a str>,
+    group: Group,
     placed: &[Placed<'a>],
 ) -> Result<(), AllocError>
     ensures { OnOk result (map (λ word. word.now) words.new.items
-        ≡ map (λ word. word.now) words.old.items ++ options_in placed.now) }
+        ≡ map (λ word. word.now) words.old.items ++ grouped group placed.now) }
 {
     for each in placed {
-        push_option_of(words, each.row)?;
+        push_of(words, group, *each)?;
     }
     Ok(())
+}
+
+/// The words of this group.
+pub(crate) fn grouped<'a>(
+    alloc: Global,
+    group: Group,
+    placed: &[Placed<'a>],
+) -> Result<Vec<&'a str>, AllocError>
+    ensures { IfOk result (λ words. map (λ word. word.now) words.items ≡ grouped group placed.now) }
+{
+    let mut words = Vec::new(alloc);
+    push_group(&mut words, group, placed)?;
+    Ok(words)
 }
 
 /// The operation that a word is, without a dash, or the word.
@@ -308,8 +334,6 @@ fn operation_text(alloc: Global, item: Item<'_>) -> Result<String, AllocError>
 {
     match item {
         Item::Word(word) => copied(alloc, undashed(word)),
-        Item::Flag(option) => copied(alloc, undashed(option)),
-        Item::Joined(word, _, _) => copied(alloc, undashed(word)),
         Item::Pair(option, value) => named_text(alloc, without_dashes(option), value),
     }
 }

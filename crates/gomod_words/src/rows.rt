@@ -1,7 +1,13 @@
 //! The table of what go users type: which command their words are for, and what becomes of each word.
 
-use crate::dashed::{names_operation, operation_in};
-use crate::items::{Item, name_in, names_operation_of_go, value_in, word_in};
+ghost use Rattle.std.specs.Prelude.{◌≡◌, ◌++◌, IfSome, Some, false, true};
+ghost use Rattle.std.specs.Option.{option_copied};
+ghost use Rattle.gomod_words.specs.Made.{name_in};
+ghost use Rattle.gomod_words.specs.Rows.{Becomes, by_value, fits, is_operation_item, is_over_file, json_in, only_word, part_text, slot_named, slot_of};
+ghost use Rattle.gomod_words.specs.declared.rows.Slot.TheVariants.{Operand};
+
+use crate::dashed::{begins_with_dash, is_operation_name, operation_in};
+use crate::items::{Item, name_in, names_operation_of_go, value_in};
 use crate::query::limit_in;
 use crate::table::CommandName;
 
@@ -61,7 +67,7 @@ fn target_of_go(name: &str) -> Target {
         "vet" => Target::Go("go vet"),
         "work" => Target::Go("go work"),
         _ => {
-            if name.ends_with(".mod") {
+            if name.ends_with(".mod") && !begins_with_dash(name) {
                 Target::File
             } else {
                 Target::Unknown
@@ -70,7 +76,7 @@ fn target_of_go(name: &str) -> Target {
     }
 }
 
-/// A part of a command line that there is once.
+/// A part of a command line.
 #[derive(Clone, Copy, PartialEq, Eq)]
 pub(crate) enum Slot {
     /// FILE or PATH.
@@ -93,6 +99,10 @@ pub(crate) enum Slot {
     Print,
     /// JSON is asked for.
     Json,
+    /// JSON is asked for as a format.
+    Format,
+    /// A list of proxy folders.
+    Proxy,
     /// The module cache of the go command, where `--proxy` names no folder.
     Cache,
 }
@@ -104,10 +114,6 @@ pub(crate) enum Row<'a> {
     Part(Slot, &'a str),
     /// It is PATH, with a version that is left out.
     Release(&'a str, &'a str),
-    /// It is a list of proxy folders.
-    Proxy(&'a str),
-    /// It is the place of a list of proxy folders, and names none.
-    NoFolder,
     /// It is an operation.
     Operation,
     /// There is nothing like it.
@@ -116,159 +122,291 @@ pub(crate) enum Row<'a> {
     Unknown,
 }
 
+/// The proxy folder that is named if the words name none: the module cache of the go command, in its usual place.
+pub(crate) const CACHE: &str = "~/go/pkg/mod/cache/download";
+
 /// What becomes of an item of this command.
-pub(crate) fn row_of<'a>(command: CommandName, item: Item<'a>) -> Row<'a> {
-    match name_in(item) {
-        Some("C") => filled(Slot::Folder, value_in(item)),
-        Some(name) => option_row(command, name, item),
-        None => word_row(command, word_in(item)),
+pub(crate) fn row_of<'a>(command: CommandName, item: Item<'a>) -> Row<'a>
+    ensures { Becomes (is_over_file (name_in command)) item.entry result }
+{
+    if is_over_file(command) && is_typed_operation(item) {
+        return Row::Operation;
+    }
+    match slot_for(command, item) {
+        Some(slot) => taken(command, slot, item),
+        None => if is_known(item) {
+            Row::LeftOut
+        } else {
+            Row::Unknown
+        },
     }
 }
 
-/// What becomes of a word of this command that is no option.
-fn word_row(command: CommandName, word: &str) -> Row<'_> {
-    match command {
-        CommandName::Fmt | CommandName::Edit => file_word_row(word),
-        CommandName::Chain | CommandName::Versions => path_row(word),
-        CommandName::List | CommandName::Graph => Row::LeftOut,
-    }
-}
-
-/// What becomes of a word that is PATH, perhaps with a version.
-fn path_row(word: &str) -> Row<'_> {
-    match word.split_once('@') {
-        Some((path, _)) => Row::Release(path, word.strip_prefix(path).unwrap_or("")),
-        None => Row::Part(Slot::Operand, word),
-    }
-}
-
-/// What becomes of a word of a command over one file.
-fn file_word_row(word: &str) -> Row<'_> {
-    match operation_in(word) {
-        Some(_) => Row::Operation,
-        None => Row::Part(Slot::Operand, word),
-    }
-}
-
-/// What becomes of an option of this command.
-fn option_row<'a>(command: CommandName, name: &str, item: Item<'a>) -> Row<'a> {
-    match command {
-        CommandName::Fmt | CommandName::Edit => file_option_row(name, item),
-        CommandName::Versions => versions_row(name, item),
-        CommandName::List => list_row(name, item),
-        _ => graph_row(name, item),
-    }
-}
-
-/// What becomes of an option of a command over one file.
-fn file_option_row<'a>(name: &str, item: Item<'a>) -> Row<'a> {
-    match name {
-        "w" | "write" | "i" | "in-place" => Row::Part(Slot::Output, word_in(item)),
-        "d" | "diff" | "l" | "check" => Row::Part(Slot::Output, word_in(item)),
-        "print" | "fmt" => Row::Part(Slot::Print, word_in(item)),
-        _ => operation_row(name, item),
-    }
-}
-
-/// What becomes of an option of a command over one file that says nothing of the output.
-fn operation_row<'a>(name: &str, item: Item<'a>) -> Row<'a> {
-    if value_in(item).is_some() && names_operation(name) {
-        Row::Operation
+/// The part that an item is, if the command takes it.
+fn slot_for(command: CommandName, item: Item<'_>) -> Option<Slot>
+    ensures slot { IfSome result (λ slot. slot_of item.entry ≡ Some slot) }
+    ensures fits { IfSome result (λ slot. fits (is_over_file (name_in command)) slot ≡ true) }
+{
+    let slot = slot_in(item)?;
+    if takes(command, slot) {
+        Some(slot)
     } else {
-        not_taken(name)
+        None
     }
 }
 
-/// What becomes of an option of `versions`.
-fn versions_row<'a>(name: &str, item: Item<'a>) -> Row<'a> {
+/// Whether a command is over one file.
+fn is_over_file(command: CommandName) -> bool
+    ensures { result ≡ is_over_file (name_in command) }
+{
+    match command {
+        CommandName::Fmt | CommandName::Edit => true,
+        _ => false,
+    }
+}
+
+/// Whether an item is an operation that has a value.
+fn is_typed_operation(item: Item<'_>) -> bool
+    ensures { result ≡ true → is_operation_item item.entry ≡ true }
+{
+    is_operation_item(item) && (name_in(item).is_none() || value_in(item).is_some())
+}
+
+/// Whether an item is an operation, with a dash or without.
+fn is_operation_item(item: Item<'_>) -> bool
+    ensures { result ≡ is_operation_item item.entry }
+{
+    match item {
+        Item::Word(word) => operation_in(word).is_some(),
+        Item::Pair(option, _) => is_operation_name(option),
+    }
+}
+
+/// The part that an item is.
+fn slot_in(item: Item<'_>) -> Option<Slot>
+    ensures { result ≡ slot_of item.entry }
+{
+    match name_in(item) {
+        Some(name) => Some(by_value(slot_named(name)?, value_in(item))),
+        None => Some(Slot::Operand),
+    }
+}
+
+/// The part of a command line that an option with this name is.
+#[tactic(auto, unfolding(crate::specs::Rows::slot_named))]
+fn slot_named(name: &str) -> Option<Slot>
+    ensures { result ≡ slot_named name.now }
+{
     match name {
-        "proxy" => proxy_row(value_in(item)),
-        "retracted" => Row::Part(Slot::Retracted, word_in(item)),
-        "json" => Row::Part(Slot::Json, word_in(item)),
-        _ => not_taken(name),
+        "proxy" => Some(Slot::Proxy),
+        "mod" | "modfile" => Some(Slot::Main),
+        "sum" => Some(Slot::Sums),
+        "after" => Some(Slot::After),
+        "limit" => Some(Slot::Limit),
+        "retracted" => Some(Slot::Retracted),
+        "C" => Some(Slot::Folder),
+        "w" | "write" | "i" | "in-place" => Some(Slot::Output),
+        "d" | "diff" | "l" | "check" => Some(Slot::Output),
+        "print" | "fmt" => Some(Slot::Print),
+        "json" => Some(Slot::Json),
+        "format" | "output" | "o" => Some(Slot::Format),
+        _ => None,
     }
 }
 
-/// What becomes of an option of `list`.
-fn list_row<'a>(name: &str, item: Item<'a>) -> Row<'a> {
-    match name {
-        "after" => filled(Slot::After, value_in(item)),
-        "limit" => limit_row(value_in(item)),
-        _ => graph_row(name, item),
+/// The part that an option with this value is.
+fn by_value(slot: Slot, value: Option<&str>) -> Slot
+    ensures { result ≡ by_value (option_copied value.entry) slot }
+{
+    match slot {
+        Slot::Proxy => if value.is_some() {
+            Slot::Proxy
+        } else {
+            Slot::Cache
+        },
+        _ => slot,
     }
 }
 
-/// What becomes of an option of each command over a module graph.
-fn graph_row<'a>(name: &str, item: Item<'a>) -> Row<'a> {
-    match name {
-        "proxy" => proxy_row(value_in(item)),
-        "mod" => main_row(value_in(item)),
-        "modfile" => Row::Part(Slot::Main, value_in(item).unwrap_or("go.mod")),
-        "sum" => Row::Part(Slot::Sums, value_in(item).unwrap_or("go.sum")),
-        "json" => Row::Part(Slot::Json, word_in(item)),
-        "format" | "output" | "o" => format_row(item),
-        _ => not_taken(name),
+/// Whether a command has this part.
+fn takes(command: CommandName, slot: Slot) -> bool
+    ensures { result ≡ true → fits (is_over_file (name_in command)) slot ≡ true }
+{
+    match command {
+        CommandName::Fmt | CommandName::Edit => is_of_file(slot),
+        CommandName::Graph => is_of_graph(slot),
+        CommandName::List => is_of_list(slot),
+        CommandName::Chain => is_of_chain(slot),
+        CommandName::Versions => is_of_versions(slot),
     }
 }
 
-/// What becomes of an option that says how rows are written.
-fn format_row<'a>(item: Item<'a>) -> Row<'a> {
-    match value_in(item) {
-        Some("json") => Row::Part(Slot::Json, "json"),
-        _ => Row::LeftOut,
+/// Whether each command over one file has this part.
+fn is_of_file(slot: Slot) -> bool
+    ensures { result ≡ true → fits true slot ≡ true }
+{
+    match slot {
+        Slot::Operand | Slot::Folder | Slot::Output | Slot::Print => true,
+        _ => false,
     }
 }
 
-/// What becomes of `--proxy` with this value.
-fn proxy_row(value: Option<&str>) -> Row<'_> {
-    match value {
-        Some(folders) => Row::Proxy(folders),
-        None => Row::NoFolder,
+/// Whether `list` has this part.
+fn is_of_list(slot: Slot) -> bool
+    ensures { result ≡ true → fits false slot ≡ true }
+{
+    match slot {
+        Slot::After | Slot::Limit => true,
+        _ => is_of_graph(slot),
     }
 }
 
-/// What becomes of `--mod` with this value. That of go says what may be changed.
-fn main_row(value: Option<&str>) -> Row<'_> {
-    match value {
-        Some("mod") => Row::LeftOut,
-        Some("readonly") => Row::LeftOut,
-        Some("vendor") => Row::LeftOut,
-        Some(value) => Row::Part(Slot::Main, value),
-        None => Row::Part(Slot::Main, "go.mod"),
+/// Whether `chain` has this part.
+fn is_of_chain(slot: Slot) -> bool
+    ensures { result ≡ true → fits false slot ≡ true }
+{
+    match slot {
+        Slot::Operand => true,
+        _ => is_of_graph(slot),
     }
 }
 
-/// What becomes of `--limit` with this value.
-fn limit_row(value: Option<&str>) -> Row<'_> {
-    match value {
-        Some(text) => limit_text_row(text),
+/// Whether each command over a module graph has this part.
+fn is_of_graph(slot: Slot) -> bool
+    ensures { result ≡ true → fits false slot ≡ true }
+{
+    match slot {
+        Slot::Main | Slot::Sums | Slot::Folder | Slot::Json | Slot::Format => true,
+        Slot::Proxy | Slot::Cache => true,
+        _ => false,
+    }
+}
+
+/// Whether `versions` has this part.
+fn is_of_versions(slot: Slot) -> bool
+    ensures { result ≡ true → fits false slot ≡ true }
+{
+    match slot {
+        Slot::Operand | Slot::Retracted | Slot::Folder | Slot::Json => true,
+        Slot::Proxy | Slot::Cache => true,
+        _ => false,
+    }
+}
+
+/// What becomes of an item that is this part of this command.
+fn taken<'a>(command: CommandName, slot: Slot, item: Item<'a>) -> Row<'a>
+    requires slot { slot_of item ≡ Some slot }
+    requires fits { fits (is_over_file (name_in command)) slot ≡ true }
+    ensures { Becomes (is_over_file (name_in command)) item.entry result }
+{
+    match text_in(slot, item) {
+        Some(text) => {
+            if is_valid(slot, item, text) {
+                part_row(command, slot, item, text)
+            } else {
+                Row::LeftOut
+            }
+        }
         None => Row::LeftOut,
     }
 }
 
-/// What becomes of `--limit` with this text.
-fn limit_text_row(text: &str) -> Row<'_> {
-    match limit_in(text) {
-        Some(_) => Row::Part(Slot::Limit, text),
-        None => Row::LeftOut,
+/// What becomes of an item that is this part of this command, with this text.
+fn part_row<'a>(command: CommandName, slot: Slot, item: Item<'a>, text: &'a str) -> Row<'a>
+    requires slot { slot_of item ≡ Some slot }
+    requires text { part_text slot item ≡ Some text.now }
+    requires fits { fits (is_over_file (name_in command)) slot ≡ true }
+    ensures { Becomes (is_over_file (name_in command)) item.entry result }
+{
+    match release_in(command, slot, text) {
+        Some((path, version)) => Row::Release(path, version),
+        None => Row::Part(slot, text),
     }
 }
 
-/// The part with this text, if there is one.
-fn filled(slot: Slot, text: Option<&str>) -> Row<'_> {
-    match text {
-        Some(text) => Row::Part(slot, text),
-        None => Row::LeftOut,
+/// PATH and a version, if the part with this text is both.
+fn release_in<'a>(command: CommandName, slot: Slot, text: &'a str) -> Option<(&'a str, &'a str)>
+    ensures { IfSome result (λ parts. (slot ≡ Operand) × (text.now ≡ parts.0.now ++ parts.1.now)) }
+{
+    match slot {
+        Slot::Operand => if is_over_file(command) {
+            None
+        } else {
+            at_version(text)
+        },
+        _ => None,
     }
 }
 
-/// What becomes of an option that the command does not take. Options of gomod and of go are known.
-fn not_taken<'a>(name: &str) -> Row<'a> {
+/// A text in two, before its first `@`.
+fn at_version(text: &str) -> Option<(&str, &str)>
+    ensures { IfSome result (λ parts. text.now ≡ parts.0.now ++ parts.1.now) }
+{
+    Some(text.split_at(text.find('@')?))
+}
+
+/// The text of an item that is this part.
+fn text_in<'a>(slot: Slot, item: Item<'a>) -> Option<&'a str>
+    ensures { option_copied result ≡ part_text slot item.entry }
+{
+    match slot {
+        Slot::Main => Some(value_in(item).unwrap_or("go.mod")),
+        Slot::Sums => Some(value_in(item).unwrap_or("go.sum")),
+        Slot::After | Slot::Limit | Slot::Folder | Slot::Proxy => value_in(item),
+        Slot::Format => json_in(value_in(item)?),
+        Slot::Cache => Some(CACHE),
+        _ => only_word(item),
+    }
+}
+
+/// The word, unless it is two.
+fn only_word<'a>(item: Item<'a>) -> Option<&'a str>
+    ensures { option_copied result ≡ only_word item.entry }
+{
+    match item {
+        Item::Word(word) => Some(word),
+        Item::Pair(_, _) => None,
+    }
+}
+
+/// The value of an option that says how rows are written, if it asks for JSON.
+fn json_in(value: &str) -> Option<&str>
+    ensures { option_copied result ≡ json_in value.now }
+{
+    if value == "json" { Some(value) } else { None }
+}
+
+/// Whether a command takes this text of an item for this part.
+fn is_valid(slot: Slot, item: Item<'_>, text: &str) -> bool {
+    match slot {
+        Slot::Limit => limit_in(text).is_some(),
+        Slot::Main => !is_mode(item, text),
+        _ => true,
+    }
+}
+
+/// Whether this is a value of go's `-mod`, which says what may be changed.
+fn is_mode(item: Item<'_>, text: &str) -> bool {
+    match name_in(item) {
+        Some("mod") => matches!(text, "mod" | "readonly" | "vendor"),
+        _ => false,
+    }
+}
+
+/// Whether an item is known, if a command does not take it: options of gomod and of go are, and other words.
+fn is_known(item: Item<'_>) -> bool {
+    match name_in(item) {
+        Some(name) => names_known(name),
+        None => true,
+    }
+}
+
+/// Whether this is the name of an option of gomod or of go.
+fn names_known(name: &str) -> bool {
     match name {
-        "proxy" | "mod" | "modfile" | "sum" | "after" | "limit" | "retracted" => Row::LeftOut,
-        "json" | "m" | "versions" | "u" | "f" | "v" | "x" | "vendor" | "deps" | "test" =>
-            Row::LeftOut,
-        _ => Row::Unknown,
+        "proxy" | "mod" | "modfile" | "sum" | "after" | "limit" | "retracted" => true,
+        "json" | "m" | "versions" | "u" | "f" | "v" | "x" | "vendor" | "deps" | "test" => true,
+        _ => false,
     }
 }
 

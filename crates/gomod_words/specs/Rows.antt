@@ -1,0 +1,93 @@
+-- What may become of an item of a command line that is meant for another one.
+use Rattle.std.specs.Prelude.{◌≡◌, ◌||◌, ◌∷◌, ◌++◌, if◌then◌else◌, Bool, List, [], Option, None, Some, codes, find, is_some, true, unwrap_or}
+use Rattle.std.specs.Option.{option_and_then, option_map}
+use Rattle.std.specs.List.{list_any}
+use Rattle.std.specs.Str.{bytes_eq}
+use Rattle.clap.specs.Walk.{Text}
+use Rattle.gomod_words.specs.Dashed.{is_operation_name, operation_in}
+use Rattle.gomod_words.specs.Items.{option_name, option_value}
+use Rattle.gomod_words.specs.declared.items.Item.{Item}
+use Rattle.gomod_words.specs.declared.items.Item.TheVariants.{Word, Pair}
+use Rattle.gomod_words.specs.declared.rows.Row.{Row}
+use Rattle.gomod_words.specs.declared.rows.Row.TheVariants.{Part, Release, Operation, LeftOut, Unknown}
+use Rattle.gomod_words.specs.declared.rows.Slot.{Slot}
+use Rattle.gomod_words.specs.declared.rows.Slot.TheVariants.{Operand, Main, Sums, After, Limit, Retracted, Folder, Output, Print, Json, Format, Proxy, Cache}
+
+-- the names of options, and the part of a command line that each is
+abbrev pub slot_names : List (List Text × Slot)
+slot_names =
+    (codes "proxy" ∷ [], Proxy)
+    ∷ (codes "mod" ∷ codes "modfile" ∷ [], Main)
+    ∷ (codes "sum" ∷ [], Sums)
+    ∷ (codes "after" ∷ [], After)
+    ∷ (codes "limit" ∷ [], Limit)
+    ∷ (codes "retracted" ∷ [], Retracted)
+    ∷ (codes "C" ∷ [], Folder)
+    ∷ (codes "w" ∷ codes "write" ∷ codes "i" ∷ codes "in-place" ∷ [], Output)
+    ∷ (codes "d" ∷ codes "diff" ∷ codes "l" ∷ codes "check" ∷ [], Output)
+    ∷ (codes "print" ∷ codes "fmt" ∷ [], Print)
+    ∷ (codes "json" ∷ [], Json)
+    ∷ (codes "format" ∷ codes "output" ∷ codes "o" ∷ [], Format) ∷ []
+
+-- the part of a command line that an option with this name is
+unfoldable pub slot_named : Text → Option Slot
+slot_named name = option_map (λ row. row.1) (find (λ row. list_any (bytes_eq name) row.0) slot_names)
+
+-- the part that an option with this value is: without one, `--proxy` is the module cache of the go command
+abbrev pub by_value : Option Text → Slot → Slot
+by_value None Proxy = Cache
+by_value value slot = slot
+
+-- the part that an option is, by its name and its value; a word without a name is FILE or PATH
+abbrev pub slot_by : Option Text → Option Text → Option Slot
+slot_by None value = Some Operand
+slot_by (Some name) value = option_map (by_value value) (slot_named name)
+
+-- the part that an item is
+abbrev pub slot_of : Item → Option Slot
+slot_of item = slot_by (option_name item) (option_value item)
+
+-- the word, unless it is two
+abbrev pub only_word : Item → Option Text
+only_word (Word word) = Some word.now
+only_word (Pair option value) = None
+
+-- the value, if it asks for JSON
+abbrev pub json_in : Text → Option Text
+json_in value = if bytes_eq value (codes "json") then Some value else None
+
+-- the text of an item that is this part
+abbrev pub part_text : Slot → Item → Option Text
+part_text Main item = Some (unwrap_or (option_value item) (codes "go.mod"))
+part_text Sums item = Some (unwrap_or (option_value item) (codes "go.sum"))
+part_text After item = option_value item
+part_text Limit item = option_value item
+part_text Folder item = option_value item
+part_text Proxy item = option_value item
+part_text Format item = option_and_then json_in (option_value item)
+part_text Cache item = Some (codes "~/go/pkg/mod/cache/download")
+part_text slot item = only_word item
+
+-- the name of a command over one file, which prints that file
+abbrev pub is_over_file : Text → Bool
+is_over_file name = bytes_eq name (codes "fmt") || bytes_eq name (codes "edit")
+
+-- a command does what the part asks for, though nothing shows of it, where the flag says that it is over one file
+abbrev pub fits : Bool → Slot → Bool
+fits is_file Print = is_file
+fits is_file slot = true
+
+-- the item is an operation, with a dash or without
+abbrev pub is_operation_item : Item → Bool
+is_operation_item (Word word) = is_some (operation_in word.now)
+is_operation_item (Pair option value) = is_operation_name option.now
+
+-- This may become of an item: it is the part that it names, with its text; PATH and a version; an operation; or it is
+-- named as left out. The flag says that the command is over one file.
+abbrev pub Becomes : Bool → Item → Row → Type 0
+Becomes is_file item (Part slot text) =
+    (slot_of item ≡ Some slot) × (part_text slot item ≡ Some text.now) × (fits is_file slot ≡ true)
+Becomes is_file item (Release path version) = only_word item ≡ Some (path.now ++ version.now)
+Becomes is_file item Operation = is_operation_item item ≡ true
+Becomes is_file item LeftOut = Unit {0}
+Becomes is_file item Unknown = Unit {0}
