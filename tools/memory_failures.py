@@ -10,6 +10,8 @@ import script
 
 # file, function, why memory has run out there, and below it the condition
 LISTED = r"""
+gm_graph/src/gathering.rt lists_of: the list of numbers has the greatest size
+  if parts.numbers.len() >= MOST_PLACES as usize { return Err(AllocError)
 gm_name/src/borrowed_version.rt to_version: a text that is a version was refused
   let Ok(version) = ModVersion::parse(alloc, self.text) else { return Err(AllocError)
 gm_name/src/version.rt is_out_of_memory: it is only compared
@@ -72,12 +74,17 @@ gm_file_edit/src/marking.rt marks: a mark for each line
   let mut marks = vec![in alloc; false; lines.len()]?
 gm_graph/src/cache/file_table.rt reach: up to the place that is put in
   self.places.resize(number + 1, OptionalPlace::none())? where number is number as usize
-gm_graph/src/graph_builder.rt new: as many as it is told
-  marks: Vec::with_capacity(alloc, count)?
+gm_graph/src/gathering.rt lists_of: one for each file
+  let used = used_files(alloc, parts.files.len(), &places)? where used_files is { let mut used = vec![in alloc; false;
+  count]?; for place in places { if let Some(file) = place { used[*file as usize] = true; } } Ok(used) }
+gm_graph/src/gathering.rt used_files: as many as it is told
+  let mut used = vec![in alloc; false; count]?
 gm_graph/src/loading.rt turn_list: one for each turn
   let mut list = Vec::with_capacity(alloc, turns.len())?
-gm_graph/src/starting.rt first_graph: one for each module that is there
-  let mut builder = GraphBuilder::new(alloc, required.module_count())? where required is cache.first_requirements()
+gm_graph/src/starting.rt first_worklist: one for each module that is there
+  let mut worklist = Worklist::new(alloc, required.module_count())? where required is cache.first_requirements()
+gm_graph/src/worklist.rt new: as many as it is told
+  marks: Vec::with_capacity(alloc, count)?
 gm_graph/src/worklist.rt make_marks: as many marks as it is told
   if self.marks.len() < count { self.marks.resize(count, Marks::none())?
 gm_graph_select/src/chaining.rt chain_to: one step

@@ -5,8 +5,6 @@ use Rattle.std.proofs.lemmas.List.Elements.{Contains-append_left, Contains-appen
 use Rattle.gm_name.specs.ModuleVersion.{ModuleVersion, module_at}
 use Rattle.gm_graph.specs.declared.cache.depth.Turn.{Turn}
 use Rattle.gm_graph.specs.declared.cache.depth.Depth.{Depth}
-use Rattle.gm_graph.specs.declared.graph_builder.GraphBuilder.{GraphBuilder}
-use Rattle.gm_graph.specs.Builder.{KeepsGraph}
 use Rattle.gm_graph.proofs.Adding.{overflow_later}
 use Rattle.gm_graph.proofs.Mapped.{from_mapped, in_mapped}
 use Rattle.gm_graph.specs.Turns.{AppendsTurnIfNew, AddsAll, OverflowsWith, turn}
@@ -69,12 +67,6 @@ adds_number modules old mid new numbers i d below before one =
     let x = module_at modules (get_or numbers i 0) in
     subst (λ (xs : List ModuleVersion). AddsAll old new xs d) (sym (map_more (module_at modules) numbers i 0 below))
     (adds_both old mid new (map (module_at modules) (take i numbers)) (x ∷ []) d before (adds_turn mid new x d one))
-
-pub keeps_both : (old mid new : GraphBuilder) → KeepsGraph old mid → KeepsGraph mid new → KeepsGraph old new
-keeps_both old mid new first then' = record {
-  edges = then'.edges ∙ first.edges;
-  faults = then'.faults ∙ first.faults;
-}
 
 front_of : (numbers : List ℕ) (i number : ℕ) → Contains (take i numbers) number → Contains numbers number
 front_of numbers i number h = subst (λ (l : List ℕ). Contains l number) (take-append-drop i numbers)

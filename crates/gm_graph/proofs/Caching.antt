@@ -42,7 +42,7 @@ module _ (old mid new : Cache) (lent : LentSame old mid) (numbered_by : BeginsWi
         subst (λ (r : Run). IsVisit new r x d got) (sym (same_run mid new pairs holds.main holds.sums)) (by_visit got is)
       where
         by_visit : (v : Visit) → IsVisit mid (run_in mid pairs) x d v → IsVisit new (run_in mid pairs) x d v
-        by_visit (visit.Fault vertex class) got_is = got_is
+        by_visit (visit.Fault class) got_is = got_is
         by_visit (visit.Required required) got_is = (holds.sound (run_in mid pairs) x required.file got_is.0, got_is.1, got_is.2 ∙ sym modules)
 
     pub has_visited : (number : ℕ) (d : Depth) (got : Visit) → number < length (table_in old) → Knows mid pairs

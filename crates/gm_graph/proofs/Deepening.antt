@@ -11,11 +11,9 @@ use Rattle.gm_graph.specs.declared.cache.depth.Turn.{Turn}
 use Rattle.gm_graph.specs.declared.cache.depth.Depth.{Depth}
 use Rattle.gm_graph.specs.declared.cache.depth.Depth.TheVariants.{Top, Deep}
 use Rattle.gm_graph.specs.Reading.{leads_on}
-use Rattle.gm_graph.specs.Run.{IsDeep, IsEdge, IsOpened, IsTop, KeepsSayings, Requires, Run, Says, TakesTurn, from_deep, from_main, from_top, run_of}
+use Rattle.gm_graph.specs.Run.{IsDeep, IsOpened, IsTop, KeepsSayings, Requires, Run, Says, TakesTurn, from_deep, from_main, from_top, run_of}
 use Rattle.gm_graph.specs.Turns.{AddsAll, turn}
 use Rattle.gm_graph.specs.VisitedTurns.{IsDone, LeadsTo, Visits}
-use Rattle.gm_graph_select.specs.declared.step.Step.{Step}
-use Rattle.gm_graph_select.specs.declared.step.Step.TheVariants.{Main as FromMain, Of}
 use Rattle.gm_graph.proofs.Sayings.{file_same, not_both}
 
 -- If each turn is done, and they begin as the main file says, they have every vertex that is opened at full depth.
@@ -97,10 +95,6 @@ module _ (main : Main) (sums : Option Sums) (pairs longer : List (Name × Reply)
   pub opened_kept : (x : ModuleVersion) → IsOpened earlier x → IsOpened later x
   opened_kept x (inl top) = inl top
   opened_kept x (inr deep) = inr (IsDeep-kept deep)
-
-  pub edge_kept : (s : Step) (y : ModuleVersion) → IsEdge earlier s y → IsEdge later s y
-  edge_kept FromMain y t = t
-  edge_kept (Of x) y e = (opened_kept x e.0, requirement-kept x y e.1)
 
   pub IsValidTurn-kept : (x : ModuleVersion) (d : Depth) → TakesTurn earlier x d → TakesTurn later x d
   IsValidTurn-kept x Top h = h

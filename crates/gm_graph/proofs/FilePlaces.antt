@@ -13,7 +13,7 @@ use Rattle.gm_store.specs.Asked.{Name, mod_file}
 use Rattle.gm_graph.specs.declared.cache.file_table.FileTable.{FileTable}
 use Rattle.gm_graph.specs.FileTable.{IsFileOf, IsPlaceOf, NotesFiles, noted_for, place_of, replacing_place}
 use Rattle.gm_graph.specs.Reading.{file_named, file_of}
-use Rattle.gm_graph.proofs.FileLists.{number_same}
+use Rattle.gm_graph.proofs.NumberedModules.{number_same}
 
 -- ---- a file that is not one of a replacement is that of one module
 

@@ -13,13 +13,12 @@ use Rattle.gm_graph.specs.Cached.{IsSound, KeepsSound, table_in}
 use Rattle.gm_graph.specs.Run.{KeepsSayings, Run}
 use Rattle.gm_graph.specs.Turns.{turn, AddsAll}
 use Rattle.gm_graph.specs.declared.followed.Followed.{Followed}
-use Rattle.gm_graph.specs.declared.graph_builder.GraphBuilder.{GraphBuilder}
-use Rattle.gm_graph.specs.Builder.{IsBuilder, turns_of}
+use Rattle.gm_graph.specs.declared.worklist.Worklist.{Worklist}
+use Rattle.gm_graph.specs.Worklists.{IsWorklist, turns_of}
 use Rattle.gm_graph.specs.Followed.{AddsFollowed, AreFollowedIn, FollowsFile, followed_at}
 use Rattle.gm_graph.specs.CacheVisits.{Continues, IsVisit, LendsFile, required_by, table_of}
 use Rattle.gm_graph.proofs.Growing.{turns_over}
-use Rattle.gm_graph.proofs.Sayings.{requires_before}
-use Rattle.gm_graph.proofs.Visited.{required_of}
+use Rattle.gm_graph.proofs.Sayings.{required_of, requires_before}
 
 -- Turns that are there already.
 pub adds_there : (turns : List Turn) (xs : List ModuleVersion)
@@ -43,14 +42,14 @@ pub follows_none : (followed : Followed) (file : ℕ) (turns : List Turn) (xs : 
 follows_none followed file turns xs = λ f is. inl is
 
 -- What was lent over them has turns, if its file was followed.
-pub has_its_turns : (old : Cache) (run : Run) (builder : GraphBuilder) (followed : Followed) (required : Required)
-    → IsBuilder (table_in old) builder → LendsFile old run required
-    → AreFollowedIn old run (turns_of (table_in old) builder) followed → followed_at followed required.file ≡ true
-    → (y : ModuleVersion) → Contains (required_by required) y → Contains (turns_of (table_of required) builder) (turn y Deep)
-has_its_turns old run builder followed required is lends are by = λ y h.
+pub has_its_turns : (old : Cache) (run : Run) (worklist : Worklist) (followed : Followed) (required : Required)
+    → IsWorklist (table_in old) worklist → LendsFile old run required
+    → AreFollowedIn old run (turns_of (table_in old) worklist) followed → followed_at followed required.file ≡ true
+    → (y : ModuleVersion) → Contains (required_by required) y → Contains (turns_of (table_of required) worklist) (turn y Deep)
+has_its_turns old run worklist followed required is lends are by = λ y h.
     let one = are required.file by in
     let shared = lends.shared one.vertex one.sound.file one.sound one.sound.says in
-    subst (λ (ts : List Turn). Contains ts (turn y Deep)) (sym (turns_over (table_in old) (table_of required) builder is lends.begins))
+    subst (λ (ts : List Turn). Contains ts (turn y Deep)) (sym (turns_over (table_in old) (table_of required) worklist is lends.begins))
     (one.each y (one.sound.file, one.sound.says, subst (λ (xs : List ModuleVersion). Contains xs y) shared h))
 
 -- More turns.
@@ -81,15 +80,15 @@ followed_more cache run old new before after x d required is longer are files = 
 ]
 
 -- A cache that knows more.
-pub followed_known : (old new : Cache) (earlier later : Run) (builder : GraphBuilder) (followed : Followed)
-    → IsBuilder (table_in old) builder → Continues old new → later.main ≡ earlier.main → KeepsSayings earlier later
-    → KeepsSound old earlier new later → AreFollowedIn old earlier (turns_of (table_in old) builder) followed
-    → AreFollowedIn new later (turns_of (table_in new) builder) followed
-followed_known old new earlier later builder followed is continues main stays keeps are = λ f by.
+pub followed_known : (old new : Cache) (earlier later : Run) (worklist : Worklist) (followed : Followed)
+    → IsWorklist (table_in old) worklist → Continues old new → later.main ≡ earlier.main → KeepsSayings earlier later
+    → KeepsSound old earlier new later → AreFollowedIn old earlier (turns_of (table_in old) worklist) followed
+    → AreFollowedIn new later (turns_of (table_in new) worklist) followed
+followed_known old new earlier later worklist followed is continues main stays keeps are = λ f by.
     let one = are f by in
     record {
       vertex = one.vertex;
       sound = keeps one.vertex f one.sound;
-      each = λ y r. subst (λ (ts : List Turn). Contains ts (turn y Deep)) (sym (turns_over (table_in old) (table_in new) builder is continues.numbered))
+      each = λ y r. subst (λ (ts : List Turn). Contains ts (turn y Deep)) (sym (turns_over (table_in old) (table_in new) worklist is continues.numbered))
           (one.each y (requires_before earlier later main stays one.vertex y (Ok one.sound.file) one.sound.says r));
     }

@@ -1,5 +1,5 @@
 -- A list of modules that grows at its end: the numbers stand for the same modules.
-use Rattle.std.proofs.Common.{◌≡◌, ◌<◌, ◌≤◌, ◌++◌, ◌∷◌, ◌∙◌, [], ℕ, false, All, List, Option, None, Some, ap, ap₂, arith, inl, inr, length, length-append, map, refl, subst, sym}
+use Rattle.std.proofs.Common.{◌≡◌, ◌<◌, ◌≤◌, ◌++◌, ◌∷◌, ◌∙◌, [], ℕ, false, All, List, ap, ap₂, arith, inl, inr, length, length-append, map, refl, subst, sym}
 use Rattle.std.specs.List.{IsDistinct, list_any}
 use Rattle.std.proofs.lemmas.Bool.{and_left, cases_lt}
 use Rattle.std.proofs.lemmas.List.{get_or_append_left, get_or_past}
@@ -13,23 +13,14 @@ use Rattle.gm_graph.specs.declared.cache.depth.Depth.{Depth}
 use Rattle.gm_graph.specs.declared.cache.depth.Depth.TheVariants.{Deep, Top}
 use Rattle.gm_graph.specs.declared.cache.depth.Turn.{Turn}
 use Rattle.gm_graph.specs.Turns.{turn, AreTurnsOf, same_depth, same_turn}
-use Rattle.gm_graph_select.specs.declared.step.Edge.{Edge}
-use Rattle.gm_graph_select.specs.declared.step.Step.{Step}
-use Rattle.gm_graph_select.specs.declared.step.Step.TheVariants.{Of}
-use Rattle.gm_graph_select.specs.Adjacency.{HaveNumbers, IsBelow, IsNumbered, StepEdges, edges_from, edges_of, left_by, sources_of, step_with}
-use Rattle.gm_graph_select.specs.Graph.{edge}
-use Rattle.gm_graph.specs.declared.graph_builder.GraphBuilder.{GraphBuilder}
-use Rattle.gm_graph.specs.declared.graph_builder.NumberedTurn.{NumberedTurn}
+use Rattle.gm_graph.specs.declared.worklist.Worklist.{Worklist}
+use Rattle.gm_graph.specs.declared.worklist.NumberedTurn.{NumberedTurn}
 use Rattle.gm_graph.specs.declared.marks.Marks.{Marks}
-use Rattle.gm_graph.specs.Builder.{marks_at, AreMarks, Built, IsBuilder, graph_of, edges_in, faults_by_vertex, sources_in, turn_of, turns_of}
-use Rattle.gm_graph.specs.EdgeLists.{steps_in}
+use Rattle.gm_graph.specs.Worklists.{AreMarks, IsWorklist, marks_at, turn_of, turns_of}
 use Rattle.gm_graph.specs.Marks.{is_marked}
 
 abbrev IsOneBelow : ℕ → NumberedTurn → Type 0
 IsOneBelow count one = one.number < count
-
-abbrev IsUnder : ℕ → ℕ → Type 0
-IsUnder count number = number < count
 
 module _ (modules more : List ModuleVersion) where
   pub vertex_stays : (number : ℕ) → number < length modules
@@ -44,40 +35,6 @@ module _ (modules more : List ModuleVersion) where
       (vertex_stays one.number (All-head (IsOneBelow (length modules)) one turns h)))
       (turns_stay turns (All-tail (IsOneBelow (length modules)) one turns h))
 
-  step_stays : (from : Option ℕ) → IsBelow (length modules) from
-      → step_with (modules ++ more) from ≡ step_with modules from
-  step_stays None h = refl
-  step_stays (Some number) h = ap Of (vertex_stays number h)
-
-  ends_stay : (step : Step) (numbers : List ℕ) → All (IsUnder (length modules)) numbers
-      → map (λ number. edge step (module_at (modules ++ more) number)) numbers
-      ≡ map (λ number. edge step (module_at modules number)) numbers
-  ends_stay step [] h = refl
-  ends_stay step (number ∷ numbers) h = ap₂ (λ (e : Edge) (es : List Edge). e ∷ es)
-      (ap (edge step) (vertex_stays number (All-head (IsUnder (length modules)) number numbers h)))
-      (ends_stay step numbers (All-tail (IsUnder (length modules)) number numbers h))
-
-  edges_from_stay : (one : StepEdges) → IsNumbered (length modules) one
-      → edges_from (modules ++ more) one ≡ edges_from modules one
-  edges_from_stay one is =
-      ap (λ (s : Step). map (λ number. edge s (module_at (modules ++ more) number)) one.to)
-      (step_stays one.from is.from)
-      ∙ ends_stay (left_by modules one) one.to is.to
-
-  sources_stay : (all : List StepEdges) → HaveNumbers (length modules) all
-      → sources_of (modules ++ more) all ≡ sources_of modules all
-  sources_stay [] h = refl
-  sources_stay (one ∷ all) h = ap₂ (λ (s : Step) (ss : List Step). s ∷ ss)
-      (step_stays one.from (All-head (IsNumbered (length modules)) one all h).from)
-      (sources_stay all (All-tail (IsNumbered (length modules)) one all h))
-
-  edges_stay : (all : List StepEdges) → HaveNumbers (length modules) all
-      → edges_of (modules ++ more) all ≡ edges_of modules all
-  edges_stay [] h = refl
-  edges_stay (one ∷ all) h = ap₂ (λ (es fs : List Edge). es ++ fs)
-      (edges_from_stay one (All-head (IsNumbered (length modules)) one all h))
-      (edges_stay all (All-tail (IsNumbered (length modules)) one all h))
-
 -- A module has its number still, and the number is one of a module.
 pub number_stays : (old new : List ModuleVersion) (number : ℕ) → BeginsWith old new → number < length old
     → module_at new number ≡ module_at old number
@@ -91,23 +48,9 @@ number_below old new number begins below = omega (arith, below, ap length begins
 -- ---- more numbers
 
 module _ (count more : ℕ) (grows : count ≤ more) where
-  below_more : (from : Option ℕ) → IsBelow count from → IsBelow more from
-  below_more None h = tt
-  below_more (Some number) h = omega (arith, grows, h)
-
-  under_more : (numbers : List ℕ) → All (IsUnder count) numbers → All (IsUnder more) numbers
-  under_more numbers h =
-      All-weaker (IsUnder count) (IsUnder more) (λ number below. omega (arith, grows, below)) numbers h
-
   turned_more : (turns : List NumberedTurn) → All (IsOneBelow count) turns → All (IsOneBelow more) turns
   turned_more turns h =
       All-weaker (IsOneBelow count) (IsOneBelow more) (λ one below. omega (arith, grows, below)) turns h
-
-  numbered_more : (all : List StepEdges) → HaveNumbers count all → HaveNumbers more all
-  numbered_more all h = All-weaker (IsNumbered count) (IsNumbered more) (λ one is. record {
-    from = below_more one.from is.from;
-    to = under_more one.to is.to;
-  }) all h
 
 -- ---- the new modules
 
@@ -142,69 +85,37 @@ unmarked marks number Top past =
 unmarked marks number Deep past =
     ap (λ (m : Marks). m.deep) (get_or_past marks number (record { top = false; deep = false }) past)
 
--- ---- the graph builder
+-- ---- the worklist
 
-module _ (old new : List ModuleVersion) (builder : GraphBuilder) (is : IsBuilder old builder)
+module _ (old new : List ModuleVersion) (worklist : Worklist) (is : IsWorklist old worklist)
     (begins : BeginsWith old new) where
-  pub turns_over : turns_of new builder ≡ turns_of old builder
-  turns_over = ap (λ (ms : List ModuleVersion). turns_of ms builder) begins.1
-      ∙ turns_stay old begins.0 builder.turns.items is.turned
-
-  edges_over : edges_in new builder ≡ edges_in old builder
-  edges_over = ap (λ (ms : List ModuleVersion). edges_in ms builder) begins.1
-      ∙ edges_stay old begins.0 (steps_in builder.edges) is.numbered
-
-  sources_over : sources_in new builder ≡ sources_in old builder
-  sources_over = ap (λ (ms : List ModuleVersion). sources_in ms builder) begins.1
-      ∙ sources_stay old begins.0 (steps_in builder.edges) is.numbered
-
-  -- It is the same graph.
-  pub built_over : graph_of new builder ≡ graph_of old builder
-  built_over =
-      ap (λ (turns : List Turn). let b : Built = record {
-        turns = turns;
-        edges = edges_in new builder;
-        sources = sources_in new builder;
-        faults = faults_by_vertex builder;
-      } in b) turns_over
-      ∙ ap (λ (edges : List Edge). let b : Built = record {
-        turns = turns_of old builder;
-        edges = edges;
-        sources = sources_in new builder;
-        faults = faults_by_vertex builder;
-      } in b) edges_over
-      ∙ ap (λ (sources : List Step). let b : Built = record {
-        turns = turns_of old builder;
-        edges = edges_in old builder;
-        sources = sources;
-        faults = faults_by_vertex builder;
-      } in b) sources_over
+  pub turns_over : turns_of new worklist ≡ turns_of old worklist
+  turns_over = ap (λ (ms : List ModuleVersion). turns_of ms worklist) begins.1
+      ∙ turns_stay old begins.0 worklist.turns.items is.turned
 
   grows : length old ≤ length new
   grows = omega (arith, ap length begins.1, length-append old begins.0)
 
   marks_over : (more : List ModuleVersion) → IsDistinct pair_eq (old ++ more)
-      → AreMarks (old ++ more) builder.marks.items (turns_of old builder)
+      → AreMarks (old ++ more) worklist.marks.items (turns_of old worklist)
   marks_over more distinct number d within = elim (cases_lt number (length old)) [
     | inl below ↦
         is.marks number d below
-        ∙ ap (λ (v : ModuleVersion). list_any (same_turn (turn v d)) (turns_of old builder))
+        ∙ ap (λ (v : ModuleVersion). list_any (same_turn (turn v d)) (turns_of old worklist))
         (sym (vertex_stays old more number below))
     | inr past ↦
-        unmarked builder.marks.items number d (omega (arith, is.marked, past))
-        ∙ sym (no_turn old more distinct builder.turns.items number d is.turned (omega (arith, past)) within)
+        unmarked worklist.marks.items number d (omega (arith, is.marked, past))
+        ∙ sym (no_turn old more distinct worklist.turns.items number d is.turned (omega (arith, past)) within)
   ]
 
-  -- It is a graph builder by the numbers of all of them.
-  pub builder_over : IsDistinct pair_eq new → IsBuilder new builder
-  builder_over distinct = record {
+  -- It is a worklist by the numbers of all of them.
+  pub worklist_over : IsDistinct pair_eq new → IsWorklist new worklist
+  worklist_over distinct = record {
     distinct = distinct;
-    turned = turned_more (length old) (length new) grows builder.turns.items is.turned;
-    numbered = numbered_more (length old) (length new) grows (steps_in builder.edges) is.numbered;
-    lists = is.lists;
+    turned = turned_more (length old) (length new) grows worklist.turns.items is.turned;
     marked = omega (arith, is.marked, grows);
-    marks = subst (λ (ts : List Turn). AreMarks new builder.marks.items ts) (sym turns_over)
-        (subst (λ (ms : List ModuleVersion). AreMarks ms builder.marks.items (turns_of old builder)) (sym begins.1)
+    marks = subst (λ (ts : List Turn). AreMarks new worklist.marks.items ts) (sym turns_over)
+        (subst (λ (ms : List ModuleVersion). AreMarks ms worklist.marks.items (turns_of old worklist)) (sym begins.1)
         (marks_over begins.0 (subst (λ (ms : List ModuleVersion). IsDistinct pair_eq ms) begins.1 distinct)));
     opened = is.opened;
     turns = subst (λ (ts : List Turn). AreTurnsOf is.opened ts) (sym turns_over) is.turns;

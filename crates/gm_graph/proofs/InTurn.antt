@@ -7,20 +7,25 @@ use Rattle.gm_store.proofs.Serving.{nothing_served, served_both}
 use Rattle.gm_store_sums.specs.Sums.{Sums}
 use Rattle.gm_file.specs.Main.{Main}
 use Rattle.gm_graph.specs.declared.cache.Cache.{Cache}
+use Rattle.gm_graph.specs.declared.cache.depth.Turn.{Turn}
+use Rattle.gm_graph.specs.declared.findings.Findings.{Findings}
 use Rattle.gm_graph.specs.declared.followed.Followed.{Followed}
-use Rattle.gm_graph.specs.declared.graph_builder.GraphBuilder.{GraphBuilder}
-use Rattle.gm_graph.specs.declared.graph_builder.NumberedTurn.{NumberedTurn}
+use Rattle.gm_graph.specs.declared.worklist.Worklist.{Worklist}
+use Rattle.gm_graph.specs.declared.worklist.NumberedTurn.{NumberedTurn}
 use Rattle.gm_graph.specs.Asking.{AsksInTurn, AsksOne, IsFileOf}
-use Rattle.gm_graph.specs.Builder.{turns_of}
+use Rattle.gm_graph.specs.Worklists.{turns_of}
 use Rattle.gm_graph.specs.Cached.{main_in, module_numbered, run_in, table_in}
 use Rattle.gm_graph.specs.Reading.{file_of}
 use Rattle.gm_graph.specs.Run.{AreTooMany, IsRead, LoadingNeeds, Run, run_of}
 use Rattle.gm_graph.specs.TurnVisits.{IsTurnVisited}
-use Rattle.gm_graph.specs.Visiting.{IsVisited, OverflowsAt}
+use Rattle.gm_graph.specs.Turns.{turn}
+use Rattle.gm_graph.specs.VisitedTurns.{Visits}
+use Rattle.gm_graph.specs.Visiting.{OverflowsAt}
 use Rattle.gm_graph.proofs.AskedFile.{asks_for, lacks_still}
 use Rattle.gm_graph.proofs.Dues.{AddsFile, asks_more, due_here, many_here, none_in_turn}
-use Rattle.gm_graph.proofs.Stepping.{IsAt, built_by, by_run, number_here, read_by, step, turn_below, turn_here}
-use Rattle.gm_graph.proofs.VisitSteps.{same_module, visited_by}
+use Rattle.gm_graph.proofs.FoundFiles.{same_module}
+use Rattle.gm_graph.proofs.Growing.{turns_over}
+use Rattle.gm_graph.proofs.Stepping.{IsAt, by_run, number_here, read_by, step, turn_below, turn_here}
 
 -- Nothing was asked for.
 pub nothing_asked : (main : Main) (sums : Option Sums) (may : Name → Option Reply → Type 0) (state : StoreState) → state.asked ≡ []
@@ -43,9 +48,9 @@ module _ {main other : Main} {sums others : Option Sums} {before after : Name �
 
 -- ---- one more turn
 
-module _ {main : Main} {sums : Option Sums} {cache : Cache} {builder : GraphBuilder} {at : ℕ} {before after : Name → Option Reply → Type 0}
-    {old new : StoreState} {failed : List Name} (one : NumberedTurn) (state : IsAt main sums cache old.asked builder at)
-    (below : at < length builder.turns.items) (here : one ≡ get_or builder.turns.items at one)
+module _ {main : Main} {sums : Option Sums} {cache : Cache} {worklist : Worklist} {findings : Findings} {at : ℕ} {before after : Name → Option Reply → Type 0}
+    {old new : StoreState} {failed : List Name} (one : NumberedTurn) (state : IsAt main sums cache old.asked worklist findings at)
+    (below : at < length worklist.turns.items) (here : one ≡ get_or worklist.turns.items at one)
     (asks : AsksOne (IsFileOf (main_in cache) (module_numbered cache one.number)) before after old new failed) where
   abbrev vertex : ModuleVersion
   vertex = module_numbered cache one.number
@@ -62,9 +67,9 @@ module _ {main : Main} {sums : Option Sums} {cache : Cache} {builder : GraphBuil
   -- what was asked for
   pub asked_in_turn : {first : Name → Option Reply → Type 0} {start : StoreState} → AsksInTurn main sums first before start old [] → AsksInTurn main sums first after start new failed
   asked_in_turn {first} {start} is =
-      let turns = turns_of (table_in cache) builder in
-      let inside = turn_below (table_in cache) builder at below in
-      let there = turn_here (table_in cache) builder at one below here in
+      let turns = turns_of (table_in cache) worklist in
+      let inside = turn_below (table_in cache) worklist at below in
+      let there = turn_here (table_in cache) worklist at one below here in
       record {
         asks = asks_more main sums old.asked read turns at vertex one.depth state.queue.valid inside there new.asked is.asks adds_here;
         device = λ name e.
@@ -76,21 +81,25 @@ module _ {main : Main} {sums : Option Sums} {cache : Cache} {builder : GraphBuil
       }
 
   -- too many vertices
-  pub many_in_turn : OverflowsAt (run_in cache new.asked) (turns_of (table_in cache) builder) vertex one.depth
+  pub many_in_turn : OverflowsAt (run_in cache new.asked) (turns_of (table_in cache) worklist) vertex one.depth
       → IsRead (run_of main sums new.asked) × AreTooMany (run_of main sums new.asked)
   many_in_turn over =
-      let turns = turns_of (table_in cache) builder in
-      many_here main sums old.asked read turns at vertex one.depth state.queue.valid (turn_below (table_in cache) builder at below)
-      (turn_here (table_in cache) builder at one below here) new.asked adds_here
+      let turns = turns_of (table_in cache) worklist in
+      many_here main sums old.asked read turns at vertex one.depth state.queue.valid (turn_below (table_in cache) worklist at below)
+      (turn_here (table_in cache) worklist at one below here) new.asked adds_here
       (by_run (λ (run : Run). OverflowsAt run turns vertex one.depth) main sums cache new.asked state.main_is state.sums_are over)
 
   -- It was visited.
-  pub stepped : {end : Cache} {made : GraphBuilder} {marks : Followed} → IsTurnVisited cache end old.asked new.asked builder made marks one
-      → IsAt main sums end new.asked made (at + 1)
-  stepped {end} {made} is =
-      let run = run_in end new.asked in
-      let seen = subst (λ (x : ModuleVersion). IsVisited run (built_by end builder) (built_by end made) x one.depth)
-      (sym (same_module cache end one.number is.continues (number_here (table_in cache) builder at one state.builder_is below here))) is.adds.visited in
-      step main sums cache end old.asked new.asked builder made at vertex one.depth state (turn_below (table_in cache) builder at below)
-      (turn_here (table_in cache) builder at one below here) is.knows is.continues is.turns is.adds.builder_is
-      (visited_by cache end builder one is.continues state.builder_is run made seen) adds_file
+  pub stepped : {end : Cache} {made : Worklist} {marks : Followed} {more : Findings}
+      → IsTurnVisited cache end old.asked new.asked worklist made marks findings more one
+      → IsAt main sums end new.asked made more (at + 1)
+  stepped {end} {made} {marks} {more} is =
+      let within = number_here (table_in cache) worklist at one state.worklist_is below here in
+      step main sums cache end old.asked new.asked worklist made findings more at one.number one.depth state
+      (turn_below (table_in cache) worklist at below) (turn_here (table_in cache) worklist at one below here) within
+      is.knows is.continues is.turns is.adds.ready.worklist_is
+      (subst (λ (x : ModuleVersion). Visits (run_in end new.asked) (turns_of (table_in cache) worklist) (turns_of (table_in end) made) (turn x one.depth))
+      (sym (same_module cache end one.number is.continues within))
+      (subst (λ (ts : List Turn). Visits (run_in end new.asked) ts (turns_of (table_in end) made) (turn (module_numbered end one.number) one.depth))
+      (turns_over (table_in cache) (table_in end) worklist state.worklist_is is.continues.numbered) is.adds.follows))
+      is.adds.finds adds_file

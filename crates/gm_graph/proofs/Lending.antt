@@ -5,7 +5,7 @@ use Rattle.std.specs.List.{IsDistinct}
 use Rattle.std.specs.Option.{option_map}
 use Rattle.std.proofs.Math.Logic.{∥∥₁_elim}
 use Rattle.std.proofs.Props.{props}
-use Rattle.gm_name.specs.ModuleVersion.{ModuleVersion, module_at, pair_eq}
+use Rattle.gm_name.specs.ModuleVersion.{ModuleVersion, pair_eq}
 use Rattle.gm_name_table.specs.Listed.{BeginsWith, modules_of}
 use Rattle.gm_file.specs.Fields.{Dependency}
 use Rattle.gm_file.specs.Listed.{with_requirements}
@@ -27,6 +27,7 @@ use Rattle.gm_graph.specs.Summaries.{IsKept, IsWithinList, at_span, span_found, 
 use Rattle.gm_graph.specs.Cached.{AreRequirements, HasFileAt, IsLender, IsSound, KeepsSound, Knows, LendsKept, file_count, its_requirements, kept_file, main_in, module_numbered, no_requirements, run_in, span_at, table_in}
 use Rattle.gm_graph.specs.CacheVisits.{Continues, IsSaid, IsVisit, IsVisitOf, LendsOver, file_said}
 use Rattle.gm_graph.specs.Lent.{lent_modules, lent_table}
+use Rattle.gm_graph.specs.Visiting.{HasListAt}
 use Rattle.gm_graph.specs.Run.{FileSays, KeepsSayings, Run, Says}
 use Rattle.gm_graph.proofs.Holding.{held_says, held_sound}
 use Rattle.gm_graph.proofs.Spans.{span_within}
@@ -53,17 +54,27 @@ held_there : (cache : Cache) (pairs : List (Name × Reply)) (x : ModuleVersion) 
 held_there cache pairs x place file knows at says =
     ap (option_map (summary_reading (modules_of cache.modules))) at.kept ∙ held_sound cache pairs knows x file says
 
+-- The list of the file at a vertex's place is what the vertex requires.
+pub list_there : (cache : Cache) (pairs : List (Name × Reply)) (x : ModuleVersion) (place : ℕ) → Knows cache pairs
+    → IsSound cache (run_in cache pairs) x place → HasListAt cache (run_in cache pairs) x place
+list_there cache pairs x place knows at = record {
+  within = at.within;
+  file = at.file;
+  says = at.says;
+  list = lent_one (main_in cache) (modules_of cache.modules) (kept_file cache place) at.file
+      (λ one e. knows.lends (file_of (main_in cache) x) one (sym at.kept ∙ e)) (held_there cache pairs x place at.file knows at at.says);
+}
+
 -- The requirements returned from the place of a vertex's file, or from none if the vertex has a fault, are its
 -- requirements.
 pub lent_kept : (cache : Cache) (pairs : List (Name × Reply)) (x : ModuleVersion) (place : Option ℕ) → Knows cache pairs
     → IsLender cache (run_in cache pairs) x place
     → AreRequirements (run_in cache pairs) x (at_span (modules_of cache.modules) (span_at cache place))
+unfolding list_there
 lent_kept cache pairs x None knows lender = no_requirements lender.1
 lent_kept cache pairs x (Some place) knows lender =
     subst (λ (xs : List ModuleVersion). AreRequirements (run_in cache pairs) x xs)
-    (sym (lent_one (main_in cache) (modules_of cache.modules) (kept_file cache place) lender.file
-    (λ one e. knows.lends (file_of (main_in cache) x) one (sym lender.kept ∙ e)) (held_there cache pairs x place lender.file knows lender lender.says)))
-    (its_requirements lender.says)
+    (sym (list_there cache pairs x place knows lender).list) (its_requirements lender.says)
 
 -- Where these requirements are is within the list of modules.
 pub lent_within : (cache : Cache) (run : Run) (x : ModuleVersion) (place : Option ℕ) → LendsKept cache → IsLender cache run x place
@@ -90,13 +101,12 @@ module _ (cache : Cache) (pairs : List (Name × Reply)) (number : ℕ) (d : Dept
   pub visit_got : (says : Said) (list : Lent) (got : Visit) → Knows cache pairs
       → IsSaid cache (run_in cache pairs) (module_numbered cache number) d says
       → lent_modules list ≡ at_span (modules_of cache.modules) (span_at cache (file_said says)) → lent_table list ≡ table_in cache
-      → IsVisitOf says number list got → IsVisit cache (run_in cache pairs) (module_numbered cache number) d got
-  visit_got (said.Fault class) list (visit.Fault vertex fault) knows is modules table of = (
-    of.0 ∙ ap (λ (ms : List ModuleVersion). module_at ms number) table,
-    subst (λ (c : Class). Says (run_in cache pairs) (module_numbered cache number) (Err c)) (sym of.1) is,
-  )
+      → IsVisitOf says list got → IsVisit cache (run_in cache pairs) (module_numbered cache number) d got
+  unfolding list_there
+  visit_got (said.Fault class) list (visit.Fault fault) knows is modules table of =
+      subst (λ (c : Class). Says (run_in cache pairs) (module_numbered cache number) (Err c)) (sym of) is
   visit_got (said.Fault class) list (visit.Required required) knows is modules table of = absurd of
-  visit_got (said.Sound file leads) list (visit.Fault vertex fault) knows is modules table of = absurd of
+  visit_got (said.Sound file leads) list (visit.Fault fault) knows is modules table of = absurd of
   visit_got (said.Sound file leads) list (visit.Required required) knows is modules table of =
       let x = module_numbered cache number in
       let run = run_in cache pairs in
@@ -106,8 +116,7 @@ module _ (cache : Cache) (pairs : List (Name × Reply)) (number : ℕ) (d : Dept
           file = is.0.file;
           says = is.0.says;
           leads = is.1;
-          modules = modules ∙ lent_one (main_in cache) (modules_of cache.modules) (kept_file cache file) is.0.file
-              (λ one e. knows.lends (file_of (main_in cache) x) one (sym is.0.kept ∙ e)) (held_there cache pairs x file is.0.file knows is.0 is.0.says);
+          modules = modules ∙ (list_there cache pairs x file knows is.0).list;
         },
         table,
       )
@@ -139,7 +148,7 @@ one_file_there cache pairs x y place file other knows at says there also =
 pub lends_over : (old new : Cache) (earlier pairs : List (Name × Reply)) (x : ModuleVersion) (d : Depth) (got : Visit) → Knows new pairs
     → Continues old new → KeepsSayings (run_in old earlier) (run_in new pairs) → KeepsSound old (run_in old earlier) new (run_in new pairs)
     → IsDistinct pair_eq (table_in new) → IsVisit new (run_in new pairs) x d got → LendsOver old (run_in old earlier) got
-lends_over old new earlier pairs x d (visit.Fault vertex class) knows continues stays keeps distinct is = tt
+lends_over old new earlier pairs x d (visit.Fault class) knows continues stays keeps distinct is = tt
 lends_over old new earlier pairs x d (visit.Required required) knows continues stays keeps distinct is = record {
   begins = subst (λ (ms : List ModuleVersion). BeginsWith (table_in old) ms) (sym is.2) continues.numbered;
   distinct = subst (λ (ms : List ModuleVersion). IsDistinct pair_eq ms) (sym is.2) distinct;

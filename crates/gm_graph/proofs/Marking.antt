@@ -1,4 +1,4 @@
--- The marks of vertices in a graph builder.
+-- The marks of vertices in a worklist.
 use Rattle.std.proofs.Common.{◌≡◌, ◌+◌, ◌<◌, ◌≤◌, ◌&&◌, ◌||◌, ◌++◌, ◌∷◌, ◌∙◌, [], ℕ, Bool, true, false, All, List, Contains, ap, ap₂, arith, get_or, inl, if◌then◌else◌, inr, length, length-append, map, refl, replicate, set, subst, suc, sym, take, zero}
 use Rattle.std.specs.List.{IsDistinct, list_any}
 use Rattle.std.specs.Cmp.{both_ways}
@@ -14,28 +14,22 @@ use Rattle.gm_graph.specs.declared.cache.depth.Depth.{Depth}
 use Rattle.gm_graph.specs.declared.cache.depth.Depth.TheVariants.{Deep, Top}
 use Rattle.gm_graph.specs.declared.cache.depth.Turn.{Turn}
 use Rattle.gm_graph.specs.Turns.{turn, AreTurnsOf, OverflowsWith, same_depth, same_turn}
-use Rattle.gm_graph_select.specs.Adjacency.{HaveNumbers, IsNumbered, StepEdges}
-use Rattle.gm_graph.specs.declared.graph_builder.GraphBuilder.{GraphBuilder}
-use Rattle.gm_graph.specs.declared.graph_builder.NumberedTurn.{NumberedTurn}
+use Rattle.gm_graph.specs.declared.worklist.Worklist.{Worklist}
+use Rattle.gm_graph.specs.declared.worklist.NumberedTurn.{NumberedTurn}
 use Rattle.gm_graph.specs.declared.marks.Marks.{Marks}
-use Rattle.gm_graph.specs.Builder.{AreMarks, IsBuilder, marks_at, turn_of, turns_of}
-use Rattle.gm_graph.specs.EdgeLists.{AreLists, steps_in}
+use Rattle.gm_graph.specs.Worklists.{AreMarks, IsWorklist, marks_at, turn_of, turns_of}
 use Rattle.gm_graph.specs.Marks.{is_marked}
-use Rattle.gm_graph.specs.declared.edge_lists.EdgeLists.{EdgeLists}
 use Rattle.gm_graph.proofs.Adding.{more_turn, new_turn, no_turns, overflow_one}
 use Rattle.gm_graph.proofs.Growing.{unmarked}
 use Rattle.gm_graph.proofs.Sameness.{exact_turn, turns_equivalence}
 
--- the empty builder
-pub no_builder : (modules : List ModuleVersion) (made : GraphBuilder) → IsDistinct pair_eq modules
-    → made.marks.items ≡ [] → made.turns.items ≡ [] → made.opened ≡ 0 → steps_in made.edges ≡ [] → AreLists made.edges → IsBuilder modules made
-no_builder modules made distinct marks turns opened none lists = record {
+-- the empty worklist
+pub no_worklist : (modules : List ModuleVersion) (made : Worklist) → IsDistinct pair_eq modules
+    → made.marks.items ≡ [] → made.turns.items ≡ [] → made.opened ≡ 0 → IsWorklist modules made
+no_worklist modules made distinct marks turns opened = record {
   distinct = distinct;
   turned = subst (λ (ts : List NumberedTurn). All (λ one. one.number < length modules) ts) (sym turns)
       (All-nil (λ (one : NumberedTurn). one.number < length modules));
-  numbered = subst (λ (all : List StepEdges). HaveNumbers (length modules) all) (sym none)
-      (All-nil (IsNumbered (length modules)));
-  lists = lists;
   marked = omega (arith, ap length marks);
   marks = λ number d below.
       unmarked made.marks.items number d (omega (arith, ap length marks))
@@ -55,12 +49,6 @@ is_none : (none : Marks) → ((d : Depth) → is_marked none d ≡ false) → no
 is_none none has_none =
     ap₂ (λ (t d : Bool). let m : Marks = record { top = t; deep = d } in m) (has_none Top) (has_none Deep)
 
--- A vertex past the end has no marks.
-pub none_at : (marks : List Marks) (number : ℕ) (none : Marks) → ((d : Depth) → is_marked none d ≡ false)
-    → length marks ≤ number → none ≡ marks_at marks number
-none_at marks number none has_none past =
-    is_none none has_none ∙ sym (get_or_past marks number no_marks past)
-
 none_in : (more number : ℕ) → marks_at (replicate more no_marks) number ≡ no_marks
 none_in more number = elim (cases_lt number more) [
   | inl below ↦ get_or-replicate more number no_marks no_marks below
@@ -75,11 +63,11 @@ same_marks (one ∷ marks) more zero = refl
 same_marks (one ∷ marks) more (suc number) = same_marks marks more number
 
 -- There are marks for so many vertices. All else is the same.
-pub builder_filled : (modules : List ModuleVersion) (old new : GraphBuilder) (none : Marks) (count more : ℕ)
-    → IsBuilder modules old → ((d : Depth) → is_marked none d ≡ false) → length old.marks.items ≤ count
+pub worklist_filled : (modules : List ModuleVersion) (old new : Worklist) (none : Marks) (count more : ℕ)
+    → IsWorklist modules old → ((d : Depth) → is_marked none d ≡ false) → length old.marks.items ≤ count
     → length new.marks.items ≤ length modules → new.marks.items ≡ take count old.marks.items ++ replicate more none
-    → new.turns ≡ old.turns → new.edges ≡ old.edges → new.opened ≡ old.opened → IsBuilder modules new
-builder_filled modules old new none count more is has_none fewer fits marks turns edges opened =
+    → new.turns ≡ old.turns → new.opened ≡ old.opened → IsWorklist modules new
+worklist_filled modules old new none count more is has_none fewer fits marks turns opened =
     let filled : new.marks.items ≡ old.marks.items ++ replicate more no_marks =
     marks ∙ ap₂ (λ (ms : List Marks) (n : Marks). ms ++ replicate more n)
     (take_all count old.marks.items fewer) (is_none none has_none) in
@@ -87,8 +75,6 @@ builder_filled modules old new none count more is has_none fewer fits marks turn
     record {
       distinct = is.distinct;
       turned = subst (λ all. All (λ one. one.number < length modules) all.items) (sym turns) is.turned;
-      numbered = subst (λ (edges : EdgeLists). HaveNumbers (length modules) (steps_in edges)) (sym edges) is.numbered;
-      lists = subst AreLists (sym edges) is.lists;
       marked = fits;
       marks = λ number d below.
           ap (λ (ms : List Marks). is_marked (marks_at ms number) d) filled
@@ -162,8 +148,8 @@ apart modules q number distinct under below other = elim (cases_lt q number) [
 ]
 
 -- The vertex with this number has these marks.
-module _ (modules : List ModuleVersion) (old : GraphBuilder) (number : ℕ) (depth : Depth) (marks : Marks)
-    (is : IsBuilder modules old) (in_marks : number < length old.marks.items)
+module _ (modules : List ModuleVersion) (old : Worklist) (number : ℕ) (depth : Depth) (marks : Marks)
+    (is : IsWorklist modules old) (in_marks : number < length old.marks.items)
     (at : marks ≡ get_or old.marks.items number marks) where
   abbrev its_vertex : ModuleVersion
   its_vertex = module_at modules number
@@ -243,14 +229,13 @@ module _ (modules : List ModuleVersion) (old : GraphBuilder) (number : ℕ) (dep
   ]
 
   -- a new turn, and its mark
-  pub builder_with : (new : GraphBuilder) (more : Marks) → new.marks.items ≡ set old.marks.items number more
+  pub worklist_with : (new : Worklist) (more : Marks) → new.marks.items ≡ set old.marks.items number more
       → new.turns.items ≡ old.turns.items ++ record { number = number; depth = depth } ∷ []
-      → new.edges ≡ old.edges
       → ((d : Depth) → is_marked more d ≡ (same_depth d depth || is_marked marks d))
       → false ≡ is_marked marks depth
       → new.opened ≡ (if marks.top || marks.deep then old.opened else old.opened + 1) → new.opened ≤ 65536
-      → IsBuilder modules new
-  builder_with new more marks' turns edges with' unmarked counts few =
+      → IsWorklist modules new
+  worklist_with new more marks' turns with' unmarked counts few =
       let one : NumberedTurn = record { number = number; depth = depth } in
       let (list, are, counted) = opened_more new.opened counts few (sym (unmarked ∙ marked depth)) in
       let turns' : turns_of modules new ≡ turns_with =
@@ -260,8 +245,6 @@ module _ (modules : List ModuleVersion) (old : GraphBuilder) (number : ℕ) (dep
         distinct = is.distinct;
         turned = subst (λ (ts : List NumberedTurn). All (λ one. one.number < length modules) ts) (sym turns)
             (All-push (λ (one : NumberedTurn). one.number < length modules) old.turns.items one is.turned below);
-        numbered = subst (λ (edges : EdgeLists). HaveNumbers (length modules) (steps_in edges)) (sym edges) is.numbered;
-        lists = subst AreLists (sym edges) is.lists;
         marked = omega (arith, ap length marks', length-set old.marks.items number more, is.marked);
         marks = subst (λ (ts : List Turn). AreMarks modules new.marks.items ts) (sym turns')
             (subst (λ (ms : List Marks). AreMarks modules ms turns_with) (sym marks') (marks_with more with'));

@@ -1,5 +1,5 @@
 -- What modules' files say: one thing, which stays when more is asked for.
-use Rattle.std.proofs.Common.{◌≡◌, ◌∙◌, ◌++◌, ◌∷◌, [], cond, true, false, List, Option, Some, Result, Ok, Err, Contains, ap, refl, subst, sym}
+use Rattle.std.proofs.Common.{◌≡◌, ◌↔◌, ◌∙◌, ◌++◌, ◌∷◌, [], cond, true, false, List, Option, Some, Result, Ok, Err, Contains, ap, refl, subst, sym}
 use Rattle.std.proofs.lemmas.Bool.{false≢true}
 use Rattle.std.proofs.lemmas.Option.{same_Some}
 use Rattle.gm_name.specs.ModuleVersion.{ModuleVersion}
@@ -53,6 +53,14 @@ file_same {run} {x} {f} {g} is other = same_file f g (one_said is other)
 pub not_both : {run : Run} {x : ModuleVersion} {class : Class} {file : Dependency} → Says run x (Err class)
     → Says run x (Ok file) → ⊥
 not_both is other = absurd (cc (one_said is other))
+
+-- What a module requires that has this file.
+pub required_of : (run : Run) (x : ModuleVersion) (file : Dependency) → Says run x (Ok file)
+    → (y : ModuleVersion) → Requires run x y ↔ Contains (without_excluded run.main file.requirements) y
+required_of run x file says y = (
+  (λ r. subst (λ (f : Dependency). Contains (without_excluded run.main f.requirements) y) (file_same r.1 says) r.2),
+  (λ h. (file, says, h)),
+)
 
 -- ---- answers stay when more is asked for
 

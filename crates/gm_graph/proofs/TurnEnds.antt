@@ -1,6 +1,6 @@
 -- How the visit of one turn ends.
-use Rattle.std.proofs.Common.{◌≡◌, ◌∙◌, List, None, Some, Result, Ok, Err, ap, map, refl, subst, sym}
-use Rattle.std.specs.Prelude.{[], MatchResult, OnOk, ℕ}
+use Rattle.std.proofs.Common.{◌≡◌, ◌∙◌, true, false, List, Result, Ok, Err, ap, subst, sym}
+use Rattle.std.specs.Prelude.{MatchResult, OnOk, ℕ}
 use Rattle.gm_name.specs.ModuleVersion.{ModuleVersion}
 use Rattle.gm_file.specs.Main.{without_excluded}
 use Rattle.gm_store.specs.Asked.{Name, Reply}
@@ -8,31 +8,32 @@ use Rattle.gm_store.specs.declared.files.AskFault.{AskFault}
 use Rattle.gm_graph.specs.declared.cache.Cache.{Cache}
 use Rattle.gm_graph.specs.declared.cache.class.Class.{Class}
 use Rattle.gm_graph.specs.declared.cache.depth.Depth.{Depth}
+use Rattle.gm_graph.specs.declared.cache.depth.Depth.TheVariants.{Deep}
 use Rattle.gm_graph.specs.declared.cache.depth.Turn.{Turn}
 use Rattle.gm_graph.specs.declared.cache.load_fault.LoadFault.{LoadFault}
 use Rattle.gm_graph.specs.declared.cache.visit.Required.{Required}
 use Rattle.gm_graph.specs.declared.cache.visit.Visit.{Visit}
 use Rattle.gm_graph.specs.declared.cache.visit.Visit.TheVariants as visit
+use Rattle.gm_graph.specs.declared.findings.Findings.{Findings}
 use Rattle.gm_graph.specs.declared.followed.Followed.{Followed}
-use Rattle.gm_graph.specs.declared.graph_builder.GraphBuilder.{GraphBuilder}
-use Rattle.gm_graph.specs.declared.graph_builder.NumberedTurn.{NumberedTurn}
-use Rattle.gm_graph.specs.declared.edge_lists.EdgeLists.{EdgeLists}
-use Rattle.gm_graph.specs.Builder.{IsBuilder, KeepsTurns, faults_by_vertex, graph_of, turn_of, turns_of}
-use Rattle.gm_graph.specs.Building.{faults_with, gathers}
-use Rattle.gm_graph.specs.Cached.{module_numbered, run_in, table_in}
+use Rattle.gm_graph.specs.declared.worklist.NumberedTurn.{NumberedTurn}
+use Rattle.gm_graph.specs.declared.worklist.Worklist.{Worklist}
+use Rattle.gm_graph.specs.Cached.{main_in, module_numbered, run_in, sums_in, table_in}
 use Rattle.gm_graph.specs.CacheVisits.{HasVisited, IsVisit, KeepsTurns as KeptTurns, required_by, table_of}
-use Rattle.gm_graph.specs.EdgeLists.{KeepsLists}
-use Rattle.gm_graph.specs.FileLists.{AddsFileList}
-use Rattle.gm_graph.specs.Followed.{AreFollowedIn, FollowsFile}
+use Rattle.gm_graph.specs.Findings.{AreFindings, FindsOne}
+use Rattle.gm_graph.specs.Followed.{AddsFollowed, AreFollowedIn, FollowsFile}
 use Rattle.gm_graph.specs.Run.{Run, Says}
 use Rattle.gm_graph.specs.TurnVisits.{AddsTurn, IsReady, IsTurnVisited}
-use Rattle.gm_graph.specs.Turns.{turn}
-use Rattle.gm_graph.specs.Visiting.{IsVisited}
-use Rattle.gm_graph.proofs.FileLists.{have_files_known, have_files_more, have_files_still}
-use Rattle.gm_graph.proofs.FollowedFiles.{followed_known, followed_more}
-use Rattle.gm_graph.proofs.Growing.{builder_over, number_below}
-use Rattle.gm_graph.proofs.Visited.{AddsIf, Opens, notes_fault, notes_none, opens_leaf, required_of, requires_none, visited}
-use Rattle.gm_graph.proofs.VisitSteps.{same_module}
+use Rattle.gm_graph.specs.Turns.{AddsAll, OverflowsWith, turn}
+use Rattle.gm_graph.specs.VisitedTurns.{Visits}
+use Rattle.gm_graph.specs.Visiting.{OverflowsAt}
+use Rattle.gm_graph.specs.Worklists.{IsWorklist, turns_of}
+use Rattle.gm_graph.proofs.Deepening.{faulty_stops, follows_adds, follows_nothing, stops_there}
+use Rattle.gm_graph.proofs.FollowedFiles.{followed_known, followed_more, follows_file, follows_none}
+use Rattle.gm_graph.proofs.FoundFiles.{findings_known}
+use Rattle.gm_graph.proofs.Growing.{turns_over, worklist_over}
+use Rattle.gm_graph.proofs.Holding.{answers_read}
+use Rattle.gm_graph.proofs.Stepping.{by_run}
 
 -- What a visit got, and what the cache became.
 pub got : (old new : Cache) (earlier pairs : List (Name × Reply)) (number : ℕ) (d : Depth) {result : Result Visit AskFault} {seen v : Visit}
@@ -43,89 +44,118 @@ got old new earlier pairs number d is same ends =
     subst (λ (one : Visit). HasVisited old earlier new pairs number d one) same
     (subst (λ (r : Result Visit AskFault). MatchResult r (λ one. HasVisited old earlier new pairs number d one) (λ fault. KeptTurns old new number fault)) is ends)
 
--- ---- what the visit of a turn adds to the graph builder
+-- ---- the cache may have numbered more modules
 
-module _ (old new : Cache) (earlier pairs : List (Name × Reply)) (before : GraphBuilder) (marks : Followed) (one : NumberedTurn)
-    (ready : IsReady old (run_in old earlier) before marks one) where
-  -- The cache may have numbered more modules.
-  pub ready_after : {seen : Visit} → HasVisited old earlier new pairs one.number one.depth seen → IsReady new (run_in new pairs) before marks one
-  ready_after has =
+module _ (old new : Cache) (earlier pairs : List (Name × Reply)) (worklist : Worklist) (marks : Followed) (findings : Findings)
+    (one : NumberedTurn) (ready : IsReady old (run_in old earlier) worklist marks findings) where
+  pub ready_after : {seen : Visit} → HasVisited old earlier new pairs one.number one.depth seen
+      → IsReady new (run_in new pairs) worklist marks findings
+  ready_after has = record {
+    worklist_is = worklist_over (table_in old) (table_in new) worklist ready.worklist_is has.continues.numbered has.distinct;
+    followed = followed_known old new (run_in old earlier) (run_in new pairs) worklist marks ready.worklist_is has.continues
+        has.continues.main has.stays has.sound ready.followed;
+    found = findings_known old new (run_in old earlier) (run_in new pairs) findings has.continues has.stays has.sound ready.found;
+  }
+
+  -- too many vertices
+  pub overflows_at : (required : Required) → HasVisited old earlier new pairs one.number one.depth (visit.Required required)
+      → required.leads ≡ true → OverflowsWith (turns_of (table_of required) worklist) (required_by required)
+      → OverflowsAt (run_in old pairs) (turns_of (table_in old) worklist) (module_numbered old one.number) one.depth
+  overflows_at required has leads over =
+      let x = module_numbered old one.number in
+      let says = has.visit_is.1 in
+      let turns = turns_of (table_in old) worklist in
       let run = run_in new pairs in
-      record {
-        builder_is = builder_over (table_in old) (table_in new) before ready.builder_is has.continues.numbered has.distinct;
-        below = number_below (table_in old) (table_in new) one.number has.continues.numbered ready.below;
-        files = have_files_known old new (run_in old earlier) run before.edges has.continues has.continues.main has.stays has.sound ready.files;
-        followed = followed_known old new (run_in old earlier) run before marks ready.builder_is has.continues has.continues.main has.stays has.sound ready.followed;
-      }
+      let same : turns_of (table_of required) worklist ≡ turns =
+      ap (λ (ms : List ModuleVersion). turns_of ms worklist) has.visit_is.2
+      ∙ turns_over (table_in old) (table_in new) worklist ready.worklist_is has.continues.numbered in
+      let holds : OverflowsAt run turns x one.depth = (
+        answers_read new pairs has.knows,
+        (
+          says.file,
+          says.says,
+          sym says.leads ∙ leads,
+          subst (λ (ts : List Turn). OverflowsWith ts (without_excluded run.main says.file.requirements)) same
+              (subst (λ (xs : List ModuleVersion). OverflowsWith (turns_of (table_of required) worklist) xs) says.modules over),
+        ),
+      ) in
+      by_run (λ (r : Run). OverflowsAt r turns x one.depth) (main_in old) (sums_in old) new pairs has.continues.main has.continues.sums holds
 
-  pub here_after : {seen : Visit} → HasVisited old earlier new pairs one.number one.depth seen
-      → module_numbered old one.number ≡ module_numbered new one.number
-  here_after has = same_module old new one.number has.continues ready.below
+-- ---- what the visit of a turn adds
 
-module _ (cache : Cache) (run : Run) (old : GraphBuilder) (marks : Followed) (one : NumberedTurn) (ready : IsReady cache run old marks one) where
-  abbrev modules : List ModuleVersion
-  modules = table_in cache
-
-  -- the vertex has a fault
-  pub fault_added : (noted new : GraphBuilder) (class : Class) → Says run (module_numbered cache one.number) (Err class) → KeepsTurns old noted
-      → noted.edges ≡ old.edges → ((y : ModuleVersion) → faults_by_vertex noted y ≡ faults_with (Some class) (module_numbered cache one.number) (faults_by_vertex old) y)
-      → IsBuilder modules new → KeepsTurns noted new → KeepsLists noted.edges new.edges None []
-      → AddsIf (gathers (turns_of modules old) (turn_of modules one)) (graph_of modules noted) (graph_of modules new) (module_numbered cache one.number) []
-      → AddsTurn cache run old new marks one
-  fault_added noted new class says same_turns same_edges faults built keeps lists adds =
-      let x = module_numbered cache one.number in
-      let d = one.depth in
-      record {
-        builder_is = built;
-        files = have_files_still cache run old.edges new.edges ready.files (subst (λ (edges : EdgeLists). KeepsLists edges new.edges None []) same_edges lists);
-        followed = subst (λ (ts : List Turn). AreFollowedIn cache run ts marks)
-            (sym (ap (λ (ts : List NumberedTurn). map (turn_of modules) ts) (keeps ∙ same_turns))) ready.followed;
-        visited = visited run x d (Err class) says [] (requires_none run x class says)
-            (graph_of modules old) (graph_of modules noted) (graph_of modules noted) (graph_of modules new)
-            (notes_fault modules old noted x (Some class) same_turns same_edges faults)
-            (opens_leaf modules noted noted run x d class says (record { edges = refl; faults = refl }) refl) adds;
-      }
+-- the vertex has a fault
+pub fault_added : (cache : Cache) (run : Run) (worklist : Worklist) (marks : Followed) (old new : Findings) (one : NumberedTurn)
+    (class : Class) → IsReady cache run worklist marks old → Says run (module_numbered cache one.number) (Err class)
+    → AreFindings cache run new → FindsOne old new one.number → AddsTurn cache run worklist worklist marks old new one
+fault_added cache run worklist marks old new one class ready says found finds =
+    let x = module_numbered cache one.number in
+    record {
+      ready = record { worklist_is = ready.worklist_is; followed = ready.followed; found = found };
+      follows = follows_nothing run (turns_of (table_in cache) worklist) x one.depth (Err class) says (faulty_stops run x one.depth class says);
+      finds = finds;
+    }
 
 -- What a visit leads to was added to the worklist, if it leads further.
-pub record LeadsOn (run : Run) (modules : List ModuleVersion) (old new : GraphBuilder) (before after : Followed) (x : ModuleVersion) (d : Depth) (file : ℕ) (xs : List ModuleVersion) : Type 0 where
-  pub builder_is : IsBuilder modules new
-  pub edges : new.edges ≡ old.edges
-  pub opens : Opens run (graph_of modules old) (graph_of modules new) x d
-  pub follows : FollowsFile before after file (turns_of modules new) xs
+pub record LeadsOn (run : Run) (modules : List ModuleVersion) (old new : Worklist) (before after : Followed) (x : ModuleVersion)
+    (d : Depth) (file : ℕ) (xs : List ModuleVersion) : Type 0 where
+  pub worklist_is : IsWorklist modules new
+  pub follows : Visits run (turns_of modules old) (turns_of modules new) (turn x d)
+  pub files : FollowsFile before after file (turns_of modules new) xs
 
-module _ (cache : Cache) (run : Run) (old : GraphBuilder) (marks after : Followed) (one : NumberedTurn) (ready : IsReady cache run old marks one)
-    (required : Required) (is : IsVisit cache run (module_numbered cache one.number) one.depth (visit.Required required)) where
-  -- it has none
-  pub required_added : (turned new : GraphBuilder)
-      → LeadsOn run (table_of required) old turned marks after (module_numbered cache one.number) one.depth required.file (required_by required)
-      → IsBuilder (table_of required) new → KeepsTurns turned new
-      → AddsFileList turned.edges new.edges (Some required.file) (table_of required) (required_by required)
-      → AddsIf (gathers (turns_of (table_of required) old) (turn (module_numbered cache one.number) one.depth)) (graph_of (table_of required) turned)
-      (graph_of (table_of required) new) (module_numbered cache one.number) (without_excluded run.main is.1.file.requirements)
-      → AddsTurn cache run old new after one
-  required_added turned new leads built keeps lists adds =
-      let x = module_numbered cache one.number in
-      let d = one.depth in
-      let file = is.1.file in
-      let table = table_of required in
-      let does = visited run x d (Ok file) is.1.says (without_excluded run.main file.requirements) (required_of run x file is.1.says)
-      (graph_of table old) (graph_of table old) (graph_of table turned) (graph_of table new) (notes_none (graph_of table old) x) leads.opens adds in
+module _ (cache : Cache) (run : Run) (old : Worklist) (marks : Followed) (one : NumberedTurn) (required : Required)
+    (is : IsVisit cache run (module_numbered cache one.number) one.depth (visit.Required required)) where
+  abbrev x : ModuleVersion
+  x = module_numbered cache one.number
+
+  abbrev table : List ModuleVersion
+  table = table_of required
+
+  -- it leads further
+  pub leads_further : (new : Worklist) (after : Followed) → required.leads ≡ true → IsWorklist table new
+      → AddsAll (turns_of table old) (turns_of table new) (required_by required) Deep → AddsFollowed marks after required.file
+      → LeadsOn run table old new marks after x one.depth required.file (required_by required)
+  leads_further new after leads made adds files =
+      let says = is.1 in
       record {
-        builder_is = subst (λ (ms : List ModuleVersion). IsBuilder ms new) is.2 built;
-        files = have_files_more cache run old.edges new.edges x d required is ready.files
-            (subst (λ (edges : EdgeLists). AddsFileList edges new.edges (Some required.file) table (required_by required)) leads.edges lists);
-        followed = subst (λ (ms : List ModuleVersion). AreFollowedIn cache run (turns_of ms new) after) is.2
-            (followed_more cache run (turns_of table old) (turns_of table new) marks after x d required is does.follows.extends
-            (subst (λ (ms : List ModuleVersion). AreFollowedIn cache run (turns_of ms old) marks) (sym is.2) ready.followed)
-            (subst (λ (ts : List Turn). FollowsFile marks after required.file ts (required_by required))
-            (sym (ap (λ (ts : List NumberedTurn). map (turn_of table) ts) keeps)) leads.follows));
-        visited = subst (λ (ms : List ModuleVersion). IsVisited run (graph_of ms old) (graph_of ms new) x d) is.2 does;
+        worklist_is = made;
+        follows = follows_adds run (turns_of table old) (turns_of table new) x one.depth says.file says.says (sym says.leads ∙ leads)
+            (subst (λ (xs : List ModuleVersion). AddsAll (turns_of table old) (turns_of table new) xs Deep) says.modules adds);
+        files = follows_file marks after required.file (turns_of table old) (turns_of table new) (required_by required) files adds;
       }
 
+  -- it does not
+  pub leads_nowhere : required.leads ≡ false → IsWorklist table old
+      → LeadsOn run table old old marks marks x one.depth required.file (required_by required)
+  leads_nowhere stops made =
+      let says = is.1 in
+      record {
+        worklist_is = made;
+        follows = follows_nothing run (turns_of table old) x one.depth (Ok says.file) says.says
+            (stops_there run x one.depth says.file says.says (sym says.leads ∙ stops));
+        files = follows_none marks required.file (turns_of table old) (required_by required);
+      }
+
+  pub required_added : (new : Worklist) (after : Followed) (found more : Findings) → IsReady cache run old marks found
+      → LeadsOn run table old new marks after x one.depth required.file (required_by required)
+      → AreFindings cache run more → FindsOne found more one.number → AddsTurn cache run old new after found more one
+  required_added new after found more ready leads are finds = record {
+    ready = record {
+      worklist_is = subst (λ (ms : List ModuleVersion). IsWorklist ms new) is.2 leads.worklist_is;
+      followed = subst (λ (ms : List ModuleVersion). AreFollowedIn cache run (turns_of ms new) after) is.2
+          (followed_more cache run (turns_of table old) (turns_of table new) marks after x one.depth required is leads.follows.extends
+          (subst (λ (ms : List ModuleVersion). AreFollowedIn cache run (turns_of ms old) marks) (sym is.2) ready.followed) leads.files);
+      found = are;
+    };
+    follows = subst (λ (ms : List ModuleVersion). Visits run (turns_of ms old) (turns_of ms new) (turn x one.depth)) is.2 leads.follows;
+    finds = finds;
+  }
+
 -- So the turn was visited.
-pub turn_visited : (old new : Cache) (earlier pairs : List (Name × Reply)) (before after : GraphBuilder) (marks : Followed) (one : NumberedTurn) {seen : Visit}
-    (result : Result (Unit {0}) LoadFault) → HasVisited old earlier new pairs one.number one.depth seen
-    → OnOk result (AddsTurn new (run_in new pairs) before after marks one) → OnOk result (IsTurnVisited old new earlier pairs before after marks one)
-turn_visited old new earlier pairs before after marks one (Err fault) has adds = tt
-turn_visited old new earlier pairs before after marks one (Ok u) has adds =
+pub turn_visited : (old new : Cache) (earlier pairs : List (Name × Reply)) (before after : Worklist) (marks : Followed)
+    (found more : Findings) (one : NumberedTurn) {seen : Visit} (result : Result (Unit {0}) LoadFault)
+    → HasVisited old earlier new pairs one.number one.depth seen
+    → OnOk result (AddsTurn new (run_in new pairs) before after marks found more one)
+    → OnOk result (IsTurnVisited old new earlier pairs before after marks found more one)
+turn_visited old new earlier pairs before after marks found more one (Err fault) has adds = tt
+turn_visited old new earlier pairs before after marks found more one (Ok u) has adds =
     record { knows = has.knows; count = has.count; continues = has.continues; turns = has.turns; adds = adds }

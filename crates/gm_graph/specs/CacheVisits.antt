@@ -4,7 +4,7 @@ use Rattle.std.specs.Borrow.{Fml, MutBor}
 use Rattle.std.specs.Io.BufRead.{Rests}
 use mir.Syntax.{named}
 use Rattle.std.specs.List.{IsDistinct}
-use Rattle.gm_name.specs.ModuleVersion.{ModuleVersion, module_at, pair_eq}
+use Rattle.gm_name.specs.ModuleVersion.{ModuleVersion, pair_eq}
 use Rattle.gm_name_table.specs.Listed.{BeginsWith}
 use Rattle.gm_file.specs.Fields.{Dependency}
 use Rattle.gm_file.specs.Main.{without_excluded}
@@ -63,18 +63,17 @@ abbrev pub file_said : Said → Option ℕ
 file_said (said.Fault class) = None
 file_said (said.Sound file leads) = Some file
 
--- What a visit gets of the vertex with a number: the fault that the cache says, or the file and what was lent.
-abbrev pub IsVisitOf : Said → ℕ → Lent → Visit → Type 0
-IsVisitOf (said.Fault class) number list (visit.Fault vertex fault) =
-    (vertex.now ≡ module_at (lent_table list) number) × (fault ≡ class)
-IsVisitOf (said.Fault class) number list (visit.Required required) = ⊥
-IsVisitOf (said.Sound file leads) number list (visit.Fault vertex fault) = ⊥
-IsVisitOf (said.Sound file leads) number list (visit.Required required) =
+-- What a visit gets of a vertex: the fault that the cache says, or the file and what was lent.
+abbrev pub IsVisitOf : Said → Lent → Visit → Type 0
+IsVisitOf (said.Fault class) list (visit.Fault fault) = fault ≡ class
+IsVisitOf (said.Fault class) list (visit.Required required) = ⊥
+IsVisitOf (said.Sound file leads) list (visit.Fault fault) = ⊥
+IsVisitOf (said.Sound file leads) list (visit.Required required) =
     required ≡ record { file = file; leads = leads; list = list }
 
 -- What a visit to this depth gets of a vertex: its fault, or the place of its file and what that requires.
 abbrev pub IsVisit : Cache → Run → ModuleVersion → Depth → Visit → Type 0
-IsVisit cache run x d (visit.Fault vertex class) = (vertex.now ≡ x) × Says run x (Err class)
+IsVisit cache run x d (visit.Fault class) = Says run x (Err class)
 IsVisit cache run x d (visit.Required required) = IsSound cache run x required.file
     × SaysRequired run x d required × (table_of required ≡ table_in cache)
 
@@ -87,7 +86,7 @@ pub record LendsFile (old : Cache) (run : Run) (required : Required) : Type 0 wh
       → required_by required ≡ without_excluded run.main file.requirements
 
 abbrev pub LendsOver : Cache → Run → Visit → Type 0
-LendsOver old run (visit.Fault vertex class) = ⊤
+LendsOver old run (visit.Fault class) = ⊤
 LendsOver old run (visit.Required required) = LendsFile old run required
 
 -- After a visit the cache knows the answers, at most one more file is kept, and each is where it was, the list has one

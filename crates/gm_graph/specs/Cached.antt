@@ -15,6 +15,7 @@ use Rattle.gm_graph.specs.declared.cache.depth.Turn.{Turn}
 use Rattle.gm_graph.specs.declared.cache.summary.Kept.{Kept}
 use Rattle.gm_graph.specs.declared.cache.summary.ListSpan.{ListSpan}
 use Rattle.gm_graph.specs.declared.cache.Cache.{Cache}
+use Rattle.gm_graph.specs.declared.cache.parts.CacheParts.{CacheParts}
 use Rattle.gm_file.specs.Main.{Main, main_of, without_excluded}
 use Rattle.gm_graph.specs.FileTable.{kept_at}
 use Rattle.gm_graph.specs.Held.{AreKept, HoldsAnswers, held_under}
@@ -137,6 +138,13 @@ pub data AreRequirements (run : Run) (x : ModuleVersion) : List ModuleVersion �
 abbrev pub KeepsSound : Cache → Run → Cache → Run → Type 0
 KeepsSound old earlier new later = (x : ModuleVersion) (place : ℕ) → IsSound old earlier x place
     → IsSound new later x place
+
+-- These are the parts of the cache.
+pub record ArePartsOf (cache : Cache) (parts : CacheParts) : Type 0 where
+  pub modules : parts.modules.items ≡ table_in cache
+  pub numbers : parts.numbers.items ≡ cache.modules.numbers
+  pub first : parts.first ≡ cache.first
+  pub files : parts.files ≡ cache.files.files
 
 -- ---- what changes
 

@@ -2,13 +2,12 @@ pub mod Turns
 pub mod Marks
 pub mod WorklistFaults
 pub mod VisitedTurns
-pub mod Building
-pub mod Builder
-pub mod EdgeLists
+pub mod Gathering
+pub mod Worklists
+pub mod Findings
 pub mod CacheVisits
 pub mod Visiting
 pub mod TurnVisits
-pub mod FileLists
 pub mod Followed
 pub mod Outcome
 pub mod Run

@@ -1,5 +1,6 @@
 -- What is kept of the files that were read.
-use Rattle.std.specs.Prelude.{◌≡◌, ◌≤◌, List, ⊤, Option, Some, None, Result, Ok, Err, length}
+use Rattle.std.specs.Prelude.{◌≡◌, ◌≤◌, ◌∷◌, [], ℕ, List, ⊤, Option, Some, None, Result, Ok, Err, length}
+use Rattle.std.proofs.Math.Bridge.{le_prop}
 use Rattle.gm_name.specs.ModuleVersion.{ModuleVersion}
 use Rattle.gm_name_table.specs.Listed.{Appends, NumberedList, part}
 use Rattle.gm_file.specs.Fields.{Dependency}
@@ -63,6 +64,23 @@ abbrev pub span_found : Option Kept → ListSpan
 span_found None = nowhere
 span_found (Some (Valid summary)) = summary.kept
 span_found (Some (Faulty class)) = nowhere
+
+-- The lists of files lie between these two places, and each begins at or after the end of the one before.
+abbrev pub AreInOrder : ℕ → List Kept → ℕ → Type 0
+AreInOrder from [] to = from ≤ to
+AreInOrder from (Valid summary ∷ files) to =
+    (from ≤ summary.kept.start) × (summary.kept.start ≤ summary.kept.end) × AreInOrder summary.kept.end files to
+AreInOrder from (Faulty class ∷ files) to = AreInOrder from files to
+
+-- This is a fact: it has one proof at most.
+pub order_is_fact : (from : ℕ) (files : List Kept) (to : ℕ) → IsProp (AreInOrder from files to)
+order_is_fact from [] to = le_prop
+order_is_fact from (Valid summary ∷ files) to = λ a b. λ i. (
+  le_prop a.0 b.0 i,
+  le_prop a.1 b.1 i,
+  order_is_fact summary.kept.end files to a.2 b.2 i,
+)
+order_is_fact from (Faulty class ∷ files) to = order_is_fact from files to
 
 -- A summary has the requirements of its file, without the excluded ones, and both are in the list.
 pub record IsSummary (main : Main) (modules : List ModuleVersion) (summary : Summary) : Type 0 where

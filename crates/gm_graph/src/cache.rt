@@ -19,6 +19,7 @@ pub(crate) mod file_table;
 pub(crate) mod lent;
 pub(crate) mod load_fault;
 pub(crate) mod naming;
+pub(crate) mod parts;
 pub(crate) mod paths;
 pub(crate) mod place_history;
 pub(crate) mod reading;
@@ -26,7 +27,7 @@ pub(crate) mod summary;
 pub(crate) mod turn_history;
 pub(crate) mod visit;
 
-ghost use Rattle.std.specs.Prelude.{◌≡◌, ◌≤◌, ◌<◌, ◌+◌, ◌++◌, [], List, IfOk, IfSome, OnOk, OnErr, IsSome, None, Some, Err, length, take, true};
+ghost use Rattle.std.specs.Prelude.{◌≡◌, ◌≤◌, ◌<◌, ◌+◌, ◌++◌, ◌∷◌, [], List, IfOk, IfSome, OnOk, OnErr, IsSome, None, Some, Err, length, take, true};
 ghost use Rattle.std.specs.Option.{option_and_then, option_copied};
 ghost use Rattle.gm_name.specs.ModuleVersion.{ModuleVersion};
 ghost use Rattle.gm_name.specs.OptionalPlaces.{place_in};
@@ -43,7 +44,7 @@ ghost use Rattle.gm_graph.specs.Refusals.{IsLoadFaultOf};
 ghost use Rattle.gm_graph.specs.FileTable.{PutsFile, IsNewFile, NotesFiles, replacing_place};
 ghost use Rattle.gm_graph.specs.Held.{HoldsSome};
 ghost use Rattle.gm_graph.specs.Lent.{lent_modules};
-ghost use Rattle.gm_graph.specs.Summaries.{Grows, IsKept, IsWithinList, at_span, summary_reading};
+ghost use Rattle.gm_graph.specs.Summaries.{AreInOrder, order_is_fact, Grows, IsKept, IsWithinList, at_span, summary_reading};
 
 use crate::cache::class::Class;
 use crate::cache::depth::Depth;
@@ -51,13 +52,14 @@ use crate::cache::file_table::FileTable;
 use crate::cache::lent::Lent;
 use crate::cache::load_fault::LoadFault;
 use crate::cache::naming::{file_name, is_askable};
+use crate::cache::parts::CacheParts;
 use crate::cache::paths::is_right_path;
 use crate::cache::reading::{ListedReading, read_answer};
 use crate::cache::summary::{Kept, ListSpan, summary_of};
 use crate::cache::turn_history::TurnHistory;
 use crate::cache::visit::{Said, Visit};
 use gm_file::MainFile;
-use gm_name::{KnownNames, ModVer, NoMemory};
+use gm_name::{KnownNames, NoMemory};
 use gm_name_table::ModuleList;
 use gm_store::{Answer, AskFault, Asks, FileName};
 use gm_store_sums::SumTable;
@@ -92,6 +94,7 @@ pub struct Cache<'a> {
     ghost places_within: { length files.places.items ≤ length modules.modules },
     ghost holds_some: { ∥ HoldsSome (main_of main.now) (option_copied sums) modules files ∥₁ },
     ghost notes: { NotesFiles (main_of main.now) modules.modules files },
+    ghost in_order: { AreInOrder first files.files.items (length modules.numbers) } by { order_is_fact first files.files.items (length modules.numbers) },
 }
 
 /// A table of names without a limit, which knows the paths that the main file requires.
@@ -139,6 +142,8 @@ fn summarize(
         → IsFileReading (option_copied sums.entry) (name_of name.now) (reply_of answer.now)
         (summary_reading (modules_of modules.new) kept)) }
     ensures kept { IfOk result (IsKept (main_of main.now) (modules_of modules.new)) }
+    ensures order { IfOk result (λ kept.
+        AreInOrder (length modules.old.numbers) (kept ∷ []) (length modules.new.numbers)) }
     ensures grows { Grows modules.old modules.new }
 {
     expect_path(names, name)?;
@@ -157,7 +162,7 @@ impl<'a> Cache<'a> {
     ghost use Rattle.std.specs.List.{IsDistinct};
     ghost use Rattle.gm_name.specs.ModuleVersion.{pair_eq};
     ghost use Rattle.gm_name_table.specs.Listed.{BeginsWith};
-    ghost use Rattle.gm_graph.specs.Cached.{HasFileAt, HasMadeKnown, HoldsSame, IsPlaceFor, KeepsSound, Knows, LendsKept, LentSame, LendsTurns, file_count, main_in, module_numbered, run_in, span_at, sums_in, table_in, turns_in};
+    ghost use Rattle.gm_graph.specs.Cached.{ArePartsOf, HasFileAt, HasMadeKnown, HoldsSame, IsPlaceFor, KeepsSound, Knows, LendsKept, LentSame, LendsTurns, file_count, main_in, module_numbered, run_in, span_at, sums_in, table_in, turns_in};
     ghost use Rattle.gm_graph.specs.Lent.{lent_table};
     ghost use Rattle.gm_graph.specs.declared.cache.Cache.{Cache};
     ghost use Rattle.gm_graph.specs.CacheVisits.{IsSaid, LendsOver, Visits};
@@ -203,6 +208,8 @@ impl<'a> Cache<'a> {
             × IsFileReading (sums_in self.old) (name_of name.now) reply
             (summary_reading (modules_of self.new.modules) kept)) }
         ensures kept { IfOk result (IsKept (main_in self.old) (modules_of self.new.modules)) }
+        ensures order { IfOk result (λ kept. AreInOrder self.new.first (self.new.files.files.items ++ kept ∷ [])
+            (length self.new.modules.numbers)) }
         ensures holds { HoldsSame self.old self.new }
         ensures lent { LentSame self.old self.new }
         ensures files { self.new.files ≡ self.old.files }
@@ -230,6 +237,8 @@ impl<'a> Cache<'a> {
         requires reading { (reply : Reply) × IsFileReading (sums_in self.old) (name_of name.now) reply
             (summary_reading (modules_of self.old.modules) kept) }
         requires kept { IsKept (main_in self.old) (modules_of self.old.modules) kept }
+        requires order { AreInOrder self.old.first (self.old.files.files.items ++ kept ∷ [])
+            (length self.old.modules.numbers) }
         ensures count { file_count self.new ≤ file_count self.old + 1 }
         ensures adds { OnOk result (PutsFile self.old.files self.new.files (name_of name.now) kept) }
         ensures modules { self.new.modules ≡ self.old.modules }
@@ -380,7 +389,7 @@ impl<'a> Cache<'a> {
         let said = self.said(number, depth, place);
         let turn = TurnHistory::of(self.modules.module(number), &depth);
         let list = self.lend_at(said.file(), turn);
-        Ok(Visit::of(said, number, list))
+        Ok(Visit::of(said, list))
     }
 
     /// Why loading stops after this fault of a request. The name of the file is given once.
@@ -395,11 +404,22 @@ impl<'a> Cache<'a> {
         LoadFault::of_request(fault, failed)
     }
 
-    /// The modules in the order of their numbers. The rest of the cache is dropped.
-    pub(crate) fn into_modules(self) -> Vec<ModVer>
-        ensures modules { result.items ≡ table_in self.entry }
-        ensures few { length result.items ≤ 4294967295 }
+    /// The modules that have numbers, and the lists of requirements. The rest of the cache is dropped.
+    pub(crate) fn into_parts(self) -> CacheParts
+        ensures { ArePartsOf self.entry result }
     {
-        self.modules.into_modules()
+        let Cache {
+            modules,
+            first,
+            files,
+            ..
+        } = self;
+        let (modules, numbers) = modules.into_parts();
+        CacheParts {
+            modules,
+            numbers,
+            first,
+            files: files.into_files(),
+        }
     }
 }

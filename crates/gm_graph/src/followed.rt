@@ -7,13 +7,12 @@ ghost use Rattle.gm_name.specs.ModuleVersion.{ModuleVersion};
 ghost use Rattle.gm_graph.specs.Lent.{lent_modules, lent_table};
 ghost use Rattle.gm_graph.specs.Turns.{turn, AddsAll, OverflowsWith};
 ghost use Rattle.gm_graph.specs.declared.cache.depth.Depth.TheVariants.{Deep};
-ghost use Rattle.gm_graph.specs.Builder.{IsBuilder, KeepsGraph, turns_of};
+ghost use Rattle.gm_graph.specs.Worklists.{IsWorklist, turns_of};
 
 use crate::cache::depth::Depth;
 use crate::cache::lent::Lent;
-use crate::graph_builder::GraphBuilder;
 use crate::places::put_at;
-use crate::worklist::AddFault;
+use crate::worklist::{AddFault, Worklist};
 use std::alloc::{AllocError, Global};
 
 /// The files that were followed.
@@ -56,27 +55,26 @@ impl Followed {
     /// Adds a turn at full depth for each of these modules, which a file requires, unless the file was followed.
     pub(crate) fn follow(
         &mut self,
-        builder: &mut GraphBuilder,
+        worklist: &mut Worklist,
         file: u32,
         list: Lent<'_>,
     ) -> Result<(), AddFault>
-        requires builder { IsBuilder (lent_table list) builder.old }
+        requires worklist { IsWorklist (lent_table list) worklist.old }
         requires followed { followed_at self.old file ≡ true → (y : ModuleVersion) → Contains (lent_modules list) y
-            → Contains (turns_of (lent_table list) builder.old) (turn y Deep) }
-        ensures builder { OnOk result (IsBuilder (lent_table list.entry) builder.new) }
-        ensures adds { OnOk result (AddsAll (turns_of (lent_table list.entry) builder.old)
-            (turns_of (lent_table list.entry) builder.new) (lent_modules list.entry) Deep) }
-        ensures graph { OnOk result (KeepsGraph builder.old builder.new) }
+            → Contains (turns_of (lent_table list) worklist.old) (turn y Deep) }
+        ensures worklist { OnOk result (IsWorklist (lent_table list.entry) worklist.new) }
+        ensures adds { OnOk result (AddsAll (turns_of (lent_table list.entry) worklist.old)
+            (turns_of (lent_table list.entry) worklist.new) (lent_modules list.entry) Deep) }
         ensures files { OnOk result (AddsFollowed self.old self.new file) }
         ensures added { OnOk result (followed_at self.new file ≡ true) }
-        ensures once { followed_at self.old file ≡ true → builder.new ≡ builder.old }
+        ensures once { followed_at self.old file ≡ true → worklist.new ≡ worklist.old }
         ensures too_many { result ≡ Err AddFault.TooMany
-            → OverflowsWith (turns_of (lent_table list.entry) builder.old) (lent_modules list.entry) }
+            → OverflowsWith (turns_of (lent_table list.entry) worklist.old) (lent_modules list.entry) }
     {
         if self.has(file) {
             return Ok(());
         }
-        builder.add_all(list, Depth::Deep)?;
+        worklist.add_all(list, Depth::Deep)?;
         self.add(file)?;
         Ok(())
     }

@@ -18,10 +18,10 @@
 #![tactic(auto)]
 
 mod cache;
-mod edge_lists;
 mod fault;
+mod findings;
 mod followed;
-mod graph_builder;
+mod gathering;
 pub mod laws;
 mod loaded;
 mod loading;

@@ -1,6 +1,6 @@
 //! Loading a module graph: a loop over the worklist, and the assembly of the result.
 
-ghost use Rattle.std.specs.Prelude.{◌≡◌, ◌<◌, ◌≤◌, ◌++◌, [], All, Contains, IfOk, OnOk, Err, length, map};
+ghost use Rattle.std.specs.Prelude.{◌≡◌, ◌<◌, ◌++◌, [], All, Contains, IfOk, Err, length, map};
 ghost use Rattle.std.specs.Option.{option_copied};
 ghost use Rattle.gm_store.specs.Asked.{name_of, names_in};
 ghost use Rattle.gm_store.specs.States.{HasServed};
@@ -12,61 +12,62 @@ ghost use Rattle.gm_file.specs.Main.{main_of};
 ghost use Rattle.gm_graph_select.specs.BuildList.{IsBuildList};
 ghost use Rattle.gm_graph_select.specs.Chains.{IsRooted};
 ghost use Rattle.gm_graph_select.specs.Graph.{IsEdgeEnd, among, edge_cmp};
-ghost use Rattle.gm_name.specs.ModuleVersion.{ModuleVersion, pair_cmp};
+ghost use Rattle.gm_graph_select.specs.Adjacency.{edges_of, sources_of};
+ghost use Rattle.gm_name.specs.ModuleVersion.{ModuleVersion};
 ghost use Rattle.gm_graph_select.specs.declared.step.Step.TheVariants.{Of};
 ghost use Rattle.gm_graph_select.specs.Order.{HaveSame, IsAscending};
-ghost use Rattle.gm_graph_select.specs.StepOrder.{step_eq};
-ghost use Rattle.std.specs.BTreeMap as tree;
-ghost use Rattle.std.specs.List.{IsDistinct};
-ghost use Rattle.gm_graph.specs.Builder.{IsBuilder, edges_in, sources_in, turn_of, turns_of};
-ghost use Rattle.gm_graph.specs.Building.{fault};
-ghost use Rattle.gm_graph.specs.FileLists.{HaveFiles};
+ghost use Rattle.gm_graph.specs.Gathering.{AreFaultsOf, AreFilePlaces, steps_by};
 ghost use Rattle.gm_graph.specs.Run.{AreTooMany, AskedInTurn, IsDue, IsRead, LoadingNeeds, run_of};
 ghost use Rattle.gm_graph.specs.Outcome.{IsLoaded};
-ghost use Rattle.gm_graph.specs.Visiting.{IsFirstGraph, IsOpenedIn};
+ghost use Rattle.gm_graph.specs.Visiting.{IsFirstWorklist, IsOpenedIn};
+ghost use Rattle.gm_graph.specs.Worklists.{turn_of};
 
 use crate::cache::Cache;
 use crate::cache::depth::Turn;
 use crate::cache::load_fault::LoadFault;
+use crate::cache::parts::CacheParts;
+use crate::findings::Findings;
 use crate::followed::Followed;
-use crate::graph_builder::{GraphBuilder, NumberedTurn, fault_list};
+use crate::gathering::{fault_list, graph_of};
 use crate::loaded::Loaded;
 use crate::rows::build_list;
-use crate::starting::first_graph;
+use crate::starting::first_worklist;
 use crate::visiting::visit;
+use crate::worklist::{NumberedTurn, Worklist};
 use gm_file::MainFile;
-use gm_graph_select::Graph;
 use gm_name::ModVer;
 use gm_store::Asks;
 use gm_store_sums::SumTable;
 use std::alloc::{AllocError, Global};
 
-/// Visits the vertices of a worklist one after another, including those that the visits add.
+/// Visits the vertices of a worklist one after another, including those that the visits add. Returns what was found.
 fn visit_all<F: Asks>(
+    alloc: Global,
     cache: &mut Cache<'_>,
     files: &mut F,
-    builder: &mut GraphBuilder,
-) -> Result<(), LoadFault>
+    worklist: &mut Worklist,
+) -> Result<Findings, LoadFault>
     requires asked { (F.state files.old).asked ≡ [] }
     requires knows { Knows cache.old [] }
     requires lent { turns_in cache.old ≡ [] }
     requires none { file_count cache.old ≡ 0 }
-    requires first { IsFirstGraph (run_in cache.old []) (table_in cache.old) builder.old }
-    requires files { HaveFiles cache.old (run_in cache.old []) builder.old.edges }
-    ensures opened { OnOk result (IsOpenedIn (run_in cache.old (F.state files.new).asked) cache.new builder.new) }
+    requires first { IsFirstWorklist (run_in cache.old []) (table_in cache.old) worklist.old }
+    ensures opened { IfOk result
+        (IsOpenedIn (run_in cache.old (F.state files.new).asked) cache.new worklist.new) }
     ensures too_many { result ≡ Err LoadFault.TooMany → IsRead (run_in cache.old (F.state files.new).asked)
         × AreTooMany (run_in cache.old (F.state files.new).asked) }
     ensures asks { AsksInTurn (main_in cache.old) (sums_in cache.old) (F.may_answer files.old) (F.may_answer files.new)
         (F.state files.old) (F.state files.new) (refused_in result) }
 {
-    let mut followed = Followed::new(builder.alloc);
+    let mut followed = Followed::new(alloc);
+    let mut findings = Findings::new(alloc);
     let mut at = 0;
-    'turns: while at < builder.turns.len() {
-        let one = builder.turns[at];
-        visit(cache, files, builder, &mut followed, one)?;
+    'turns: while at < worklist.turns.len() {
+        let one = worklist.turns[at];
+        visit(cache, files, worklist, &mut followed, &mut findings, one)?;
         at += 1;
     }
-    Ok(())
+    Ok(findings)
 }
 
 /// The turns of a worklist whose numbers are those of these modules. The worklist is dropped.
@@ -89,39 +90,34 @@ fn turn_list(
     Ok(list)
 }
 
-/// The loaded graph of a builder whose numbers are those of these modules: the vertices are sorted, and the build list
-/// is made of them.
+/// The loaded graph of what was found: the vertices are sorted, and the build list is made of them.
 fn assemble(
     alloc: Global,
     main: &MainFile,
-    modules: Vec<ModVer>,
-    builder: GraphBuilder,
+    parts: CacheParts,
+    turns: Vec<NumberedTurn>,
+    findings: Findings,
 ) -> Result<Loaded, AllocError>
-    requires few { length modules.items ≤ 4294967295 }
-    requires builder { IsBuilder modules.items builder }
-    requires rooted { IsRooted (among (edges_in modules.items builder)) }
-    requires once { IsDistinct step_eq (sources_in modules.items builder) }
-    requires sources { (x : ModuleVersion) → Contains (sources_in modules.items builder) (Of x)
-        → IsEdgeEnd (among (edges_in modules.items builder)) x }
+    requires turned { All (λ one. one.number < length parts.modules.items) turns.items }
+    requires faults { All (λ one. one.number < length parts.modules.items) findings.faults.items }
+    requires places { AreFilePlaces parts findings.places.items }
+    requires rooted { IsRooted (among (edges_of parts.modules.items (steps_by parts findings.places.items))) }
+    requires sources { (x : ModuleVersion)
+        → Contains (sources_of parts.modules.items (steps_by parts findings.places.items)) (Of x)
+        → IsEdgeEnd (among (edges_of parts.modules.items (steps_by parts findings.places.items))) x }
     ensures main { IfOk result (λ loaded. loaded.main ≡ (main_of main.now).path) }
-    ensures faults { IfOk result (λ loaded. loaded.faults
-        ≡ map (λ entry. fault entry.0 entry.1) builder.faults.entries) }
-    ensures ordered { OnOk result (tree.IsOrdered pair_cmp builder.faults) }
+    ensures faults { IfOk result (λ loaded. AreFaultsOf parts.modules.items findings.faults.items loaded.faults) }
     ensures ascending { IfOk result (λ loaded. IsAscending edge_cmp loaded.edges) }
-    ensures edges { IfOk result (λ loaded. HaveSame (edges_in modules.items builder) loaded.edges) }
+    ensures edges { IfOk result (λ loaded.
+        HaveSame (edges_of parts.modules.items (steps_by parts findings.places.items)) loaded.edges) }
     ensures rows { IfOk result (λ loaded.
         IsBuildList (main_of main.now).path (main_of main.now).replaces (among loaded.edges) loaded.rows) }
-    ensures turns { IfOk result (λ loaded. loaded.turns ≡ turns_of modules.items builder) }
+    ensures turns { IfOk result (λ loaded. loaded.turns ≡ map (turn_of parts.modules.items) turns.items) }
 {
-    let GraphBuilder {
-        turns,
-        edges,
-        faults,
-        ..
-    } = builder;
-    let turns = turn_list(alloc, modules.as_slice(), turns)?;
-    let faults = fault_list(alloc, faults)?;
-    let graph = Graph::new(alloc, modules, edges.lists, edges.sources)?;
+    let Findings { places, faults } = findings;
+    let turns = turn_list(alloc, &parts.modules, turns)?;
+    let faults = fault_list(alloc, &parts.modules, &faults)?;
+    let graph = graph_of(alloc, parts, places)?;
     let rows = build_list(alloc, main, &graph)?;
     let path = main.module().copy(alloc)?;
     Ok(Loaded::new(path, faults, graph, rows, turns))
@@ -159,9 +155,8 @@ pub fn load<F: Asks>(
         (F.state files.old) (F.state files.new) }
 {
     let mut cache = Cache::new(alloc, main, sums)?;
-    let mut builder = first_graph(alloc, main, &cache)?;
-    visit_all(&mut cache, files, &mut builder)?;
-    // What was read of the files is dropped here, before the sorted vertices take their memory.
-    let modules = cache.into_modules();
-    Ok(assemble(alloc, main, modules, builder)?)
+    let mut worklist = first_worklist(alloc, main, &cache)?;
+    let findings = visit_all(alloc, &mut cache, files, &mut worklist)?;
+    let parts = cache.into_parts();
+    Ok(assemble(alloc, main, parts, worklist.into_turns(), findings)?)
 }

@@ -1,17 +1,16 @@
-//! The main module's requirements, and the graph that loading starts with.
+//! The main module's requirements, and the worklist that loading starts with.
 
 ghost use Rattle.std.specs.Prelude.{◌≡◌, [], IfOk, Err};
 ghost use Rattle.gm_graph.specs.Cached.{main_in, run_in, table_in};
 ghost use Rattle.gm_file.specs.Main.{is_pruned_by, without_excluded, main_of};
 ghost use Rattle.gm_graph.specs.Refusals.{refused_in};
-ghost use Rattle.gm_graph.specs.FileLists.{HaveFiles};
 ghost use Rattle.gm_graph.specs.Turns.{OverflowsWith, depth_by};
-ghost use Rattle.gm_graph.specs.Visiting.{IsFirstGraph};
+ghost use Rattle.gm_graph.specs.Visiting.{IsFirstWorklist};
 
 use crate::cache::Cache;
 use crate::cache::depth::Depth;
 use crate::cache::load_fault::LoadFault;
-use crate::graph_builder::GraphBuilder;
+use crate::worklist::Worklist;
 use gm_file::MainFile;
 use std::alloc::Global;
 
@@ -26,24 +25,22 @@ fn first_depth(main: &MainFile) -> Depth
     }
 }
 
-/// The graph that loading starts with: the edges from the main module to its requirements, without the excluded ones,
-/// and their turns, at the top, or at full depth if the main file is unpruned. `TooMany` is returned if the main file
-/// requires more than `MOST` vertices.
-pub(crate) fn first_graph(
+/// The worklist that loading starts with: turns of the main module's requirements, without the excluded ones, at the
+/// top, or at full depth if the main file is unpruned. `TooMany` is returned if the main file requires more than `MOST`
+/// vertices.
+pub(crate) fn first_worklist(
     alloc: Global,
     main: &MainFile,
     cache: &Cache<'_>,
-) -> Result<GraphBuilder, LoadFault>
+) -> Result<Worklist, LoadFault>
     requires { main_in cache.now ≡ main_of main.now }
-    ensures first { IfOk result (IsFirstGraph (run_in cache.now []) (table_in cache.now)) }
-    ensures files { IfOk result (λ builder. HaveFiles cache.now (run_in cache.now []) builder.edges) }
+    ensures first { IfOk result (IsFirstWorklist (run_in cache.now []) (table_in cache.now)) }
     ensures too_many { result ≡ Err LoadFault.TooMany
         → OverflowsWith [] (without_excluded (main_of main.now) (main_of main.now).requirements) }
     ensures not_refused { refused_in result ≡ [] }
 {
     let required = cache.first_requirements();
-    let mut builder = GraphBuilder::new(alloc, required.module_count())?;
-    builder.add_all(required, first_depth(main))?;
-    builder.add_edges(None, None, required)?;
-    Ok(builder)
+    let mut worklist = Worklist::new(alloc, required.module_count())?;
+    worklist.add_all(required, first_depth(main))?;
+    Ok(worklist)
 }

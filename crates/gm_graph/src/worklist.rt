@@ -1,20 +1,21 @@
-//! Adding turns to the worklist.
+//! The worklist, by the numbers of the modules.
+//!
+//! A vertex may be found at the top and later at full depth, and must then be visited again. The worklist therefore
+//! holds turns, each of a vertex and a depth, and each vertex has a mark for each depth, so that each turn comes once.
 
-ghost use Rattle.std.specs.Prelude.{◌≡◌, ◌<◌, ◌≤◌, ◌+◌, ◌||◌, ◌++◌, ◌∷◌, [], Err, List, OnOk, if◌then◌else◌, length};
-ghost use Rattle.gm_name.specs.ModuleVersion.{ModuleVersion, module_at};
+ghost use Rattle.std.specs.Prelude.{◌≡◌, ◌<◌, ◌≤◌, ◌+◌, ◌||◌, ◌++◌, ◌∷◌, [], Err, IfOk, List, OnOk, if◌then◌else◌, length};
+ghost use Rattle.std.specs.List.{IsDistinct};
+ghost use Rattle.gm_name.specs.ModuleVersion.{ModuleVersion, module_at, pair_eq};
 ghost use Rattle.gm_graph.specs.Lent.{lent_modules, lent_table};
 ghost use Rattle.gm_graph.specs.Turns.{turn, AddsAll, AppendsTurnIfNew, OverflowsWith};
-ghost use Rattle.gm_graph.specs.Building.{gathers};
-ghost use Rattle.gm_graph.specs.Builder.{IsBuilder, KeepsGraph, KeepsTurns, marks_at, turn_of, turns_of};
 ghost use Rattle.gm_graph.specs.WorklistFaults.{load_fault_of};
 ghost use Rattle.gm_graph.specs.declared.worklist.AddFault.TheVariants as add;
 
 use crate::cache::depth::Depth;
 use crate::cache::lent::Lent;
 use crate::cache::load_fault::LoadFault;
-use crate::graph_builder::{GraphBuilder, NumberedTurn};
 use crate::marks::Marks;
-use std::alloc::AllocError;
+use std::alloc::{AllocError, Global};
 
 /// The most vertices that are opened. Loading a larger graph is refused with `TooMany`.
 const MOST: usize = 65_536;
@@ -60,6 +61,15 @@ fn opened_with(opened: usize, marks: Marks) -> usize
     opened + 1
 }
 
+/// A turn, by the number of its vertex.
+#[derive(Clone, Copy)]
+pub(crate) struct NumberedTurn {
+    /// The number of the vertex.
+    pub(crate) number: u32,
+    /// How far its requirements are followed.
+    pub(crate) depth: Depth,
+}
+
 /// Appends a turn.
 fn push_turn(turns: &mut Vec<NumberedTurn>, one: NumberedTurn) -> Result<(), AllocError>
     ensures { OnOk result (turns.new.items ≡ turns.old.items ++ one ∷ []) }
@@ -68,36 +78,47 @@ fn push_turn(turns: &mut Vec<NumberedTurn>, one: NumberedTurn) -> Result<(), All
     Ok(())
 }
 
-impl GraphBuilder {
-    /// The marks of the vertex with a number.
-    fn marks_of(&self, number: u32) -> Marks
-        ensures { result ≡ marks_at self.now.marks.items number }
+/// The worklist.
+#[derive(Drop)]
+pub(crate) struct Worklist {
+    /// For each module, by its number, the depths at which it has turns. The last ones may be left out.
+    marks: Vec<Marks>,
+    /// The turns, in the order in which they were found.
+    pub(crate) turns: Vec<NumberedTurn>,
+    /// How many vertices have a turn.
+    opened: usize,
+    ghost few: { opened ≤ 65536 },
+}
+
+impl Worklist {
+    ghost use Rattle.gm_graph.specs.Worklists.{IsWorklist, KeepsTurns, turns_of};
+
+    /// No turns, with room for the marks of so many modules.
+    pub(crate) fn new(alloc: Global, count: usize) -> Result<Worklist, AllocError>
+        ensures worklist { IfOk result (λ worklist. (modules : List ModuleVersion) → IsDistinct pair_eq modules
+            → IsWorklist modules worklist) }
+        ensures turns { IfOk result (λ worklist. worklist.turns.items ≡ []) }
     {
-        match self.marks.get(number as usize) {
-            None => Marks::none(),
-            Some(marks) => *marks,
-        }
+        Ok(Worklist {
+            marks: Vec::with_capacity(alloc, count)?,
+            turns: Vec::new(alloc),
+            opened: 0,
+        })
     }
 
-    /// Whether the edges of a vertex are added in a visit to this depth. A vertex may be visited at both depths; its
-    /// edges are then added in the visit at the top only.
-    pub(crate) fn gathers(&self, one: NumberedTurn) -> bool
-        ensures { (modules : List ModuleVersion) → IsBuilder modules self.now → one.number < length modules
-            → result ≡ gathers (turns_of modules self.now) (turn_of modules one) }
+    /// The turns. The rest is dropped.
+    pub(crate) fn into_turns(self) -> Vec<NumberedTurn>
+        ensures { result ≡ self.turns }
     {
-        match one.depth {
-            Depth::Top => true,
-            Depth::Deep => !self.marks_of(one.number).has(Depth::Top),
-        }
+        self.turns
     }
 
     /// Makes marks for so many modules, if there are fewer.
     fn make_marks(&mut self, count: usize) -> Result<(), AllocError>
         ensures made { OnOk result (count ≤ length self.new.marks.items) }
-        ensures builder { (modules : List ModuleVersion) → count ≤ length modules → IsBuilder modules self.old
-            → OnOk result (IsBuilder modules self.new) }
+        ensures worklist { (modules : List ModuleVersion) → count ≤ length modules → IsWorklist modules self.old
+            → OnOk result (IsWorklist modules self.new) }
         ensures turns { OnOk result (KeepsTurns self.old self.new) }
-        ensures graph { OnOk result (KeepsGraph self.old self.new) }
     {
         if self.marks.len() < count {
             self.marks.resize(count, Marks::none())?;
@@ -109,14 +130,13 @@ impl GraphBuilder {
     /// one.
     fn add(&mut self, number: u32, depth: Depth) -> Result<(), AddFault>
         requires { number < length self.old.marks.items }
-        ensures builder { (modules : List ModuleVersion) → IsBuilder modules self.old
-            → OnOk result (IsBuilder modules self.new) }
-        ensures adds { (modules : List ModuleVersion) → IsBuilder modules self.old → OnOk result
+        ensures worklist { (modules : List ModuleVersion) → IsWorklist modules self.old
+            → OnOk result (IsWorklist modules self.new) }
+        ensures adds { (modules : List ModuleVersion) → IsWorklist modules self.old → OnOk result
             (AppendsTurnIfNew (turns_of modules self.old) (turns_of modules self.new)
             (turn (module_at modules number) depth)) }
-        ensures graph { OnOk result (KeepsGraph self.old self.new) }
         ensures marks { length self.new.marks.items ≡ length self.old.marks.items }
-        ensures too_many { result ≡ Err AddFault.TooMany → (modules : List ModuleVersion) → IsBuilder modules self.old
+        ensures too_many { result ≡ Err AddFault.TooMany → (modules : List ModuleVersion) → IsWorklist modules self.old
             → OverflowsWith (turns_of modules self.old) (module_at modules number ∷ []) }
     {
         let marks = self.marks[number as usize];
@@ -135,11 +155,10 @@ impl GraphBuilder {
 
     /// Adds a turn for each of these modules.
     pub(crate) fn add_all(&mut self, list: Lent<'_>, depth: Depth) -> Result<(), AddFault>
-        requires { IsBuilder (lent_table list) self.old }
-        ensures builder { OnOk result (IsBuilder (lent_table list.entry) self.new) }
+        requires { IsWorklist (lent_table list) self.old }
+        ensures worklist { OnOk result (IsWorklist (lent_table list.entry) self.new) }
         ensures adds { OnOk result (AddsAll (turns_of (lent_table list.entry) self.old)
             (turns_of (lent_table list.entry) self.new) (lent_modules list.entry) depth) }
-        ensures graph { OnOk result (KeepsGraph self.old self.new) }
         ensures too_many { result ≡ Err AddFault.TooMany
             → OverflowsWith (turns_of (lent_table list.entry) self.old) (lent_modules list.entry) }
     {

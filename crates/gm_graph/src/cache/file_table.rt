@@ -31,9 +31,8 @@ pub(crate) struct FileTable {
 }
 
 impl FileTable {
-    ghost use Rattle.std.specs.Prelude.{◌≡◌, ◌<◌, ◌+◌, ◌∷◌, IfOk, IfSome, List, None, OnErr, OnOk, Some, slice_get};
+    ghost use Rattle.std.specs.Prelude.{◌≡◌, ◌⊎◌, ◌<◌, ◌++◌, ◌∷◌, [], IfOk, IfSome, List, None, OnErr, OnOk, Some, slice_get};
     ghost use Rattle.std.specs.Option.{option_and_then};
-    ghost use Rattle.gm_name_table.specs.Listed.{BeginsWith};
     ghost use Rattle.gm_store.specs.Asked.{Name, name_of};
     ghost use Rattle.gm_graph.specs.FileTable.{PutsFile, IsFileOf, IsNewFile, IsPlaceOf, KeepsFiles, KeepsNoted, KeepsOthers, NotesFiles, NotesFor, PutsReplacing, ReachesAtMost, kept_at, noted_for, replacing_place};
     ghost use Rattle.gm_file.specs.Main.{Main, main_of};
@@ -45,7 +44,7 @@ impl FileTable {
     /// No files, for a main file with these replacements. The only refusal is `NoMemory`.
     pub(crate) fn new(alloc: Global, main: &MainFile) -> Result<FileTable, NoMemory>
         ensures none { IfOk result (λ files. (name : Name) → kept_at files name ≡ None) }
-        ensures files { IfOk result (λ files. length files.files.items ≡ 0) }
+        ensures files { IfOk result (λ files. files.files.items ≡ []) }
         ensures places { IfOk result (λ files. length files.places.items ≡ 0) }
         ensures notes { IfOk result (λ files. (modules : List ModuleVersion)
             → NotesFiles (main_of main.now) modules files) }
@@ -114,6 +113,13 @@ impl FileTable {
             None => ListSpan::nowhere(),
             Some(place) => self.at(place).span(),
         }
+    }
+
+    /// What is kept of each file, in the order in which they were read.
+    pub(crate) fn into_files(self) -> Vec<Kept>
+        ensures { result ≡ self.files }
+    {
+        self.files
     }
 
     /// Lengthens the list of places, so that it has one for this number. The only refusal is `NoMemory`.
@@ -188,8 +194,8 @@ impl FileTable {
             → IsNewFile main modules self.old number (name_of name.now)
             → NotesFiles main modules self.old → NotesFiles main modules self.new }
         ensures place { IfOk result (λ place. slice_get self.new.files.items place ≡ Some kept) }
-        ensures files { BeginsWith self.old.files.items self.new.files.items }
-        ensures count { length self.new.files.items ≤ length self.old.files.items + 1 }
+        ensures files { (self.new.files.items ≡ self.old.files.items)
+            ⊎ (self.new.files.items ≡ self.old.files.items ++ kept ∷ []) }
         ensures err { OnErr result (KeepsFiles self.old self.new) }
         ensures within { ReachesAtMost number self.old self.new }
     {

@@ -103,6 +103,7 @@ pub(crate) fn summary_of(
     ensures all { IfOk result (λ summary.
         at_span (modules_of modules.new) summary.all ≡ drop start (modules_of modules.old)) }
     ensures kept { IfOk result (IsSummary (main_of main.now) (modules_of modules.new)) }
+    ensures begins { IfOk result (λ summary. start ≤ summary.kept.start) }
     ensures grows { Grows modules.old modules.new }
 {
     let end = modules.len();

@@ -1,11 +1,9 @@
 //! What a visit of a vertex gets from the cache.
 
-ghost use Rattle.std.specs.Prelude.{◌≡◌, ◌<◌, length};
-ghost use Rattle.gm_graph.specs.Lent.{lent_table};
+ghost use Rattle.std.specs.Prelude.{◌≡◌};
 
 use crate::cache::class::Class;
 use crate::cache::lent::Lent;
-use gm_name::ModVer;
 
 /// What a cache says of a vertex.
 #[derive(Clone, Copy)]
@@ -50,7 +48,7 @@ pub(crate) struct Required<'a> {
 #[derive(Clone, Copy)]
 pub(crate) enum Visit<'a> {
     /// The vertex has this fault, and requires nothing.
-    Fault(&'a ModVer, Class),
+    Fault(Class),
     /// The vertex has no fault, and requires this.
     Required(Required<'a>),
 }
@@ -58,13 +56,12 @@ pub(crate) enum Visit<'a> {
 impl<'a> Visit<'a> {
     ghost use Rattle.gm_graph.specs.CacheVisits.{IsVisitOf};
 
-    /// What a visit gets of the vertex with a number, from what the cache says of it, and what it lent.
-    pub(crate) fn of(said: Said, number: u32, list: Lent<'a>) -> Visit<'a>
-        requires { number < length (lent_table list) }
-        ensures { IsVisitOf said number list.entry result }
+    /// What a visit gets of a vertex, from what the cache says of it, and what it lent.
+    pub(crate) fn of(said: Said, list: Lent<'a>) -> Visit<'a>
+        ensures { IsVisitOf said list.entry result }
     {
         match said {
-            Said::Fault(class) => Visit::Fault(list.module(number), class),
+            Said::Fault(class) => Visit::Fault(class),
             Said::Sound { file, leads } => Visit::Required(Required { file, leads, list }),
         }
     }

@@ -1,43 +1,39 @@
-use Rattle.std.proofs.Common.{◌∙◌, ◌++◌, Contains, Err, List, append-nil, refl, sym, ap, subst}
-use Rattle.std.specs.List.{IsDistinct}
+use Rattle.std.proofs.Common.{◌∙◌, ◌++◌, ◌<◌, All, Err, List, append-nil, length, map, refl, sym, ap, subst}
 use Rattle.std.specs.Option.{option_copied}
 use Rattle.gm_name.specs.ModuleVersion.{ModuleVersion}
 use Rattle.gm_file.specs.Main.{main_of}
 use Rattle.gm_store.specs.Asked.{Name, name_of}
 use Rattle.gm_store.proofs.Serving.{nothing_served}
-use Rattle.gm_graph.specs.Builder.{IsBuilder, edges_in, sources_in, turns_of}
+use Rattle.gm_graph.specs.Cached.{run_in}
 use Rattle.gm_graph.specs.Refusals.{refused_names}
 use Rattle.gm_graph.specs.Run.{AreTooMany, IsRead, LoadingNeeds, Run}
 use Rattle.gm_graph.specs.Visiting.{IsOpenedIn}
-use Rattle.gm_graph_select.specs.declared.step.Step.TheVariants.{Of}
-use Rattle.gm_graph_select.specs.Chains.{IsRooted}
-use Rattle.gm_graph_select.specs.Graph.{IsEdgeEnd, among}
-use Rattle.gm_graph_select.specs.Order.{HaveSame}
-use Rattle.gm_graph_select.specs.StepOrder.{step_eq}
+use Rattle.gm_graph.specs.Worklists.{turn_of}
 use Rattle.gm_graph.proofs.Dues.{none_in_turn, refused_same}
 use Rattle.gm_graph.proofs.InTurn.{in_turn_by}
 use Rattle.gm_graph.proofs.Keeping.{none_refused}
-use Rattle.gm_graph.proofs.Loads.{gathered_ends, gathered_rooted, loads, too_many_first}
+use Rattle.gm_graph.proofs.FoundGraph.{found_faults, found_places}
+use Rattle.gm_graph.proofs.Loads.{found_ends, found_rooted, loads, too_many_first}
 use Rattle.gm_graph.proofs.Stepping.{by_run}
 use Rattle.gm_graph.proofs.loading.load.Goals as goal
 
-pub returns-in_err-builder-clause-asks : goal.returns-in_err-builder-clause-asks
-returns-in_err-builder-clause-asks g c = none_in_turn (LoadingNeeds (main_of c.args.main.now) (option_copied c.args.sums)) _ c.requires
+pub returns-in_err-worklist-clause-asks : goal.returns-in_err-worklist-clause-asks
+returns-in_err-worklist-clause-asks g c = none_in_turn (LoadingNeeds (main_of c.args.main.now) (option_copied c.args.sums)) _ c.requires
 
-pub returns-in_err-builder-clause-refused : goal.returns-in_err-builder-clause-refused
-returns-in_err-builder-clause-refused g c =
+pub returns-in_err-worklist-clause-refused : goal.returns-in_err-worklist-clause-refused
+returns-in_err-worklist-clause-refused g c =
     let refused = (g.F.Asks.state c.args.files.now).refused in
-    let same = refused_same c.from_residual-in_err-builder.result c.in_err-builder.field-0.0 (λ f e. rw e at c.from_residual-in_err-builder.ensures.1) c.from_residual-in_err-builder.ensures.0 in
-    sym (append-nil refused) ∙ ap (λ (ns : List Name). refused ++ ns) (sym (same ∙ c.in_err-builder.ensures.not_refused))
+    let same = refused_same c.from_residual-in_err-worklist.result c.in_err-worklist.field-0.0 (λ f e. rw e at c.from_residual-in_err-worklist.ensures.1) c.from_residual-in_err-worklist.ensures.0 in
+    sym (append-nil refused) ∙ ap (λ (ns : List Name). refused ++ ns) (sym (same ∙ c.in_err-worklist.ensures.not_refused))
 
 pub returns-in_err-cache-clause-asks : goal.returns-in_err-cache-clause-asks
 returns-in_err-cache-clause-asks g c = none_in_turn (LoadingNeeds (main_of c.args.main.now) (option_copied c.args.sums)) _ c.requires
 
-pub returns-in_err-visit_all-clause-asks : goal.returns-in_err-visit_all-clause-asks
-returns-in_err-visit_all-clause-asks g c = (in_turn_by c.in_ok-cache.ensures.main c.in_ok-cache.ensures.sums refl c.visit_all.ensures.asks).asks
+pub returns-in_err-findings-clause-asks : goal.returns-in_err-findings-clause-asks
+returns-in_err-findings-clause-asks g c = (in_turn_by c.in_ok-cache.ensures.main c.in_ok-cache.ensures.sums refl c.visit_all.ensures.asks).asks
 
-pub returns-in_err-visit_all-clause-served : goal.returns-in_err-visit_all-clause-served
-returns-in_err-visit_all-clause-served g c = (in_turn_by c.in_ok-cache.ensures.main c.in_ok-cache.ensures.sums refl c.visit_all.ensures.asks).served
+pub returns-in_err-findings-clause-served : goal.returns-in_err-findings-clause-served
+returns-in_err-findings-clause-served g c = (in_turn_by c.in_ok-cache.ensures.main c.in_ok-cache.ensures.sums refl c.visit_all.ensures.asks).served
 
 pub returns-in_err-assemble-clause-asks : goal.returns-in_err-assemble-clause-asks
 returns-in_err-assemble-clause-asks g c = (in_turn_by c.in_ok-cache.ensures.main c.in_ok-cache.ensures.sums refl c.visit_all.ensures.asks).asks
@@ -52,42 +48,50 @@ pub returns-clause-served : goal.returns-clause-served
 returns-clause-served g c = (in_turn_by c.in_ok-cache.ensures.main c.in_ok-cache.ensures.sums refl c.visit_all.ensures.asks).served
 
 pub returns-clause-refused : goal.returns-clause-refused
-returns-clause-refused g c = c.in_ok-visit_all.ensures.asks.refused
+returns-clause-refused g c = c.in_ok-findings.ensures.asks.refused
 
-pub returns-in_err-builder-clause-too_many : goal.returns-in_err-builder-clause-too_many
-returns-in_err-builder-clause-too_many g c = λ e.
+pub returns-in_err-worklist-clause-too_many : goal.returns-in_err-worklist-clause-too_many
+returns-in_err-worklist-clause-too_many g c = λ e.
     too_many_first (main_of c.args.main.now) (option_copied c.args.sums) (g.F.Asks.state c.args.files.now).asked c.requires
-    (c.in_err-builder.ensures.too_many (ap Err (sym (rw e at c.from_residual-in_err-builder.ensures.1))))
+    (c.in_err-worklist.ensures.too_many (ap Err (sym (rw e at c.from_residual-in_err-worklist.ensures.1))))
 
-pub returns-in_err-visit_all-clause-device : goal.returns-in_err-visit_all-clause-device
-returns-in_err-visit_all-clause-device g c = λ name e.
-    (in_turn_by c.in_ok-cache.ensures.main c.in_ok-cache.ensures.sums refl c.in_err-visit_all.ensures.asks).device (name_of name)
-    (ap refused_names (sym (rw e at c.from_residual-in_err-visit_all.ensures.1)))
+pub returns-in_err-findings-clause-device : goal.returns-in_err-findings-clause-device
+returns-in_err-findings-clause-device g c = λ name e.
+    (in_turn_by c.in_ok-cache.ensures.main c.in_ok-cache.ensures.sums refl c.in_err-findings.ensures.asks).device (name_of name)
+    (ap refused_names (sym (rw e at c.from_residual-in_err-findings.ensures.1)))
 
-pub returns-in_err-visit_all-clause-refused : goal.returns-in_err-visit_all-clause-refused
-returns-in_err-visit_all-clause-refused g c =
-    let same = refused_same c.from_residual-in_err-visit_all.result c.in_err-visit_all.field-0.0 (λ f e. rw e at c.from_residual-in_err-visit_all.ensures.1)
-    c.from_residual-in_err-visit_all.ensures.0 in
-    c.in_err-visit_all.ensures.asks.refused ∙ ap (λ (ns : List Name). (g.F.Asks.state c.args.files.now).refused ++ ns) (sym same)
+pub returns-in_err-findings-clause-refused : goal.returns-in_err-findings-clause-refused
+returns-in_err-findings-clause-refused g c =
+    let same = refused_same c.from_residual-in_err-findings.result c.in_err-findings.field-0.0 (λ f e. rw e at c.from_residual-in_err-findings.ensures.1)
+    c.from_residual-in_err-findings.ensures.0 in
+    c.in_err-findings.ensures.asks.refused ∙ ap (λ (ns : List Name). (g.F.Asks.state c.args.files.now).refused ++ ns) (sym same)
 
-pub returns-in_err-visit_all-clause-too_many : goal.returns-in_err-visit_all-clause-too_many
-returns-in_err-visit_all-clause-too_many g c = λ e.
+pub returns-in_err-findings-clause-too_many : goal.returns-in_err-findings-clause-too_many
+returns-in_err-findings-clause-too_many g c = λ e.
     by_run (λ (run : Run). IsRead run × AreTooMany run) (main_of c.args.main.now) (option_copied c.args.sums) c.in_ok-cache.cache
     (g.F.Asks.state c.visit_all.new.files).asked c.in_ok-cache.ensures.main c.in_ok-cache.ensures.sums
-    (c.in_err-visit_all.ensures.too_many (ap Err (sym (rw e at c.from_residual-in_err-visit_all.ensures.1))))
+    (c.in_err-findings.ensures.too_many (ap Err (sym (rw e at c.from_residual-in_err-findings.ensures.1))))
+
+pub invariant_of-cache-in_err-findings-clause-in_order : goal.invariant_of-cache-in_err-findings-clause-in_order
+invariant_of-cache-in_err-findings-clause-in_order g c = c.visit_all.new.cache.in_order
 
 pub assemble-requires : goal.assemble-requires
 assemble-requires g c =
-    let opened = c.in_ok-visit_all.ensures.opened in
+    let opened = c.in_ok-findings.ensures.opened in
     let cache = c.visit_all.new.cache in
-    let builder = c.visit_all.new.builder in
-    let same = sym c.into_modules-modules.ensures.modules in
+    let worklist = c.visit_all.new.worklist in
+    let findings = c.in_ok-findings.findings in
+    let parts = c.into_parts-parts.result in
+    let are = c.into_parts-parts.ensures in
+    let pairs = (g.F.Asks.state c.visit_all.new.files).asked in
+    let run = run_in c.in_ok-cache.cache pairs in
     record {
-      few = c.into_modules-modules.ensures.few;
-      builder = subst (λ (ms : List ModuleVersion). IsBuilder ms builder) same opened.is_builder;
-      rooted = subst (λ (ms : List ModuleVersion). IsRooted (among (edges_in ms builder))) same (gathered_rooted _ cache builder opened);
-      once = subst (λ (ms : List ModuleVersion). IsDistinct step_eq (sources_in ms builder)) same opened.once;
-      sources = subst (λ (ms : List ModuleVersion). (x : ModuleVersion) → Contains (sources_in ms builder) (Of x) → IsEdgeEnd (among (edges_in ms builder)) x) same (gathered_ends _ cache builder opened);
+      turned = subst (λ ts. All (λ one. one.number < length parts.modules.items) ts.items) (sym c.into_turns.ensures)
+          (subst (λ (ms : List ModuleVersion). All (λ one. one.number < length ms) worklist.turns.items) (sym are.modules) opened.worklist_is.turned);
+      faults = found_faults run cache worklist findings opened parts are;
+      places = found_places run cache worklist findings opened parts are;
+      rooted = found_rooted run cache worklist findings opened parts are;
+      sources = found_ends run cache worklist findings opened parts are;
     }
 
 pub returns-clause-loaded : goal.returns-clause-loaded
@@ -97,18 +101,19 @@ returns-clause-loaded g c =
     let sums = option_copied c.args.sums in
     let pairs = (g.F.Asks.state c.visit_all.new.files).asked in
     let cache = c.visit_all.new.cache in
-    let builder = c.visit_all.new.builder in
+    let worklist = c.visit_all.new.worklist in
+    let findings = c.in_ok-findings.findings in
     let loaded = c.in_ok-assemble.field-0 in
-    let opened = by_run (λ (run : Run). IsOpenedIn run cache builder) main sums c.in_ok-cache.cache pairs
-    c.in_ok-cache.ensures.main c.in_ok-cache.ensures.sums c.in_ok-visit_all.ensures.opened in
-    loads main sums pairs cache builder opened
+    let opened = by_run (λ (run : Run). IsOpenedIn run cache worklist findings) main sums c.in_ok-cache.cache pairs
+    c.in_ok-cache.ensures.main c.in_ok-cache.ensures.sums c.in_ok-findings.ensures.opened in
+    loads main sums pairs cache worklist findings c.into_parts-parts.result
+    opened c.into_parts-parts.ensures
     (in_turn_by c.in_ok-cache.ensures.main c.in_ok-cache.ensures.sums refl c.visit_all.ensures.asks).asks
-    loaded told.main told.faults told.ordered told.ascending
-    (subst (λ (ms : List ModuleVersion). HaveSame (edges_in ms builder) loaded.edges) c.into_modules-modules.ensures.modules told.edges)
-    told.rows (told.turns ∙ ap (λ (ms : List ModuleVersion). turns_of ms builder) c.into_modules-modules.ensures.modules ∙ sym opened.lent)
+    loaded told.main told.faults told.ascending told.edges told.rows
+    (told.turns ∙ ap (λ ts. map (turn_of c.into_parts-parts.result.modules.items) ts.items) c.into_turns.ensures)
 
-pub returns-in_err-builder-clause-served : goal.returns-in_err-builder-clause-served
-returns-in_err-builder-clause-served g c = nothing_served _ (g.F.Asks.state c.args.files.now)
+pub returns-in_err-worklist-clause-served : goal.returns-in_err-worklist-clause-served
+returns-in_err-worklist-clause-served g c = nothing_served _ (g.F.Asks.state c.args.files.now)
 
 pub returns-in_err-cache-clause-served : goal.returns-in_err-cache-clause-served
 returns-in_err-cache-clause-served g c = nothing_served _ (g.F.Asks.state c.args.files.now)
@@ -135,4 +140,4 @@ returns-in_err-assemble-clause-device g c = λ name e. absurd (cc (rw e at c.fro
 pub returns-in_err-assemble-clause-refused : goal.returns-in_err-assemble-clause-refused
 returns-in_err-assemble-clause-refused g c =
     none_refused c.from_residual-in_err-assemble.result (g.F.Asks.state c.args.files.now).refused (g.F.Asks.state c.visit_all.new.files).refused
-    c.from_residual-in_err-assemble.ensures.1 (c.in_ok-visit_all.ensures.asks.refused ∙ append-nil _)
+    c.from_residual-in_err-assemble.ensures.1 (c.in_ok-findings.ensures.asks.refused ∙ append-nil _)

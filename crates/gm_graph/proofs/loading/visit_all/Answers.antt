@@ -1,29 +1,36 @@
-use Rattle.std.proofs.Common.{Err, List, ap, arith, refl, subst, sym}
-use Rattle.gm_store.specs.Asked.{Name, Reply}
-use Rattle.gm_graph.specs.Builder.{turns_of}
+use Rattle.std.proofs.Common.{Err, ap, arith, refl, sym}
+use Rattle.gm_graph.specs.Worklists.{turns_of}
 use Rattle.gm_graph.specs.Cached.{main_in, run_in, sums_in, table_in}
-use Rattle.gm_graph.specs.FileLists.{HaveFiles}
 use Rattle.gm_graph.proofs.Dues.{refused_same}
+use Rattle.gm_graph.proofs.FoundFiles.{nothing_found, nothing_visited}
 use Rattle.gm_graph.proofs.InTurn.{asked_in_turn, in_turn_by, many_in_turn, nothing_asked, stepped}
 use Rattle.gm_graph.proofs.Rounds.{few_turns}
 use Rattle.gm_graph.proofs.Stepping.{first_step, last_step, number_here, past_all, turn_below}
 use Rattle.gm_graph.proofs.loading.visit_all.Goals as goal
 
 pub turns-init : goal.turns-init
-turns-init g c = record {
-  state = first_step c.args.cache.now (g.F.Asks.state c.args.files.now).asked c.args.builder.now c.requires.asked c.requires.knows c.requires.lent c.requires.first;
-  asks = nothing_asked (main_in c.args.cache.now) (sums_in c.args.cache.now) _ (g.F.Asks.state c.args.files.now) c.requires.asked;
-  files = subst (λ (pairs : List (Name × Reply)). HaveFiles c.args.cache.now (run_in c.args.cache.now pairs) c.args.builder.now.edges)
-      (sym c.requires.asked) c.requires.files;
-  few = omega (arith, c.requires.none);
-  followed = λ file by. absurd (c.new-followed.ensures file by);
-}
+turns-init g c =
+    let cache = c.args.cache.now in
+    let asked = (g.F.Asks.state c.args.files.now).asked in
+    let places = c.new-findings.ensures.places in
+    let faults = c.new-findings.ensures.faults in
+    record {
+      state = first_step cache asked c.args.worklist.now c.new-findings.result c.requires.asked c.requires.knows c.requires.lent c.requires.first
+          (nothing_visited c.new-findings.result places faults);
+      ready = record {
+        worklist_is = c.requires.first.worklist_is;
+        followed = λ file by. absurd (c.new-followed.ensures file by);
+        found = nothing_found c.new-findings.result places faults cache (run_in cache asked);
+      };
+      asks = nothing_asked (main_in cache) (sums_in cache) _ (g.F.Asks.state c.args.files.now) c.requires.asked;
+      few = omega (arith, c.requires.none);
+    }
 
 pub turns-smaller : goal.turns-smaller
 turns-smaller g c =
     let modules = table_in c.turns.cache in
-    let below = turn_below modules c.turns.builder c.turns.at (omega arith) in
-    let few = few_turns c.turns.invariant.state.builder_is.opened (turns_of modules c.turns.builder) c.turns.invariant.state.builder_is.turns in
+    let below = turn_below modules c.turns.worklist c.turns.at (omega arith) in
+    let few = few_turns c.turns.invariant.state.worklist_is.opened (turns_of modules c.turns.worklist) c.turns.invariant.state.worklist_is.turns in
     omega arith
 
 pub turns-preserved : goal.turns-preserved
@@ -33,14 +40,16 @@ turns-preserved g c =
     let invariant = c.turns.invariant in
     record {
       state = stepped one invariant.state (omega arith) c.index-one.ensures c.in_ok-visit.ensures.asks visited;
+      ready = visited.adds.ready;
       asks = asked_in_turn one invariant.state (omega arith) c.index-one.ensures c.in_ok-visit.ensures.asks invariant.asks;
-      files = visited.adds.files;
       few = omega (arith, invariant.few, visited.count);
-      followed = visited.adds.followed;
     }
 
 pub returns-clause-opened : goal.returns-clause-opened
-returns-clause-opened g c = last_step (main_in c.args.cache.now) (sums_in c.args.cache.now) c.turns.cache (g.F.Asks.state c.turns.files).asked c.turns.builder c.turns.at c.turns.invariant.state (past_all (table_in c.turns.cache) c.turns.builder c.turns.at (omega arith))
+returns-clause-opened g c =
+    last_step (main_in c.args.cache.now) (sums_in c.args.cache.now) c.turns.cache (g.F.Asks.state c.turns.files).asked c.turns.worklist
+    c.turns.findings c.turns.at c.turns.invariant.state c.turns.invariant.ready.found
+    (past_all (table_in c.turns.cache) c.turns.worklist c.turns.at (omega arith))
 
 pub returns-clause-asks : goal.returns-clause-asks
 returns-clause-asks g c = c.turns.invariant.asks
@@ -49,16 +58,12 @@ pub visit-requires : goal.visit-requires
 visit-requires g c =
     let modules = table_in c.turns.cache in
     let state = c.turns.invariant.state in
-    let below = turn_below modules c.turns.builder c.turns.at (omega arith) in
-    let turns = few_turns state.builder_is.opened (turns_of modules c.turns.builder) state.builder_is.turns in
+    let below = turn_below modules c.turns.worklist c.turns.at (omega arith) in
+    let turns = few_turns state.worklist_is.opened (turns_of modules c.turns.worklist) state.worklist_is.turns in
     record {
       knows = state.knows;
-      ready = record {
-        builder_is = state.builder_is;
-        below = number_here modules c.turns.builder c.turns.at c.index-one.result.now state.builder_is (omega arith) c.index-one.ensures;
-        files = c.turns.invariant.files;
-        followed = c.turns.invariant.followed;
-      };
+      ready = c.turns.invariant.ready;
+      below = number_here modules c.turns.worklist c.turns.at c.index-one.result.now state.worklist_is (omega arith) c.index-one.ensures;
       few = omega (arith, c.turns.invariant.few, below, turns);
     }
 

@@ -1,4 +1,4 @@
-use Rattle.std.proofs.Common.{◌≡◌, ◌∙◌, Err, subst, sym}
+use Rattle.std.proofs.Common.{◌≡◌, Err, subst, sym}
 use Rattle.gm_name.specs.ModuleVersion.{ModuleVersion}
 use Rattle.gm_graph.specs.declared.cache.load_fault.LoadFault.TheVariants as load
 use Rattle.gm_graph.specs.declared.cache.visit.Visit.{Visit}
@@ -8,12 +8,11 @@ use Rattle.gm_graph.specs.CacheVisits.{IsVisit, KeepsTurns, LendsOver, table_of}
 use Rattle.gm_graph.specs.Reading.{file_of}
 use Rattle.gm_graph.specs.Run.{Says}
 use Rattle.gm_graph.proofs.AskedFile.{asks_by, has_some, refused_failed}
-use Rattle.gm_graph.proofs.FileLists.{has_its_numbers}
 use Rattle.gm_graph.proofs.FollowedFiles.{has_its_turns}
-use Rattle.gm_graph.proofs.Growing.{builder_over, number_below}
+use Rattle.gm_graph.proofs.FoundFiles.{same_module}
+use Rattle.gm_graph.proofs.Growing.{number_below, worklist_over}
 use Rattle.gm_graph.proofs.Keeping.{never_many}
-use Rattle.gm_graph.proofs.TurnEnds.{got, here_after, ready_after, turn_visited}
-use Rattle.gm_graph.proofs.VisitSteps.{overflows_at}
+use Rattle.gm_graph.proofs.TurnEnds.{got, overflows_at, ready_after, turn_visited}
 use Rattle.gm_graph.proofs.visiting.visit.Goals as goal
 
 -- ---- the vertex has no fault
@@ -23,38 +22,40 @@ add_requirements-requires g c =
     let old = c.args.cache.now in
     let run = run_in old (g.F.Asks.state c.args.files.now).asked in
     let required = c.in-Ok-Required.required in
-    let builder = c.args.builder.now in
     let ready = c.requires.ready in
     let lends = subst (λ (v : Visit). LendsOver old run v) c.in-Ok-Required.field-0-is c.in-Ok-Required.ensures.lends in
     record {
-      builder = builder_over (table_in old) (table_of required) builder ready.builder_is lends.begins lends.distinct;
-      below = number_below (table_in old) (table_of required) c.args.one.number lends.begins ready.below;
-      edges = has_its_numbers old run builder.edges required lends ready.files;
-      followed = has_its_turns old run builder c.args.followed.now required ready.builder_is lends ready.followed;
+      worklist = worklist_over (table_in old) (table_of required) c.args.worklist.now ready.worklist_is lends.begins lends.distinct;
+      followed = has_its_turns old run c.args.worklist.now c.args.followed.now required ready.worklist_is lends ready.followed;
     }
 
 pub returns-in-Ok-Required-clause-visited : goal.returns-in-Ok-Required-clause-visited
 returns-in-Ok-Required-clause-visited g c =
     let old = c.args.cache.now in
+    let end = c.visit.follows.lender-at-none in
     let earlier = (g.F.Asks.state c.args.files.now).asked in
     let pairs = (g.F.Asks.state c.visit.new.files).asked in
     let one = c.args.one in
-    let has = got old c.visit.follows.lender-at-none earlier pairs one.number one.depth c.in-Ok-Required.is c.in-Ok-Required.field-0-is c.visit.follows.holds-at-none in
-    let ready = ready_after old c.visit.follows.lender-at-none earlier pairs c.args.builder.now c.args.followed.now one c.requires.ready in
-    let here = here_after old c.visit.follows.lender-at-none earlier pairs c.args.builder.now c.args.followed.now one c.requires.ready has in
-    turn_visited old _ earlier pairs c.args.builder.now c.add_requirements.new.builder c.add_requirements.new.followed one c.add_requirements.result has
-    (c.add_requirements.ensures.adds _ (run_in c.visit.follows.lender-at-none pairs) (ready has)
-    (subst (λ (x : ModuleVersion). IsVisit c.visit.follows.lender-at-none (run_in c.visit.follows.lender-at-none pairs) x one.depth (visit.Required c.in-Ok-Required.required)) here has.visit_is))
+    let has = got old end earlier pairs one.number one.depth c.in-Ok-Required.is c.in-Ok-Required.field-0-is c.visit.follows.holds-at-none in
+    let here = same_module old end one.number has.continues c.requires.below in
+    turn_visited old end earlier pairs c.args.worklist.now c.add_requirements.new.worklist c.add_requirements.new.followed
+    c.args.findings.now c.add_requirements.new.findings one c.add_requirements.result has
+    (c.add_requirements.ensures.adds end (run_in end pairs)
+    (ready_after old end earlier pairs c.args.worklist.now c.args.followed.now c.args.findings.now one c.requires.ready has)
+    (number_below (table_in old) (table_in end) one.number has.continues.numbered c.requires.below)
+    (subst (λ (x : ModuleVersion). IsVisit end (run_in end pairs) x one.depth (visit.Required c.in-Ok-Required.required)) here has.visit_is))
 
 pub returns-in-Ok-Required-clause-too_many : goal.returns-in-Ok-Required-clause-too_many
 returns-in-Ok-Required-clause-too_many g c = λ e.
     let old = c.args.cache.now in
+    let end = c.visit.follows.lender-at-none in
     let earlier = (g.F.Asks.state c.args.files.now).asked in
     let pairs = (g.F.Asks.state c.visit.new.files).asked in
     let one = c.args.one in
-    let has = got old c.visit.follows.lender-at-none earlier pairs one.number one.depth c.in-Ok-Required.is c.in-Ok-Required.field-0-is c.visit.follows.holds-at-none in
+    let has = got old end earlier pairs one.number one.depth c.in-Ok-Required.is c.in-Ok-Required.field-0-is c.visit.follows.holds-at-none in
     let many = c.add_requirements.ensures.too_many e in
-    overflows_at old _ c.args.builder.now one has.continues c.requires.ready.builder_is earlier pairs c.in-Ok-Required.required has many.0 many.1
+    overflows_at old end earlier pairs c.args.worklist.now c.args.followed.now c.args.findings.now one c.requires.ready
+    c.in-Ok-Required.required has many.0 many.1
 
 pub returns-in-Ok-Required-clause-asks : goal.returns-in-Ok-Required-clause-asks
 returns-in-Ok-Required-clause-asks g c = asks_by (sym c.add_requirements.ensures.not_refused) c.in-Ok-Required.ensures.asks
@@ -64,15 +65,18 @@ returns-in-Ok-Required-clause-asks g c = asks_by (sym c.add_requirements.ensures
 pub returns-in-Ok-Fault-clause-visited : goal.returns-in-Ok-Fault-clause-visited
 returns-in-Ok-Fault-clause-visited g c =
     let old = c.args.cache.now in
+    let end = c.visit.follows.lender-at-none in
     let earlier = (g.F.Asks.state c.args.files.now).asked in
     let pairs = (g.F.Asks.state c.visit.new.files).asked in
     let one = c.args.one in
-    let has = got old c.visit.follows.lender-at-none earlier pairs one.number one.depth c.in-Ok-Fault.is c.in-Ok-Fault.field-0-is c.visit.follows.holds-at-none in
-    let ready = ready_after old c.visit.follows.lender-at-none earlier pairs c.args.builder.now c.args.followed.now one c.requires.ready in
-    let here = here_after old c.visit.follows.lender-at-none earlier pairs c.args.builder.now c.args.followed.now one c.requires.ready has in
-    turn_visited old _ earlier pairs c.args.builder.now c.add_fault.new.builder c.args.followed.now one c.add_fault.result has
-    (c.add_fault.ensures.adds _ (run_in c.visit.follows.lender-at-none pairs) c.args.followed.now (ready has) (has.visit_is.0 ∙ here)
-    (subst (λ (x : ModuleVersion). Says (run_in c.visit.follows.lender-at-none pairs) x (Err c.in-Ok-Fault.class)) here has.visit_is.1))
+    let has = got old end earlier pairs one.number one.depth c.in-Ok-Fault.is c.in-Ok-Fault.field-0-is c.visit.follows.holds-at-none in
+    let here = same_module old end one.number has.continues c.requires.below in
+    turn_visited old end earlier pairs c.args.worklist.now c.args.worklist.now c.args.followed.now c.args.findings.now
+    c.add_fault.new.findings one c.add_fault.result has
+    (c.add_fault.ensures.adds end (run_in end pairs) c.args.worklist.now c.args.followed.now
+    (ready_after old end earlier pairs c.args.worklist.now c.args.followed.now c.args.findings.now one c.requires.ready has)
+    (number_below (table_in old) (table_in end) one.number has.continues.numbered c.requires.below)
+    (subst (λ (x : ModuleVersion). Says (run_in end pairs) x (Err c.in-Ok-Fault.class)) here has.visit_is))
 
 pub returns-in-Ok-Fault-clause-too_many : goal.returns-in-Ok-Fault-clause-too_many
 returns-in-Ok-Fault-clause-too_many g c = λ e. absurd (c.add_fault.ensures.not_too_many e)

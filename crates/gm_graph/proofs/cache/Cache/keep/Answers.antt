@@ -4,7 +4,20 @@ use Rattle.gm_graph.specs.Cached.{main_in, module_numbered, sums_in, table_in}
 use Rattle.gm_graph.proofs.OwnFiles.{added_there, has_file, if_ok_both, on_err_weaker}
 use Rattle.gm_graph.proofs.HeldFiles.{added_some}
 use Rattle.gm_graph.proofs.Keeping.{holds_listed}
+use Rattle.gm_graph.proofs.Ordered.{begins_added, one_more, order_added}
 use Rattle.gm_graph.proofs.cache.Cache.keep.Goals as goal
+
+pub invariant_of-self-clause-in_order : goal.invariant_of-self-clause-in_order
+invariant_of-self-clause-in_order c =
+    let cache = c.args.self.now in
+    order_added cache.files.files.items c.add.new.self.files.items c.args.kept c.add.ensures.files cache.first
+    (length cache.modules.numbers) cache.in_order c.requires.order
+
+pub returns-clause-count : goal.returns-clause-count
+returns-clause-count c = one_more c.args.self.now.files.files.items c.add.new.self.files.items c.args.kept c.add.ensures.files
+
+pub returns-clause-files : goal.returns-clause-files
+returns-clause-files c = begins_added c.args.self.now.files.files.items c.add.new.self.files.items c.args.kept c.add.ensures.files
 
 pub invariant_of-self-clause-places_within : goal.invariant_of-self-clause-places_within
 invariant_of-self-clause-places_within c =
@@ -23,7 +36,7 @@ invariant_of-self-clause-notes c =
 
 pub returns-clause-err : goal.returns-clause-err
 returns-clause-err c =
-    on_err_weaker c.add.result (λ keeps. holds_listed c.args.self.now _ refl refl keeps c.add.ensures.files refl) c.add.ensures.err
+    on_err_weaker c.add.result (λ keeps. holds_listed c.args.self.now _ refl refl keeps (begins_added c.args.self.now.files.files.items c.add.new.self.files.items c.args.kept c.add.ensures.files) refl) c.add.ensures.err
 
 pub returns-clause-place : goal.returns-clause-place
 returns-clause-place c =

@@ -1,8 +1,9 @@
-use Rattle.std.proofs.Common.{◌∙◌, ap, sym}
+use Rattle.std.proofs.Common.{◌∙◌, List, ap, arith, length, subst, sym}
 use Rattle.std.specs.Option.{option_copied, option_map}
 use Rattle.gm_name_table.specs.Listed.{modules_of}
 use Rattle.gm_file.specs.Main.{main_of}
-use Rattle.gm_graph.specs.Summaries.{summary_reading}
+use Rattle.gm_graph.specs.declared.cache.summary.Kept.{Kept}
+use Rattle.gm_graph.specs.Summaries.{AreInOrder, summary_reading}
 use Rattle.gm_graph.proofs.HeldFiles.{none_some}
 use Rattle.gm_graph.proofs.cache.Cache.new.Goals as goal
 
@@ -12,6 +13,12 @@ invariant_of-result-clause-holds_some c =
 
 pub invariant_of-result-clause-notes : goal.invariant_of-result-clause-notes
 invariant_of-result-clause-notes c = c.in_ok-files.ensures.notes c.in_ok-modules.modules.modules
+
+pub invariant_of-result-clause-in_order : goal.invariant_of-result-clause-in_order
+invariant_of-result-clause-in_order c =
+    let count = length c.in_ok-modules.modules.numbers in
+    subst (λ (files : List Kept). AreInOrder c.len-first.result files count) (sym c.in_ok-files.ensures.files)
+    (omega (arith, c.len-first.ensures.len))
 
 pub returns-clause-knows : goal.returns-clause-knows
 returns-clause-knows c =

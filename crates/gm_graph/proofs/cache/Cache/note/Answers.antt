@@ -1,10 +1,11 @@
-use Rattle.std.proofs.Common.{◌∙◌, [], Global, List, Vec, ap, append-nil, length, refl, sym}
+use Rattle.std.proofs.Common.{◌∙◌, [], Global, List, Vec, ap, append-nil, length, refl, subst, sym}
 use Rattle.gm_name.specs.declared.place.OptionalPlace.{OptionalPlace}
 use Rattle.gm_store.specs.Asked.{Name}
 use Rattle.gm_graph.specs.declared.cache.summary.Kept.{Kept}
 use Rattle.gm_graph.specs.Cached.{main_in, module_numbered, sums_in, table_in}
 use Rattle.gm_graph.specs.Places.{place_among}
 use Rattle.gm_graph.specs.Reading.{file_of}
+use Rattle.gm_graph.specs.Summaries.{AreInOrder}
 use Rattle.gm_graph.proofs.HeldFiles.{kept_some}
 use Rattle.gm_graph.proofs.Keeping.{holds_listed}
 use Rattle.gm_graph.proofs.OwnFiles.{has_placed, noted_again, replacing_at}
@@ -20,6 +21,12 @@ note-requires c =
 pub invariant_of-self-clause-places_within : goal.invariant_of-self-clause-places_within
 invariant_of-self-clause-places_within c =
     c.note.ensures.within (length (table_in c.args.self.now)) c.requires.vertex c.args.self.now.places_within
+
+pub invariant_of-self-clause-in_order : goal.invariant_of-self-clause-in_order
+invariant_of-self-clause-in_order c =
+    let cache = c.args.self.now in
+    subst (λ (files : Vec Kept Global). AreInOrder cache.first files.items (length cache.modules.numbers))
+    (sym c.note.ensures.others.files) cache.in_order
 
 pub invariant_of-self-clause-notes : goal.invariant_of-self-clause-notes
 invariant_of-self-clause-notes c =

@@ -1,4 +1,4 @@
-use Rattle.std.proofs.Common.{◌≡◌, Some, [], refl}
+use Rattle.std.proofs.Common.{◌≡◌, ℕ, List, Some, [], length, refl, subst, sym}
 use Rattle.std.specs.Prelude.{slice_get}
 use Rattle.std.proofs.lemmas.Option.{get_or_from_slice_get}
 use Rattle.std.proofs.lemmas.Result.{IfOk-weaker}
@@ -7,7 +7,13 @@ use Rattle.gm_graph.specs.Cached.{main_in, sums_in, table_in}
 use Rattle.gm_graph.proofs.HeldFiles.{grown_some, numbered_more}
 use Rattle.gm_graph.proofs.Keeping.{holds_grown}
 use Rattle.gm_graph.proofs.PuttingPlaces.{notes_if_more}
+use Rattle.gm_graph.specs.Summaries.{AreInOrder}
 use Rattle.gm_graph.proofs.cache.Cache.number.Goals as goal
+
+pub invariant_of-self-clause-in_order : goal.invariant_of-self-clause-in_order
+invariant_of-self-clause-in_order c =
+    let old = c.args.self.now in
+    subst (λ (numbers : List ℕ). AreInOrder old.first old.files.files.items (length numbers)) (sym c.number.ensures.numbers) old.in_order
 
 pub returns-clause-module : goal.returns-clause-module
 returns-clause-module c =

@@ -1,4 +1,4 @@
-use Rattle.std.proofs.Common.{◌≡◌, Ok, Err, refl, subst}
+use Rattle.std.proofs.Common.{◌≡◌, Ok, Err, ap, arith, length, length-append, refl, subst}
 use Rattle.gm_name_table.specs.Listed.{modules_of}
 use Rattle.gm_store.specs.Asked.{Reply, name_of, reply_of}
 use Rattle.gm_graph.specs.Cached.{main_in, sums_in, table_in}
@@ -8,6 +8,7 @@ use Rattle.gm_graph.proofs.AskedFile.{asked_one, asks_passed, asks_still}
 use Rattle.gm_graph.proofs.HeldFiles.{grown_some}
 use Rattle.gm_graph.proofs.Keeping.{holds_grown, holds_itself}
 use Rattle.gm_graph.proofs.PuttingPlaces.{notes_if_more}
+use Rattle.gm_graph.proofs.Ordered.{order_longer, order_push}
 use Rattle.gm_graph.proofs.cache.Cache.read_file.Goals as goal
 
 pub invariant_of-self-clause-holds_some : goal.invariant_of-self-clause-holds_some
@@ -23,6 +24,18 @@ returns-in_err-kept-clause-holds g c = holds_grown c.args.self.now _ refl refl r
 
 pub returns-clause-holds : goal.returns-clause-holds
 returns-clause-holds g c = holds_grown c.args.self.now _ refl refl refl c.summarize.ensures.grows c.requires.lends
+
+pub invariant_of-self-clause-in_order : goal.invariant_of-self-clause-in_order
+invariant_of-self-clause-in_order g c =
+    let old = c.args.self.now in
+    let kept = c.summarize.ensures.grows.1.kept in
+    order_longer old.first old.files.files.items (length old.modules.numbers) _
+    (omega (arith, ap length kept.1, length-append old.modules.numbers kept.0)) old.in_order
+
+pub returns-clause-order : goal.returns-clause-order
+returns-clause-order g c =
+    let old = c.args.self.now in
+    order_push old.first old.files.files.items (length old.modules.numbers) c.in_ok-kept.kept _ old.in_order c.in_ok-kept.ensures.order
 
 pub invariant_of-self-clause-notes : goal.invariant_of-self-clause-notes
 invariant_of-self-clause-notes g c =

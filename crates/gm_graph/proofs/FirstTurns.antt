@@ -1,0 +1,43 @@
+-- The worklist that loading starts with: nothing but turns of what the main module requires.
+use Rattle.std.proofs.Common.{◌≡◌, [], List, ap, map, subst}
+use Rattle.gm_name.specs.ModuleVersion.{ModuleVersion}
+use Rattle.gm_graph.specs.declared.cache.depth.Depth.{Depth}
+use Rattle.gm_graph.specs.declared.cache.depth.Turn.{Turn}
+use Rattle.gm_file.specs.Main.{Main, is_pruned_by, without_excluded}
+use Rattle.gm_graph.specs.declared.worklist.NumberedTurn.{NumberedTurn}
+use Rattle.gm_graph.specs.declared.worklist.Worklist.{Worklist}
+use Rattle.gm_graph.specs.Worklists.{IsWorklist, turn_of, turns_of}
+use Rattle.gm_graph.specs.Run.{Run}
+use Rattle.gm_graph.specs.Turns.{AddsAll, OverflowsWith, depth_by}
+use Rattle.gm_graph.specs.Visiting.{IsFirstWorklist}
+use Rattle.gm_graph.proofs.Rounds.{first_turns_are}
+
+-- the vertices that the main file requires
+abbrev pub required_in : Main → List ModuleVersion
+required_in main = without_excluded main main.requirements
+
+-- A worklist with nothing in it, and these vertices, which are those that the main file requires.
+module _ (run : Run) (modules xs : List ModuleVersion) (none : Worklist) (no_turns : none.turns.items ≡ [])
+    (are : xs ≡ required_in run.main) where
+  none_turned : turns_of modules none ≡ []
+  none_turned = ap (λ (ts : List NumberedTurn). map (turn_of modules) ts) no_turns
+
+  -- They are too many.
+  pub too_many_first : OverflowsWith (turns_of modules none) xs → OverflowsWith [] (required_in run.main)
+  too_many_first over =
+      subst (λ (ts : List Turn). OverflowsWith ts (required_in run.main)) none_turned
+      (subst (λ (ys : List ModuleVersion). OverflowsWith (turns_of modules none) ys) are over)
+
+  -- Their turns were added.
+  pub is_first : (made : Worklist) (depth : Depth) → depth ≡ depth_by (is_pruned_by run.main.go)
+      → AddsAll (turns_of modules none) (turns_of modules made) xs depth → IsWorklist modules made
+      → IsFirstWorklist run modules made
+  is_first made depth by adds worklist =
+      let old = turns_of modules none in
+      let new = turns_of modules made in
+      record {
+        worklist_is = worklist;
+        turns = first_turns_are run old new none_turned
+            (subst (λ (d : Depth). AddsAll old new (required_in run.main) d) by
+            (subst (λ (ys : List ModuleVersion). AddsAll old new ys depth) are adds));
+      }

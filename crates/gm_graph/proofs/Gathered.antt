@@ -1,0 +1,345 @@
+-- What was found, as sources and as the spans of lists.
+use Rattle.std.proofs.Common.{◌≡◌, ◌∙◌, ◌≤◌, ◌<◌, ◌+◌, ◌-◌, ◌||◌, ◌++◌, ◌∷◌, [], ℕ, zero, suc, Bool, true, false, List, Option, None, Some, All, Contains, ap, append_assoc, arith, drop, get_or, inl, inr, length, map, refl, subst, sym}
+use Rattle.std.specs.Prelude.{◌==◌, slice_get}
+use Rattle.std.specs.List.{AllByRecursion, IsDistinct, between}
+use Rattle.std.proofs.Math.Seq.{drop-cons}
+use Rattle.std.proofs.lemmas.Bool.{cases_Bool, eq-eqb, eqb-true, false≢true, or_cases}
+use Rattle.std.proofs.lemmas.List.{get_or_default}
+use Rattle.std.proofs.lemmas.List.Edits.{between_none}
+use Rattle.std.proofs.lemmas.List.Elements.{All-drop, All-map, All-take}
+use Rattle.std.proofs.lemmas.Map.Keys.{apart_from_distinct}
+use Rattle.std.proofs.lemmas.Option.{same_Some}
+use Rattle.gm_name.specs.ModuleVersion.{ModuleVersion, module_at, pair_eq, pair_ties}
+use Rattle.gm_name_table.specs.Listed.{AreModuleNumbers}
+use Rattle.gm_graph.specs.declared.cache.parts.CacheParts.{CacheParts}
+use Rattle.gm_graph.specs.declared.cache.summary.Kept.{Kept}
+use Rattle.gm_graph.specs.declared.cache.summary.Kept.TheVariants.{Valid, Faulty}
+use Rattle.gm_graph.specs.declared.cache.summary.Summary.{Summary}
+use Rattle.gm_graph.specs.Findings.{place_at}
+use Rattle.gm_graph.specs.Gathering.{AreFilePlaces, has_file, sources_from, sources_of, span_after, spans_from, spans_of, steps_by}
+use Rattle.gm_graph.specs.Summaries.{AreInOrder}
+use Rattle.gm_graph_select.specs.declared.adjacency.Source.{Source}
+use Rattle.gm_graph_select.specs.declared.number_lists.Span.{Span}
+use Rattle.gm_graph_select.specs.Adjacency.{AreUsed, HaveNumbers, IsBelow, IsNumbered, StepEdges, by_step, left_by, list_at, same_step, step_edges}
+use Rattle.gm_graph_select.specs.Spans.{AreApart, lists_at, part_at}
+use Rattle.gm_graph_select.specs.declared.step.Step.TheVariants.{Main, Of}
+use Rattle.gm_graph_select.specs.StepOrder.{step_eq}
+use Rattle.gm_graph.proofs.Ordered.{order_from}
+
+-- ---- the sources
+
+-- the source that the vertex with a number is, whose file is at a place
+abbrev pub file_source : ℕ → ℕ → Source
+file_source number place = record { from = Some number; list = place + 1 }
+
+-- Each vertex that has a file is a source.
+pub source_there : (number : ℕ) (places : List (Option ℕ)) (k place at : ℕ) → place_at places k ≡ Some place → at ≡ number + k
+    → Contains (sources_from number places) (file_source at place)
+source_there number [] k place at e is = absurd (cc e)
+source_there number (None ∷ places) zero place at e is = absurd (cc e)
+source_there number (Some other ∷ places) zero place at e is =
+    let same : number ≡ at = omega (arith, is) in (
+      0,
+      omega arith,
+      ap (λ (n : ℕ). file_source n other) same ∙ ap (λ (p : ℕ). file_source at p) (same_Some other place e),
+    )
+source_there number (None ∷ places) (suc k) place at e is = source_there (suc number) places k place at e (omega (arith, is))
+source_there number (Some other ∷ places) (suc k) place at e is =
+    let there = source_there (suc number) places k place at e (omega (arith, is)) in
+    (suc there.0, omega (arith, there.1), there.2)
+
+-- Each source but the main module is a vertex that has a file.
+pub source_from : (number : ℕ) (places : List (Option ℕ)) (one : Source) → Contains (sources_from number places) one
+    → (k : ℕ) × (place : ℕ) × (place_at places k ≡ Some place) × (one ≡ file_source (number + k) place)
+source_from number [] one h = absurd (omega (arith, h.1))
+source_from number (None ∷ places) one h =
+    let (k, place, e, is) = source_from (suc number) places one h in
+    let same : suc number + k ≡ number + suc k = omega arith in
+    (suc k, place, e, is ∙ ap (λ (n : ℕ). file_source n place) same)
+source_from number (Some other ∷ places) one (zero, below, at) =
+    let same : number ≡ number + 0 = omega arith in
+    (0, other, refl, sym at ∙ ap (λ (n : ℕ). file_source n other) same)
+source_from number (Some other ∷ places) one (suc i, below, at) =
+    let (k, place, e, is) = source_from (suc number) places one (i, omega (arith, below), at) in
+    let same : suc number + k ≡ number + suc k = omega arith in
+    (suc k, place, e, is ∙ ap (λ (n : ℕ). file_source n place) same)
+
+pub source_is : (places : List (Option ℕ)) (one : Source) → Contains (sources_from 0 places) one
+    → (k : ℕ) × (place : ℕ) × (place_at places k ≡ Some place) × (one ≡ file_source k place)
+source_is places one h =
+    let (k, place, e, is) = source_from 0 places one h in
+    let same : 0 + k ≡ k = omega arith in
+    (k, place, e, is ∙ ap (λ (n : ℕ). file_source n place) same)
+
+-- ---- no step is twice a source
+
+module _ (modules : List ModuleVersion) (distinct : IsDistinct pair_eq modules) (lists : List (List ℕ)) where
+  differ : (lower number : ℕ) → lower < number → number < length modules
+      → step_eq (Of (module_at modules lower)) (Of (module_at modules number)) ≡ false
+  differ lower number lt below = sym (pair_ties (module_at modules lower) (module_at modules number))
+      ∙ apart_from_distinct pair_eq modules lower number ([], []) distinct lt below
+
+  later_differ : (lower number : ℕ) (places : List (Option ℕ)) → lower < number
+      → ((k place : ℕ) → place_at places k ≡ Some place → number + k < length modules)
+      → AllByRecursion (λ (s : StepEdges). step_eq (Of (module_at modules lower)) (left_by modules s) ≡ false)
+      (by_step lists (sources_from number places))
+  later_differ lower number [] lt below = tt
+  later_differ lower number (None ∷ places) lt below =
+      later_differ lower (suc number) places (omega (arith, lt)) (λ k place e. omega (arith, below (suc k) place e))
+  later_differ lower number (Some other ∷ places) lt below = (
+    differ lower number lt (omega (arith, below 0 other refl)),
+    later_differ lower (suc number) places (omega (arith, lt)) (λ k place e. omega (arith, below (suc k) place e)),
+  )
+
+  main_differs : (number : ℕ) (places : List (Option ℕ))
+      → AllByRecursion (λ (s : StepEdges). step_eq Main (left_by modules s) ≡ false) (by_step lists (sources_from number places))
+  main_differs number [] = tt
+  main_differs number (None ∷ places) = main_differs (suc number) places
+  main_differs number (Some other ∷ places) = (refl, main_differs (suc number) places)
+
+  once_from : (number : ℕ) (places : List (Option ℕ))
+      → ((k place : ℕ) → place_at places k ≡ Some place → number + k < length modules)
+      → IsDistinct (same_step modules) (by_step lists (sources_from number places))
+  unfolding IsDistinct
+  once_from number [] below = tt
+  once_from number (None ∷ places) below = once_from (suc number) places (λ k place e. omega (arith, below (suc k) place e))
+  once_from number (Some other ∷ places) below = (
+    later_differ number (suc number) places (omega arith) (λ k place e. omega (arith, below (suc k) place e)),
+    once_from (suc number) places (λ k place e. omega (arith, below (suc k) place e)),
+  )
+
+  pub sources_once : (places : List (Option ℕ)) → ((k place : ℕ) → place_at places k ≡ Some place → k < length modules)
+      → IsDistinct (same_step modules) (by_step lists (sources_of places))
+  unfolding IsDistinct
+  sources_once places below = (main_differs 0 places, once_from 0 places (λ k place e. omega (arith, below k place e)))
+
+-- ---- the spans
+
+past_end : (files : List Kept) (k : ℕ) → slice_get files k ≡ None → length files ≤ k
+past_end [] k e = omega arith
+past_end (file ∷ files) zero e = absurd (cc e)
+past_end (file ∷ files) (suc k) e = omega (arith, past_end files k e)
+
+pub spans_apart : (used : ℕ → Bool) (place from : ℕ) (files : List Kept) (to : ℕ) → AreInOrder from files to
+    → AreApart from (spans_from used place from files) to
+spans_apart used place from [] to are = are
+spans_apart used place from (Faulty class ∷ files) to are =
+    elim (used place) as (λ b. AreApart from (span_after from b (Faulty class)
+    ∷ spans_from used (suc place) (span_after from b (Faulty class)).end files) to) [
+      | true ↦ (omega arith, omega arith, spans_apart used (suc place) from files to are)
+      | false ↦ (omega arith, omega arith, spans_apart used (suc place) from files to are)
+    ]
+spans_apart used place from (Valid summary ∷ files) to are =
+    elim (used place) as (λ b. AreApart from (span_after from b (Valid summary)
+    ∷ spans_from used (suc place) (span_after from b (Valid summary)).end files) to) [
+      | true ↦ (are.0, are.1, spans_apart used (suc place) summary.kept.end files to are.2)
+      | false ↦ (
+        omega arith,
+        omega arith,
+        spans_apart used (suc place) from files to
+            (order_from from summary.kept.end files to (omega (arith, are.0, are.1)) are.2),
+      )
+    ]
+
+-- The files from a place on are the one there, and those after it.
+pub from_place : (files : List Kept) (k : ℕ) (one : Kept) → k < length files → one ≡ get_or files k one
+    → drop k files ≡ one ∷ drop (k + 1) files
+from_place files k one below is =
+    let next : suc k ≡ k + 1 = omega arith in
+    drop-cons files k one below ∙ ap (λ (f : Kept). f ∷ drop (suc k) files) (sym is) ∙ ap (λ (n : ℕ). one ∷ drop n files) next
+
+-- one span more
+pub span_more : (used : ℕ → Bool) (place next end : ℕ) (span : Span) (one : Kept) (b : Bool) (files rest : List Kept) (old new whole : List Span)
+    → next ≡ suc place → b ≡ used place → span ≡ span_after end b one → files ≡ one ∷ rest → new ≡ old ++ span ∷ []
+    → old ++ spans_from used place end files ≡ whole → new ++ spans_from used next span.end rest ≡ whole
+span_more used place next end span one b files rest old new whole following same is at pushed held =
+    let here = span_after end (used place) one in
+    let span_is : span ≡ here = is ∙ ap (λ (c : Bool). span_after end c one) same in
+    ap (λ (spans : List Span). spans ++ spans_from used next span.end rest) pushed
+    ∙ append_assoc old (span ∷ []) (spans_from used next span.end rest)
+    ∙ ap (λ (s : Span). old ++ s ∷ spans_from used next s.end rest) span_is
+    ∙ ap (λ (n : ℕ). old ++ here ∷ spans_from used n here.end rest) following
+    ∙ ap (λ (fs : List Kept). old ++ spans_from used place end fs) (sym at)
+    ∙ held
+
+pub spans_same : (used other : ℕ → Bool) → ((place : ℕ) → used place ≡ other place) → (place from : ℕ) (files : List Kept)
+    → spans_from used place from files ≡ spans_from other place from files
+spans_same used other same place from [] = refl
+spans_same used other same place from (kept ∷ files) =
+    ap (λ (b : Bool). span_after from b kept ∷ spans_from used (suc place) (span_after from b kept).end files) (same place)
+    ∙ ap (λ (rest : List Span). span_after from (other place) kept ∷ rest)
+    (spans_same used other same (suc place) (span_after from (other place) kept).end files)
+
+module _ (numbers : List ℕ) (used : ℕ → Bool) where
+  -- the list of a file, which has a span behind some place
+  list_of : (place from : ℕ) (files : List Kept) (k at : ℕ) (kept : Kept) → at ≡ place + k → slice_get files k ≡ Some kept
+      → (end : ℕ) × (list_at (lists_at numbers (spans_from used place from files)) k
+      ≡ part_at numbers (span_after end (used at) kept))
+  list_of place from [] k at kept is there = absurd (cc there)
+  list_of place from (file ∷ files) zero at kept is there =
+      let same : place ≡ at = omega (arith, is) in (
+        from,
+        ap (λ (p : ℕ). part_at numbers (span_after from (used p) file)) same
+            ∙ ap (λ (f : Kept). part_at numbers (span_after from (used at) f)) (same_Some file kept there),
+      )
+  list_of place from (file ∷ files) (suc k) at kept is there =
+      list_of (suc place) (span_after from (used place) file).end files k at kept (omega (arith, is)) there
+
+  -- There is nothing in a list past the end.
+  past_lists : (place from : ℕ) (files : List Kept) (k : ℕ) → length files ≤ k
+      → list_at (lists_at numbers (spans_from used place from files)) k ≡ []
+  past_lists place from [] k past = refl
+  past_lists place from (file ∷ files) zero past = absurd (omega (arith, past))
+  past_lists place from (file ∷ files) (suc k) past =
+      past_lists (suc place) (span_after from (used place) file).end files k (omega (arith, past))
+
+  unused_part : (end : ℕ) (b : Bool) (kept : Kept) → b ≡ false → part_at numbers (span_after end b kept) ≡ []
+  unused_part end true kept e = absurd (false≢true (sym e))
+  unused_part end false kept e = between_none numbers end
+
+  -- If the list of a file is not empty, the file is used.
+  pub list_used : (from : ℕ) (files : List Kept) (k : ℕ)
+      → (list_at (lists_at numbers (spans_from used 0 from files)) k ≡ [] → ⊥) → used k ≡ true
+  list_used from files k some = elim (cases_Bool (used k)) [
+    | inl is ↦ is
+    | inr is_not ↦ absurd (some (by_file (slice_get files k) refl is_not))
+  ]
+    where
+      by_file : (o : Option Kept) → slice_get files k ≡ o → used k ≡ false
+          → list_at (lists_at numbers (spans_from used 0 from files)) k ≡ []
+      by_file None none not_used = past_lists 0 from files k (past_end files k none)
+      by_file (Some kept) there not_used =
+          let (end, is) = list_of 0 from files k k kept (omega arith) there in
+          is ∙ unused_part end (used k) kept not_used
+
+  used_part : (end : ℕ) (b : Bool) (summary : Summary) → b ≡ true
+      → part_at numbers (span_after end b (Valid summary)) ≡ between summary.kept.start summary.kept.end numbers
+  used_part end true summary e = refl
+  used_part end false summary e = absurd (false≢true e)
+
+  -- The list of a valid file that is used has the numbers of its requirements.
+  pub used_list : (from : ℕ) (files : List Kept) (k : ℕ) (summary : Summary) → used k ≡ true
+      → slice_get files k ≡ Some (Valid summary)
+      → list_at (lists_at numbers (spans_from used 0 from files)) k ≡ between summary.kept.start summary.kept.end numbers
+  used_list from files k summary is there =
+      let (end, list) = list_of 0 from files k k (Valid summary) (omega arith) there in
+      list ∙ used_part end (used k) summary is
+
+  faulty_part : (end : ℕ) (b : Bool) (kept : Kept) → ((summary : Summary) → kept ≡ Valid summary → ⊥)
+      → part_at numbers (span_after end b kept) ≡ []
+  faulty_part end true (Valid summary) not_valid = absurd (not_valid summary refl)
+  faulty_part end true (Faulty class) not_valid = between_none numbers end
+  faulty_part end false kept not_valid = between_none numbers end
+
+  -- That of a file with a fault is empty.
+  pub faulty_list : (from : ℕ) (files : List Kept) (k : ℕ) (kept : Kept) → slice_get files k ≡ Some kept
+      → ((summary : Summary) → kept ≡ Valid summary → ⊥)
+      → list_at (lists_at numbers (spans_from used 0 from files)) k ≡ []
+  faulty_list from files k kept there not_valid =
+      let (end, list) = list_of 0 from files k k kept (omega arith) there in
+      list ∙ faulty_part end (used k) kept not_valid
+
+-- ---- files that vertices have
+
+-- A vertex has the file at a place exactly if the place is noted.
+pub has_noted : (places : List (Option ℕ)) (place : ℕ) → has_file places place ≡ true
+    → (k : ℕ) × (place_at places k ≡ Some place)
+has_noted [] place e = absurd (false≢true e)
+has_noted (None ∷ places) place e = let (k, there) = has_noted places place e in (suc k, there)
+has_noted (Some other ∷ places) place e = elim (or_cases (place == other) (has_file places place) e) [
+  | inl same ↦ (0, ap Some (sym (eqb-true place other same)))
+  | inr rest ↦ (let (k, there) = has_noted places place rest in (suc k, there))
+]
+
+pub noted_has : (places : List (Option ℕ)) (k place : ℕ) → place_at places k ≡ Some place → has_file places place ≡ true
+noted_has [] k place e = absurd (cc e)
+noted_has (None ∷ places) zero place e = absurd (cc e)
+noted_has (None ∷ places) (suc k) place e = noted_has places k place e
+noted_has (Some other ∷ places) zero place e =
+    ap (λ (b : Bool). b || has_file places place) (eq-eqb place other (sym (same_Some other place e)))
+noted_has (Some other ∷ places) (suc k) place e = later (place == other) (noted_has places k place e)
+  where
+    later : (b : Bool) → has_file places place ≡ true → (b || has_file places place) ≡ true
+    later true has = refl
+    later false has = has
+
+-- ---- a graph of these parts
+
+-- its lists: that of the main file is the first, and those of the files follow
+abbrev pub lists_by : CacheParts → List (Option ℕ) → List (List ℕ)
+lists_by parts places = lists_at parts.numbers.items (spans_of parts.first parts.files.items (has_file places))
+
+module _ (parts : CacheParts) (places : List (Option ℕ)) (are : AreFilePlaces parts places) where
+  abbrev lists : List (List ℕ)
+  lists = lists_by parts places
+
+  pub lists_apart : AreApart 0 (spans_of parts.first parts.files.items (has_file places)) (length parts.numbers.items)
+  lists_apart = (omega arith, omega arith, spans_apart (has_file places) 0 parts.first parts.files.items (length parts.numbers.items) parts.in_order)
+
+  pub steps_once : IsDistinct (same_step parts.modules.items) (steps_by parts places)
+  steps_once = sources_once parts.modules.items parts.distinct lists places (λ k place e. (are k place e).0)
+
+  pub lists_used : AreUsed lists (sources_of places)
+  lists_used zero some = (record { from = None; list = 0 }, (0, omega arith, refl), refl)
+  lists_used (suc place) some =
+      let (k, there) = has_noted places place (list_used parts.numbers.items (has_file places) parts.first parts.files.items place some) in
+      let source = source_there 0 places k place k there (omega arith) in
+      (file_source k place, (suc source.0, omega (arith, source.1), source.2), omega arith)
+
+  -- ---- numbers
+
+  part_below : (span : Span) → AreModuleNumbers parts.modules.items (part_at parts.numbers.items span)
+  part_below span = All-take (λ (n : ℕ). n < length parts.modules.items) (span.end - span.start) _
+      (All-drop (λ (n : ℕ). n < length parts.modules.items) span.start parts.numbers.items parts.below)
+
+  list_below : (spans : List Span) (place : ℕ)
+      → AreModuleNumbers parts.modules.items (list_at (lists_at parts.numbers.items spans) place)
+  list_below [] place = λ k d below. absurd (omega (arith, below))
+  list_below (span ∷ spans) zero = part_below span
+  list_below (span ∷ spans) (suc place) = list_below spans place
+
+  from_below : (one : Source) → Contains (sources_of places) one → IsBelow (length parts.modules.items) one.from
+  from_below one (zero, below, at) = subst (λ (s : Source). IsBelow (length parts.modules.items) s.from) at tt
+  from_below one (suc i, below, at) =
+      let (k, place, e, is) = source_is places one (i, omega (arith, below), at) in
+      subst (λ (s : Source). IsBelow (length parts.modules.items) s.from) (sym is) (omega (arith, (are k place e).0))
+
+  pub steps_numbered : HaveNumbers (length parts.modules.items) (steps_by parts places)
+  steps_numbered = each (sources_of places) (λ one h. from_below one h)
+    where
+      each : (sources : List Source) → ((one : Source) → Contains sources one → IsBelow (length parts.modules.items) one.from)
+          → HaveNumbers (length parts.modules.items) (by_step lists sources)
+      each sources below = All-map (IsNumbered (length parts.modules.items)) (step_edges lists) sources
+          (λ k d within. record {
+            from = below (get_or sources k d) (k, within, get_or_default sources k (get_or sources k d) d within);
+            to = list_below (spans_of parts.first parts.files.items (has_file places)) (get_or sources k d).list;
+          })
+
+-- What a graph is made of.
+pub record IsInput (modules : List ModuleVersion) (numbers : List ℕ) (spans : List Span) (sources : List Source) : Type 0 where
+  pub few : length modules ≤ 4294967295
+  pub distinct : IsDistinct pair_eq modules
+  pub apart : AreApart 0 spans (length numbers)
+  pub numbered : HaveNumbers (length modules) (by_step (lists_at numbers spans) sources)
+  pub once : IsDistinct (same_step modules) (by_step (lists_at numbers spans) sources)
+  pub used : AreUsed (lists_at numbers spans) sources
+
+pub is_input : (parts : CacheParts) (places : List (Option ℕ)) → AreFilePlaces parts places
+    → IsInput parts.modules.items parts.numbers.items (spans_of parts.first parts.files.items (has_file places)) (sources_of places)
+is_input parts places are = record {
+  few = parts.few;
+  distinct = parts.distinct;
+  apart = lists_apart parts places are;
+  numbered = steps_numbered parts places are;
+  once = steps_once parts places are;
+  used = lists_used parts places are;
+}
+
+-- The edges that leave each source are those of the parts.
+pub steps_are : (parts : CacheParts) (places : List (Option ℕ)) (numbers : List ℕ) (spans : List Span) (sources : List Source)
+    → numbers ≡ parts.numbers.items → spans ≡ spans_of parts.first parts.files.items (has_file places) → sources ≡ sources_of places
+    → by_step (lists_at numbers spans) sources ≡ steps_by parts places
+steps_are parts places numbers spans sources same at are =
+    ap (λ (ns : List ℕ). by_step (lists_at ns spans) sources) same
+    ∙ ap (λ (ss : List Span). by_step (lists_at parts.numbers.items ss) sources) at
+    ∙ ap (λ (os : List Source). by_step (lists_by parts places) os) are

@@ -1,7 +1,0 @@
-use Rattle.std.proofs.Common.{◌≡◌, ◌++◌, map}
-use Rattle.gm_graph.specs.Building.{fault}
-use Rattle.gm_graph.proofs.graph_builder.fault_list.Given as goal
-
-abbrev pub invariant-loop-vertex : goal.invariant-loop-vertex
-invariant-loop-vertex l = l.list.items ++ map (λ entry. fault entry.0 entry.1) l.vertex-iterator ≡ map
-    (λ entry. fault entry.0 entry.1) l.fn.faults.entries

@@ -1,0 +1,84 @@
+-- The graph and the faults that what was found makes: by the numbers of modules, and by the places of files.
+use Rattle.std.specs.Prelude.{◌≡◌, ◌==◌, ◌<◌, ◌+◌, ◌++◌, ◌∷◌, [], ℕ, Bool, true, false, suc, AllPairs, Contains, List, None, Option, Some, length}
+use Rattle.std.specs.List.{list_any}
+use Rattle.std.specs.declared.cmp.Ordering.TheVariants.{Less}
+use Rattle.gm_name.specs.ModuleVersion.{ModuleVersion, module_at, pair_cmp}
+use Rattle.gm_graph.specs.declared.cache.class.Class.{Class}
+use Rattle.gm_graph.specs.declared.cache.parts.CacheParts.{CacheParts}
+use Rattle.gm_graph.specs.declared.cache.summary.Kept.{Kept}
+use Rattle.gm_graph.specs.declared.cache.summary.Kept.TheVariants.{Valid}
+use Rattle.gm_graph.specs.declared.fault.Fault.{Fault}
+use Rattle.gm_graph.specs.declared.findings.NumberedFault.{NumberedFault}
+use Rattle.gm_graph.specs.Findings.{numbered, place_at}
+use Rattle.gm_graph_select.specs.declared.adjacency.Source.{Source}
+use Rattle.gm_graph_select.specs.declared.number_lists.Span.{Span}
+use Rattle.gm_graph_select.specs.Adjacency.{StepEdges, by_step}
+use Rattle.gm_graph_select.specs.Spans.{lists_at}
+
+-- ---- the sources: the main module, and each vertex that has a file
+
+-- the source that the vertex with a number is, if this is the place of its file: the main file has the first list
+abbrev pub source_at : ℕ → Option ℕ → List Source
+source_at number None = []
+source_at number (Some place) = record { from = Some number; list = place + 1 } ∷ []
+
+-- the sources that the vertices from a number on are
+abbrev pub sources_from : ℕ → List (Option ℕ) → List Source
+sources_from number [] = []
+sources_from number (place ∷ places) = source_at number place ++ sources_from (suc number) places
+
+abbrev pub sources_of : List (Option ℕ) → List Source
+sources_of places = record { from = None; list = 0 } ∷ sources_from 0 places
+
+-- ---- the lists: that of the main file, and that of each file, which is empty if no vertex has the file
+
+-- whether this is that place
+abbrev pub is_place : ℕ → Option ℕ → Bool
+is_place place None = false
+is_place place (Some other) = place == other
+
+-- whether a vertex has the file at a place
+abbrev pub has_file : List (Option ℕ) → ℕ → Bool
+has_file places place = list_any (is_place place) places
+
+-- where the list of a file is: if it is not used, empty behind the one before
+abbrev pub span_after : ℕ → Bool → Kept → Span
+span_after from true (Valid summary) = record { start = summary.kept.start; end = summary.kept.end }
+span_after from _ kept = record { start = from; end = from }
+
+-- where the lists of the files from a place on are
+abbrev pub spans_from : (ℕ → Bool) → ℕ → ℕ → List Kept → List Span
+spans_from used place from [] = []
+spans_from used place from (kept ∷ files) =
+    let span = span_after from (used place) kept in span ∷ spans_from used (suc place) span.end files
+
+abbrev pub spans_of : ℕ → List Kept → (ℕ → Bool) → List Span
+spans_of first files used = record { start = 0; end = first } ∷ spans_from used 0 first files
+
+-- the edges that leave each source
+abbrev pub steps_by : CacheParts → List (Option ℕ) → List StepEdges
+steps_by parts places = by_step (lists_at parts.numbers.items (spans_of parts.first parts.files.items (has_file places)))
+    (sources_of places)
+
+-- The numbers at which there is a place are those of modules, and the places are those of files.
+abbrev pub AreFilePlaces : CacheParts → List (Option ℕ) → Type 0
+AreFilePlaces parts places = (number place : ℕ) → place_at places number ≡ Some place
+    → (number < length parts.modules.items) × (place < length parts.files.items)
+
+-- ---- the faults
+
+-- a vertex and its fault
+abbrev pub fault : ModuleVersion → Class → Fault
+fault x class = record { vertex = x; class = class }
+
+-- One of the faults is this one of this vertex.
+abbrev pub HasFaultOf : List ModuleVersion → List NumberedFault → ModuleVersion → Class → Type 0
+HasFaultOf modules faults x class =
+    (number : ℕ) × Contains faults (numbered number class) × (module_at modules number ≡ x)
+
+-- Each vertex that has a fault has one in the list, in strictly ascending order of the vertices.
+pub record AreFaultsOf (modules : List ModuleVersion) (faults : List NumberedFault) (list : List Fault) : Type 0 where
+  pub ascending : AllPairs (λ (a b : Fault). pair_cmp a.vertex b.vertex ≡ Less) list
+  pub only : (one : Fault) → Contains list one → HasFaultOf modules faults one.vertex one.class
+  pub each : (number : ℕ) (class : Class) → Contains faults (numbered number class)
+      → (other : Class) × Contains list (fault (module_at modules number) other)

@@ -1,0 +1,40 @@
+//! The parts of a cache, once nothing more is asked of it.
+
+ghost use Rattle.std.specs.Prelude.{◌≤◌, length};
+ghost use Rattle.std.proofs.Props.{props};
+ghost use Rattle.std.specs.List.{IsDistinct};
+ghost use Rattle.gm_name.specs.ModuleVersion.{pair_eq};
+ghost use Rattle.gm_name_table.specs.Listed.{AreModuleNumbers};
+ghost use Rattle.gm_graph.specs.Summaries.{AreInOrder, order_is_fact};
+
+use crate::cache::summary::Kept;
+use gm_name::ModVer;
+
+/// The modules that have numbers, and the lists of requirements as parts of one list of numbers.
+#[derive(Drop)]
+pub(crate) struct CacheParts {
+    /// The modules, each at the place that is its number.
+    pub(crate) modules: Vec<ModVer>,
+    /// The numbers of the requirements of the main file and of all that were read, one file after another.
+    pub(crate) numbers: Vec<u32>,
+    /// How many numbers at the front are requirements of the main file, without the excluded ones.
+    pub(crate) first: usize,
+    /// What was read of each file, or what is wrong with it.
+    pub(crate) files: Vec<Kept>,
+    ghost distinct: { IsDistinct pair_eq modules.items } by { Prim.hlevel props },
+    ghost few: { length modules.items ≤ 4294967295 },
+    ghost below: { AreModuleNumbers modules.items numbers.items },
+    ghost in_order: { AreInOrder first files.items (length numbers.items) } by { order_is_fact first files.items (length numbers.items) },
+}
+
+impl CacheParts {
+    ghost use Rattle.std.specs.Prelude.{◌≡◌};
+
+    /// The modules, and the numbers of the requirements. What was read of the files is dropped.
+    pub(crate) fn into_lists(self) -> (Vec<ModVer>, Vec<u32>)
+        ensures modules { result.0 ≡ self.modules }
+        ensures numbers { result.1 ≡ self.numbers }
+    {
+        (self.modules, self.numbers)
+    }
+}
