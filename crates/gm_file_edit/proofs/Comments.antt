@@ -1,5 +1,5 @@
 -- No operation removes, adds or moves a comment line.
-use Rattle.std.proofs.Common.{◌≡◌, ℕ, ◌&&◌, Bool, true, false, List, [], ◌∷◌, ◌++◌, Option, Some, None, refl, sym, ap, ◌∙◌, inl, inr}
+use Rattle.std.proofs.Common.{◌≡◌, ℕ, ◌||◌, Bool, true, false, List, [], ◌∷◌, ◌++◌, Option, Some, None, refl, sym, ap, ◌∙◌, inl, inr}
 use Rattle.std.specs.Prelude.{filter, if◌then◌else◌}
 use Rattle.std.proofs.lemmas.Bool.{cases_Bool}
 use Rattle.std.proofs.lemmas.List.Elements.{filter-append}
@@ -10,7 +10,7 @@ use Rattle.gm_file_edit.specs.Edits.{Edit, Set, Setting, ModuleIs, GoIs, Require
 use Rattle.gm_file_edit.specs.About.{about}
 use Rattle.gm_file_edit.specs.Edited.{with_change, lines_after, put_in}
 use Rattle.gm_file_edit.specs.EditLaws.{is_comment_line}
-use Rattle.gm_file_edit.specs.Fates.{Fate, without_targets, dropping_from, is_emptied, kept_lines, remaining, with_renewal, renewing_from, widened_from}
+use Rattle.gm_file_edit.specs.Fates.{Fate, without_targets, dropping_from, is_emptied, is_in_gone, kept_lines, remaining, with_renewal, renewing_from, widened_from}
 use Rattle.gm_file_edit.specs.Holding.{directive_at, passes}
 use Rattle.gm_file_edit.specs.NewWords.{entry_at}
 use Rattle.gm_file_edit.specs.Renewing.{made_new}
@@ -23,25 +23,27 @@ comments lines = filter is_comment_line lines
 
 -- ---- the lines that remain
 
-left-comments : (inside goes : Bool) (fates : List Fate) → comments (kept_lines (widened_from inside goes fates)) ≡ comments (kept_lines fates)
-left-comments inside goes [] = refl
-left-comments inside goes (None ∷ fates) = left-comments inside goes fates
-left-comments inside true (Some Blank ∷ fates) = left-comments inside (inside && true) fates
-left-comments inside false (Some Blank ∷ fates) = left-comments inside (inside && false) fates
-left-comments inside goes (Some (Comment text) ∷ fates) = ap (λ (ls : List (Line Placed)). Comment text ∷ ls) (left-comments inside false fates)
-left-comments inside goes (Some (Open verb suffix) ∷ fates) = elim (cases_Bool (is_emptied inside suffix fates)) [
-  | inl gone ↦ rw gone (left-comments true true fates)
-  | inr stays ↦ rw stays (left-comments true false fates)
+left-comments : (block : Option Bool) (behind : Bool) (fates : List Fate) → comments (kept_lines (widened_from block behind fates)) ≡ comments (kept_lines fates)
+left-comments block behind [] = refl
+left-comments block behind (None ∷ fates) = left-comments block behind fates
+left-comments block behind (Some Blank ∷ fates) = elim (cases_Bool (is_in_gone block || behind)) [
+  | inl gone ↦ rw gone (left-comments block false fates)
+  | inr stays ↦ rw stays (left-comments block false fates)
 ]
-left-comments inside goes (Some (Close suffix) ∷ fates) = elim (cases_Bool (inside && goes)) [
-  | inl gone ↦ rw gone (left-comments false true fates)
-  | inr stays ↦ rw stays (left-comments false false fates)
+left-comments block behind (Some (Comment text) ∷ fates) = ap (λ (ls : List (Line Placed)). Comment text ∷ ls) (left-comments block false fates)
+left-comments block behind (Some (Open verb suffix) ∷ fates) = elim (cases_Bool (is_emptied block suffix fates)) [
+  | inl gone ↦ rw gone (left-comments (Some true) false fates)
+  | inr stays ↦ rw stays (left-comments (Some false) false fates)
 ]
-left-comments inside goes (Some (Entry words suffix) ∷ fates) = left-comments inside false fates
+left-comments block behind (Some (Close suffix) ∷ fates) = elim (cases_Bool (is_in_gone block)) [
+  | inl gone ↦ rw gone (left-comments None true fates)
+  | inr stays ↦ rw stays (left-comments None false fates)
+]
+left-comments block behind (Some (Entry words suffix) ∷ fates) = left-comments block false fates
 
 remaining-comments : (fates : List Fate) → comments (remaining fates) ≡ comments (kept_lines fates)
 unfolding remaining
-remaining-comments fates = left-comments false false fates
+remaining-comments fates = left-comments None false fates
 
 -- ---- the lines without the targeted entries
 

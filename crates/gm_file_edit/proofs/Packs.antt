@@ -1,5 +1,5 @@
 -- Lines of which those with a mark are removed in place, step by step.
-use Rattle.std.proofs.Common.{◌≡◌, ℕ, suc, ◌+◌, ◌-◌, ◌<◌, ◌≤◌, Bool, true, false, List, [], ◌∷◌, ◌++◌, length, take, drop, get_or, set, Some, refl, sym, ap, subst, drop-cons, ◌∙◌, append_assoc, arith}
+use Rattle.std.proofs.Common.{◌≡◌, ℕ, suc, ◌+◌, ◌-◌, ◌<◌, ◌≤◌, Bool, true, false, List, [], ◌∷◌, ◌++◌, length, take, drop, get_or, set, Option, Some, None, refl, sym, ap, subst, drop-cons, ◌∙◌, append_assoc, arith}
 use Rattle.std.specs.Prelude.{not, take_while}
 use Rattle.std.specs.List.{list_any, prefix_len, swap}
 use Rattle.std.proofs.lemmas.List.Edits.{swap_is}
@@ -71,10 +71,10 @@ keep-more marks whole n count next lines new mark lt even is len bound same gone
 -- ---- the loop that widens marks
 
 -- Loop invariant: the first marks are widened, and the others are as they were.
-pub record IsWidenedTo (whole : List (Line Placed)) (old : List Bool) (n : ℕ) (inside goes : Bool) (marks : List Bool) : Type 0 where
+pub record IsWidenedTo (whole : List (Line Placed)) (old : List Bool) (n : ℕ) (block : Option Bool) (behind : Bool) (marks : List Bool) : Type 0 where
   pub size : length marks ≡ length old
   pub rest : drop n marks ≡ drop n old
-  pub left : fates_of (take n marks) (take n whole) ++ widened_from inside goes (fates_of (drop n old) (drop n whole)) ≡ widened_from false false (fates_of old whole)
+  pub left : fates_of (take n marks) (take n whole) ++ widened_from block behind (fates_of (drop n old) (drop n whole)) ≡ widened_from None false (fates_of old whole)
 
 marked-more : (front : List Bool) (lines : List (Line Placed)) (mark : Bool) (line : Line Placed) → length front ≡ length lines → fates_of (front ++ mark ∷ []) (lines ++ line ∷ []) ≡ fates_of front lines ++ fate_by mark line ∷ []
 marked-more [] [] mark line even = refl
@@ -83,14 +83,14 @@ marked-more (m ∷ front) [] mark line even = absurd (omega (arith, even))
 marked-more (m ∷ front) (l ∷ lines) mark line even = ap (λ (fs : List Fate). fate_by m l ∷ fs) (marked-more front lines mark line (omega (arith, even)))
 
 -- one more line
-widen-more : (whole : List (Line Placed)) (old : List Bool) (n : ℕ) (inside goes next_inside next_goes mark next_mark : Bool) (marks next : List Bool)
+widen-more : (whole : List (Line Placed)) (old : List Bool) (n : ℕ) (block next_block : Option Bool) (behind next_behind mark next_mark : Bool) (marks next : List Bool)
     → length old ≡ length whole → n < length whole → mark ≡ get_or marks n mark → length next ≡ length marks → drop (n + 1) next ≡ drop (n + 1) marks → take (n + 1) next ≡ take n marks ++ next_mark ∷ []
-    → widened_from inside goes (fate_by mark (line_at whole n) ∷ fates_of (drop (n + 1) old) (drop (n + 1) whole)) ≡ fate_by next_mark (line_at whole n) ∷ widened_from next_inside next_goes (fates_of (drop (n + 1) old) (drop (n + 1) whole))
-    → IsWidenedTo whole old n inside goes marks → IsWidenedTo whole old (n + 1) next_inside next_goes next
-widen-more whole old n inside goes next_inside next_goes mark next_mark marks next even lt is same_size same_rest put step so =
+    → widened_from block behind (fate_by mark (line_at whole n) ∷ fates_of (drop (n + 1) old) (drop (n + 1) whole)) ≡ fate_by next_mark (line_at whole n) ∷ widened_from next_block next_behind (fates_of (drop (n + 1) old) (drop (n + 1) whole))
+    → IsWidenedTo whole old n block behind marks → IsWidenedTo whole old (n + 1) next_block next_behind next
+widen-more whole old n block next_block behind next_behind mark next_mark marks next even lt is same_size same_rest put step so =
     let line : Line Placed = line_at whole n in
     let front : List Fate = fates_of (take n marks) (take n whole) in
-    let after : List Fate = widened_from next_inside next_goes (fates_of (drop (n + 1) old) (drop (n + 1) whole)) in
+    let after : List Fate = widened_from next_block next_behind (fates_of (drop (n + 1) old) (drop (n + 1) whole)) in
     let size = so.size in
     let rest : drop (n + 1) marks ≡ drop (n + 1) old = next-rest marks old n so.rest in
     let mark_here : drop n old ≡ mark ∷ drop (n + 1) old = sym so.rest ∙ drop-next marks n mark (omega (arith, size, even, lt)) is ∙ ap (λ (ms : List Bool). mark ∷ ms) rest in
@@ -102,7 +102,7 @@ widen-more whole old n inside goes next_inside next_goes mark next_mark marks ne
           ap (λ (ms : List Bool). fates_of ms (take (n + 1) whole) ++ after) put ∙ ap (λ (ls : List (Line Placed)). fates_of (take n marks ++ next_mark ∷ []) ls ++ after) (take_more whole n Blank lt)
           ∙ ap (λ (fs : List Fate). fs ++ after) (marked-more (take n marks) (take n whole) next_mark line taken)
           ∙ append_assoc front (fate_by next_mark line ∷ []) after ∙ ap (λ (fs : List Fate). front ++ fs) (sym step)
-          ∙ ap (λ (fs : List Fate). front ++ widened_from inside goes fs) (sym (ap (λ (ms : List Bool). fates_of ms (drop n whole)) mark_here ∙ ap (fates_of (mark ∷ drop (n + 1) old)) (line-here whole n lt)))
+          ∙ ap (λ (fs : List Fate). front ++ widened_from block behind fs) (sym (ap (λ (ms : List Bool). fates_of ms (drop n whole)) mark_here ∙ ap (fates_of (mark ∷ drop (n + 1) old)) (line-here whole n lt)))
           ∙ so.left;
     }
 
@@ -110,24 +110,24 @@ pub rest-of : {X : Type 0} (xs : List X) (n : ℕ) → take (length xs - n) (dro
 rest-of xs n = let rest = length-drop n xs in take_all (length xs - n) (drop n xs) (omega (arith, rest))
 
 -- a line without a mark
-pub widen-line : (whole : List (Line Placed)) (old : List Bool) (n : ℕ) (inside goes next_inside next_goes seen next_mark : Bool) (marks slice : List Bool)
+pub widen-line : (whole : List (Line Placed)) (old : List Bool) (n : ℕ) (block next_block : Option Bool) (behind next_behind seen next_mark : Bool) (marks slice : List Bool)
     → length old ≡ length whole → n < length whole → seen ≡ get_or marks n seen → seen ≡ false → slice ≡ marks
-    → widened_from inside goes (Some (line_at whole n) ∷ fates_of (drop (n + 1) slice) (drop (n + 1) whole)) ≡ fate_by next_mark (line_at whole n) ∷ widened_from next_inside next_goes (fates_of (drop (n + 1) slice) (drop (n + 1) whole))
-    → IsWidenedTo whole old n inside goes marks → IsWidenedTo whole old (n + 1) next_inside next_goes (set marks n next_mark)
-widen-line whole old n inside goes next_inside next_goes seen next_mark marks slice even lt seen_is unmarked same step so =
+    → widened_from block behind (Some (line_at whole n) ∷ fates_of (drop (n + 1) slice) (drop (n + 1) whole)) ≡ fate_by next_mark (line_at whole n) ∷ widened_from next_block next_behind (fates_of (drop (n + 1) slice) (drop (n + 1) whole))
+    → IsWidenedTo whole old n block behind marks → IsWidenedTo whole old (n + 1) next_block next_behind (set marks n next_mark)
+widen-line whole old n block next_block behind next_behind seen next_mark marks slice even lt seen_is unmarked same step so =
     let size = so.size in
     let rest : drop (n + 1) slice ≡ drop (n + 1) old = ap (drop (n + 1)) same ∙ next-rest marks old n so.rest in
-    widen-more whole old n inside goes next_inside next_goes false next_mark marks (set marks n next_mark) even lt (sym unmarked ∙ seen_is ∙ ap (get_or marks n) unmarked) (length-set marks n next_mark)
+    widen-more whole old n block next_block behind next_behind false next_mark marks (set marks n next_mark) even lt (sym unmarked ∙ seen_is ∙ ap (get_or marks n) unmarked) (length-set marks n next_mark)
     (drop-set-lt (n + 1) marks n next_mark (omega arith)) (take_more_set marks n next_mark (omega (arith, size, even, lt)))
-    (subst (λ (ms : List Bool). widened_from inside goes (Some (line_at whole n) ∷ fates_of ms (drop (n + 1) whole)) ≡ fate_by next_mark (line_at whole n) ∷ widened_from next_inside next_goes (fates_of ms (drop (n + 1) whole))) rest step) so
+    (subst (λ (ms : List Bool). widened_from block behind (Some (line_at whole n) ∷ fates_of ms (drop (n + 1) whole)) ≡ fate_by next_mark (line_at whole n) ∷ widened_from next_block next_behind (fates_of ms (drop (n + 1) whole))) rest step) so
 
 -- a line with a mark
-pub widen-marked : (whole : List (Line Placed)) (old : List Bool) (n : ℕ) (inside goes seen : Bool) (marks : List Bool)
-    → length old ≡ length whole → n < length whole → seen ≡ get_or marks n seen → seen ≡ true → IsWidenedTo whole old n inside goes marks → IsWidenedTo whole old (n + 1) inside goes marks
-widen-marked whole old n inside goes seen marks even lt seen_is has_mark so =
+pub widen-marked : (whole : List (Line Placed)) (old : List Bool) (n : ℕ) (block : Option Bool) (behind seen : Bool) (marks : List Bool)
+    → length old ≡ length whole → n < length whole → seen ≡ get_or marks n seen → seen ≡ true → IsWidenedTo whole old n block behind marks → IsWidenedTo whole old (n + 1) block behind marks
+widen-marked whole old n block behind seen marks even lt seen_is has_mark so =
     let size = so.size in
     let mark_is : true ≡ get_or marks n true = sym has_mark ∙ seen_is ∙ ap (get_or marks n) has_mark in
-    widen-more whole old n inside goes inside goes true true marks marks even lt mark_is refl refl (take_more marks n true (omega (arith, size, even, lt)) ∙ ap (λ (m : Bool). take n marks ++ m ∷ []) (sym mark_is)) refl so
+    widen-more whole old n block block behind behind true true marks marks even lt mark_is refl refl (take_more marks n true (omega (arith, size, even, lt)) ∙ ap (λ (m : Bool). take n marks ++ m ∷ []) (sym mark_is)) refl so
 
 -- ---- the loop that looks for the end of a block
 
@@ -204,6 +204,6 @@ removed-is marks lines n even is lt none =
 
 -- ---- all of it
 
-pub pack-is : (marks widened slice : List Bool) (lines : List (Line Placed)) → slice ≡ widened → fates_of widened lines ≡ widened_from false false (fates_of marks lines) → kept_lines (fates_of slice lines) ≡ remaining (fates_of marks lines)
+pub pack-is : (marks widened slice : List Bool) (lines : List (Line Placed)) → slice ≡ widened → fates_of widened lines ≡ widened_from None false (fates_of marks lines) → kept_lines (fates_of slice lines) ≡ remaining (fates_of marks lines)
 unfolding remaining
 pack-is marks widened slice lines same are = ap (λ (ms : List Bool). kept_lines (fates_of ms lines)) same ∙ ap kept_lines are

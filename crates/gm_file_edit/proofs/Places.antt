@@ -1,6 +1,6 @@
 -- The result of an operation doesn't depend on source positions: it commutes with removing the positions of words.
 use Rattle.std.proofs.Common.{◌≡◌, ℕ, ◌-◌, ◌&&◌, not, Bool, true, false, List, [], ◌∷◌, ◌++◌, length, map, take, Option, Some, None, is_none, is_some, refl, sym, ap, ◌∙◌, inl, inr}
-use Rattle.std.specs.Prelude.{if◌then◌else◌, codes}
+use Rattle.std.specs.Prelude.{◌||◌, if◌then◌else◌, codes}
 use Rattle.std.specs.Option.{option_map}
 use Rattle.std.specs.Str.{bytes_eq}
 use Rattle.std.proofs.lemmas.Bool.{cases_Bool}
@@ -14,7 +14,7 @@ use Rattle.gm_file.specs.Directives.{Strict, Directive, VersionInterval, Right, 
 use Rattle.gm_file.specs.Faults.{is_go, is_module}
 use Rattle.gm_file_edit.specs.Edits.{Edit, Set, ModuleIs, GoIs, RequireAt, Drop, Add, Exclude, ReplaceWith, Retract}
 use Rattle.gm_file_edit.specs.NewWords.{entry_at, interval_words, left_words, made_mark, made_word, pair_words, replace_words, right_words, single, unplaced_word}
-use Rattle.gm_file_edit.specs.Fates.{Fate, without_targets, dropping_from, empties, fate_by, is_emptied, kept_lines, remaining, with_renewal, renewing_from, widened_from}
+use Rattle.gm_file_edit.specs.Fates.{Fate, without_targets, dropping_from, empties, fate_by, is_emptied, is_in_gone, kept_lines, remaining, with_renewal, renewing_from, widened_from}
 use Rattle.gm_file_edit.specs.Holding.{directive_at, passes, is_there}
 use Rattle.gm_file_edit.proofs.Pairs.{word_of}
 use Rattle.gm_file_edit.specs.Renewing.{with_arguments, with_last}
@@ -147,24 +147,26 @@ empties-loose lost (Some (Open verb suffix) ∷ fates) = refl
 empties-loose lost (Some (Close suffix) ∷ fates) = refl
 empties-loose lost (Some (Entry words suffix) ∷ fates) = refl
 
-widened-loose : (inside goes : Bool) (fates : List Fate) → widened_from inside goes (loose_fates fates) ≡ loose_fates (widened_from inside goes fates)
-widened-loose inside goes [] = refl
-widened-loose inside goes (None ∷ fates) = ap (λ (fs : List Fate). None ∷ fs) (widened-loose inside goes fates)
-widened-loose inside true (Some Blank ∷ fates) = ap (λ (fs : List Fate). None ∷ fs) (widened-loose inside (inside && true) fates)
-widened-loose inside false (Some Blank ∷ fates) = ap (λ (fs : List Fate). Some Blank ∷ fs) (widened-loose inside (inside && false) fates)
-widened-loose inside goes (Some (Comment text) ∷ fates) = ap (λ (fs : List Fate). Some (Comment text) ∷ fs) (widened-loose inside false fates)
-widened-loose inside goes (Some (Open verb suffix) ∷ fates) = elim (cases_Bool (is_emptied inside suffix fates)) [
-  | inl gone ↦ let same : is_emptied inside suffix (loose_fates fates) ≡ true = emptied-loose inside suffix fates ∙ gone in rw (same, gone) (ap (λ (fs : List Fate). None ∷ fs) (widened-loose true true fates))
-  | inr stays ↦ let same : is_emptied inside suffix (loose_fates fates) ≡ false = emptied-loose inside suffix fates ∙ stays in rw (same, stays) (ap (λ (fs : List Fate). Some (Open (loose verb) suffix) ∷ fs) (widened-loose true false fates))
+widened-loose : (block : Option Bool) (behind : Bool) (fates : List Fate) → widened_from block behind (loose_fates fates) ≡ loose_fates (widened_from block behind fates)
+widened-loose block behind [] = refl
+widened-loose block behind (None ∷ fates) = ap (λ (fs : List Fate). None ∷ fs) (widened-loose block behind fates)
+widened-loose block behind (Some Blank ∷ fates) = elim (cases_Bool (is_in_gone block || behind)) [
+  | inl gone ↦ rw gone (ap (λ (fs : List Fate). None ∷ fs) (widened-loose block false fates))
+  | inr stays ↦ rw stays (ap (λ (fs : List Fate). Some Blank ∷ fs) (widened-loose block false fates))
+]
+widened-loose block behind (Some (Comment text) ∷ fates) = ap (λ (fs : List Fate). Some (Comment text) ∷ fs) (widened-loose block false fates)
+widened-loose block behind (Some (Open verb suffix) ∷ fates) = elim (cases_Bool (is_emptied block suffix fates)) [
+  | inl gone ↦ rw (same ∙ gone, gone) (ap (λ (fs : List Fate). None ∷ fs) (widened-loose (Some true) false fates))
+  | inr stays ↦ rw (same ∙ stays, stays) (ap (λ (fs : List Fate). Some (Open (loose verb) suffix) ∷ fs) (widened-loose (Some false) false fates))
 ]
   where
-    emptied-loose : (within : Bool) (comment : Option (List ℕ)) (rest : List Fate) → is_emptied within comment (loose_fates rest) ≡ is_emptied within comment rest
-    emptied-loose within comment rest = ap (λ (c : Bool). not within && is_none comment && c) (empties-loose false rest)
-widened-loose inside goes (Some (Close suffix) ∷ fates) = elim (cases_Bool (inside && goes)) [
-  | inl gone ↦ rw gone (ap (λ (fs : List Fate). None ∷ fs) (widened-loose false true fates))
-  | inr stays ↦ rw stays (ap (λ (fs : List Fate). Some (Close suffix) ∷ fs) (widened-loose false false fates))
+    same : is_emptied block suffix (loose_fates fates) ≡ is_emptied block suffix fates
+    same = ap (λ (c : Bool). is_none block && is_none suffix && c) (empties-loose false fates)
+widened-loose block behind (Some (Close suffix) ∷ fates) = elim (cases_Bool (is_in_gone block)) [
+  | inl gone ↦ rw gone (ap (λ (fs : List Fate). None ∷ fs) (widened-loose None true fates))
+  | inr stays ↦ rw stays (ap (λ (fs : List Fate). Some (Close suffix) ∷ fs) (widened-loose None false fates))
 ]
-widened-loose inside goes (Some (Entry words suffix) ∷ fates) = ap (λ (fs : List Fate). Some (Entry (map loose words) suffix) ∷ fs) (widened-loose inside false fates)
+widened-loose block behind (Some (Entry words suffix) ∷ fates) = ap (λ (fs : List Fate). Some (Entry (map loose words) suffix) ∷ fs) (widened-loose block false fates)
 
 kept-loose : (fates : List Fate) → kept_lines (loose_fates fates) ≡ loose_lines (kept_lines fates)
 kept-loose [] = refl
@@ -173,7 +175,7 @@ kept-loose (Some line ∷ fates) = ap (λ (ls : List (Line Placed)). loose_line 
 
 remaining-loose : (fates : List Fate) → remaining (loose_fates fates) ≡ loose_lines (remaining fates)
 unfolding remaining
-remaining-loose fates = ap kept_lines (widened-loose false false fates) ∙ kept-loose (widened_from false false fates)
+remaining-loose fates = ap kept_lines (widened-loose None false fates) ∙ kept-loose (widened_from None false fates)
 
 dropped-loose : (test : Directive → Bool) (lines : List (Line Placed)) → without_targets test (loose_lines lines) ≡ loose_lines (without_targets test lines)
 dropped-loose test lines = ap remaining (dropping-loose test None lines) ∙ remaining-loose (dropping_from test None lines)

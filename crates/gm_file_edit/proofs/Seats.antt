@@ -50,37 +50,43 @@ going-gone : (going : Bool) (fates : List Fate) → Going going (None ∷ fates)
 going-gone false fates is = tt
 going-gone true fates is = (true, is.1)
 
-going-opened : (suffix : Option (List ℕ)) (fates : List Fate) → is_emptied false suffix fates ≡ true → Going true fates
+going-opened : (suffix : Option (List ℕ)) (fates : List Fate) → is_emptied None suffix fates ≡ true → Going true fates
 going-opened suffix fates e = (false, (and_both (is_none suffix) (empties false fates) e).1)
 
-left-lines : (block : Option Placed) (gone : Bool) (fates : List Fate) → Going (is_some block && gone) fates
-    → AreLeft (left_block (is_some block && gone) block) (kept_lines (widened_from (is_some block) gone fates)) block (kept_lines fates)
+-- the open block, if any, goes or stays
+abbrev known_block : Option Placed → Bool → Option Bool
+known_block None gone = None
+known_block (Some verb) gone = Some gone
+
+left-lines : (block : Option Placed) (gone behind : Bool) (fates : List Fate) → Going (is_some block && gone) fates
+    → AreLeft (left_block (is_some block && gone) block) (kept_lines (widened_from (known_block block gone) behind fates)) block (kept_lines fates)
 unfolding item_at
-left-lines None gone [] is = (nothing, λ e. e)
-left-lines (Some verb) false [] is = (nothing, λ e. e)
-left-lines (Some verb) true [] is = absurd cc
-left-lines block gone (None ∷ fates) is = left-lines block gone fates (going-gone (is_some block && gone) fates is)
-left-lines None false (Some Blank ∷ fates) is = same-first None Blank _ _ (left-lines None false fates tt)
-left-lines None true (Some Blank ∷ fates) is = gone-first None None Blank _ _ refl (left-lines None false fates tt)
-left-lines (Some verb) false (Some Blank ∷ fates) is = same-first (Some verb) Blank _ _ (left-lines (Some verb) false fates tt)
-left-lines (Some verb) true (Some Blank ∷ fates) is = gone-first None (Some verb) Blank _ _ refl (left-lines (Some verb) true fates is)
-left-lines None gone (Some (Comment text) ∷ fates) is = same-first None (Comment text) _ _ (left-lines None false fates tt)
-left-lines (Some verb) false (Some (Comment text) ∷ fates) is = same-first (Some verb) (Comment text) _ _ (left-lines (Some verb) false fates tt)
-left-lines (Some verb) true (Some (Comment text) ∷ fates) is = absurd cc
-left-lines None gone (Some (Open verb suffix) ∷ fates) is = elim (cases_Bool (is_emptied false suffix fates)) [
-  | inl empty ↦ rw empty (gone-first None None (Open verb suffix) _ _ refl (left-lines (Some verb) true fates (going-opened suffix fates empty)))
-  | inr still ↦ rw still (same-first None (Open verb suffix) _ _ (left-lines (Some verb) false fates tt))
+left-lines None gone behind [] is = (nothing, λ e. e)
+left-lines (Some verb) false behind [] is = (nothing, λ e. e)
+left-lines (Some verb) true behind [] is = absurd cc
+left-lines block gone behind (None ∷ fates) is = left-lines block gone behind fates (going-gone (is_some block && gone) fates is)
+left-lines None gone false (Some Blank ∷ fates) is = same-first None Blank _ _ (left-lines None false false fates tt)
+left-lines None gone true (Some Blank ∷ fates) is = gone-first None None Blank _ _ refl (left-lines None false false fates tt)
+left-lines (Some verb) false false (Some Blank ∷ fates) is = same-first (Some verb) Blank _ _ (left-lines (Some verb) false false fates tt)
+left-lines (Some verb) false true (Some Blank ∷ fates) is = gone-first (Some verb) (Some verb) Blank _ _ refl (left-lines (Some verb) false false fates tt)
+left-lines (Some verb) true behind (Some Blank ∷ fates) is = gone-first None (Some verb) Blank _ _ refl (left-lines (Some verb) true false fates is)
+left-lines None gone behind (Some (Comment text) ∷ fates) is = same-first None (Comment text) _ _ (left-lines None false false fates tt)
+left-lines (Some verb) false behind (Some (Comment text) ∷ fates) is = same-first (Some verb) (Comment text) _ _ (left-lines (Some verb) false false fates tt)
+left-lines (Some verb) true behind (Some (Comment text) ∷ fates) is = absurd cc
+left-lines None gone behind (Some (Open verb suffix) ∷ fates) is = elim (cases_Bool (is_emptied None suffix fates)) [
+  | inl empty ↦ rw empty (gone-first None None (Open verb suffix) _ _ refl (left-lines (Some verb) true false fates (going-opened suffix fates empty)))
+  | inr still ↦ rw still (same-first None (Open verb suffix) _ _ (left-lines (Some verb) false false fates tt))
 ]
-left-lines (Some outer) false (Some (Open verb suffix) ∷ fates) is = same-first (Some outer) (Open verb suffix) _ _ (left-lines (Some verb) false fates tt)
-left-lines (Some outer) true (Some (Open verb suffix) ∷ fates) is = absurd cc
-left-lines None gone (Some (Close suffix) ∷ fates) is = same-first None (Close suffix) _ _ (left-lines None false fates tt)
-left-lines (Some verb) false (Some (Close suffix) ∷ fates) is = same-first (Some verb) (Close suffix) _ _ (left-lines None false fates tt)
-left-lines (Some verb) true (Some (Close suffix) ∷ fates) is = gone-first None (Some verb) (Close suffix) _ _ refl (left-lines None true fates tt)
-left-lines None gone (Some (Entry words suffix) ∷ fates) is = same-first None (Entry words suffix) _ _ (left-lines None false fates tt)
-left-lines (Some verb) false (Some (Entry words suffix) ∷ fates) is = same-first (Some verb) (Entry words suffix) _ _ (left-lines (Some verb) false fates tt)
-left-lines (Some verb) true (Some (Entry words suffix) ∷ fates) is = absurd cc
+left-lines (Some outer) false behind (Some (Open verb suffix) ∷ fates) is = same-first (Some outer) (Open verb suffix) _ _ (left-lines (Some verb) false false fates tt)
+left-lines (Some outer) true behind (Some (Open verb suffix) ∷ fates) is = absurd cc
+left-lines None gone behind (Some (Close suffix) ∷ fates) is = same-first None (Close suffix) _ _ (left-lines None false false fates tt)
+left-lines (Some verb) false behind (Some (Close suffix) ∷ fates) is = same-first (Some verb) (Close suffix) _ _ (left-lines None false false fates tt)
+left-lines (Some verb) true behind (Some (Close suffix) ∷ fates) is = gone-first None (Some verb) (Close suffix) _ _ refl (left-lines None false true fates tt)
+left-lines None gone behind (Some (Entry words suffix) ∷ fates) is = same-first None (Entry words suffix) _ _ (left-lines None false false fates tt)
+left-lines (Some verb) false behind (Some (Entry words suffix) ∷ fates) is = same-first (Some verb) (Entry words suffix) _ _ (left-lines (Some verb) false false fates tt)
+left-lines (Some verb) true behind (Some (Entry words suffix) ∷ fates) is = absurd cc
 
 -- of the lines without a mark, widening leaves out some that hold no directive
 pub remaining-left : (fates : List Fate) → AreFewer (with_blocks_from None (remaining fates)) (with_blocks_from None (kept_lines fates)) × (block_after_lines None (kept_lines fates) ≡ None → block_after_lines None (remaining fates) ≡ None)
 unfolding remaining
-remaining-left fates = left-lines None false fates tt
+remaining-left fates = left-lines None false false fates tt

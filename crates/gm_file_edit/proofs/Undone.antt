@@ -27,7 +27,7 @@ use Rattle.gm_file_edit.proofs.Filters.{fewer-any}
 use Rattle.gm_file_edit.proofs.Renewals.{left-itself, pair-itself, put_by, text-itself}
 use Rattle.gm_file_edit.proofs.SaidAfter.{sound-of}
 use Rattle.gm_file_edit.proofs.Pairs.{IsSound, block-append}
-use Rattle.gm_file_edit.proofs.Untouched.{all-lines-left, all_stay, edited-drop, none-dropped-from, stay-before}
+use Rattle.gm_file_edit.proofs.Untouched.{all-lines-left, all_stay, edited-drop, none-dropped-from, stay-before, staying}
 use Rattle.std.proofs.lemmas.Option.{same_Some}
 
 -- ---- the fates of the lines
@@ -47,7 +47,7 @@ one-gone test block (line ∷ front) back entry none hit =
 
 -- an entry stays, and the line after it is removed
 next-gone : (words : List Placed) (suffix : Option (List ℕ)) (back : List (Line Placed)) (inside : Bool)
-    → kept_lines (widened_from inside false (Some (Entry words suffix) ∷ None ∷ all_stay back)) ≡ Entry words suffix ∷ back
+    → kept_lines (widened_from (staying inside) false (Some (Entry words suffix) ∷ None ∷ all_stay back)) ≡ Entry words suffix ∷ back
 next-gone words suffix back inside = ap (λ (ls : List (Line Placed)). Entry words suffix ∷ ls) (all-lines-left inside back)
 
 gone-behind : (words : List Placed) (suffix : Option (List ℕ)) (front back : List (Line Placed))

@@ -1,5 +1,5 @@
 -- Lines of which nothing is removed stay as they are.
-use Rattle.std.proofs.Common.{◌≡◌, ◌&&◌, not, Bool, true, false, List, [], ◌∷◌, ◌++◌, map, Option, Some, None, is_none, refl, sym, ap, ◌∙◌, append-nil, inl, inr}
+use Rattle.std.proofs.Common.{◌≡◌, ◌&&◌, Bool, true, false, List, [], ◌∷◌, ◌++◌, map, Option, Some, None, is_none, refl, sym, ap, ◌∙◌, append-nil, inl, inr}
 use Rattle.gm_syntax.specs.Tokens.{Placed}
 use Rattle.gm_syntax.specs.Document.{Line, Blank, Comment, Open, Close, Entry}
 use Rattle.gm_file.specs.Directives.{Directive, block_after_line}
@@ -29,23 +29,28 @@ empties-none fates none (Open verb suffix ∷ lines) = refl
 empties-none fates none (Close suffix ∷ lines) = refl
 empties-none fates none (Entry words suffix ∷ lines) = refl
 
+-- the open block, if any, stays
+abbrev pub staying : Bool → Option Bool
+staying false = None
+staying true = Some false
+
 -- lines that stay, before fates that empty no block and leave these lines
-pub stay-before : (fates : List Fate) (rest : List (Line Placed)) → empties false fates ≡ false → ((inside : Bool) → kept_lines (widened_from inside false fates) ≡ rest)
-    → (inside : Bool) (lines : List (Line Placed)) → kept_lines (widened_from inside false (all_stay lines ++ fates)) ≡ lines ++ rest
+pub stay-before : (fates : List Fate) (rest : List (Line Placed)) → empties false fates ≡ false → ((inside : Bool) → kept_lines (widened_from (staying inside) false fates) ≡ rest)
+    → (inside : Bool) (lines : List (Line Placed)) → kept_lines (widened_from (staying inside) false (all_stay lines ++ fates)) ≡ lines ++ rest
 stay-before fates rest none is inside [] = is inside
 stay-before fates rest none is false (Blank ∷ lines) = ap (λ (ls : List (Line Placed)). Blank ∷ ls) (stay-before fates rest none is false lines)
 stay-before fates rest none is true (Blank ∷ lines) = ap (λ (ls : List (Line Placed)). Blank ∷ ls) (stay-before fates rest none is true lines)
 stay-before fates rest none is inside (Comment text ∷ lines) = ap (λ (ls : List (Line Placed)). Comment text ∷ ls) (stay-before fates rest none is inside lines)
 stay-before fates rest none is inside (Open verb suffix ∷ lines) =
-    let stays : is_emptied inside suffix (all_stay lines ++ fates) ≡ false = and_right (not inside && is_none suffix) (empties false (all_stay lines ++ fates)) (empties-none fates none lines) in
+    let stays : is_emptied (staying inside) suffix (all_stay lines ++ fates) ≡ false = and_right (is_none (staying inside) && is_none suffix) (empties false (all_stay lines ++ fates)) (empties-none fates none lines) in
     rw stays (ap (λ (ls : List (Line Placed)). Open verb suffix ∷ ls) (stay-before fates rest none is true lines))
 stay-before fates rest none is false (Close suffix ∷ lines) = ap (λ (ls : List (Line Placed)). Close suffix ∷ ls) (stay-before fates rest none is false lines)
 stay-before fates rest none is true (Close suffix ∷ lines) = ap (λ (ls : List (Line Placed)). Close suffix ∷ ls) (stay-before fates rest none is false lines)
 stay-before fates rest none is inside (Entry words suffix ∷ lines) = ap (λ (ls : List (Line Placed)). Entry words suffix ∷ ls) (stay-before fates rest none is inside lines)
 
-pub all-lines-left : (inside : Bool) (lines : List (Line Placed)) → kept_lines (widened_from inside false (all_stay lines)) ≡ lines
+pub all-lines-left : (inside : Bool) (lines : List (Line Placed)) → kept_lines (widened_from (staying inside) false (all_stay lines)) ≡ lines
 all-lines-left inside lines =
-    ap (λ (fs : List Fate). kept_lines (widened_from inside false fs)) (sym (append-nil (all_stay lines))) ∙ stay-before [] [] refl (λ within. refl) inside lines ∙ append-nil lines
+    ap (λ (fs : List Fate). kept_lines (widened_from (staying inside) false fs)) (sym (append-nil (all_stay lines))) ∙ stay-before [] [] refl (λ within. refl) inside lines ∙ append-nil lines
 
 pub all-lines-stay : (lines : List (Line Placed)) → remaining (all_stay lines) ≡ lines
 unfolding remaining

@@ -1,6 +1,6 @@
 -- What a drop and a setting leave of the lines of a file (go help mod edit). Lines that go are marked, the marks are
 -- widened to the blocks that this empties, and the lines without a mark are kept.
-use Rattle.std.specs.Prelude.{ℕ, ◌&&◌, not, if◌then◌else◌, Bool, true, false, List, [], ◌∷◌, Option, Some, None, is_none}
+use Rattle.std.specs.Prelude.{ℕ, ◌&&◌, ◌||◌, if◌then◌else◌, Bool, true, false, List, [], ◌∷◌, Option, Some, None, is_none}
 use Rattle.std.specs.List.{filter_map}
 use Rattle.gm_syntax.specs.Tokens.{Placed}
 use Rattle.gm_syntax.specs.Document.{Line, Blank, Open, Close}
@@ -45,23 +45,29 @@ empties lost (Some Blank ∷ fates) = empties lost fates
 empties lost (Some (Close suffix) ∷ fates) = lost && is_none suffix
 empties lost (Some line ∷ fates) = false
 
--- whether an opening with this comment, outside blocks and before these lines, opens a block that is emptied
-abbrev pub is_emptied : Bool → Option (List ℕ) → List Fate → Bool
-is_emptied inside suffix fates = not inside && is_none suffix && empties false fates
+-- whether an opening with this comment opens a block that these lines empty; no block is open before it
+abbrev pub is_emptied : Option Bool → Option (List ℕ) → List Fate → Bool
+is_emptied block suffix fates = is_none block && is_none suffix && empties false fates
 
--- The lines with marks at all lines of an emptied block too, and at a blank line whose nearest earlier line without a
--- mark is the closing of such a block. `inside` says that a block is open before these lines, and `goes` that it is
--- emptied, or that the nearest earlier line without a mark of its own closes an emptied block.
-abbrev pub widened_from : Bool → Bool → List Fate → List Fate
-widened_from inside goes [] = []
-widened_from inside goes (None ∷ fates) = None ∷ widened_from inside goes fates
-widened_from inside goes (Some Blank ∷ fates) = fate_by goes Blank ∷ widened_from inside (inside && goes) fates
-widened_from inside goes (Some (Open verb suffix) ∷ fates) =
-    fate_by (is_emptied inside suffix fates) (Open verb suffix)
-    ∷ widened_from true (is_emptied inside suffix fates) fates
-widened_from inside goes (Some (Close suffix) ∷ fates) =
-    fate_by (inside && goes) (Close suffix) ∷ widened_from false (inside && goes) fates
-widened_from inside goes (Some line ∷ fates) = Some line ∷ widened_from inside false fates
+-- whether a block is open that goes, by what is known of the open block, if any
+abbrev pub is_in_gone : Option Bool → Bool
+is_in_gone None = false
+is_in_gone (Some goes) = goes
+
+-- The lines with marks at all lines of the blocks that are emptied too, and at a blank line whose nearest earlier line
+-- without a mark closes such a block. `block` says of the open block, if any, whether it is emptied, and `behind`
+-- whether the nearest earlier line without a mark of its own closes an emptied block.
+abbrev pub widened_from : Option Bool → Bool → List Fate → List Fate
+widened_from block behind [] = []
+widened_from block behind (None ∷ fates) = None ∷ widened_from block behind fates
+widened_from block behind (Some Blank ∷ fates) =
+    fate_by (is_in_gone block || behind) Blank ∷ widened_from block false fates
+widened_from block behind (Some (Open verb suffix) ∷ fates) =
+    fate_by (is_emptied block suffix fates) (Open verb suffix)
+    ∷ widened_from (Some (is_emptied block suffix fates)) false fates
+widened_from block behind (Some (Close suffix) ∷ fates) =
+    fate_by (is_in_gone block) (Close suffix) ∷ widened_from None (is_in_gone block) fates
+widened_from block behind (Some line ∷ fates) = Some line ∷ widened_from block false fates
 
 -- ---- the lines that are kept
 
@@ -71,7 +77,7 @@ kept_lines fates = filter_map (λ fate. fate) fates
 
 -- the lines without a mark, and without the blocks that are emptied
 unfoldable pub remaining : List Fate → List (Line Placed)
-remaining fates = kept_lines (widened_from false false fates)
+remaining fates = kept_lines (widened_from None false fates)
 
 -- the lines without those that hold a directive that passes the test
 abbrev pub without_targets : (Directive → Bool) → List (Line Placed) → List (Line Placed)

@@ -4,27 +4,29 @@
 //! it, so that the blank lines before and after the block don't end up next to each other. Then each line that stays
 //! moves at most once. Nothing is allocated.
 
-ghost use Rattle.std.specs.Prelude.{◌≡◌, ◌+◌, ◌∷◌, ◌++◌, ◌<◌, ◌≤◌, [], false, length, take, drop, Some};
+ghost use Rattle.std.specs.Prelude.{◌≡◌, ◌+◌, ◌∷◌, ◌++◌, ◌<◌, ◌≤◌, [], false, length, take, drop, Some, None};
 ghost use Rattle.std.specs.List.{list_any};
 ghost use Rattle.std.specs.Option.{option_map};
 ghost use Rattle.gm_syntax.specs.LineViews.{line_of};
 ghost use Rattle.gm_file_edit.specs.Fates.{empties, fate_by, kept_lines, remaining, widened_from};
-ghost use Rattle.gm_file_edit.specs.Marks.{closes_bare, is_blank_source_line, line_at, fates_of, opens_bare};
+ghost use Rattle.gm_file_edit.specs.Marks.{block_at, closes_bare, fates_of, is_behind_gone, is_blank_source_line, line_at, opens_bare};
 
 use crate::keyed_lines::KeyedLines;
 use crate::keys::Key;
 use crate::marking::first_mark;
 use gm_syntax::Line;
 
-/// What is known after a line of a file whose marks are widened.
+/// Where a line is.
 #[derive(Clone, Copy)]
-pub(crate) struct Widening {
-    /// Whether the line goes.
-    mark: bool,
-    /// Whether a block is open.
-    inside: bool,
-    /// Whether the open block goes, or the last line that wasn't marked before closed a block that goes.
-    goes: bool,
+pub(crate) enum Place {
+    /// Outside blocks.
+    Outside,
+    /// Outside blocks, and the nearest line before it that has no mark closes a block that goes.
+    BehindGone,
+    /// In a block that stays.
+    InKept,
+    /// In a block that goes.
+    InGone,
 }
 
 /// Whether the line at an index is blank.
@@ -66,44 +68,38 @@ fn empties(lines: &KeyedLines, marks: &[bool], from: usize) -> bool
     false
 }
 
-/// What is known after the line at an index, which has no mark.
-fn after_line(before: Widening, lines: &KeyedLines, marks: &[bool], n: usize) -> Widening
+/// Whether the line at an index and a place goes, which has no mark, and the place after it.
+fn after_line(place: Place, lines: &KeyedLines, marks: &[bool], n: usize) -> (bool, Place)
     requires len { length marks.now ≡ length lines.now }
     requires in_range { n < length lines.now }
-    ensures { widened_from before.inside before.goes
+    ensures { widened_from (block_at place) (is_behind_gone place)
         (Some (line_at lines.now n) ∷ fates_of (drop (n + 1) marks.now) (drop (n + 1) lines.now))
-        ≡ fate_by result.mark (line_at lines.now n)
-        ∷ widened_from result.inside result.goes (fates_of (drop (n + 1) marks.now) (drop (n + 1) lines.now)) }
+        ≡ fate_by result.0 (line_at lines.now n) ∷ widened_from (block_at result.1) (is_behind_gone result.1)
+        (fates_of (drop (n + 1) marks.now) (drop (n + 1) lines.now)) }
 {
-    let Widening {
-        mark: _,
-        inside,
-        goes,
-    } = before;
-    let line = lines.line(n);
     match lines.key(n) {
-        Key::Blank => Widening {
-            mark: goes,
-            inside,
-            goes: inside && goes,
+        Key::Blank => match place {
+            Place::BehindGone => (true, Place::Outside),
+            Place::InGone => (true, Place::InGone),
+            Place::Outside | Place::InKept => (false, place),
         },
-        Key::Open(_) => {
-            let emptied = !inside && empties(lines, marks, n + 1) && opens_bare(line);
-            Widening {
-                mark: emptied,
-                inside: true,
-                goes: emptied,
+        Key::Open(_) => match place {
+            Place::Outside | Place::BehindGone => {
+                if opens_bare(lines.line(n)) && empties(lines, marks, n + 1) {
+                    (true, Place::InGone)
+                } else {
+                    (false, Place::InKept)
+                }
             }
-        }
-        Key::Close => Widening {
-            mark: inside && goes,
-            inside: false,
-            goes: inside && goes,
+            Place::InKept | Place::InGone => (false, Place::InKept),
         },
-        Key::Comment | Key::Entry(_) => Widening {
-            mark: false,
-            inside,
-            goes: false,
+        Key::Close => match place {
+            Place::InGone => (true, Place::BehindGone),
+            Place::Outside | Place::BehindGone | Place::InKept => (false, Place::Outside),
+        },
+        Key::Comment | Key::Entry(_) => match place {
+            Place::BehindGone => (false, Place::Outside),
+            Place::Outside | Place::InKept | Place::InGone => (false, place),
         },
     }
 }
@@ -112,17 +108,14 @@ fn after_line(before: Widening, lines: &KeyedLines, marks: &[bool], n: usize) ->
 fn widen(lines: &KeyedLines, marks: &mut Vec<bool>)
     requires { length marks.old.items ≡ length lines.now }
     ensures len { length marks.new.items ≡ length lines.now }
-    ensures marks { fates_of marks.new.items lines.now ≡ widened_from false false (fates_of marks.old.items lines.now) }
+    ensures marks { fates_of marks.new.items lines.now ≡ widened_from None false (fates_of marks.old.items lines.now) }
 {
-    let mut state = Widening {
-        mark: false,
-        inside: false,
-        goes: false,
-    };
+    let mut place = Place::Outside;
     for n in 0..lines.len() {
         if !marks[n] {
-            state = after_line(state, lines, marks.as_slice(), n);
-            marks[n] = state.mark;
+            let (goes, next) = after_line(place, lines, marks.as_slice(), n);
+            marks[n] = goes;
+            place = next;
         }
     }
 }
