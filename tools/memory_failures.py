@@ -71,7 +71,7 @@ gm_file_edit/src/keyed_lines.rt insert: one line
 gm_file_edit/src/keyed_lines.rt insert_after_blank: two lines
   make_room(&mut self.lines, &mut self.keys, 2)? where make_room is { lines.reserve(count)?; keys.reserve(count) }
 gm_file_edit/src/marking.rt marks: a mark for each line
-  let mut marks = vec![in alloc; false; lines.len()]?
+  let mut marks = Vec::with_capacity(alloc, lines.len())?
 gm_graph/src/cache/file_table.rt reach: up to the place that is put in
   self.places.resize(number + 1, OptionalPlace::none())? where number is number as usize
 gm_graph/src/gathering.rt lists_of: one for each file

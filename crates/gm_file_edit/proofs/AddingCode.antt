@@ -6,21 +6,19 @@ use Rattle.std.proofs.Math.Seq.{take-length}
 use Rattle.std.proofs.lemmas.List.{drop_all, length-append, length-take-le, take-append-drop, take_all, take_more}
 use Rattle.gm_syntax.specs.Tokens.{Placed}
 use Rattle.gm_syntax.specs.Document.{Line, Blank}
-use Rattle.gm_file.specs.Directives.{Directive, block_after_line, block_after_lines, is_of_verb, main_verb}
+use Rattle.gm_file.specs.Directives.{Directive, block_after_line, block_after_lines, is_of_verb, main_verb, verb_eq}
 use Rattle.gm_file.specs.Faults.{is_module}
 use Rattle.gm_file_edit.specs.Edited.{with_addition, after_closing, after_first_of, has_verb}
 use Rattle.gm_file_edit.specs.declared.adding.Spot.{Spot}
 use Rattle.gm_file_edit.specs.NewWords.{entry_at, single}
 use Rattle.gm_file_edit.specs.Holding.{directive_at, passes, is_there}
-use Rattle.gm_file_edit.specs.Keys.{changes_block, is_entry_in, is_inside, key_of, scope_after}
+use Rattle.gm_file_edit.specs.Keys.{changes_block, entry_verb, key_of}
 use Rattle.gm_file_edit.specs.Marks.{IsPlaceOf, line_at}
 use Rattle.gm_file_edit.specs.declared.keys.Key.{Key}
-use Rattle.gm_file_edit.specs.declared.keys.Scope.{Scope}
-use Rattle.gm_file_edit.specs.declared.keys.Scope.TheVariants as scope
 use Rattle.gm_file.specs.declared.verb.Verb.{Verb}
 use Rattle.gm_file.specs.declared.verb.Verb.TheVariants as verb
 use Rattle.gm_file_edit.proofs.Insertions.{IsLast, added-after-last, there-append}
-use Rattle.gm_file_edit.proofs.PassedOver.{IsKnown, IsScopeTo, key-tells, scope-inside, scope-more}
+use Rattle.gm_file_edit.proofs.PassedOver.{IsKnown, IsVerbTo, StepsVerb, key-tells, verb-inside, verb-more}
 use Rattle.gm_file_edit.proofs.Pairs.{IsSound, block-append}
 use Rattle.gm_file_edit.proofs.Walking.{block-level, block-next, level-line, line-here}
 
@@ -83,27 +81,27 @@ later-line test lines line (Some spot) miss is =
     }
 
 -- the best position after one more line
-abbrev pub better_at : ℕ → Scope → Bool → Option Spot → Option Spot
-better_at n at true best = Some (record { before = n + 1; inside = is_inside at })
-better_at n at false best = best
+abbrev pub better_at : ℕ → Bool → Bool → Option Spot → Option Spot
+better_at n inside true best = Some (record { before = n + 1; inside = inside })
+better_at n inside false best = best
 
-better-line : (test : Directive → Bool) (lines : List (Line Placed)) (line : Line Placed) (n : ℕ) (at : Scope) (found : Bool) (best : Option Spot) → n ≡ length lines → is_inside at ≡ is_some (block_after_lines None lines)
-    → passes test (directive_at (block_after_lines None lines) line) ≡ found → IsBest test lines best → IsBest test (lines ++ line ∷ []) (better_at n at found best)
-better-line test lines line n at true best long inside hit is = record { last = record { front = lines; line = line; back = []; parts = refl; hit = hit; later = refl }; before = omega (arith, long); inside = inside }
-better-line test lines line n at false best long inside miss is = later-line test lines line best miss is
+better-line : (test : Directive → Bool) (lines : List (Line Placed)) (line : Line Placed) (n : ℕ) (inside found : Bool) (best : Option Spot) → n ≡ length lines → inside ≡ is_some (block_after_lines None lines)
+    → passes test (directive_at (block_after_lines None lines) line) ≡ found → IsBest test lines best → IsBest test (lines ++ line ∷ []) (better_at n inside found best)
+better-line test lines line n inside true best long within hit is = record { last = record { front = lines; line = line; back = []; parts = refl; hit = hit; later = refl }; before = omega (arith, long); inside = within }
+better-line test lines line n inside false best long within miss is = later-line test lines line best miss is
 
--- Loop invariant: the position is the best of the lines so far, and the scope is that of the block which is open.
-pub record IsLastTo (own : Verb) (whole : List (Line Placed)) (at : Scope) (n : ℕ) (best : Option Spot) : Type 0 where
-  pub scope : IsScopeTo own whole n at
+-- Loop invariant: the position is the best of the lines so far, and the verb is that of the block which is open.
+pub record IsLastTo (own : Verb) (whole : List (Line Placed)) (block : Option Verb) (n : ℕ) (best : Option Spot) : Type 0 where
+  pub verb : IsVerbTo whole n block
   pub best_is : IsBest (is_of_verb own) (take n whole) best
 
-pub last-more : (own : Verb) (whole : List (Line Placed)) (at next_at : Scope) (n : ℕ) (key : Key) (best next : Option Spot) → IsKnown own → IsSound whole → n < length whole → key ≡ key_of (line_at whole n)
-    → next ≡ better_at n at (is_entry_in own at key) best → next_at ≡ scope_after own at key → IsLastTo own whole at n best → IsLastTo own whole next_at (n + 1) next
-last-more own whole at next_at n key best next known sound lt is found behind so =
+pub last-more : (own : Verb) (whole : List (Line Placed)) (block next_block : Option Verb) (n : ℕ) (key : Key) (found : Bool) (best next : Option Spot) → IsKnown own → IsSound whole → n < length whole → key ≡ key_of (line_at whole n)
+    → found ≡ verb_eq own (entry_verb block key) → next ≡ better_at n (is_some block) found best → StepsVerb block key next_block → IsLastTo own whole block n best → IsLastTo own whole next_block (n + 1) next
+last-more own whole block next_block n key found best next known sound lt is tells better step so =
     let front : List (Line Placed) = take n whole in
-    let inside : is_inside at ≡ is_some (block_after_lines None front) = ap is_inside so.scope ∙ scope-inside own (block_after_lines None front) in
-    let one = better-line (is_of_verb own) front (line_at whole n) n at (is_entry_in own at key) best (sym (length-take-le n whole (omega (arith, lt)))) inside (sym (key-tells own whole n at key known sound lt is so.scope)) so.best_is in
-    record { scope = scope-more own whole n at next_at key lt is behind so.scope; best_is = subst (λ (ls : List (Line Placed)). IsBest (is_of_verb own) ls next) (sym (take_more whole n Blank lt)) (rw found one) }
+    let inside : is_some block ≡ is_some (block_after_lines None front) = ap is_some so.verb ∙ verb-inside (block_after_lines None front) in
+    let one = better-line (is_of_verb own) front (line_at whole n) n (is_some block) found best (sym (length-take-le n whole (omega (arith, lt)))) inside (sym (tells ∙ key-tells own whole n block key known sound lt is so.verb)) so.best_is in
+    record { verb = verb-more whole n block next_block key lt is step so.verb; best_is = subst (λ (ls : List (Line Placed)). IsBest (is_of_verb own) ls next) (sym (take_more whole n Blank lt)) (rw better one) }
 
 pub best-place : (own : Verb) (lines : List (Line Placed)) (best : Option Spot) → IsBest (is_of_verb own) lines best → IfSome best (λ s. IsPlaceOf own lines s)
 best-place own lines None is = tt
@@ -113,8 +111,8 @@ pub best-none : (own : Verb) (lines : List (Line Placed)) (best : Option Spot) �
 best-none own lines None is = is
 best-none own lines (Some spot) is = tt
 
-pub last-end : (own : Verb) (whole : List (Line Placed)) (at : Scope) (n : ℕ) (best : Option Spot) → length whole ≤ n → IsLastTo own whole at n best → IsBest (is_of_verb own) whole best
-last-end own whole at n best over so = subst (λ (ls : List (Line Placed)). IsBest (is_of_verb own) ls best) (take_all n whole over) so.best_is
+pub last-end : (own : Verb) (whole : List (Line Placed)) (block : Option Verb) (n : ℕ) (best : Option Spot) → length whole ≤ n → IsLastTo own whole block n best → IsBest (is_of_verb own) whole best
+last-end own whole block n best over so = subst (λ (ls : List (Line Placed)). IsBest (is_of_verb own) ls best) (take_all n whole over) so.best_is
 
 -- ---- the same position, looked for from the end up to the last line that opens or closes a block
 
@@ -138,16 +136,16 @@ record IsBefore (own : Verb) (lines : List (Line Placed)) (n : ℕ) (found : Boo
   pub level : block_after_line None (line_at lines n) ≡ None
 
 before-tail : (own : Verb) (lines : List (Line Placed)) (n : ℕ) (found : Bool) → IsKnown own → IsSound lines → n < length lines → changes_block (key_of (line_at lines n)) ≡ false
-    → is_entry_in own scope.Outside (key_of (line_at lines n)) ≡ found → IsTail own lines (n + 1) → IsBefore own lines n found
+    → verb_eq own (entry_verb None (key_of (line_at lines n))) ≡ found → IsTail own lines (n + 1) → IsBefore own lines n found
 before-tail own lines n found known sound lt level is so =
     let line : Line Placed = line_at lines n in
     let outside : block_after_lines None (take n lines) ≡ None = sym (block-level lines n lt level) ∙ so.outside in
-    let tells = key-tells own lines n scope.Outside (key_of line) known sound lt refl (rw outside refl) in
+    let tells = key-tells own lines n None (key_of line) known sound lt refl (rw outside refl) in
     record { outside = outside; holds = ap (λ (b : Option Placed). passes (is_of_verb own) (directive_at b line)) (sym outside) ∙ sym tells ∙ is; level = level-line None line level }
 
 -- one more line
 pub tail-more : (own : Verb) (lines : List (Line Placed)) (n next : ℕ) → IsKnown own → IsSound lines → next + 1 ≡ n → changes_block (key_of (line_at lines next)) ≡ false
-    → is_entry_in own scope.Outside (key_of (line_at lines next)) ≡ false → IsTail own lines n → IsTail own lines next
+    → verb_eq own (entry_verb None (key_of (line_at lines next))) ≡ false → IsTail own lines n → IsTail own lines next
 tail-more own lines n next known sound is level fails so =
     let le = so.in_range in
     let lt : next < length lines = omega (arith, le, is) in
@@ -161,7 +159,7 @@ tail-more own lines n next known sound is level fails so =
 
 -- the entry before the tail is the last
 pub tail-found : (own : Verb) (lines : List (Line Placed)) (n next : ℕ) → IsKnown own → IsSound lines → next + 1 ≡ n → changes_block (key_of (line_at lines next)) ≡ false
-    → is_entry_in own scope.Outside (key_of (line_at lines next)) ≡ true → IsTail own lines n → IsSpotOf (is_of_verb own) lines (record { before = n; inside = false })
+    → verb_eq own (entry_verb None (key_of (line_at lines next))) ≡ true → IsTail own lines n → IsSpotOf (is_of_verb own) lines (record { before = n; inside = false })
 tail-found own lines n next known sound is level holds so =
     let le = so.in_range in
     let lt : next < length lines = omega (arith, le, is) in
@@ -192,13 +190,13 @@ at-end lines new n is =
 
 -- ---- the position of a go directive
 
--- Loop invariant: the lines up to an index are passed over, and the scope is that of the block which is open.
-pub record IsUnmetTo (whole : List (Line Placed)) (at : Scope) (n : ℕ) : Type 0 where
-  pub scope : IsScopeTo verb.Module whole n at
+-- Loop invariant: the lines up to an index are passed over, and the verb is that of the block which is open.
+pub record IsUnmetTo (whole : List (Line Placed)) (block : Option Verb) (n : ℕ) : Type 0 where
+  pub verb : IsVerbTo whole n block
   pub same : (new : List (Line Placed)) → take n whole ++ after_first_of is_module new (block_after_lines None (take n whole)) (drop n whole) ≡ after_first_of is_module new None whole
 
 -- the lines from the next one on, with new ones after the first module directive
-here-on : (whole new : List (Line Placed)) (at : Scope) (n : ℕ) → n < length whole → IsUnmetTo whole at n → take n whole ++ after_first_of is_module new (block_after_lines None (take n whole)) (line_at whole n ∷ drop (n + 1) whole) ≡ after_first_of is_module new None whole
+here-on : (whole new : List (Line Placed)) (at : Option Verb) (n : ℕ) → n < length whole → IsUnmetTo whole at n → take n whole ++ after_first_of is_module new (block_after_lines None (take n whole)) (line_at whole n ∷ drop (n + 1) whole) ≡ after_first_of is_module new None whole
 here-on whole new at n lt so = ap (λ (ls : List (Line Placed)). take n whole ++ after_first_of is_module new (block_after_lines None (take n whole)) ls) (sym (line-here whole n lt)) ∙ so.same new
 
 -- the lines up to and including the next one
@@ -214,13 +212,13 @@ after-miss : (test : Directive → Bool) (new : List (Line Placed)) (block : Opt
     → after_first_of test new block (line ∷ lines) ≡ line ∷ after_first_of test new (block_after_line block line) lines
 after-miss test new block line lines miss = rw miss refl
 
-pub unmet-more : (whole : List (Line Placed)) (at next_at : Scope) (n : ℕ) (key : Key) → IsSound whole → n < length whole → key ≡ key_of (line_at whole n)
-    → is_entry_in verb.Module at key ≡ false → next_at ≡ scope_after verb.Module at key → IsUnmetTo whole at n → IsUnmetTo whole next_at (n + 1)
-unmet-more whole at next_at n key sound lt is fails behind so =
+pub unmet-more : (whole : List (Line Placed)) (at next_at : Option Verb) (n : ℕ) (key : Key) → IsSound whole → n < length whole → key ≡ key_of (line_at whole n)
+    → verb_eq verb.Module (entry_verb at key) ≡ false → StepsVerb at key next_at → IsUnmetTo whole at n → IsUnmetTo whole next_at (n + 1)
+unmet-more whole at next_at n key sound lt is fails step so =
     let block : Option Placed = block_after_lines None (take n whole) in
-    let miss = sym (key-tells verb.Module whole n at key refl sound lt is so.scope) ∙ fails in
+    let miss = sym (key-tells verb.Module whole n at key refl sound lt is so.verb) ∙ fails in
     record {
-      scope = scope-more verb.Module whole n at next_at key lt is behind so.scope;
+      verb = verb-more whole n at next_at key lt is step so.verb;
       same = λ new.
           ap (λ (b : Option Placed). take (n + 1) whole ++ after_first_of is_module new b (drop (n + 1) whole)) (block-next whole n lt)
           ∙ taken-next whole (after_first_of is_module new (block_after_line block (line_at whole n)) (drop (n + 1) whole)) n lt
@@ -228,18 +226,18 @@ unmet-more whole at next_at n key sound lt is fails behind so =
     }
 
 -- the lines with new ones after the line at an index, or after its block
-pub unmet-found : (whole : List (Line Placed)) (at : Scope) (n : ℕ) (key : Key) (inside : Bool) → IsSound whole → n < length whole → key ≡ key_of (line_at whole n)
-    → is_entry_in verb.Module at key ≡ true → inside ≡ is_inside at → IsUnmetTo whole at n → (new : List (Line Placed))
+pub unmet-found : (whole : List (Line Placed)) (at : Option Verb) (n : ℕ) (key : Key) (inside : Bool) → IsSound whole → n < length whole → key ≡ key_of (line_at whole n)
+    → verb_eq verb.Module (entry_verb at key) ≡ true → inside ≡ is_some at → IsUnmetTo whole at n → (new : List (Line Placed))
     → take (n + 1) whole ++ (if inside then after_closing new (drop (n + 1) whole) else new ++ drop (n + 1) whole) ≡ after_first_of is_module new None whole
 unmet-found whole at n key inside sound lt is holds within so new =
     let block : Option Placed = block_after_lines None (take n whole) in
     let rest : List (Line Placed) = drop (n + 1) whole in
-    let hit = sym (key-tells verb.Module whole n at key refl sound lt is so.scope) ∙ holds in
+    let hit = sym (key-tells verb.Module whole n at key refl sound lt is so.verb) ∙ holds in
     taken-next whole (if inside then after_closing new rest else new ++ rest) n lt
-    ∙ ap (λ (b : Bool). take n whole ++ line_at whole n ∷ (if b then after_closing new rest else new ++ rest)) (within ∙ ap is_inside so.scope ∙ scope-inside verb.Module block)
+    ∙ ap (λ (b : Bool). take n whole ++ line_at whole n ∷ (if b then after_closing new rest else new ++ rest)) (within ∙ ap is_some so.verb ∙ verb-inside block)
     ∙ ap (λ (ls : List (Line Placed)). take n whole ++ ls) (sym (after-hit is_module new block (line_at whole n) rest hit)) ∙ here-on whole new at n lt so
 
-pub unmet-end : (whole : List (Line Placed)) (at : Scope) (n count : ℕ) → length whole ≤ n → count ≡ length whole → IsUnmetTo whole at n → (new : List (Line Placed)) → take count whole ++ (new ++ drop count whole) ≡ after_first_of is_module new None whole
+pub unmet-end : (whole : List (Line Placed)) (at : Option Verb) (n count : ℕ) → length whole ≤ n → count ≡ length whole → IsUnmetTo whole at n → (new : List (Line Placed)) → take count whole ++ (new ++ drop count whole) ≡ after_first_of is_module new None whole
 unmet-end whole at n count over is so new =
     at-end whole new count is
     ∙ ap (λ (ls : List (Line Placed)). ls ++ new) (sym (take_all n whole over))

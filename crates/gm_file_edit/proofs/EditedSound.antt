@@ -33,7 +33,7 @@ use Rattle.gm_file_edit.proofs.Feeds.{byte-feed, go-feed, path-feed, version-fee
 use Rattle.gm_file_edit.proofs.Made.{AreArguments, begins-path, made-no-mark, made-stands, made-value, one-are, open-behind}
 use Rattle.gm_file_edit.proofs.Renewals.{go-says, put_by, renewal, replace-are, replace-says, wanted}
 use Rattle.gm_file_edit.proofs.Pairs.{IsSound, document-sound, held_from, sound-document}
-use Rattle.gm_file_edit.specs.Keys.{verb_sought}
+use Rattle.gm_file_edit.specs.Keys.{target_verb}
 use Rattle.gm_file_edit.proofs.Targets.{about-module}
 use Rattle.gm_file_edit.proofs.Untouched.{by-edited}
 
@@ -126,7 +126,7 @@ changed-sound (Set s) lines good fit there sound = renewed-sound (about (Set s))
 changed-sound (Add a) lines good fit there sound = sound
 changed-sound (Drop t) lines good fit there sound = dropped-sound (about (Drop t)) lines sound (λ d e. about-module (Drop t) d e ∙ no-module t)
   where
-    no-module : (t : Target) → verb_eq ForModule (verb_sought (Drop t)) ≡ false
+    no-module : (t : Target) → verb_eq ForModule (target_verb (Drop t)) ≡ false
     no-module (AnyRequire path) = refl
     no-module t = refl
 

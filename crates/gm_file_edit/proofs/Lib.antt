@@ -25,7 +25,7 @@ pub mod Additions
 pub mod Twice
 pub mod Undone
 pub mod EitherOrder
-pub mod Quotes
-pub mod Told
+pub mod Bits
+pub mod Values
 pub mod PassedOver
 pub mod KeyedChanges

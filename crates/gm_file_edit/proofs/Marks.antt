@@ -1,7 +1,7 @@
 -- The marks of lines, and what removing marked lines leaves.
-use Rattle.std.proofs.Common.{◌≡◌, ◌&&◌, ℕ, suc, ◌+◌, ◌<◌, ◌≤◌, not, Bool, true, false, List, [], ◌∷◌, ◌++◌, length, take, set, replicate, Option, Some, None, refl, sym, ap, ◌∙◌, arith, inl, inr}
+use Rattle.std.proofs.Common.{◌≡◌, ◌&&◌, ℕ, suc, ◌+◌, ◌<◌, ◌≤◌, not, Bool, true, false, List, [], ◌∷◌, ◌++◌, length, take, set, Option, Some, None, refl, sym, ap, ◌∙◌, arith, inl, inr}
 use Rattle.std.specs.Prelude.{take_while}
-use Rattle.std.proofs.lemmas.List.{length-replicate, length-set, take_all, take_more, take_more_set}
+use Rattle.std.proofs.lemmas.List.{take_all, take_more}
 use Rattle.std.proofs.lemmas.Bool.{cases_Bool}
 use Rattle.gm_syntax.specs.Tokens.{Placed}
 use Rattle.gm_syntax.specs.Document.{Line, Blank}
@@ -14,15 +14,11 @@ use Rattle.gm_file_edit.specs.Edits.{Edit}
 use Rattle.gm_file_edit.specs.Renewing.{made_new}
 use Rattle.gm_file_edit.specs.Marks.{line_at, fates_of, marks_from}
 use Rattle.gm_file_edit.specs.declared.keys.Key.{Key}
-use Rattle.gm_file_edit.specs.declared.keys.Scope.{Scope}
-use Rattle.gm_file_edit.specs.declared.keys.Scope.TheVariants as scope
-use Rattle.gm_file_edit.specs.declared.keys.SoughtKey.{SoughtKey}
 use Rattle.gm_file.specs.declared.verb.Verb.{Verb}
-use Rattle.gm_file_edit.specs.Keys.{does_tell, key_of, may_concern, scope_after, sought_key, verb_sought, sought_of}
+use Rattle.gm_file_edit.specs.Keys.{key_of}
 use Rattle.gm_file_edit.proofs.Packs.{first-is, first_of}
-use Rattle.gm_file_edit.proofs.PassedOver.{IsScopeTo, scope-more, target-by}
-use Rattle.gm_file_edit.proofs.Pairs.{IsSound}
-use Rattle.gm_file_edit.proofs.Walking.{right-at}
+use Rattle.gm_file_edit.proofs.PassedOver.{IsVerbTo, StepsVerb, verb-more}
+use Rattle.gm_file_edit.proofs.Walking.{block-next}
 
 -- ---- the loop that marks lines
 
@@ -34,39 +30,34 @@ marks-append : (test : Directive → Bool) (block : Option Placed) (xs ys : List
 marks-append test block [] ys = refl
 marks-append test block (line ∷ xs) ys = ap (λ (ms : List Bool). passes test (directive_at block line) ∷ ms) (marks-append test (block_after_line block line) xs ys)
 
--- Loop invariant: the first lines are marked, and the scope is that of the block which is open after them.
-pub record AreMarkedTo (edit : Edit) (whole : List (Line Placed)) (at : Scope) (n : ℕ) (marks : List Bool) : Type 0 where
-  pub scope : IsScopeTo (verb_sought edit) whole n at
-  pub size : length marks ≡ length whole
-  pub front : take n marks ≡ marks_from (about edit) None (take n whole)
+-- Loop invariant: the first lines are marked, the block is the one that is open after them, and its verb is known.
+pub record AreMarkedTo (edit : Edit) (whole : List (Line Placed)) (n : ℕ) (block : Option Placed) (verb : Option Verb) (marks : List Bool) : Type 0 where
+  pub block_is : block ≡ block_after_lines None (take n whole)
+  pub verb_is : IsVerbTo whole n verb
+  pub front : marks ≡ marks_from (about edit) None (take n whole)
 
-pub scan-begin : (edit : Edit) (whole : List (Line Placed)) (marks : List Bool) (n : ℕ) → n ≡ length whole → marks ≡ replicate n false → AreMarkedTo edit whole scope.Outside 0 marks
-scan-begin edit whole marks n long is = record { scope = refl; size = ap length is ∙ length-replicate n false ∙ long; front = refl }
+-- a line that the test of keys and texts passes over has no mark
+pub unmarked : (mark may : Bool) → (mark ≡ true → may ≡ true) → may ≡ false → false ≡ mark
+unmarked true may gives fails = absurd (let holds = gives refl in cc)
+unmarked false may gives fails = refl
 
 -- one more line
-pub scan-more : (edit : Edit) (own : Verb) (number : SoughtKey) (at next_at : Scope) (whole : List (Line Placed)) (n : ℕ) (line : Line Placed) (key : Key) (marks next : List Bool) (mark : Bool) → IsSound whole → n < length whole → line ≡ line_at whole n → key ≡ key_of (line_at whole n)
-    → own ≡ verb_sought edit → number ≡ sought_key (sought_of edit) → mark ≡ (may_concern own number at key && does_tell (sought_of edit) at line) → next_at ≡ scope_after own at key → next ≡ set marks n mark
-    → AreMarkedTo edit whole at n marks → AreMarkedTo edit whole next_at (n + 1) next
-scan-more edit own number at next_at whole n line key marks next mark sound lt is key_is of looked_for tested behind put so =
-    let block : Option Placed = block_after_lines None (take n whole) in
+pub scan-more : (edit : Edit) (whole : List (Line Placed)) (n : ℕ) (block next_block : Option Placed) (verb next_verb : Option Verb) (line : Line Placed) (key : Key) (marks next : List Bool) (mark : Bool)
+    → n < length whole → line ≡ line_at whole n → key ≡ key_of (line_at whole n) → mark ≡ passes (about edit) (directive_at block line) → next ≡ marks ++ mark ∷ []
+    → next_block ≡ block_after_line block line → StepsVerb verb key next_verb → AreMarkedTo edit whole n block verb marks → AreMarkedTo edit whole (n + 1) next_block next_verb next
+scan-more edit whole n block next_block verb next_verb line key marks next mark lt is key_is tested pushed stepped step so =
     let here : Line Placed = line_at whole n in
-    let right = right-at None whole n lt sound.lines_are.right in
-    let size = so.size in
-    let long = length-set marks n mark in
-    let tested_so : mark ≡ passes (about edit) (directive_at block here) = tested ∙ rw (of, looked_for, key_is, is, so.scope) (target-by edit block here right.0 right.1) in
+    let tested_so : mark ≡ passes (about edit) (directive_at (block_after_lines None (take n whole)) here) = tested ∙ rw (is, so.block_is) refl in
     record {
-      scope = scope-more (verb_sought edit) whole n at next_at key lt key_is (behind ∙ ap (λ (v : Verb). scope_after v at key) of) so.scope;
-      size = ap length put ∙ long ∙ size;
+      block_is = stepped ∙ rw (is, so.block_is) refl ∙ sym (block-next whole n lt);
+      verb_is = verb-more whole n verb next_verb key lt key_is step so.verb_is;
       front =
-          ap (take (n + 1)) put ∙ take_more_set marks n mark (omega (arith, lt, size)) ∙ ap (λ (ms : List Bool). ms ++ mark ∷ []) so.front
-          ∙ ap (λ (b : Bool). marks_from (about edit) None (take n whole) ++ b ∷ []) tested_so
+          pushed ∙ ap (λ (ms : List Bool). ms ++ mark ∷ []) so.front ∙ ap (λ (b : Bool). marks_from (about edit) None (take n whole) ++ b ∷ []) tested_so
           ∙ sym (ap (marks_from (about edit) None) (take_more whole n Blank lt) ∙ marks-append (about edit) None (take n whole) (here ∷ []));
     }
 
-pub scan-end : (edit : Edit) (whole : List (Line Placed)) (at : Scope) (n : ℕ) (marks : List Bool) → length whole ≤ n → AreMarkedTo edit whole at n marks → marks ≡ marks_from (about edit) None whole
-scan-end edit whole at n marks over so =
-    let size = so.size in
-    sym (take_all n marks (omega (arith, over, size))) ∙ so.front ∙ ap (marks_from (about edit) None) (take_all n whole over)
+pub scan-end : (edit : Edit) (whole : List (Line Placed)) (n : ℕ) (block : Option Placed) (verb : Option Verb) (marks : List Bool) → length whole ≤ n → AreMarkedTo edit whole n block verb marks → marks ≡ marks_from (about edit) None whole
+scan-end edit whole n block verb marks over so = so.front ∙ ap (marks_from (about edit) None) (take_all n whole over)
 
 -- ---- the first mark
 

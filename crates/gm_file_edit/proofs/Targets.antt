@@ -12,11 +12,11 @@ use Rattle.gm_file.proofs.DirectiveVerbs.{directive-verb, same-verb, verb-itself
 use Rattle.gm_file_edit.specs.About.{about}
 use Rattle.gm_file_edit.specs.Edits.{Edit, Set, ModuleIs, GoIs, RequireAt, Drop, AnyRequire, Add, Exclude, AnyExclude, ReplaceWith, AnyReplace, Retract, AnyRetract}
 use Rattle.gm_file_edit.specs.Holding.{IsValidAt, directive_at, item_of, passes}
-use Rattle.gm_file_edit.specs.Keys.{verb_sought}
+use Rattle.gm_file_edit.specs.Keys.{target_verb}
 
 -- ---- the verb of an operation
 
-pub about-verb : (edit : Edit) (d : Directive) → about edit d ≡ true → verb_of_directive d ≡ verb_sought edit
+pub about-verb : (edit : Edit) (d : Directive) → about edit d ≡ true → verb_of_directive d ≡ target_verb edit
 about-verb (Set (ModuleIs path)) d holds = sym (same-verb ForModule (verb_of_directive d) holds)
 about-verb (Set (GoIs text)) d holds = sym (same-verb ForGo (verb_of_directive d) holds)
 about-verb (Set (RequireAt p)) (Requires q) holds = refl
@@ -30,21 +30,8 @@ about-verb (Drop (AnyRetract ends)) (Retracts e) holds = refl
 about-verb edit d holds = absurd cc
 
 -- only an operation on the module targets a directive that declares one
-pub about-module : (edit : Edit) (d : Directive) → about edit d ≡ true → is_module d ≡ verb_eq ForModule (verb_sought edit)
+pub about-module : (edit : Edit) (d : Directive) → about edit d ≡ true → is_module d ≡ verb_eq ForModule (target_verb edit)
 about-module edit d holds = ap (verb_eq ForModule) (about-verb edit d holds)
-
--- ---- the verb of an entry
-
--- an entry with another verb isn't targeted
-pub other-about : (edit : Edit) (verb : Verb) (words : List Word) (o : Option Directive) → directive_of verb words ≡ o → verb_eq (verb_sought edit) verb ≡ false → passes (about edit) o ≡ false
-other-about edit verb words None says other = refl
-other-about edit verb words (Some d) says other = elim (cases_Bool (about edit d)) [
-  | inl holds ↦
-      let same : verb ≡ verb_sought edit = sym (directive-verb verb words d says) ∙ about-verb edit d holds in
-      let own : verb_eq (verb_sought edit) verb ≡ true = ap (verb_eq (verb_sought edit)) same ∙ verb-itself (verb_sought edit) in
-      absurd (cc (own, other))
-  | inr fails ↦ fails
-]
 
 -- ---- entries of one verb
 

@@ -12,12 +12,11 @@ ghost use Rattle.gm_file.specs.Faults.{fault_of, is_module};
 ghost use Rattle.gm_file_edit.specs.Edited.{with_addition, after_closing, after_first_of};
 ghost use Rattle.gm_syntax.specs.Lines.{HasNoLineFeed};
 ghost use Rattle.gm_file_edit.specs.NewWords.{entry_at, made_word, single};
-ghost use Rattle.gm_file_edit.specs.Keys.{is_inside};
 ghost use Rattle.gm_file_edit.specs.Marks.{IsPlaceOf};
 ghost use Rattle.gm_file_edit.specs.Holding.{is_there};
 
 use crate::keyed_lines::KeyedLines;
-use crate::keys::{Scope, changes_block, is_entry_in, scope_after};
+use crate::keys::{changes_block, is_entry_in, verb_after};
 use crate::new_words::one_word;
 use gm_file::{Verb, main_verb};
 use gm_syntax::{Line, Token};
@@ -32,16 +31,6 @@ pub(crate) struct Spot {
     inside: bool,
 }
 
-/// Whether a scope is in a block.
-fn is_inside(scope: Scope) -> bool
-    ensures { result ≡ is_inside scope }
-{
-    match scope {
-        Scope::Outside => false,
-        Scope::Own | Scope::Other => true,
-    }
-}
-
 /// The position directly after the last entry with this verb, if any.
 fn last_spot(own: Verb, lines: &KeyedLines) -> Option<Spot>
     requires known { verb_eq own Unknown ≡ false }
@@ -51,16 +40,16 @@ fn last_spot(own: Verb, lines: &KeyedLines) -> Option<Spot>
     ensures none { IfNone result (is_there (is_of_verb own) None lines.now ≡ false) }
 {
     let mut spot = None;
-    let mut scope = Scope::Outside;
+    let mut block = None;
     for n in 0..lines.len() {
         let key = lines.key(n);
-        if is_entry_in(own, scope, key) {
+        if is_entry_in(own, block, key) {
             spot = Some(Spot {
                 before: n + 1,
-                inside: is_inside(scope),
+                inside: block.is_some(),
             });
         }
-        scope = scope_after(own, scope, key);
+        block = verb_after(block, key);
     }
     spot
 }
@@ -75,7 +64,7 @@ fn tail_spot(own: Verb, lines: &KeyedLines) -> Option<Spot>
 {
     let mut n = lines.len();
     while n > 0 && !changes_block(lines.key(n - 1)) {
-        if is_entry_in(own, Scope::Outside, lines.key(n - 1)) {
+        if is_entry_in(own, None, lines.key(n - 1)) {
             return Some(Spot {
                 before: n,
                 inside: false,
@@ -141,7 +130,7 @@ fn insert_single<'a>(
     ensures err { OnErr result (lines.new ≡ lines.old) }
 {
     let entry = single(alloc, verb, arguments)?;
-    lines.insert_after_blank(at, entry)
+    lines.insert_after_blank(alloc, at, entry)
 }
 
 /// Adds an entry. It goes directly after the last entry with its verb, in the same block if that one is in a block. If
@@ -162,7 +151,7 @@ pub(crate) fn add<'a>(
     match added_spot(main_verb(verb), lines) {
         Some(spot) => {
             let entry = entry_at(alloc, spot.inside, verb, arguments)?;
-            lines.insert(spot.before, entry)
+            lines.insert(alloc, spot.before, entry)
         }
         None => {
             let end = lines.len();
@@ -196,16 +185,16 @@ fn go_index(lines: &KeyedLines) -> usize
         → take result lines.now ++ (new ++ drop result lines.now) ≡ after_first_of is_module new None lines.now }
     ensures in_range { result ≤ length lines.now }
 {
-    let mut scope = Scope::Outside;
+    let mut block = None;
     for n in 0..lines.len() {
         let key = lines.key(n);
-        if is_entry_in(Verb::Module, scope, key) {
-            if is_inside(scope) {
+        if is_entry_in(Verb::Module, block, key) {
+            if block.is_some() {
                 return close_index(lines, n + 1);
             }
             return n + 1;
         }
-        scope = scope_after(Verb::Module, scope, key);
+        block = verb_after(block, key);
     }
     lines.len()
 }

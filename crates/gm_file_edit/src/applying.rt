@@ -19,6 +19,7 @@ ghost use Rattle.gm_file_edit.specs.Sound.{IsSoundEdit, addition_of, edit_of, se
 
 use crate::adding::{add, add_go};
 use crate::keyed_lines::KeyedLines;
+use crate::keys::key_of;
 use crate::marking::{first_mark, marks};
 use crate::new_words::{interval_words, pair_words, replace_words};
 use crate::op::{Addition, Change, Setting};
@@ -60,7 +61,8 @@ fn change_lines<'a>(
     match change {
         Change::Set(setting) => {
             let line = new_line(alloc, setting, lines, first)?;
-            renew(lines, marks, first, line);
+            let key = key_of(alloc, &line)?;
+            renew(lines, marks, first, line, key);
             Ok(())
         }
         Change::Add(_) => Ok(()),

@@ -43,7 +43,8 @@ fn keys_of(alloc: Global, lines: &[Line]) -> Result<Vec<Key>, AllocError>
 {
     let mut keys = Vec::with_capacity(alloc, lines.len())?;
     for line in lines {
-        keys.push(key_of(line))?;
+        let key = key_of(alloc, line)?;
+        keys.push(key)?;
     }
     Ok(keys)
 }
@@ -87,19 +88,25 @@ fn make_room<'a>(
 }
 
 /// Inserts a line and its key where there is room for both.
-fn insert_keyed<'a>(lines: &mut Vec<Line<'a>>, keys: &mut Vec<Key>, at: usize, line: Line<'a>)
+fn insert_keyed<'a>(
+    lines: &mut Vec<Line<'a>>,
+    keys: &mut Vec<Key>,
+    at: usize,
+    line: Line<'a>,
+    key: Key,
+)
     requires line_in_range { at ≤ vec_len lines.old }
     requires key_in_range { at ≤ vec_len keys.old }
     requires room_of_lines { vec_len lines.old < vec_capacity lines.old }
     requires room_of_keys { vec_len keys.old < vec_capacity keys.old }
     ensures lines { lines.new.items ≡ insert lines.old.items at line.entry }
-    ensures keys { keys.new.items ≡ insert keys.old.items at (key_of (line_of line.entry)) }
+    ensures keys { keys.new.items ≡ insert keys.old.items at key }
     ensures len_of_lines { vec_len lines.new ≡ vec_len lines.old + 1 }
     ensures len_of_keys { vec_len keys.new ≡ vec_len keys.old + 1 }
     ensures capacity_of_lines { vec_capacity lines.old ≤ vec_capacity lines.new }
     ensures capacity_of_keys { vec_capacity keys.old ≤ vec_capacity keys.new }
 {
-    insert_in_room(keys, at, key_of(&line));
+    insert_in_room(keys, at, key);
     insert_in_room(lines, at, line);
 }
 
@@ -153,36 +160,49 @@ impl<'a> KeyedLines<'a> {
     }
 
     /// Inserts a line at an index. If memory runs out, the lines stay as they are.
-    pub(crate) fn insert(&mut self, at: usize, line: Line<'a>) -> Result<(), AllocError>
+    pub(crate) fn insert(
+        &mut self,
+        alloc: Global,
+        at: usize,
+        line: Line<'a>,
+    ) -> Result<(), AllocError>
         requires { at ≤ length self.old }
         ensures ok { OnOk result (self.new ≡ insert self.old at (line_of line.entry)) }
         ensures err { OnErr result (self.new ≡ self.old) }
     {
+        let key = key_of(alloc, &line)?;
         // with room for both, neither is inserted alone
         make_room(&mut self.lines, &mut self.keys, 1)?;
-        insert_keyed(&mut self.lines, &mut self.keys, at, line);
+        insert_keyed(&mut self.lines, &mut self.keys, at, line, key);
         Ok(())
     }
 
     /// Inserts a blank line and then `line` at an index. If memory runs out, the lines stay as they are.
-    pub(crate) fn insert_after_blank(&mut self, at: usize, line: Line<'a>) -> Result<(), AllocError>
+    pub(crate) fn insert_after_blank(
+        &mut self,
+        alloc: Global,
+        at: usize,
+        line: Line<'a>,
+    ) -> Result<(), AllocError>
         requires { at ≤ length self.old }
         ensures ok { OnOk result (self.new
             ≡ take at self.old ++ (Blank ∷ line_of line.entry ∷ drop at self.old)) }
         ensures err { OnErr result (self.new ≡ self.old) }
     {
+        let key = key_of(alloc, &line)?;
         make_room(&mut self.lines, &mut self.keys, 2)?;
-        insert_keyed(&mut self.lines, &mut self.keys, at, line);
-        insert_keyed(&mut self.lines, &mut self.keys, at, Line::Blank);
+        insert_keyed(&mut self.lines, &mut self.keys, at, line, key);
+        insert_keyed(&mut self.lines, &mut self.keys, at, Line::Blank, Key::Blank);
         Ok(())
     }
 
-    /// Puts a line in the place of the one at an index.
-    pub(crate) fn put(&mut self, at: usize, line: Line<'a>)
-        requires { at < length self.old }
+    /// Puts a line with its key in the place of the one at an index.
+    pub(crate) fn put(&mut self, at: usize, line: Line<'a>, key: Key)
+        requires in_range { at < length self.old }
+        requires key { key ≡ key_of (line_of line) }
         ensures { self.new ≡ slice_set self.old at (line_of line.entry) }
     {
-        self.keys[at] = key_of(&line);
+        self.keys[at] = key;
         put_item(&mut self.lines, at, line);
     }
 

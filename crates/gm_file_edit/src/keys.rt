@@ -1,19 +1,23 @@
 //! Keys of lines.
 //!
-//! An operation looks for one path, for one path at one version, or for one interval. A line's key has hashes of these,
-//! so most lines are passed over without a look at their words, which are elsewhere in memory. What an entry is about
-//! depends on whether it is in a block, so a key has the hashes for either place: it then depends on the line alone.
+//! An operation targets few lines. The key of a line has the verb of its entry and bits of the values of its words, so
+//! most lines are passed over without a look at their words, which are elsewhere in memory. A key depends on the line
+//! alone.
 
-ghost use Rattle.std.specs.Prelude.{◌≡◌, ◌%◌, ◌^◌};
+ghost use Rattle.std.specs.Prelude.{◌≡◌, false, true, IfOk, Option};
 ghost use Rattle.std.specs.Option.{option_map};
+ghost use Rattle.gm_syntax.specs.Document.{Line as LineOf};
 ghost use Rattle.gm_syntax.specs.LineViews.{line_of};
-ghost use Rattle.gm_file.specs.Directives.{verb_eq};
-ghost use Rattle.gm_file_edit.specs.Keys.{changes_block, hash, hash_at, hashes_of, key_of, may_concern, may_tell, scope_after, is_entry_in, scope_if, sought_key, verb_outside, words_key, sought_view, subject_view};
+ghost use Rattle.gm_syntax.specs.Tokens.{Placed, words_of};
+ghost use Rattle.gm_file.specs.Directives.{block_after_line, verb_eq};
+ghost use Rattle.gm_file.specs.declared.verb.Verb.TheVariants.{Unknown};
+ghost use Rattle.gm_file.specs.Values.{argument};
+ghost use Rattle.gm_file_edit.specs.Keys.{HasBits, bits_with, block_verb, changes_block, entry_verb, key_of, optional_bits, text_bits, verb_outside};
 
-use crate::subject::{Sought, Subject, subject_inside, subject_outside};
-use gm_file::{Verb, is_empty_block, main_verb};
-use gm_name::fingerprint;
-use gm_syntax::{Line, Token};
+use gm_file::{Verb, block_after_line, is_empty_block, main_verb};
+use gm_name::{fingerprint, tag_of};
+use gm_syntax::{Kind, Line, Token};
+use std::alloc::{AllocError, Global};
 
 /// What is known of a line without a look at it.
 #[derive(Clone, Copy)]
@@ -35,87 +39,54 @@ pub(crate) enum Key {
 pub(crate) struct EntryKey {
     /// The verb of the entry if it is outside blocks.
     verb: Verb,
-    /// The hashes of what it is about if it is in a block.
-    inside: Hashes,
-    /// The hashes of what it is about if it is outside blocks.
-    outside: Hashes,
+    /// Bits of the values of its words.
+    bits: u32,
 }
 
-/// The hashes of what arguments are about.
-#[derive(Clone, Copy)]
-pub(crate) struct Hashes {
-    /// The hash of the path or of the lower end.
-    first: u16,
-    /// The hash of the version or of the upper end.
-    second: u16,
-}
-
-/// The hashes of what an operation looks for.
-#[derive(Clone, Copy)]
-pub(crate) enum SoughtKey {
-    /// Any.
-    Any,
-    /// The hash of the path.
-    First(u16),
-    /// The hashes of all.
-    Both(Hashes),
-}
-
-/// Whether a line is outside blocks, in a block of the operation's verb, or in another block.
-#[derive(Clone, Copy)]
-pub(crate) enum Scope {
-    /// Outside blocks.
-    Outside,
-    /// In a block of the verb.
-    Own,
-    /// In a block of another verb.
-    Other,
-}
-
-/// The hash of a text.
-fn hash(text: &str) -> u16
-    ensures { result ≡ hash text.now }
+/// Bits of a text, a quarter of all on average, so that few other texts have them all.
+fn text_bits(text: &str) -> u32
+    ensures { result ≡ text_bits text.now }
 {
-    (fingerprint(0, text) % 65_536) as u16
+    let number = fingerprint(0, text);
+    tag_of(number) & (number % 4_294_967_296) as u32
 }
 
-/// The hash of a text, or of the empty text if there is none.
-fn hash_at(text: Option<&str>) -> u16
-    ensures { result ≡ hash_at (option_map (λ t. t.now) text.entry) }
+/// Bits of a text, if there is one.
+pub(crate) fn optional_bits(text: Option<&str>) -> u32
+    ensures { result ≡ optional_bits (option_map (λ t. t.now) text.entry) }
 {
     match text {
-        None => hash(""),
-        Some(text) => hash(text),
+        None => 0,
+        Some(text) => text_bits(text),
     }
 }
 
-/// The hashes of what arguments are about.
-fn hashes_of(subject: Subject) -> Hashes
-    ensures { result ≡ hashes_of (subject_view subject.entry) }
+/// Bits of the value of a word, if it is an argument.
+fn word_bits(alloc: Global, word: &Token) -> Result<u32, AllocError>
+    ensures { IfOk result (λ bits. bits ≡ optional_bits (argument word.now.word)) }
 {
-    Hashes {
-        first: hash_at(subject.first),
-        second: hash_at(subject.second),
+    match word.kind() {
+        Kind::Bare => Ok(text_bits(word.spelling())),
+        Kind::Text => Ok(text_bits(word.value(alloc)?.as_str())),
+        Kind::Mark => Ok(0),
     }
 }
 
-/// The hashes of what an operation looks for.
-pub(crate) fn sought_key(sought: Sought) -> SoughtKey
-    ensures { result ≡ sought_key (sought_view sought.entry) }
+/// Bits of the values of words.
+fn words_bits(alloc: Global, words: &[Token]) -> Result<u32, AllocError>
+    ensures { IfOk result (λ bits. bits ≡ bits_with 0 (words_of words.now)) }
 {
-    match sought {
-        Sought::Any => SoughtKey::Any,
-        Sought::First(path) => SoughtKey::First(hash(path)),
-        Sought::Both(path, version) => SoughtKey::Both(Hashes {
-            first: hash(path),
-            second: hash_at(version),
-        }),
+    let mut bits = 0;
+    for word in words {
+        let own = word_bits(alloc, word)?;
+        bits |= own;
     }
+    Ok(bits)
 }
 
 /// The verb of the entry that words are outside blocks. A verb with `(` and `)` is a block without entries.
 fn verb_outside(words: &[Token]) -> Verb
-    ensures { result ≡ verb_outside words.now }
+    ensures { result ≡ verb_outside (words_of words.now) }
 {
     match words {
         [] => Verb::Unknown,
@@ -128,27 +99,21 @@ fn verb_outside(words: &[Token]) -> Verb
     }
 }
 
-/// The key of the words of an entry.
-fn words_key(words: &[Token]) -> EntryKey
-    ensures { result ≡ words_key words.now }
-{
-    EntryKey {
-        verb: verb_outside(words),
-        inside: hashes_of(subject_inside(words)),
-        outside: hashes_of(subject_outside(words)),
-    }
-}
-
-/// The key of a line.
-pub(crate) fn key_of(line: &Line) -> Key
-    ensures { result ≡ key_of (line_of line.now) }
+/// The key of a line. Fails only if memory runs out, which strings with escapes take.
+pub(crate) fn key_of(alloc: Global, line: &Line) -> Result<Key, AllocError>
+    ensures { IfOk result (λ key. key ≡ key_of (line_of line.now)) }
 {
     match line {
-        Line::Blank => Key::Blank,
-        Line::Comment(_) => Key::Comment,
-        Line::Open(verb, _) => Key::Open(main_verb(verb.spelling())),
-        Line::Close(_) => Key::Close,
-        Line::Entry(words, _) => Key::Entry(words_key(words.as_slice())),
+        Line::Blank => Ok(Key::Blank),
+        Line::Comment(_) => Ok(Key::Comment),
+        Line::Open(verb, _) => Ok(Key::Open(main_verb(verb.spelling()))),
+        Line::Close(_) => Ok(Key::Close),
+        Line::Entry(words, _) => {
+            let words = words.as_slice();
+            let verb = verb_outside(words);
+            let bits = words_bits(alloc, words)?;
+            Ok(Key::Entry(EntryKey { verb, bits }))
+        }
     }
 }
 
@@ -159,63 +124,52 @@ pub(crate) fn changes_block(key: Key) -> bool
     matches!(key, Key::Open(_) | Key::Close)
 }
 
-/// The scope in a block of this verb.
-fn scope_in(own: Verb, verb: Verb) -> Scope
-    ensures { result ≡ scope_if (verb_eq own verb) }
+/// The verb of the block that is open after the line with a key, if one is. The line itself isn't looked at.
+pub(crate) fn verb_after(verb: Option<Verb>, key: Key) -> Option<Verb>
+    ensures { (block : Option Placed) (line : LineOf Placed) → verb ≡ block_verb block → key ≡ key_of line
+        → result ≡ block_verb (block_after_line block line) }
 {
-    if own == verb {
-        Scope::Own
-    } else {
-        Scope::Other
+    match key {
+        Key::Open(verb) => Some(verb),
+        Key::Close => None,
+        Key::Blank | Key::Comment | Key::Entry(_) => verb,
     }
 }
 
-/// The scope after the line with a key.
-pub(crate) fn scope_after(own: Verb, scope: Scope, key: Key) -> Scope
-    ensures { result ≡ scope_after own scope key }
+/// The block that is open after a line with this key, if one is. Only openings and closings are looked at.
+pub(crate) fn block_after<'w, 'a>(
+    block: Option<&'w Token<'a>>,
+    key: Key,
+    line: &'w Line<'a>,
+) -> Option<&'w Token<'a>>
+    requires { key ≡ key_of (line_of line.now) }
+    ensures { option_map (λ t. t.now) result ≡ block_after_line (option_map (λ t. t.now) block.entry) (line_of line.now) }
 {
-    match key {
-        Key::Open(verb) => scope_in(own, verb),
-        Key::Close => Scope::Outside,
-        Key::Blank | Key::Comment | Key::Entry(_) => scope,
+    if changes_block(key) {
+        return block_after_line(block, line);
     }
+    block
 }
 
-/// Whether the line with a key is an entry of the operation's verb.
-pub(crate) fn is_entry_in(own: Verb, scope: Scope, key: Key) -> bool
-    ensures { result ≡ is_entry_in own scope key }
+/// Whether the line with a key is an entry of a verb that directives have, given the verb of the open block, if any.
+pub(crate) fn is_entry_in(own: Verb, block: Option<Verb>, key: Key) -> bool
+    ensures { verb_eq own Unknown ≡ false → result ≡ verb_eq own (entry_verb block key) }
 {
     match key {
-        Key::Entry(entry) => match scope {
-            Scope::Outside => own == entry.verb,
-            Scope::Own => true,
-            Scope::Other => false,
+        Key::Entry(entry) => match block {
+            None => own == entry.verb,
+            Some(verb) => own == verb,
         },
         Key::Blank | Key::Comment | Key::Open(_) | Key::Close => false,
     }
 }
 
-/// Whether arguments with these hashes may be about what an operation looks for.
-fn may_tell(sought: SoughtKey, hashes: Hashes) -> bool
-    ensures { result ≡ may_tell sought hashes }
-{
-    match sought {
-        SoughtKey::Any => true,
-        SoughtKey::First(path) => hashes.first == path,
-        SoughtKey::Both(both) => hashes.first == both.first && hashes.second == both.second,
-    }
-}
-
-/// Whether the line with a key may be an entry that an operation targets.
-pub(crate) fn may_concern(own: Verb, sought: SoughtKey, scope: Scope, key: Key) -> bool
-    ensures { result ≡ may_concern own sought scope key }
+/// Whether the line with a key may be an entry whose words have these bits.
+pub(crate) fn may_have_bits(key: Key, bits: u32) -> bool
+    ensures { HasBits key bits → result ≡ true }
 {
     match key {
-        Key::Entry(entry) => match scope {
-            Scope::Outside => may_tell(sought, entry.outside) && own == entry.verb,
-            Scope::Own => may_tell(sought, entry.inside),
-            Scope::Other => false,
-        },
+        Key::Entry(entry) => entry.bits | bits == entry.bits,
         Key::Blank | Key::Comment | Key::Open(_) | Key::Close => false,
     }
 }

@@ -24,7 +24,6 @@ mod op;
 mod packing;
 mod part;
 mod renewing;
-mod subject;
 mod targeting;
 
 pub use crate::apply::Apply;

@@ -11,17 +11,18 @@ ghost use Rattle.gm_file.specs.Directives.{block_after_lines};
 ghost use Rattle.gm_file.specs.Views.{replace_view};
 ghost use Rattle.gm_file_edit.specs.Edits.{Set};
 ghost use Rattle.gm_file_edit.specs.Fates.{remaining};
+ghost use Rattle.gm_file_edit.specs.Keys.{key_of};
 ghost use Rattle.gm_file_edit.specs.Renewing.{made_new, with_arguments, with_last};
 ghost use Rattle.gm_file_edit.specs.NewWords.{replace_words};
 ghost use Rattle.gm_file_edit.specs.Marks.{line_at, fates_of};
 ghost use Rattle.gm_file_edit.specs.Sound.{IsSoundEdit, IsSoundRight, setting_of};
 
 use crate::keyed_lines::KeyedLines;
-use crate::keys::changes_block;
+use crate::keys::{Key, block_after};
 use crate::new_words::{push_replace, push_word};
 use crate::op::Setting;
 use crate::packing::pack;
-use gm_file::{Replace, block_after_line};
+use gm_file::Replace;
 use gm_syntax::{Line, Token};
 use std::alloc::{AllocError, Global};
 
@@ -93,9 +94,7 @@ fn open_before<'w, 'a>(lines: &'w KeyedLines<'a>, at: usize) -> Option<&'w Token
 {
     let mut block = None;
     for n in 0..at {
-        if changes_block(lines.key(n)) {
-            block = block_after_line(block, lines.line(n));
-        }
+        block = block_after(block, lines.key(n), lines.line(n));
     }
     block
 }
@@ -117,15 +116,22 @@ pub(crate) fn new_line<'a>(
     Ok(line)
 }
 
-/// Puts a line in the place of the first that has a mark, which is at an index, and removes the others that have one
+/// Puts a line with its key in the place of the first that has a mark, which is at an index, and removes the others that have one
 /// and the blocks that this empties.
-pub(crate) fn renew<'a>(lines: &mut KeyedLines<'a>, marks: Vec<bool>, first: usize, line: Line<'a>)
+pub(crate) fn renew<'a>(
+    lines: &mut KeyedLines<'a>,
+    marks: Vec<bool>,
+    first: usize,
+    line: Line<'a>,
+    key: Key,
+)
     requires marks { length marks.items ≡ length lines.old }
     requires in_range { first < length lines.old }
+    requires key { key ≡ key_of (line_of line) }
     ensures { lines.new ≡ remaining
         (fates_of (slice_set marks.items first false) (slice_set lines.old first (line_of line.entry))) }
 {
-    lines.put(first, line);
+    lines.put(first, line, key);
     let mut others = marks;
     others[first] = false;
     pack(lines, others);

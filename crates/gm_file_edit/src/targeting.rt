@@ -1,154 +1,249 @@
-//! Which lines an operation targets.
-//!
-//! A line's key decides for most. The other lines are compared by their texts, so nothing is read and no memory is
-//! taken.
+//! Which directives an operation targets, and what is known of their entries.
 
-ghost use Rattle.std.specs.Prelude.{◌≡◌, Some};
-ghost use Rattle.gm_file.specs.Views.{interval_view};
-ghost use Rattle.gm_syntax.specs.LineViews.{line_of};
+ghost use Rattle.std.specs.Prelude.{◌≡◌, Some, None};
+ghost use Rattle.gm_file.specs.DirectiveViews.{directive_view};
+ghost use Rattle.gm_file.specs.Faults.{is_same_version};
+ghost use Rattle.gm_file.specs.Views.{interval_view, replace_view};
+ghost use Rattle.gm_file_edit.specs.About.{about, excludes_pair, is_replaced_by, replaces_left, requires_path, retracts_ends};
 ghost use Rattle.gm_file_edit.specs.Edits.{Add, Drop, Set};
-ghost use Rattle.gm_file_edit.specs.Keys.{does_tell, verb_sought, Both, sought_of, sought_of_left, sought_view};
-ghost use Rattle.gm_file_edit.specs.Sound.{addition_of, edit_of, setting_of, target_of};
+ghost use Rattle.gm_file_edit.specs.Keys.{target_texts, target_verb, texts_view};
+ghost use Rattle.gm_file_edit.specs.Sound.{addition_of, edit_of, left_view, setting_of, target_of};
 
-use crate::keys::Scope;
 use crate::op::{Addition, Change, Setting, Target};
-use crate::subject::{Sought, is_told, subject_inside, subject_outside};
-use gm_file::{Interval, Verb};
+use crate::part::LeftSide;
+use gm_file::{Directive, Interval, Replace, Verb};
 use gm_name::{ModPath, ModVersion};
-use gm_syntax::Line;
 
-/// What an operation aims at: entries of a verb that are about something.
+/// What the entries have that an operation targets.
 #[derive(Clone, Copy)]
-pub(crate) struct Aim<'c> {
-    /// The verb of the entries.
+pub(crate) struct TargetEntry<'c> {
+    /// Their verb.
     pub(crate) verb: Verb,
-    /// What they are about.
-    pub(crate) sought: Sought<'c>,
+    /// A text that is the value of a word of each: the path, or the lower end of the interval.
+    pub(crate) first: Option<&'c str>,
+    /// Another one: the version, or the upper end of the interval.
+    pub(crate) second: Option<&'c str>,
 }
 
-/// A path at a version.
-fn sought_pair<'c>(path: &'c ModPath, version: &'c ModVersion) -> Sought<'c>
-    ensures { sought_view result ≡ Both path.now (Some version.now) }
+/// Entries of a verb with a path.
+fn path_entry<'c>(verb: Verb, path: &'c ModPath) -> TargetEntry<'c>
+    ensures verb { result.verb ≡ verb }
+    ensures texts { texts_view result ≡ (Some path.now, None) }
 {
-    Sought::Both(path.as_str(), Some(version.as_str()))
-}
-
-/// A left side of a `replace`, with or without a version.
-fn sought_side<'c>(path: &'c ModPath, version: &'c Option<ModVersion>) -> Sought<'c>
-    ensures { sought_view result ≡ Both path.now version.now }
-{
-    match version {
-        None => Sought::Both(path.as_str(), None),
-        Some(version) => sought_pair(path, version),
+    TargetEntry {
+        verb,
+        first: Some(path.as_str()),
+        second: None,
     }
 }
 
-/// The left sides that a new one supersedes. One without a version supersedes all of its path.
-fn sought_of_left<'c>(path: &'c ModPath, version: &'c Option<ModVersion>) -> Sought<'c>
-    ensures { sought_view result ≡ sought_of_left path.now version.now }
+/// Entries of a verb with a path and a version.
+fn pair_entry<'c>(verb: Verb, path: &'c ModPath, version: &'c ModVersion) -> TargetEntry<'c>
+    ensures verb { result.verb ≡ verb }
+    ensures texts { texts_view result ≡ (Some path.now, Some version.now) }
 {
-    match version {
-        None => Sought::First(path.as_str()),
-        Some(version) => sought_pair(path, version),
+    TargetEntry {
+        verb,
+        first: Some(path.as_str()),
+        second: Some(version.as_str()),
     }
 }
 
-/// An interval of versions.
-fn sought_ends<'c>(ends: &'c Interval) -> Sought<'c>
-    ensures { sought_view result ≡ Both (interval_view ends.now).0 (Some (interval_view ends.now).1) }
+/// Replacements with a left side.
+fn left_entry<'c>(path: &'c ModPath, version: &'c Option<ModVersion>) -> TargetEntry<'c>
+    ensures verb { result.verb ≡ Verb.Replace }
+    ensures texts { texts_view result ≡ (Some path.now, version.now) }
 {
-    Sought::Both(ends.low.as_str(), Some(ends.high.as_str()))
+    match version {
+        None => path_entry(Verb::Replace, path),
+        Some(version) => pair_entry(Verb::Replace, path, version),
+    }
 }
 
-/// What a setting aims at.
-fn aim_of_setting<'c>(setting: &'c Setting) -> Aim<'c>
-    ensures verb { result.verb ≡ verb_sought (Set (setting_of setting.now)) }
-    ensures sought { sought_view result.sought ≡ sought_of (Set (setting_of setting.now)) }
+/// Retractions of an interval.
+fn interval_entry<'c>(ends: &'c Interval) -> TargetEntry<'c>
+    ensures verb { result.verb ≡ Verb.Retract }
+    ensures texts { texts_view result ≡ (Some (interval_view ends.now).0, Some (interval_view ends.now).1) }
+{
+    TargetEntry {
+        verb: Verb::Retract,
+        first: Some(ends.low.as_str()),
+        second: Some(ends.high.as_str()),
+    }
+}
+
+/// All entries of a verb.
+fn any_entry<'c>(verb: Verb) -> TargetEntry<'c>
+    ensures verb { result.verb ≡ verb }
+    ensures texts { texts_view result ≡ (None, None) }
+{
+    TargetEntry {
+        verb,
+        first: None,
+        second: None,
+    }
+}
+
+/// What the entries have that a setting targets.
+fn setting_entry<'c>(setting: &'c Setting) -> TargetEntry<'c>
+    ensures verb { result.verb ≡ target_verb (Set (setting_of setting.now)) }
+    ensures texts { texts_view result ≡ target_texts (Set (setting_of setting.now)) }
 {
     match setting {
-        Setting::Module(_) => Aim {
-            verb: Verb::Module,
-            sought: Sought::Any,
-        },
-        Setting::Go(_) => Aim {
-            verb: Verb::Go,
-            sought: Sought::Any,
-        },
-        Setting::Require((path, _)) => Aim {
-            verb: Verb::Require,
-            sought: Sought::First(path.as_str()),
-        },
-        Setting::Replace(replace) => Aim {
-            verb: Verb::Replace,
-            sought: sought_of_left(&replace.left, &replace.version),
-        },
+        Setting::Module(_) => any_entry(Verb::Module),
+        Setting::Go(_) => any_entry(Verb::Go),
+        Setting::Require((path, _)) => path_entry(Verb::Require, path),
+        Setting::Replace(replace) => left_entry(&replace.left, &replace.version),
     }
 }
 
-/// What an addition aims at.
-fn aim_of_addition<'c>(addition: &'c Addition) -> Aim<'c>
-    ensures verb { result.verb ≡ verb_sought (Add (addition_of addition.now)) }
-    ensures sought { sought_view result.sought ≡ sought_of (Add (addition_of addition.now)) }
+/// What the entries have that an addition targets.
+fn addition_entry<'c>(addition: &'c Addition) -> TargetEntry<'c>
+    ensures verb { result.verb ≡ target_verb (Add (addition_of addition.now)) }
+    ensures texts { texts_view result ≡ target_texts (Add (addition_of addition.now)) }
 {
     match addition {
-        Addition::Exclude((path, version)) => Aim {
-            verb: Verb::Exclude,
-            sought: sought_pair(path, version),
-        },
-        Addition::Retract(ends) => Aim {
-            verb: Verb::Retract,
-            sought: sought_ends(ends),
-        },
+        Addition::Exclude((path, version)) => pair_entry(Verb::Exclude, path, version),
+        Addition::Retract(ends) => interval_entry(ends),
     }
 }
 
-/// What a drop aims at.
-fn aim_of_target<'c>(target: &'c Target) -> Aim<'c>
-    ensures verb { result.verb ≡ verb_sought (Drop (target_of target.now)) }
-    ensures sought { sought_view result.sought ≡ sought_of (Drop (target_of target.now)) }
+/// What the entries have that a drop targets.
+fn drop_entry<'c>(target: &'c Target) -> TargetEntry<'c>
+    ensures verb { result.verb ≡ target_verb (Drop (target_of target.now)) }
+    ensures texts { texts_view result ≡ target_texts (Drop (target_of target.now)) }
 {
     match target {
-        Target::Require(path) => Aim {
-            verb: Verb::Require,
-            sought: Sought::First(path.as_str()),
-        },
-        Target::Exclude((path, version)) => Aim {
-            verb: Verb::Exclude,
-            sought: sought_pair(path, version),
-        },
-        Target::Replace(side) => Aim {
-            verb: Verb::Replace,
-            sought: sought_side(&side.path, &side.version),
-        },
-        Target::Retract(ends) => Aim {
-            verb: Verb::Retract,
-            sought: sought_ends(ends),
-        },
+        Target::Require(path) => path_entry(Verb::Require, path),
+        Target::Exclude((path, version)) => pair_entry(Verb::Exclude, path, version),
+        Target::Replace(side) => left_entry(&side.path, &side.version),
+        Target::Retract(ends) => interval_entry(ends),
     }
 }
 
-/// What an operation aims at.
-pub(crate) fn aim_of<'c>(change: &'c Change) -> Aim<'c>
-    ensures verb { result.verb ≡ verb_sought (edit_of change.now) }
-    ensures sought { sought_view result.sought ≡ sought_of (edit_of change.now) }
+/// What the entries have that an operation targets.
+pub(crate) fn target_entry<'c>(change: &'c Change) -> TargetEntry<'c>
+    ensures verb { result.verb ≡ target_verb (edit_of change.now) }
+    ensures texts { texts_view result ≡ target_texts (edit_of change.now) }
 {
     match change {
-        Change::Set(setting) => aim_of_setting(setting),
-        Change::Add(addition) => aim_of_addition(addition),
-        Change::Drop(target) => aim_of_target(target),
+        Change::Set(setting) => setting_entry(setting),
+        Change::Add(addition) => addition_entry(addition),
+        Change::Drop(target) => drop_entry(target),
     }
 }
 
-/// Whether the arguments of an entry in this scope are about what an operation looks for.
-pub(crate) fn does_tell(sought: Sought, scope: Scope, line: &Line) -> bool
-    ensures { result ≡ does_tell (sought_view sought.entry) scope (line_of line.now) }
+/// Whether both versions are equal, or both are missing.
+fn is_same_version(one: &Option<ModVersion>, other: &Option<ModVersion>) -> bool
+    ensures { result ≡ is_same_version one.now other.now }
 {
-    let Line::Entry(words, _) = line else {
-        return false;
-    };
-    match scope {
-        Scope::Outside => is_told(sought, subject_outside(words.as_slice())),
-        Scope::Own => is_told(sought, subject_inside(words.as_slice())),
-        Scope::Other => false,
+    match one {
+        None => other.is_none(),
+        Some(one) => match other {
+            None => false,
+            Some(other) => *one == *other,
+        },
+    }
+}
+
+/// Whether a directive is a requirement of a path.
+fn requires_path(path: &ModPath, directive: &Directive) -> bool
+    ensures { result ≡ requires_path path.now (directive_view directive.now) }
+{
+    match directive {
+        Directive::Require(pair) => *pair.path() == *path,
+        _ => false,
+    }
+}
+
+/// Whether a directive is an exclusion of a pair.
+fn excludes_pair(path: &ModPath, version: &ModVersion, directive: &Directive) -> bool
+    ensures { result ≡ excludes_pair (path.now, version.now) (directive_view directive.now) }
+{
+    match directive {
+        Directive::Exclude(pair) => *pair.path() == *path && *pair.version() == *version,
+        _ => false,
+    }
+}
+
+/// Whether a directive is a replacement of exactly a left side.
+fn replaces_left(side: &LeftSide, directive: &Directive) -> bool
+    ensures { result ≡ replaces_left (left_view side.now) (directive_view directive.now) }
+{
+    match directive {
+        Directive::Replace(replace) => {
+            replace.left == side.path && is_same_version(&replace.version, &side.version)
+        }
+        _ => false,
+    }
+}
+
+/// Whether a directive is a replacement that gives way to a new one. One without a version supersedes all of its path.
+fn is_replaced_by(new: &Replace, directive: &Directive) -> bool
+    ensures { result ≡ is_replaced_by (replace_view new.now).0 (directive_view directive.now) }
+{
+    match directive {
+        Directive::Replace(replace) => match &new.version {
+            None => replace.left == new.left,
+            Some(_) => {
+                replace.left == new.left && is_same_version(&replace.version, &new.version)
+            }
+        },
+        _ => false,
+    }
+}
+
+/// Whether a directive is a retraction of exactly an interval.
+fn retracts_ends(ends: &Interval, directive: &Directive) -> bool
+    ensures { result ≡ retracts_ends (interval_view ends.now) (directive_view directive.now) }
+{
+    match directive {
+        Directive::Retract(interval) => interval.low == ends.low && interval.high == ends.high,
+        _ => false,
+    }
+}
+
+/// Whether a setting targets a directive.
+fn setting_targets(setting: &Setting, directive: &Directive) -> bool
+    ensures { result ≡ about (Set (setting_of setting.now)) (directive_view directive.now) }
+{
+    match setting {
+        Setting::Module(_) => matches!(directive, Directive::Module(_)),
+        Setting::Go(_) => matches!(directive, Directive::Go(_)),
+        Setting::Require((path, _)) => requires_path(path, directive),
+        Setting::Replace(replace) => is_replaced_by(replace, directive),
+    }
+}
+
+/// Whether an addition targets a directive.
+fn addition_targets(addition: &Addition, directive: &Directive) -> bool
+    ensures { result ≡ about (Add (addition_of addition.now)) (directive_view directive.now) }
+{
+    match addition {
+        Addition::Exclude((path, version)) => excludes_pair(path, version, directive),
+        Addition::Retract(ends) => retracts_ends(ends, directive),
+    }
+}
+
+/// Whether a drop targets a directive.
+fn drop_targets(target: &Target, directive: &Directive) -> bool
+    ensures { result ≡ about (Drop (target_of target.now)) (directive_view directive.now) }
+{
+    match target {
+        Target::Require(path) => requires_path(path, directive),
+        Target::Exclude((path, version)) => excludes_pair(path, version, directive),
+        Target::Replace(side) => replaces_left(side, directive),
+        Target::Retract(ends) => retracts_ends(ends, directive),
+    }
+}
+
+/// Whether an operation targets a directive.
+pub(crate) fn is_targeted(change: &Change, directive: &Directive) -> bool
+    ensures { result ≡ about (edit_of change.now) (directive_view directive.now) }
+{
+    match change {
+        Change::Set(setting) => setting_targets(setting, directive),
+        Change::Add(addition) => addition_targets(addition, directive),
+        Change::Drop(target) => drop_targets(target, directive),
     }
 }

@@ -161,9 +161,9 @@ pub(crate) fn graph_of(
         HaveSame (edges_of parts.modules.items (steps_by parts places.items)) graph.edges) }
     ensures ascending { IfOk result (λ graph. IsAscending edge_cmp graph.edges) }
 {
-    let Lists { spans, sources } = lists_of(alloc, &parts, places)?;
+    let lists = lists_of(alloc, &parts, places)?;
     let (modules, numbers) = parts.into_lists();
-    Graph::new(alloc, modules, numbers, spans, sources)
+    Graph::new(alloc, modules, numbers, lists.spans, lists.sources)
 }
 
 /// The faults by the vertices with these numbers. If one has several, the last one counts.

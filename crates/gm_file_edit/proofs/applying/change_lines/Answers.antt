@@ -16,9 +16,9 @@ renew-requires-clause-marks c = ap length c.requires.marked ∙ marks-count (abo
 pub pack-requires : goal.pack-requires
 pack-requires c = ap length c.requires.marked ∙ marks-count (about (edit_of c.args.change.now)) None c.args.lines.now
 
-pub returns-in_ok-line-in-Set-clause-ok : goal.returns-in_ok-line-in-Set-clause-ok
+pub returns-in_ok-key-in-Set-clause-ok : goal.returns-in_ok-key-in-Set-clause-ok
 unfolding with_change
-returns-in_ok-line-in-Set-clause-ok c =
+returns-in_ok-key-in-Set-clause-ok c =
     let lines = c.args.lines.now in
     let marks = c.requires.marked ∙ ap (λ (x : Change). marks_from (about (edit_of x)) None lines) c.in-Set.is in
     c.renew.ensures ∙ renew-is (Set (setting_of c.in-Set.setting)) lines _ c.args.marks.items _ c.args.first (line_of c.in_ok-line-in-Set.line) marks c.requires.first c.requires.in_range c.in_ok-line-in-Set.ensures refl refl

@@ -1,32 +1,49 @@
-use Rattle.std.proofs.Common.{◌&&◌, ◌∙◌, ap, arith, refl}
+use Rattle.std.proofs.Common.{◌≡◌, ◌∙◌, ◌<◌, Bool, Option, None, ap, arith, length, refl, sym, take}
+use Rattle.std.specs.Option.{option_map}
+use Rattle.gm_syntax.specs.Document.{Line}
 use Rattle.gm_syntax.specs.LineViews.{line_of}
-use Rattle.gm_file_edit.specs.Keys.{does_tell, may_concern, sought_key}
+use Rattle.gm_syntax.specs.Tokens.{Placed}
+use Rattle.gm_file_edit.specs.About.{about}
+use Rattle.gm_file_edit.specs.Edits.{Edit}
+use Rattle.gm_file_edit.specs.Holding.{directive_at, passes}
+use Rattle.gm_file_edit.specs.Keys.{block_verb, key_of, texts_bits}
 use Rattle.gm_file_edit.specs.Sound.{edit_of}
-use Rattle.gm_file_edit.proofs.Marks.{scan-begin, scan-end, scan-more}
+use Rattle.gm_file_edit.proofs.Marks.{scan-end, scan-more, unmarked}
 use Rattle.gm_file_edit.proofs.Pairs.{document-sound}
+use Rattle.gm_file_edit.proofs.Walking.{right-at}
 use Rattle.gm_file_edit.proofs.marking.marks.Goals as goal
+use Rattle.gm_file_edit.proofs.marking.marks.Goals.{then-may_hold_target+in_ok-mark, else-may_hold_target}
 
 pub loop-n-init : goal.loop-n-init
-loop-n-init c = scan-begin (edit_of c.args.change.now) c.args.lines.now c.in_ok-marks.marks.items c.len.result c.len.ensures (c.in_ok-marks.ensures.items_if_clones_equal (λ mark same. same))
+loop-n-init c = record { block_is = refl; verb_is = refl; front = c.in_ok-marks.ensures.items }
 
-pub index_mut-requires : goal.index_mut-requires
-index_mut-requires c =
-    let size = c.loop-n.invariant.size in
+pub holds_target-requires : goal.holds_target-requires
+holds_target-requires c =
+    let lines = c.args.lines.now in
     let inside = c.loop-n-test.true in
     let len = c.len-n-end.ensures in
-    omega (arith, size, inside, len)
+    let sound = document-sound lines c.requires.document c.requires.sound in
+    rw (c.loop-n.invariant.block_is, c.line-line.ensures.line) (right-at None lines c.loop-n.n (omega (arith, inside, len)) sound.lines_are.right).1
 
 pub loop-n-preserved : goal.loop-n-preserved
 loop-n-preserved c =
+    let edit : Edit = edit_of c.args.change.now in
+    let block : Option Placed = option_map (λ t. t.now) c.loop-n.block in
+    let line : Line Placed = line_of c.line-line.result.now in
+    let so = c.loop-n.invariant in
     let inside = c.loop-n-test.true in
     let len = c.len-n-end.ensures in
-    scan-more (edit_of c.args.change.now) c.aim_of-verb.result.verb c.sought_key-number.result c.loop-n.scope c.scope_after-scope.result c.args.lines.now c.loop-n.n (line_of c.line.result.now) c.key-key.result c.loop-n.marks.items _ c.is_target.result
-    (document-sound c.args.lines.now c.requires.document c.requires.sound) (omega (arith, inside, len)) c.line.ensures.line c.key-key.ensures c.aim_of-verb.ensures.verb (c.sought_key-number.ensures ∙ ap sought_key c.aim_of-verb.ensures.sought)
-    (c.is_target.ensures ∙ ap (λ s. may_concern c.aim_of-verb.result.verb c.sought_key-number.result c.loop-n.scope c.key-key.result && does_tell s c.loop-n.scope (line_of c.line.result.now)) c.aim_of-verb.ensures.sought)
-    c.scope_after-scope.ensures refl c.loop-n.invariant
+    let may = c.may_hold_target.ensures edit block c.target_entry-target.ensures.verb c.target_entry-target.ensures.texts (c.texts_bits-bits.ensures ∙ ap texts_bits c.target_entry-target.ensures.texts)
+    (so.verb_is ∙ ap block_verb (sym so.block_is)) (c.key-key.ensures ∙ ap key_of (sym c.line-line.ensures.line)) in
+    let marked : c.if-may_hold_target.mark ≡ passes (about edit) (directive_at block line) = elim c.if-may_hold_target.branch [
+      | then-may_hold_target+in_ok-mark w ↦ w.mark-is ∙ w.in_ok-mark.ensures
+      | else-may_hold_target w ↦ w.mark-is ∙ unmarked (passes (about edit) (directive_at block line)) c.may_hold_target.result may w.if-may_hold_target.false
+    ] in
+    scan-more edit c.args.lines.now c.loop-n.n block (option_map (λ t. t.now) c.block_after-block.result) c.loop-n.verb c.verb_after-verb.result line c.key-key.result c.loop-n.marks.items c.push.new.self.items c.if-may_hold_target.mark
+    (omega (arith, inside, len)) c.line-line.ensures.line c.key-key.ensures marked c.in_ok-push.ensures.items c.block_after-block.ensures c.verb_after-verb.ensures so
 
 pub returns : goal.returns
 returns c =
     let over = c.loop-n-test.false in
     let len = c.len-n-end.ensures in
-    scan-end (edit_of c.args.change.now) c.args.lines.now c.loop-n.scope c.loop-n.n c.loop-n.marks.items (omega (arith, over, len)) c.loop-n.invariant
+    scan-end (edit_of c.args.change.now) c.args.lines.now c.loop-n.n (option_map (λ t. t.now) c.loop-n.block) c.loop-n.verb c.loop-n.marks.items (omega (arith, over, len)) c.loop-n.invariant

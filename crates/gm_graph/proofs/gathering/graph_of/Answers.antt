@@ -15,10 +15,10 @@ pub new-requires : goal.new-requires
 new-requires c =
     let parts = c.args.parts in
     let places = c.args.places.items in
-    let lists = c.in_ok-spans.ensures in
+    let lists = c.in_ok-lists.ensures in
     let spans = spans_of parts.first parts.files.items (has_file places) in
-    let is : IsInput c.into_lists-modules.result.0.items c.into_lists-modules.result.1.items c.in_ok-spans.spans.items c.in_ok-spans.sources.items =
-    subst (λ (os : List Source). IsInput c.into_lists-modules.result.0.items c.into_lists-modules.result.1.items c.in_ok-spans.spans.items os) (sym lists.sources)
+    let is : IsInput c.into_lists-modules.result.0.items c.into_lists-modules.result.1.items c.in_ok-lists.lists.spans.items c.in_ok-lists.lists.sources.items =
+    subst (λ (os : List Source). IsInput c.into_lists-modules.result.0.items c.into_lists-modules.result.1.items c.in_ok-lists.lists.spans.items os) (sym lists.sources)
     (subst (λ (ss : List Span). IsInput c.into_lists-modules.result.0.items c.into_lists-modules.result.1.items ss (file_sources places)) (sym lists.spans)
     (subst (λ ns. IsInput c.into_lists-modules.result.0.items ns.items spans (file_sources places)) (sym c.into_lists-modules.ensures.numbers)
     (subst (λ ms. IsInput ms.items parts.numbers.items spans (file_sources places)) (sym c.into_lists-modules.ensures.modules)
@@ -29,11 +29,11 @@ pub returns-clause-edges : goal.returns-clause-edges
 returns-clause-edges c =
     let parts = c.args.parts in
     let places = c.args.places.items in
-    let lists = c.in_ok-spans.ensures in
+    let lists = c.in_ok-lists.ensures in
     subst (λ (ms : List ModuleVersion). IfOk c.new.result (λ graph. HaveSame (edges_of ms (steps_by parts places)) graph.edges))
     (ap (λ ms. ms.items) c.into_lists-modules.ensures.modules)
     (subst (λ (all : List StepEdges). IfOk c.new.result (λ graph. HaveSame (edges_of c.into_lists-modules.result.0.items all) graph.edges))
-    (steps_are parts places c.into_lists-modules.result.1.items c.in_ok-spans.spans.items c.in_ok-spans.sources.items
+    (steps_are parts places c.into_lists-modules.result.1.items c.in_ok-lists.lists.spans.items c.in_ok-lists.lists.sources.items
     (ap (λ ns. ns.items) c.into_lists-modules.ensures.numbers) lists.spans lists.sources)
     c.new.ensures.edges)
 
@@ -41,12 +41,12 @@ pub returns-clause-vertices : goal.returns-clause-vertices
 returns-clause-vertices c =
     let parts = c.args.parts in
     let places = c.args.places.items in
-    let lists = c.in_ok-spans.ensures in
+    let lists = c.in_ok-lists.ensures in
     subst (λ (ms : List ModuleVersion). IfOk c.new.result (λ graph. (x : ModuleVersion) → Contains graph.vertices x
     ↔ (IsEdgeEnd (among graph.edges) x ⊎ Contains (sources_of ms (steps_by parts places)) (Of x))))
     (ap (λ ms. ms.items) c.into_lists-modules.ensures.modules)
     (subst (λ (all : List StepEdges). IfOk c.new.result (λ graph. (x : ModuleVersion) → Contains graph.vertices x
     ↔ (IsEdgeEnd (among graph.edges) x ⊎ Contains (sources_of c.into_lists-modules.result.0.items all) (Of x))))
-    (steps_are parts places c.into_lists-modules.result.1.items c.in_ok-spans.spans.items c.in_ok-spans.sources.items
+    (steps_are parts places c.into_lists-modules.result.1.items c.in_ok-lists.lists.spans.items c.in_ok-lists.lists.sources.items
     (ap (λ ns. ns.items) c.into_lists-modules.ensures.numbers) lists.spans lists.sources)
     c.new.ensures.vertices)

@@ -1,9 +1,7 @@
 use Rattle.std.proofs.Common.{List, ap, ◌∙◌}
 use Rattle.std.specs.Prelude.{insert}
 use Rattle.gm_syntax.specs.declared.line.Line as declared
-use Rattle.gm_syntax.specs.LineViews.{line_of}
 use Rattle.gm_file_edit.specs.declared.keys.Key.{Key}
-use Rattle.gm_file_edit.specs.Keys.{key_of}
 use Rattle.gm_file_edit.proofs.KeyedChanges.{after-blank}
 use Rattle.gm_file_edit.proofs.keyed_lines.KeyedLines.insert_after_blank.Goals as goal
 
@@ -12,7 +10,7 @@ invariant_of-self-2 c =
     (after-blank c.self.inside.lines.items c.insert_keyed.new.lines.items c.insert_keyed-2.new.lines.items c.self.inside.keys.items c.insert_keyed.new.keys.items c.insert_keyed-2.new.keys.items c.args.self.now c.args.at c.args.line
     c.self.view_is c.self.invariant
     (c.insert_keyed.ensures.lines ∙ ap (λ (ls : List declared.Line). insert ls c.args.at c.args.line) c.make_room.ensures.lines)
-    (c.insert_keyed.ensures.keys ∙ ap (λ (ks : List Key). insert ks c.args.at (key_of (line_of c.args.line))) c.make_room.ensures.keys)
+    (c.insert_keyed.ensures.keys ∙ ap (λ (ks : List Key). insert ks c.args.at c.in_ok-key.key) c.make_room.ensures.keys ∙ ap (insert c.self.inside.keys.items c.args.at) c.in_ok-key.ensures)
     c.insert_keyed-2.ensures.lines c.insert_keyed-2.ensures.keys c.requires).numbers
 
 pub returns-clause-ok : goal.returns-clause-ok
@@ -20,5 +18,5 @@ returns-clause-ok c =
     (after-blank c.self.inside.lines.items c.insert_keyed.new.lines.items c.insert_keyed-2.new.lines.items c.self.inside.keys.items c.insert_keyed.new.keys.items c.insert_keyed-2.new.keys.items c.args.self.now c.args.at c.args.line
     c.self.view_is c.self.invariant
     (c.insert_keyed.ensures.lines ∙ ap (λ (ls : List declared.Line). insert ls c.args.at c.args.line) c.make_room.ensures.lines)
-    (c.insert_keyed.ensures.keys ∙ ap (λ (ks : List Key). insert ks c.args.at (key_of (line_of c.args.line))) c.make_room.ensures.keys)
+    (c.insert_keyed.ensures.keys ∙ ap (λ (ks : List Key). insert ks c.args.at c.in_ok-key.key) c.make_room.ensures.keys ∙ ap (insert c.self.inside.keys.items c.args.at) c.in_ok-key.ensures)
     c.insert_keyed-2.ensures.lines c.insert_keyed-2.ensures.keys c.requires).view

@@ -1,0 +1,176 @@
+-- The words of an entry have the texts that an operation targets, and their bits.
+use Rattle.std.proofs.Common.{◌≡◌, ℕ, zero, suc, ◌+◌, ◌≤◌, ◌&&◌, max, Bool, true, false, List, [], ◌∷◌, take, Option, Some, None, refl, sym, ap, subst, ◌∙◌, arith, inl, inr}
+use Rattle.std.specs.Prelude.{⊤, bit_or}
+use Rattle.std.specs.Int.{bit_at}
+use Rattle.std.specs.Option.{option_map}
+use Rattle.std.specs.List.{after_first, before_first, position_or_len}
+use Rattle.std.specs.Str.{bytes_eq}
+use Rattle.std.proofs.lemmas.Bool.{cases_Bool}
+use Rattle.std.proofs.lemmas.Nat.Bits.{bit_at-zero, bit_at_or, same_from_bits}
+use Rattle.std.proofs.lemmas.Slice.Eq.{bytes_eq-Decides}
+use Rattle.gm_name.specs.ModuleVersion.{ModuleVersion}
+use Rattle.gm_name.proofs.NameTests.{and_both}
+use Rattle.gm_syntax.specs.Words.{Word}
+use Rattle.gm_syntax.specs.Document.{is_mark}
+use Rattle.gm_file.specs.Directives.{Directive, Requires, Excludes, Replaces, Retracts, Left, Replacing, Right, VersionInterval, directive_of, ends_of, is_arrow, left_of, left_with, left_without, pair, pair_of, replacing, replacing_of, right_of}
+use Rattle.gm_file.specs.Faults.{is_same_left, is_same_version}
+use Rattle.gm_file.specs.Values.{argument}
+use Rattle.gm_file_edit.specs.About.{about, excludes_pair, is_covered_by, is_replaced_by, replaces_left, requires_path, retracts_ends}
+use Rattle.gm_file_edit.specs.Edits.{Edit, Set, ModuleIs, GoIs, RequireAt, Drop, AnyRequire, Add, Exclude, AnyExclude, ReplaceWith, AnyReplace, Retract, AnyRetract}
+use Rattle.gm_file_edit.specs.Keys.{AreAmong, IsValueIn, bits_with, optional_bits, target_texts, target_verb, texts_bits}
+use Rattle.gm_file_edit.proofs.Feeds.{both-are, map-some}
+
+-- ---- bits among others
+
+-- bits among others add nothing to them
+pub or-among : (more bits : ℕ) → AreAmong more bits → bit_or more bits ≡ more
+or-among more bits among = same_from_bits (bit_or more bits) more (λ i. let e = bit_at_or more bits i in let x = among i in omega (arith, e, x))
+
+-- bits stay if words are added to them
+kept-among : (bits : ℕ) (words : List Word) → AreAmong (bits_with bits words) bits
+kept-among bits [] = λ i. omega arith
+kept-among bits (word ∷ words) = λ i.
+    let own : ℕ = optional_bits (argument word) in
+    let e = bit_at_or bits own i in
+    let x = kept-among (bit_or bits own) words i in
+    omega (arith, e, x)
+
+value-has : (bits : ℕ) (text : Option (List ℕ)) (words : List Word) → IsValueIn text words → AreAmong (bits_with bits words) (optional_bits text)
+value-has bits None words is = λ i. let none = bit_at-zero i in omega (arith, none)
+value-has bits (Some text) [] is = absurd is
+value-has bits (Some text) (word ∷ words) (inl here) = λ i.
+    let own : ℕ = optional_bits (argument word) in
+    let e = bit_at_or bits own i in
+    let x = kept-among (bit_or bits own) words i in
+    let y : bit_at own i ≡ bit_at (optional_bits (Some text)) i = ap (λ (o : Option (List ℕ)). bit_at (optional_bits o) i) here in
+    omega (arith, e, x, y)
+value-has bits (Some text) (word ∷ words) (inr later) = value-has (bit_or bits (optional_bits (argument word))) (Some text) words later
+
+-- texts among the values of words
+abbrev pub AreValuesIn : Option (List ℕ) × Option (List ℕ) → List Word → Type 0
+AreValuesIn texts words = IsValueIn texts.0 words × IsValueIn texts.1 words
+
+-- the words have their bits
+pub values-have : (bits : ℕ) (texts : Option (List ℕ) × Option (List ℕ)) (words : List Word) → AreValuesIn texts words → AreAmong (bits_with bits words) (texts_bits texts)
+values-have bits texts words are = λ i.
+    let e = bit_at_or (optional_bits texts.0) (optional_bits texts.1) i in
+    let x = value-has bits texts.0 words are.0 i in
+    let y = value-has bits texts.1 words are.1 i in
+    omega (arith, e, x, y)
+
+-- ---- the texts that directives name
+
+pair-named : (words : List Word) (p : ModuleVersion) → pair_of words ≡ Some p → AreValuesIn (Some p.0, Some p.1) words
+pair-named [] p is = absurd cc
+pair-named (a ∷ []) p is = absurd cc
+pair-named (a ∷ b ∷ []) p is =
+    let parts = both-are pair (argument a) (argument b) p is in
+    (inl (parts.2 ∙ ap (λ (q : ModuleVersion). Some q.0) parts.4), inr (inl (parts.3 ∙ ap (λ (q : ModuleVersion). Some q.1) parts.4)))
+pair-named (a ∷ b ∷ c ∷ words) p is = absurd cc
+
+ends-named : (words : List Word) (ends : VersionInterval) → ends_of words ≡ Some ends → AreValuesIn (Some ends.0, Some ends.1) words
+ends-named [] ends is = absurd cc
+ends-named (v ∷ []) ends is =
+    let one = map-some (λ (w : List ℕ). pair w w) (argument v) ends is in
+    (inl (one.1 ∙ ap (λ (e : VersionInterval). Some e.0) one.2), inl (one.1 ∙ ap (λ (e : VersionInterval). Some e.1) one.2))
+ends-named (a ∷ v ∷ []) ends is = absurd cc
+ends-named (a ∷ v ∷ b ∷ []) ends is = absurd cc
+ends-named (a ∷ v ∷ b ∷ w ∷ []) ends is = absurd cc
+ends-named (a ∷ v ∷ b ∷ w ∷ c ∷ []) ends is = elim (cases_Bool (is_mark 91 a && is_mark 44 b && is_mark 93 c)) [
+  | inl brackets ↦
+      let parts = both-are pair (argument v) (argument w) ends (rw brackets at is) in
+      (inr (inl (parts.2 ∙ ap (λ (e : VersionInterval). Some e.0) parts.4)), inr (inr (inr (inl (parts.3 ∙ ap (λ (e : VersionInterval). Some e.1) parts.4)))))
+  | inr none ↦ let never : None ≡ Some ends = rw none at is in absurd cc
+]
+ends-named (a ∷ v ∷ b ∷ w ∷ c ∷ e ∷ words) ends is = absurd cc
+
+left-named : (words : List Word) (left : Left) → left_of words ≡ Some left → AreValuesIn (Some left.path, left.version) words
+left-named [] left is = absurd cc
+left-named (a ∷ []) left is =
+    let made = map-some left_without (argument a) left is in
+    subst (λ (l : Left). AreValuesIn (Some l.path, l.version) (a ∷ [])) made.2 (inl made.1, tt)
+left-named (a ∷ b ∷ []) left is =
+    let made = both-are left_with (argument a) (argument b) left is in
+    subst (λ (l : Left). AreValuesIn (Some l.path, l.version) (a ∷ b ∷ [])) made.4 (inl made.2, inr (inl made.3))
+left-named (a ∷ b ∷ c ∷ words) left is = absurd cc
+
+in-front : (n : ℕ) (text : Option (List ℕ)) (words : List Word) → IsValueIn text (take n words) → IsValueIn text words
+in-front n None words is = tt
+in-front zero (Some text) words is = absurd is
+in-front (suc n) (Some text) [] is = absurd is
+in-front (suc n) (Some text) (word ∷ words) (inl here) = inl here
+in-front (suc n) (Some text) (word ∷ words) (inr later) = inr (in-front n (Some text) words later)
+
+replaced-named : (words : List Word) (r : Replacing) → replacing_of words ≡ Some r → AreValuesIn (Some r.0.path, r.0.version) words
+replaced-named words r is =
+    let parts = both-are replacing (left_of (before_first is_arrow words)) (right_of (after_first is_arrow words)) r is in
+    let front = left-named (before_first is_arrow words) r.0 (parts.2 ∙ ap (λ (x : Replacing). Some x.0) parts.4) in
+    let n : ℕ = position_or_len is_arrow words in
+    (in-front n (Some r.0.path) words front.0, in-front n r.0.version words front.1)
+
+-- ---- the texts that an operation targets
+
+same-text : (a b : List ℕ) → bytes_eq a b ≡ true → a ≡ b
+same-text a b e = (bytes_eq-Decides a b).0 e
+
+same-version : (a b : Option (List ℕ)) → is_same_version a b ≡ true → a ≡ b
+same-version None None same = refl
+same-version None (Some w) same = absurd cc
+same-version (Some v) None same = absurd cc
+same-version (Some v) (Some w) same = ap Some (same-text v w same)
+
+same-pair : (a b : List ℕ × List ℕ) → (bytes_eq a.0 b.0 && bytes_eq a.1 b.1) ≡ true → a ≡ b
+same-pair a b e =
+    let parts = and_both (bytes_eq a.0 b.0) (bytes_eq a.1 b.1) e in
+    ap (λ (t : List ℕ). (t, a.1)) (same-text a.0 b.0 parts.0) ∙ ap (λ (t : List ℕ). (b.0, t)) (same-text a.1 b.1 parts.1)
+
+requirement-has : (path : List ℕ) (words : List Word) (d : Directive) → option_map Requires (pair_of words) ≡ Some d → requires_path path d ≡ true → AreValuesIn (Some path, None) words
+requirement-has path words d is hit =
+    let made = map-some Requires (pair_of words) d is in
+    let same : made.0.0 ≡ path = same-text made.0.0 path (ap (requires_path path) made.2 ∙ hit) in
+    (subst (λ (t : List ℕ). IsValueIn (Some t) words) same (pair-named words made.0 made.1).0, tt)
+
+exclusion-has : (p : ModuleVersion) (words : List Word) (d : Directive) → option_map Excludes (pair_of words) ≡ Some d → excludes_pair p d ≡ true → AreValuesIn (Some p.0, Some p.1) words
+exclusion-has p words d is hit =
+    let made = map-some Excludes (pair_of words) d is in
+    subst (λ (q : ModuleVersion). AreValuesIn (Some q.0, Some q.1) words) (same-pair made.0 p (ap (excludes_pair p) made.2 ∙ hit)) (pair-named words made.0 made.1)
+
+retraction-has : (ends : VersionInterval) (words : List Word) (d : Directive) → option_map Retracts (ends_of words) ≡ Some d → retracts_ends ends d ≡ true → AreValuesIn (Some ends.0, Some ends.1) words
+retraction-has ends words d is hit =
+    let made = map-some Retracts (ends_of words) d is in
+    subst (λ (e : VersionInterval). AreValuesIn (Some e.0, Some e.1) words) (same-pair made.0 ends (ap (retracts_ends ends) made.2 ∙ hit)) (ends-named words made.0 made.1)
+
+-- a left side that is the same, or that the other supersedes
+same-left : (words : List Word) (one : Left) (path : List ℕ) (version : Option (List ℕ)) → is_same_left one (record { path = path; version = version }) ≡ true → AreValuesIn (Some one.path, one.version) words → AreValuesIn (Some path, version) words
+same-left words one path version same are =
+    let parts = and_both (bytes_eq one.path path) (is_same_version one.version version) same in
+    (subst (λ (t : List ℕ). IsValueIn (Some t) words) (same-text one.path path parts.0) are.0, subst (λ (v : Option (List ℕ)). IsValueIn v words) (same-version one.version version parts.1) are.1)
+
+covered-left : (words : List Word) (own one : Left) (version : Option (List ℕ)) → own.version ≡ version → is_covered_by own version one ≡ true → AreValuesIn (Some one.path, one.version) words → AreValuesIn (Some own.path, version) words
+covered-left words own one None is hit are = (subst (λ (t : List ℕ). IsValueIn (Some t) words) (same-text one.path own.path hit) are.0, tt)
+covered-left words own one (Some version) is hit are =
+    same-left words one own.path (Some version) (ap (λ (v : Option (List ℕ)). is_same_left one (record { path = own.path; version = v })) (sym is) ∙ hit) are
+
+replaced-has : (new : Left) (words : List Word) (d : Directive) → option_map Replaces (replacing_of words) ≡ Some d → is_replaced_by new d ≡ true → AreValuesIn (Some new.path, new.version) words
+replaced-has new words d is hit =
+    let made = map-some Replaces (replacing_of words) d is in
+    covered-left words new made.0.0 new.version refl (ap (is_replaced_by new) made.2 ∙ hit) (replaced-named words made.0 made.1)
+
+left-has : (left : Left) (words : List Word) (d : Directive) → option_map Replaces (replacing_of words) ≡ Some d → replaces_left left d ≡ true → AreValuesIn (Some left.path, left.version) words
+left-has left words d is hit =
+    let made = map-some Replaces (replacing_of words) d is in
+    same-left words made.0.0 left.path left.version (ap (replaces_left left) made.2 ∙ hit) (replaced-named words made.0 made.1)
+
+-- the words of an entry whose directive an operation targets have the operation's texts
+pub target-has : (edit : Edit) (words : List Word) (d : Directive) → directive_of (target_verb edit) words ≡ Some d → about edit d ≡ true → AreValuesIn (target_texts edit) words
+unfolding directive_of
+target-has (Set (ModuleIs path)) words d is hit = (tt, tt)
+target-has (Set (GoIs text)) words d is hit = (tt, tt)
+target-has (Set (RequireAt p)) words d is hit = requirement-has p.0 words d is hit
+target-has (Drop (AnyRequire path)) words d is hit = requirement-has path words d is hit
+target-has (Add (Exclude p)) words d is hit = exclusion-has p words d is hit
+target-has (Drop (AnyExclude p)) words d is hit = exclusion-has p words d is hit
+target-has (Set (ReplaceWith r)) words d is hit = replaced-has r.0 words d is hit
+target-has (Drop (AnyReplace left)) words d is hit = left-has left words d is hit
+target-has (Add (Retract ends)) words d is hit = retraction-has ends words d is hit
+target-has (Drop (AnyRetract ends)) words d is hit = retraction-has ends words d is hit
