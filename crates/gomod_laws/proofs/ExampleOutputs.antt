@@ -2,26 +2,21 @@
 use Rattle.std.proofs.Common.{rules, ◌≡◌, ◌⊎◌, ◌∙◌, ◌∷◌, ◌<◌, ℕ, Bool, List, [], Option, None, Some, Result, Ok, Err, ap, arith, codes, drop, false, inl, inr, length, min, refl, subst, sym, take, take_all, true}
 use Rattle.std.proofs.lemmas.List.{length-take}
 use Rattle.std.specs.Global.{Vec}
-use Rattle.std.proofs.lemmas.Option.{none-some, same_Some}
 use Rattle.std.proofs.lemmas.Str.{IsUtf8-nil, is_utf8-from_IsUtf8}
 use Rattle.std.specs.Str.{chars, is_utf8}
-use Rattle.gm_store.specs.Asked.{list_file, mod_file}
-use Rattle.gm_store.specs.Memory.{held_at}
 use Rattle.gm_store.specs.Openings.{IsReadFrom, MayRead, Opening, opened}
 use Rattle.gm_store.specs.Taken.{SinkState}
-use Rattle.gm_store.specs.declared.files.memory.MemoryFiles.{MemoryFiles}
 use Rattle.gm_store.specs.declared.reading.ReadFault.{ReadFault}
-use Rattle.gm_store.specs.declared.reading.ReadFault.TheVariants.{Device, NoMemory}
+use Rattle.gm_store.specs.declared.reading.ReadFault.TheVariants.{Device}
 use Rattle.gomod_run.specs.Outcome.{Outcome, failure_outcome, out_of_memory, text_outcome}
 use Rattle.gomod_run.proofs.Answered.{nothing_is_printed, version_is_printed}
-use Rattle.gomod_run.specs.Program.{IsOutcomeUnless, any_input, anything, usage_error}
-use Rattle.gomod_run.specs.Reads.{HoldsInput, IsUnreadList}
+use Rattle.gomod_run.specs.Program.{IsOutcomeUnless, IsUnread, any_input, anything, usage_error}
 use Rattle.gomod_words.specs.Given.{first_unreadable}
 use Rattle.gomod_words.specs.Usage.{unreadable_text, version_line}
 use Rattle.gomod_run.specs.Written.{EndsAsStated, IsWritten}
 use Rattle.gomod_laws.proofs.ExampleLines.{ascii_utf8}
 use Rattle.gomod_laws.proofs.KnownVersions.{first_byte}
-use Rattle.gomod_laws.specs.ExampleOutputs.{EndIsStated, EndsBy, FileIsRead, InputIsHeld, InputIsUnread, IsInput, PrintsText, WordsAreGiven, also_unreadable, empty, version_flag, other, path, text, unreadable, with_bad_line, with_no_memory, with_other, with_text}
+use Rattle.gomod_laws.specs.ExampleOutputs.{EndIsStated, EndsBy, FileIsRead, InputIsHeld, InputIsUnread, PrintsText, WithInput, WordsAreGiven, also_unreadable, empty, version_flag, other, path, text, unreadable, with_bad_line, with_no_memory, with_other, with_text}
 
 -- ---- a run ends
 
@@ -87,49 +82,41 @@ file_is_read = record {
 
 -- ---- standard input
 
-no_such_line : (line : List ℕ) → ¬ (line ≡ codes "gomod: cannot read -\n") → ¬ (line ≡ codes "gomod: no memory\n") → ¬ (IsUnreadList (IsInput true) (failure_outcome line))
-no_such_line line no_device memory (Device, may, is) = no_device (ap (λ (o : Outcome). o.report) is)
-no_such_line line no_device memory (NoMemory, may, is) = memory (ap (λ (o : Outcome). o.report) is)
-
-unread_status : (outcome : Outcome) → IsUnreadList (IsInput true) outcome → outcome.status ≡ 3
-unread_status outcome (Device, may, is) = ap (λ (o : Outcome). o.status) is
-unread_status outcome (NoMemory, may, is) = ap (λ (o : Outcome). o.status) is
-
 -- what reading it came to if it was taken
-read_of : (may_fail : Bool) (read : Result (Vec ℕ) ReadFault) → MayRead (IsInput may_fail) read → IsReadFrom (opened (Some text) may_fail) read
-read_of may_fail read (opening, is, comes) = subst (λ (o : Opening). IsReadFrom o read) is comes
+read_of : (may_fail : Bool) (read : Result (Vec ℕ) ReadFault) → MayRead (WithInput may_fail (codes "-")) read → IsReadFrom (opened (Some text) may_fail) read
+read_of may_fail read (opening, inl (dash, is), comes) = subst (λ (o : Opening). IsReadFrom o read) is comes
+read_of may_fail read (opening, inr (isnt, any), comes) = absurd (isnt refl)
 
-no_device_line : ¬ (out_of_memory ≡ failure_outcome (codes "gomod: cannot read -\n"))
-no_device_line same = search rules
+unfailing : ¬ (IsUnread (WithInput false) (Some (codes "-")) (failure_outcome (codes "gomod: cannot read -\n")))
+unfailing unread = let wrong : false ≡ true = read_of false (Err Device) unread.0 in cc wrong
 
-unfailing : ¬ (IsUnreadList (IsInput false) (failure_outcome (codes "gomod: cannot read -\n")))
-unfailing (Device, may, is) = let wrong : false ≡ true = read_of false (Err Device) may in cc wrong
-unfailing (NoMemory, may, is) = no_device_line (sym is)
+no_memory_line : ¬ (out_of_memory ≡ failure_outcome (codes "gomod: cannot read -\n"))
+no_memory_line same = search rules
+
+other_line : ¬ (failure_outcome (codes "gomod: cannot read m\n") ≡ failure_outcome (codes "gomod: cannot read -\n"))
+other_line same = search rules
 
 pub input_is_unread : InputIsUnread
 input_is_unread = record {
-  device = (Device, (opened (Some text) true, refl, refl), refl);
-  no_memory = (NoMemory, (opened (Some text) false, refl, tt), refl);
+  device = ((opened (Some text) true, inl (refl, refl), refl), refl);
+  no_memory = λ unread. no_memory_line unread.1;
   unfailing = unfailing;
-  other_name = no_such_line (codes "gomod: cannot read m\n") (search rules) (search rules);
-  other_status = λ unread. let is : 1 ≡ 3 = unread_status _ unread in omega (arith, is);
-  prints = λ unread. let is : 0 ≡ 3 = unread_status _ unread in omega (arith, is);
+  other_name = λ unread. other_line unread.1;
+  other_status = λ unread. let is : 1 ≡ 3 = ap (λ (o : Outcome). o.status) unread.1 in omega (arith, is);
+  prints = λ unread. let is : 0 ≡ 3 = ap (λ (o : Outcome). o.status) unread.1 in omega (arith, is);
 }
-
--- the list of a store that has standard input is the text
-list_is_text : (files : MemoryFiles) (list : List ℕ) → held_at files (list_file path) ≡ Some list → HoldsInput (IsInput false) path files → list ≡ take 16777217 text
-list_is_text files list there holds =
-    same_Some list holds.0.items (sym there ∙ holds.2 (list_file path)) ∙ read_of false (Ok holds.0) holds.1
 
 pub input_is_held : InputIsHeld
 input_is_held = record {
-  held = λ files list is holds. (list, (opened (Some text) false, refl, is ∙ sym (limit_of text (omega arith))), holds);
-  another = λ files list is there holds. not_given list text (omega arith) (other_differs list is) (list_is_text files list there holds);
-  cut = λ files list is there holds. not_given list text (omega arith) (cut_differs list is) (list_is_text files list there holds);
-  nothing = λ files none holds. none-some holds.0.items (sym none ∙ holds.2 (list_file path));
-  other_list = λ files list there holds. none-some list (sym (holds.2 (list_file (codes "n"))) ∙ there);
-  other_file = λ files file there holds. none-some file (sym (holds.2 (mod_file path (codes "v1.0.0"))) ∙ there);
-  not_empty = λ files list there holds. none-some list (sym (holds (list_file path)) ∙ there);
+  given = λ list is. (opened (Some text) false, inl (refl, refl), is ∙ sym (limit_of text (omega arith)));
+  another = λ list is read. not_given list.items text (omega arith) (other_differs list.items is) (read_of false (Ok list) read);
+  cut = λ list is read. not_given list.items text (omega arith) (cut_differs list.items is) (read_of false (Ok list) read);
+  nothing = λ never. never;
+  unnamed = λ list never. never;
+  held = λ list. refl;
+  other_list = λ list. refl;
+  other_file = λ list. refl;
+  empty = λ list. refl;
 }
 
 -- ---- the words

@@ -1,12 +1,9 @@
 -- Runs over folders in memory, with one more folder and without it.
 use Rattle.std.proofs.Common.{◌≡◌, ◌∙◌, ◌++◌, ◌∷◌, ℕ, Bool, List, [], Option, Some, None, Result, Ok, Err, Contains, ap, false, inl, inr, refl, subst, sym, true}
-use Rattle.std.proofs.lemmas.Bool.{false≢true}
 use Rattle.std.proofs.lemmas.List.{get_or-map, length-map}
 use Rattle.std.proofs.lemmas.List.Elements.{Contains-push_cases}
 use Rattle.gm_file.specs.Fields.{Dependency}
 use Rattle.gm_store.specs.Asked.{Name, Reply, absent, answer_in, bytes, list_file, mod_file, names_in, too_long}
-use Rattle.gm_store.specs.Latest.{IsLatest}
-use Rattle.gm_store.specs.Listed.{AreListed}
 use Rattle.gm_store_sums.specs.Sums.{Sums}
 use Rattle.gm_graph.specs.declared.cache.class.Class.{Class}
 use Rattle.gm_file.specs.Main.{Main}
@@ -26,19 +23,18 @@ use Rattle.gomod_run.proofs.OneQueryStore.{alike_back, stores_agree}
 use Rattle.gomod_words.specs.declared.usage.Command.{Command}
 use Rattle.gomod_words.specs.declared.usage.Command.TheVariants.{Fmt, Edit, Versions, Graph, List as Rows, Chain}
 use Rattle.gomod_run.specs.Runs.{Needs, is_query}
-use Rattle.gomod_run.specs.Versions.{by_latest, unfiltered, IsListedOutcome, IsShownOutcome, IsShownBy, IsVersionsOutcome, VersionsNeed}
+use Rattle.gomod_run.specs.Versions.{AreShown, VersionsEnds, VersionsNeed, all_listed, not_retracted}
 use Rattle.gomod_run.proofs.AllAsked.{done_answers}
 use Rattle.gomod_run.proofs.Answering.{answered_in}
 use Rattle.gomod_run.proofs.OneStore.{one_for_stores}
-use Rattle.gomod_run.proofs.Sameness.{same_answer}
-use Rattle.gomod_run.proofs.Uniqueness.{latest_once, listed_once, none_latest}
+use Rattle.gomod_run.proofs.OneVersions.{none_needed, one_latest, same_answer, shown_listed}
 use Rattle.gomod_laws.specs.FolderLaws.{FolderMayAnswer, MoreFoldersChangeNothing}
 use Rattle.gomod_laws.specs.Runs.{HasPrinted}
 use Rattle.gomod_laws.specs.Shown.{run_over}
 use Rattle.gomod_laws.proofs.Ended.{Ends}
 use Rattle.gomod_laws.proofs.FolderWalks.{found_again}
 use Rattle.gomod_laws.proofs.PrintedRuns.{Pairs, valid_files}
-use Rattle.gomod_laws.proofs.VersionRuns.{by_answers, list_answered, refusal_prints_nothing}
+use Rattle.gomod_laws.proofs.VersionRuns.{shown_printed}
 
 -- ---- the files that were asked for
 
@@ -82,46 +78,64 @@ read_is_file sums name (bytes content) file is = (content, refl)
 -- ---- `versions`
 
 pub versions_grow : (path : List ℕ) (all : Bool) → Grows (VersionsNeed path all)
-versions_grow path all one other keeps name (may, inl is) = (may, inl is)
-versions_grow path all one other keeps name (may, inr (list, versions, latest, some, answered, listed, greatest, is)) =
-    (may, inr (list, versions, latest, some, keeps (list_file path) (bytes list) answered, listed, greatest, is))
+versions_grow path all one other keeps name (inl list) = inl list
+versions_grow path all one other keeps name (inr (versions, latest, same, is)) = inr (
+  versions,
+  latest,
+  same,
+  record {
+    some = is.some;
+    listed = record {
+      fetchable = is.listed.fetchable;
+      list = is.listed.list;
+      answered = keeps (list_file path) (bytes is.listed.list) is.listed.answered;
+      listed = is.listed.listed;
+    };
+    greatest = is.greatest;
+  },
+)
 
-module _ (path : List ℕ) (all : Bool) (told : AnswersByName) (outcome : Outcome) (prints : HasPrinted outcome) where
-  shown_from_file : (versions : List (List ℕ)) (latest : List ℕ) (reply : Reply) → IsShownOutcome path versions latest reply outcome → IsFile reply
-  shown_from_file versions latest reply shows = by shows.reading shows.says shows.shows
+module _ (path : List ℕ) (all : Bool) (told : AnswersByName) (outcome : Outcome) (prints : HasPrinted outcome) (ends : VersionsEnds path all told [] outcome) where
+  shown : List (List ℕ)
+  shown = (shown_printed path all told outcome prints ends).0
+
+  are : AreShown path all told shown
+  are = (shown_printed path all told outcome prints ends).1
+
+  pub list_is_file : (reply : Reply) → told (list_file path) ≡ Some reply → IsFile reply
+  list_is_file reply answered =
+      let (versions, is) = shown_listed path all told shown are in
+      (is.list, same_answer (told (list_file path)) reply (bytes is.list) answered is.answered)
+
+  pub needed_is_file : (name : Name) (reply : Reply) → VersionsNeed path all told name → told name ≡ Some reply → IsFile reply
+  needed_is_file name reply (inl (fetchable, same)) answered = list_is_file reply (subst (λ (n : Name). told n ≡ Some reply) same answered)
+  needed_is_file name reply (inr (versions, latest, same, is)) answered = by shown are
     where
-      by : (reading : Result Dependency Class) → IsFileReading None (mod_file path latest) reply reading → IsShownBy path versions latest reply reading outcome → IsFile reply
-      by (Ok file) says is = read_is_file None (mod_file path latest) reply file says
-      by (Err class) says is = absurd (refusal_prints_nothing outcome _ is prints)
-
-  latest_is_file : (versions : List (List ℕ)) (latest : List ℕ) (reply : Reply) → IsListedOutcome path all told versions outcome → all ≡ false → IsLatest versions latest
-      → told (mod_file path latest) ≡ Some reply → IsFile reply
-  latest_is_file versions latest reply (unfiltered (inl every) says) some greatest answered = absurd (false≢true (sym some ∙ every))
-  latest_is_file versions latest reply (unfiltered (inr none) says) some greatest answered = absurd (none_latest latest (subst (λ (vs : List (List ℕ)). IsLatest vs latest) none greatest))
-  latest_is_file versions latest reply (by_latest last other isnt greater said shows) some greatest answered =
-      let same : last ≡ latest = latest_once versions last latest greater greatest in
-      let again : told (mod_file path latest) ≡ Some other = subst (λ (v : List ℕ). told (mod_file path v) ≡ Some other) same said in
-      let (content, is) = shown_from_file versions last other shows in
-      (content, same_answer (told (mod_file path latest)) reply other answered again ∙ is)
-
-  pub needed_is_file : (name : Name) (reply : Reply) → IsVersionsOutcome path all told outcome → VersionsNeed path all told name → told name ≡ Some reply → IsFile reply
-  needed_is_file name reply states (may, inl is) answered =
-      let (versions, are, follows) = list_answered path all told outcome prints states in
-      (are.list, same_answer (told (list_file path)) reply (bytes are.list) (subst (λ (n : Name). told n ≡ Some reply) is answered) are.answered)
-  needed_is_file name reply states (may, inr (list, versions, latest, some, said, listed, greatest, is)) answered =
-      let (others, are, follows) = list_answered path all told outcome prints states in
-      let lists : list ≡ are.list = same_bytes list are.list (same_answer (told (list_file path)) (bytes list) (bytes are.list) said are.answered) in
-      let same : versions ≡ others = listed_once path are.list versions others (subst (λ (l : List ℕ). AreListed path l versions) lists listed) are.listed in
-      latest_is_file others latest reply follows some (subst (λ (vs : List (List ℕ)). IsLatest vs latest) same greatest) (subst (λ (n : Name). told n ≡ Some reply) is answered)
+      by : (shown : List (List ℕ)) → AreShown path all told shown → IsFile reply
+      by shown (all_listed listed every) = absurd (none_needed path all told shown versions latest listed every is)
+      by shown (not_retracted others last other file intervals says retracted hidden) =
+          let latest_same = (one_latest path all told versions others latest last is says.is).1 in
+          let again : told (mod_file path last) ≡ Some reply = subst (λ (n : Name). told n ≡ Some reply) (same ∙ ap (mod_file path) latest_same) answered in
+          let (content, content_is) = read_is_file None (mod_file path last) other file says.says in
+          (content, same_answer (told (mod_file path last)) reply other again says.answered ∙ content_is)
 
   -- the same files are needed over answers that name the same list
-  pub needed_again : (other : AnswersByName) (name : Name) → IsVersionsOutcome path all told outcome
-      → ((a b : Reply) → other (list_file path) ≡ Some a → told (list_file path) ≡ Some b → a ≡ b) → VersionsNeed path all other name → VersionsNeed path all told name
-  needed_again other name states alike (may, inl is) = (may, inl is)
-  needed_again other name states alike (may, inr (list, versions, latest, some, said, listed, greatest, is)) =
-      let (others, are, follows) = list_answered path all told outcome prints states in
-      let same : bytes list ≡ bytes are.list = alike (bytes list) (bytes are.list) said are.answered in
-      (may, inr (list, versions, latest, some, are.answered ∙ ap Some (sym same), listed, greatest, is))
+  pub needed_again : (other : AnswersByName) (name : Name) → ((a b : Reply) → other (list_file path) ≡ Some a → told (list_file path) ≡ Some b → a ≡ b)
+      → VersionsNeed path all other name → VersionsNeed path all told name
+  needed_again other name alike (inl list) = inl list
+  needed_again other name alike (inr (versions, latest, same, is)) =
+      let (others, listed) = shown_listed path all told shown are in
+      let lists : bytes is.listed.list ≡ bytes listed.list = alike (bytes is.listed.list) (bytes listed.list) is.listed.answered listed.answered in
+      inr (
+        versions,
+        latest,
+        same,
+        record {
+          some = is.some;
+          listed = record { fetchable = is.listed.fetchable; list = is.listed.list; answered = listed.answered ∙ ap Some (sym lists); listed = is.listed.listed };
+          greatest = is.greatest;
+        },
+      )
 
 -- ---- queries
 
@@ -181,7 +195,7 @@ module _ (main : List ℕ) (sums : Option (List ℕ)) where
   each_is_file (Edit operations) asked outcome run turn prints name reply e =
       absurd (needed_in_turn (Needs (Edit operations) main sums) (λ one other keeps n need. need) turn name (answered_name asked name reply e))
   each_is_file (Versions path all) asked outcome run turn prints name reply e =
-      needed_is_file path all (answer_in asked) outcome prints name reply (by_answers path all main sums asked outcome run)
+      needed_is_file path all (answer_in asked) outcome prints run name reply
       (needed_in_turn (VersionsNeed path all) (versions_grow path all) turn name (answered_name asked name reply e)) e
   each_is_file Graph asked outcome run turn prints name reply e = query_is_file Graph asked outcome refl run prints name reply e
   each_is_file (Rows after limit) asked outcome run turn prints name reply e = query_is_file (Rows after limit) asked outcome refl run prints name reply e
@@ -203,7 +217,7 @@ module _ (main : List ℕ) (sums : Option (List ℕ)) where
   names_in_other (Versions path all) asked told a b alike turn run prints again also name there =
       let need : VersionsNeed path all (answer_in asked) name = needed_in_turn (VersionsNeed path all) (versions_grow path all) turn name there in
       let too : VersionsNeed path all (answer_in told) name =
-      needed_again path all (answer_in told) b also (answer_in asked) name (by_answers path all main sums told b again) (alike (list_file path)) need in
+      needed_again path all (answer_in told) b also again (answer_in asked) name (alike (list_file path)) need in
       let (reply, answered) = all_answered (Versions path all) main sums told b again also name too in
       answered_name told name reply answered
   names_in_other Graph asked told a b alike turn run prints again also name there = query_names Graph asked told a b refl alike run prints again also name there

@@ -1,99 +1,71 @@
 -- What `versions` prints, with and without the retracted versions.
-use Rattle.std.proofs.Common.{◌≡◌, ◌∙◌, ◌∷◌, ℕ, Bool, List, [], Option, Some, None, Result, Ok, Err, ap, false, inl, inr, refl, subst, sym, true}
+use Rattle.std.proofs.Common.{◌≡◌, ◌∙◌, ℕ, Bool, List, Option, Some, None, ap, arith, inl, inr, refl, subst, sym, true, false}
 use Rattle.std.proofs.lemmas.Bool.{false≢true}
 use Rattle.gm_name.specs.Path.{is_fetchable}
-use Rattle.gm_file.specs.Fields.{Dependency}
-use Rattle.gm_file.specs.Shown.{shown_of}
-use Rattle.gm_store.specs.Asked.{Name, Reply, absent, answer_in, bytes, list_file, mod_file, too_long}
+use Rattle.gm_store.specs.Asked.{Name, Reply, answer_in, bytes, bytes_in, list_file}
 use Rattle.gm_store.specs.Listed.{AreListed}
-use Rattle.gm_graph.specs.declared.cache.class.Class.{Class}
-use Rattle.gm_graph.specs.Reading.{IsFileReading}
 use Rattle.gomod_run.specs.Outcome.{Outcome, text_outcome, refusal_outcome}
 use Rattle.gomod_run.specs.Needs.{AnswersByName}
-use Rattle.gomod_words.specs.declared.usage.Command.TheVariants.{Versions}
-use Rattle.gomod_run.specs.Versions.{answered as heard, by_latest, by_list, device, unfetchable, unfiltered, IsListedOutcome, IsOutcomeByList, IsShownBy, IsVersionsOutcome, versions_line}
+use Rattle.gomod_run.specs.Versions.{AreShown, HasListed, VersionsEnds, all_listed, bad_file, device, list_refusal, no_list, not_retracted, printed, versions_line}
+use Rattle.gomod_run.proofs.AllAsked.{refusal_status}
 use Rattle.gomod_run.proofs.Uniqueness.{listed_once}
 use Rattle.gomod_laws.specs.Runs.{HasPrinted}
-use Rattle.gomod_laws.proofs.Ended.{Ends}
 use Rattle.gomod_laws.specs.VersionLaws.{AreUnretracted, RetractedAreLeftOut}
 
 abbrev Pairs : Type 0
 Pairs = List (Name × Reply)
 
--- ---- a run
-
 -- a refusal prints nothing
 pub refusal_prints_nothing : (outcome : Outcome) (report : List ℕ) → outcome ≡ refusal_outcome report → HasPrinted outcome → ⊥
 refusal_prints_nothing outcome report is prints = let one : 1 ≡ 0 = sym (ap {B = ℕ} (λ (o : Outcome). o.status) is) ∙ prints in cc one
 
--- the outcome of `versions`, by the answers of the run
-pub by_answers : (path : List ℕ) (all : Bool) (main : List ℕ) (sums : Option (List ℕ)) (asked : Pairs) (outcome : Outcome)
-    → Ends (Versions path all) main sums asked outcome → IsVersionsOutcome path all (answer_in asked) outcome
-by_answers path all main sums asked outcome (heard is none) = is
-by_answers path all main sums asked outcome (device name need unanswered some says) = absurd (let none : [] ≡ name ∷ [] = some in cc none)
+-- where `versions` prints, it prints the versions that are shown
+pub shown_printed : (path : List ℕ) (all : Bool) (answers : AnswersByName) (outcome : Outcome) → HasPrinted outcome → VersionsEnds path all answers [] outcome
+    → (shown : List (List ℕ)) × AreShown path all answers shown × (outcome ≡ text_outcome (versions_line path shown))
+shown_printed path all answers outcome prints (device name need unanswered failed says) = absurd (cc failed)
+shown_printed path all answers outcome prints (no_list refused none) =
+    let code = refusal_status path (is_fetchable path) (answers (list_file path)) outcome refused in absurd (omega (arith, code, prints))
+shown_printed path all answers outcome prints (bad_file versions latest reply class says none told) = absurd (refusal_prints_nothing outcome _ told prints)
+shown_printed path all answers outcome prints (printed shown are none told) = (shown, are, told)
 
--- ---- what is printed
+-- without `--retracted`, those that are not retracted are shown
+unretracted_shown : (path : List ℕ) (asked : Pairs) (shown : List (List ℕ)) → AreShown path false (answer_in asked) shown
+    → (versions : List (List ℕ)) × HasListed path (answer_in asked) versions × AreUnretracted asked path versions shown
+unretracted_shown path asked shown (all_listed is (inl every)) = absurd (false≢true every)
+unretracted_shown path asked shown (all_listed is (inr none)) = (shown, is, inl (none, none))
+unretracted_shown path asked shown (not_retracted versions latest reply file intervals says retracted same) =
+    (versions, says.is.listed, inr (latest, intervals, says.is.greatest, (reply, file, says.answered, says.says, retracted), same))
 
--- the store answered with a list that names these versions
-pub record IsAnswered (path : List ℕ) (answers : AnswersByName) (versions : List (List ℕ)) : Type 0 where
-  pub fetchable : is_fetchable path ≡ true
-  pub list : List ℕ
-  pub answered : answers (list_file path) ≡ Some (bytes list)
-  pub listed : AreListed path list versions
+-- with `--retracted`, each version is printed that the list names
+module _ (path : List ℕ) (answers : AnswersByName) (list : List ℕ) (versions : List (List ℕ)) (outcome : Outcome) (listed : AreListed path list versions)
+    (same : (reply : Reply) → answers (list_file path) ≡ Some reply → reply ≡ bytes list) where
+  not_refused : (answer : Option Reply) → ((reply : Reply) → answer ≡ Some reply → reply ≡ bytes list) → list_refusal path true answer ≡ Some outcome → ⊥
+  not_refused None same is = cc is
+  not_refused (Some reply) same is =
+      let e : None ≡ Some outcome = sym (ap (λ (r : Reply). list_refusal path true (Some r)) (same reply refl)) ∙ is in cc e
 
--- where `versions` prints, its list was answered
-pub list_answered : (path : List ℕ) (all : Bool) (answers : AnswersByName) (outcome : Outcome) → HasPrinted outcome → IsVersionsOutcome path all answers outcome
-    → (versions : List (List ℕ)) × IsAnswered path answers versions × IsListedOutcome path all answers versions outcome
-list_answered path all answers outcome prints (unfetchable (isnt, says)) = absurd (refusal_prints_nothing outcome _ says prints)
-list_answered path all answers outcome prints (by_list reply fetchable answered is) = by reply answered is
-  where
-    by : (reply : Reply) → answers (list_file path) ≡ Some reply → IsOutcomeByList path all answers reply outcome
-        → (versions : List (List ℕ)) × IsAnswered path answers versions × IsListedOutcome path all answers versions outcome
-    by absent answered says = absurd (refusal_prints_nothing outcome _ says prints)
-    by too_long answered says = absurd (refusal_prints_nothing outcome _ says prints)
-    by (bytes list) answered (versions, listed, is) = (versions, record { fetchable = fetchable; list = list; answered = answered; listed = listed }, is)
+  all_shown : (shown : List (List ℕ)) → AreShown path true answers shown → shown ≡ versions
+  all_shown shown (all_listed is every) =
+      listed_once path list shown versions (subst (λ (r : Reply). AreListed path (bytes_in r) shown) (same (bytes is.list) is.answered) is.listed) listed
+  all_shown shown (not_retracted others latest reply file intervals says retracted hidden) = absurd (false≢true (sym says.is.some))
 
--- without `--retracted`, those that are not retracted are printed
-shown_printed : (path : List ℕ) (asked : Pairs) (versions : List (List ℕ)) (outcome : Outcome) → HasPrinted outcome → IsListedOutcome path false (answer_in asked) versions outcome
-    → (shown : List (List ℕ)) × AreUnretracted asked path versions shown × (outcome ≡ text_outcome (versions_line path shown))
-shown_printed path asked versions outcome prints (unfiltered (inl every) says) = absurd (false≢true every)
-shown_printed path asked versions outcome prints (unfiltered (inr none) says) = (versions, inl (none, none), says)
-shown_printed path asked versions outcome prints (by_latest latest reply some is answered shows) = by shows.reading shows.says shows.shows
-  where
-    by : (reading : Result Dependency Class) → IsFileReading None (mod_file path latest) reply reading → IsShownBy path versions latest reply reading outcome
-        → (shown : List (List ℕ)) × AreUnretracted asked path versions shown × (outcome ≡ text_outcome (versions_line path shown))
-    by (Ok file) says (intervals, are, outcome_is) =
-        (shown_of intervals versions, inr (latest, intervals, is, (reply, file, answered, says, are), refl), outcome_is)
-    by (Err class) says outcome_is = absurd (refusal_prints_nothing outcome _ outcome_is prints)
-
--- with `--retracted`, each listed version is printed
-all_listed : (path : List ℕ) (answers : AnswersByName) (versions : List (List ℕ)) (outcome : Outcome) → IsListedOutcome path true answers versions outcome
-    → outcome ≡ text_outcome (versions_line path versions)
-all_listed path answers versions outcome (unfiltered every says) = says
-all_listed path answers versions outcome (by_latest latest reply some is answered shows) = absurd (false≢true (sym some))
-
-all_by_list : (path : List ℕ) (answers : AnswersByName) (list : List ℕ) (versions : List (List ℕ)) (reply : Reply) (outcome : Outcome) → AreListed path list versions → reply ≡ bytes list
-    → IsOutcomeByList path true answers reply outcome → outcome ≡ text_outcome (versions_line path versions)
-all_by_list path answers list versions reply outcome listed same is =
-    let (others, named, follows) = subst (λ (r : Reply). IsOutcomeByList path true answers r outcome) same is in
-    all_listed path answers versions outcome (subst (λ (vs : List (List ℕ)). IsListedOutcome path true answers vs outcome) (listed_once path list others versions named listed) follows)
-
-all_printed : (path : List ℕ) (answers : AnswersByName) (list : List ℕ) (versions : List (List ℕ)) (outcome : Outcome) → is_fetchable path ≡ true → AreListed path list versions
-    → ((reply : Reply) → answers (list_file path) ≡ Some reply → reply ≡ bytes list) → IsVersionsOutcome path true answers outcome
-    → outcome ≡ text_outcome (versions_line path versions)
-all_printed path answers list versions outcome fetchable listed same (unfetchable (isnt, says)) = absurd (false≢true (sym isnt ∙ fetchable))
-all_printed path answers list versions outcome fetchable listed same (by_list reply may answered is) = all_by_list path answers list versions reply outcome listed (same reply answered) is
+  all_printed : is_fetchable path ≡ true → VersionsEnds path true answers [] outcome → outcome ≡ text_outcome (versions_line path versions)
+  all_printed fetchable (device name need unanswered failed says) = absurd (cc failed)
+  all_printed fetchable (no_list refused none) =
+      absurd (not_refused (answers (list_file path)) same (subst (λ (b : Bool). list_refusal path b (answers (list_file path)) ≡ Some outcome) fetchable refused))
+  all_printed fetchable (bad_file others latest reply class says none told) = absurd (false≢true (sym says.is.some))
+  all_printed fetchable (printed shown are none told) = told ∙ ap (λ (vs : List (List ℕ)). text_outcome (versions_line path vs)) (all_shown shown are)
 
 pub retracted_are_left_out : RetractedAreLeftOut
 retracted_are_left_out path main sums asked told one other run prints also alike =
-    let (versions, is, follows) = list_answered path false (answer_in asked) one prints (by_answers path false main sums asked one run.0) in
-    let (shown, are, says) = shown_printed path asked versions one prints follows in
-    let same : (reply : Reply) → answer_in told (list_file path) ≡ Some reply → reply ≡ bytes is.list = λ reply answered. sym (alike (list_file path) (bytes is.list) reply is.answered answered) in
+    let (shown, are, says) = shown_printed path false (answer_in asked) one prints run.0 in
+    let (versions, is, unretracted) = unretracted_shown path asked shown are in
     record {
       versions = versions;
       shown = shown;
       listed = record { list = is.list; answered = is.answered; are = is.listed };
-      unretracted = are;
+      unretracted = unretracted;
       one_prints = says;
-      other_prints = all_printed path (answer_in told) is.list versions other is.fetchable is.listed same (by_answers path true main sums told other also.0);
+      other_prints = all_printed path (answer_in told) is.list versions other is.listed
+          (λ reply answered. sym (alike (list_file path) (bytes is.list) reply is.answered answered)) is.fetchable also.0;
     }

@@ -6,16 +6,12 @@ use Rattle.std.specs.declared.io.ErrorKind.{ErrorKind}
 use Rattle.std.specs.declared.io.ErrorKind.TheVariants.{NotFound, OutOfMemory}
 use Rattle.gm_store.specs.Asked.{list_file, mod_file}
 use Rattle.gm_store.specs.Faults.{HasCountedFailure}
-use Rattle.gm_store.specs.Memory.{held_at}
 use Rattle.gm_store.specs.Openings.{IsReadFrom, Opening, opened, refused as unopened}
 use Rattle.gm_store.specs.Taken.{SinkState}
-use Rattle.gm_store.specs.declared.files.memory.MemoryFiles.{MemoryFiles}
 use Rattle.gm_store.specs.declared.reading.ReadFault.TheVariants.{Device, NoMemory}
 use Rattle.gomod_run.specs.Outcome.{Outcome, failure_outcome, out_of_memory, text_outcome, refusal_outcome}
-use Rattle.gomod_run.specs.Program.{IsProgramOutcome, any_input, anything, usage_error}
+use Rattle.gomod_run.specs.Program.{FileGives, IsInput, IsProgramOutcome, IsUnread, any_input, anything, held_for, usage_error}
 use Rattle.gomod_run.specs.Taking.{TookAll, TookPrefix}
-use Rattle.gomod_run.specs.Held.{HoldsOne}
-use Rattle.gomod_run.specs.Reads.{HoldsInput, HoldsNothing, IsUnreadList}
 use Rattle.gomod_words.specs.Usage.{unreadable_text, version_line}
 use Rattle.gomod_run.specs.Written.{EndsAsStated, IsWritten, WroteBoth, WrotePrefix}
 
@@ -188,38 +184,38 @@ pub record FileIsRead : Type 0 where
 -- ---- standard input
 
 -- What comes of taking it if it is the text. The flag says whether a read of it may fail.
-abbrev pub IsInput : Bool → Opening → Type 0
-IsInput may_fail opening = opening ≡ opened (Some text) may_fail
+abbrev pub IsInputText : Bool → Opening → Type 0
+IsInputText may_fail opening = opening ≡ opened (Some text) may_fail
 
 -- the module whose list it is
 abbrev pub path : List ℕ
 path = codes "m"
 
--- It can't be read: that is reported under the name `-`, or memory ran out. It can be read if no read of it fails.
-pub record InputIsUnread : Type 0 where
-  pub device : IsUnreadList (IsInput true) (failure_outcome (codes "gomod: cannot read -\n"))
-  pub no_memory : IsUnreadList (IsInput false) out_of_memory
-  pub unfailing : ¬ (IsUnreadList (IsInput false) (failure_outcome (codes "gomod: cannot read -\n")))
-  pub other_name : ¬ (IsUnreadList (IsInput true) (failure_outcome (codes "gomod: cannot read m\n")))
-  pub other_status : ¬ (IsUnreadList (IsInput true) (refusal_outcome (codes "gomod: cannot read -\n")))
-  pub prints : ¬ (IsUnreadList (IsInput true) (text_outcome text))
+-- what a FILE gives if `-` is this input
+abbrev pub WithInput : Bool → List ℕ → Opening → Type 0
+WithInput may_fail = FileGives anything (IsInputText may_fail)
 
--- A store has it if it has its bytes as the list of the module, and nothing else. An empty store has no list.
+-- It can't be read if that is reported under the name `-`, and a read of it may fail.
+pub record InputIsUnread : Type 0 where
+  pub device : IsUnread (WithInput true) (Some (codes "-")) (failure_outcome (codes "gomod: cannot read -\n"))
+  pub no_memory : ¬ (IsUnread (WithInput true) (Some (codes "-")) out_of_memory)
+  pub unfailing : ¬ (IsUnread (WithInput false) (Some (codes "-")) (failure_outcome (codes "gomod: cannot read -\n")))
+  pub other_name : ¬ (IsUnread (WithInput true) (Some (codes "-")) (failure_outcome (codes "gomod: cannot read m\n")))
+  pub other_status : ¬ (IsUnread (WithInput true) (Some (codes "-")) (refusal_outcome (codes "gomod: cannot read -\n")))
+  pub prints : ¬ (IsUnread (WithInput true) (Some (codes "-")) (text_outcome text))
+
+-- A store has it if it answers with its bytes for the list of the module, and for nothing else. A store without it
+-- answers nothing.
 pub record InputIsHeld : Type 0 where
-  pub held : (files : MemoryFiles) (list : Vec ℕ) → list.items ≡ text → HoldsOne (list_file path) list.items files
-      → HoldsInput (IsInput false) path files
-  pub another : (files : MemoryFiles) (list : List ℕ) → list ≡ other → held_at files (list_file path) ≡ Some list
-      → ¬ (HoldsInput (IsInput false) path files)
-  pub cut : (files : MemoryFiles) (list : List ℕ) → list ≡ codes "m" → held_at files (list_file path) ≡ Some list
-      → ¬ (HoldsInput (IsInput false) path files)
-  pub nothing : (files : MemoryFiles) → held_at files (list_file path) ≡ None
-      → ¬ (HoldsInput (IsInput false) path files)
-  pub other_list : (files : MemoryFiles) (list : List ℕ) → held_at files (list_file (codes "n")) ≡ Some list
-      → ¬ (HoldsInput (IsInput false) path files)
-  pub other_file : (files : MemoryFiles) (file : List ℕ) → held_at files (mod_file path (codes "v1.0.0")) ≡ Some file
-      → ¬ (HoldsInput (IsInput false) path files)
-  pub not_empty : (files : MemoryFiles) (list : List ℕ) → held_at files (list_file path) ≡ Some list
-      → ¬ (HoldsNothing files)
+  pub given : (list : Vec ℕ) → list.items ≡ text → IsInput (WithInput false) (Some (codes "-")) (Some list)
+  pub another : (list : Vec ℕ) → list.items ≡ other → ¬ (IsInput (WithInput false) (Some (codes "-")) (Some list))
+  pub cut : (list : Vec ℕ) → list.items ≡ codes "m" → ¬ (IsInput (WithInput false) (Some (codes "-")) (Some list))
+  pub nothing : ¬ (IsInput (WithInput false) (Some (codes "-")) None)
+  pub unnamed : (list : Vec ℕ) → ¬ (IsInput (WithInput false) None (Some list))
+  pub held : (list : Vec ℕ) → held_for (Some path) (Some list) (list_file path) ≡ Some list.items
+  pub other_list : (list : Vec ℕ) → held_for (Some path) (Some list) (list_file (codes "n")) ≡ None
+  pub other_file : (list : Vec ℕ) → held_for (Some path) (Some list) (mod_file path (codes "v1.0.0")) ≡ None
+  pub empty : (list : Vec ℕ) → held_for None (Some list) (list_file path) ≡ None
 
 -- ---- the words
 

@@ -33,14 +33,14 @@ pub fn file_is_read()
     ensures { FileIsRead }
 {}
 
-/// `IsUnreadList`: standard input can't be read if `gomod: cannot read -` is reported, with status 3, or that memory
-/// ran out. Nothing else says so. If no read of it may fail, it can be read, unless memory runs out.
+/// `FileGives`, `IsUnread`: standard input can't be read if `gomod: cannot read -` is reported, with status 3, and a
+/// read of it may fail. Nothing else says so.
 pub fn input_is_unread()
     ensures { InputIsUnread }
 {}
 
-/// `HoldsOne`, `HoldsInput`: the store of `versions m` has what was read of standard input if it has its bytes as the
-/// list of m, neither other bytes nor fewer, and no other list or file. An empty store, `HoldsNothing`, has none.
+/// `IsInput`, `held_for`: the store of `versions m` answers for the list of m with all bytes that were read of standard
+/// input and no others, and has no other list or file. Without the module it has none.
 pub fn input_is_held()
     ensures { InputIsHeld }
 {}

@@ -1,26 +1,26 @@
 -- A run that is done has an answer for every file that it needs.
-use Rattle.std.proofs.Common.{◌≡◌, ◌∙◌, ℕ, Bool, List, [], Option, Some, false, ap, arith, inl, inr, subst, sym}
+use Rattle.std.proofs.Common.{◌≡◌, ◌∙◌, ℕ, Bool, List, [], Option, Some, None, false, true, ap, arith, inl, inr, sym}
+use Rattle.std.proofs.lemmas.Option.{same_Some}
+use Rattle.gm_name.specs.Path.{is_fetchable}
 use Rattle.gm_store.specs.Asked.{Name, Reply, absent, answer_in, bytes, list_file, mod_file, too_long}
-use Rattle.gm_store.specs.Latest.{IsLatest}
-use Rattle.gm_store.specs.Listed.{AreListed}
 use Rattle.gm_store_sums.specs.Sums.{Sums}
 use Rattle.gm_file.specs.Main.{Main}
 use Rattle.gm_graph.specs.declared.fault.Fault.{Fault}
 use Rattle.gm_graph.specs.Run.{Run, run_of}
 use Rattle.gm_graph.proofs.RunLemmas.{Agrees, needed, settled_answers}
-use Rattle.gomod_run.specs.Outcomes.{Answers, AreFound, Given, Prints, PrintsChain, PrintsGraph, PrintsList, QueryEnds}
+use Rattle.gomod_run.specs.Outcomes.{AreFound, Given, Prints, PrintsChain, PrintsGraph, PrintsList, QueryEnds}
 use Rattle.gomod_run.specs.Needs.{AnsweredAll, AnswersByName, GraphNeeds}
 use Rattle.gomod_run.specs.Outcome.{OrNoMemory, Outcome, failure_outcome}
 use Rattle.gomod_run.specs.Reports.{device_line}
 use Rattle.gomod_run.proofs.OneQueryStore.{itself, stores_agree}
 use Rattle.gomod_run.proofs.PrintedList.{printed_run}
-use Rattle.gomod_run.proofs.Uniqueness.{latest_once, listed_once, none_latest}
+use Rattle.gomod_run.proofs.OneVersions.{none_needed, one_latest, shown_listed}
 use Rattle.gomod_run.proofs.WrittenTexts.{written_as}
 use Rattle.gomod_words.specs.declared.usage.Command.{Command}
 use Rattle.gomod_words.specs.declared.usage.Command.TheVariants.{Fmt, Edit, Versions, Graph, List as Rows, Chain}
 use Rattle.gm_store.specs.States.{StoreState}
 use Rattle.gomod_run.specs.Runs.{HoldsAtAnyEnd, Needs, RunEnds}
-use Rattle.gomod_run.specs.Versions.{IsOutcomeByList, IsVersionsOutcome, VersionsEnds, VersionsNeed, answered, by_latest, by_list, device, unfetchable, unfiltered}
+use Rattle.gomod_run.specs.Versions.{AreShown, VersionsEnds, VersionsNeed, all_listed, bad_file, device, list_refusal, no_list, not_retracted, printed}
 use Rattle.gomod_run.specs.Written.{IsWritten}
 use Rattle.gm_store.specs.Taken.{SinkState}
 
@@ -37,32 +37,20 @@ graph_answered run main table faults found name needs =
 -- ---- what `versions` needs
 
 -- the list, if the path is fetchable, and the go.mod of the latest version, if that is needed
-module _ (path : List ℕ) (all : Bool) (told : AnswersByName) where
-  list_known : (list : List ℕ) (versions : List (List ℕ)) (latest : List ℕ) (name : Name) (reply : Reply) (outcome : Outcome) → told (list_file path) ≡ Some (bytes list) → all ≡ false
-      → AreListed path list versions → IsLatest versions latest → name ≡ mod_file path latest → told (list_file path) ≡ Some reply → IsOutcomeByList path all told reply outcome
-      → (answer : Reply) × (told name ≡ Some answer)
-  list_known list versions latest name absent outcome seen some listed is same heard ends = let e : Some absent ≡ Some (bytes list) = sym heard ∙ seen in absurd (cc e)
-  list_known list versions latest name too_long outcome seen some listed is same heard ends = let e : Some too_long ≡ Some (bytes list) = sym heard ∙ seen in absurd (cc e)
-  list_known list versions latest name (bytes other) outcome seen some listed is same heard (others, named, ends) =
-      let lists : other ≡ list = same_list other list (sym heard ∙ seen) in
-      let all_same : others ≡ versions = listed_once path list others versions (subst (λ (l : List ℕ). AreListed path l others) lists named) listed in
-      elim ends [
-        | unfiltered (inl every) says ↦ (let e = sym every ∙ some in absurd (cc e))
-        | unfiltered (inr none) says ↦ absurd (none_latest latest (subst (λ (vs : List (List ℕ)). IsLatest vs latest) (sym all_same ∙ none) is))
-        | by_latest greatest reply few is_greatest heard_too shows ↦ (
-          reply,
-          ap told (same ∙ ap (mod_file path) (latest_once versions latest greatest is (subst (λ (vs : List (List ℕ)). IsLatest vs greatest) all_same is_greatest))) ∙ heard_too,
-        )
-      ]
-    where
-      same_list : (one other : List ℕ) → Some (bytes one) ≡ Some (bytes other) → one ≡ other
-      same_list one other e = cc
+shown_answered : (path : List ℕ) (all : Bool) (answers : AnswersByName) (shown : List (List ℕ)) → AreShown path all answers shown → AnsweredAll (VersionsNeed path all) answers
+shown_answered path all answers shown are name (inl (fetchable, same)) =
+    let (versions, is) = shown_listed path all answers shown are in (bytes is.list, ap answers same ∙ is.answered)
+shown_answered path all answers shown (all_listed is every) name (inr (versions, latest, same, needed)) = absurd (none_needed path all answers shown versions latest is every needed)
+shown_answered path all answers shown (not_retracted versions latest reply file intervals says retracted kept) name (inr (others, last, same, needed)) =
+    (reply, ap answers (same ∙ ap (mod_file path) (one_latest path all answers others versions last latest needed says.is).1) ∙ says.answered)
 
-  versions_answered : (outcome : Outcome) → IsVersionsOutcome path all told outcome → AnsweredAll (VersionsNeed path all) told
-  versions_answered outcome (unfetchable (isnt, says)) name (fetchable, needs) = let e = sym isnt ∙ fetchable in absurd (cc e)
-  versions_answered outcome (by_list reply may heard ends) name (fetchable, inl same) = (reply, ap told same ∙ heard)
-  versions_answered outcome (by_list reply may heard ends) name (fetchable, inr (list, versions, latest, some, seen, listed, is, same)) =
-      list_known list versions latest name reply outcome seen some listed is same heard ends
+-- the report that there is no list has the status of a refusal
+pub refusal_status : (path : List ℕ) (fetchable : Bool) (answer : Option Reply) (outcome : Outcome) → list_refusal path fetchable answer ≡ Some outcome → outcome.status ≡ 1
+refusal_status path false answer outcome is = ap (λ (o : Outcome). o.status) (sym (same_Some _ outcome is))
+refusal_status path true (Some absent) outcome is = ap (λ (o : Outcome). o.status) (sym (same_Some _ outcome is))
+refusal_status path true (Some too_long) outcome is = ap (λ (o : Outcome). o.status) (sym (same_Some _ outcome is))
+refusal_status path true (Some (bytes list)) outcome is = absurd (cc is)
+refusal_status path true None outcome is = absurd (cc is)
 
 -- ---- runs that are done
 
@@ -70,15 +58,19 @@ query_done : (prints : Prints) (run : Given) (outcome : Outcome) → QueryEnds p
 query_done prints run outcome is done =
     let (main, table, found, says) = printed_run prints run outcome is done in graph_answered run main table [] found
 
-versions_done : (path : List ℕ) (all : Bool) (told : Answers) (outcome : Outcome) → VersionsEnds path all told outcome → outcome.status ≡ 0 → AnsweredAll (VersionsNeed path all) (answer_in told.asked)
-versions_done path all told outcome (answered is none) done = versions_answered path all (answer_in told.asked) outcome is
-versions_done path all told outcome (device name need unanswered some says) done = let code = ap (λ (o : Outcome). o.status) says in absurd (omega (arith, code, done))
+versions_done : (path : List ℕ) (all : Bool) (answers : AnswersByName) (failed : List Name) (outcome : Outcome) → VersionsEnds path all answers failed outcome → outcome.status ≡ 0
+    → AnsweredAll (VersionsNeed path all) answers
+versions_done path all answers failed outcome (device name need unanswered some says) done = let code = ap (λ (o : Outcome). o.status) says in absurd (omega (arith, code, done))
+versions_done path all answers failed outcome (no_list refused none) done =
+    let code = refusal_status path (is_fetchable path) (answers (list_file path)) outcome refused in absurd (omega (arith, code, done))
+versions_done path all answers failed outcome (bad_file versions latest reply class says none told) done = let code = ap (λ (o : Outcome). o.status) told in absurd (omega (arith, code, done))
+versions_done path all answers failed outcome (printed shown are none told) done = shown_answered path all answers shown are
 
 -- a run of a command whose outcome has the status of a done run has all answers that it needs
 pub done_answers : (command : Command) (run : Given) (outcome : Outcome) → RunEnds command run outcome → outcome.status ≡ 0 → AnsweredAll (Needs command run.file run.sums) (answer_in run.told.asked)
 done_answers Fmt run outcome is done = λ name need. absurd need
 done_answers (Edit operations) run outcome is done = λ name need. absurd need
-done_answers (Versions path all) run outcome is done = versions_done path all run.told outcome is done
+done_answers (Versions path all) run outcome is done = versions_done path all (answer_in run.told.asked) run.told.failed outcome is done
 done_answers Graph run outcome is done = query_done PrintsGraph run outcome is done
 done_answers (Rows after limit) run outcome is done = query_done (PrintsList after limit) run outcome is done
 done_answers (Chain path) run outcome is done = query_done (PrintsChain path) run outcome is done

@@ -1,5 +1,5 @@
 -- What the commands do with what was found.
-use Rattle.std.proofs.Common.{◌≡◌, ◌∙◌, ◌++◌, ℕ, Bool, List, [], ◌∷◌, Option, Some, Result, Ok, Err, IfOk, MatchResult, sym, refl, subst, ap, inl, inr, append-nil, drop, length}
+use Rattle.std.proofs.Common.{◌≡◌, ◌∙◌, ◌++◌, ℕ, Bool, List, [], ◌∷◌, Option, Some, None, Result, Ok, Err, IfOk, MatchResult, sym, refl, subst, ap, inl, inr, append-nil, drop, length}
 use Rattle.std.proofs.Math.Seq.{drop-append_seam}
 use Rattle.std.proofs.lemmas.List.{append_cancel_left}
 use Rattle.gm_syntax.specs.Document.{Line}
@@ -20,7 +20,7 @@ use Rattle.gm_graph_select.specs.BuildList.{Entry, IsRestAfter}
 use Rattle.gm_graph_select.specs.Graph.{among, edge}
 use Rattle.gm_graph_select.proofs.Same.{same_chain}
 use Rattle.gm_graph.specs.declared.fault.Fault.{Fault}
-use Rattle.gm_graph.specs.Run.{AreFaults, AreTooMany, AskedInTurn, IsDue, IsEdge, IsRead, Run, run_of}
+use Rattle.gm_graph.specs.Run.{AreFaults, AreTooMany, AskedInTurn, IsDue, IsEdge, IsRead, LoadingNeeds, Run, run_of}
 use Rattle.gm_graph.specs.Outcome.{IsLoaded, LoadedGraph as Loaded}
 use Rattle.gomod_run.specs.declared.reports.report.Report.{Report}
 use Rattle.gomod_run.specs.FromFaults.{report_by_bytes, report_by_load}
@@ -34,7 +34,9 @@ use Rattle.gomod_run.specs.Outcomes.{AreInvalidSums, AreSums, FilesReadAs, Given
 use Rattle.gomod_run.specs.Needs.{AnswersByName, FailsInTurn, GraphNeeds}
 use Rattle.gomod_run.specs.Refusals.{IsRefusedRead}
 use Rattle.gomod_run.specs.Runs.{ComesTo, Needs, PrintsOf, RunEnds, command_of, run_between}
+use Rattle.gomod_run.specs.Versions.{IsRefusedList}
 use Rattle.gomod_run.proofs.AllAsked.{done_if_memory}
+use Rattle.gomod_run.proofs.InTurn.{loading_in_turn, loading_needs}
 use Rattle.gm_graph.proofs.Dues.{none_in_turn}
 use Rattle.gomod_words.specs.declared.usage.Command.{Command}
 use Rattle.gomod_words.specs.declared.usage.Command.TheVariants.{Versions}
@@ -110,93 +112,65 @@ IsBothRead file sums r =
 pub both_ok : (file : List ℕ) (sums : Option (List ℕ)) (r : Result Read Report) (x : Read) → r ≡ Ok x → IsBothRead file sums r → FilesReadAs file sums (main_of x.main) x.table
 both_ok file sums r x is match = subst (IsBothRead file sums) is match
 
--- ---- the end of a whole run
+-- ---- what a run comes to
 
 -- the names on which the device failed in a run
-pub failed_in : (old new failing : List Name) → new ≡ old ++ failing → drop (length old) new ≡ failing
+failed_in : (old new failing : List Name) → new ≡ old ++ failing → drop (length old) new ≡ failing
 failed_in old new failing grown = ap (drop (length old)) grown ∙ drop-append_seam old failing
 
-pub none_failed : (old new : List Name) → new ≡ old → drop (length old) new ≡ []
-none_failed old new same = failed_in old new [] (same ∙ sym (append-nil old))
+-- if `versions` has no list to read, that is reported
+abbrev pub ReportsNoList : Command → StoreState → Outcome → Type 0
+ReportsNoList command new outcome =
+    (path : List ℕ) (all : Bool) (other : Outcome) → command ≡ Versions path all → IsRefusedList path (answer_in new.asked) other → outcome ≡ other
 
--- the end of a query is that of its command
+module _ (command : Command) (file : List ℕ) (sums : Option (List ℕ)) (before after : Name → Option Reply → Type 0) (old new : StoreState) (outcome : Outcome)
+    (in_turn : AskedInTurn (Needs command file sums) new.asked) (served : HasServed before after old new) (no_list : ReportsNoList command new outcome) where
+  comes : (failing : List Name) → new.refused ≡ old.refused ++ failing → OrNoMemory (RunEnds command (given_of file sums (answers_of new.asked failing))) outcome
+      → FailsInTurn (Needs command file sums) old new → ((name : Name) → failing ≡ name ∷ [] → outcome ≡ failure_outcome (device_line name))
+      → ComesTo command file sums before after old new outcome
+  comes failing grown ends fails reported =
+      let ended : OrNoMemory (RunEnds command (run_between file sums old new)) outcome =
+      subst (λ (names : List Name). OrNoMemory (RunEnds command (given_of file sums (answers_of new.asked names))) outcome) (sym (failed_in old.refused new.refused failing grown)) ends in
+      record {
+        ends = ended;
+        holds = record {
+          in_turn = in_turn;
+          all_answered = λ done. done_if_memory command (run_between file sums old new) outcome ended done;
+          fails = fails;
+          served = served;
+          device = λ name also. reported name (append_cancel_left old.refused failing (name ∷ []) (sym grown ∙ also));
+          no_list = no_list;
+        };
+      }
+
+  -- the device failed at no file
+  pub still_comes : new.refused ≡ old.refused → OrNoMemory (RunEnds command (given_of file sums (answers_of new.asked []))) outcome → ComesTo command file sums before after old new outcome
+  still_comes still ends = comes [] (still ∙ sym (append-nil old.refused)) ends (inl still) (λ name same. cc same)
+
+  -- it failed at a file that is needed
+  pub broken_comes : (name : Name) → new.refused ≡ old.refused ++ name ∷ [] → Needs command file sums (answer_in new.asked) name → answer_in new.asked name ≡ None
+      → RunEnds command (given_of file sums (answers_of new.asked (name ∷ []))) outcome → outcome ≡ failure_outcome (device_line name) → ComesTo command file sums before after old new outcome
+  broken_comes name grown needed unanswered ends is =
+      comes (name ∷ []) grown (inl ends) (inr (name, needed, unanswered, grown))
+      (λ other tail. let same : name ≡ other = cc tail in is ∙ ap (λ (n : Name). failure_outcome (device_line n)) same)
+
+-- a run that asks for nothing
+pub unasked_comes : (command : Command) (file : List ℕ) (sums : Option (List ℕ)) (may : Name → Option Reply → Type 0) (state : StoreState) (outcome : Outcome)
+    → ((path : List ℕ) (all : Bool) → command ≡ Versions path all → ⊥) → state.asked ≡ [] → OrNoMemory (RunEnds command (given_of file sums (answers_of state.asked []))) outcome
+    → ComesTo command file sums may may state state outcome
+unasked_comes command file sums may state outcome other none ends =
+    still_comes command file sums may may state state outcome (none_in_turn (Needs command file sums) state.asked none) (nothing_served may state)
+    (λ path all report is. absurd (other path all is)) refl ends
+
+-- ---- what a query comes to
+
+-- its end is that of its command
 of_query : (query : Query) (run : Given) (outcome : Outcome) → QueryEnds (PrintsOf (command_of query)) run outcome → RunEnds (command_of query) run outcome
 of_query Graph run outcome is = is
 of_query (Rows after limit) run outcome is = is
 of_query (Chain path) run outcome is = is
 
-ended : (query : Query) (file : List ℕ) (sums : Option (List ℕ)) (old new : StoreState) (failing : List Name) (outcome : Outcome) → new.refused ≡ old.refused ++ failing
-    → QueryEnds (PrintsOf (command_of query)) (given_of file sums (answers_of new.asked failing)) outcome → RunEnds (command_of query) (run_between file sums old new) outcome
-ended query file sums old new failing outcome grown is =
-    of_query query (run_between file sums old new) outcome
-    (subst (λ (names : List Name). QueryEnds (PrintsOf (command_of query)) (given_of file sums (answers_of new.asked names)) outcome) (sym (failed_in old.refused new.refused failing grown)) is)
-
-pub refused_read : (query : Query) (file : List ℕ) (sums : Option (List ℕ)) (state : StoreState) (r : Result Read Report) (told : Report) → state.asked ≡ []
-    → r ≡ Err told → IsBothRead file sums r → OrNoMemory (RunEnds (command_of query) (run_between file sums state state)) (report_outcome told)
-refused_read query file sums state r told none stops read = refused_run (subst (IsBothRead file sums) stops read)
-  where
-    run_ends : QueryEnds (PrintsOf (command_of query)) (given_of file sums (answers_of state.asked [])) (report_outcome told) → OrNoMemory (RunEnds (command_of query) (run_between file sums state state)) (report_outcome told)
-    run_ends is = inl (ended query file sums state state [] (report_outcome told) (sym (append-nil state.refused)) is)
-
-    refused_run : OrNoMemory (IsRefusedRead file sums) (report_outcome told) → OrNoMemory (RunEnds (command_of query) (run_between file sums state state)) (report_outcome told)
-    refused_run (inl (inl (place, misread, says))) = run_ends (bad_main place misread (none, refl) says)
-    refused_run (inl (inr (main, report, is, misread, says))) = run_ends (bad_sums main report is misread (none, refl) says)
-    refused_run (inr memory) = inr memory
-
--- both files are valid, and loading was refused
-pub not_loaded : (query : Query) (file : List ℕ) (sums : Option (List ℕ)) (main : Main) (table : Option Sums) (old new : StoreState) (result : Result Loaded LoadFault) (fault : LoadFault)
-    → result ≡ Err fault → FilesReadAs file sums main table → (result ≡ Err load.TooMany → IsRead (run_of main table new.asked) × AreTooMany (run_of main table new.asked))
-    → ((name : FileName) → result ≡ Err (load.Device name) → IsDue (run_of main table new.asked) (name_of name))
-    → new.refused ≡ old.refused ++ refused_in result → OrNoMemory (RunEnds (command_of query) (run_between file sums old new)) (report_outcome (report_by_load fault))
-not_loaded query file sums main table old new result load.NoMemory is read many due grown = inr refl
-not_loaded query file sums main table old new result load.TooMany is read many due grown =
-    let none = subst (λ r. new.refused ≡ old.refused ++ refused_in r) is grown in
-    inl (ended query file sums old new [] _ none (let over = many is in too_many main table read over.0 over.1 refl refl))
-not_loaded query file sums main table old new result (load.Device name) is read many due grown =
-    let one = subst (λ r. new.refused ≡ old.refused ++ refused_in r) is grown in
-    inl (ended query file sums old new (name_of name ∷ []) _ one (device main table (name_of name) read (due name is) refl refl))
-
--- both files are valid, and loading found a graph
-pub answered : (query : Query) (file : List ℕ) (sums : Option (List ℕ)) (main : Main) (table : Option Sums) (old new : StoreState) (result : Result Loaded LoadFault) (loaded : Loaded)
-    (outcome : Outcome) → result ≡ Ok loaded → FilesReadAs file sums main table → IfOk result (IsLoaded (run_of main table new.asked) (names_in new.asked))
-    → new.refused ≡ old.refused ++ refused_in result → OrNoMemory (IsOutcomeOfFound query main loaded) outcome → OrNoMemory (RunEnds (command_of query) (run_between file sums old new)) outcome
-answered query file sums main table old new result loaded outcome ok read is grown (inl told) =
-    let found = subst (λ r. IfOk r (IsLoaded (run_of main table new.asked) (names_in new.asked))) ok is in
-    let none = subst (λ r. new.refused ≡ old.refused ++ refused_in r) ok grown in
-    inl (ended query file sums old new [] outcome none (by_faults query file sums main table new.asked loaded loaded.faults outcome read found refl told))
-answered query file sums main table old new result loaded outcome ok read is grown (inr memory) = inr memory
-
--- ---- a device that failed
-
-no_more : (before : List Name) (name : Name) → before ++ [] ≡ before ++ name ∷ [] → ⊥
-no_more before name same = let ends : [] ≡ name ∷ [] = append_cancel_left before [] (name ∷ []) same in cc ends
-
--- nothing was asked, so the device did not fail
-pub unasked : {A : Type 0} (state : StoreState) (name : Name) → state.refused ≡ state.refused ++ name ∷ [] → A
-unasked state name same = absurd (no_more state.refused name (append-nil state.refused ∙ same))
-
--- loading found a graph, so the device did not fail
-pub not_broken : {A : Type 0} (old new : StoreState) (result : Result Loaded LoadFault) (loaded : Loaded) (name : Name) → result ≡ Ok loaded
-    → new.refused ≡ old.refused ++ refused_in result → new.refused ≡ old.refused ++ name ∷ [] → A
-not_broken old new result loaded name ok grown same =
-    absurd (no_more old.refused name (sym (subst (λ r. new.refused ≡ old.refused ++ refused_in r) ok grown) ∙ same))
-
--- the file at which the device failed is the one that is reported
-pub broken : (old new : StoreState) (result : Result Loaded LoadFault) (fault : LoadFault) (name : Name) → result ≡ Err fault
-    → new.refused ≡ old.refused ++ refused_in result → new.refused ≡ old.refused ++ name ∷ [] → report_outcome (report_by_load fault) ≡ failure_outcome (device_line name)
-broken old new result fault name stops grown same = by_fault fault (sym (subst (λ r. new.refused ≡ old.refused ++ refused_in r) stops grown) ∙ same)
-  where
-    by_fault : (fault : LoadFault) → old.refused ++ refused_names fault ≡ old.refused ++ name ∷ [] → report_outcome (report_by_load fault) ≡ failure_outcome (device_line name)
-    by_fault load.NoMemory is = absurd (no_more old.refused name is)
-    by_fault load.TooMany is = absurd (no_more old.refused name is)
-    by_fault (load.Device file) is =
-        let ends : name_of file ∷ [] ≡ name ∷ [] = append_cancel_left old.refused (name_of file ∷ []) (name ∷ []) is in
-        let names : name_of file ≡ name = cc ends in
-        ap (λ n. failure_outcome (device_line n)) names
-
--- ---- what a run comes to
-
--- a query needs the files of a module graph, and no list
+-- it needs the files of a module graph, and no list
 graph_needs : (query : Query) (file : List ℕ) (sums : Option (List ℕ)) → Needs (command_of query) file sums ≡ GraphNeeds file sums
 graph_needs Graph file sums = refl
 graph_needs (Rows after limit) file sums = refl
@@ -207,34 +181,57 @@ no_versions Graph path all is = cc is
 no_versions (Rows after limit) path all is = cc is
 no_versions (Chain named) path all is = cc is
 
-pub query_comes : (query : Query) (file : List ℕ) (sums : Option (List ℕ)) (before after : Name → Option Reply → Type 0) (old new : StoreState) (outcome : Outcome)
-    → OrNoMemory (RunEnds (command_of query) (run_between file sums old new)) outcome → AskedInTurn (GraphNeeds file sums) new.asked → FailsInTurn (GraphNeeds file sums) old new
-    → HasServed before after old new → ((name : Name) → new.refused ≡ old.refused ++ name ∷ [] → outcome ≡ failure_outcome (device_line name))
-    → ComesTo (command_of query) file sums before after old new outcome
-query_comes query file sums before after old new outcome ends turn fails served reported = record {
-  ends = ends;
-  holds = record {
-    in_turn = subst (λ (needs : AnswersByName → Name → Type 0). AskedInTurn needs new.asked) (sym (graph_needs query file sums)) turn;
-    all_answered = λ done. done_if_memory (command_of query) (run_between file sums old new) outcome ends done;
-    fails = subst (λ (needs : AnswersByName → Name → Type 0). FailsInTurn needs old new) (sym (graph_needs query file sums)) fails;
-    served = served;
-    device = reported;
-    no_list = λ path all other is refusal. absurd (no_versions query path all is);
-  };
-}
+-- one of its files is invalid
+pub refused_read : (query : Query) (file : List ℕ) (sums : Option (List ℕ)) (may : Name → Option Reply → Type 0) (state : StoreState) (r : Result Read Report) (told : Report)
+    → state.asked ≡ [] → r ≡ Err told → IsBothRead file sums r → ComesTo (command_of query) file sums may may state state (report_outcome told)
+refused_read query file sums may state r told none stops read =
+    unasked_comes (command_of query) file sums may state (report_outcome told) (no_versions query) none (by (subst (IsBothRead file sums) stops read))
+  where
+    run : Given
+    run = given_of file sums (answers_of state.asked [])
 
--- a run of `fmt` or `edit`, which needs no file
-pub bytes_come : (command : Command) (file : List ℕ) (sums : Option (List ℕ)) (may : Name → Option Reply → Type 0) (state : StoreState) (outcome : Outcome)
-    → ((answers : AnswersByName) (name : Name) → Needs command file sums answers name → ⊥) → ((path : List ℕ) (all : Bool) → command ≡ Versions path all → ⊥)
-    → state.asked ≡ [] → OrNoMemory (RunEnds command (run_between file sums state state)) outcome → ComesTo command file sums may may state state outcome
-bytes_come command file sums may state outcome needless other none ends = record {
-  ends = ends;
-  holds = record {
-    in_turn = none_in_turn (Needs command file sums) state.asked none;
-    all_answered = λ done name need. absurd (needless (answer_in state.asked) name need);
-    fails = inl refl;
-    served = nothing_served may state;
-    device = λ name grown. unasked state name grown;
-    no_list = λ path all report is refusal. absurd (other path all is);
-  };
-}
+    by : OrNoMemory (IsRefusedRead file sums) (report_outcome told) → OrNoMemory (RunEnds (command_of query) run) (report_outcome told)
+    by (inl (inl (place, misread, says))) = inl (of_query query run (report_outcome told) (bad_main place misread (none, refl) says))
+    by (inl (inr (main, report, is, misread, says))) = inl (of_query query run (report_outcome told) (bad_sums main report is misread (none, refl) says))
+    by (inr memory) = inr memory
+
+-- both files are valid
+module _ (query : Query) (file : List ℕ) (sums : Option (List ℕ)) (main : Main) (table : Option Sums) (read : FilesReadAs file sums main table)
+    (before after : Name → Option Reply → Type 0) (old new : StoreState) (asks : AskedInTurn (LoadingNeeds main table) new.asked) (served : HasServed before after old new) where
+  in_turn : AskedInTurn (Needs (command_of query) file sums) new.asked
+  in_turn = subst (λ (needs : AnswersByName → Name → Type 0). AskedInTurn needs new.asked) (sym (graph_needs query file sums)) (loading_in_turn file sums main table read asks)
+
+  still : (outcome : Outcome) → new.refused ≡ old.refused ++ [] → OrNoMemory (QueryEnds (PrintsOf (command_of query)) (given_of file sums (answers_of new.asked []))) outcome
+      → ComesTo (command_of query) file sums before after old new outcome
+  still outcome same ends =
+      still_comes (command_of query) file sums before after old new outcome in_turn served (λ path all other is. absurd (no_versions query path all is)) (same ∙ append-nil old.refused) (by ends)
+    where
+      by : OrNoMemory (QueryEnds (PrintsOf (command_of query)) (given_of file sums (answers_of new.asked []))) outcome
+          → OrNoMemory (RunEnds (command_of query) (given_of file sums (answers_of new.asked []))) outcome
+      by (inl is) = inl (of_query query (given_of file sums (answers_of new.asked [])) outcome is)
+      by (inr memory) = inr memory
+
+  -- loading was refused
+  pub not_loaded : (result : Result Loaded LoadFault) (fault : LoadFault) → result ≡ Err fault
+      → (result ≡ Err load.TooMany → IsRead (run_of main table new.asked) × AreTooMany (run_of main table new.asked))
+      → ((name : FileName) → result ≡ Err (load.Device name) → IsDue (run_of main table new.asked) (name_of name)) → new.refused ≡ old.refused ++ refused_in result
+      → ComesTo (command_of query) file sums before after old new (report_outcome (report_by_load fault))
+  not_loaded result fault is many due grown = by fault is (subst (λ r. new.refused ≡ old.refused ++ refused_in r) is grown)
+    where
+      by : (fault : LoadFault) → result ≡ Err fault → new.refused ≡ old.refused ++ refused_names fault → ComesTo (command_of query) file sums before after old new (report_outcome (report_by_load fault))
+      by load.NoMemory is same = still _ same (inr refl)
+      by load.TooMany is same = still _ same (inl (let over = many is in too_many main table read over.0 over.1 refl refl))
+      by (load.Device name) is one =
+          broken_comes (command_of query) file sums before after old new _ in_turn served (λ path all other is. absurd (no_versions query path all is)) (name_of name) one
+          (subst (λ (needs : AnswersByName → Name → Type 0). needs (answer_in new.asked) (name_of name)) (sym (graph_needs query file sums)) (loading_needs file sums main table read (answer_in new.asked) (name_of name) (due name is).calls))
+          (due name is).unasked (of_query query (given_of file sums (answers_of new.asked (name_of name ∷ []))) _ (device main table (name_of name) read (due name is) refl refl)) refl
+
+  -- loading found a graph
+  pub answered : (result : Result Loaded LoadFault) (loaded : Loaded) (outcome : Outcome) → result ≡ Ok loaded → IfOk result (IsLoaded (run_of main table new.asked) (names_in new.asked))
+      → new.refused ≡ old.refused ++ refused_in result → OrNoMemory (IsOutcomeOfFound query main loaded) outcome → ComesTo (command_of query) file sums before after old new outcome
+  answered result loaded outcome ok is grown told = still outcome (subst (λ r. new.refused ≡ old.refused ++ refused_in r) ok grown) (by told)
+    where
+      by : OrNoMemory (IsOutcomeOfFound query main loaded) outcome → OrNoMemory (QueryEnds (PrintsOf (command_of query)) (given_of file sums (answers_of new.asked []))) outcome
+      by (inl told) =
+          inl (by_faults query file sums main table new.asked loaded loaded.faults outcome read (subst (λ r. IfOk r (IsLoaded (run_of main table new.asked) (names_in new.asked))) ok is) refl told)
+      by (inr memory) = inr memory

@@ -1,11 +1,8 @@
 -- Facts about how the program ends.
-use Rattle.std.proofs.Common.{◌≡◌, ◌∙◌, ◌∷◌, ℕ, Bor, List, [], Option, Some, None, Contains, ap, codes, inl, inr, map, subst, sym, Global, String, refl}
+use Rattle.std.proofs.Common.{◌≡◌, ◌∙◌, ◌∷◌, ℕ, Bor, List, Option, ap, codes, inl, inr, map, option_map, subst, sym, Global, String, refl}
 use Rattle.std.proofs.lemmas.Str.{IsUtf8-nil}
-use Rattle.gm_store.specs.Asked.{Name, Reply, list_file, reply_for}
 use Rattle.std.specs.String.{string_bytes}
-use Rattle.gm_store.specs.Memory.{may_give}
 use Rattle.gm_store.specs.Openings.{Opening}
-use Rattle.gm_store.specs.declared.files.memory.MemoryFiles.{MemoryFiles}
 use Rattle.gomod_words.specs.Usage.{AskFor, IsFaultOf}
 use Rattle.gomod_words.proofs.GivenWords.{all_readable}
 use Rattle.gomod_words.specs.Given.{AreGiven, IsUnreadableWords, first_unreadable}
@@ -13,13 +10,8 @@ use Rattle.gomod_words.specs.declared.usage.UsageFault.{UsageFault}
 use Rattle.gomod_words.specs.declared.usage.UsageFault.TheVariants.{NoMemory, Help, Version, Line, BadPath, BadProxy}
 use Rattle.gomod_words.specs.declared.usage.Command.{Command}
 use Rattle.gomod_words.specs.declared.usage.Places.{Places}
-use Rattle.gomod_run.specs.Outcomes.{Answers, answers_of, given_of, longest}
 use Rattle.gomod_run.specs.Outcome.{Outcome, out_of_memory}
-use Rattle.gomod_run.specs.Held.{HoldsOne}
-use Rattle.gomod_run.specs.Program.{IsInputOutcome, IsStoreRun, IsProgramOutcome, IsProgramStatus, IsServed, IsWordsOutcome, usage_outcome, IsOutcomeUnless, usage_error}
-use Rattle.gm_store.specs.States.{StoreState}
-use Rattle.gomod_run.specs.Runs.{RunEnds, run_between, told_between}
-use Rattle.gomod_run.proofs.CommandOutcomes.{none_failed}
+use Rattle.gomod_run.specs.Program.{IsProgramOutcome, IsProgramStatus, IsServed, IsWordsOutcome, usage_outcome, IsOutcomeUnless, usage_error}
 use Rattle.gomod_run.specs.Written.{EndsAsStated, IsWritten}
 use Rattle.gm_store.specs.Taken.{SinkState}
 
@@ -35,11 +27,12 @@ ends_weaken one other out out' report report' status wider ends = record {
 
 -- the end of the command that the words ask for is an end of these words
 pub words_end : (may_open : List ℕ → Opening → Type 0) (may_take : Opening → Type 0) (words : List (List ℕ)) (command : Command) (places : Places) (out out' report report' : SinkState) (status code : ℕ) → code ≡ status
-    → AskFor words command places → EndsAsStated (IsServed may_open may_take command places) out out' report report' status
+    → AskFor words command places
+    → EndsAsStated (IsServed may_open may_take command (string_bytes places.main) (option_map string_bytes places.sums) places.proxy) out out' report report' status
     → EndsAsStated (IsWordsOutcome may_open may_take words) out out' report report' code
 words_end may_open may_take words command places out out' report report' status code same asked ends =
     let P : ℕ → Type 0 = λ n. EndsAsStated (IsWordsOutcome may_open may_take words) out out' report report' n in
-    subst P (sym same) (ends_weaken (IsServed may_open may_take command places) (IsWordsOutcome may_open may_take words) out out' report report' status
+    subst P (sym same) (ends_weaken _ (IsWordsOutcome may_open may_take words) out out' report report' status
     (λ outcome stated. inr (command, places, asked, stated)) ends)
 
 -- an end that reports the words' usage error is an end of these words
@@ -98,21 +91,3 @@ program_status may_open may_take given out out' report report' status ends = eli
   ]
   | inr part ↦ inr part.1
 ]
-
--- a store in memory has one file and never fails, so the outcome follows from its answers
-pub input_weaken : (command : Command) (path list : List ℕ) (store : MemoryFiles) (asked : List (Name × Reply)) (old new : StoreState) → new.asked ≡ asked
-    → old.refused ≡ [] → new.refused ≡ [] → HoldsOne (list_file path) list store
-    → ((name : Name) (reply : Reply) → Contains asked (name, reply) → may_give store name (Some reply))
-    → (outcome : Outcome) → RunEnds command (run_between [] None old new) outcome → IsInputOutcome command path list outcome
-input_weaken command path list store asked old new same none still held allowed outcome is = (
-  asked,
-  λ name reply there. allowed name reply there ∙ ap (reply_for longest) (held name),
-  subst (λ (pairs : List (Name × Reply)). RunEnds command (given_of [] None (answers_of pairs [])) outcome) same
-      (subst (λ (names : List Name). RunEnds command (given_of [] None (answers_of new.asked names)) outcome) (none_failed old.refused new.refused (still ∙ sym none)) is),
-)
-
--- the outcome of a run over a store follows from what it answered
-pub store_weaken : (may_be_told : Answers → Type 0) (command : Command) (main : List ℕ) (sums : Option (List ℕ)) (old new : StoreState)
-    → may_be_told (told_between old new) → (outcome : Outcome)
-    → RunEnds command (run_between main sums old new) outcome → IsStoreRun may_be_told command main sums outcome
-store_weaken may_be_told command main sums old new told outcome is = (told_between old new, told, is)

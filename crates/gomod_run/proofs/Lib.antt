@@ -5,8 +5,10 @@ pub mod Misread
 pub mod Operations
 pub mod Joining
 pub mod Sameness
+pub mod OneVersions
 pub mod Uniqueness
-pub mod Steps
+pub mod PassedOn
+pub mod VersionsSteps
 pub mod Served
 pub mod OneStore
 pub mod Answered

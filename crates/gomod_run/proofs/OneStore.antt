@@ -1,6 +1,9 @@
 -- A command has one outcome over stores that answer alike.
-use Rattle.std.proofs.Common.{◌≡◌, ◌∙◌, ◌∷◌, ℕ, Bool, List, [], Option, Some, None, ap, refl, subst, sym, inl, inr}
-use Rattle.gm_store.specs.Asked.{Name, Reply, absent, answer_in, bytes, list_file, mod_file, too_long}
+use Rattle.std.proofs.Common.{◌≡◌, ◌⊎◌, ◌∙◌, ◌∷◌, ℕ, Bool, true, false, List, [], Option, Some, None, Result, ap, refl, subst, sym, inl, inr}
+use Rattle.gm_name.specs.Path.{is_fetchable}
+use Rattle.gm_file.specs.Fields.{Dependency}
+use Rattle.gm_graph.specs.declared.cache.class.Class.{Class}
+use Rattle.gm_store.specs.Asked.{Name, Reply, answer_in, bytes, list_file, mod_file}
 use Rattle.gomod_run.specs.Editing.{EditEnds}
 use Rattle.gomod_run.specs.ListingLaws.{AnswerAlike}
 use Rattle.gomod_run.specs.Outcomes.{Answers, PrintsChain, PrintsGraph, PrintsList}
@@ -9,11 +12,12 @@ use Rattle.gomod_run.specs.Outcome.{Outcome, failure_outcome}
 use Rattle.gomod_run.specs.Reports.{device_line}
 use Rattle.gomod_run.specs.Laws.{OneForStores, OneOutcome}
 use Rattle.gomod_run.specs.Runs.{FmtEnds}
-use Rattle.gomod_run.specs.Versions.{IsOutcomeByList, IsVersionsOutcome, VersionsEnds, VersionsNeed, answered, by_latest, by_list, device, unfetchable, unfiltered}
+use Rattle.gomod_run.specs.Versions.{AreShown, HasListed, LatestSays, VersionsEnds, VersionsNeed, all_listed, bad_file, device, list_refusal, no_list, not_retracted, printed}
 use Rattle.gomod_run.proofs.OneOutcome.{one_end}
 use Rattle.gomod_run.proofs.OneQueryStore.{itself}
 use Rattle.gomod_run.proofs.OnePrinted.{chain_once, graph_once, list_once}
-use Rattle.gomod_run.proofs.Sameness.{edit_once, fmt_once, versions_once}
+use Rattle.gomod_run.proofs.OneVersions.{versions_once}
+use Rattle.gomod_run.proofs.Sameness.{edit_once, fmt_once}
 use Rattle.gomod_words.specs.Usage.{texts_in}
 use Rattle.gomod_words.specs.declared.usage.Command.TheVariants.{Fmt, Edit, Versions, Graph, List as Rows, Chain}
 
@@ -37,39 +41,77 @@ second_kept None b reply same e = e
 
 -- ---- `versions` with more answers
 
+-- the report that there is no list is one by an answer that is kept
+refusal_kept : (path : List ℕ) (fetchable : Bool) (told kept : Option Reply) (outcome : Outcome) → ((reply : Reply) → fetchable ≡ true → told ≡ Some reply → kept ≡ Some reply)
+    → list_refusal path fetchable told ≡ Some outcome → list_refusal path fetchable kept ≡ Some outcome
+refusal_kept path false told kept outcome keeps is = is
+refusal_kept path true (Some reply) kept outcome keeps is = ap (list_refusal path true) (keeps reply refl refl) ∙ is
+refusal_kept path true None kept outcome keeps is = absurd (cc is)
+
 -- An outcome of `versions` is one by all answers that keep those to the needed files.
-pub kept_outcome : (path : List ℕ) (all : Bool) (told kept : AnswersByName) → ((name : Name) (reply : Reply) → VersionsNeed path all told name → told name ≡ Some reply → kept name ≡ Some reply)
-    → (outcome : Outcome) → IsVersionsOutcome path all told outcome → IsVersionsOutcome path all kept outcome
-kept_outcome path all told kept keeps outcome (unfetchable is) = unfetchable is
-kept_outcome path all told kept keeps outcome (by_list reply may heard is) = by_list reply may (keeps (list_file path) reply (may, inl refl) heard) (by reply heard is)
-  where
-    by : (reply : Reply) → told (list_file path) ≡ Some reply → IsOutcomeByList path all told reply outcome → IsOutcomeByList path all kept reply outcome
-    by absent heard is = is
-    by too_long heard is = is
-    by (bytes list) heard (versions, listed, unfiltered every is) = (versions, listed, unfiltered every is)
-    by (bytes list) heard (versions, listed, by_latest latest reply some greatest said shows) =
-        (versions, listed, by_latest latest reply some greatest (keeps (mod_file path latest) reply (may, inr (list, versions, latest, some, heard, listed, greatest, refl)) said) shows)
+module _ (path : List ℕ) (all : Bool) (told kept : AnswersByName) (keeps : (name : Name) (reply : Reply) → VersionsNeed path all told name → told name ≡ Some reply → kept name ≡ Some reply) where
+  listed_kept : {versions : List (List ℕ)} → HasListed path told versions → HasListed path kept versions
+  listed_kept is =
+      record { fetchable = is.fetchable; list = is.list; answered = keeps (list_file path) (bytes is.list) (inl (is.fetchable, refl)) is.answered; listed = is.listed }
+
+  says_kept : {versions : List (List ℕ)} {latest : List ℕ} {reply : Reply} {reading : Result Dependency Class} → LatestSays path all told versions latest reply reading
+      → LatestSays path all kept versions latest reply reading
+  says_kept {versions} {latest} {reply} says = record {
+    is = record { some = says.is.some; listed = listed_kept says.is.listed; greatest = says.is.greatest };
+    answered = keeps (mod_file path latest) reply (inr (versions, latest, refl, says.is)) says.answered;
+    says = says.says;
+  }
+
+  shown_kept : (shown : List (List ℕ)) → AreShown path all told shown → AreShown path all kept shown
+  shown_kept shown (all_listed is every) = all_listed (listed_kept is) every
+  shown_kept shown (not_retracted versions latest reply file intervals says retracted same) = not_retracted versions latest reply file intervals (says_kept says) retracted same
+
+  pub kept_outcome : (outcome : Outcome) → VersionsEnds path all told [] outcome → VersionsEnds path all kept [] outcome
+  kept_outcome outcome (device name need unanswered failed says) = absurd (cc failed)
+  kept_outcome outcome (no_list refused none) =
+      no_list (refusal_kept path (is_fetchable path) (told (list_file path)) (kept (list_file path)) outcome (λ reply fetchable. keeps (list_file path) reply (inl (fetchable, refl))) refused) none
+  kept_outcome outcome (bad_file versions latest reply class says none told) = bad_file versions latest reply class (says_kept says) none told
+  kept_outcome outcome (printed shown are none told) = printed shown (shown_kept shown are) none told
 
 -- ---- `versions` over two stores
 
-no_name : (names : List Name) (name : Name) → names ≡ name ∷ [] → names ≡ [] → ⊥
-no_name names name some none = let same : name ∷ [] ≡ [] = sym some ∙ none in cc same
+-- an end at a file where the device failed
+abbrev EndsAtDevice : List Name → Outcome → Type 0
+EndsAtDevice failed outcome = (name : Name) × (failed ≡ name ∷ []) × (outcome ≡ failure_outcome (device_line name))
+
+-- it failed at a file, or all was answered
+by_failed : (path : List ℕ) (all : Bool) (answers : AnswersByName) (failed : List Name) (outcome : Outcome) → VersionsEnds path all answers failed outcome
+    → EndsAtDevice failed outcome ⊎ ((failed ≡ []) × VersionsEnds path all answers [] outcome)
+by_failed path all answers failed outcome (device name need unanswered some says) = inl (name, some, says)
+by_failed path all answers failed outcome (no_list refused none) = inr (none, no_list refused refl)
+by_failed path all answers failed outcome (bad_file versions latest reply class says none told) = inr (none, bad_file versions latest reply class says refl told)
+by_failed path all answers failed outcome (printed shown are none told) = inr (none, printed shown are refl told)
+
+some_or_none : (names : List Name) (name : Name) → names ≡ name ∷ [] → names ≡ [] → ⊥
+some_or_none names name some none = let same : name ∷ [] ≡ [] = sym some ∙ none in cc same
 
 one_name : (names : List Name) (one other : Name) → names ≡ one ∷ [] → names ≡ other ∷ [] → one ≡ other
 one_name names one other is be = let same : one ∷ [] ≡ other ∷ [] = sym is ∙ be in cc same
 
 versions_alike : (path : List ℕ) (all : Bool) (told next : Answers) (a b : Outcome) → AnswerAlike told.asked next.asked → told.failed ≡ next.failed
-    → VersionsEnds path all told a → VersionsEnds path all next b → a ≡ b
-versions_alike path all told next a b alike failing (answered is none) (answered be nothing) =
-    let one = answer_in told.asked in
-    let other = answer_in next.asked in
-    versions_once path all (both_of one other) a b
-    (kept_outcome path all one (both_of one other) (λ name reply need e. first_kept (one name) (other name) reply e) a is)
-    (kept_outcome path all other (both_of one other) (λ name reply need e. second_kept (one name) (other name) reply (λ first f. sym (alike name first reply f e)) e) b be)
-versions_alike path all told next a b alike failing (answered is none) (device name need unanswered some tells) = absurd (no_name next.failed name some (sym failing ∙ none))
-versions_alike path all told next a b alike failing (device name need unanswered some says) (answered be nothing) = absurd (no_name told.failed name some (failing ∙ nothing))
-versions_alike path all told next a b alike failing (device name need unanswered some says) (device other needed unheard more tells) =
-    says ∙ ap (λ (n : Name). failure_outcome (device_line n)) (one_name told.failed name other some (failing ∙ more)) ∙ sym tells
+    → VersionsEnds path all (answer_in told.asked) told.failed a → VersionsEnds path all (answer_in next.asked) next.failed b → a ≡ b
+versions_alike path all told next a b alike failing is be = by (by_failed path all one told.failed a is) (by_failed path all other next.failed b be)
+  where
+    one : AnswersByName
+    one = answer_in told.asked
+
+    other : AnswersByName
+    other = answer_in next.asked
+
+    by : EndsAtDevice told.failed a ⊎ ((told.failed ≡ []) × VersionsEnds path all one [] a) → EndsAtDevice next.failed b ⊎ ((next.failed ≡ []) × VersionsEnds path all other [] b) → a ≡ b
+    by (inl (name, some, says)) (inl (last, more, tells)) =
+        says ∙ ap (λ (n : Name). failure_outcome (device_line n)) (one_name told.failed name last some (failing ∙ more)) ∙ sym tells
+    by (inl (name, some, says)) (inr (none, ends)) = absurd (some_or_none told.failed name some (failing ∙ none))
+    by (inr (none, ends)) (inl (name, some, says)) = absurd (some_or_none next.failed name some (sym failing ∙ none))
+    by (inr (none, ends)) (inr (nothing, also)) =
+        versions_once path all (both_of one other) a b
+        (kept_outcome path all one (both_of one other) (λ name reply need e. first_kept (one name) (other name) reply e) a ends)
+        (kept_outcome path all other (both_of one other) (λ name reply need e. second_kept (one name) (other name) reply (λ first f. sym (alike name first reply f e)) e) b also)
 
 -- ---- a command
 

@@ -1,5 +1,5 @@
--- `fmt`, `edit` and `versions` have one outcome.
-use Rattle.std.proofs.Common.{◌≡◌, ◌⊎◌, ◌∙◌, ℕ, Bool, true, false, List, [], ◌∷◌, Option, Some, None, Result, Ok, Err, ap, arith, inl, inr, refl, subst, sym}
+-- `fmt` and `edit` have one outcome.
+use Rattle.std.proofs.Common.{◌≡◌, ◌∙◌, ℕ, List, [], ◌∷◌, Some, Ok, Err, ap, arith, refl, sym}
 use Rattle.std.specs.List.{filter_map}
 use Rattle.gm_syntax.specs.declared.fault.SyntaxFault.{SyntaxFault}
 use Rattle.gm_syntax.specs.declared.fault.SyntaxFault.TheVariants as faults
@@ -9,24 +9,14 @@ use Rattle.gm_syntax.specs.LineViews.{plain_lines}
 use Rattle.gm_syntax.specs.Parsed.{IsParsedAs}
 use Rattle.gm_syntax.specs.Tokens.{Placed}
 use Rattle.gm_syntax.specs.Words.{Word}
-use Rattle.gm_file.specs.Directives.{VersionInterval}
-use Rattle.gm_file.specs.Fields.{Dependency}
-use Rattle.gm_file.specs.Shown.{shown_of}
-use Rattle.gm_graph.specs.declared.cache.class.Class.{Class}
 use Rattle.gm_file_edit.specs.Edited.{lines_after}
 use Rattle.gm_file_edit.specs.Edits.{Edit as Change, edit_in}
 use Rattle.gm_file_edit.proofs.Places.{edited-same}
-use Rattle.gm_store.specs.Asked.{Reply, absent, bytes, list_file, mod_file, too_long}
-use Rattle.gm_store.specs.Latest.{IsLatest}
-use Rattle.gm_graph.proofs.OneReading.{one_reading, one_retracted}
 use Rattle.gomod_run.specs.Outcome.{Outcome, text_outcome, refusal_outcome}
 use Rattle.gomod_run.specs.Reports.{FaultPlace, main_line, syntax_place}
-use Rattle.gomod_run.specs.Needs.{AnswersByName}
 use Rattle.gomod_run.proofs.OneRead.{misread_or_lines, one_place, same_lines}
 use Rattle.gomod_run.specs.Editing.{EditEnds, bad_main, applied, lines_after_all, edits_outcome, refusals_from}
 use Rattle.gomod_run.specs.Runs.{FmtEnds, bad_syntax, laid_out}
-use Rattle.gomod_run.specs.Versions.{IsListedOutcome, IsOutcomeByList, IsShownBy, IsShownOutcome, IsVersionsOutcome, by_latest, by_list, unfetchable, unfiltered, versions_line}
-use Rattle.gomod_run.proofs.Uniqueness.{latest_once, listed_once, none_latest}
 
 -- ---- fmt
 
@@ -82,54 +72,3 @@ edit_once texts file one other (applied lines main says) (applied others again t
     let edits = filter_map edit_in texts in
     says ∙ printed_same (refusals_from 1 texts) (lines_after_all edits lines) (lines_after_all edits others)
     (in_turn_same edits lines others (same_lines file lines others main.0 again.0)) ∙ sym tells
-
--- ---- versions
-
-pub same_answer : (answer : Option Reply) (one other : Reply) → answer ≡ Some one → answer ≡ Some other → one ≡ other
-same_answer answer one other a b = cc
-
-shown_once : (path : List ℕ) (versions : List (List ℕ)) (latest : List ℕ) (reply : Reply) (one other : Outcome)
-    → IsShownOutcome path versions latest reply one → IsShownOutcome path versions latest reply other → one ≡ other
-shown_once path versions latest reply one other a b =
-    let same : a.reading ≡ b.reading = one_reading None (mod_file path latest) reply a.reading b.reading a.says b.says in
-    by b.reading (subst (λ (r : Result Dependency Class). IsShownBy path versions latest reply r one) same a.shows) b.shows
-  where
-    by : (reading : Result Dependency Class) → IsShownBy path versions latest reply reading one → IsShownBy path versions latest reply reading other → one ≡ other
-    by (Ok file) x y =
-        x.2 ∙ ap (λ (intervals : List VersionInterval). text_outcome (versions_line path (shown_of intervals versions))) (one_retracted reply x.0 y.0 x.1 y.1) ∙ sym y.2
-    by (Err class) x y = x ∙ sym y
-
-not_all : (all : Bool) (versions : List (List ℕ)) (latest : List ℕ) → (all ≡ true) ⊎ (versions ≡ []) → all ≡ false → IsLatest versions latest → ⊥
-not_all all versions latest (inl every) some is = let e = sym every ∙ some in cc
-not_all all versions latest (inr none) some is = none_latest latest (subst (λ (vs : List (List ℕ)). IsLatest vs latest) none is)
-
-listed_outcome_once : (path : List ℕ) (all : Bool) (answers : AnswersByName) (versions : List (List ℕ))
-    (one other : Outcome)
-    → IsListedOutcome path all answers versions one → IsListedOutcome path all answers versions other → one ≡ other
-listed_outcome_once path all answers versions one other (unfiltered every says) (unfiltered whole tells) = says ∙ sym tells
-listed_outcome_once path all answers versions one other (unfiltered every says) (by_latest latest reply some is told shows) = absurd (not_all all versions latest every some is)
-listed_outcome_once path all answers versions one other (by_latest latest reply some is told shows) (unfiltered every says) = absurd (not_all all versions latest every some is)
-listed_outcome_once path all answers versions one other (by_latest v r some is told shows) (by_latest w s few be heard prints) =
-    let latest : v ≡ w = latest_once versions v w is be in
-    let answered : answers (mod_file path w) ≡ Some r = subst (λ (v : List ℕ). answers (mod_file path v) ≡ Some r) latest told in
-    let reply : r ≡ s = same_answer (answers (mod_file path w)) r s answered heard in
-    let P : List ℕ → Type 0 = λ v. IsShownOutcome path versions v r one in
-    let Q : Reply → Type 0 = λ r. IsShownOutcome path versions w r one in
-    shown_once path versions w s one other (subst Q reply (subst P latest shows)) prints
-
-list_once : (path : List ℕ) (all : Bool) (answers : AnswersByName) (reply : Reply) (one other : Outcome)
-    → IsOutcomeByList path all answers reply one → IsOutcomeByList path all answers reply other → one ≡ other
-list_once path all answers absent one other a b = a ∙ sym b
-list_once path all answers too_long one other a b = a ∙ sym b
-list_once path all answers (bytes list) one other a b =
-    let P : List (List ℕ) → Type 0 = λ vs. IsListedOutcome path all answers vs one in
-    listed_outcome_once path all answers b.0 one other (subst P (listed_once path list a.0 b.0 a.1 b.1) a.2) b.2
-
-pub versions_once : (path : List ℕ) (all : Bool) (answers : AnswersByName) (one other : Outcome)
-    → IsVersionsOutcome path all answers one → IsVersionsOutcome path all answers other → one ≡ other
-versions_once path all answers one other (unfetchable (isnt, says)) (unfetchable (not, tells)) = says ∙ sym tells
-versions_once path all answers one other (unfetchable (isnt, says)) (by_list reply may told is) = let e = sym isnt ∙ may in absurd (cc)
-versions_once path all answers one other (by_list reply may told is) (unfetchable (isnt, says)) = let e = sym isnt ∙ may in absurd (cc)
-versions_once path all answers one other (by_list r may told is) (by_list s can heard be) =
-    let P : Reply → Type 0 = λ r. IsOutcomeByList path all answers r one in
-    list_once path all answers s one other (subst P (same_answer (answers (list_file path)) r s told heard) is) be

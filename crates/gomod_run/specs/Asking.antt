@@ -1,11 +1,10 @@
 -- The results of one ask.
-use Rattle.std.specs.Prelude.{◌≡◌, ◌⊎◌, ◌++◌, ◌∷◌, ℕ, List, [], Result, Ok, Err}
-use Rattle.gm_store.specs.Asked.{Name, Reply, mod_file}
+use Rattle.std.specs.Prelude.{◌≡◌, ◌⊎◌, ◌++◌, ◌∷◌, [], Result, Ok, Err}
+use Rattle.gm_store.specs.Asked.{Name, Reply}
 use Rattle.gm_store.specs.States.{StoreState}
-use Rattle.gomod_run.specs.Outcome.{OrNoMemory, Outcome, failure_outcome, out_of_memory, report_outcome}
+use Rattle.gomod_run.specs.Outcome.{Outcome, failure_outcome, out_of_memory, report_outcome}
 use Rattle.gomod_run.specs.Reports.{device_line}
 use Rattle.gomod_run.specs.declared.reports.report.Report.{Report}
-use Rattle.gomod_run.specs.Versions.{IsShownOutcome}
 
 -- the file is answered, with this reply
 abbrev pub IsAnsweredAsk : Name → StoreState → StoreState → Reply → Type 0
@@ -28,12 +27,3 @@ abbrev pub IsAsked : Name → StoreState → StoreState → Result (Unit {0}) Re
 IsAsked name old new (Ok u) = (reply : Reply) × IsAnsweredAsk name old new reply
 IsAsked name old new (Err told) =
     IsRefusedAt name old new (report_outcome told) ⊎ IsUnanswered old new (report_outcome told)
-
--- the go.mod of the latest version is asked for, and the outcome follows from its answer or reports the device, or
--- memory runs out before or after the answer
-abbrev pub IsLatestAsked : List ℕ → List (List ℕ) → List ℕ → StoreState → StoreState → Outcome → Type 0
-IsLatestAsked path versions latest old new outcome =
-    ((reply : Reply)
-    × IsAnsweredAsk (mod_file path latest) old new reply
-    × OrNoMemory (IsShownOutcome path versions latest reply) outcome)
-    ⊎ (IsRefusedAt (mod_file path latest) old new outcome ⊎ IsUnanswered old new outcome)

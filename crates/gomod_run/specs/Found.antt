@@ -1,5 +1,5 @@
 -- What loading found, and what the commands do with its result.
-use Rattle.std.specs.Prelude.{◌≡◌, ℕ, List, [], ◌∷◌}
+use Rattle.std.specs.Prelude.{◌≡◌, List, [], ◌∷◌}
 use Rattle.std.specs.Option.{option_copied}
 use Rattle.gm_file.specs.Main.{Main}
 use Rattle.gm_graph_select.specs.Graph.{among}
@@ -12,19 +12,11 @@ use Rattle.gomod_run.specs.Reports.{faults_text}
 use Rattle.gomod_run.specs.Outcomes.{PrintsRows, ShowsChain}
 use Rattle.gomod_run.specs.Outcome.{Outcome, text_outcome, refusal_outcome}
 
--- `graph` prints the edges that were found
-abbrev pub PrintsEdges : Main → Found → Outcome → Type 0
-PrintsEdges main found outcome = outcome ≡ text_outcome (graph_text main.path found.edges)
-
--- `chain` prints the chain over the edges that were found, or reports that the path is not listed
-abbrev pub PrintsSteps : List ℕ → Main → Found → Outcome → Type 0
-PrintsSteps path main found outcome = ShowsChain path main (among found.edges) found.rows outcome
-
 -- what a command prints of what was found
 abbrev pub PrintsFound : Query → Main → Found → Outcome → Type 0
-PrintsFound Graph main found outcome = PrintsEdges main found outcome
+PrintsFound Graph main found outcome = outcome ≡ text_outcome (graph_text main.path found.edges)
 PrintsFound (Rows after limit) main found outcome = PrintsRows main found.rows (option_copied after) limit outcome
-PrintsFound (Chain path) main found outcome = PrintsSteps path.now main found outcome
+PrintsFound (Chain path) main found outcome = ShowsChain path.now main (among found.edges) found.rows outcome
 
 -- the faults are reported if there are any; otherwise this is what the command prints
 abbrev pub ReportsFaultsOr : List Fault → Type 0 → Outcome → Type 0

@@ -1,10 +1,8 @@
 pub mod Asking
 pub mod Editing
-pub mod Held
 pub mod Laws
-pub mod Listing
+pub mod VersionsRuns
 pub mod Program
-pub mod Reads
 pub mod Refusals
 pub mod Runs
 pub mod Versions

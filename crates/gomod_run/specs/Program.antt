@@ -1,28 +1,27 @@
 -- The outcomes of the whole program, from its words to its exit status.
-use Rattle.std.specs.Prelude.{◌≡◌, ◌≢◌, ◌⊎◌, ◌++◌, ◌∷◌, ℕ, Contains, List, [], Option, Some, None, Result, Ok, Err, codes, option_map, if◌then◌else◌}
+use Rattle.std.specs.Prelude.{◌≡◌, ◌≢◌, ◌⊎◌, ◌++◌, ◌∷◌, ℕ, Contains, List, [], Option, Some, None, Ok, Err, codes, if◌then◌else◌, is_some, option_map, ⊤}
 use Rattle.std.specs.Global.{Vec}
 use Rattle.std.specs.String.{string_bytes}
-use Rattle.gm_store.specs.Asked.{Name, Reply, absent, list_file, reply_for, same_name}
+use Rattle.gm_store.specs.Asked.{Name, Reply, list_file, reply_for, same_name}
 use Rattle.gm_store.specs.DiskAnswers.{MayAnswer}
 use Rattle.gm_store.specs.Openings.{MayRead, Opening}
 use Rattle.gm_store.specs.Proxies.{folders_in, marks_in}
 use Rattle.gm_store.specs.Relative.{IsFolderOf}
 use Rattle.gm_store.specs.declared.fallback.proxy_list.ProxyList.{ProxyList}
-use Rattle.gm_store.specs.declared.reading.ReadFault.{ReadFault}
-use Rattle.gm_store.specs.declared.reading.ReadFault.TheVariants as reading
+use Rattle.gm_store.specs.declared.reading.ReadFault.TheVariants.{Device}
 use Rattle.gomod_words.specs.Given.{AreGiven, first_unreadable}
 use Rattle.gomod_words.specs.Usage.{AskFor, IsFaultOf, unreadable_text}
 use Rattle.gomod_words.specs.declared.usage.Command.{Command}
-use Rattle.gomod_words.specs.declared.usage.Command.TheVariants.{Fmt, Edit, Versions}
+use Rattle.gomod_words.specs.declared.usage.Command.TheVariants.{Versions}
 use Rattle.gomod_words.specs.declared.usage.Places.{Places}
 use Rattle.gomod_words.specs.declared.usage.UsageFault.{UsageFault}
 use Rattle.gomod_words.specs.declared.usage.UsageFault.TheVariants as usage
-use Rattle.gomod_run.specs.Outcomes.{Answers as Told, answers_of, given_of, longest}
+use Rattle.gomod_run.specs.Outcomes.{Answers as Told, given_of, longest}
 use Rattle.gomod_run.specs.Outcome.{Outcome, code_of, failure_outcome, out_of_memory, text_outcome}
 use Rattle.gomod_run.specs.Reports.{cannot_read_line}
 use Rattle.gomod_run.specs.declared.ending.Ending.{Ending}
 use Rattle.gomod_run.specs.declared.ending.Ending.TheVariants.{Run, Usage}
-use Rattle.gomod_run.specs.Runs.{RunEnds}
+use Rattle.gomod_run.specs.Runs.{RunEnds, is_query}
 
 -- the report of a usage error, which no run ends with
 abbrev pub usage_error : List ℕ → Outcome
@@ -36,26 +35,6 @@ usage_outcome (usage.Version text) = text_outcome (string_bytes text)
 usage_outcome (usage.Line text) = usage_error (string_bytes text)
 usage_outcome (usage.BadPath text) = usage_error (codes "gomod: bad path " ++ string_bytes text ++ codes "\n")
 usage_outcome (usage.BadProxy text) = usage_error (codes "gomod: bad proxy " ++ string_bytes text ++ codes "\n")
-
--- the file or device with this name could not be read
-abbrev pub unread_outcome : List ℕ → ReadFault → Outcome
-unread_outcome name reading.NoMemory = out_of_memory
-unread_outcome name reading.Device = failure_outcome (cannot_read_line name)
-
--- the result of reading the file or device with this name: the outcome over its bytes, or the report
-abbrev pub IsReadOutcome : List ℕ → (List ℕ → Outcome → Type 0) → Result (Vec ℕ) ReadFault → Outcome → Type 0
-IsReadOutcome name states (Ok content) outcome = states content.items outcome
-IsReadOutcome name states (Err fault) outcome = outcome ≡ unread_outcome name fault
-
--- each answer is that of a store that has one file and no other
-abbrev pub AreOfOneFile : Name → List ℕ → List (Name × Reply) → Type 0
-AreOfOneFile file content asked = (name : Name) (reply : Reply) → Contains asked (name, reply)
-    → reply ≡ reply_for longest (if same_name name file then Some content else None)
-
--- `versions PATH` without proxy folders: over the list that was read from standard input
-abbrev pub IsInputOutcome : Command → List ℕ → List ℕ → Outcome → Type 0
-IsInputOutcome command path list outcome = (asked : List (Name × Reply)) × AreOfOneFile (list_file path) list asked
-    × RunEnds command (given_of [] None (answers_of asked [])) outcome
 
 -- In what follows `may_open` relates a path to what may come of opening the file there, and `may_take` says what may
 -- come of taking standard input.
@@ -73,76 +52,96 @@ abbrev pub FileGives : (List ℕ → Opening → Type 0) → (Opening → Type 0
 FileGives may_open may_take name opening =
     ((name ≡ codes "-") × may_take opening) ⊎ ((name ≢ codes "-") × may_open name opening)
 
--- What proxy folders may answer, with this folder of the main file, and at which files their device may fail. Without
--- proxy folders each file is absent, and no device fails.
-abbrev pub MayBeTold : (List ℕ → Opening → Type 0) → List ℕ → Option ProxyList → Told → Type 0
-MayBeTold may_open main None told =
-    ((name : Name) (reply : Reply) → Contains told.asked (name, reply) → reply ≡ absent) × (told.failed ≡ [])
-MayBeTold may_open main (Some folders) told =
-    ((name : Name) (reply : Reply) → Contains told.asked (name, reply)
-    → MayAnswer may_open main (folders_in folders) (marks_in folders) name (Some reply))
-    × ((name : Name) → Contains told.failed name
-    → MayAnswer may_open main (folders_in folders) (marks_in folders) name None)
+-- ---- what a command reads before it runs
 
--- a command over the bytes of the main file, those of a go.sum if one is given, and what a store may answer
-abbrev pub IsStoreRun : (Told → Type 0) → Command → List ℕ → Option (List ℕ) → Outcome → Type 0
-IsStoreRun may_be_told command main sums outcome = (told : Told) × may_be_told told
-    × RunEnds command (given_of main sums told) outcome
+-- the module whose versions a command lists: no other than `versions` lists any
+abbrev pub versions_path : Command → Option (List ℕ)
+versions_path (Versions path all) = Some path
+versions_path _ = None
 
--- `versions PATH` without proxy folders: standard input is read as the module's list, or can't be
-abbrev pub IsInputServed : (Opening → Type 0) → Command → List ℕ → Outcome → Type 0
-IsInputServed may_take command path outcome =
-    (read : Result (Vec ℕ) ReadFault)
-    × MayRead may_take read
-    × IsReadOutcome (codes "-") (IsInputOutcome command path) read outcome
+-- the main file, given its name: `versions` has none
+abbrev pub main_input : Command → List ℕ → Option (List ℕ)
+main_input command name = if is_some (versions_path command) then None else Some name
 
--- `versions PATH`: over standard input, or over proxy folders if there are any
-abbrev pub IsVersionsServed : (List ℕ → Opening → Type 0) → (Opening → Type 0) → Command → List ℕ → Option ProxyList
-    → Outcome → Type 0
-IsVersionsServed may_open may_take command path None outcome = IsInputServed may_take command path outcome
-IsVersionsServed may_open may_take command path (Some folders) outcome =
-    IsStoreRun (MayBeTold may_open (codes ".") (Some folders)) command [] None outcome
+-- the go.sum, if one is named: only queries read one
+abbrev pub sums_input : Command → Option (List ℕ) → Option (List ℕ)
+sums_input command name = if is_query command then name else None
+
+-- the list of the module for `versions` without proxy folders: standard input
+abbrev pub list_input : Command → Option ProxyList → Option (List ℕ)
+list_input command None = option_map (λ path. codes "-") (versions_path command)
+list_input command (Some folders) = None
 
 -- In what follows `may_give` relates a FILE to what it may give.
 
--- the go.sum is read if one is named
-abbrev pub IsSumsServed : (List ℕ → Opening → Type 0) → (Told → Type 0) → Command → Option (List ℕ) → List ℕ
-    → Outcome → Type 0
-IsSumsServed may_give may_be_told command None main outcome = IsStoreRun may_be_told command main None outcome
-IsSumsServed may_give may_be_told command (Some name) main outcome = (read : Result (Vec ℕ) ReadFault)
-    × MayRead (may_give name) read
-    × IsReadOutcome name (λ sums outcome. IsStoreRun may_be_told command main (Some sums) outcome) read outcome
+-- what was read of a FILE, if one is named
+abbrev pub IsInput : (List ℕ → Opening → Type 0) → Option (List ℕ) → Option (Vec ℕ) → Type 0
+IsInput may_give None None = ⊤
+IsInput may_give (Some name) (Some content) = MayRead (may_give name) (Ok content)
+IsInput may_give _ _ = ⊥
 
--- the main file is read, then the go.sum
-abbrev pub IsMainServed : (List ℕ → Opening → Type 0) → (Told → Type 0) → Command → List ℕ → Option (List ℕ)
-    → Outcome → Type 0
-IsMainServed may_give may_be_told command name sums outcome = (read : Result (Vec ℕ) ReadFault)
-    × MayRead (may_give name) read
-    × IsReadOutcome name (λ main outcome. IsSumsServed may_give may_be_told command sums main outcome) read outcome
+-- a FILE is named and can't be read, which is reported
+abbrev pub IsUnread : (List ℕ → Opening → Type 0) → Option (List ℕ) → Outcome → Type 0
+IsUnread may_give None outcome = ⊥
+IsUnread may_give (Some name) outcome =
+    MayRead (may_give name) (Err Device) × (outcome ≡ failure_outcome (cannot_read_line name))
 
--- The same with the answers that the named proxy folders may give. The folder of `-` is the current one, as that of any
--- name without a slash.
-abbrev pub IsQueryServed : (List ℕ → Opening → Type 0) → (Opening → Type 0) → Command → Places → Outcome → Type 0
-IsQueryServed may_open may_take command places outcome =
-    (folder : List ℕ) × IsFolderOf (string_bytes places.main) folder
-    × IsMainServed (FileGives may_open may_take) (MayBeTold may_open folder places.proxy) command
-    (string_bytes places.main) (option_map string_bytes places.sums) outcome
+-- the bytes that were read, if any
+abbrev pub bytes_of : Option (Vec ℕ) → List ℕ
+bytes_of None = []
+bytes_of (Some content) = content.items
 
--- `fmt` or `edit` over the bytes of the FILE that the words name
-abbrev pub IsFileServed : (List ℕ → Opening → Type 0) → Command → List ℕ → Outcome → Type 0
-IsFileServed may_give command name outcome = (read : Result (Vec ℕ) ReadFault)
-    × MayRead (may_give name) read
-    × IsReadOutcome name (λ main outcome. RunEnds command (given_of main None (answers_of [] [])) outcome) read outcome
+-- ---- what its store may answer
 
--- a command over the FILEs that the words name, or over standard input
-abbrev pub IsServed : (List ℕ → Opening → Type 0) → (Opening → Type 0) → Command → Places → Outcome → Type 0
-IsServed may_open may_take Fmt places outcome =
-    IsFileServed (FileGives may_open may_take) Fmt (string_bytes places.main) outcome
-IsServed may_open may_take (Edit operations) places outcome =
-    IsFileServed (FileGives may_open may_take) (Edit operations) (string_bytes places.main) outcome
-IsServed may_open may_take (Versions path all) places outcome =
-    IsVersionsServed may_open may_take (Versions path all) path places.proxy outcome
-IsServed may_open may_take query places outcome = IsQueryServed may_open may_take query places outcome
+-- the file under a name in a store without proxy folders: the list of the module, if the versions of one are listed
+abbrev pub held_for : Option (List ℕ) → Option (Vec ℕ) → Name → Option (List ℕ)
+held_for (Some path) (Some list) name = if same_name name (list_file path) then Some list.items else None
+held_for _ _ name = None
+
+-- the folder that proxy folders are relative to: that of the main file with this name; or the current one, if the
+-- versions of a module are listed, since there is no main file then
+abbrev pub IsFolderFor : Option (List ℕ) → List ℕ → List ℕ → Type 0
+IsFolderFor (Some path) main folder = folder ≡ codes "."
+IsFolderFor None main folder = IsFolderOf main folder
+
+-- each answer is one that may come of asking for its name, and the device failed only where it may
+abbrev pub AreToldBy : (Name → Option Reply → Type 0) → Told → Type 0
+AreToldBy may told = ((name : Name) (reply : Reply) → Contains told.asked (name, reply) → may name (Some reply))
+    × ((name : Name) → Contains told.failed name → may name None)
+
+-- What the store of a command may answer, and at which files its device may fail: that of the named proxy folders, if
+-- there are any, otherwise one in memory, whose device never fails.
+abbrev pub MayBeTold : (List ℕ → Opening → Type 0) → Option (List ℕ) → List ℕ → Option (Vec ℕ) → Option ProxyList
+    → Told → Type 0
+MayBeTold may_open path main list None told =
+    AreToldBy (λ name answer. answer ≡ Some (reply_for longest (held_for path list name))) told
+MayBeTold may_open path main list (Some folders) told = (folder : List ℕ) × IsFolderFor path main folder
+    × AreToldBy (MayAnswer may_open folder (folders_in folders) (marks_in folders)) told
+
+-- ---- how it ends
+
+-- How a command ends that words ask for, with these names of a main file and of a go.sum, if memory doesn't run out.
+-- FILE `-` is standard input.
+pub data IsServed (may_open : List ℕ → Opening → Type 0) (may_take : Opening → Type 0) (command : Command)
+    (main : List ℕ) (sums : Option (List ℕ)) (proxy : Option ProxyList) (outcome : Outcome) : Type 0 where
+  -- the main file can't be read
+  no_main : IsUnread (FileGives may_open may_take) (main_input command main) outcome
+      → IsServed may_open may_take command main sums proxy outcome
+  -- the main file was read, and the go.sum can't be
+  no_sums : (file : Option (Vec ℕ)) → IsInput (FileGives may_open may_take) (main_input command main) file
+      → IsUnread (FileGives may_open may_take) (sums_input command sums) outcome
+      → IsServed may_open may_take command main sums proxy outcome
+  -- the list can't be read
+  no_list : IsUnread (FileGives may_open may_take) (list_input command proxy) outcome
+      → IsServed may_open may_take command main sums proxy outcome
+  -- all were read, and the command runs over a store
+  runs : (file table list : Option (Vec ℕ)) (told : Told)
+      → IsInput (FileGives may_open may_take) (main_input command main) file
+      → IsInput (FileGives may_open may_take) (sums_input command sums) table
+      → IsInput (FileGives may_open may_take) (list_input command proxy) list
+      → MayBeTold may_open (versions_path command) main list proxy told
+      → RunEnds command (given_of (bytes_of file) (option_map (λ content. content.items) table) told) outcome
+      → IsServed may_open may_take command main sums proxy outcome
 
 -- the outcome for these words: their usage error, or the outcome of their command over the files that they name, or
 -- over standard input
@@ -150,7 +149,8 @@ abbrev pub IsWordsOutcome : (List ℕ → Opening → Type 0) → (Opening → T
 IsWordsOutcome may_open may_take words outcome =
     ((fault : UsageFault) × IsFaultOf words fault × (outcome ≡ usage_outcome fault))
     ⊎ ((command : Command) × (places : Places) × AskFor words command places
-    × IsServed may_open may_take command places outcome)
+    × IsServed may_open may_take command (string_bytes places.main) (option_map string_bytes places.sums) places.proxy
+    outcome)
 
 -- the outcome for these words after the program's own name, given the first that is not UTF-8, if there is one: its
 -- usage error; otherwise the outcome for the words

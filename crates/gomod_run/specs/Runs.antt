@@ -58,7 +58,7 @@ pub data FmtEnds (file : List ℕ) (outcome : Outcome) : Type 0 where
 abbrev pub RunEnds : Command → Given → Outcome → Type 0
 RunEnds Fmt run outcome = FmtEnds run.file outcome
 RunEnds (Edit operations) run outcome = EditEnds (texts_in operations) run.file outcome
-RunEnds (Versions path all) run outcome = VersionsEnds path all run.told outcome
+RunEnds (Versions path all) run outcome = VersionsEnds path all (answer_in run.told.asked) run.told.failed outcome
 RunEnds Graph run outcome = GraphEnds run outcome
 RunEnds (Rows after limit) run outcome = ListEnds after limit run outcome
 RunEnds (Chain path) run outcome = ChainEnds path run outcome
@@ -107,16 +107,3 @@ pub record ComesTo (command : Command) (main : List ℕ) (sums : Option (List �
     (before after : Name → Option Reply → Type 0) (old new : StoreState) (outcome : Outcome) : Type 0 where
   pub ends : OrNoMemory (RunEnds command (run_between main sums old new)) outcome
   pub holds : HoldsAtAnyEnd command main sums before after old new outcome.status (λ reported. outcome ≡ reported)
-
--- what holds of a run of `versions` over a store that had not been asked before, whatever this one answers
-pub record IsVersionsRun (path : List ℕ) (all : Bool) (old new : StoreState) (outcome : Outcome) : Type 0 where
-  -- how it ends
-  pub ends : OrNoMemory (VersionsEnds path all (told_between old new)) outcome
-  -- If the device failed at a file, that is reported.
-  pub device : (name : Name) → new.refused ≡ old.refused ++ name ∷ [] → outcome ≡ failure_outcome (device_line name)
-  -- If there can be no list, there is none, or it is too long, that is reported.
-  pub no_list : (other : Outcome) → IsRefusedList path (answer_in new.asked) other → outcome ≡ other
-  -- Each file is asked for once, and is needed by the answers before it.
-  pub in_turn : AskedInTurn (VersionsNeed path all) new.asked
-  -- The device fails at one file at most, which is needed.
-  pub fails : FailsInTurn (VersionsNeed path all) old new

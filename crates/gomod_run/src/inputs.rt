@@ -1,15 +1,17 @@
 //! Reading the files that a command works on: the main file, then the go.sum if one is named. Either may be standard
 //! input, whose name is `-`.
 
-ghost use Rattle.std.specs.Prelude.{◌≡◌, IfErr, IfOk, MatchResult, Ok, Err};
+ghost use Rattle.std.specs.Prelude.{◌≡◌, IfErr, IfOk, MatchResult, Ok, Option, Some};
 ghost use Rattle.std.specs.Option.{option_map};
 ghost use Rattle.std.specs.String.{string_bytes};
 ghost use Rattle.gm_store.specs.Openings.{MayRead};
-ghost use Rattle.gomod_run.specs.Outcome.{report_outcome};
-ghost use Rattle.gomod_run.specs.Program.{FileGives, unread_outcome};
-ghost use Rattle.gomod_run.specs.Reads.{AreBothRead, AreInputs, AreSumsInput, AreSumsUnread, IsFileUnread, IsMainInput, IsOneUnread, IsUnreadInput};
+ghost use Rattle.gm_store.specs.declared.fallback.proxy_list.ProxyList.{ProxyList};
+ghost use Rattle.gomod_run.specs.Outcome.{OrNoMemory, report_outcome};
+ghost use Rattle.gomod_run.specs.Program.{FileGives, IsInput, IsServed, IsUnread, bytes_of, main_input, sums_input, versions_path};
+ghost use Rattle.gomod_run.specs.Runs.{is_query};
 
 use crate::reports::report::Report;
+use gm_name::ModPath;
 use gm_store::{FileSystem, ReadFault, StandardInput, read_file, read_input};
 use gomod_words::{Command, Places};
 use std::alloc::Global;
@@ -20,13 +22,23 @@ pub(crate) const STANDARD_INPUT: &str = "-";
 /// The bytes of the files that a command works on, besides those that it asks its store for.
 #[derive(Drop)]
 pub(crate) struct Inputs {
-    /// The main file; empty for `versions`, which has none.
-    pub(crate) main: Vec<u8>,
+    /// The main file, if the command reads one.
+    main: Option<Vec<u8>>,
     /// The go.sum, if the command reads one.
-    pub(crate) sums: Option<Vec<u8>>,
+    sums: Option<Vec<u8>>,
 }
 
 impl Inputs {
+    /// The bytes of the main file; none if the command reads none.
+    pub(crate) fn main(&self) -> &[u8]
+        ensures { result.now ≡ bytes_of self.now.main }
+    {
+        match &self.main {
+            Some(main) => main.as_slice(),
+            None => &[],
+        }
+    }
+
     /// The bytes of the go.sum, if the command reads one.
     pub(crate) fn sums(&self) -> Option<&[u8]>
         ensures { option_map (λ sums. sums.now) result ≡ option_map (λ sums. sums.items) self.now.sums }
@@ -38,13 +50,55 @@ impl Inputs {
     }
 }
 
-/// The report of the file with this name, or of standard input, that can't be read.
-pub(crate) fn unread_report<'a>(name: &'a str, fault: ReadFault) -> Report<'a>
-    ensures { report_outcome result ≡ unread_outcome name.now fault }
+/// The path of the module whose versions a command lists, or `None` if it is not `versions`.
+pub(crate) fn versions_path(command: &Command) -> Option<&ModPath>
+    ensures { option_map (λ path. path.now) result ≡ versions_path command.now }
 {
-    match fault {
-        ReadFault::NoMemory => Report::NoMemory,
-        ReadFault::Device => Report::Unreadable(name),
+    match command {
+        Command::Versions { path, .. } => Some(path),
+        Command::Fmt => None,
+        Command::Edit(_) => None,
+        Command::Graph => None,
+        Command::List { .. } => None,
+        Command::Chain(_) => None,
+    }
+}
+
+/// Whether a command is a query on a module graph, which may read a go.sum.
+fn is_query(command: &Command) -> bool
+    ensures { result ≡ is_query command.now }
+{
+    match command {
+        Command::Graph => true,
+        Command::List { .. } => true,
+        Command::Chain(_) => true,
+        Command::Fmt => false,
+        Command::Edit(_) => false,
+        Command::Versions { .. } => false,
+    }
+}
+
+/// The name of the main file: `versions` has none.
+fn main_name<'a>(command: &Command, places: &'a Places) -> Option<&'a str>
+    ensures { option_map (λ name. name.now) result ≡ main_input command.now (string_bytes places.now.main) }
+{
+    match versions_path(command) {
+        Some(_) => None,
+        None => Some(places.main.as_str()),
+    }
+}
+
+/// The name of the go.sum, if the command reads one and one is named.
+fn sums_name<'a>(command: &Command, places: &'a Places) -> Option<&'a str>
+    ensures { option_map (λ name. name.now) result
+        ≡ sums_input command.now (option_map string_bytes places.now.sums) }
+{
+    if !is_query(command) {
+        return None;
+    }
+    match &places.sums {
+        Some(name) => Some(name.as_str()),
+        None => None,
     }
 }
 
@@ -62,84 +116,53 @@ fn read_bytes<S: StandardInput + FileSystem + Alloc<A = Global>>(
 }
 
 /// The bytes of a FILE, or the report that it can't be read.
-fn read_named<'a, S: StandardInput + FileSystem + Alloc<A = Global>>(
+pub(crate) fn read_named<'a, S: StandardInput + FileSystem + Alloc<A = Global>>(
     rt: &S,
     name: &'a str,
 ) -> Result<Vec<u8>, Report<'a>>
-    ensures read { IfOk result (λ bytes. MayRead (FileGives (S.may_open rt.now) (S.may_take rt.now) name.now)
-        (Ok bytes)) }
-    ensures unread { IfErr result (λ told.
-        IsFileUnread (FileGives (S.may_open rt.now) (S.may_take rt.now)) name.now (report_outcome told)) }
+    ensures { MatchResult result
+        (λ bytes. MayRead (FileGives (S.may_open rt.now) (S.may_take rt.now) name.now) (Ok bytes))
+        (λ told. OrNoMemory (IsUnread (FileGives (S.may_open rt.now) (S.may_take rt.now)) (Some name.now))
+        (report_outcome told)) }
 {
-    read_bytes(rt, name).map_err(|fault| unread_report(name, fault))
+    match read_bytes(rt, name) {
+        Ok(bytes) => Ok(bytes),
+        Err(ReadFault::NoMemory) => Err(Report::NoMemory),
+        Err(ReadFault::Device) => Err(Report::Unreadable(name)),
+    }
 }
 
-/// The bytes of the go.sum, if one is named.
-fn read_sums<'a, S: StandardInput + FileSystem + Alloc<A = Global>>(
+/// The bytes of a FILE if one is named, or the report that it can't be read.
+fn read_optional<'a, S: StandardInput + FileSystem + Alloc<A = Global>>(
     rt: &S,
-    places: &'a Places,
+    name: Option<&'a str>,
 ) -> Result<Option<Vec<u8>>, Report<'a>>
     ensures { MatchResult result
-        (AreSumsInput (FileGives (S.may_open rt.now) (S.may_take rt.now))
-        (option_map string_bytes places.now.sums))
-        (λ told. AreSumsUnread (FileGives (S.may_open rt.now) (S.may_take rt.now))
-        (option_map string_bytes places.now.sums) (report_outcome told)) }
+        (IsInput (FileGives (S.may_open rt.now) (S.may_take rt.now)) (option_map (λ name. name.now) name.entry))
+        (λ told. OrNoMemory (IsUnread (FileGives (S.may_open rt.now) (S.may_take rt.now))
+        (option_map (λ name. name.now) name.entry)) (report_outcome told)) }
 {
-    match &places.sums {
-        Some(name) => Ok(Some(read_named(rt, name.as_str())?)),
+    match name {
+        Some(name) => Ok(Some(read_named(rt, name)?)),
         None => Ok(None),
     }
 }
 
-/// The main file alone.
-fn read_main<'a, S: StandardInput + FileSystem + Alloc<A = Global>>(
-    rt: &S,
-    places: &'a Places,
-) -> Result<Inputs, Report<'a>>
-    ensures { MatchResult result
-        (IsMainInput (FileGives (S.may_open rt.now) (S.may_take rt.now)) (string_bytes places.now.main))
-        (λ told. IsFileUnread (FileGives (S.may_open rt.now) (S.may_take rt.now)) (string_bytes places.now.main)
-        (report_outcome told)) }
-{
-    let main = read_named(rt, places.main.as_str())?;
-    Ok(Inputs { main, sums: None })
-}
-
-/// The main file, then the go.sum if one is named.
-fn read_both<'a, S: StandardInput + FileSystem + Alloc<A = Global>>(
-    rt: &S,
-    places: &'a Places,
-) -> Result<Inputs, Report<'a>>
-    ensures { MatchResult result
-        (AreBothRead (FileGives (S.may_open rt.now) (S.may_take rt.now)) places.now)
-        (λ told. IsOneUnread (FileGives (S.may_open rt.now) (S.may_take rt.now)) places.now
-        (report_outcome told)) }
-{
-    let main = read_named(rt, places.main.as_str())?;
-    let sums = read_sums(rt, places)?;
-    Ok(Inputs { main, sums })
-}
-
-/// The files that a command works on. `versions` has none.
+/// The files that a command works on: the main file, then the go.sum. The first that can't be read is reported.
 pub(crate) fn read_inputs<'a, S: StandardInput + FileSystem + Alloc<A = Global>>(
     rt: &S,
     command: &Command,
     places: &'a Places,
 ) -> Result<Inputs, Report<'a>>
-    ensures { MatchResult result
-        (AreInputs (FileGives (S.may_open rt.now) (S.may_take rt.now)) command.now places.now)
-        (λ told. IsUnreadInput (FileGives (S.may_open rt.now) (S.may_take rt.now)) command.now places.now
-        (report_outcome told)) }
+    ensures main { IfOk result (λ inputs. IsInput (FileGives (S.may_open rt.now) (S.may_take rt.now))
+        (main_input command.now (string_bytes places.now.main)) inputs.main) }
+    ensures sums { IfOk result (λ inputs. IsInput (FileGives (S.may_open rt.now) (S.may_take rt.now))
+        (sums_input command.now (option_map string_bytes places.now.sums)) inputs.sums) }
+    ensures unread { (proxy : Option ProxyList) → IfErr result (λ told.
+        OrNoMemory (IsServed (S.may_open rt.now) (S.may_take rt.now) command.now (string_bytes places.now.main)
+        (option_map string_bytes places.now.sums) proxy) (report_outcome told)) }
 {
-    match command {
-        Command::Fmt => read_main(rt, places),
-        Command::Edit(_) => read_main(rt, places),
-        Command::Versions { .. } => Ok(Inputs {
-            main: Vec::new(rt.alloc()),
-            sums: None,
-        }),
-        Command::Graph => read_both(rt, places),
-        Command::List { .. } => read_both(rt, places),
-        Command::Chain(_) => read_both(rt, places),
-    }
+    let main = read_optional(rt, main_name(command, places))?;
+    let sums = read_optional(rt, sums_name(command, places))?;
+    Ok(Inputs { main, sums })
 }

@@ -1,28 +1,24 @@
-//! The outcome of `versions`: it needs a module's list and then perhaps one go.mod, so the asks of the store are
-//! ordered here.
+//! The outcome of `versions`: the module's list, its versions, what the go.mod of the latest one retracts, and the line
+//! of those that are shown.
 
-ghost use Rattle.std.specs.Prelude.{◌≡◌, ◌++◌, ℕ, [], IfOk, List, MatchOption, MatchResult, None, OnOk, Option, codes, map};
-ghost use Rattle.std.specs.Borrow.{Bor};
-ghost use Rattle.std.specs.Iterator.{Drains, IsFinite};
+ghost use Rattle.std.specs.Prelude.{◌≡◌, ◌⊎◌, ◌++◌, ℕ, [], Bool, IfOk, List, MatchOption, MatchResult, None, OnOk, Option, Some, codes, false, map, true};
 ghost use Rattle.std.specs.String.{string_bytes};
 ghost use Rattle.std.specs.List.Sorted.{IsStrictlySortedBy};
 ghost use Rattle.gm_name.specs.Version.{version_cmp};
 ghost use Rattle.gm_file.specs.Views.{interval_views};
 ghost use Rattle.gm_file.specs.Shown.{shown_of};
 ghost use Rattle.gm_store.specs.Asked.{IsWithinLimit, Name, answer_in, bytes, mod_file, name_of, reply_of};
-ghost use Rattle.gm_store.specs.States.{HasServed};
+ghost use Rattle.gm_store.specs.Latest.{IsLatest};
+ghost use Rattle.gm_store.specs.States.{HasServed, StoreState};
 ghost use Rattle.gm_graph.specs.Reading.{IsFileReading};
 ghost use Rattle.gm_graph.specs.Summaries.{RetractsBy, reading_of};
-ghost use Rattle.gomod_run.specs.Outcome.{OrNoMemory, out_of_memory, outcome_view, report_outcome};
-ghost use Rattle.gm_store.specs.Latest.{IsLatest};
-ghost use Rattle.gomod_run.specs.Asking.{IsLatestAsked};
-ghost use Rattle.gomod_run.specs.Listing.{AreShownAsked, IsAllOutcome, IsListAsked, IsShownAsked};
-ghost use Rattle.gomod_run.specs.Runs.{IsVersionsRun};
-ghost use Rattle.gomod_run.specs.Versions.{IsEndByList, IsShownOutcome, versions_line};
+ghost use Rattle.gomod_run.specs.Outcome.{outcome_view, report_outcome};
+ghost use Rattle.gomod_run.specs.Versions.{list_refusal, versions_line};
+ghost use Rattle.gomod_run.specs.VersionsRuns.{AreVersionsAnswered, GoesOn, IsListAnswered, IsVersionsRun, retracted_in};
 
 use crate::asking::ask_for;
 use crate::reports::report::Report;
-use gm_file::{Interval, shown_versions};
+use gm_file::{DepFile, Interval, shown_versions};
 use gm_graph::{Class, FileReading};
 use gm_name::{BorrowedVersion, KnownNames, ModPath, ModVersion, NoMemory};
 use gm_store::{Answer, Asks, FileName, latest, versions_of};
@@ -37,18 +33,16 @@ fn push_version(line: &mut String, version: &BorrowedVersion<'_>) -> Result<(), 
 }
 
 /// The path and the versions on one line, separated by single spaces.
-fn versions_line<'v, V: Iterator<Item = &'v BorrowedVersion<'v>> + Drop>(
+fn versions_line(
     alloc: Global,
     path: &ModPath,
-    versions: V,
+    versions: &[&BorrowedVersion<'_>],
 ) -> Result<String, NoMemory>
-    requires can { V.can_next versions }
-    requires ends { IsFinite (V.remaining versions) }
-    ensures { IfOk result (λ line. (given : List (Bor (List ℕ))) × Drains V.next_gives versions given
-        × (string_bytes line ≡ versions_line path.now (map (λ version. version.now) given))) }
+    ensures { IfOk result (λ line. string_bytes line
+        ≡ versions_line path.now (map (λ version. version.now) versions.now)) }
 {
     let mut line = String::from_str(alloc, path.as_str())?;
-    'versions: for version in versions {
+    for version in versions {
         push_version(&mut line, version)?;
     }
     line.push_str("\n")?;
@@ -68,7 +62,7 @@ fn shown_line(
         ≡ versions_line path.now (shown_of (interval_views intervals.now) versions.now)) }
 {
     let shown = shown_versions(alloc, versions, intervals)?;
-    versions_line(alloc, path, shown.iter().copied())
+    versions_line(alloc, path, shown.as_slice())
 }
 
 /// The list of a module in the answer for it, or the report that there is none or that it is too long. It takes no
@@ -76,7 +70,7 @@ fn shown_line(
 fn list_in<'p, 'a>(path: &'p ModPath, answer: &'a Answer) -> Result<&'a [u8], Report<'p>>
     ensures { MatchResult result
         (λ list. reply_of answer.entry.now ≡ bytes list.now)
-        (λ told. IsEndByList (λ list outcome. ⊥) path.entry.now (reply_of answer.entry.now) (report_outcome told)) }
+        (λ told. list_refusal path.entry.now true (Some (reply_of answer.entry.now)) ≡ Some (report_outcome told)) }
 {
     match answer {
         Answer::Bytes(list) => Ok(list.as_slice()),
@@ -85,15 +79,52 @@ fn list_in<'p, 'a>(path: &'p ModPath, answer: &'a Answer) -> Result<&'a [u8], Re
     }
 }
 
-/// A copy of the list of a module, as `list_in` finds it. It takes memory only if there is one.
-fn list_copy<'p>(alloc: Global, path: &'p ModPath, answer: &Answer) -> Result<Vec<u8>, Report<'p>>
-    ensures { MatchResult result
-        (λ list. reply_of answer.now ≡ bytes list.items)
-        (λ told. IsEndByList (λ list outcome. outcome ≡ out_of_memory) path.now (reply_of answer.now)
-        (report_outcome told)) }
+/// Asks for the list of a module that a proxy can have, and copies it: its versions borrow their texts, and not from the
+/// store, which is asked once more. A list that can't be had is reported before the copy takes memory.
+fn list_of<'p, F: Asks>(
+    alloc: Global,
+    path: &'p ModPath,
+    files: &mut F,
+) -> Result<Vec<u8>, Report<'p>>
+    requires { (F.state files.old).asked ≡ [] }
+    ensures run { (all : Bool) → MatchResult result
+        (λ list. IsListAnswered path.now (F.state files.old) (F.state files.new) list.items)
+        (λ told. IsVersionsRun path.now all (F.state files.old) (F.state files.new) (report_outcome told)) }
+    ensures served { HasServed (F.may_answer files.old) (F.may_answer files.new)
+        (F.state files.old) (F.state files.new) }
 {
-    let list = list_in(path, answer)?;
+    if !path.is_fetchable() {
+        return Err(Report::List(path, Class::NotFetchable));
+    }
+    ask_for(files, FileName::List(path.copy(alloc)?))?;
+    let list = list_in(path, files.last())?;
     Ok(Vec::from_slice(alloc, list)?)
+}
+
+/// The version whose go.mod says what is retracted: the latest one, or `None` if all are asked for or there are none.
+fn latest_unless(
+    alloc: Global,
+    all: bool,
+    versions: &[BorrowedVersion<'_>],
+) -> Result<Option<ModVersion>, NoMemory>
+    ensures { IfOk result (λ found. MatchOption found
+        ((all ≡ true) ⊎ (versions.now ≡ []))
+        (λ latest. (all ≡ false) × IsLatest versions.now latest)) }
+{
+    if all {
+        return Ok(None);
+    }
+    match latest(versions) {
+        Some(version) => Ok(Some(version.to_version(alloc)?)),
+        None => Ok(None),
+    }
+}
+
+/// The name of the go.mod of a version.
+fn mod_name(alloc: Global, path: &ModPath, version: &ModVersion) -> Result<FileName, NoMemory>
+    ensures { IfOk result (λ name. name_of name ≡ mod_file path.now version.now) }
+{
+    Ok(FileName::Mod(path.copy(alloc)?, version.copy(alloc)?))
 }
 
 /// What the answer for a go.mod says, or what is wrong with it. No hash is checked.
@@ -111,137 +142,56 @@ fn read_answer(alloc: Global, answer: &Answer) -> Result<FileReading, NoMemory>
     }
 }
 
-/// What listed versions end with, given the store's answer for the go.mod of the latest one.
-fn shown_outcome<'p>(
+/// Asks for the go.mod of the latest of the listed versions, and reads it.
+fn latest_file<'p, F: Asks>(
     alloc: Global,
     path: &'p ModPath,
-    versions: &[BorrowedVersion<'_>],
-    latest: ModVersion,
-    answer: &Answer,
-) -> Result<String, Report<'p>>
-    requires { IsStrictlySortedBy version_cmp versions.now }
-    ensures { IsWithinLimit (reply_of answer.now)
-        → OrNoMemory (IsShownOutcome path.now versions.now latest (reply_of answer.now)) (outcome_view result) }
-{
-    match read_answer(alloc, answer)? {
-        FileReading::Valid(dependency) => {
-            let line = shown_line(alloc, path, versions, dependency.retracts())?;
-            Ok(line)
-        }
-        FileReading::Faulty(class) => Err(Report::File(path, latest, class)),
-    }
-}
-
-/// The name of the go.mod of a version.
-fn mod_name(alloc: Global, path: &ModPath, version: &ModVersion) -> Result<FileName, NoMemory>
-    ensures { IfOk result (λ name. name_of name ≡ mod_file path.now version.now) }
-{
-    Ok(FileName::Mod(path.copy(alloc)?, version.copy(alloc)?))
-}
-
-/// Asks for the go.mod of the latest version, and gives what the listed versions end with.
-fn latest_outcome<'p, F: Asks>(
-    alloc: Global,
-    path: &'p ModPath,
-    versions: &[BorrowedVersion<'_>],
     latest: ModVersion,
     files: &mut F,
-) -> Result<String, Report<'p>>
-    requires ascending { IsStrictlySortedBy version_cmp versions.now }
-    requires unasked { answer_in (F.state files.old).asked (mod_file path.now latest) ≡ None }
-    ensures asked { IsLatestAsked path.now versions.now latest (F.state files.old) (F.state files.new)
-        (outcome_view result) }
+) -> Result<Option<DepFile>, Report<'p>>
+    requires { answer_in (F.state files.old).asked (mod_file path.now latest) ≡ None }
+    ensures run { (first : StoreState) (versions : List (List ℕ))
+        → AreVersionsAnswered path.now first (F.state files.old) versions → IsLatest versions latest
+        → GoesOn path.now false versions first (F.state files.new) result }
     ensures served { HasServed (F.may_answer files.old) (F.may_answer files.new)
         (F.state files.old) (F.state files.new) }
 {
     ask_for(files, mod_name(alloc, path, &latest)?)?;
-    shown_outcome(alloc, path, versions, latest, files.last())
+    match read_answer(alloc, files.last())? {
+        FileReading::Valid(file) => Ok(Some(file)),
+        FileReading::Faulty(class) => Err(Report::File(path, latest, class)),
+    }
 }
 
-/// Checks the path and asks for the list of the module. If there is no answer, the report says why.
-fn ask_for_list<'p, F: Asks>(
+/// The file that says what is retracted, or `None` if all versions are asked for or there are none.
+fn retracting_file<'p, F: Asks>(
     alloc: Global,
     path: &'p ModPath,
+    all: bool,
+    versions: &[BorrowedVersion<'_>],
     files: &mut F,
-) -> Result<(), Report<'p>>
-    requires { (F.state files.old).asked ≡ [] }
-    ensures asked { IsListAsked path.now (F.state files.old) (F.state files.new) result }
+) -> Result<Option<DepFile>, Report<'p>>
+    requires { (latest : List ℕ) → answer_in (F.state files.old).asked (mod_file path.now latest) ≡ None }
+    ensures run { (first : StoreState)
+        → AreVersionsAnswered path.now first (F.state files.old) versions.now
+        → GoesOn path.now all versions.now first (F.state files.new) result }
     ensures served { HasServed (F.may_answer files.old) (F.may_answer files.new)
         (F.state files.old) (F.state files.new) }
 {
-    if !path.is_fetchable() {
-        return Err(Report::List(path, Class::NotFetchable));
-    }
-    ask_for(files, FileName::List(path.copy(alloc)?))
-}
-
-/// The latest of the listed versions, or `None` if there are none.
-fn latest_version(
-    alloc: Global,
-    versions: &[BorrowedVersion<'_>],
-) -> Result<Option<ModVersion>, NoMemory>
-    ensures { IfOk result (λ found. MatchOption found (versions.now ≡ []) (IsLatest versions.now)) }
-{
-    match latest(versions) {
-        Some(version) => Ok(Some(version.to_version(alloc)?)),
+    match latest_unless(alloc, all, versions)? {
+        Some(latest) => latest_file(alloc, path, latest, files),
         None => Ok(None),
     }
 }
 
-/// What the answer for the list ends with if all listed versions are to be printed.
-fn outcome_of_all<'p>(
-    alloc: Global,
-    path: &'p ModPath,
-    answer: &Answer,
-) -> Result<String, Report<'p>>
-    ensures { IsEndByList (λ list. OrNoMemory (IsAllOutcome path.now list)) path.now (reply_of answer.now)
-        (outcome_view result) }
+/// The intervals that a file retracts, if there is one.
+fn retracts_in(file: &Option<DepFile>) -> &[Interval]
+    ensures { interval_views result.now ≡ retracted_in file.now }
 {
-    let list = list_in(path, answer)?;
-    let versions = versions_of(alloc, path, list)?;
-    let line = versions_line(alloc, path, versions.iter())?;
-    Ok(line)
-}
-
-/// What listed versions end with if retracted ones are not to be printed. If there are any, the go.mod of the latest one
-/// is asked for.
-fn outcome_of_listed<'p, F: Asks>(
-    alloc: Global,
-    path: &'p ModPath,
-    versions: &[BorrowedVersion<'_>],
-    files: &mut F,
-) -> Result<String, Report<'p>>
-    requires ascending { IsStrictlySortedBy version_cmp versions.now }
-    requires unasked { (latest : List ℕ) → answer_in (F.state files.old).asked (mod_file path.now latest) ≡ None }
-    ensures asked { AreShownAsked path.now versions.now (F.state files.old) (F.state files.new)
-        (outcome_view result) }
-    ensures served { HasServed (F.may_answer files.old) (F.may_answer files.new)
-        (F.state files.old) (F.state files.new) }
-{
-    match latest_version(alloc, versions)? {
-        Some(latest) => latest_outcome(alloc, path, versions, latest, files),
-        None => {
-            let line = versions_line(alloc, path, versions.iter())?;
-            Ok(line)
-        }
+    match file {
+        Some(file) => file.retracts(),
+        None => &[],
     }
-}
-
-/// What a list ends with if retracted versions are not to be printed.
-fn outcome_of_shown<'p, F: Asks>(
-    alloc: Global,
-    path: &'p ModPath,
-    list: &[u8],
-    files: &mut F,
-) -> Result<String, Report<'p>>
-    requires { (latest : List ℕ) → answer_in (F.state files.old).asked (mod_file path.now latest) ≡ None }
-    ensures asked { IsShownAsked path.now list.now (F.state files.old) (F.state files.new)
-        (outcome_view result) }
-    ensures served { HasServed (F.may_answer files.old) (F.may_answer files.new)
-        (F.state files.old) (F.state files.new) }
-{
-    let versions = versions_of(alloc, path, list)?;
-    outcome_of_listed(alloc, path, versions.as_slice(), files)
 }
 
 /// What `versions` ends with over a store that has not been asked yet. With `all`, retracted versions are printed too.
@@ -256,11 +206,9 @@ pub(crate) fn versions_outcome<'p, F: Asks>(
     ensures served { HasServed (F.may_answer files.old) (F.may_answer files.new)
         (F.state files.old) (F.state files.new) }
 {
-    ask_for_list(alloc, path, files)?;
-    if all {
-        return outcome_of_all(alloc, path, files.last());
-    }
-    // The versions borrow their texts, and not from the store, which is asked once more.
-    let list = list_copy(alloc, path, files.last())?;
-    outcome_of_shown(alloc, path, list.as_slice(), files)
+    let list = list_of(alloc, path, files)?;
+    let versions = versions_of(alloc, path, list.as_slice())?;
+    let file = retracting_file(alloc, path, all, versions.as_slice(), files)?;
+    let line = shown_line(alloc, path, versions.as_slice(), retracts_in(&file))?;
+    Ok(line)
 }

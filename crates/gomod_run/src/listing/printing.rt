@@ -5,9 +5,10 @@ ghost use Rattle.std.specs.Prelude.{◌≡◌, []};
 ghost use Rattle.std.specs.Option.{option_copied};
 ghost use Rattle.gm_file.specs.Main.{main_of};
 ghost use Rattle.gm_graph_select.specs.BuildList.{entries_of_rows};
-ghost use Rattle.gomod_run.specs.ListingTexts.{up_to, list_text};
-ghost use Rattle.gomod_run.specs.Found.{IsOutcomeOfFound, PrintsEdges, PrintsFound, PrintsSteps};
-ghost use Rattle.gomod_run.specs.Outcomes.{PrintsRows};
+ghost use Rattle.gm_graph_select.specs.Graph.{among};
+ghost use Rattle.gomod_run.specs.ListingTexts.{graph_text, list_text, up_to};
+ghost use Rattle.gomod_run.specs.Found.{IsOutcomeOfFound, PrintsFound};
+ghost use Rattle.gomod_run.specs.Outcomes.{PrintsRows, ShowsChain};
 ghost use Rattle.gomod_run.specs.Outcome.{OrNoMemory, outcome_view, text_outcome};
 
 use crate::listing::graph_lines::{chain_text, graph_text};
@@ -26,7 +27,8 @@ fn print_graph<'r>(
     main: &MainFile<'_>,
     loaded: &Loaded,
 ) -> Result<String, Report<'r>>
-    ensures { OrNoMemory (PrintsEdges (main_of main.now) loaded.now) (outcome_view result) }
+    ensures { OrNoMemory (λ outcome. outcome ≡ text_outcome (graph_text (main_of main.now).path loaded.now.edges))
+        (outcome_view result) }
 {
     let text = graph_text(alloc, main.module(), loaded.edges())?;
     Ok(text)
@@ -79,7 +81,8 @@ fn print_chain<'q>(
 ) -> Result<String, Report<'q>>
     requires no_fault { loaded.now.faults ≡ [] }
     requires main { loaded.now.main ≡ (main_of main.now).path }
-    ensures { OrNoMemory (PrintsSteps path.now (main_of main.now) loaded.now) (outcome_view result) }
+    ensures { OrNoMemory (ShowsChain path.now (main_of main.now) (among loaded.now.edges) loaded.now.rows)
+        (outcome_view result) }
 {
     match loaded.chain(alloc, path) {
         Ok(steps) => {

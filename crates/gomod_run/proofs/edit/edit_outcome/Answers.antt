@@ -8,7 +8,7 @@ use Rattle.gm_file_edit.proofs.Walking.{drop-next}
 use Rattle.gomod_run.specs.Editing.{EditEnds, lines_after_all, refusals_from}
 use Rattle.gomod_run.specs.Outcome.{OrNoMemory, report_outcome}
 use Rattle.gomod_run.proofs.Operations.{all_applied, bad_file, next_lines, next_refusals, one_refused}
-use Rattle.gomod_run.proofs.Steps.{passed}
+use Rattle.gomod_run.proofs.PassedOn.{passed}
 use Rattle.gomod_run.proofs.edit.edit_outcome.Goals as goal
 
 pub returns-in_err-editor : goal.returns-in_err-editor

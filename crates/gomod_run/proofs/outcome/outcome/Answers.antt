@@ -1,7 +1,7 @@
 use Rattle.std.specs.Option.{option_map}
 use Rattle.gomod_run.specs.Outcome.{outcome_view}
-use Rattle.gomod_run.proofs.CommandOutcomes.{bytes_come}
-use Rattle.gomod_run.proofs.Steps.{versions_come}
+use Rattle.gomod_run.proofs.CommandOutcomes.{unasked_comes}
+use Rattle.gomod_run.proofs.VersionsSteps.{versions_come}
 use Rattle.gomod_run.proofs.outcome.outcome.Goals as goal
 
 pub returns-in-Versions : goal.returns-in-Versions
@@ -13,13 +13,13 @@ returns-in-Versions g c =
 pub returns-in-Fmt : goal.returns-in-Fmt
 returns-in-Fmt g c =
     rw c.in-Fmt.is
-    (bytes_come _ c.args.main.now (option_map (λ sums. sums.now) c.args.sums) _ (g.F.Asks.state c.args.files.now) _ (λ answers name need. need) (λ path all is. cc is) c.requires
+    (unasked_comes _ c.args.main.now (option_map (λ sums. sums.now) c.args.sums) _ (g.F.Asks.state c.args.files.now) _ (λ path all is. cc is) c.requires
     c.fmt_outcome.ensures)
 
 pub returns-in-Edit : goal.returns-in-Edit
 returns-in-Edit g c =
     rw c.in-Edit.is
-    (bytes_come _ c.args.main.now (option_map (λ sums. sums.now) c.args.sums) _ (g.F.Asks.state c.args.files.now) _ (λ answers name need. need) (λ path all is. cc is) c.requires
+    (unasked_comes _ c.args.main.now (option_map (λ sums. sums.now) c.args.sums) _ (g.F.Asks.state c.args.files.now) _ (λ path all is. cc is) c.requires
     (rw c.as_slice.ensures.value at c.edit_outcome.ensures))
 
 pub returns-in-Graph : goal.returns-in-Graph

@@ -1,26 +1,44 @@
-use Rattle.std.proofs.Common.{None, inl, option_map}
+use Rattle.std.proofs.Common.{◌≡◌, ◌∙◌, None, Some, inl, inr, option_map, refl}
+use Rattle.std.specs.String.{string_bytes}
+use Rattle.gm_store.specs.Asked.{reply_for}
 use Rattle.gm_store.specs.Memory.{memory_files_state}
-use Rattle.gm_store.proofs.Serving.{may_all}
-use Rattle.gomod_run.specs.Outcome.{report_outcome}
-use Rattle.gomod_run.specs.Program.{IsServed}
-use Rattle.gomod_run.specs.Reads.{with_proxy}
+use Rattle.gomod_run.specs.Outcome.{OrNoMemory, report_outcome}
+use Rattle.gomod_run.specs.Outcomes.{longest}
+use Rattle.gomod_run.specs.Program.{FileGives, IsServed, held_for, no_list, runs, versions_path}
+use Rattle.gomod_run.specs.Runs.{told_between}
 use Rattle.gomod_run.proofs.Endings.{ends_weaken}
-use Rattle.gomod_run.proofs.Served.{input_unserved, memory_served, same_run, stopped}
+use Rattle.gomod_run.proofs.Served.{held_allowed, no_sums_read, same_run, stopped, told_by}
 use Rattle.gomod_run.proofs.serving.over_memory.Goals as goal
 
 pub returns-in_err-read : goal.returns-in_err-read
 returns-in_err-read g c =
-    let may_open = g.S.FileSystem.may_open c.args.rt.now in
-    let may_take = g.S.StandardInput.may_take c.args.rt.now in
-    let told = c.in_err-read.field-0.0 in
-    stopped (IsServed may_open may_take c.args.command.now (with_proxy c.args.places.now None)) _ _ told c.from_residual.result
-    c.from_residual.ensures.1 (inl (input_unserved may_open may_take c.args.command.now c.args.places.now None (report_outcome told) c.in_err-read.ensures))
+    stopped (IsServed (g.S.FileSystem.may_open c.args.rt.now) (g.S.StandardInput.may_take c.args.rt.now) c.args.command.now (string_bytes c.args.places.now.main) (option_map string_bytes c.args.places.now.sums) None)
+    _ _ c.in_err-read.field-0.0 c.from_residual.result c.from_residual.ensures.1 (c.in_err-read.ensures.unread None)
+
+pub returns-in_err-files : goal.returns-in_err-files
+returns-in_err-files g c =
+    let told = c.in_err-files.field-0.0 in
+    let Is = IsServed (g.S.FileSystem.may_open c.args.rt.now) (g.S.StandardInput.may_take c.args.rt.now) c.args.command.now (string_bytes c.args.places.now.main) (option_map string_bytes c.args.places.now.sums) None in
+    let or_no_memory : OrNoMemory Is (report_outcome told) = elim c.in_err-files.ensures.unread [
+      | inl unread ↦ inl (no_list unread)
+      | inr memory ↦ inr memory
+    ] in
+    stopped Is _ _ told c.from_residual-in_err-files.result c.from_residual-in_err-files.ensures.1 or_no_memory
+
+pub run-requires-clause-no_sums : goal.run-requires-clause-no_sums
+run-requires-clause-no_sums g c = λ isnt.
+    c.sums.ensures ∙ no_sums_read (FileGives (g.S.FileSystem.may_open c.args.rt.now) (g.S.StandardInput.may_take c.args.rt.now)) c.args.command.now (option_map string_bytes c.args.places.now.sums)
+    c.in_ok-read.read.sums c.in_ok-read.ensures.sums isnt
 
 pub returns : goal.returns
 returns g c =
-    let old = memory_files_state c.new-files.result in
+    let command = c.args.command.now in
+    let read = c.in_ok-read.read in
+    let (list, is, holds) = c.in_ok-files.ensures.held in
+    let old = memory_files_state c.in_ok-files.files in
     let new = memory_files_state c.run.new.files in
-    ends_weaken _ _ _ _ _ _ _ (λ outcome runs. memory_served (g.S.FileSystem.may_open c.args.rt.now) (g.S.StandardInput.may_take c.args.rt.now) c.args.command.now c.args.places.now c.in_ok-read.read c.new-files.result c.run.new.files
-    c.requires c.in_ok-read.ensures c.new-files.ensures.empty (may_all _ _ old new c.new-files.ensures.asked c.run.ensures.holds.served) outcome
-    (same_run c.args.command.now c.in_ok-read.read c.as_slice-main.result.now (option_map (λ sums. sums.now) c.sums.result) old new c.as_slice-main.ensures.value c.sums.ensures outcome runs))
+    let told = told_by (λ name answer. answer ≡ Some (reply_for longest (held_for (versions_path command) list name))) _ _ old new c.in_ok-files.ensures.asked refl c.run.ensures.holds.served
+    (held_allowed (versions_path command) list c.in_ok-files.files holds) in
+    ends_weaken _ _ _ _ _ _ _ (λ outcome ran. runs read.main read.sums list (told_between old new) c.in_ok-read.ensures.main c.in_ok-read.ensures.sums is told
+    (same_run command read.main read.sums c.main.result.now (option_map (λ sums. sums.now) c.sums.result) old new outcome c.main.ensures c.sums.ensures ran))
     c.run.ensures.ends

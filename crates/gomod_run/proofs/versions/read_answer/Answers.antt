@@ -1,6 +1,6 @@
 use Rattle.std.proofs.Common.{◌∙◌, ap, sym}
 use Rattle.gm_store.specs.Asked.{bytes, reply_of}
-use Rattle.gomod_run.proofs.Steps.{answer_retracts, answer_says}
+use Rattle.gomod_run.proofs.VersionsSteps.{answer_retracts, answer_says}
 use Rattle.gomod_run.proofs.versions.read_answer.Goals as goal
 
 pub returns-in-Bytes-clause-reading : goal.returns-in-Bytes-clause-reading

@@ -1,68 +1,100 @@
-use Rattle.gm_store.specs.Asked.{reply_of}
+use Rattle.std.proofs.Common.{◌∙◌, ℕ, List, ap, inl, inr, sym}
+use Rattle.gm_file.specs.Directives.{VersionInterval}
+use Rattle.gm_file.specs.Shown.{shown_of}
+use Rattle.gm_file.specs.Views.{interval_views}
 use Rattle.gm_store.proofs.Serving.{served_both}
-use Rattle.gomod_run.specs.Outcome.{outcome_view}
-use Rattle.gomod_run.specs.Runs.{IsVersionsRun}
-use Rattle.gomod_run.proofs.Steps.{all_run, copied_run, file_unasked, passed, uncopied_run, unlisted_run}
+use Rattle.gomod_run.specs.Outcome.{outcome_view, text_outcome}
+use Rattle.gomod_run.specs.Versions.{versions_line}
+use Rattle.gomod_run.specs.VersionsRuns.{AreVersionsAnswered, IsVersionsRun}
+use Rattle.gomod_run.proofs.PassedOn.{no_memory, passed}
+use Rattle.gomod_run.proofs.VersionsSteps.{file_unasked, listed_memory, shown_run}
 use Rattle.gomod_run.proofs.versions.versions_outcome.Goals as goal
 
--- there is no answer for the list
-pub returns-in_err-ask_for_list-clause-run : goal.returns-in_err-ask_for_list-clause-run
-returns-in_err-ask_for_list-clause-run g c =
-    let path = c.args.path.now in
-    let all = c.args.all in
-    let old = g.F.Asks.state c.args.files.now in
-    let mid = g.F.Asks.state c.ask_for_list.new.files in
-    let told = c.in_err-ask_for_list.field-0.0 in
-    passed (IsVersionsRun path all old mid) told c.from_residual.result c.from_residual.ensures.1
-    (unlisted_run path all old c.requires mid told c.in_err-ask_for_list.ensures.asked)
-
-pub returns-in_err-ask_for_list-clause-served : goal.returns-in_err-ask_for_list-clause-served
-returns-in_err-ask_for_list-clause-served g c = c.in_err-ask_for_list.ensures.served
-
--- all versions are asked for
-pub returns-then-all-clause-run : goal.returns-then-all-clause-run
-returns-then-all-clause-run g c =
-    let old = g.F.Asks.state c.args.files.now in
-    let mid = g.F.Asks.state c.ask_for_list.new.files in
-    all_run c.args.path.now c.args.all old mid c.requires (reply_of c.last.result.now) c.last.ensures.value (outcome_view c.outcome_of_all.result) _
-    c.in_ok-ask_for_list.ensures.asked c.if-all.true c.outcome_of_all.ensures
-
-pub returns-then-all-clause-served : goal.returns-then-all-clause-served
-returns-then-all-clause-served g c = c.in_ok-ask_for_list.ensures.served
-
--- there is no list, or it can't be copied
 pub returns-in_err-list-clause-run : goal.returns-in_err-list-clause-run
 returns-in_err-list-clause-run g c =
     let path = c.args.path.now in
     let all = c.args.all in
     let old = g.F.Asks.state c.args.files.now in
-    let mid = g.F.Asks.state c.ask_for_list.new.files in
-    let told = c.in_err-list.field-0.0 in
-    passed (IsVersionsRun path all old mid) told c.from_residual-in_err-list.result c.from_residual-in_err-list.ensures.1
-    (uncopied_run path all old mid c.requires (reply_of c.last-2.result.now) c.last-2.ensures.value _ _ c.in_ok-ask_for_list.ensures.asked c.in_err-list.ensures)
+    let mid = g.F.Asks.state c.list_of.new.files in
+    passed (IsVersionsRun path all old mid) c.in_err-list.field-0.0 c.from_residual.result c.from_residual.ensures.1 (c.in_err-list.ensures.run all)
 
 pub returns-in_err-list-clause-served : goal.returns-in_err-list-clause-served
-returns-in_err-list-clause-served g c = c.in_ok-ask_for_list.ensures.served
+returns-in_err-list-clause-served g c = c.in_err-list.ensures.served
 
--- those that are not retracted
-pub outcome_of_shown-requires : goal.outcome_of_shown-requires
-outcome_of_shown-requires g c =
+pub returns-in_err-versions-clause-run : goal.returns-in_err-versions-clause-run
+returns-in_err-versions-clause-run g c =
+    let path = c.args.path.now in
+    let all = c.args.all in
     let old = g.F.Asks.state c.args.files.now in
-    let mid = g.F.Asks.state c.ask_for_list.new.files in
-    file_unasked c.args.path.now c.args.all old mid c.requires (reply_of c.last-2.result.now) c.last-2.ensures.value _ c.in_ok-ask_for_list.ensures.asked
+    let mid = g.F.Asks.state c.list_of.new.files in
+    listed_memory path all old mid c.in_ok-list.list.items (outcome_view c.from_residual-in_err-versions.result) (c.in_ok-list.ensures.run all)
+    (no_memory c.from_residual-in_err-versions.result c.from_residual-in_err-versions.ensures.1)
+
+pub returns-in_err-versions-clause-served : goal.returns-in_err-versions-clause-served
+returns-in_err-versions-clause-served g c = c.in_ok-list.ensures.served
+
+pub retracting_file-requires : goal.retracting_file-requires
+retracting_file-requires g c =
+    let path = c.args.path.now in
+    let all = c.args.all in
+    let old = g.F.Asks.state c.args.files.now in
+    let mid = g.F.Asks.state c.list_of.new.files in
+    file_unasked path old mid c.in_ok-list.list.items (c.in_ok-list.ensures.run all)
+
+pub returns-in_err-file-clause-run : goal.returns-in_err-file-clause-run
+returns-in_err-file-clause-run g c =
+    let path = c.args.path.now in
+    let all = c.args.all in
+    let old = g.F.Asks.state c.args.files.now in
+    let mid = g.F.Asks.state c.list_of.new.files in
+    let versions = c.in_ok-versions.versions.items in
+    let are : AreVersionsAnswered path old mid versions = record { list = c.in_ok-list.list.items; answered = c.in_ok-list.ensures.run all; listed = rw c.as_slice.ensures.value at c.in_ok-versions.ensures } in
+    passed (IsVersionsRun path all old (g.F.Asks.state c.retracting_file.new.files)) c.in_err-file.field-0.0 c.from_residual-in_err-file.result c.from_residual-in_err-file.ensures.1
+    (c.in_err-file.ensures.run old (rw c.as_slice-2.ensures.value are))
+
+pub returns-in_err-file-clause-served : goal.returns-in_err-file-clause-served
+returns-in_err-file-clause-served g c =
+    let path = c.args.path.now in
+    let all = c.args.all in
+    let old = g.F.Asks.state c.args.files.now in
+    let mid = g.F.Asks.state c.list_of.new.files in
+    served_both _ _ _ old mid (g.F.Asks.state c.retracting_file.new.files) c.in_ok-list.ensures.served c.in_err-file.ensures.served
+
+pub returns-in_err-line-clause-run : goal.returns-in_err-line-clause-run
+returns-in_err-line-clause-run g c =
+    let path = c.args.path.now in
+    let all = c.args.all in
+    let old = g.F.Asks.state c.args.files.now in
+    let mid = g.F.Asks.state c.list_of.new.files in
+    let versions = c.in_ok-versions.versions.items in
+    let are : AreVersionsAnswered path old mid versions = record { list = c.in_ok-list.list.items; answered = c.in_ok-list.ensures.run all; listed = rw c.as_slice.ensures.value at c.in_ok-versions.ensures } in
+    shown_run path all old (g.F.Asks.state c.retracting_file.new.files) _ (outcome_view c.from_residual-in_err-line.result) (c.in_ok-file.ensures.run old (rw c.as_slice-2.ensures.value are))
+    (inr (no_memory c.from_residual-in_err-line.result c.from_residual-in_err-line.ensures.1))
+
+pub returns-in_err-line-clause-served : goal.returns-in_err-line-clause-served
+returns-in_err-line-clause-served g c =
+    let path = c.args.path.now in
+    let all = c.args.all in
+    let old = g.F.Asks.state c.args.files.now in
+    let mid = g.F.Asks.state c.list_of.new.files in
+    served_both _ _ _ old mid (g.F.Asks.state c.retracting_file.new.files) c.in_ok-list.ensures.served c.in_ok-file.ensures.served
 
 pub returns-clause-run : goal.returns-clause-run
 returns-clause-run g c =
+    let path = c.args.path.now in
+    let all = c.args.all in
     let old = g.F.Asks.state c.args.files.now in
-    let mid = g.F.Asks.state c.ask_for_list.new.files in
-    let new = g.F.Asks.state c.outcome_of_shown.new.files in
-    copied_run c.args.path.now c.args.all old mid c.requires (reply_of c.last-2.result.now) c.last-2.ensures.value
-    new c.in_ok-list.list.items (outcome_view c.outcome_of_shown.result) _ c.in_ok-ask_for_list.ensures.asked c.if-all.false
-    c.in_ok-list.ensures (rw c.as_slice.ensures.value at c.outcome_of_shown.ensures.asked)
+    let mid = g.F.Asks.state c.list_of.new.files in
+    let versions = c.in_ok-versions.versions.items in
+    let are : AreVersionsAnswered path old mid versions = record { list = c.in_ok-list.list.items; answered = c.in_ok-list.ensures.run all; listed = rw c.as_slice.ensures.value at c.in_ok-versions.ensures } in
+    let shown = ap (λ (rs : List VersionInterval). versions_line path (shown_of rs c.as_slice-2.result.now)) c.retracts_in.ensures in
+    let line = c.in_ok-line.ensures ∙ ap (λ (vs : List (List ℕ)). versions_line path (shown_of (interval_views c.retracts_in.result.now) vs)) (c.as_slice-3.ensures.value ∙ sym c.as_slice-2.ensures.value) ∙ shown in
+    shown_run path all old (g.F.Asks.state c.retracting_file.new.files) _ _ (c.in_ok-file.ensures.run old (rw c.as_slice-2.ensures.value are)) (inl (ap text_outcome line))
 
 pub returns-clause-served : goal.returns-clause-served
 returns-clause-served g c =
+    let path = c.args.path.now in
+    let all = c.args.all in
     let old = g.F.Asks.state c.args.files.now in
-    let mid = g.F.Asks.state c.ask_for_list.new.files in
-    let new = g.F.Asks.state c.outcome_of_shown.new.files in
-    served_both _ _ _ old mid new c.ask_for_list.ensures.served c.outcome_of_shown.ensures.served
+    let mid = g.F.Asks.state c.list_of.new.files in
+    served_both _ _ _ old mid (g.F.Asks.state c.retracting_file.new.files) c.in_ok-list.ensures.served c.in_ok-file.ensures.served

@@ -1,0 +1,19 @@
+-- What `?` passes on to the outcome.
+use Rattle.std.proofs.lemmas.Result.{err_from_is_err_and}
+use Rattle.std.proofs.Common.{◌≡◌, ◌∙◌, Result, Ok, Err, ap, subst, sym}
+use Rattle.std.specs.Prelude.{String}
+use Rattle.std.specs.declared.alloc.Global.{Global}
+use Rattle.std.specs.Result.{IsErrAnd}
+use Rattle.gomod_run.specs.Outcome.{Outcome, out_of_memory, outcome_view, report_outcome}
+use Rattle.gomod_run.specs.declared.reports.report.Report.{Report}
+use Rattle.gomod_run.specs.declared.reports.report.Report.TheVariants as report
+
+-- what holds of a report holds of what is passed on
+pub passed : (Is : Outcome → Type 0) (told : Report) (result : Result (String Global) Report) → IsErrAnd result (λ passed. passed ≡ told) → Is (report_outcome told)
+    → Is (outcome_view result)
+passed Is told (Err other) same is = subst (λ (told : Report). Is (report_outcome told)) (sym same) is
+passed Is told (Ok text) same is = absurd same
+
+-- memory ran out, which is passed on
+pub no_memory : (result : Result (String Global) Report) → IsErrAnd result (λ told. told ≡ report.NoMemory) → outcome_view result ≡ out_of_memory
+no_memory result is = let p = err_from_is_err_and result is in ap outcome_view p.1 ∙ ap report_outcome p.2
