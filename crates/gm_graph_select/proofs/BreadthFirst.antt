@@ -16,10 +16,10 @@ use Rattle.gm_graph_select.specs.declared.searching.Visit.{Visit}
 use Rattle.gm_graph_select.specs.Adjacency.{GraphView}
 use Rattle.gm_graph_select.specs.Graph.{Edges, edge, step_cmp}
 use Rattle.gm_graph_select.specs.Chains.{IsChain, IsLevel, IsPredecessor, IsReached, Leads, along, at_main, begins, goes_on}
-use Rattle.gm_graph_select.specs.Marking.{AreMarked, HasMark}
-use Rattle.gm_graph_select.specs.Numbering.{AreInList, AreLeaving, HasList, IsGraph, edge_leaving, edges_leaving, graph_edges, step_at, steps_of}
+use Rattle.gm_graph_select.specs.Private.Marking.{AreMarked, HasMark}
+use Rattle.gm_graph_select.specs.Private.Numbering.{AreInList, AreLeaving, HasList, IsGraph, edge_leaving, edges_leaving, graph_edges, step_at, steps_of}
 use Rattle.gm_graph_select.specs.Order.{HaveSame}
-use Rattle.gm_graph_select.specs.Searching.{ArePassed, AreTraced, AreTried, IsVisitDue, IsFollowed, IsFoundEnd, IsNextEdge, IsSearchedTo, IsTraced, IsTracedTo, IsTurn, IsVisitedNext, IsWithin, State, first_state, numbers_visited, visit_at, visited_step}
+use Rattle.gm_graph_select.specs.Private.Searching.{ArePassed, AreTraced, AreTried, IsVisitDue, IsFollowed, IsFoundEnd, IsNextEdge, IsSearchedTo, IsTraced, IsTracedTo, IsTurn, IsVisitedNext, IsWithin, State, first_state, numbers_visited, visit_at, visited_step}
 use Rattle.gm_graph_select.proofs.Ascending.{member_head, no_member, one_member}
 use Rattle.gm_graph_select.proofs.Marks.{both_marked, count_set, none_marked, none_more, one_marked}
 use Rattle.gm_graph_select.proofs.NumberedSteps.{less_number, same_number, step_number, steps_ascend}

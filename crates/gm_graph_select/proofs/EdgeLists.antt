@@ -3,7 +3,8 @@ use Rattle.std.proofs.Common.{◌≡◌, ◌∙◌, ◌<◌, ℕ, List, [], ◌�
 use Rattle.std.specs.Prelude.{All}
 use Rattle.gm_graph_select.specs.declared.step.Edge.{Edge}
 use Rattle.gm_graph_select.specs.Adjacency.{HaveNumbers, IsBelow, IsNumbered, StepEdges, edges_from, edges_of}
-use Rattle.gm_graph_select.specs.EdgeList.{AreEndsBelow, NumberedEdge, edge_with, numbered_from, numbered_edges}
+use Rattle.gm_graph_select.specs.EdgeList.{AreEndsBelow, NumberedEdge, edge_with}
+use Rattle.gm_graph_select.specs.Private.Adjacency.{numbered_from, numbered_edges}
 use Rattle.gm_name.specs.ModuleVersion.{ModuleVersion}
 use Rattle.std.proofs.lemmas.List.{map-append}
 use Rattle.std.proofs.lemmas.List.Elements.{All-append, All-head, All-map, All-nil, All-tail}

@@ -18,7 +18,8 @@ use Rattle.gm_graph_select.specs.declared.step.Edge.{Edge}
 use Rattle.gm_graph_select.specs.declared.step.Step.{Step}
 use Rattle.gm_graph_select.specs.declared.step.Step.TheVariants.{Main, Of}
 use Rattle.gm_graph_select.specs.Graph.{Edges, among, step_cmp}
-use Rattle.gm_graph_select.specs.StepOrder.{step-anti, step_total}
+use Rattle.gm_graph_select.specs.StepOrder.{step_total}
+use Rattle.gm_graph_select.specs.Private.StepOrder.{step-anti}
 use Rattle.gm_graph_select.specs.BuildList.{Entry, IsAt, IsBuildList, IsEntryOf, IsSelected, entry_of, main_entry, path_cmp, path_of}
 use Rattle.gm_graph_select.specs.Chains.{at_main, along, IsPredecessor, IsChain, begins, goes_on, IsLevel, IsReached, IsRooted}
 use Rattle.gm_graph_select.specs.Laws.{ArePages, no_more, one_more, entries_of_pages, ChainIsShortest, EntriesAreReached, MainIsFirst, OneBuildList, OneChain, OneRest, PagesExist, PagesJoin, RowsAreEnds, RowsSatisfy}

@@ -8,8 +8,8 @@ use Rattle.std.proofs.lemmas.List.Concat.{flat_map-append}
 use Rattle.std.proofs.lemmas.List.Elements.{Contains-append_cases, Contains-append_left, Contains-append_right}
 use Rattle.std.proofs.lemmas.List.Sums.{sum_by-set}
 use Rattle.gm_graph_select.specs.Adjacency.{StepEdges}
-use Rattle.gm_graph_select.specs.Marking.{AreMarked, HasMark}
-use Rattle.gm_graph_select.specs.Searching.{count_left}
+use Rattle.gm_graph_select.specs.Private.Marking.{AreMarked, HasMark}
+use Rattle.gm_graph_select.specs.Private.Searching.{count_left}
 use Rattle.gm_graph_select.proofs.Ascending.{member_head, no_member, one_member}
 
 -- A marked number is one of those that there are.

@@ -1,15 +1,15 @@
 -- Parts of a list of numbers that lie apart.
 use Rattle.std.proofs.Common.{◌≡◌, ◌-◌, ◌+◌, ◌<◌, ◌≤◌, ◌∙◌, ℕ, List, [], ◌∷◌, ◌++◌, ap, ap₂, arith, drop, get_or, length, refl, set, subst, sym, take}
 use Rattle.std.specs.Prelude.{All}
-use Rattle.std.specs.List.{AllZip}
+use Rattle.std.specs.List.{AllZip, between}
 use Rattle.std.proofs.lemmas.List.{drop-set-lt, drop_more, length-append, length-drop, length-set, length-take-le, map-append, take-take, take_all, take_more, take_more_set}
 use Rattle.std.proofs.lemmas.List.Elements.{All-cons, All-nil, AllZip-push}
-use Rattle.std.specs.List.{between}
 use Rattle.std.proofs.lemmas.Slice.{between-put_mid, between_is, drop-put_mid, take-put_mid_below}
 use borrow.Rule.Slice.PartMut.{post_of, put_mid}
 use Rattle.gm_graph_select.specs.declared.number_lists.Span.{Span}
-use Rattle.gm_graph_select.specs.Adjacency.{IsByRanks}
-use Rattle.gm_graph_select.specs.Spans.{AreApart, IsPartByRanks, IsPart, lists_at, part_at}
+use Rattle.gm_graph_select.specs.Private.Adjacency.{IsByRanks}
+use Rattle.gm_graph_select.specs.Spans.{AreApart, lists_at, part_at}
+use Rattle.gm_graph_select.specs.Private.Spans.{IsPartByRanks, IsPart}
 use Rattle.gm_graph_select.proofs.Moving.{same_here, same_later}
 
 -- ---- spans that lie apart

@@ -20,11 +20,12 @@ use Rattle.gm_graph_select.specs.declared.adjacency.Source.{Source}
 use Rattle.gm_graph_select.specs.declared.step.Edge.{Edge}
 use Rattle.gm_graph_select.specs.declared.step.Step.{Step}
 use Rattle.gm_graph_select.specs.declared.step.Step.TheVariants.{Of}
-use Rattle.gm_graph_select.specs.Adjacency.{AreRanked, AreSourcesByRanks, HaveNumbers, IsBelow, IsByRanks, IsNumbered, LeavesLower, StepEdges, by_step, edges_from, edges_of, left_by, list_at, rank_of, same_step, source_by_ranks, step_edges, step_with}
+use Rattle.gm_graph_select.specs.Adjacency.{AreRanked, HaveNumbers, IsBelow, IsNumbered, LeavesLower, StepEdges, by_step, edges_from, edges_of, left_by, list_at, same_step, step_edges, step_with}
+use Rattle.gm_graph_select.specs.Private.Adjacency.{AreSourcesByRanks, IsByRanks, rank_of, source_by_ranks}
 use Rattle.gm_graph_select.specs.Graph.{edge, edge_cmp, step_cmp}
-use Rattle.gm_graph_select.specs.Marking.{HasMark}
+use Rattle.gm_graph_select.specs.Private.Marking.{HasMark}
 use Rattle.gm_graph_select.specs.Order.{HaveSame, IsAscending}
-use Rattle.gm_graph_select.specs.Ranking.{AreRanks}
+use Rattle.gm_graph_select.specs.Private.Ranking.{AreRanks}
 use Rattle.gm_graph_select.specs.StepOrder.{step_eq, step_equiv}
 use Rattle.gm_graph_select.proofs.Ascending.{pairs_append, pairs_head, pairs_tail, same_append}
 use Rattle.gm_graph_select.proofs.Moving.{lower_number}

@@ -14,10 +14,10 @@ use Rattle.std.proofs.lemmas.List.Sorted.{All-permutation, Contains-permutation,
 use Rattle.std.proofs.lemmas.Map.Keys.{IsDistinct-IsPermutation, IsDistinct-from_apart, apart_from_distinct}
 use Rattle.gm_name.specs.ModuleVersion.{ModuleVersion, module_at, pair_cmp, pair_eq, pair_ties, pair_total}
 use Rattle.gm_graph_select.specs.declared.ranking.Numbered.{Numbered}
-use Rattle.gm_graph_select.specs.Adjacency.{rank_of}
-use Rattle.gm_graph_select.specs.Marking.{HasMark}
+use Rattle.gm_graph_select.specs.Private.Adjacency.{rank_of}
+use Rattle.gm_graph_select.specs.Private.Marking.{HasMark}
 use Rattle.gm_graph_select.specs.Order.{IsAscending}
-use Rattle.gm_graph_select.specs.Ranking.{AreMarkedModules, AreRanks, HaveOneVertexEach, IsMarkedModule, IsPlaced, IsRanked}
+use Rattle.gm_graph_select.specs.Private.Ranking.{AreMarkedModules, AreRanks, HaveOneVertexEach, IsMarkedModule, IsPlaced, IsRanked}
 use Rattle.gm_graph_select.proofs.Ascending.{member_cases}
 use Rattle.gm_graph_select.proofs.RankedLists.{from_mapped, in_mapped}
 use Rattle.gm_graph_select.proofs.Marks.{marked_inside}

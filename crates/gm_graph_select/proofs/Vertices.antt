@@ -10,11 +10,12 @@ use Rattle.gm_graph_select.specs.declared.adjacency.Source.{Source}
 use Rattle.gm_graph_select.specs.declared.step.Edge.{Edge}
 use Rattle.gm_graph_select.specs.declared.step.Step.{Step}
 use Rattle.gm_graph_select.specs.declared.step.Step.TheVariants.{Main, Of}
-use Rattle.gm_graph_select.specs.Adjacency.{AreRanked, AreSourcesByRanks, AreUsed, HaveNumbers, IsBelow, IsByRanks, IsNumbered, IsNumberedList, StepEdges, by_step, edges_of, left_by, list_at, same_step, sources_of, step_edges, step_with}
+use Rattle.gm_graph_select.specs.Adjacency.{AreRanked, AreUsed, HaveNumbers, IsBelow, IsNumbered, StepEdges, by_step, edges_of, left_by, list_at, same_step, sources_of, step_edges, step_with}
+use Rattle.gm_graph_select.specs.Private.Adjacency.{AreSourcesByRanks, IsByRanks, IsNumberedList}
 use Rattle.gm_graph_select.specs.Graph.{IsEdgeEnd, among, edge}
-use Rattle.gm_graph_select.specs.Marking.{HasMark, numbers_left, numbers_listed}
+use Rattle.gm_graph_select.specs.Private.Marking.{HasMark, numbers_left, numbers_listed}
 use Rattle.gm_graph_select.specs.Order.{HaveSame, IsAscending}
-use Rattle.gm_graph_select.specs.Ranking.{AreRanks, IsMarkedModule}
+use Rattle.gm_graph_select.specs.Private.Ranking.{AreRanks, IsMarkedModule}
 use Rattle.gm_graph_select.proofs.Ascending.{no_member}
 use Rattle.gm_graph_select.proofs.Marks.{marked_inside, named_by, named_from, named_only, names_from, names_only, names_to, numbers_named}
 use Rattle.gm_graph_select.proofs.RankedLists.{AreByRanks, IsFromMarked, NamesMarked, edges_each, edges_only, from_mapped, in_mapped, lists_are_ranked, same_edges, steps_by_ranks}

@@ -1,7 +1,6 @@
 -- Edges by numbers. The number of a vertex is its place in a list of vertices.
 use Rattle.std.specs.Prelude.{◌≡◌, ◌≢◌, ◌<◌, ◌++◌, ⊤, ℕ, Bool, All, AllPairs, Contains, List, [], ◌∷◌, Option, None, Some, length, map, slice_index_or}
-use Rattle.std.specs.List.Sorted.{IsPermutation, IsSortedByKey}
-use Rattle.std.specs.Option.{option_cmp, option_map}
+use Rattle.std.specs.Option.{option_cmp}
 use Rattle.std.specs.Ordering.{nat_cmp}
 use Rattle.std.specs.declared.cmp.Ordering.TheVariants.{Less}
 use Rattle.gm_name.specs.ModuleVersion.{ModuleVersion, module_at, pair_cmp}
@@ -10,7 +9,7 @@ use Rattle.gm_graph_select.specs.declared.step.Edge.{Edge}
 use Rattle.gm_graph_select.specs.declared.step.Step.{Step}
 use Rattle.gm_graph_select.specs.declared.step.Step.TheVariants.{Main, Of}
 use Rattle.gm_graph_select.specs.Graph.{edge}
-use Rattle.gm_graph_select.specs.Order.{HaveSame, IsAscending}
+use Rattle.gm_graph_select.specs.Order.{IsAscending}
 use Rattle.gm_graph_select.specs.StepOrder.{step_eq}
 
 -- the edges that leave one step, by the numbers of the vertices that they lead to
@@ -74,28 +73,6 @@ abbrev pub HaveNumbers : ℕ → List StepEdges → Type 0
 HaveNumbers count all = All (IsNumbered count) all
 
 -- ---- ranks
-
--- the rank of the vertex with a number
-abbrev pub rank_of : List ℕ → ℕ → ℕ
-rank_of ranks number = slice_index_or ranks number 0
-
--- Each number of a list is that of one of so many vertices.
-abbrev pub IsNumberedList : ℕ → List ℕ → Type 0
-IsNumberedList count list = All (λ number. number < count) list
-
--- The new list has ranks in the places of the old one's numbers, in ascending order.
-pub record IsByRanks (ranks old new : List ℕ) : Type 0 where
-  pub ascending : IsAscending nat_cmp new
-  pub members : HaveSame (map (rank_of ranks) old) new
-
--- the source, with the rank of its step in the place of the number
-abbrev pub source_by_ranks : List ℕ → Source → Source
-source_by_ranks ranks one = record { from = option_map (rank_of ranks) one.from; list = one.list }
-
--- The new sources have ranks in the places of the old ones' numbers, and are in ascending order of these.
-pub record AreSourcesByRanks (ranks : List ℕ) (old new : List Source) : Type 0 where
-  pub permutation : IsPermutation (map (source_by_ranks ranks) old) new
-  pub sorted : IsSortedByKey (λ one. one.from) (option_cmp nat_cmp) new
 
 -- Edges leave a lower step than others, if numbers are ranks: the main module comes first.
 abbrev pub LeavesLower : StepEdges → StepEdges → Type 0

@@ -1,24 +1,17 @@
 -- The edges that leave steps, one after the other.
-use Rattle.std.specs.Prelude.{◌<◌, ℕ, Option, None, Some, List, map}
+use Rattle.std.specs.Prelude.{◌<◌, ℕ, Option, None, Some, List}
 use Rattle.std.specs.Borrow.{Bor}
-use Rattle.std.specs.List.{flat_map}
 use Rattle.gm_name.specs.ModuleVersion.{ModuleVersion, module_at}
 use Rattle.gm_graph_select.specs.declared.edge_list.EdgeRef.{EdgeRef}
 use Rattle.gm_graph_select.specs.declared.step.Edge.{Edge}
 use Rattle.gm_graph_select.specs.declared.step.Step.{Step}
 use Rattle.gm_graph_select.specs.declared.step.Step.TheVariants.{Main, Of}
-use Rattle.gm_graph_select.specs.Adjacency.{IsBelow, StepEdges, step_with}
+use Rattle.gm_graph_select.specs.Adjacency.{IsBelow, step_with}
 use Rattle.gm_graph_select.specs.Graph.{edge}
 
 -- an edge by the numbers of its ends
 abbrev pub NumberedEdge : Type 0
 NumberedEdge = Option ℕ × ℕ
-
-abbrev pub numbered_from : Option ℕ → List ℕ → List NumberedEdge
-numbered_from from to = map (λ number. (from, number)) to
-
-abbrev pub numbered_edges : List StepEdges → List NumberedEdge
-numbered_edges all = flat_map (λ one. numbered_from one.from one.to) all
 
 abbrev pub edge_with : List ModuleVersion → NumberedEdge → Edge
 edge_with vertices pair = edge (step_with vertices pair.0) (module_at vertices pair.1)

@@ -1,7 +1,7 @@
 pub mod Graph
 pub mod Adjacency
 pub mod EdgeList
-pub mod Marking
+pub mod Private
 pub mod Spans
 pub mod StepOrder
 pub mod Order
@@ -9,6 +9,3 @@ pub mod BuildList
 pub mod Greatest
 pub mod Chains
 pub mod Laws
-pub mod Numbering
-pub mod Searching
-pub mod Ranking

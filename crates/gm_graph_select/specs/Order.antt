@@ -1,6 +1,5 @@
 -- Lists without duplicates in ascending order.
-use Rattle.std.specs.Prelude.{◌≡◌, ◌↔◌, List, [], ◌∷◌, Contains, AllPairs}
-use Rattle.std.specs.BTreeSet.{insert_key}
+use Rattle.std.specs.Prelude.{◌≡◌, ◌↔◌, List, Contains, AllPairs}
 use Rattle.std.specs.declared.cmp.Ordering.{Ordering}
 use Rattle.std.specs.declared.cmp.Ordering.TheVariants.{Less, Equal}
 
@@ -11,11 +10,6 @@ IsAscending cmp xs = AllPairs (λ a b. cmp a b ≡ Less) xs
 -- The two lists have the same members.
 abbrev pub HaveSame : {T : Type 0} → List T → List T → Type 0
 HaveSame {T} xs ys = (x : T) → Contains xs x ↔ Contains ys x
-
--- the members of a list in strictly ascending order
-abbrev pub in_order : {T : Type 0} → (T → T → Ordering) → List T → List T
-in_order cmp [] = []
-in_order cmp (x ∷ xs) = insert_key cmp (in_order cmp xs) x
 
 -- Members of the list that compare as equal are the same.
 abbrev pub TiesAreEqual : {T : Type 0} → (T → T → Ordering) → List T → Type 0

@@ -1,14 +1,12 @@
 -- The orders of steps and edges are total, and only equal ones compare as equal.
-use Rattle.std.proofs.Common.{◌≡◌, ◌≢◌, Bool, ap, refl, sym, Some}
-use Rattle.std.specs.Cmp.{IsEquivalence, IsPartialOrder, IsTotalOrder, eq_by_cmp_equiv, po, on_total, then_total}
+use Rattle.std.proofs.Common.{◌≡◌, ◌≢◌, Bool, refl, sym, Some}
+use Rattle.std.specs.Cmp.{IsEquivalence, IsPartialOrder, IsTotalOrder, eq_by_cmp_equiv, po}
 use Rattle.std.specs.Ordering.{eq_by_cmp, ordering_reverse}
 use Rattle.std.specs.declared.cmp.Ordering.TheVariants.{Less, Equal, Greater}
 use Rattle.gm_name.specs.ModuleVersion.{pair_total}
-use Rattle.gm_name.specs.Private.ModuleVersion.{pair-anti}
 use Rattle.gm_graph_select.specs.declared.step.Step.{Step}
 use Rattle.gm_graph_select.specs.declared.step.Step.TheVariants.{Main, Of}
-use Rattle.gm_graph_select.specs.declared.step.Edge.{Edge}
-use Rattle.gm_graph_select.specs.Graph.{edge_cmp, step_cmp}
+use Rattle.gm_graph_select.specs.Graph.{step_cmp}
 
 less_not_greater : Less ≢ Greater
 less_not_greater e = cc
@@ -37,13 +35,6 @@ step_total = record { antisymm = antisymm; trans = trans; congr = congr }
     congr (Of x) (Of y) Main e = refl
     congr (Of x) (Of y) (Of z) e = pair_total.congr x y z e
 
--- Two steps that compare as equal are the same.
-pub step-anti : (s t : Step) → step_cmp s t ≡ Equal → s ≡ t
-step-anti Main Main e = refl
-step-anti Main (Of y) e = cc
-step-anti (Of x) Main e = cc
-step-anti (Of x) (Of y) e = ap Of (pair-anti x y e)
-
 -- Whether two steps are the same.
 abbrev pub step_eq : Step → Step → Bool
 step_eq s t = eq_by_cmp step_cmp s t
@@ -53,6 +44,3 @@ step_equiv = eq_by_cmp_equiv step_total
 
 pub step_po : IsPartialOrder step_eq (λ s t. Some (step_cmp s t))
 step_po = po step_total (λ s t. refl)
-
-pub edge_total : IsTotalOrder edge_cmp
-edge_total = then_total (on_total (λ (a : Edge). a.from) step_total) (on_total (λ (a : Edge). a.to) pair_total)

@@ -5,7 +5,8 @@
 
 ghost use Rattle.std.specs.Prelude.{◌≡◌, ◌<◌, ◌≤◌, All, length, map, take};
 ghost use Rattle.std.specs.Option.{option_map};
-ghost use Rattle.gm_graph_select.specs.Adjacency.{AreSourcesByRanks, IsBelow, IsByRanks, IsNumberedList, rank_of, source_by_ranks};
+ghost use Rattle.gm_graph_select.specs.Adjacency.{IsBelow};
+ghost use Rattle.gm_graph_select.specs.Private.Adjacency.{AreSourcesByRanks, IsByRanks, IsNumberedList, rank_of, source_by_ranks};
 
 use crate::sorting::put_in_order;
 

@@ -3,7 +3,8 @@
 ghost use Rattle.std.specs.Prelude.{◌≡◌, ◌∷◌, [], IfNone, IfOk, IfSome, length};
 ghost use Rattle.std.specs.Iterator.{YieldsFirst, YieldsFirstBy, item_count};
 ghost use Rattle.gm_graph_select.specs.Adjacency.{HaveNumbers, IsBelow, by_step, edges_of, step_with};
-ghost use Rattle.gm_graph_select.specs.EdgeList.{edge_of_ref, numbered_edges, step_of_ref};
+ghost use Rattle.gm_graph_select.specs.EdgeList.{edge_of_ref, step_of_ref};
+ghost use Rattle.gm_graph_select.specs.Private.Adjacency.{numbered_edges};
 
 use crate::adjacency::Source;
 use crate::number_lists::NumberLists;
@@ -28,7 +29,8 @@ pub(crate) struct Pairs<'a> {
 impl<'a> Model for Pairs<'a> {
     ghost use Rattle.std.specs.Prelude.{◌++◌, List};
     ghost use Rattle.gm_graph_select.specs.Adjacency.{by_step};
-    ghost use Rattle.gm_graph_select.specs.EdgeList.{NumberedEdge, numbered_from, numbered_edges};
+    ghost use Rattle.gm_graph_select.specs.EdgeList.{NumberedEdge};
+    ghost use Rattle.gm_graph_select.specs.Private.Adjacency.{numbered_from, numbered_edges};
 
     ghost Value = { List NumberedEdge };
 

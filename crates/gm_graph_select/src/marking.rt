@@ -2,8 +2,9 @@
 
 ghost use Rattle.std.specs.Prelude.{◌≡◌, ◌↔◌, ◌<◌, ◌++◌, All, Contains, IfOk, length, ℕ};
 ghost use Rattle.std.specs.Option.{option_to_list};
-ghost use Rattle.gm_graph_select.specs.Adjacency.{IsBelow, IsNumberedList};
-ghost use Rattle.gm_graph_select.specs.Marking.{AreMarked, HasMark, numbers_left, numbers_listed};
+ghost use Rattle.gm_graph_select.specs.Adjacency.{IsBelow};
+ghost use Rattle.gm_graph_select.specs.Private.Adjacency.{IsNumberedList};
+ghost use Rattle.gm_graph_select.specs.Private.Marking.{AreMarked, HasMark, numbers_left, numbers_listed};
 
 use crate::adjacency::Source;
 use crate::number_lists::NumberLists;

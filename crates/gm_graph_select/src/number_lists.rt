@@ -4,8 +4,10 @@
 
 ghost use Rattle.std.specs.Prelude.{◌≡◌, ◌≤◌, All, length};
 ghost use Rattle.std.specs.List.{AllZip};
-ghost use Rattle.gm_graph_select.specs.Adjacency.{IsByRanks, IsNumberedList, list_at};
-ghost use Rattle.gm_graph_select.specs.Spans.{AreApart, IsPartByRanks, IsPart, lists_at, part_at};
+ghost use Rattle.gm_graph_select.specs.Adjacency.{list_at};
+ghost use Rattle.gm_graph_select.specs.Private.Adjacency.{IsByRanks, IsNumberedList};
+ghost use Rattle.gm_graph_select.specs.Spans.{AreApart, lists_at, part_at};
+ghost use Rattle.gm_graph_select.specs.Private.Spans.{IsPartByRanks, IsPart};
 
 use crate::adjacency::rank_list;
 use std::marker::Model;

@@ -5,7 +5,7 @@
 ghost use Rattle.std.specs.Prelude.{◌≡◌, ◌<◌, [], Contains, IfNone, IfSome, length};
 ghost use Rattle.gm_name.specs.ModuleVersion.{module_at};
 ghost use Rattle.gm_graph_select.specs.declared.step.Step.TheVariants.{Main, Of};
-ghost use Rattle.gm_graph_select.specs.Numbering.{AreInList, AreLeaving, HasList, IsGraph, number_left, step_at, steps_of};
+ghost use Rattle.gm_graph_select.specs.Private.Numbering.{AreInList, AreLeaving, HasList, IsGraph, number_left, step_at, steps_of};
 
 use crate::adjacency::Source;
 use crate::graph::Graph;

@@ -4,7 +4,7 @@ ghost use Rattle.std.specs.Prelude.{◌≡◌, ◌↔◌, ◌<◌, ◌≤◌, �
 ghost use Rattle.std.specs.List.{IsDistinct};
 ghost use Rattle.gm_name.specs.ModuleVersion.{ModuleVersion, pair_cmp, pair_eq};
 ghost use Rattle.gm_graph_select.specs.Order.{IsAscending};
-ghost use Rattle.gm_graph_select.specs.Ranking.{AreMarkedModules, AreRanks, HaveOneVertexEach, IsMarkedModule, IsRanked};
+ghost use Rattle.gm_graph_select.specs.Private.Ranking.{AreMarkedModules, AreRanks, HaveOneVertexEach, IsMarkedModule, IsRanked};
 
 use gm_name::ModVer;
 use std::alloc::{AllocError, Global};

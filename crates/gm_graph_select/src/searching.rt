@@ -15,8 +15,8 @@ ghost use Rattle.gm_graph_select.specs.declared.step.Step.TheVariants.{Of};
 ghost use Rattle.gm_graph_select.specs.Adjacency.{GraphView};
 ghost use Rattle.gm_graph_select.specs.Order.{HaveSame};
 ghost use Rattle.gm_graph_select.specs.Chains.{IsReached};
-ghost use Rattle.gm_graph_select.specs.Numbering.{IsGraph, graph_edges, steps_of};
-ghost use Rattle.gm_graph_select.specs.Searching.{AreTried, IsFollowed, IsNextEdge, IsSearchedTo, IsTracedTo, IsVisitedNext, first_state, state_of};
+ghost use Rattle.gm_graph_select.specs.Private.Numbering.{IsGraph, graph_edges, steps_of};
+ghost use Rattle.gm_graph_select.specs.Private.Searching.{AreTried, IsFollowed, IsNextEdge, IsSearchedTo, IsTracedTo, IsVisitedNext, first_state, state_of};
 
 use crate::graph::Graph;
 use crate::sorting::sorted;

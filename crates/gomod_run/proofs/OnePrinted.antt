@@ -9,7 +9,7 @@ use Rattle.gm_graph_select.specs.declared.step.Edge.{Edge}
 use Rattle.gm_graph_select.specs.BuildList.{Entry, HasEntryFor, IsBuildList, IsRestAfter}
 use Rattle.gm_graph_select.specs.Chains.{IsChain}
 use Rattle.gm_graph_select.specs.Graph.{Edges, among}
-use Rattle.gm_graph_select.specs.StepOrder.{edge_total}
+use Rattle.gm_graph_select.specs.Private.StepOrder.{edge_total}
 use Rattle.gm_graph_select.proofs.Ascending.{same_lists}
 use Rattle.gm_graph_select.proofs.Lawful.{one_chain, same_build_lists}
 use Rattle.gm_graph_select.proofs.RestRows.{entry_listed, one_at, one_entry, texts_differ, texts_same}

@@ -1,7 +1,7 @@
 use Rattle.std.proofs.Common.{◌<◌, ℕ, arith, get_or, length}
 use Rattle.std.proofs.lemmas.List.{get_or_default}
 use Rattle.std.proofs.lemmas.List.Edits.{map_over_more}
-use Rattle.gm_graph_select.specs.Adjacency.{rank_of}
+use Rattle.gm_graph_select.specs.Private.Adjacency.{rank_of}
 use Rattle.gm_graph_select.proofs.adjacency.put_ranks.Goals as goal
 
 pub loop-number-preserved : goal.loop-number-preserved

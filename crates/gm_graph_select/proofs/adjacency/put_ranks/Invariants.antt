@@ -1,5 +1,5 @@
 use Rattle.std.proofs.Common.{◌≡◌, ◌++◌, drop, map, take}
-use Rattle.gm_graph_select.specs.Adjacency.{rank_of}
+use Rattle.gm_graph_select.specs.Private.Adjacency.{rank_of}
 use Rattle.gm_graph_select.proofs.adjacency.put_ranks.Given as goal
 
 abbrev pub invariant-loop-number : goal.invariant-loop-number

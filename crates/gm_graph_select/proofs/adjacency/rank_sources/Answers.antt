@@ -2,7 +2,7 @@ use Rattle.std.proofs.Common.{◌≡◌, ◌<◌, ◌+◌, ◌++◌, None, Optio
 use Rattle.std.proofs.lemmas.List.{get_or_default}
 use Rattle.std.proofs.lemmas.List.Edits.{map_over_more}
 use Rattle.gm_graph_select.specs.declared.adjacency.Source.{Source}
-use Rattle.gm_graph_select.specs.Adjacency.{source_by_ranks}
+use Rattle.gm_graph_select.specs.Private.Adjacency.{source_by_ranks}
 use Rattle.gm_graph_select.proofs.adjacency.rank_sources.Goals as goal
 
 pub loop-one-preserved : goal.loop-one-preserved

@@ -1,5 +1,5 @@
 use Rattle.std.proofs.Common.{◌≡◌, ◌++◌, drop, map, take}
-use Rattle.gm_graph_select.specs.Adjacency.{source_by_ranks}
+use Rattle.gm_graph_select.specs.Private.Adjacency.{source_by_ranks}
 use Rattle.gm_graph_select.proofs.adjacency.rank_sources.Given as goal
 
 abbrev pub invariant-loop-one : goal.invariant-loop-one

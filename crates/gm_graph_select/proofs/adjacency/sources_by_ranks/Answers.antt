@@ -3,7 +3,7 @@ use Rattle.std.specs.List.Sorted.{IsPermutation}
 use Rattle.std.proofs.lemmas.List.{take_at}
 use Rattle.std.proofs.lemmas.Fn.{always_returns_same}
 use Rattle.gm_graph_select.specs.declared.adjacency.Source.{Source}
-use Rattle.gm_graph_select.specs.Adjacency.{source_by_ranks}
+use Rattle.gm_graph_select.specs.Private.Adjacency.{source_by_ranks}
 use Rattle.gm_graph_select.proofs.adjacency.sources_by_ranks.Goals as goal
 
 pub returns : goal.returns

@@ -2,8 +2,8 @@ use Rattle.std.proofs.Common.{◌≡◌, ◌∙◌, ◌++◌, ◌∷◌, [], Lis
 use Rattle.gm_name.specs.ModuleVersion.{ModuleVersion, module_at}
 use Rattle.gm_graph_select.specs.declared.step.Step.{Step}
 use Rattle.gm_graph_select.specs.declared.step.Step.TheVariants.{Main, Of}
-use Rattle.gm_graph_select.specs.Numbering.{graph_edges, steps_of}
-use Rattle.gm_graph_select.specs.Searching.{visited_step}
+use Rattle.gm_graph_select.specs.Private.Numbering.{graph_edges, steps_of}
+use Rattle.gm_graph_select.specs.Private.Searching.{visited_step}
 use Rattle.gm_graph_select.proofs.BreadthFirst.{back_begins, back_done, back_longer, back_more}
 use Rattle.gm_graph_select.proofs.chaining.walk_back.Goals as goal
 

@@ -3,8 +3,8 @@ use Rattle.gm_name.specs.ModuleVersion.{module_at}
 use Rattle.gm_graph_select.specs.declared.step.Step.{Step}
 use Rattle.gm_graph_select.specs.declared.step.Step.TheVariants.{Of}
 use Rattle.gm_graph_select.specs.Chains.{IsChain}
-use Rattle.gm_graph_select.specs.Numbering.{graph_edges, steps_of}
-use Rattle.gm_graph_select.specs.Searching.{visited_step}
+use Rattle.gm_graph_select.specs.Private.Numbering.{graph_edges, steps_of}
+use Rattle.gm_graph_select.specs.Private.Searching.{visited_step}
 use Rattle.gm_graph_select.proofs.chaining.walk_back.Given as goal
 
 -- A chain to the visited step, followed by the steps on the way back, is a chain to the goal.

@@ -1,6 +1,6 @@
 use Rattle.std.proofs.Common.{◌≡◌, drop}
 use Rattle.gm_graph_select.specs.Adjacency.{by_step}
-use Rattle.gm_graph_select.specs.EdgeList.{numbered_edges}
+use Rattle.gm_graph_select.specs.Private.Adjacency.{numbered_edges}
 use Rattle.gm_graph_select.proofs.edge_list.first_of.Given as goal
 
 -- No edge leaves the sources so far.

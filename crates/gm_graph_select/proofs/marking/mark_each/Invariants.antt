@@ -1,5 +1,5 @@
 use Rattle.std.proofs.Common.{take}
-use Rattle.gm_graph_select.specs.Marking.{AreMarked}
+use Rattle.gm_graph_select.specs.Private.Marking.{AreMarked}
 use Rattle.gm_graph_select.proofs.marking.mark_each.Given as goal
 
 abbrev pub invariant-loop-number : goal.invariant-loop-number

@@ -1,5 +1,5 @@
 use Rattle.std.proofs.Common.{take}
-use Rattle.gm_graph_select.specs.Marking.{AreMarked, numbers_left}
+use Rattle.gm_graph_select.specs.Private.Marking.{AreMarked, numbers_left}
 use Rattle.gm_graph_select.proofs.marking.mark_sources.Given as goal
 
 abbrev pub invariant-loop-one : goal.invariant-loop-one

@@ -1,6 +1,6 @@
 use Rattle.std.proofs.Common.{◌≡◌, ◌∙◌, Bool, List, arith, false, inl, inr, length, of_calls, replicate, rules, subst, sym}
 use Rattle.std.proofs.lemmas.List.{take_at}
-use Rattle.gm_graph_select.specs.Marking.{AreMarked, HasMark, numbers_left, numbers_listed}
+use Rattle.gm_graph_select.specs.Private.Marking.{AreMarked, HasMark, numbers_left, numbers_listed}
 use Rattle.gm_graph_select.proofs.Marks.{both_marked, none_marked}
 use Rattle.gm_graph_select.proofs.marking.marks_of.Goals as goal
 

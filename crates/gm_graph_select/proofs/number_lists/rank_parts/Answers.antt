@@ -1,7 +1,7 @@
 use Rattle.std.proofs.Common.{◌<◌, ◌∙◌, List, arith, get_or, length, subst, sym, ℕ}
 use Rattle.std.proofs.lemmas.List.{get_or-map, get_or_default, length-map}
 use Rattle.gm_graph_select.specs.declared.number_lists.Span.{Span}
-use Rattle.gm_graph_select.specs.Adjacency.{IsNumberedList}
+use Rattle.gm_graph_select.specs.Private.Adjacency.{IsNumberedList}
 use Rattle.gm_graph_select.specs.Spans.{part_at}
 use Rattle.gm_graph_select.proofs.Parts.{all_apart, all_ranked, one_ranked, part_is, within_now}
 use Rattle.gm_graph_select.proofs.number_lists.rank_parts.Goals as goal

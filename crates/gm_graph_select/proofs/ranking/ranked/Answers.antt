@@ -4,7 +4,7 @@ use Rattle.gm_name.specs.ModuleVersion.{ModuleVersion, pair_cmp}
 use Rattle.gm_graph_select.specs.declared.ranking.Numbered.{Numbered}
 use Rattle.gm_graph_select.specs.declared.ranking.Ranking.{Ranking}
 use Rattle.gm_graph_select.specs.Order.{IsAscending}
-use Rattle.gm_graph_select.specs.Ranking.{AreRanks, IsMarkedModule, IsRanked}
+use Rattle.gm_graph_select.specs.Private.Ranking.{AreRanks, IsMarkedModule, IsRanked}
 use Rattle.gm_graph_select.proofs.Ranks.{few_ordered, marked_modules, numbers_within, one_vertex_each, ranks_are, vertices_ascend}
 use Rattle.gm_graph_select.proofs.ranking.ranked.Goals as goal
 

@@ -4,7 +4,7 @@ use Rattle.std.proofs.lemmas.List.Elements.{All-contains}
 use Rattle.std.specs.Vec.Iter.{into_iter_items}
 use Rattle.gm_name.specs.ModuleVersion.{ModuleVersion}
 use Rattle.gm_graph_select.specs.declared.ranking.Numbered.{Numbered}
-use Rattle.gm_graph_select.specs.Ranking.{IsRanked}
+use Rattle.gm_graph_select.specs.Private.Ranking.{IsRanked}
 use Rattle.gm_graph_select.proofs.Ascending.{member_head, member_tail}
 use Rattle.gm_graph_select.proofs.Ranks.{fewer, next_ranked, next_vertices}
 use Rattle.gm_graph_select.proofs.ranking.ranking_of.Goals as goal

@@ -1,7 +1,7 @@
 use Rattle.std.proofs.Common.{◌≡◌, ◌⊎◌, ◌++◌, Contains, length, map}
 use Rattle.std.specs.Vec.Iter.{into_iter_items}
 use Rattle.gm_graph_select.specs.declared.ranking.Numbered.{Numbered}
-use Rattle.gm_graph_select.specs.Ranking.{IsRanked}
+use Rattle.gm_graph_select.specs.Private.Ranking.{IsRanked}
 use Rattle.gm_graph_select.proofs.ranking.ranking_of.Given as goal
 
 abbrev pub invariant-loop-next : goal.invariant-loop-next

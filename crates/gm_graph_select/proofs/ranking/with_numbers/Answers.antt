@@ -2,7 +2,7 @@ use Rattle.std.proofs.Common.{◌≡◌, ◌∷◌, ◌++◌, ◌∙◌, [], Lis
 use Rattle.std.specs.Vec.Iter.{into_iter_items}
 use Rattle.gm_name.specs.ModuleVersion.{ModuleVersion}
 use Rattle.gm_graph_select.specs.declared.ranking.Numbered.{Numbered}
-use Rattle.gm_graph_select.specs.Ranking.{AreMarkedModules}
+use Rattle.gm_graph_select.specs.Private.Ranking.{AreMarkedModules}
 use Rattle.gm_graph_select.proofs.Ranks.{next_module, next_numbered}
 use Rattle.gm_graph_select.proofs.ranking.with_numbers.Goals as goal
 

@@ -1,6 +1,6 @@
 use Rattle.std.proofs.Common.{◌≡◌, ◌≤◌, ◌++◌, length, take}
 use Rattle.std.specs.Vec.Iter.{into_iter_items}
-use Rattle.gm_graph_select.specs.Ranking.{AreMarkedModules}
+use Rattle.gm_graph_select.specs.Private.Ranking.{AreMarkedModules}
 use Rattle.gm_graph_select.proofs.ranking.with_numbers.Given as goal
 
 abbrev pub invariant-loop-vertex : goal.invariant-loop-vertex

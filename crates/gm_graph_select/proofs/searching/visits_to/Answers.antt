@@ -2,7 +2,7 @@ use Rattle.std.proofs.Common.{◌∙◌, suc, List, ap, refl, subst, sym, arith,
 use Rattle.std.proofs.lemmas.Bool.{eqb-false}
 use Rattle.gm_name.specs.ModuleVersion.{module_at}
 use Rattle.gm_graph_select.specs.declared.searching.Visit.{Visit}
-use Rattle.gm_graph_select.specs.Searching.{AreTried, IsSearchedTo, State, count_left, state_of}
+use Rattle.gm_graph_select.specs.Private.Searching.{AreTried, IsSearchedTo, State, count_left, state_of}
 use Rattle.gm_graph_select.proofs.BreadthFirst.{first_level, level_more, no_due, not_reached}
 use Rattle.gm_graph_select.proofs.searching.visits_to.Goals as goal
 

@@ -1,6 +1,6 @@
 use Rattle.std.proofs.Common.{◌+◌, ℕ, length}
 use Rattle.gm_name.specs.ModuleVersion.{module_at}
-use Rattle.gm_graph_select.specs.Searching.{IsSearchedTo, count_left, state_of}
+use Rattle.gm_graph_select.specs.Private.Searching.{IsSearchedTo, count_left, state_of}
 use Rattle.gm_graph_select.proofs.searching.visits_to.Given as goal
 
 abbrev pub invariant-levels : goal.invariant-levels

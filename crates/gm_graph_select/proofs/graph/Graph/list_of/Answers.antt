@@ -5,7 +5,7 @@ use Rattle.std.specs.declared.cmp.Ordering.TheVariants.{Less, Equal, Greater}
 use Rattle.std.proofs.lemmas.Fn.{always_returns_same}
 use Rattle.gm_graph_select.specs.declared.adjacency.Source.{Source}
 use Rattle.gm_graph_select.specs.Adjacency.{GraphView}
-use Rattle.gm_graph_select.specs.Numbering.{AreLeaving, HasList, number_left, steps_of}
+use Rattle.gm_graph_select.specs.Private.Numbering.{AreLeaving, HasList, number_left, steps_of}
 use Rattle.gm_graph_select.proofs.NumberedSteps.{source_found, source_not_found}
 use Rattle.gm_graph_select.proofs.graph.Graph.list_of.Goals as goal
 

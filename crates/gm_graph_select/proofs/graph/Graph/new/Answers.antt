@@ -1,7 +1,8 @@
 use Rattle.std.proofs.Common.{◌≡◌, ◌∙◌, List, ap, arith, length, ℕ, subst, sym}
 use Rattle.std.specs.Prelude.{All}
 use Rattle.gm_graph_select.specs.declared.adjacency.Source.{Source}
-use Rattle.gm_graph_select.specs.Adjacency.{IsBelow, IsNumberedList, by_step}
+use Rattle.gm_graph_select.specs.Adjacency.{IsBelow, by_step}
+use Rattle.gm_graph_select.specs.Private.Adjacency.{IsNumberedList}
 use Rattle.gm_graph_select.specs.Spans.{lists_at}
 use Rattle.gm_graph_select.proofs.RankedLists.{ranked_edges_ascend}
 use Rattle.gm_graph_select.proofs.Vertices.{is_graph_of, lists_below, sources_below}

@@ -6,7 +6,7 @@ use Rattle.std.specs.declared.cmp.Ordering.TheVariants.{Less, Greater}
 use Rattle.gm_name.specs.ModuleVersion.{ModuleVersion, module_at, pair_cmp}
 use Rattle.gm_name.specs.Private.ModuleVersion.{pair-anti}
 use Rattle.gm_graph_select.specs.Adjacency.{GraphView, by_step}
-use Rattle.gm_graph_select.specs.Numbering.{IsGraph}
+use Rattle.gm_graph_select.specs.Private.Numbering.{IsGraph}
 use Rattle.gm_graph_select.proofs.NumberedSteps.{is_graph, vertex_not_found}
 use Rattle.gm_graph_select.proofs.graph.Graph.rank_of.Goals as goal
 

@@ -1,6 +1,6 @@
 use Rattle.std.proofs.Common.{List, ℕ, subst, sym}
 use Rattle.gm_graph_select.specs.Adjacency.{GraphView}
-use Rattle.gm_graph_select.specs.Numbering.{AreInList}
+use Rattle.gm_graph_select.specs.Private.Numbering.{AreInList}
 use Rattle.gm_graph_select.proofs.NumberedSteps.{its_graph, ranks_found}
 use Rattle.gm_graph_select.proofs.graph.Graph.ranks_in.Goals as goal
 

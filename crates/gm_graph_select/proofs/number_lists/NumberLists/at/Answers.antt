@@ -1,6 +1,6 @@
 use Rattle.std.proofs.Common.{◌<◌, ◌∙◌, List, ap, get_or, length, subst, sym, ℕ}
 use Rattle.gm_graph_select.specs.declared.number_lists.Span.{Span}
-use Rattle.gm_graph_select.specs.Spans.{IsPart}
+use Rattle.gm_graph_select.specs.Private.Spans.{IsPart}
 use Rattle.gm_graph_select.proofs.Parts.{all_within}
 use Rattle.gm_graph_select.proofs.number_lists.NumberLists.at.Goals as goal
 

@@ -1,7 +1,7 @@
 use Rattle.std.proofs.Common.{◌≡◌, ◌++◌, ◌∷◌, ◌∙◌, [], true, false, List, get_or, set, subst, sym}
 use Rattle.std.proofs.lemmas.List.{get_or_default}
 use Rattle.gm_graph_select.specs.declared.searching.Visit.{Visit}
-use Rattle.gm_graph_select.specs.Searching.{IsFollowed, state_of}
+use Rattle.gm_graph_select.specs.Private.Searching.{IsFollowed, state_of}
 use Rattle.gm_graph_select.proofs.BreadthFirst.{new_end, old_end}
 use Rattle.gm_graph_select.proofs.searching.Search.follow.Goals as goal
 

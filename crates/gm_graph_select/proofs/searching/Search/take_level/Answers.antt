@@ -2,7 +2,7 @@ use Rattle.std.proofs.Common.{◌∙◌, List, ap, arith, length, subst}
 use Rattle.std.specs.Ordering.{nat_cmp}
 use Rattle.gm_graph_select.specs.declared.searching.Visit.{Visit}
 use Rattle.gm_graph_select.specs.Order.{HaveSame}
-use Rattle.gm_graph_select.specs.Searching.{state_of}
+use Rattle.gm_graph_select.specs.Private.Searching.{state_of}
 use Rattle.gm_graph_select.proofs.Sorts.{numbers_ascend}
 use Rattle.gm_graph_select.proofs.searching.Search.take_level.Goals as goal
 

@@ -4,8 +4,8 @@ use Rattle.std.proofs.lemmas.List.{length-map}
 use Rattle.gm_name.specs.ModuleVersion.{ModuleVersion, module_at}
 use Rattle.gm_graph_select.specs.declared.step.Edge.{Edge}
 use Rattle.gm_graph_select.specs.declared.step.Step.TheVariants.{Of}
-use Rattle.gm_graph_select.specs.Numbering.{edge_leaving, edges_leaving, graph_edges, step_at, steps_of}
-use Rattle.gm_graph_select.specs.Searching.{IsFollowed, State, state_of}
+use Rattle.gm_graph_select.specs.Private.Numbering.{edge_leaving, edges_leaving, graph_edges, step_at, steps_of}
+use Rattle.gm_graph_select.specs.Private.Searching.{IsFollowed, State, state_of}
 use Rattle.gm_graph_select.proofs.BreadthFirst.{found_here, last_visit, list_passed, one_more, one_tried, turn_later, visited_now, with_passed}
 use Rattle.gm_graph_select.proofs.NumberedSteps.{same_rank, step_of_rank}
 use Rattle.gm_graph_select.proofs.searching.Search.visit.Goals as goal

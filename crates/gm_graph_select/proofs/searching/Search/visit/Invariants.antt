@@ -1,8 +1,8 @@
 use Rattle.std.proofs.Common.{◌≡◌, ◌++◌, ◌∷◌, [], ℕ, Bool, List, length, take}
 use Rattle.gm_name.specs.ModuleVersion.{module_at}
 use Rattle.gm_graph_select.specs.declared.step.Edge.{Edge}
-use Rattle.gm_graph_select.specs.Numbering.{edges_leaving, steps_of}
-use Rattle.gm_graph_select.specs.Searching.{IsVisitedNext, IsFollowed, state_of}
+use Rattle.gm_graph_select.specs.Private.Numbering.{edges_leaving, steps_of}
+use Rattle.gm_graph_select.specs.Private.Searching.{IsVisitedNext, IsFollowed, state_of}
 use Rattle.gm_graph_select.proofs.searching.Search.visit.Given as goal
 
 abbrev pub invariant-loop-rank : goal.invariant-loop-rank

@@ -4,8 +4,8 @@ use Rattle.std.proofs.lemmas.List.{get_or_default}
 use Rattle.std.proofs.lemmas.List.Elements.{Contains-get_or}
 use Rattle.gm_name.specs.ModuleVersion.{module_at}
 use Rattle.gm_graph_select.specs.declared.searching.Visit.{Visit}
-use Rattle.gm_graph_select.specs.Numbering.{graph_edges, steps_of}
-use Rattle.gm_graph_select.specs.Searching.{AreTried, IsTraced, state_of, visit_at}
+use Rattle.gm_graph_select.specs.Private.Numbering.{graph_edges, steps_of}
+use Rattle.gm_graph_select.specs.Private.Searching.{AreTried, IsTraced, state_of, visit_at}
 use Rattle.gm_graph_select.proofs.Ascending.{no_member}
 use Rattle.gm_graph_select.proofs.BreadthFirst.{due_next, level_begins, traced_more, tried_more}
 use Rattle.gm_graph_select.proofs.searching.Search.visit_level.Goals as goal

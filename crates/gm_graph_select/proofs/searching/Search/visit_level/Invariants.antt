@@ -2,8 +2,8 @@ use Rattle.std.proofs.Common.{◌≡◌, ℕ, List, Contains, length, take}
 use Rattle.gm_name.specs.ModuleVersion.{module_at}
 use Rattle.gm_graph_select.specs.declared.step.Edge.{Edge}
 use Rattle.gm_graph_select.specs.declared.searching.Visit.{Visit}
-use Rattle.gm_graph_select.specs.Numbering.{graph_edges, steps_of}
-use Rattle.gm_graph_select.specs.Searching.{AreTried, IsFollowed, IsSearchedTo, IsTraced, state_of}
+use Rattle.gm_graph_select.specs.Private.Numbering.{graph_edges, steps_of}
+use Rattle.gm_graph_select.specs.Private.Searching.{AreTried, IsFollowed, IsSearchedTo, IsTraced, state_of}
 use Rattle.gm_graph_select.proofs.searching.Search.visit_level.Given as goal
 
 abbrev pub invariant-loop-visit : goal.invariant-loop-visit

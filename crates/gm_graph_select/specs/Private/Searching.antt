@@ -11,8 +11,8 @@ use Rattle.gm_graph_select.specs.declared.searching.Search.{Search}
 use Rattle.gm_graph_select.specs.Adjacency.{GraphView}
 use Rattle.gm_graph_select.specs.Graph.{Edges, edge, step_cmp}
 use Rattle.gm_graph_select.specs.Chains.{IsLevel, IsPredecessor, Leads}
-use Rattle.gm_graph_select.specs.Marking.{AreMarked, HasMark}
-use Rattle.gm_graph_select.specs.Numbering.{HasList, graph_edges, step_at, steps_of}
+use Rattle.gm_graph_select.specs.Private.Marking.{AreMarked, HasMark}
+use Rattle.gm_graph_select.specs.Private.Numbering.{HasList, graph_edges, step_at, steps_of}
 
 -- A path of at most that many edges leads from the main module to the step.
 abbrev pub IsWithin : Edges → ℕ → Step → Type 0

@@ -2,8 +2,8 @@
 use Rattle.std.specs.Prelude.{◌≡◌, ◌<◌, ◌≤◌, ℕ, Bool, List, All, AllPairs, Contains, length}
 use Rattle.gm_name.specs.ModuleVersion.{ModuleVersion, module_at}
 use Rattle.gm_graph_select.specs.declared.ranking.Numbered.{Numbered}
-use Rattle.gm_graph_select.specs.Adjacency.{rank_of}
-use Rattle.gm_graph_select.specs.Marking.{HasMark}
+use Rattle.gm_graph_select.specs.Private.Adjacency.{rank_of}
+use Rattle.gm_graph_select.specs.Private.Marking.{HasMark}
 
 -- The rank of each marked module is its place among the vertices.
 pub record AreRanks (modules : List ModuleVersion) (marks : List Bool) (vertices : List ModuleVersion)
