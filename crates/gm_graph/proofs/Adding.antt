@@ -8,7 +8,8 @@ use Rattle.gm_name.specs.ModuleVersion.{ModuleVersion, pair_eq}
 use Rattle.gm_name.specs.Private.ModuleVersion.{pair-same, pairs-equivalence}
 use Rattle.gm_graph.specs.declared.cache.depth.Turn.{Turn}
 use Rattle.gm_graph.specs.declared.cache.depth.Depth.{Depth}
-use Rattle.gm_graph.specs.Turns.{same_turn, AreTurnsOf, AddsAll, OverflowsWith, turn}
+use Rattle.gm_graph.specs.Turns.{same_turn, turn}
+use Rattle.gm_graph.specs.Private.Turns.{AreTurnsOf, AddsAll, OverflowsWith}
 use Rattle.gm_graph.proofs.Sameness.{turns_equivalence}
 
 pub no_turns : AreTurnsOf [] []

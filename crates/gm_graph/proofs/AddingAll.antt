@@ -7,7 +7,8 @@ use Rattle.gm_graph.specs.declared.cache.depth.Turn.{Turn}
 use Rattle.gm_graph.specs.declared.cache.depth.Depth.{Depth}
 use Rattle.gm_graph.proofs.Adding.{overflow_later}
 use Rattle.gm_graph.proofs.Mapped.{from_mapped, in_mapped}
-use Rattle.gm_graph.specs.Turns.{AppendsTurnIfNew, AddsAll, OverflowsWith, turn}
+use Rattle.gm_graph.specs.Turns.{turn}
+use Rattle.gm_graph.specs.Private.Turns.{AppendsTurnIfNew, AddsAll, OverflowsWith}
 
 pub no_shorter : (old new more : List Turn) → new ≡ old ++ more → length old ≤ length new
 no_shorter old new more e = omega (arith, ap length e, length-append old more)

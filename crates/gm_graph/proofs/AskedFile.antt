@@ -9,8 +9,9 @@ use Rattle.gm_store.specs.declared.files.AskFault.{AskFault}
 use Rattle.gm_store.specs.declared.files.AskFault.TheVariants as ask
 use Rattle.gm_store.specs.declared.files.FileName.{FileName}
 use Rattle.gm_store.proofs.Serving.{request_served}
-use Rattle.gm_graph.specs.Asking.{AsksFor, AsksOne, HasName, IsFileOf, StillLacks}
-use Rattle.gm_graph.specs.Refusals.{IsLoadFaultOf, refused_names}
+use Rattle.gm_graph.specs.Asking.{AsksFor, StillLacks}
+use Rattle.gm_graph.specs.Private.Asking.{AsksOne, HasName, IsFileOf, IsLoadFaultOf}
+use Rattle.gm_graph.specs.Refusals.{refused_names}
 use Rattle.gm_graph.specs.declared.cache.load_fault.LoadFault.{LoadFault}
 use Rattle.gm_file.specs.Main.{Main}
 use Rattle.gm_graph.specs.Reading.{file_of, is_askable}

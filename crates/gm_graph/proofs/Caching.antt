@@ -9,9 +9,10 @@ use Rattle.gm_graph.specs.declared.cache.depth.Depth.{Depth}
 use Rattle.gm_graph.specs.declared.cache.depth.Turn.{Turn}
 use Rattle.gm_graph.specs.declared.cache.visit.Visit.{Visit}
 use Rattle.gm_graph.specs.declared.cache.visit.Visit.TheVariants as visit
-use Rattle.gm_graph.specs.Cached.{HoldsSame, KeepsSound, Knows, LentSame, file_count, module_numbered, run_in, table_in, turns_in}
+use Rattle.gm_graph.specs.Cached.{HoldsSame, KeepsSound, Knows, LentSame, file_count, run_in, table_in, turns_in}
+use Rattle.gm_graph.specs.Private.Cached.{module_numbered}
 use Rattle.gm_file.specs.Main.{main_of}
-use Rattle.gm_graph.specs.CacheVisits.{Continues, HasVisited, IsVisit}
+use Rattle.gm_graph.specs.Private.CacheVisits.{Continues, HasVisited, IsVisit}
 use Rattle.gm_graph.specs.Run.{KeepsSayings, Run}
 use Rattle.gm_graph.specs.Turns.{turn}
 use Rattle.gm_graph.proofs.Growing.{number_stays}

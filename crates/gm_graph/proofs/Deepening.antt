@@ -10,10 +10,10 @@ use Rattle.gm_graph.specs.declared.cache.class.Class.{Class}
 use Rattle.gm_graph.specs.declared.cache.depth.Turn.{Turn}
 use Rattle.gm_graph.specs.declared.cache.depth.Depth.{Depth}
 use Rattle.gm_graph.specs.declared.cache.depth.Depth.TheVariants.{Top, Deep}
-use Rattle.gm_graph.specs.Reading.{leads_on}
+use Rattle.gm_graph.specs.Private.Turns.{leads_on, AddsAll}
 use Rattle.gm_graph.specs.Run.{IsDeep, IsOpened, IsTop, KeepsSayings, Requires, Run, Says, TakesTurn, from_deep, from_main, from_top, run_of}
-use Rattle.gm_graph.specs.Turns.{AddsAll, turn}
-use Rattle.gm_graph.specs.VisitedTurns.{IsDone, LeadsTo, Visits}
+use Rattle.gm_graph.specs.Turns.{turn}
+use Rattle.gm_graph.specs.Private.VisitedTurns.{IsDone, LeadsTo, Visits}
 use Rattle.gm_graph.proofs.Sayings.{file_same, not_both}
 
 -- If each turn is done, and they begin as the main file says, they have every vertex that is opened at full depth.

@@ -15,8 +15,8 @@ use Rattle.gm_graph.specs.Reading.{file_of, is_askable}
 use Rattle.gm_graph.specs.Refusals.{refused_names, refused_in}
 use Rattle.gm_graph.specs.Run.{AreTooMany, AskedInTurn, CallsFor, IsDue, IsRead, KeepsSayings, LoadingNeeds, Says, more, nothing, run_of}
 use Rattle.gm_graph.specs.Turns.{turn}
-use Rattle.gm_graph.specs.VisitedTurns.{AllValidTurns}
-use Rattle.gm_graph.specs.Visiting.{OverflowsAt}
+use Rattle.gm_graph.specs.Private.VisitedTurns.{AllValidTurns}
+use Rattle.gm_graph.specs.Private.Visiting.{OverflowsAt}
 use Rattle.gm_graph.proofs.Queueing.{many_followed}
 use Rattle.gm_graph.proofs.Rounds.{opened_from}
 use Rattle.gm_graph.proofs.Sayings.{says_more}

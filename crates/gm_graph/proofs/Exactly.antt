@@ -21,7 +21,8 @@ use Rattle.gm_graph.specs.declared.cache.depth.Depth.{Depth}
 use Rattle.gm_graph.specs.declared.cache.depth.Depth.TheVariants.{Top, Deep}
 use Rattle.gm_graph.specs.Reading.{file_of, is_askable}
 use Rattle.gm_graph.specs.Run.{AreOpened, AreTurns, AskedInTurn, FileSays, IsNeeded, IsOpened, IsRead, IsSettled, LoadingNeeds, Run, Says, answered, faulty, from_main, more, nothing, run_of, sound, unaskable, wrong_path}
-use Rattle.gm_graph.specs.Turns.{turn, AreTurnsOf}
+use Rattle.gm_graph.specs.Turns.{turn}
+use Rattle.gm_graph.specs.Private.Turns.{AreTurnsOf}
 use Rattle.gm_graph.proofs.Deepening.{opened_kept}
 use Rattle.gm_graph.proofs.Sameness.{same_bytes, first_true, second_true, equivalence_from_exact}
 use Rattle.gm_graph.proofs.Sayings.{says_more}

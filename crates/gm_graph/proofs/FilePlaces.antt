@@ -11,7 +11,8 @@ use Rattle.gm_file.specs.Directives.{Right}
 use Rattle.gm_file.specs.Main.{Main, replacement_in}
 use Rattle.gm_store.specs.Asked.{Name, mod_file}
 use Rattle.gm_graph.specs.declared.cache.file_table.FileTable.{FileTable}
-use Rattle.gm_graph.specs.FileTable.{IsFileOf, IsPlaceOf, NotesFiles, noted_for, place_of, replacing_place}
+use Rattle.gm_graph.specs.FileTable.{place_of}
+use Rattle.gm_graph.specs.Private.FileTable.{IsFileOf, IsPlaceOf, NotesFiles, noted_for, replacing_place}
 use Rattle.gm_graph.specs.Reading.{file_named, file_of}
 use Rattle.gm_graph.proofs.NumberedModules.{number_same}
 

@@ -6,10 +6,10 @@ use Rattle.gm_graph.specs.declared.cache.depth.Turn.{Turn}
 use Rattle.gm_file.specs.Main.{Main, is_pruned_by, without_excluded}
 use Rattle.gm_graph.specs.declared.worklist.NumberedTurn.{NumberedTurn}
 use Rattle.gm_graph.specs.declared.worklist.Worklist.{Worklist}
-use Rattle.gm_graph.specs.Worklists.{IsWorklist, turn_of, turns_of}
+use Rattle.gm_graph.specs.Private.Worklists.{IsWorklist, turn_of, turns_of}
 use Rattle.gm_graph.specs.Run.{Run}
-use Rattle.gm_graph.specs.Turns.{AddsAll, OverflowsWith, depth_by}
-use Rattle.gm_graph.specs.Visiting.{IsFirstWorklist}
+use Rattle.gm_graph.specs.Private.Turns.{AddsAll, OverflowsWith, depth_by}
+use Rattle.gm_graph.specs.Private.Visiting.{IsFirstWorklist}
 use Rattle.gm_graph.proofs.Rounds.{first_turns_are}
 
 -- the vertices that the main file requires

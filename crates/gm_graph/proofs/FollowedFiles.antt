@@ -11,12 +11,13 @@ use Rattle.gm_graph.specs.declared.cache.visit.Required.{Required}
 use Rattle.gm_graph.specs.declared.cache.visit.Visit.TheVariants as visit
 use Rattle.gm_graph.specs.Cached.{IsSound, KeepsSound, table_in}
 use Rattle.gm_graph.specs.Run.{KeepsSayings, Run}
-use Rattle.gm_graph.specs.Turns.{turn, AddsAll}
+use Rattle.gm_graph.specs.Turns.{turn}
+use Rattle.gm_graph.specs.Private.Turns.{AddsAll}
 use Rattle.gm_graph.specs.declared.followed.Followed.{Followed}
 use Rattle.gm_graph.specs.declared.worklist.Worklist.{Worklist}
-use Rattle.gm_graph.specs.Worklists.{IsWorklist, turns_of}
-use Rattle.gm_graph.specs.Followed.{AddsFollowed, AreFollowedIn, FollowsFile, followed_at}
-use Rattle.gm_graph.specs.CacheVisits.{Continues, IsVisit, LendsFile, required_by, table_of}
+use Rattle.gm_graph.specs.Private.Worklists.{IsWorklist, turns_of}
+use Rattle.gm_graph.specs.Private.Followed.{AddsFollowed, AreFollowedIn, FollowsFile, followed_at}
+use Rattle.gm_graph.specs.Private.CacheVisits.{Continues, IsVisit, LendsFile, required_by, table_of}
 use Rattle.gm_graph.proofs.Growing.{turns_over}
 use Rattle.gm_graph.proofs.Sayings.{required_of, requires_before}
 

@@ -9,9 +9,10 @@ use Rattle.gm_graph.specs.declared.cache.Cache.{Cache}
 use Rattle.gm_graph.specs.declared.cache.class.Class.{Class}
 use Rattle.gm_graph.specs.declared.findings.Findings.{Findings}
 use Rattle.gm_graph.specs.declared.findings.NumberedFault.{NumberedFault}
-use Rattle.gm_graph.specs.Cached.{IsSound, KeepsSound, module_numbered, table_in}
-use Rattle.gm_graph.specs.CacheVisits.{Continues}
-use Rattle.gm_graph.specs.Findings.{AreFindings, FindsOne, IsFaultFound, IsFileFound, WasVisited, numbered, place_at, place_found}
+use Rattle.gm_graph.specs.Cached.{IsSound, KeepsSound, table_in}
+use Rattle.gm_graph.specs.Private.Cached.{module_numbered}
+use Rattle.gm_graph.specs.Private.CacheVisits.{Continues}
+use Rattle.gm_graph.specs.Private.Findings.{AreFindings, FindsOne, IsFaultFound, IsFileFound, WasVisited, numbered, place_at, place_found}
 use Rattle.gm_graph.specs.Run.{KeepsSayings, Run, Says}
 use Rattle.gm_graph.proofs.Growing.{number_below, number_stays}
 

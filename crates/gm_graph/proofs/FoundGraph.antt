@@ -18,12 +18,14 @@ use Rattle.gm_graph.specs.declared.cache.summary.Kept.TheVariants.{Valid, Faulty
 use Rattle.gm_graph.specs.declared.fault.Fault.{Fault}
 use Rattle.gm_graph.specs.declared.findings.Findings.{Findings}
 use Rattle.gm_graph.specs.declared.worklist.Worklist.{Worklist}
-use Rattle.gm_graph.specs.Cached.{ArePartsOf, kept_file, module_numbered, table_in}
-use Rattle.gm_graph.specs.Findings.{WasVisited, place_found}
-use Rattle.gm_graph.specs.Gathering.{AreFaultsOf, AreFilePlaces, HasFaultOf, fault, has_file, sources_of, steps_by}
+use Rattle.gm_graph.specs.Cached.{kept_file, table_in}
+use Rattle.gm_graph.specs.Private.Cached.{ArePartsOf, module_numbered}
+use Rattle.gm_graph.specs.Private.Findings.{WasVisited, place_found}
+use Rattle.gm_graph.specs.Private.Gathering.{AreFaultsOf, AreFilePlaces, HasFaultOf, fault, has_file, sources_of, steps_by}
 use Rattle.gm_graph.specs.Run.{AreFaults, IsEdge, IsFault, IsOpened, Requires, Run, Says}
-use Rattle.gm_graph.specs.Summaries.{at_span, span_found}
-use Rattle.gm_graph.specs.Visiting.{IsOpenedIn}
+use Rattle.gm_graph.specs.Summaries.{at_span}
+use Rattle.gm_graph.specs.Private.Summaries.{span_found}
+use Rattle.gm_graph.specs.Private.Visiting.{IsOpenedIn}
 use Rattle.gm_graph_select.specs.declared.adjacency.Source.{Source}
 use Rattle.gm_graph_select.specs.declared.step.Edge.{Edge}
 use Rattle.gm_graph_select.specs.declared.step.Step.{Step}

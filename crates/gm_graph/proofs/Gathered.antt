@@ -15,9 +15,9 @@ use Rattle.gm_graph.specs.declared.cache.parts.CacheParts.{CacheParts}
 use Rattle.gm_graph.specs.declared.cache.summary.Kept.{Kept}
 use Rattle.gm_graph.specs.declared.cache.summary.Kept.TheVariants.{Valid, Faulty}
 use Rattle.gm_graph.specs.declared.cache.summary.Summary.{Summary}
-use Rattle.gm_graph.specs.Findings.{place_at}
-use Rattle.gm_graph.specs.Gathering.{AreFilePlaces, has_file, sources_from, sources_of, span_after, spans_from, spans_of, steps_by}
-use Rattle.gm_graph.specs.Summaries.{AreInOrder}
+use Rattle.gm_graph.specs.Private.Findings.{place_at}
+use Rattle.gm_graph.specs.Private.Gathering.{AreFilePlaces, has_file, sources_from, sources_of, span_after, spans_from, spans_of, steps_by}
+use Rattle.gm_graph.specs.Private.Summaries.{AreInOrder}
 use Rattle.gm_graph_select.specs.declared.adjacency.Source.{Source}
 use Rattle.gm_graph_select.specs.declared.number_lists.Span.{Span}
 use Rattle.gm_graph_select.specs.Adjacency.{AreUsed, HaveNumbers, IsBelow, IsNumbered, StepEdges, by_step, left_by, list_at, same_step, step_edges}

@@ -12,12 +12,13 @@ use Rattle.gm_name_table.specs.Listed.{BeginsWith}
 use Rattle.gm_graph.specs.declared.cache.depth.Depth.{Depth}
 use Rattle.gm_graph.specs.declared.cache.depth.Depth.TheVariants.{Deep, Top}
 use Rattle.gm_graph.specs.declared.cache.depth.Turn.{Turn}
-use Rattle.gm_graph.specs.Turns.{turn, AreTurnsOf, same_depth, same_turn}
+use Rattle.gm_graph.specs.Turns.{turn, same_depth, same_turn}
+use Rattle.gm_graph.specs.Private.Turns.{AreTurnsOf}
 use Rattle.gm_graph.specs.declared.worklist.Worklist.{Worklist}
 use Rattle.gm_graph.specs.declared.worklist.NumberedTurn.{NumberedTurn}
 use Rattle.gm_graph.specs.declared.marks.Marks.{Marks}
-use Rattle.gm_graph.specs.Worklists.{AreMarks, IsWorklist, marks_at, turn_of, turns_of}
-use Rattle.gm_graph.specs.Marks.{is_marked}
+use Rattle.gm_graph.specs.Private.Worklists.{AreMarks, IsWorklist, marks_at, turn_of, turns_of}
+use Rattle.gm_graph.specs.Private.Marks.{is_marked}
 
 abbrev IsOneBelow : ℕ → NumberedTurn → Type 0
 IsOneBelow count one = one.number < count

@@ -16,11 +16,14 @@ use Rattle.gm_store_sums.specs.Sums.{Sums}
 use Rattle.gm_graph.specs.declared.cache.class.Class.{Class}
 use Rattle.gm_graph.specs.declared.cache.file_table.FileTable.{FileTable}
 use Rattle.gm_graph.specs.declared.cache.summary.Kept.{Kept}
-use Rattle.gm_graph.specs.FileTable.{KeepsFiles, PutsFile, kept_at}
-use Rattle.gm_graph.specs.Held.{AreKept, HoldsAnswers, HoldsSome, held_under}
+use Rattle.gm_graph.specs.FileTable.{kept_at}
+use Rattle.gm_graph.specs.Private.FileTable.{KeepsFiles, PutsFile}
+use Rattle.gm_graph.specs.Held.{AreKept, HoldsAnswers, held_under}
+use Rattle.gm_graph.specs.Private.Held.{HoldsSome}
 use Rattle.gm_graph.specs.Reading.{IsFileReading}
 use Rattle.gm_graph.specs.Run.{run_of}
-use Rattle.gm_graph.specs.Summaries.{Grows, IsKept, summary_reading}
+use Rattle.gm_graph.specs.Summaries.{IsKept, summary_reading}
+use Rattle.gm_graph.specs.Private.Summaries.{Grows}
 use Rattle.gm_graph.proofs.Spans.{kept_still, readings_still}
 
 -- If nothing is kept, no answers say so.

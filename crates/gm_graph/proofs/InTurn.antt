@@ -12,15 +12,16 @@ use Rattle.gm_graph.specs.declared.findings.Findings.{Findings}
 use Rattle.gm_graph.specs.declared.followed.Followed.{Followed}
 use Rattle.gm_graph.specs.declared.worklist.Worklist.{Worklist}
 use Rattle.gm_graph.specs.declared.worklist.NumberedTurn.{NumberedTurn}
-use Rattle.gm_graph.specs.Asking.{AsksInTurn, AsksOne, IsFileOf}
-use Rattle.gm_graph.specs.Worklists.{turns_of}
-use Rattle.gm_graph.specs.Cached.{main_in, module_numbered, run_in, table_in}
+use Rattle.gm_graph.specs.Private.Asking.{AsksInTurn, AsksOne, IsFileOf}
+use Rattle.gm_graph.specs.Private.Worklists.{turns_of}
+use Rattle.gm_graph.specs.Cached.{main_in, run_in, table_in}
+use Rattle.gm_graph.specs.Private.Cached.{module_numbered}
 use Rattle.gm_graph.specs.Reading.{file_of}
 use Rattle.gm_graph.specs.Run.{AreTooMany, IsRead, LoadingNeeds, Run, run_of}
-use Rattle.gm_graph.specs.TurnVisits.{IsTurnVisited}
+use Rattle.gm_graph.specs.Private.TurnVisits.{IsTurnVisited}
 use Rattle.gm_graph.specs.Turns.{turn}
-use Rattle.gm_graph.specs.VisitedTurns.{Visits}
-use Rattle.gm_graph.specs.Visiting.{OverflowsAt}
+use Rattle.gm_graph.specs.Private.VisitedTurns.{Visits}
+use Rattle.gm_graph.specs.Private.Visiting.{OverflowsAt}
 use Rattle.gm_graph.proofs.AskedFile.{asks_for, lacks_still}
 use Rattle.gm_graph.proofs.Dues.{AddsFile, asks_more, due_here, many_here, none_in_turn}
 use Rattle.gm_graph.proofs.FoundFiles.{same_module}

@@ -17,12 +17,16 @@ use Rattle.gm_graph.specs.declared.cache.file_table.FileTable.{FileTable}
 use Rattle.gm_graph.specs.declared.cache.summary.Kept.{Kept}
 use Rattle.gm_file.specs.Main.{Main, main_of}
 use Rattle.gm_graph.specs.Reading.{IsFileReading, file_of}
-use Rattle.gm_graph.specs.FileTable.{KeepsFiles, kept_at}
-use Rattle.gm_graph.specs.Summaries.{Grows, IsKept, summary_reading}
-use Rattle.gm_graph.specs.Cached.{HasMadeKnown, HoldsSame, IsPlaceFor, KeepsSound, Knows, LendsKept, LentSame, held_of, kept_file, main_in, run_in, summary_at, sums_in, table_in}
+use Rattle.gm_graph.specs.FileTable.{kept_at}
+use Rattle.gm_graph.specs.Private.FileTable.{KeepsFiles}
+use Rattle.gm_graph.specs.Summaries.{IsKept, summary_reading}
+use Rattle.gm_graph.specs.Private.Summaries.{Grows}
+use Rattle.gm_graph.specs.Cached.{HoldsSame, KeepsSound, Knows, LendsKept, LentSame, held_of, kept_file, main_in, run_in, summary_at, sums_in, table_in}
+use Rattle.gm_graph.specs.Private.Cached.{HasMadeKnown, IsPlaceFor}
 use Rattle.gm_graph.specs.Run.{KeepsSayings, Run, Says, run_of}
 use Rattle.gm_graph.specs.Asking.{AsksFor}
-use Rattle.gm_graph.specs.Refusals.{IsLoadFaultOf, refused_in, refused_names}
+use Rattle.gm_graph.specs.Refusals.{refused_in, refused_names}
+use Rattle.gm_graph.specs.Private.Asking.{IsLoadFaultOf}
 use Rattle.gm_graph.specs.declared.cache.load_fault.LoadFault.{LoadFault}
 use Rattle.gm_graph.specs.declared.cache.load_fault.LoadFault.TheVariants as load
 use Rattle.gm_graph.proofs.Sayings.{says_more}

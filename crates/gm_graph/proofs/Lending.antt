@@ -23,11 +23,14 @@ use Rattle.gm_graph.specs.declared.cache.visit.Visit.TheVariants as visit
 use Rattle.gm_graph.specs.declared.cache.Cache.{Cache}
 use Rattle.gm_file.specs.Main.{Main, without_excluded}
 use Rattle.gm_graph.specs.Reading.{file_of}
-use Rattle.gm_graph.specs.Summaries.{IsKept, IsWithinList, at_span, span_found, summary_reading}
-use Rattle.gm_graph.specs.Cached.{AreRequirements, HasFileAt, IsLender, IsSound, KeepsSound, Knows, LendsKept, file_count, its_requirements, kept_file, main_in, module_numbered, no_requirements, run_in, span_at, table_in}
-use Rattle.gm_graph.specs.CacheVisits.{Continues, IsSaid, IsVisit, IsVisitOf, LendsOver, file_said}
-use Rattle.gm_graph.specs.Lent.{lent_modules, lent_table}
-use Rattle.gm_graph.specs.Visiting.{HasListAt}
+use Rattle.gm_graph.specs.Summaries.{IsKept, IsWithinList, at_span, summary_reading}
+use Rattle.gm_graph.specs.Private.Summaries.{span_found}
+use Rattle.gm_graph.specs.Cached.{AreRequirements, IsSound, KeepsSound, Knows, LendsKept, file_count, its_requirements, kept_file, main_in, no_requirements, run_in, table_in}
+use Rattle.gm_graph.specs.Private.Cached.{HasFileAt, IsLender, module_numbered, span_at}
+use Rattle.gm_graph.specs.Private.CacheVisits.{Continues, IsSaid, IsVisit, IsVisitOf, LendsOver, file_said}
+use Rattle.gm_graph.specs.Lent.{lent_modules}
+use Rattle.gm_graph.specs.Private.Held.{lent_table}
+use Rattle.gm_graph.specs.Private.Visiting.{HasListAt}
 use Rattle.gm_graph.specs.Run.{FileSays, KeepsSayings, Run, Says}
 use Rattle.gm_graph.proofs.Holding.{held_says, held_sound}
 use Rattle.gm_graph.proofs.Spans.{span_within}

@@ -9,13 +9,14 @@ use Rattle.gm_graph.specs.declared.cache.depth.Turn.{Turn}
 use Rattle.gm_graph.specs.declared.cache.parts.CacheParts.{CacheParts}
 use Rattle.gm_graph.specs.declared.findings.Findings.{Findings}
 use Rattle.gm_graph.specs.declared.worklist.Worklist.{Worklist}
-use Rattle.gm_graph.specs.Cached.{ArePartsOf, table_in}
-use Rattle.gm_graph.specs.Gathering.{AreFaultsOf, steps_by}
+use Rattle.gm_graph.specs.Cached.{table_in}
+use Rattle.gm_graph.specs.Private.Cached.{ArePartsOf}
+use Rattle.gm_graph.specs.Private.Gathering.{AreFaultsOf, steps_by}
 use Rattle.gm_graph.specs.Outcome.{IsLoaded, LoadedGraph}
 use Rattle.gm_graph.specs.Run.{AreTooMany, AreTurns, AskedInTurn, IsEdge, IsRead, LoadingNeeds, Run, run_of}
-use Rattle.gm_graph.specs.Turns.{OverflowsWith}
-use Rattle.gm_graph.specs.Visiting.{IsOpenedIn}
-use Rattle.gm_graph.specs.Worklists.{turn_of, turns_of}
+use Rattle.gm_graph.specs.Private.Turns.{OverflowsWith}
+use Rattle.gm_graph.specs.Private.Visiting.{IsOpenedIn}
+use Rattle.gm_graph.specs.Private.Worklists.{turn_of, turns_of}
 use Rattle.gm_graph_select.specs.declared.step.Edge.{Edge}
 use Rattle.gm_graph_select.specs.declared.step.Step.TheVariants.{Of}
 use Rattle.gm_graph_select.specs.Adjacency.{edges_of, sources_of}

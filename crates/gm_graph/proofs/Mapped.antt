@@ -15,8 +15,8 @@ use Rattle.gm_name.specs.Private.ModuleVersion.{pair-anti, pair-same, pair-self}
 use Rattle.gm_graph.specs.declared.cache.class.Class.{Class}
 use Rattle.gm_graph.specs.declared.fault.Fault.{Fault}
 use Rattle.gm_graph.specs.declared.findings.NumberedFault.{NumberedFault}
-use Rattle.gm_graph.specs.Findings.{numbered}
-use Rattle.gm_graph.specs.Gathering.{AreFaultsOf, HasFaultOf, fault}
+use Rattle.gm_graph.specs.Private.Findings.{numbered}
+use Rattle.gm_graph.specs.Private.Gathering.{AreFaultsOf, HasFaultOf, fault}
 
 pub in_mapped : {X Y : Type 0} (f : X → Y) (xs : List X) (x : X) → Contains xs x → Contains (map f xs) (f x)
 in_mapped f xs x (k, below, is) = (k, rw length-map below, get_or-map f xs k x (f x) below ∙ ap f is)

@@ -11,8 +11,9 @@ use Rattle.gm_graph.specs.declared.cache.by_name.Known.TheVariants as known
 use Rattle.gm_graph.specs.declared.cache.depth.Turn.{Turn}
 use Rattle.gm_graph.specs.declared.cache.file_table.FileTable.{FileTable}
 use Rattle.gm_graph.specs.Held.{HoldsAnswers}
-use Rattle.gm_graph.specs.Cached.{HasMoreTurns, HasSoundFile, IsKnownAs, IsLender, IsLenderNamed, Knows, KnowsLender, file_known, held_of, main_in, run_in, summary_at}
-use Rattle.gm_graph.specs.FileTable.{IsPlaceOf}
+use Rattle.gm_graph.specs.Cached.{HasMoreTurns, HasSoundFile, IsKnownAs, IsLenderNamed, Knows, KnowsLender, file_known, held_of, main_in, run_in, summary_at}
+use Rattle.gm_graph.specs.Private.Cached.{IsLender}
+use Rattle.gm_graph.specs.Private.FileTable.{IsPlaceOf}
 use Rattle.gm_graph.specs.Run.{Run}
 use Rattle.gm_graph.specs.Reading.{file_of}
 use Rattle.gm_graph.specs.Summaries.{summary_reading}

@@ -3,8 +3,8 @@ use Rattle.std.proofs.Common.{◌≡◌, ◌≤◌, ◌+◌, ◌∙◌, ◌⊎�
 use Rattle.gm_name_table.specs.Listed.{BeginsWith}
 use Rattle.gm_graph.specs.declared.cache.summary.Kept.{Kept}
 use Rattle.gm_graph.specs.declared.cache.summary.Kept.TheVariants.{Valid, Faulty}
-use Rattle.gm_graph.specs.Gathering.{span_after}
-use Rattle.gm_graph.specs.Summaries.{AreInOrder}
+use Rattle.gm_graph.specs.Private.Gathering.{span_after}
+use Rattle.gm_graph.specs.Private.Summaries.{AreInOrder}
 
 pub order_ends : (from : ℕ) (files : List Kept) (to : ℕ) → AreInOrder from files to → from ≤ to
 order_ends from [] to are = are

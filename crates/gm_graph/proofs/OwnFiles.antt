@@ -12,8 +12,10 @@ use Rattle.gm_store.specs.Asked.{Name}
 use Rattle.gm_graph.specs.declared.cache.file_table.FileTable.{FileTable}
 use Rattle.gm_graph.specs.declared.cache.summary.Kept.{Kept}
 use Rattle.gm_graph.specs.declared.cache.Cache.{Cache}
-use Rattle.gm_graph.specs.Cached.{HasFileAt, kept_file, main_in, module_numbered, summary_at, table_in}
-use Rattle.gm_graph.specs.FileTable.{PutsFile, IsFileOf, IsNewFile, IsPlacedAt, KeepsNoted, KeepsOthers, NotesFiles, NotesFor, kept_at, noted_for, place_of, replacing_place}
+use Rattle.gm_graph.specs.Cached.{kept_file, main_in, summary_at, table_in}
+use Rattle.gm_graph.specs.Private.Cached.{HasFileAt, module_numbered}
+use Rattle.gm_graph.specs.FileTable.{kept_at, place_of}
+use Rattle.gm_graph.specs.Private.FileTable.{PutsFile, IsFileOf, IsNewFile, IsPlacedAt, KeepsNoted, KeepsOthers, NotesFiles, NotesFor, noted_for, replacing_place}
 use Rattle.gm_graph.specs.Reading.{file_of, is_askable}
 use Rattle.gm_graph.proofs.FilePlaces.{place_by}
 use Rattle.gm_graph.proofs.Keeping.{file_there}

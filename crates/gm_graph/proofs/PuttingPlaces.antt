@@ -17,8 +17,10 @@ use Rattle.gm_store.specs.declared.files.FileName.{FileName}
 use Rattle.gm_graph.proofs.Growing.{number_below, number_stays}
 use Rattle.gm_graph.specs.declared.cache.file_table.FileTable.{FileTable}
 use Rattle.gm_graph.specs.declared.cache.summary.Kept.{Kept}
-use Rattle.gm_graph.specs.FileTable.{IsNewFile, IsPlacedAt, KeepsFiles, KeepsNoted, KeepsOthers, NotesFiles, NotesFor, PutsFile, PutsReplacing, noted_for, place_of, replacing_place}
-use Rattle.gm_graph.specs.Places.{AreWithin, place_among}
+use Rattle.gm_graph.specs.FileTable.{place_of}
+use Rattle.gm_graph.specs.Private.FileTable.{IsNewFile, IsPlacedAt, KeepsFiles, KeepsNoted, KeepsOthers, NotesFiles, NotesFor, PutsFile, PutsReplacing, noted_for, replacing_place}
+use Rattle.gm_graph.specs.Places.{place_among}
+use Rattle.gm_graph.specs.Private.Places.{AreWithin}
 use Rattle.gm_file.specs.Main.{Main}
 use Rattle.gm_graph.specs.Reading.{file_of, is_askable}
 

@@ -11,8 +11,9 @@ use Rattle.gm_graph.specs.declared.cache.depth.Turn.{Turn}
 use Rattle.gm_graph.specs.declared.cache.depth.Depth.{Depth}
 use Rattle.gm_graph.specs.declared.cache.depth.Depth.TheVariants.{Top, Deep}
 use Rattle.gm_graph.specs.Run.{AreTooMany, IsTop, KeepsSayings, Run, TakesTurn, run_of}
-use Rattle.gm_graph.specs.Turns.{OverflowsWith, turn}
-use Rattle.gm_graph.specs.VisitedTurns.{AllValidTurns, AreFirstTurns, IsDone, VisitOverflows, Visits}
+use Rattle.gm_graph.specs.Turns.{turn}
+use Rattle.gm_graph.specs.Private.Turns.{OverflowsWith}
+use Rattle.gm_graph.specs.Private.VisitedTurns.{AllValidTurns, AreFirstTurns, IsDone, VisitOverflows, Visits}
 use Rattle.gm_name_table.specs.Listed.{BeginsWith}
 use Rattle.gm_graph.proofs.Deepening.{IsDone-kept, IsValidTurn-kept, leads_to_deep}
 use Rattle.gm_graph.proofs.Rounds.{AreVisited, along, opened_from}

@@ -13,8 +13,9 @@ use Rattle.gm_graph.specs.declared.cache.depth.Turn.{Turn}
 use Rattle.gm_graph.specs.declared.cache.depth.Depth.{Depth}
 use Rattle.gm_graph.specs.declared.cache.depth.Depth.TheVariants.{Top, Deep}
 use Rattle.gm_graph.specs.Run.{AreTurns, IsOpened, IsTop, Run, Says, TakesTurn, from_main}
-use Rattle.gm_graph.specs.Turns.{same_turn, AreTurnsOf, AddsAll, depth_by, turn}
-use Rattle.gm_graph.specs.VisitedTurns.{AllValidTurns, AreFirstTurns, IsDone}
+use Rattle.gm_graph.specs.Turns.{same_turn, turn}
+use Rattle.gm_graph.specs.Private.Turns.{AreTurnsOf, AddsAll, depth_by}
+use Rattle.gm_graph.specs.Private.VisitedTurns.{AllValidTurns, AreFirstTurns, IsDone}
 use Rattle.gm_name_table.specs.Listed.{BeginsWith}
 use Rattle.gm_graph.proofs.Sameness.{turns_equivalence, exact_turn}
 use Rattle.gm_graph.proofs.Deepening.{IsDeep-among}

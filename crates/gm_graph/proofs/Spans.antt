@@ -10,7 +10,8 @@ use Rattle.gm_graph.specs.declared.cache.summary.Kept.{Kept}
 use Rattle.gm_graph.specs.declared.cache.summary.Kept.TheVariants.{Valid, Faulty}
 use Rattle.gm_graph.specs.declared.cache.summary.ListSpan.{ListSpan}
 use Rattle.gm_file.specs.Main.{Main, is_excluded, without_excluded}
-use Rattle.gm_graph.specs.Summaries.{IsKept, IsSummary, IsWithinList, at_span, span_found, summary_reading}
+use Rattle.gm_graph.specs.Summaries.{IsKept, IsSummary, IsWithinList, at_span, summary_reading}
+use Rattle.gm_graph.specs.Private.Summaries.{span_found}
 use Rattle.gm_graph.proofs.Excluding.{all_others}
 
 longer : (old new : List ModuleVersion) → BeginsWith old new → length old ≤ length new

@@ -14,14 +14,15 @@ use Rattle.gm_graph.specs.declared.cache.depth.Turn.{Turn}
 use Rattle.gm_graph.specs.declared.findings.Findings.{Findings}
 use Rattle.gm_graph.specs.declared.worklist.Worklist.{Worklist}
 use Rattle.gm_graph.specs.declared.worklist.NumberedTurn.{NumberedTurn}
-use Rattle.gm_graph.specs.Worklists.{IsWorklist, turn_of, turns_of}
-use Rattle.gm_graph.specs.Cached.{Knows, main_in, module_numbered, run_in, sums_in, table_in, turns_in}
-use Rattle.gm_graph.specs.CacheVisits.{Continues}
+use Rattle.gm_graph.specs.Private.Worklists.{IsWorklist, turn_of, turns_of}
+use Rattle.gm_graph.specs.Cached.{Knows, main_in, run_in, sums_in, table_in, turns_in}
+use Rattle.gm_graph.specs.Private.Cached.{module_numbered}
+use Rattle.gm_graph.specs.Private.CacheVisits.{Continues}
 use Rattle.gm_graph.specs.Run.{IsOpened, IsRead, KeepsSayings, Run, TakesTurn, run_of}
 use Rattle.gm_graph.specs.Turns.{turn}
-use Rattle.gm_graph.specs.Findings.{AreFindings, FindsOne, WasVisited}
-use Rattle.gm_graph.specs.VisitedTurns.{Visits}
-use Rattle.gm_graph.specs.Visiting.{HasListAt, IsFirstWorklist, IsOpenedIn}
+use Rattle.gm_graph.specs.Private.Findings.{AreFindings, FindsOne, WasVisited}
+use Rattle.gm_graph.specs.Private.VisitedTurns.{Visits}
+use Rattle.gm_graph.specs.Private.Visiting.{HasListAt, IsFirstWorklist, IsOpenedIn}
 use Rattle.gm_graph.proofs.Holding.{answers_read}
 use Rattle.gm_graph.proofs.Deepening.{IsValidTurn-kept, opened_kept}
 use Rattle.gm_graph.proofs.Dues.{AddsFile, knows_nothing, lent_more, says_still}

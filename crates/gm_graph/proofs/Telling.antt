@@ -12,7 +12,7 @@ use Rattle.gm_graph.specs.declared.cache.summary.Kept.{Kept}
 use Rattle.gm_graph.specs.declared.cache.Cache.{Cache}
 use Rattle.gm_file.specs.Main.{Main, main_of}
 use Rattle.gm_graph.specs.Reading.{IsFileReading}
-use Rattle.gm_graph.specs.FileTable.{PutsFile}
+use Rattle.gm_graph.specs.Private.FileTable.{PutsFile}
 use Rattle.gm_graph.proofs.HeldFiles.{IsAnswerOf, kept_with, map_cond, one_answer}
 use Rattle.gm_graph.proofs.Keeping.{knows_still, main_same, says_later, sound_still}
 use Rattle.gm_graph.specs.Summaries.{IsKept, summary_reading}

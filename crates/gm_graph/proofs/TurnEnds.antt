@@ -18,16 +18,18 @@ use Rattle.gm_graph.specs.declared.findings.Findings.{Findings}
 use Rattle.gm_graph.specs.declared.followed.Followed.{Followed}
 use Rattle.gm_graph.specs.declared.worklist.NumberedTurn.{NumberedTurn}
 use Rattle.gm_graph.specs.declared.worklist.Worklist.{Worklist}
-use Rattle.gm_graph.specs.Cached.{main_in, module_numbered, run_in, sums_in, table_in}
-use Rattle.gm_graph.specs.CacheVisits.{HasVisited, IsVisit, KeepsTurns as KeptTurns, required_by, table_of}
-use Rattle.gm_graph.specs.Findings.{AreFindings, FindsOne}
-use Rattle.gm_graph.specs.Followed.{AddsFollowed, AreFollowedIn, FollowsFile}
+use Rattle.gm_graph.specs.Cached.{main_in, run_in, sums_in, table_in}
+use Rattle.gm_graph.specs.Private.Cached.{module_numbered}
+use Rattle.gm_graph.specs.Private.CacheVisits.{HasVisited, IsVisit, KeepsTurns as KeptTurns, required_by, table_of}
+use Rattle.gm_graph.specs.Private.Findings.{AreFindings, FindsOne}
+use Rattle.gm_graph.specs.Private.Followed.{AddsFollowed, AreFollowedIn, FollowsFile}
 use Rattle.gm_graph.specs.Run.{Run, Says}
-use Rattle.gm_graph.specs.TurnVisits.{AddsTurn, IsReady, IsTurnVisited}
-use Rattle.gm_graph.specs.Turns.{AddsAll, OverflowsWith, turn}
-use Rattle.gm_graph.specs.VisitedTurns.{Visits}
-use Rattle.gm_graph.specs.Visiting.{OverflowsAt}
-use Rattle.gm_graph.specs.Worklists.{IsWorklist, turns_of}
+use Rattle.gm_graph.specs.Private.TurnVisits.{AddsTurn, IsReady, IsTurnVisited}
+use Rattle.gm_graph.specs.Turns.{turn}
+use Rattle.gm_graph.specs.Private.Turns.{AddsAll, OverflowsWith}
+use Rattle.gm_graph.specs.Private.VisitedTurns.{Visits}
+use Rattle.gm_graph.specs.Private.Visiting.{OverflowsAt}
+use Rattle.gm_graph.specs.Private.Worklists.{IsWorklist, turns_of}
 use Rattle.gm_graph.proofs.Deepening.{faulty_stops, follows_adds, follows_nothing, stops_there}
 use Rattle.gm_graph.proofs.FollowedFiles.{followed_known, followed_more, follows_file, follows_none}
 use Rattle.gm_graph.proofs.FoundFiles.{findings_known}

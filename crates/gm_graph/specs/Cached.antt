@@ -1,9 +1,9 @@
 -- What a cache holds, what it finds of a vertex, and which requirements it returns.
-use Rattle.std.specs.Prelude.{◌≡◌, ◌<◌, ℕ, true, false, List, [], ◌∷◌, ◌++◌, Option, Some, None, MatchResult, Result, Ok, Err, length, slice_get}
-use Rattle.std.specs.Option.{option_and_then, option_copied}
+use Rattle.std.specs.Prelude.{◌≡◌, ◌<◌, ℕ, List, [], ◌∷◌, ◌++◌, Option, Some, None, MatchResult, Result, Ok, Err, length, slice_get}
+use Rattle.std.specs.Option.{option_copied}
 use Rattle.std.specs.Borrow.{Fml, MutBor}
 use Rattle.std.specs.Io.BufRead.{Rests}
-use Rattle.gm_name.specs.ModuleVersion.{ModuleVersion, module_at}
+use Rattle.gm_name.specs.ModuleVersion.{ModuleVersion}
 use Rattle.gm_name_table.specs.Listed.{BeginsWith}
 use Rattle.gm_file.specs.Fields.{Dependency}
 use Rattle.gm_store.specs.Asked.{Name, Reply, name_of}
@@ -13,15 +13,12 @@ use Rattle.gm_graph.specs.declared.cache.by_name.Known.TheVariants as known
 use Rattle.gm_graph.specs.declared.cache.class.Class.{Class}
 use Rattle.gm_graph.specs.declared.cache.depth.Turn.{Turn}
 use Rattle.gm_graph.specs.declared.cache.summary.Kept.{Kept}
-use Rattle.gm_graph.specs.declared.cache.summary.ListSpan.{ListSpan}
 use Rattle.gm_graph.specs.declared.cache.Cache.{Cache}
-use Rattle.gm_graph.specs.declared.cache.parts.CacheParts.{CacheParts}
 use Rattle.gm_file.specs.Main.{Main, main_of, without_excluded}
 use Rattle.gm_graph.specs.FileTable.{kept_at}
 use Rattle.gm_graph.specs.Held.{AreKept, HoldsAnswers, held_under}
-use Rattle.gm_graph.specs.Reading.{file_of, is_askable}
+use Rattle.gm_graph.specs.Reading.{file_of}
 use Rattle.gm_graph.specs.Run.{Run, Says, run_of}
-use Rattle.gm_graph.specs.Summaries.{span_found}
 use mir.Syntax.{named}
 use Rattle.gm_graph.specs.contracts.cache.Cache.{the_row}
 
@@ -41,10 +38,6 @@ turns_in cache = cache.turns.items
 abbrev pub table_in : Cache → List ModuleVersion
 table_in cache = cache.modules.modules
 
--- the module with a number
-abbrev pub module_numbered : Cache → ℕ → ModuleVersion
-module_numbered cache number = module_at (table_in cache) number
-
 -- what is kept of the file of a name
 abbrev pub summary_at : Cache → Name → Option Kept
 summary_at cache name = kept_at cache.files name
@@ -59,11 +52,6 @@ kept_file cache place = slice_get cache.files.files.items place
 -- what is held of the file of a name: its contents or its fault
 abbrev pub held_of : Cache → Name → Option (Result Dependency Class)
 held_of cache name = held_under cache.modules cache.files name
-
--- where the requirements of the file at a place are in the list of modules, without the excluded ones: nowhere if there
--- is no place, or the file has a fault
-abbrev pub span_at : Cache → Option ℕ → ListSpan
-span_at cache place = span_found (option_and_then (slice_get cache.files.files.items) place)
 
 -- The run of a cache whose store gave these answers.
 abbrev pub run_in : Cache → List (Name × Reply) → Run
@@ -85,22 +73,6 @@ pub record IsSound (cache : Cache) (run : Run) (x : ModuleVersion) (place : ℕ)
   pub kept : kept_file cache place ≡ summary_at cache (file_of (main_in cache) x)
   pub file : Dependency
   pub says : Says run x (Ok file)
-
--- The vertex's file may be asked for, and what is kept at this place is what was read of it.
-pub record HasFileAt (cache : Cache) (x : ModuleVersion) (place : ℕ) : Type 0 where
-  pub within : place < file_count cache
-  pub kept : kept_file cache place ≡ summary_at cache (file_of (main_in cache) x)
-  pub askable : is_askable (file_of (main_in cache) x) ≡ true
-
--- The place of a vertex's file: none if the file may not be asked for.
-abbrev pub IsPlaceFor : Cache → ModuleVersion → Option ℕ → Type 0
-IsPlaceFor cache x None = is_askable (file_of (main_in cache) x) ≡ false
-IsPlaceFor cache x (Some place) = HasFileAt cache x place
-
--- The place at which a vertex's requirements are found: none if the vertex has a fault, otherwise that of its file.
-abbrev pub IsLender : Cache → Run → ModuleVersion → Option ℕ → Type 0
-IsLender cache run x None = (class : Class) × Says run x (Err class)
-IsLender cache run x (Some place) = IsSound cache run x place
 
 -- The vertex has no fault, and its file has this name.
 pub record HasSoundFile (run : Run) (x : ModuleVersion) (name : Name) : Type 0 where
@@ -139,13 +111,6 @@ abbrev pub KeepsSound : Cache → Run → Cache → Run → Type 0
 KeepsSound old earlier new later = (x : ModuleVersion) (place : ℕ) → IsSound old earlier x place
     → IsSound new later x place
 
--- These are the parts of the cache.
-pub record ArePartsOf (cache : Cache) (parts : CacheParts) : Type 0 where
-  pub modules : parts.modules.items ≡ table_in cache
-  pub numbers : parts.numbers.items ≡ cache.modules.numbers
-  pub first : parts.first ≡ cache.first
-  pub files : parts.files ≡ cache.files.files
-
 -- ---- what changes
 
 -- The main file, the go.sum and what is held of each file are the same, requirements can still be returned, and what
@@ -164,26 +129,12 @@ pub record LentSame (old new : Cache) : Type 0 where
   pub sums : sums_in new ≡ sums_in old
   pub turns : turns_in new ≡ turns_in old
 
--- The file of a vertex was made known, and is kept at this place: the cache knows the answers, and what had a number
--- or a place has it still.
-pub record HasMadeKnown (old : Cache) (earlier : List (Name × Reply)) (new : Cache) (pairs : List (Name × Reply))
-    (x : ModuleVersion) (place : Option ℕ) : Type 0 where
-  pub knows : Knows new pairs
-  pub place_is : IsPlaceFor new x place
-  pub numbered : BeginsWith (table_in old) (table_in new)
-  pub sound : KeepsSound old (run_in old earlier) new (run_in new pairs)
-
 -- The list has these turns more at its end, and nothing else is new: no more modules have numbers.
 pub record HasMoreTurns (old new : Cache) (more : List Turn) : Type 0 where
   pub turns : turns_in new ≡ turns_in old ++ more
   pub holds : HoldsSame old new
   pub modules : new.modules ≡ old.modules
   pub files : new.files ≡ old.files
-
--- Once the borrow of the requirements ends, the cache has these turns more.
-abbrev pub LendsTurns : MutBor Cache → List Turn → Fml
-LendsTurns cache more =
-    Rests (the_row (record { mir = named 1; lft = [] })) cache (λ end. HasMoreTurns cache.now end more)
 
 -- Once the borrow of the requirements ends, the cache has one more turn. If the call was refused, it has the same.
 abbrev pub LendsNamed : {T E : Type 0} → MutBor Cache → Turn → Result T E → Fml

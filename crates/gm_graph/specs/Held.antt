@@ -1,17 +1,16 @@
 -- What is held of files, by the parts of a cache.
-use Rattle.std.specs.Prelude.{◌≡◌, List, Option, Some, None, Result}
+use Rattle.std.specs.Prelude.{◌≡◌, Option, Some, None, Result}
 use Rattle.std.specs.Option.{option_map}
 use Rattle.gm_name_table.specs.Listed.{NumberedList, modules_of}
 use Rattle.gm_file.specs.Fields.{Dependency}
 use Rattle.gm_file.specs.Main.{Main}
 use Rattle.gm_store.specs.Asked.{Name, Reply}
-use Rattle.gm_store_sums.specs.Sums.{Sums}
 use Rattle.gm_graph.specs.declared.cache.class.Class.{Class}
 use Rattle.gm_graph.specs.declared.cache.file_table.FileTable.{FileTable}
 use Rattle.gm_graph.specs.declared.cache.summary.Kept.{Kept}
 use Rattle.gm_graph.specs.FileTable.{kept_at}
 use Rattle.gm_graph.specs.Reading.{IsFileReading}
-use Rattle.gm_graph.specs.Run.{Run, run_of}
+use Rattle.gm_graph.specs.Run.{Run}
 use Rattle.gm_graph.specs.Summaries.{IsKept, summary_reading}
 
 -- what is held of the file of a name: its contents or its fault
@@ -30,7 +29,3 @@ pub record HoldsAnswers (run : Run) (list : NumberedList) (files : FileTable) : 
       × IsFileReading run.sums name reply said
   pub only : (name : Name) → run.answers name ≡ None → held_under list files name ≡ None
   pub lends : AreKept run.main list files
-
--- Some answers say what is held.
-abbrev pub HoldsSome : Main → Option Sums → NumberedList → FileTable → Type 0
-HoldsSome main sums list files = (pairs : List (Name × Reply)) × HoldsAnswers (run_of main sums pairs) list files

@@ -8,7 +8,3 @@ use Rattle.gm_graph.specs.Summaries.{at_span}
 -- the requirements, in order
 abbrev pub lent_modules : Lent → List ModuleVersion
 lent_modules lent = at_span (modules_of lent.modules.now) lent.span
-
--- all modules that have numbers, each at the place that is its number
-abbrev pub lent_table : Lent → List ModuleVersion
-lent_table lent = lent.modules.now.modules

@@ -1,14 +1,6 @@
+pub mod Private
 pub mod Turns
-pub mod Marks
 pub mod WorklistFaults
-pub mod VisitedTurns
-pub mod Gathering
-pub mod Worklists
-pub mod Findings
-pub mod CacheVisits
-pub mod Visiting
-pub mod TurnVisits
-pub mod Followed
 pub mod Outcome
 pub mod Run
 pub mod Laws

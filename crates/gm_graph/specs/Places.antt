@@ -1,5 +1,5 @@
 -- Names with places in a list.
-use Rattle.std.specs.Prelude.{◌≡◌, ◌<◌, ℕ, List, Option, Some}
+use Rattle.std.specs.Prelude.{ℕ, List, Option}
 use Rattle.std.specs.Map.{lookup}
 use Rattle.std.specs.Option.{option_and_then}
 use Rattle.gm_name.specs.OptionalPlaces.{place_in}
@@ -9,7 +9,3 @@ use Rattle.gm_store.specs.Asked.{Name, same_name}
 -- the place of a name, if it is one of these
 abbrev pub place_among : List (Name × OptionalPlace) → Name → Option ℕ
 place_among entries name = option_and_then place_in (lookup (same_name name) entries)
-
--- Each of these has one of so many places.
-abbrev pub AreWithin : ℕ → List (Name × OptionalPlace) → Type 0
-AreWithin count entries = (name : Name) (place : ℕ) → place_among entries name ≡ Some place → place < count

@@ -1,5 +1,5 @@
 -- What a store's answer to a name says, and which file a vertex has.
-use Rattle.std.specs.Prelude.{◌≡◌, ◌||◌, ℕ, Bool, true, false, not, List, Option, Some, None, Result, Ok, Err}
+use Rattle.std.specs.Prelude.{◌≡◌, ◌||◌, ℕ, Bool, true, false, List, Option, Some, None, Result, Ok, Err}
 use Rattle.std.specs.Str.{bytes_eq}
 use Rattle.gm_name.specs.Path.{is_fetchable}
 use Rattle.gm_name.specs.ModuleVersion.{ModuleVersion}
@@ -15,9 +15,7 @@ use Rattle.gm_store_sums.specs.declared.sum_table.Sum.TheVariants.{Good, Unliste
 use Rattle.gm_graph.specs.declared.cache.class.Class.{Class}
 use Rattle.gm_graph.specs.declared.cache.class.Class.TheVariants.{Missing, TooLong, NoSum, SumDiffers, Malformed}
 use Rattle.gm_file.specs.declared.misreading.Misreading.TheVariants as misreading
-use Rattle.gm_graph.specs.declared.cache.depth.Depth.{Depth}
-use Rattle.gm_graph.specs.declared.cache.depth.Depth.TheVariants.{Top, Deep}
-use Rattle.gm_file.specs.Main.{Main, is_pruned_by, replacement_in}
+use Rattle.gm_file.specs.Main.{Main, replacement_in}
 
 -- ---- which file is read
 
@@ -73,11 +71,6 @@ IsFileReading sums name (bytes content) reading = IsReadUnless (sum_fault sums n
 abbrev pub AreRetractedBy : Reply → List VersionInterval → Type 0
 AreRetractedBy (bytes content) intervals = AreRetractedIn content intervals
 AreRetractedBy _ intervals = ⊥
-
--- Whether a visit to this depth also opens what the file requires.
-abbrev pub leads_on : Dependency → Depth → Bool
-leads_on file Top = not (is_pruned_by file.go)
-leads_on file Deep = true
 
 -- ---- whether it declares the path of a vertex
 

@@ -38,13 +38,13 @@ ghost use Rattle.gm_store.specs.States.{AddsAnswer};
 ghost use Rattle.gm_store.specs.declared.files.FileName.{FileName};
 ghost use Rattle.gm_file.specs.Listed.{with_requirements};
 ghost use Rattle.gm_file.specs.Main.{main_of, without_excluded};
-ghost use Rattle.gm_graph.specs.Asking.{AsksOne, HasName, IsFileOf};
+ghost use Rattle.gm_graph.specs.Private.Asking.{AsksOne, HasName, IsFileOf, IsLoadFaultOf};
 ghost use Rattle.gm_graph.specs.Reading.{IsFileReading, file_of, is_askable as may_be_asked};
-ghost use Rattle.gm_graph.specs.Refusals.{IsLoadFaultOf};
-ghost use Rattle.gm_graph.specs.FileTable.{PutsFile, IsNewFile, NotesFiles, replacing_place};
-ghost use Rattle.gm_graph.specs.Held.{HoldsSome};
+ghost use Rattle.gm_graph.specs.Private.FileTable.{PutsFile, IsNewFile, NotesFiles, replacing_place};
+ghost use Rattle.gm_graph.specs.Private.Held.{HoldsSome};
 ghost use Rattle.gm_graph.specs.Lent.{lent_modules};
-ghost use Rattle.gm_graph.specs.Summaries.{AreInOrder, order_is_fact, Grows, IsKept, IsWithinList, at_span, summary_reading};
+ghost use Rattle.gm_graph.specs.Summaries.{IsKept, IsWithinList, at_span, summary_reading};
+ghost use Rattle.gm_graph.specs.Private.Summaries.{AreInOrder, order_is_fact, Grows};
 
 use crate::cache::class::Class;
 use crate::cache::depth::Depth;
@@ -162,10 +162,11 @@ impl<'a> Cache<'a> {
     ghost use Rattle.std.specs.List.{IsDistinct};
     ghost use Rattle.gm_name.specs.ModuleVersion.{pair_eq};
     ghost use Rattle.gm_name_table.specs.Listed.{BeginsWith};
-    ghost use Rattle.gm_graph.specs.Cached.{ArePartsOf, HasFileAt, HasMadeKnown, HoldsSame, IsPlaceFor, KeepsSound, Knows, LendsKept, LentSame, LendsTurns, file_count, main_in, module_numbered, run_in, span_at, sums_in, table_in, turns_in};
-    ghost use Rattle.gm_graph.specs.Lent.{lent_table};
+    ghost use Rattle.gm_graph.specs.Cached.{HoldsSame, KeepsSound, Knows, LendsKept, LentSame, file_count, main_in, run_in, sums_in, table_in, turns_in};
+    ghost use Rattle.gm_graph.specs.Private.Cached.{ArePartsOf, HasFileAt, HasMadeKnown, IsPlaceFor, LendsTurns, module_numbered, span_at};
+    ghost use Rattle.gm_graph.specs.Private.Held.{lent_table};
     ghost use Rattle.gm_graph.specs.declared.cache.Cache.{Cache};
-    ghost use Rattle.gm_graph.specs.CacheVisits.{IsSaid, LendsOver, Visits};
+    ghost use Rattle.gm_graph.specs.Private.CacheVisits.{IsSaid, LendsOver, Visits};
     ghost use Rattle.gm_graph.specs.Run.{KeepsSayings};
 
     /// A cache for a main file, without files. If there is a go.sum, the files that come from proxies are checked

@@ -26,7 +26,7 @@ pub(crate) struct Findings {
 }
 
 impl Findings {
-    ghost use Rattle.gm_graph.specs.Findings.{place_found};
+    ghost use Rattle.gm_graph.specs.Private.Findings.{place_found};
 
     /// Nothing.
     pub(crate) fn new(alloc: Global) -> Findings

@@ -4,10 +4,12 @@
 
 ghost use Rattle.std.specs.Prelude.{◌≡◌, ◌⊎◌, ◌++◌, ℕ, Contains, Err, OnOk, true};
 ghost use Rattle.gm_name.specs.ModuleVersion.{ModuleVersion};
-ghost use Rattle.gm_graph.specs.Lent.{lent_modules, lent_table};
-ghost use Rattle.gm_graph.specs.Turns.{turn, AddsAll, OverflowsWith};
+ghost use Rattle.gm_graph.specs.Lent.{lent_modules};
+ghost use Rattle.gm_graph.specs.Private.Held.{lent_table};
+ghost use Rattle.gm_graph.specs.Turns.{turn};
+ghost use Rattle.gm_graph.specs.Private.Turns.{AddsAll, OverflowsWith};
 ghost use Rattle.gm_graph.specs.declared.cache.depth.Depth.TheVariants.{Deep};
-ghost use Rattle.gm_graph.specs.Worklists.{IsWorklist, turns_of};
+ghost use Rattle.gm_graph.specs.Private.Worklists.{IsWorklist, turns_of};
 
 use crate::cache::depth::Depth;
 use crate::cache::lent::Lent;
@@ -23,7 +25,7 @@ pub(crate) struct Followed {
 }
 
 impl Followed {
-    ghost use Rattle.gm_graph.specs.Followed.{AddsFollowed, followed_at};
+    ghost use Rattle.gm_graph.specs.Private.Followed.{AddsFollowed, followed_at};
 
     /// No files.
     pub(crate) fn new(alloc: Global) -> Followed

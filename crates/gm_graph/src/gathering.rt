@@ -6,9 +6,9 @@
 ghost use Rattle.std.specs.Prelude.{◌≡◌, ◌↔◌, ◌⊎◌, ◌<◌, ◌++◌, ◌∷◌, [], ℕ, All, Contains, IfOk, IsSome, OnOk, Some, length, map, slice_index_or, false};
 ghost use Rattle.std.specs.BTreeMap as tree;
 ghost use Rattle.gm_name.specs.ModuleVersion.{ModuleVersion, module_at, pair_cmp};
-ghost use Rattle.gm_graph.specs.Findings.{place_at};
-ghost use Rattle.gm_graph.specs.Gathering.{AreFaultsOf, AreFilePlaces, HasFaultOf, fault, has_file, source_at, sources_of, span_after, spans_of, steps_by};
-ghost use Rattle.gm_graph.specs.Summaries.{AreInOrder};
+ghost use Rattle.gm_graph.specs.Private.Findings.{place_at};
+ghost use Rattle.gm_graph.specs.Private.Gathering.{AreFaultsOf, AreFilePlaces, HasFaultOf, fault, has_file, source_at, sources_of, span_after, spans_of, steps_by};
+ghost use Rattle.gm_graph.specs.Private.Summaries.{AreInOrder};
 ghost use Rattle.gm_graph_select.specs.Adjacency.{edges_of, sources_of as steps_left};
 ghost use Rattle.gm_graph_select.specs.declared.step.Step.TheVariants.{Of};
 ghost use Rattle.gm_graph_select.specs.Graph.{IsEdgeEnd, among, edge_cmp};

@@ -1,7 +1,7 @@
 //! Marks of vertices: the depths at which they have turns.
 
 ghost use Rattle.std.specs.Prelude.{◌≡◌, ◌||◌, false};
-ghost use Rattle.gm_graph.specs.Marks.{is_marked};
+ghost use Rattle.gm_graph.specs.Private.Marks.{is_marked};
 ghost use Rattle.gm_graph.specs.Turns.{same_depth};
 ghost use Rattle.gm_graph.specs.declared.cache.depth.Depth.{Depth};
 

@@ -4,8 +4,8 @@ ghost use Rattle.std.specs.Prelude.{◌≡◌, [], IfOk, Err};
 ghost use Rattle.gm_graph.specs.Cached.{main_in, run_in, table_in};
 ghost use Rattle.gm_file.specs.Main.{is_pruned_by, without_excluded, main_of};
 ghost use Rattle.gm_graph.specs.Refusals.{refused_in};
-ghost use Rattle.gm_graph.specs.Turns.{OverflowsWith, depth_by};
-ghost use Rattle.gm_graph.specs.Visiting.{IsFirstWorklist};
+ghost use Rattle.gm_graph.specs.Private.Turns.{OverflowsWith, depth_by};
+ghost use Rattle.gm_graph.specs.Private.Visiting.{IsFirstWorklist};
 
 use crate::cache::Cache;
 use crate::cache::depth::Depth;

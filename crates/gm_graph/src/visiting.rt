@@ -2,16 +2,18 @@
 
 ghost use Rattle.std.specs.Prelude.{◌≡◌, ◌<◌, [], OnOk, Contains, Err, length, true};
 ghost use Rattle.gm_name.specs.ModuleVersion.{ModuleVersion};
-ghost use Rattle.gm_graph.specs.Asking.{AsksOne, IsFileOf};
-ghost use Rattle.gm_graph.specs.Cached.{Knows, file_count, main_in, module_numbered, run_in, table_in};
-ghost use Rattle.gm_graph.specs.CacheVisits.{IsVisit, required_by, table_of};
+ghost use Rattle.gm_graph.specs.Private.Asking.{AsksOne, IsFileOf};
+ghost use Rattle.gm_graph.specs.Cached.{Knows, file_count, main_in, run_in, table_in};
+ghost use Rattle.gm_graph.specs.Private.Cached.{module_numbered};
+ghost use Rattle.gm_graph.specs.Private.CacheVisits.{IsVisit, required_by, table_of};
 ghost use Rattle.gm_graph.specs.Refusals.{refused_in};
-ghost use Rattle.gm_graph.specs.Worklists.{IsWorklist, turns_of};
-ghost use Rattle.gm_graph.specs.Followed.{followed_at};
+ghost use Rattle.gm_graph.specs.Private.Worklists.{IsWorklist, turns_of};
+ghost use Rattle.gm_graph.specs.Private.Followed.{followed_at};
 ghost use Rattle.gm_graph.specs.Run.{Run, Says};
-ghost use Rattle.gm_graph.specs.Turns.{turn, OverflowsWith};
-ghost use Rattle.gm_graph.specs.TurnVisits.{AddsTurn, IsReady, IsTurnVisited};
-ghost use Rattle.gm_graph.specs.Visiting.{OverflowsAt};
+ghost use Rattle.gm_graph.specs.Turns.{turn};
+ghost use Rattle.gm_graph.specs.Private.Turns.{OverflowsWith};
+ghost use Rattle.gm_graph.specs.Private.TurnVisits.{AddsTurn, IsReady, IsTurnVisited};
+ghost use Rattle.gm_graph.specs.Private.Visiting.{OverflowsAt};
 ghost use Rattle.gm_graph.specs.declared.cache.depth.Depth.TheVariants.{Deep};
 ghost use Rattle.gm_graph.specs.declared.followed.Followed.{Followed};
 ghost use Rattle.gm_graph.specs.declared.worklist.Worklist.{Worklist};

@@ -6,8 +6,10 @@
 ghost use Rattle.std.specs.Prelude.{◌≡◌, ◌<◌, ◌≤◌, ◌+◌, ◌||◌, ◌++◌, ◌∷◌, [], Err, IfOk, List, OnOk, if◌then◌else◌, length};
 ghost use Rattle.std.specs.List.{IsDistinct};
 ghost use Rattle.gm_name.specs.ModuleVersion.{ModuleVersion, module_at, pair_eq};
-ghost use Rattle.gm_graph.specs.Lent.{lent_modules, lent_table};
-ghost use Rattle.gm_graph.specs.Turns.{turn, AddsAll, AppendsTurnIfNew, OverflowsWith};
+ghost use Rattle.gm_graph.specs.Lent.{lent_modules};
+ghost use Rattle.gm_graph.specs.Private.Held.{lent_table};
+ghost use Rattle.gm_graph.specs.Turns.{turn};
+ghost use Rattle.gm_graph.specs.Private.Turns.{AddsAll, AppendsTurnIfNew, OverflowsWith};
 ghost use Rattle.gm_graph.specs.WorklistFaults.{load_fault_of};
 ghost use Rattle.gm_graph.specs.declared.worklist.AddFault.TheVariants as add;
 
@@ -91,7 +93,7 @@ pub(crate) struct Worklist {
 }
 
 impl Worklist {
-    ghost use Rattle.gm_graph.specs.Worklists.{IsWorklist, KeepsTurns, turns_of};
+    ghost use Rattle.gm_graph.specs.Private.Worklists.{IsWorklist, KeepsTurns, turns_of};
 
     /// No turns, with room for the marks of so many modules.
     pub(crate) fn new(alloc: Global, count: usize) -> Result<Worklist, AllocError>

@@ -7,7 +7,7 @@ use Rattle.gm_name.proofs.Bytes.{path-bytes, version-bytes}
 use Rattle.gm_syntax.specs.Lines.{HasNoLineFeed, lines_of}
 use Rattle.gm_graph.specs.declared.cache.class.Class.{Class}
 use Rattle.gm_graph.specs.declared.fault.Fault.{Fault}
-use Rattle.gm_graph.specs.Gathering.{fault}
+use Rattle.gm_graph.specs.Private.Gathering.{fault}
 use Rattle.gomod_run.specs.PrintedLines.{IsProperFault, LineIsOfAFault, LineSaysFault, ReportHasLines, TextSaysFaults, fault_text}
 use Rattle.gomod_run.specs.Reports.{class_text}
 use Rattle.gomod_run.specs.ReportTexts.{vertex_text}

@@ -36,7 +36,8 @@ pub enum Known {
 impl<'a> Cache<'a> {
     ghost use Rattle.std.specs.Borrow.{sem};
     ghost use Rattle.std.specs.Prelude.{IfSome};
-    ghost use Rattle.gm_graph.specs.Cached.{AreRequirements, HoldsSame, IsKnownAs, IsLender, IsPlaceFor, Knows, KnowsLender, LendsKept, LendsNamed, LentSame, file_count, file_known, main_in, module_numbered, run_in, table_in};
+    ghost use Rattle.gm_graph.specs.Cached.{AreRequirements, HoldsSame, IsKnownAs, Knows, KnowsLender, LendsKept, LendsNamed, LentSame, file_count, file_known, main_in, run_in, table_in};
+    ghost use Rattle.gm_graph.specs.Private.Cached.{IsLender, IsPlaceFor, module_numbered};
     ghost use Rattle.gm_graph.specs.Run.{KeepsSayings};
 
     /// The number of a module, which gets one if it has none. The only refusal is `NoMemory`.

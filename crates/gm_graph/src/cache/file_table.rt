@@ -4,7 +4,7 @@
 //! that a replacement names is found by its name: a folder is no module, and two modules may have one replacement.
 
 ghost use Rattle.std.specs.Prelude.{◌≤◌, length};
-ghost use Rattle.gm_graph.specs.Places.{AreWithin};
+ghost use Rattle.gm_graph.specs.Private.Places.{AreWithin};
 
 use crate::cache::naming::right_name;
 use crate::cache::place_history::PlaceHistory;
@@ -34,12 +34,13 @@ impl FileTable {
     ghost use Rattle.std.specs.Prelude.{◌≡◌, ◌⊎◌, ◌<◌, ◌++◌, ◌∷◌, [], IfOk, IfSome, List, None, OnErr, OnOk, Some, slice_get};
     ghost use Rattle.std.specs.Option.{option_and_then};
     ghost use Rattle.gm_store.specs.Asked.{Name, name_of};
-    ghost use Rattle.gm_graph.specs.FileTable.{PutsFile, IsFileOf, IsNewFile, IsPlaceOf, KeepsFiles, KeepsNoted, KeepsOthers, NotesFiles, NotesFor, PutsReplacing, ReachesAtMost, kept_at, noted_for, replacing_place};
+    ghost use Rattle.gm_graph.specs.FileTable.{kept_at};
+    ghost use Rattle.gm_graph.specs.Private.FileTable.{PutsFile, IsFileOf, IsNewFile, IsPlaceOf, KeepsFiles, KeepsNoted, KeepsOthers, NotesFiles, NotesFor, PutsReplacing, ReachesAtMost, noted_for, replacing_place};
     ghost use Rattle.gm_file.specs.Main.{Main, main_of};
     ghost use Rattle.gm_name.specs.ModuleVersion.{ModuleVersion};
     ghost use Rattle.gm_name.specs.OptionalPlaces.{place_in};
     ghost use Rattle.gm_name.specs.declared.place.OptionalPlace.{OptionalPlace};
-    ghost use Rattle.gm_graph.specs.Summaries.{span_found};
+    ghost use Rattle.gm_graph.specs.Private.Summaries.{span_found};
 
     /// No files, for a main file with these replacements. The only refusal is `NoMemory`.
     pub(crate) fn new(alloc: Global, main: &MainFile) -> Result<FileTable, NoMemory>

@@ -22,7 +22,8 @@ impl<'a> Lent<'a> {
     ghost use Rattle.std.specs.List.{IsDistinct};
     ghost use Rattle.gm_name.specs.ModuleVersion.{module_at, pair_eq};
     ghost use Rattle.gm_name_table.specs.Listed.{AreModuleNumbers, modules_at};
-    ghost use Rattle.gm_graph.specs.Lent.{lent_modules, lent_table};
+    ghost use Rattle.gm_graph.specs.Lent.{lent_modules};
+    ghost use Rattle.gm_graph.specs.Private.Held.{lent_table};
     ghost use Rattle.gm_graph.specs.Summaries.{at_span};
 
     /// The part of a list of modules at a span.

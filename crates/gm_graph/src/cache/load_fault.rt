@@ -1,7 +1,7 @@
 //! Why loading a module graph stops.
 
 ghost use Rattle.std.specs.Prelude.{◌≡◌, IsSome};
-ghost use Rattle.gm_graph.specs.Refusals.{IsLoadFaultOf};
+ghost use Rattle.gm_graph.specs.Private.Asking.{IsLoadFaultOf};
 ghost use Rattle.gm_graph.specs.declared.cache.load_fault.LoadFault.TheVariants as load;
 
 use gm_store::{AskFault, FileName};

@@ -5,7 +5,7 @@ ghost use Rattle.std.proofs.Props.{props};
 ghost use Rattle.std.specs.List.{IsDistinct};
 ghost use Rattle.gm_name.specs.ModuleVersion.{pair_eq};
 ghost use Rattle.gm_name_table.specs.Listed.{AreModuleNumbers};
-ghost use Rattle.gm_graph.specs.Summaries.{AreInOrder, order_is_fact};
+ghost use Rattle.gm_graph.specs.Private.Summaries.{AreInOrder, order_is_fact};
 
 use crate::cache::summary::Kept;
 use gm_name::ModVer;

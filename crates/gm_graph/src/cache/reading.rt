@@ -8,7 +8,8 @@ ghost use Rattle.gm_file.specs.Misreading.{IsBytesFault};
 ghost use Rattle.std.specs.Option.{option_copied};
 ghost use Rattle.gm_store.specs.Asked.{IsWithinLimit, bytes, name_of, reply_of};
 ghost use Rattle.gm_graph.specs.Reading.{IsContentReading, IsFileReading, class_of_sum, sum_fault};
-ghost use Rattle.gm_graph.specs.Summaries.{Grows, RetractsBy, listed_reading, reading_of};
+ghost use Rattle.gm_graph.specs.Summaries.{RetractsBy, reading_of};
+ghost use Rattle.gm_graph.specs.Private.Summaries.{Grows, listed_reading};
 
 use crate::cache::class::Class;
 use gm_file::{BytesFault, DepFile, ListedFile, Misreading};

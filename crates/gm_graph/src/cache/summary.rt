@@ -9,8 +9,9 @@ ghost use Rattle.gm_name.specs.ModuleVersion.{ModuleVersion};
 ghost use Rattle.gm_name_table.specs.Listed.{Appends, modules_of};
 ghost use Rattle.gm_file.specs.Listed.{with_requirements};
 ghost use Rattle.gm_file.specs.Main.{is_excluded, without_excluded, main_of};
-ghost use Rattle.gm_graph.specs.Reading.{leads_on};
-ghost use Rattle.gm_graph.specs.Summaries.{Grows, IsSummary, at_span, nowhere, span_found};
+ghost use Rattle.gm_graph.specs.Private.Turns.{leads_on};
+ghost use Rattle.gm_graph.specs.Summaries.{IsSummary, at_span};
+ghost use Rattle.gm_graph.specs.Private.Summaries.{Grows, nowhere, span_found};
 
 use crate::cache::class::Class;
 use crate::cache::depth::Depth;

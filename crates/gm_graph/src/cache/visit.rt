@@ -20,7 +20,7 @@ pub(crate) enum Said {
 }
 
 impl Said {
-    ghost use Rattle.gm_graph.specs.CacheVisits.{file_said};
+    ghost use Rattle.gm_graph.specs.Private.CacheVisits.{file_said};
 
     /// The place of the vertex's file, if the vertex has no fault.
     pub(crate) fn file(self) -> Option<u32>
@@ -54,7 +54,7 @@ pub(crate) enum Visit<'a> {
 }
 
 impl<'a> Visit<'a> {
-    ghost use Rattle.gm_graph.specs.CacheVisits.{IsVisitOf};
+    ghost use Rattle.gm_graph.specs.Private.CacheVisits.{IsVisitOf};
 
     /// What a visit gets of a vertex, from what the cache says of it, and what it lent.
     pub(crate) fn of(said: Said, list: Lent<'a>) -> Visit<'a>

@@ -2,7 +2,7 @@ use Rattle.std.proofs.Common.{◌∙◌, ◌++◌, ◌∷◌, [], List, ap, appe
 use Rattle.gm_name.specs.ModuleVersion.{ModuleVersion}
 use Rattle.gm_graph.specs.declared.cache.class.Class.{Class}
 use Rattle.gm_graph.specs.declared.fault.Fault.{Fault}
-use Rattle.gm_graph.specs.Gathering.{fault}
+use Rattle.gm_graph.specs.Private.Gathering.{fault}
 use Rattle.gm_graph.proofs.gathering.fault_entries.Goals as goal
 
 pub loop-vertex-preserved : goal.loop-vertex-preserved

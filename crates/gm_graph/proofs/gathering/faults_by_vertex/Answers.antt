@@ -8,8 +8,8 @@ use Rattle.gm_name.specs.ModuleVersion.{ModuleVersion, module_at, pair_cmp}
 use Rattle.gm_graph.specs.declared.cache.class.Class.{Class}
 use Rattle.gm_graph.specs.declared.cache.class.Class.TheVariants.{Missing}
 use Rattle.gm_graph.specs.declared.findings.NumberedFault.{NumberedFault}
-use Rattle.gm_graph.specs.Findings.{numbered}
-use Rattle.gm_graph.specs.Gathering.{HasFaultOf}
+use Rattle.gm_graph.specs.Private.Findings.{numbered}
+use Rattle.gm_graph.specs.Private.Gathering.{HasFaultOf}
 use Rattle.gm_graph.proofs.Mapped.{each_more, only_more}
 use Rattle.gm_graph.proofs.gathering.faults_by_vertex.Goals as goal
 

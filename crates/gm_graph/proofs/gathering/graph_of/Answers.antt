@@ -1,7 +1,7 @@
 use Rattle.std.proofs.Common.{◌≡◌, ◌↔◌, ◌⊎◌, Contains, List, ap, subst, sym}
 use Rattle.std.specs.Prelude.{IfOk}
 use Rattle.gm_name.specs.ModuleVersion.{ModuleVersion}
-use Rattle.gm_graph.specs.Gathering.{has_file, sources_of as file_sources, spans_of, steps_by}
+use Rattle.gm_graph.specs.Private.Gathering.{has_file, sources_of as file_sources, spans_of, steps_by}
 use Rattle.gm_graph_select.specs.declared.adjacency.Source.{Source}
 use Rattle.gm_graph_select.specs.declared.number_lists.Span.{Span}
 use Rattle.gm_graph_select.specs.declared.step.Step.TheVariants.{Of}

@@ -1,8 +1,8 @@
 use Rattle.std.proofs.Common.{◌∙◌, ◌∷◌, Bool, List, Option, ℕ, ap, arith, false, length, subst, sym}
 use Rattle.std.specs.Prelude.{slice_index_or}
 use Rattle.gm_graph.specs.declared.cache.summary.Kept.{Kept}
-use Rattle.gm_graph.specs.Gathering.{has_file, spans_of}
-use Rattle.gm_graph.specs.Summaries.{AreInOrder}
+use Rattle.gm_graph.specs.Private.Gathering.{has_file, spans_of}
+use Rattle.gm_graph.specs.Private.Summaries.{AreInOrder}
 use Rattle.gm_graph_select.specs.declared.number_lists.Span.{Span}
 use Rattle.gm_graph.proofs.Gathered.{spans_same}
 use Rattle.gm_graph.proofs.Ordered.{order_longer}

@@ -1,5 +1,5 @@
 use Rattle.std.proofs.Common.{◌≡◌, ◌++◌, drop}
-use Rattle.gm_graph.specs.Gathering.{sources_from, sources_of}
+use Rattle.gm_graph.specs.Private.Gathering.{sources_from, sources_of}
 use Rattle.gm_graph.proofs.gathering.source_list.Given as goal
 
 abbrev pub invariant-loop-place : goal.invariant-loop-place

@@ -1,7 +1,7 @@
 use Rattle.std.proofs.Common.{◌+◌, List, arith, drop, false, refl, subst, sym}
 use Rattle.std.specs.Prelude.{slice_index_or}
 use Rattle.gm_graph.specs.declared.cache.summary.Kept.{Kept}
-use Rattle.gm_graph.specs.Summaries.{AreInOrder}
+use Rattle.gm_graph.specs.Private.Summaries.{AreInOrder}
 use Rattle.gm_graph_select.specs.declared.number_lists.Span.{Span}
 use Rattle.gm_graph.proofs.Gathered.{from_place, span_more}
 use Rattle.gm_graph.proofs.Ordered.{order_ends, order_first, order_rest}

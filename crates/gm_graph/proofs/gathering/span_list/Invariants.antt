@@ -1,7 +1,7 @@
 use Rattle.std.proofs.Common.{◌≡◌, ◌++◌, drop, false}
 use Rattle.std.specs.Prelude.{slice_index_or}
-use Rattle.gm_graph.specs.Gathering.{spans_from, spans_of}
-use Rattle.gm_graph.specs.Summaries.{AreInOrder}
+use Rattle.gm_graph.specs.Private.Gathering.{spans_from, spans_of}
+use Rattle.gm_graph.specs.Private.Summaries.{AreInOrder}
 use Rattle.gm_graph.proofs.gathering.span_list.Given as goal
 
 abbrev pub invariant-loop-kept : goal.invariant-loop-kept

@@ -1,6 +1,6 @@
 use Rattle.std.proofs.Common.{◌≡◌, ℕ, false, length, take}
 use Rattle.std.specs.Prelude.{slice_index_or}
-use Rattle.gm_graph.specs.Gathering.{has_file}
+use Rattle.gm_graph.specs.Private.Gathering.{has_file}
 use Rattle.gm_graph.proofs.gathering.used_files.Given as goal
 
 abbrev pub invariant-loop-place : goal.invariant-loop-place

@@ -8,7 +8,7 @@ use Rattle.gm_graph_select.specs.BuildList.{Entry, IsBuildList, entries_of_rows}
 use Rattle.gm_graph_select.specs.Graph.{among, edge_cmp}
 use Rattle.gm_graph_select.specs.Order.{HaveSame, IsAscending}
 use Rattle.gm_graph.specs.declared.fault.Fault.{Fault}
-use Rattle.gm_graph.specs.Gathering.{AreFaultsOf, steps_by}
+use Rattle.gm_graph.specs.Private.Gathering.{AreFaultsOf, steps_by}
 use Rattle.gm_graph.proofs.Ends.{ends_are}
 use Rattle.gm_graph.proofs.Rooted.{are_reached, sorted_rooted}
 use Rattle.gm_graph.proofs.loading.assemble.Goals as goal

@@ -7,8 +7,8 @@ use Rattle.gm_store.proofs.Serving.{nothing_served}
 use Rattle.gm_graph.specs.Cached.{run_in}
 use Rattle.gm_graph.specs.Refusals.{refused_names}
 use Rattle.gm_graph.specs.Run.{AreTooMany, IsRead, LoadingNeeds, Run}
-use Rattle.gm_graph.specs.Visiting.{IsOpenedIn}
-use Rattle.gm_graph.specs.Worklists.{turn_of}
+use Rattle.gm_graph.specs.Private.Visiting.{IsOpenedIn}
+use Rattle.gm_graph.specs.Private.Worklists.{turn_of}
 use Rattle.gm_graph.proofs.Dues.{none_in_turn, refused_same}
 use Rattle.gm_graph.proofs.InTurn.{in_turn_by}
 use Rattle.gm_graph.proofs.Keeping.{none_refused}

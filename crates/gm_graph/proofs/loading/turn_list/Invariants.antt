@@ -1,5 +1,5 @@
 use Rattle.std.proofs.Common.{◌≡◌, map, take}
-use Rattle.gm_graph.specs.Worklists.{turn_of}
+use Rattle.gm_graph.specs.Private.Worklists.{turn_of}
 use Rattle.gm_graph.proofs.loading.turn_list.Given as goal
 
 abbrev pub invariant-loop-one : goal.invariant-loop-one

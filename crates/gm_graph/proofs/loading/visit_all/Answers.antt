@@ -1,5 +1,5 @@
 use Rattle.std.proofs.Common.{Err, ap, arith, refl, sym}
-use Rattle.gm_graph.specs.Worklists.{turns_of}
+use Rattle.gm_graph.specs.Private.Worklists.{turns_of}
 use Rattle.gm_graph.specs.Cached.{main_in, run_in, sums_in, table_in}
 use Rattle.gm_graph.proofs.Dues.{refused_same}
 use Rattle.gm_graph.proofs.FoundFiles.{nothing_found, nothing_visited}

@@ -1,10 +1,11 @@
 use Rattle.std.proofs.Common.{◌∙◌, [], Err, List, ap, refl, subst, sym}
 use Rattle.gm_name.specs.ModuleVersion.{ModuleVersion}
-use Rattle.gm_graph.specs.Lent.{lent_modules, lent_table}
+use Rattle.gm_graph.specs.Lent.{lent_modules}
+use Rattle.gm_graph.specs.Private.Held.{lent_table}
 use Rattle.gm_file.specs.Main.{Main, is_pruned_by}
 use Rattle.gm_graph.specs.Cached.{run_in}
-use Rattle.gm_graph.specs.Turns.{OverflowsWith, depth_by}
-use Rattle.gm_graph.specs.Visiting.{IsFirstWorklist}
+use Rattle.gm_graph.specs.Private.Turns.{OverflowsWith, depth_by}
+use Rattle.gm_graph.specs.Private.Visiting.{IsFirstWorklist}
 use Rattle.gm_graph.proofs.AddFaults.{add_too_many}
 use Rattle.gm_graph.proofs.Keeping.{none_refused}
 use Rattle.gm_graph.proofs.FirstTurns.{is_first, required_in, too_many_first}

@@ -1,8 +1,8 @@
 use Rattle.std.proofs.Common.{Err, ap, subst, sym}
 use Rattle.gm_graph.specs.declared.followed.Followed.{Followed}
 use Rattle.gm_graph.specs.declared.worklist.Worklist.{Worklist}
-use Rattle.gm_graph.specs.Cached.{module_numbered}
-use Rattle.gm_graph.specs.CacheVisits.{required_by, table_of}
+use Rattle.gm_graph.specs.Private.Cached.{module_numbered}
+use Rattle.gm_graph.specs.Private.CacheVisits.{required_by, table_of}
 use Rattle.gm_graph.proofs.AddFaults.{add_too_many}
 use Rattle.gm_graph.proofs.FoundFiles.{file_finds, file_noted}
 use Rattle.gm_graph.proofs.TurnEnds.{LeadsOn, leads_further, leads_nowhere, required_added}

@@ -3,8 +3,9 @@ use Rattle.gm_name.specs.ModuleVersion.{ModuleVersion}
 use Rattle.gm_graph.specs.declared.cache.load_fault.LoadFault.TheVariants as load
 use Rattle.gm_graph.specs.declared.cache.visit.Visit.{Visit}
 use Rattle.gm_graph.specs.declared.cache.visit.Visit.TheVariants as visit
-use Rattle.gm_graph.specs.Cached.{main_in, module_numbered, run_in, table_in}
-use Rattle.gm_graph.specs.CacheVisits.{IsVisit, KeepsTurns, LendsOver, table_of}
+use Rattle.gm_graph.specs.Cached.{main_in, run_in, table_in}
+use Rattle.gm_graph.specs.Private.Cached.{module_numbered}
+use Rattle.gm_graph.specs.Private.CacheVisits.{IsVisit, KeepsTurns, LendsOver, table_of}
 use Rattle.gm_graph.specs.Reading.{file_of}
 use Rattle.gm_graph.specs.Run.{Says}
 use Rattle.gm_graph.proofs.AskedFile.{asks_by, has_some, refused_failed}

@@ -1,5 +1,5 @@
 use Rattle.std.proofs.Common.{ℕ, List, length, refl, subst, sym}
-use Rattle.gm_graph.specs.Summaries.{AreInOrder}
+use Rattle.gm_graph.specs.Private.Summaries.{AreInOrder}
 use Rattle.gm_graph.proofs.cache.Cache.into_parts.Goals as goal
 
 pub invariant_of-result : goal.invariant_of-result

@@ -6,9 +6,10 @@ use Rattle.gm_file.specs.Main.{Main, main_of}
 use Rattle.gm_store.specs.Asked.{Name, name_of}
 use Rattle.gm_store_sums.specs.Sums.{Sums}
 use Rattle.std.specs.Option.{option_and_then}
-use Rattle.gm_graph.specs.FileTable.{replacing_place}
+use Rattle.gm_graph.specs.Private.FileTable.{replacing_place}
 use Rattle.gm_graph.specs.Summaries.{IsKept, summary_reading}
-use Rattle.gm_graph.specs.Cached.{HasFileAt, main_in, module_numbered, table_in}
+use Rattle.gm_graph.specs.Cached.{main_in, table_in}
+use Rattle.gm_graph.specs.Private.Cached.{HasFileAt, module_numbered}
 use Rattle.gm_graph.specs.Reading.{IsFileReading, file_of, is_askable}
 use Rattle.gm_graph.proofs.Growing.{number_below, number_stays}
 use Rattle.gm_graph.proofs.Keeping.{any_err, holds_after, holds_failed, holds_itself, known_same, lent_after}

@@ -3,7 +3,8 @@ use Rattle.std.specs.Prelude.{slice_get}
 use Rattle.std.proofs.lemmas.Option.{get_or_from_slice_get, slice_get_within}
 use Rattle.gm_store.specs.Asked.{name_of}
 use Rattle.gm_store.specs.declared.files.FileName.{FileName}
-use Rattle.gm_graph.specs.Cached.{main_in, module_numbered, run_in, table_in}
+use Rattle.gm_graph.specs.Cached.{main_in, run_in, table_in}
+use Rattle.gm_graph.specs.Private.Cached.{module_numbered}
 use Rattle.gm_graph.specs.Reading.{file_of}
 use Rattle.gm_graph.proofs.FilePlaces.{place_by_absent, place_found}
 use Rattle.gm_graph.proofs.Named.{lender_named, name_here, no_name}

@@ -3,7 +3,8 @@ use Rattle.std.specs.Option.{option_copied, option_map}
 use Rattle.gm_name_table.specs.Listed.{modules_of}
 use Rattle.gm_file.specs.Main.{main_of}
 use Rattle.gm_graph.specs.declared.cache.summary.Kept.{Kept}
-use Rattle.gm_graph.specs.Summaries.{AreInOrder, summary_reading}
+use Rattle.gm_graph.specs.Summaries.{summary_reading}
+use Rattle.gm_graph.specs.Private.Summaries.{AreInOrder}
 use Rattle.gm_graph.proofs.HeldFiles.{none_some}
 use Rattle.gm_graph.proofs.cache.Cache.new.Goals as goal
 

@@ -7,7 +7,7 @@ use Rattle.gm_graph.specs.Cached.{main_in, sums_in, table_in}
 use Rattle.gm_graph.proofs.HeldFiles.{grown_some, numbered_more}
 use Rattle.gm_graph.proofs.Keeping.{holds_grown}
 use Rattle.gm_graph.proofs.PuttingPlaces.{notes_if_more}
-use Rattle.gm_graph.specs.Summaries.{AreInOrder}
+use Rattle.gm_graph.specs.Private.Summaries.{AreInOrder}
 use Rattle.gm_graph.proofs.cache.Cache.number.Goals as goal
 
 pub invariant_of-self-clause-in_order : goal.invariant_of-self-clause-in_order

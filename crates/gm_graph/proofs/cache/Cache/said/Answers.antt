@@ -4,7 +4,8 @@ use Rattle.gm_name_table.specs.Listed.{modules_of}
 use Rattle.gm_file.specs.Listed.{with_requirements}
 use Rattle.gm_graph.specs.declared.cache.summary.Kept.{Kept}
 use Rattle.gm_graph.specs.declared.cache.summary.Kept.TheVariants.{Valid}
-use Rattle.gm_graph.specs.Cached.{HasFileAt, IsPlaceFor, main_in, module_numbered}
+use Rattle.gm_graph.specs.Cached.{main_in}
+use Rattle.gm_graph.specs.Private.Cached.{HasFileAt, IsPlaceFor, module_numbered}
 use Rattle.gm_file.specs.Main.{replacement_in}
 use Rattle.gm_graph.specs.Reading.{is_right_path}
 use Rattle.gm_graph.specs.Run.{faulty, sound, unaskable, wrong_path}

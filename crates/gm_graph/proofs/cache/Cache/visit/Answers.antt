@@ -5,8 +5,9 @@ use Rattle.gm_name.specs.ModuleVersion.{ModuleVersion, pair_eq}
 use Rattle.gm_name_table.specs.Listed.{NumberedList, modules_of}
 use Rattle.gm_graph.specs.declared.cache.depth.Turn.{Turn}
 use Rattle.gm_graph.specs.declared.cache.file_table.FileTable.{FileTable}
-use Rattle.gm_graph.specs.Cached.{file_count, main_in, module_numbered, run_in, span_at}
-use Rattle.gm_graph.specs.CacheVisits.{file_said}
+use Rattle.gm_graph.specs.Cached.{file_count, main_in, run_in}
+use Rattle.gm_graph.specs.Private.Cached.{module_numbered, span_at}
+use Rattle.gm_graph.specs.Private.CacheVisits.{file_said}
 use Rattle.gm_graph.specs.Summaries.{IsWithinList, at_span}
 use Rattle.gm_graph.specs.Turns.{turn}
 use Rattle.gm_graph.proofs.AskedFile.{asks_for}

@@ -1,6 +1,7 @@
 use Rattle.std.proofs.Common.{◌∙◌, sym}
-use Rattle.gm_graph.specs.Lent.{lent_modules, lent_table}
-use Rattle.gm_graph.specs.Worklists.{turns_of}
+use Rattle.gm_graph.specs.Lent.{lent_modules}
+use Rattle.gm_graph.specs.Private.Held.{lent_table}
+use Rattle.gm_graph.specs.Private.Worklists.{turns_of}
 use Rattle.gm_graph.proofs.FollowedFiles.{adds_no_file, adds_there}
 use Rattle.gm_graph.proofs.followed.Followed.follow.Goals as goal
 

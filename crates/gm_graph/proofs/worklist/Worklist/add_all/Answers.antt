@@ -1,8 +1,8 @@
 use Rattle.std.proofs.Common.{◌≡◌, ◌∙◌, [], Contains, Err, List, append-nil, ap, arith, inl, map, subst, sym}
 use Rattle.gm_name.specs.ModuleVersion.{ModuleVersion}
-use Rattle.gm_graph.specs.Lent.{lent_table}
-use Rattle.gm_graph.specs.Worklists.{turn_of, turns_of}
-use Rattle.gm_graph.specs.Turns.{AddsAll, OverflowsWith}
+use Rattle.gm_graph.specs.Private.Held.{lent_table}
+use Rattle.gm_graph.specs.Private.Worklists.{turn_of, turns_of}
+use Rattle.gm_graph.specs.Private.Turns.{AddsAll, OverflowsWith}
 use Rattle.gm_graph.specs.declared.cache.depth.Depth.{Depth}
 use Rattle.gm_graph.specs.declared.cache.depth.Turn.{Turn}
 use Rattle.gm_graph.proofs.AddingAll.{adds_number, overflow_at}

@@ -1,8 +1,8 @@
 use Rattle.std.proofs.Common.{◌≤◌, length, take}
 use Rattle.gm_name_table.specs.Listed.{modules_at}
-use Rattle.gm_graph.specs.Lent.{lent_table}
-use Rattle.gm_graph.specs.Worklists.{IsWorklist, turns_of}
-use Rattle.gm_graph.specs.Turns.{AddsAll}
+use Rattle.gm_graph.specs.Private.Held.{lent_table}
+use Rattle.gm_graph.specs.Private.Worklists.{IsWorklist, turns_of}
+use Rattle.gm_graph.specs.Private.Turns.{AddsAll}
 use Rattle.gm_graph.proofs.worklist.Worklist.add_all.Given as goal
 
 abbrev pub invariant-loop-number : goal.invariant-loop-number

@@ -6,9 +6,9 @@ use Rattle.gm_store.specs.Asked.{Name, name_of, same_name}
 use Rattle.gm_store.specs.declared.files.FileName.{FileName}
 use Rattle.gm_graph.proofs.Keeping.{any_err}
 use Rattle.gm_graph.proofs.PuttingPlaces.{notes_kept, notes_put, within_put}
-use Rattle.gm_graph.specs.Places.{AreWithin}
+use Rattle.gm_graph.specs.Private.Places.{AreWithin}
 use Rattle.gm_graph.specs.declared.cache.summary.Kept.{Kept}
-use Rattle.gm_graph.specs.FileTable.{replacing_place}
+use Rattle.gm_graph.specs.Private.FileTable.{replacing_place}
 use Rattle.gm_name.specs.OptionalPlaces.{no_place, place_in}
 use Rattle.gm_name.specs.declared.place.OptionalPlace.{OptionalPlace}
 use Rattle.gm_graph.proofs.cache.file_table.FileTable.put.Goals as goal

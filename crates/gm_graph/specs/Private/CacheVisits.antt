@@ -20,10 +20,13 @@ use Rattle.gm_graph.specs.declared.cache.visit.Said.{Said}
 use Rattle.gm_graph.specs.declared.cache.visit.Said.TheVariants as said
 use Rattle.gm_graph.specs.declared.cache.visit.Visit.{Visit}
 use Rattle.gm_graph.specs.declared.cache.visit.Visit.TheVariants as visit
-use Rattle.gm_graph.specs.Asking.{HasName}
-use Rattle.gm_graph.specs.Cached.{IsSound, KeepsSound, Knows, file_count, main_in, module_numbered, run_in, sums_in, table_in, turns_in}
-use Rattle.gm_graph.specs.Lent.{lent_modules, lent_table}
-use Rattle.gm_graph.specs.Reading.{file_of, leads_on}
+use Rattle.gm_graph.specs.Private.Asking.{HasName}
+use Rattle.gm_graph.specs.Cached.{IsSound, KeepsSound, Knows, file_count, main_in, run_in, sums_in, table_in, turns_in}
+use Rattle.gm_graph.specs.Private.Cached.{module_numbered}
+use Rattle.gm_graph.specs.Lent.{lent_modules}
+use Rattle.gm_graph.specs.Private.Held.{lent_table}
+use Rattle.gm_graph.specs.Reading.{file_of}
+use Rattle.gm_graph.specs.Private.Turns.{leads_on}
 use Rattle.gm_graph.specs.Run.{KeepsSayings, Run, Says}
 use Rattle.gm_graph.specs.contracts.cache.Cache.{the_row}
 use Rattle.gm_graph.specs.Turns.{turn}

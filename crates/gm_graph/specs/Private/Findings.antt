@@ -4,7 +4,8 @@ use Rattle.gm_graph.specs.declared.cache.Cache.{Cache}
 use Rattle.gm_graph.specs.declared.cache.class.Class.{Class}
 use Rattle.gm_graph.specs.declared.findings.Findings.{Findings}
 use Rattle.gm_graph.specs.declared.findings.NumberedFault.{NumberedFault}
-use Rattle.gm_graph.specs.Cached.{IsSound, module_numbered, table_in}
+use Rattle.gm_graph.specs.Cached.{IsSound, table_in}
+use Rattle.gm_graph.specs.Private.Cached.{module_numbered}
 use Rattle.gm_graph.specs.Run.{Run, Says}
 
 -- the place of the file of the vertex with a number, if that was visited and has no fault

@@ -6,14 +6,15 @@ use Rattle.gm_graph.specs.declared.findings.Findings.{Findings}
 use Rattle.gm_graph.specs.declared.followed.Followed.{Followed}
 use Rattle.gm_graph.specs.declared.worklist.NumberedTurn.{NumberedTurn}
 use Rattle.gm_graph.specs.declared.worklist.Worklist.{Worklist}
-use Rattle.gm_graph.specs.Cached.{Knows, file_count, module_numbered, run_in, table_in, turns_in}
-use Rattle.gm_graph.specs.CacheVisits.{Continues}
-use Rattle.gm_graph.specs.Findings.{AreFindings, FindsOne}
-use Rattle.gm_graph.specs.Followed.{AreFollowedIn}
+use Rattle.gm_graph.specs.Cached.{Knows, file_count, run_in, table_in, turns_in}
+use Rattle.gm_graph.specs.Private.Cached.{module_numbered}
+use Rattle.gm_graph.specs.Private.CacheVisits.{Continues}
+use Rattle.gm_graph.specs.Private.Findings.{AreFindings, FindsOne}
+use Rattle.gm_graph.specs.Private.Followed.{AreFollowedIn}
 use Rattle.gm_graph.specs.Run.{Run}
 use Rattle.gm_graph.specs.Turns.{turn}
-use Rattle.gm_graph.specs.VisitedTurns.{Visits}
-use Rattle.gm_graph.specs.Worklists.{IsWorklist, turn_of, turns_of}
+use Rattle.gm_graph.specs.Private.VisitedTurns.{Visits}
+use Rattle.gm_graph.specs.Private.Worklists.{IsWorklist, turn_of, turns_of}
 
 -- The numbers in the worklist are those of a cache's modules, what a file that is marked as followed requires has turns,
 -- and what was found is so.

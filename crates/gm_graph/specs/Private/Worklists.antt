@@ -4,8 +4,9 @@ use Rattle.std.specs.List.{IsDistinct, list_any}
 use Rattle.gm_name.specs.ModuleVersion.{ModuleVersion, module_at, pair_eq}
 use Rattle.gm_graph.specs.declared.cache.depth.Depth.{Depth}
 use Rattle.gm_graph.specs.declared.cache.depth.Turn.{Turn}
-use Rattle.gm_graph.specs.Turns.{turn, AreTurnsOf, same_turn}
-use Rattle.gm_graph.specs.Marks.{is_marked}
+use Rattle.gm_graph.specs.Turns.{turn, same_turn}
+use Rattle.gm_graph.specs.Private.Turns.{AreTurnsOf}
+use Rattle.gm_graph.specs.Private.Marks.{is_marked}
 use Rattle.gm_graph.specs.declared.marks.Marks.{Marks}
 use Rattle.gm_graph.specs.declared.worklist.NumberedTurn.{NumberedTurn}
 use Rattle.gm_graph.specs.declared.worklist.Worklist.{Worklist}

@@ -10,12 +10,13 @@ use Rattle.gm_graph.specs.declared.cache.depth.Depth.{Depth}
 use Rattle.gm_graph.specs.declared.cache.depth.Turn.{Turn}
 use Rattle.gm_graph.specs.declared.findings.Findings.{Findings}
 use Rattle.gm_graph.specs.declared.worklist.Worklist.{Worklist}
-use Rattle.gm_graph.specs.Cached.{file_count, main_in, module_numbered, span_at, table_in, turns_in}
-use Rattle.gm_graph.specs.Findings.{AreFindings, WasVisited, place_found}
+use Rattle.gm_graph.specs.Cached.{file_count, main_in, table_in, turns_in}
+use Rattle.gm_graph.specs.Private.Cached.{module_numbered, span_at}
+use Rattle.gm_graph.specs.Private.Findings.{AreFindings, WasVisited, place_found}
 use Rattle.gm_graph.specs.Run.{AreTurns, IsOpened, IsRead, Run, Says}
 use Rattle.gm_graph.specs.Summaries.{at_span}
-use Rattle.gm_graph.specs.VisitedTurns.{AreFirstTurns, VisitOverflows}
-use Rattle.gm_graph.specs.Worklists.{IsWorklist, turns_of}
+use Rattle.gm_graph.specs.Private.VisitedTurns.{AreFirstTurns, VisitOverflows}
+use Rattle.gm_graph.specs.Private.Worklists.{IsWorklist, turns_of}
 
 -- The worklist before the first visit: the turns are those of the main file's requirements.
 pub record IsFirstWorklist (run : Run) (modules : List ModuleVersion) (worklist : Worklist) : Type 0 where

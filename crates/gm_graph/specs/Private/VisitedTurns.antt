@@ -8,9 +8,9 @@ use Rattle.gm_graph.specs.declared.cache.class.Class.{Class}
 use Rattle.gm_graph.specs.declared.cache.depth.Depth.{Depth}
 use Rattle.gm_graph.specs.declared.cache.depth.Depth.TheVariants.{Top, Deep}
 use Rattle.gm_graph.specs.declared.cache.depth.Turn.{Turn}
-use Rattle.gm_graph.specs.Reading.{leads_on}
+use Rattle.gm_graph.specs.Private.Turns.{leads_on, OverflowsWith}
 use Rattle.gm_graph.specs.Run.{IsTop, Run, Says, TakesTurn}
-use Rattle.gm_graph.specs.Turns.{OverflowsWith, turn}
+use Rattle.gm_graph.specs.Turns.{turn}
 
 -- Each turn is one that its vertex takes.
 abbrev pub AllValidTurns : Run → List Turn → Type 0
