@@ -12,8 +12,8 @@ use Rattle.gm_file_edit.specs.Edited.{with_addition, after_closing, after_first_
 use Rattle.gm_file_edit.specs.declared.adding.Spot.{Spot}
 use Rattle.gm_file_edit.specs.NewWords.{entry_at, single}
 use Rattle.gm_file_edit.specs.Holding.{directive_at, passes, is_there}
-use Rattle.gm_file_edit.specs.Keys.{changes_block, entry_verb, key_of}
-use Rattle.gm_file_edit.specs.Marks.{IsPlaceOf, line_at}
+use Rattle.gm_file_edit.specs.Private.Keys.{changes_block, entry_verb, key_of}
+use Rattle.gm_file_edit.specs.Private.Marks.{IsPlaceOf, line_at}
 use Rattle.gm_file_edit.specs.declared.keys.Key.{Key}
 use Rattle.gm_file.specs.declared.verb.Verb.{Verb}
 use Rattle.gm_file.specs.declared.verb.Verb.TheVariants as verb

@@ -17,7 +17,7 @@ use Rattle.gm_file.specs.Faults.{is_same_left, is_same_version}
 use Rattle.gm_file.specs.Values.{argument}
 use Rattle.gm_file_edit.specs.About.{about, excludes_pair, is_covered_by, is_replaced_by, replaces_left, requires_path, retracts_ends}
 use Rattle.gm_file_edit.specs.Edits.{Edit, Set, ModuleIs, GoIs, RequireAt, Drop, AnyRequire, Add, Exclude, AnyExclude, ReplaceWith, AnyReplace, Retract, AnyRetract}
-use Rattle.gm_file_edit.specs.Keys.{AreAmong, IsValueIn, bits_with, optional_bits, target_texts, target_verb, texts_bits}
+use Rattle.gm_file_edit.specs.Private.Keys.{AreAmong, IsValueIn, bits_with, optional_bits, target_texts, target_verb, texts_bits}
 use Rattle.gm_file_edit.proofs.Feeds.{both-are, map-some}
 
 -- ---- bits among others

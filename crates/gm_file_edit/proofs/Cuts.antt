@@ -1,7 +1,7 @@
 -- Splitting the texts of operations keeps them valid UTF-8; paths and versions that are parsed.
 use Rattle.std.specs.Borrow.{Bor}
 use Rattle.std.specs.Prelude.{MatchOption, slice_index}
-use Rattle.gm_file_edit.specs.Sound.{split_view}
+use Rattle.gm_file_edit.specs.Private.Sound.{split_view}
 use Rattle.gm_name.proofs.NameTests.{and_both, path-tested, version-tested}
 use Rattle.std.proofs.Common.{◌≡◌, ℕ, ◌-◌, ◌==◌, ◌&&◌, ◌<◌, nat_lt, true, false, List, [], ◌∷◌, length, get_or, Option, Some, None, inl, inr, refl, ◌∙◌, arith, ◌↔◌, Bool}
 use Rattle.std.proofs.lemmas.Bool.{cases_Bool}

@@ -33,7 +33,7 @@ use Rattle.gm_file_edit.proofs.Feeds.{byte-feed, go-feed, path-feed, version-fee
 use Rattle.gm_file_edit.proofs.Made.{AreArguments, begins-path, made-no-mark, made-stands, made-value, one-are, open-behind}
 use Rattle.gm_file_edit.proofs.Renewals.{go-says, put_by, renewal, replace-are, replace-says, wanted}
 use Rattle.gm_file_edit.proofs.Pairs.{IsSound, document-sound, held_from, sound-document}
-use Rattle.gm_file_edit.specs.Keys.{target_verb}
+use Rattle.gm_file_edit.specs.Private.Keys.{target_verb}
 use Rattle.gm_file_edit.proofs.Targets.{about-module}
 use Rattle.gm_file_edit.proofs.Untouched.{by-edited}
 

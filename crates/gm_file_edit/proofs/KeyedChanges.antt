@@ -12,7 +12,7 @@ use Rattle.gm_syntax.specs.Document.{Line, Blank}
 use Rattle.gm_syntax.specs.LineViews.{line_of, line_views}
 use Rattle.gm_syntax.specs.Tokens.{Placed}
 use Rattle.gm_file_edit.specs.declared.keys.Key.{Key}
-use Rattle.gm_file_edit.specs.Keys.{key_of}
+use Rattle.gm_file_edit.specs.Private.Keys.{key_of}
 
 -- the keys are those of the lines, which are seen as such
 pub record AreKeyed (lines : List declared.Line) (keys : List Key) (seen : List (Line Placed)) : Type 0 where

@@ -12,10 +12,10 @@ use Rattle.gm_file_edit.specs.About.{about}
 use Rattle.gm_file_edit.specs.Edited.{with_change, lines_after, put_in}
 use Rattle.gm_file_edit.specs.Edits.{Edit}
 use Rattle.gm_file_edit.specs.Renewing.{made_new}
-use Rattle.gm_file_edit.specs.Marks.{line_at, fates_of, marks_from}
+use Rattle.gm_file_edit.specs.Private.Marks.{line_at, fates_of, marks_from}
 use Rattle.gm_file_edit.specs.declared.keys.Key.{Key}
 use Rattle.gm_file.specs.declared.verb.Verb.{Verb}
-use Rattle.gm_file_edit.specs.Keys.{key_of}
+use Rattle.gm_file_edit.specs.Private.Keys.{key_of}
 use Rattle.gm_file_edit.proofs.Packs.{first-is, first_of}
 use Rattle.gm_file_edit.proofs.PassedOver.{IsVerbTo, StepsVerb, verb-more}
 use Rattle.gm_file_edit.proofs.Walking.{block-next}

@@ -7,7 +7,7 @@ use Rattle.std.proofs.lemmas.List.{drop-drop, drop-set-lt, get_or_default, lengt
 use Rattle.gm_syntax.specs.Tokens.{Placed}
 use Rattle.gm_syntax.specs.Document.{Line, Blank, Comment, Open, Close, Entry}
 use Rattle.gm_file_edit.specs.Fates.{Fate, empties, fate_by, kept_lines, remaining, widened_from}
-use Rattle.gm_file_edit.specs.Marks.{is_blank_source_line, line_at, fates_of}
+use Rattle.gm_file_edit.specs.Private.Marks.{is_blank_source_line, line_at, fates_of}
 use Rattle.gm_file_edit.proofs.Untouched.{all-lines-stay, all_stay}
 use Rattle.gm_file_edit.proofs.Walking.{drop-next, line-here}
 

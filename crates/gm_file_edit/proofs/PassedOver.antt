@@ -11,8 +11,8 @@ use Rattle.gm_file.proofs.DirectiveVerbs.{directive-verb, verb-itself}
 use Rattle.gm_file_edit.specs.About.{about}
 use Rattle.gm_file_edit.specs.Edits.{Edit, Set, ModuleIs, Drop, AnyRequire, Add, Exclude}
 use Rattle.gm_file_edit.specs.Holding.{directive_at, item_of, passes}
-use Rattle.gm_file_edit.specs.Keys.{HasBits, HasTexts, IsValueIn, block_verb, entry_verb, key_of, target_texts, target_verb, texts_bits}
-use Rattle.gm_file_edit.specs.Marks.{line_at}
+use Rattle.gm_file_edit.specs.Private.Keys.{HasBits, HasTexts, IsValueIn, block_verb, entry_verb, key_of, target_texts, target_verb, texts_bits}
+use Rattle.gm_file_edit.specs.Private.Marks.{line_at}
 use Rattle.gm_file_edit.specs.declared.keys.Key.{Key}
 use Rattle.gm_file_edit.proofs.Bits.{AreValuesIn, target-has, values-have}
 use Rattle.gm_file_edit.proofs.Pairs.{IsSound}

@@ -11,8 +11,9 @@ use Rattle.gm_file.specs.Faults.{entry_kinds, is_module, item_kinds}
 use Rattle.gm_file.proofs.DirectiveVerbs.{directive-verb, same-verb, verb-itself}
 use Rattle.gm_file_edit.specs.About.{about}
 use Rattle.gm_file_edit.specs.Edits.{Edit, Set, ModuleIs, GoIs, RequireAt, Drop, AnyRequire, Add, Exclude, AnyExclude, ReplaceWith, AnyReplace, Retract, AnyRetract}
-use Rattle.gm_file_edit.specs.Holding.{IsValidAt, directive_at, item_of, passes}
-use Rattle.gm_file_edit.specs.Keys.{target_verb}
+use Rattle.gm_file_edit.specs.Holding.{directive_at, item_of, passes}
+use Rattle.gm_file_edit.specs.Private.Holding.{IsValidAt}
+use Rattle.gm_file_edit.specs.Private.Keys.{target_verb}
 
 -- ---- the verb of an operation
 

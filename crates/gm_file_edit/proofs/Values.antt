@@ -15,8 +15,8 @@ use Rattle.gm_file.specs.Directives.{Directive, Strict, item_at}
 use Rattle.gm_file.specs.Faults.{item_kinds}
 use Rattle.gm_file.specs.Fields.{first}
 use Rattle.gm_file.specs.Values.{argument, argument_of_kind}
-use Rattle.gm_file_edit.specs.Holding.{IsValidAt}
-use Rattle.gm_file_edit.specs.Keys.{IsValueIn, bits_with, optional_bits}
+use Rattle.gm_file_edit.specs.Private.Holding.{IsValidAt}
+use Rattle.gm_file_edit.specs.Private.Keys.{IsValueIn, bits_with, optional_bits}
 use Rattle.gm_file_edit.proofs.Walking.{drop-next}
 
 -- ---- one word

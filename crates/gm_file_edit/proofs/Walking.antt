@@ -4,8 +4,8 @@ use Rattle.std.proofs.lemmas.List.{get_or_default, take_more}
 use Rattle.gm_syntax.specs.Tokens.{Placed}
 use Rattle.gm_syntax.specs.Document.{Line, Blank, Comment, Open, Close, Entry}
 use Rattle.gm_file.specs.Directives.{block_after_line, block_after_lines}
-use Rattle.gm_file_edit.specs.Keys.{changes_block, key_of}
-use Rattle.gm_file_edit.specs.Marks.{line_at}
+use Rattle.gm_file_edit.specs.Private.Keys.{changes_block, key_of}
+use Rattle.gm_file_edit.specs.Private.Marks.{line_at}
 use Rattle.gm_file_edit.proofs.Pairs.{AreRightFrom, IsRightLine, block-append}
 
 pub drop-next : {X : Type 0} (xs : List X) (n : ℕ) (x : X) → n < length xs → x ≡ get_or xs n x → drop n xs ≡ x ∷ drop (n + 1) xs

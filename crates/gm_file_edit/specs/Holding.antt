@@ -1,11 +1,10 @@
 -- The directive that a line of a file holds, and whether a line holds one that passes a test.
-use Rattle.std.specs.Prelude.{◌≡◌, ◌||◌, Bool, false, List, [], ◌∷◌, Option, Some, None}
+use Rattle.std.specs.Prelude.{◌||◌, Bool, false, List, [], ◌∷◌, Option, Some, None}
 use Rattle.std.specs.Option.{option_map}
 use Rattle.gm_syntax.specs.Tokens.{Placed}
 use Rattle.gm_syntax.specs.Document.{Line}
 use Rattle.gm_syntax.specs.LineViews.{plain}
 use Rattle.gm_file.specs.Directives.{Strict, Directive, Item, block_after_line, item_at, directive_in}
-use Rattle.gm_file.specs.Faults.{item_kinds}
 
 -- what a line says, given the verb of the open block, if any
 abbrev pub item_of : Option Placed → Line Placed → Item
@@ -19,10 +18,6 @@ directive_at block line = directive_in Strict (item_of block line)
 abbrev pub passes : (Directive → Bool) → Option Directive → Bool
 passes test None = false
 passes test (Some d) = test d
-
--- the line has no fault by itself in its block
-abbrev pub IsValidAt : Option Placed → Line Placed → Type 0
-IsValidAt block line = item_kinds Strict [] (item_of block line) ≡ []
 
 -- whether a line holds a directive that passes the test, given the verb of the block, if any, that is open before them
 abbrev pub is_there : (Directive → Bool) → Option Placed → List (Line Placed) → Bool

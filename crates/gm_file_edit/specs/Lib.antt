@@ -3,8 +3,8 @@ pub mod Kinds
 pub mod Holding
 pub mod Fates
 pub mod About
-pub mod Marks
 pub mod NewWords
+pub mod Private
 pub mod Renewing
 pub mod Sound
 pub mod Edited
@@ -12,4 +12,3 @@ pub mod Laws
 pub mod EditLaws
 pub mod GoPlace
 pub mod Undone
-pub mod Keys

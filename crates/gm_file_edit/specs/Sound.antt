@@ -1,13 +1,9 @@
 -- How contracts see a parsed operation, and what is known of its arguments. Of this file public contracts name none but
 -- `edit_of`, the view of `Op`.
-use Rattle.std.specs.Prelude.{◌≡◌, ℕ, List, Option, Some, None, Result, Ok, Err, string_bytes, ⊤, true, false, is_some}
-use Rattle.std.specs.Option.{option_map}
-use Rattle.std.specs.Borrow.{Bor}
+use Rattle.std.specs.Prelude.{◌≡◌, ℕ, List, Option, Some, None, string_bytes, ⊤, true, false, is_some}
 use Rattle.gm_file.specs.Directives.{Left, VersionInterval, Right, Folder, Module}
 use Rattle.gm_file_edit.specs.declared.part.LeftSide.{LeftSide}
 use Rattle.gm_file.specs.Views.{interval_view, replace_view}
-use Rattle.gm_file_edit.specs.declared.fault.OpFault.{OpFault}
-use Rattle.gm_file_edit.specs.declared.fault.OpFault.TheVariants as fault
 use Rattle.gm_file_edit.specs.declared.op.Addition as declared_addition
 use Rattle.gm_file_edit.specs.declared.op.Addition.TheVariants as addition
 use Rattle.gm_file_edit.specs.declared.op.Setting as declared_setting
@@ -27,10 +23,6 @@ use Rattle.gm_file.specs.GoVersions.{strict_go}
 -- the left side of a replace
 abbrev pub left_view : LeftSide → Left
 left_view side = record { path = side.path; version = side.version }
-
--- the two parts of a split text
-abbrev pub split_view : Option (Bor (List ℕ) × Bor (List ℕ)) → Option (List ℕ × List ℕ)
-split_view cut = option_map (λ parts. (parts.0.now, parts.1.now)) cut
 
 -- the directive that is set
 abbrev pub setting_of : declared_setting.Setting → Setting
@@ -56,12 +48,6 @@ abbrev pub edit_of : declared.Change → Edit
 edit_of (change.Set s) = Set (setting_of s)
 edit_of (change.Add a) = Add (addition_of a)
 edit_of (change.Drop t) = Drop (target_of t)
-
--- the result is this part, or `Spelling` if there is none; nothing is known if memory runs out
-abbrev pub IsParsedPart : {X Y : Type 0} → (Y → X) → Option X → Result Y OpFault → Type 0
-IsParsedPart view part (Ok y) = part ≡ Some (view y)
-IsParsedPart view part (Err fault.NoMemory) = ⊤
-IsParsedPart view part (Err fault.Spelling) = part ≡ None
 
 -- ---- valid arguments
 

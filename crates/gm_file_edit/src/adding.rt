@@ -12,7 +12,7 @@ ghost use Rattle.gm_file.specs.Faults.{fault_of, is_module};
 ghost use Rattle.gm_file_edit.specs.Edited.{with_addition, after_closing, after_first_of};
 ghost use Rattle.gm_syntax.specs.Lines.{HasNoLineFeed};
 ghost use Rattle.gm_file_edit.specs.NewWords.{entry_at, made_word, single};
-ghost use Rattle.gm_file_edit.specs.Marks.{IsPlaceOf};
+ghost use Rattle.gm_file_edit.specs.Private.Marks.{IsPlaceOf};
 ghost use Rattle.gm_file_edit.specs.Holding.{is_there};
 
 use crate::keyed_lines::KeyedLines;

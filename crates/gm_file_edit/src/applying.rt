@@ -13,7 +13,7 @@ ghost use Rattle.gm_file_edit.specs.About.{about};
 ghost use Rattle.gm_file_edit.specs.Edits.{Add, Set};
 ghost use Rattle.gm_file_edit.specs.Edited.{with_addition, with_change, lines_after, put_in};
 ghost use Rattle.gm_file_edit.specs.Kinds.{is_fit};
-ghost use Rattle.gm_file_edit.specs.Marks.{marks_from};
+ghost use Rattle.gm_file_edit.specs.Private.Marks.{marks_from};
 ghost use Rattle.gm_file_edit.specs.NewWords.{pair_words};
 ghost use Rattle.gm_file_edit.specs.Sound.{IsSoundEdit, addition_of, edit_of, setting_of};
 

@@ -5,8 +5,8 @@ ghost use Rattle.std.specs.List.{swap};
 ghost use Rattle.std.specs.Vec.{vec_capacity, vec_len};
 ghost use Rattle.gm_syntax.specs.Document.{Blank};
 ghost use Rattle.gm_syntax.specs.LineViews.{line_of, line_views};
-ghost use Rattle.gm_file_edit.specs.Keys.{key_of};
-ghost use Rattle.gm_file_edit.specs.Marks.{line_at};
+ghost use Rattle.gm_file_edit.specs.Private.Keys.{key_of};
+ghost use Rattle.gm_file_edit.specs.Private.Marks.{line_at};
 
 use crate::keys::{Key, key_of};
 use gm_syntax::Line;
@@ -28,7 +28,7 @@ impl<'a> Model for KeyedLines<'a> {
     ghost use Rattle.gm_syntax.specs.Tokens.{Placed};
     ghost use Rattle.gm_syntax.specs.Document.{Line as LineOf};
     ghost use Rattle.gm_syntax.specs.LineViews.{line_views};
-    ghost use Rattle.gm_file_edit.specs.Keys.{key_of};
+    ghost use Rattle.gm_file_edit.specs.Private.Keys.{key_of};
 
     ghost Value = { List (LineOf Placed) };
 

@@ -12,7 +12,7 @@ ghost use Rattle.gm_syntax.specs.Tokens.{Placed, words_of};
 ghost use Rattle.gm_file.specs.Directives.{block_after_line, verb_eq};
 ghost use Rattle.gm_file.specs.declared.verb.Verb.TheVariants.{Unknown};
 ghost use Rattle.gm_file.specs.Values.{argument};
-ghost use Rattle.gm_file_edit.specs.Keys.{HasBits, bits_with, block_verb, changes_block, entry_verb, key_of, optional_bits, text_bits, verb_outside};
+ghost use Rattle.gm_file_edit.specs.Private.Keys.{HasBits, bits_with, block_verb, changes_block, entry_verb, key_of, optional_bits, text_bits, verb_outside};
 
 use gm_file::{Verb, block_after_line, is_empty_block, main_verb};
 use gm_name::{fingerprint, tag_of};

@@ -13,9 +13,10 @@ ghost use Rattle.gm_file.specs.Faults.{fault_of};
 ghost use Rattle.gm_file.specs.Values.{argument};
 ghost use Rattle.gm_file_edit.specs.About.{about};
 ghost use Rattle.gm_file_edit.specs.Edits.{Edit};
-ghost use Rattle.gm_file_edit.specs.Holding.{IsValidAt, directive_at, passes};
-ghost use Rattle.gm_file_edit.specs.Keys.{HasTexts, IsValueIn, block_verb, key_of, target_texts, target_verb, texts_bits, texts_view};
-ghost use Rattle.gm_file_edit.specs.Marks.{marks_from};
+ghost use Rattle.gm_file_edit.specs.Holding.{directive_at, passes};
+ghost use Rattle.gm_file_edit.specs.Private.Holding.{IsValidAt};
+ghost use Rattle.gm_file_edit.specs.Private.Keys.{HasTexts, IsValueIn, block_verb, key_of, target_texts, target_verb, texts_bits, texts_view};
+ghost use Rattle.gm_file_edit.specs.Private.Marks.{marks_from};
 ghost use Rattle.gm_file_edit.specs.Sound.{edit_of};
 
 use crate::keyed_lines::KeyedLines;

@@ -4,7 +4,8 @@
 
 ghost use Rattle.std.specs.Prelude.{◌≡◌, IfOk, IsErrOf, None, Some};
 ghost use Rattle.gm_file_edit.specs.Edits.{edit_in, edit_named};
-ghost use Rattle.gm_file_edit.specs.Sound.{IsParsedPart, edit_of};
+ghost use Rattle.gm_file_edit.specs.Sound.{edit_of};
+ghost use Rattle.gm_file_edit.specs.Private.Sound.{IsParsedPart};
 
 use crate::fault::OpFault;
 use crate::part::{
@@ -72,8 +73,7 @@ pub struct Op {
 
 impl Model for Op {
     ghost use Rattle.gm_file_edit.specs.Edits.{Edit};
-    ghost use Rattle.gm_file_edit.specs.Sound.{IsSoundEdit};
-    ghost use Rattle.gm_file_edit.specs.Sound.{edit_of};
+    ghost use Rattle.gm_file_edit.specs.Sound.{IsSoundEdit, edit_of};
 
     ghost Value = { Edit };
 

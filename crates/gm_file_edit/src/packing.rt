@@ -9,7 +9,7 @@ ghost use Rattle.std.specs.List.{list_any};
 ghost use Rattle.std.specs.Option.{option_map};
 ghost use Rattle.gm_syntax.specs.LineViews.{line_of};
 ghost use Rattle.gm_file_edit.specs.Fates.{empties, fate_by, kept_lines, remaining, widened_from};
-ghost use Rattle.gm_file_edit.specs.Marks.{block_at, closes_bare, fates_of, is_behind_gone, is_blank_source_line, line_at, opens_bare};
+ghost use Rattle.gm_file_edit.specs.Private.Marks.{block_at, closes_bare, fates_of, is_behind_gone, is_blank_source_line, line_at, opens_bare};
 
 use crate::keyed_lines::KeyedLines;
 use crate::keys::Key;

@@ -11,10 +11,10 @@ ghost use Rattle.gm_file.specs.Directives.{block_after_lines};
 ghost use Rattle.gm_file.specs.Views.{replace_view};
 ghost use Rattle.gm_file_edit.specs.Edits.{Set};
 ghost use Rattle.gm_file_edit.specs.Fates.{remaining};
-ghost use Rattle.gm_file_edit.specs.Keys.{key_of};
+ghost use Rattle.gm_file_edit.specs.Private.Keys.{key_of};
 ghost use Rattle.gm_file_edit.specs.Renewing.{made_new, with_arguments, with_last};
 ghost use Rattle.gm_file_edit.specs.NewWords.{replace_words};
-ghost use Rattle.gm_file_edit.specs.Marks.{line_at, fates_of};
+ghost use Rattle.gm_file_edit.specs.Private.Marks.{line_at, fates_of};
 ghost use Rattle.gm_file_edit.specs.Sound.{IsSoundEdit, IsSoundRight, setting_of};
 
 use crate::keyed_lines::KeyedLines;

@@ -6,7 +6,7 @@ ghost use Rattle.gm_file.specs.Faults.{is_same_version};
 ghost use Rattle.gm_file.specs.Views.{interval_view, replace_view};
 ghost use Rattle.gm_file_edit.specs.About.{about, excludes_pair, is_replaced_by, replaces_left, requires_path, retracts_ends};
 ghost use Rattle.gm_file_edit.specs.Edits.{Add, Drop, Set};
-ghost use Rattle.gm_file_edit.specs.Keys.{target_texts, target_verb, texts_view};
+ghost use Rattle.gm_file_edit.specs.Private.Keys.{target_texts, target_verb, texts_view};
 ghost use Rattle.gm_file_edit.specs.Sound.{addition_of, edit_of, left_view, setting_of, target_of};
 
 use crate::op::{Addition, Change, Setting, Target};

@@ -1,5 +1,5 @@
 use Rattle.std.proofs.Common.{IfSome, Option, subst}
-use Rattle.gm_file_edit.specs.Marks.{IsPlaceOf}
+use Rattle.gm_file_edit.specs.Private.Marks.{IsPlaceOf}
 use Rattle.gm_file_edit.specs.declared.adding.Spot.{Spot}
 use Rattle.gm_file_edit.proofs.adding.added_spot.Goals as goal
 

@@ -1,6 +1,6 @@
 use Rattle.std.proofs.Common.{◌-◌, ◌∙◌, None, ap, arith, false, sym}
 use Rattle.gm_file.specs.Directives.{verb_eq}
-use Rattle.gm_file_edit.specs.Keys.{changes_block, entry_verb}
+use Rattle.gm_file_edit.specs.Private.Keys.{changes_block, entry_verb}
 use Rattle.gm_file_edit.proofs.AddingCode.{place-is, tail-begin, tail-found, tail-more}
 use Rattle.gm_file_edit.proofs.Pairs.{document-sound}
 use Rattle.gm_file_edit.proofs.adding.tail_spot.Goals as goal

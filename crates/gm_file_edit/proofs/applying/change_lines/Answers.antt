@@ -4,7 +4,7 @@ use Rattle.gm_file_edit.specs.About.{about}
 use Rattle.gm_file_edit.specs.Edited.{with_change}
 use Rattle.gm_file_edit.specs.Edits.{Set}
 use Rattle.gm_file_edit.specs.Fates.{remaining}
-use Rattle.gm_file_edit.specs.Marks.{fates_of, marks_from}
+use Rattle.gm_file_edit.specs.Private.Marks.{fates_of, marks_from}
 use Rattle.gm_file_edit.specs.Sound.{edit_of, setting_of}
 use Rattle.gm_file_edit.specs.declared.op.Change.{Change}
 use Rattle.gm_file_edit.proofs.Marks.{dropped-marked, marks-count, renew-is}

@@ -1,6 +1,6 @@
 use Rattle.std.proofs.lemmas.Bool.Decides.{Decides-eqb}
 use Rattle.gm_file_edit.specs.declared.keys.Key.{Key}
-use Rattle.gm_file_edit.specs.Keys.{HasBits}
+use Rattle.gm_file_edit.specs.Private.Keys.{HasBits}
 use Rattle.std.proofs.Common.{subst}
 use Rattle.gm_file_edit.proofs.Bits.{or-among}
 use Rattle.gm_file_edit.proofs.keys.may_have_bits.Goals as goal

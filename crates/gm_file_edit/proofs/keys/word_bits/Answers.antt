@@ -1,5 +1,5 @@
 use Rattle.std.proofs.Common.{◌∙◌, ap, sym}
-use Rattle.gm_file_edit.specs.Keys.{optional_bits, text_bits}
+use Rattle.gm_file_edit.specs.Private.Keys.{optional_bits, text_bits}
 use Rattle.gm_file_edit.proofs.Values.{text-argument}
 use Rattle.gm_file_edit.proofs.keys.word_bits.Goals as goal
 

@@ -1,6 +1,6 @@
 use Rattle.std.proofs.Common.{◌≡◌, drop}
 use Rattle.gm_syntax.specs.Tokens.{words_of}
-use Rattle.gm_file_edit.specs.Keys.{bits_with}
+use Rattle.gm_file_edit.specs.Private.Keys.{bits_with}
 use Rattle.gm_file_edit.proofs.keys.words_bits.Given as goal
 
 abbrev pub invariant-loop-word : goal.invariant-loop-word

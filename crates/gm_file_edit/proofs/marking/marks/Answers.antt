@@ -6,7 +6,7 @@ use Rattle.gm_syntax.specs.Tokens.{Placed}
 use Rattle.gm_file_edit.specs.About.{about}
 use Rattle.gm_file_edit.specs.Edits.{Edit}
 use Rattle.gm_file_edit.specs.Holding.{directive_at, passes}
-use Rattle.gm_file_edit.specs.Keys.{block_verb, key_of, texts_bits}
+use Rattle.gm_file_edit.specs.Private.Keys.{block_verb, key_of, texts_bits}
 use Rattle.gm_file_edit.specs.Sound.{edit_of}
 use Rattle.gm_file_edit.proofs.Marks.{scan-end, scan-more, unmarked}
 use Rattle.gm_file_edit.proofs.Pairs.{document-sound}

@@ -2,7 +2,7 @@ use Rattle.std.proofs.Common.{List, Option, subst, ℕ}
 use Rattle.std.specs.Borrow.{Bor}
 use Rattle.std.specs.Option.{option_map}
 use Rattle.gm_syntax.specs.Tokens.{words_of}
-use Rattle.gm_file_edit.specs.Keys.{IsValueIn}
+use Rattle.gm_file_edit.specs.Private.Keys.{IsValueIn}
 use Rattle.gm_file_edit.proofs.Values.{value-end, value-later}
 use Rattle.gm_file_edit.proofs.marking.may_have_value.Goals as goal
 

@@ -1,6 +1,6 @@
 use Rattle.std.proofs.Common.{◌∙◌, Option, List, ℕ, subst, sym}
 use Rattle.gm_syntax.specs.LineViews.{line_of}
-use Rattle.gm_file_edit.specs.Keys.{HasTexts}
+use Rattle.gm_file_edit.specs.Private.Keys.{HasTexts}
 use Rattle.gm_file_edit.proofs.PassedOver.{never-passed, verb-passes}
 use Rattle.gm_file_edit.proofs.marking.may_hold_target.Goals as goal
 use Rattle.gm_file_edit.proofs.marking.may_hold_target.Goals.{then-is_entry_in, else-is_entry_in}

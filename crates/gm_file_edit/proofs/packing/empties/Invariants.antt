@@ -1,6 +1,6 @@
 use Rattle.std.proofs.Common.{◌≡◌, drop, false}
 use Rattle.gm_file_edit.specs.Fates.{empties}
-use Rattle.gm_file_edit.specs.Marks.{fates_of}
+use Rattle.gm_file_edit.specs.Private.Marks.{fates_of}
 use Rattle.gm_file_edit.proofs.packing.empties.Given as goal
 
 abbrev pub invariant-loop-n : goal.invariant-loop-n

@@ -1,5 +1,5 @@
 use Rattle.std.proofs.Common.{arith}
-use Rattle.gm_file_edit.specs.Marks.{block_at, is_behind_gone}
+use Rattle.gm_file_edit.specs.Private.Marks.{block_at, is_behind_gone}
 use Rattle.gm_file_edit.proofs.Packs.{widen-line, widen-marked}
 use Rattle.gm_file_edit.proofs.packing.widen.Goals as goal
 use Rattle.gm_file_edit.proofs.packing.widen.Goals.{then-not-index, else-not-index}

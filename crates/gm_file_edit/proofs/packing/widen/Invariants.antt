@@ -1,4 +1,4 @@
-use Rattle.gm_file_edit.specs.Marks.{block_at, is_behind_gone}
+use Rattle.gm_file_edit.specs.Private.Marks.{block_at, is_behind_gone}
 use Rattle.gm_file_edit.proofs.Packs.{IsWidenedTo}
 use Rattle.gm_file_edit.proofs.packing.widen.Given as goal
 
