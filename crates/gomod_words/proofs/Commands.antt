@@ -7,7 +7,7 @@ use Rattle.clap.specs.Walk.{Rule, Text, is_empty, rule_of}
 use Rattle.clap.specs.declared.builder.arg.Arg.{Arg}
 use Rattle.clap.specs.declared.builder.command.Command.{Command}
 use Rattle.clap.specs.declared.builder.command.Command.TheViews.{out-Command}
-use Rattle.gomod_words.specs.Made.{app_in, arguments_in, name_in, rule_for, with_rules_for, with_commands}
+use Rattle.gomod_words.specs.Private.Made.{app_in, arguments_in, name_in, rule_for, with_rules_for, with_commands}
 use Rattle.gomod_words.specs.Usage.{bare_gomod, gomod_app}
 use Rattle.gomod_words.specs.declared.table.Argument.{Argument}
 use Rattle.gomod_words.specs.declared.table.Argument.TheVariants as a

@@ -3,7 +3,8 @@ use Rattle.std.proofs.Common.{◌≡◌, List, Result, Ok, Err, IfErr, Some, cod
 use Rattle.std.specs.Result.{IsErrAnd}
 use Rattle.clap.specs.Walk.{Row, Text, first_of}
 use Rattle.gm_name.specs.Path.{IsPath}
-use Rattle.gomod_words.specs.Usage.{IsEntriesFault, IsPathFault, IsPathText, IsProxyFault}
+use Rattle.gomod_words.specs.Usage.{IsPathText}
+use Rattle.gomod_words.specs.Private.Usage.{IsEntriesFault, IsPathFault, IsProxyFault}
 use Rattle.gomod_words.specs.declared.usage.UsageFault.{UsageFault}
 use Rattle.gomod_words.specs.declared.usage.UsageFault.TheVariants.{NoMemory, Help, Version, Line, BadPath, BadProxy}
 

@@ -7,7 +7,8 @@ use Rattle.std.specs.Prelude.{IfSome, cond, not, slice_get}
 use Rattle.std.specs.Str.{IsUtf8, is_utf8}
 use Rattle.std.specs.String.{string_bytes}
 use Rattle.std.proofs.lemmas.Grind.{take_at_read}
-use Rattle.gomod_words.specs.Given.{AreGiven, IsWordAt, IsUnreadable, IsUnreadableWord, IsUnreadableWords, first_unreadable}
+use Rattle.gomod_words.specs.Given.{AreGiven, IsUnreadableWords, first_unreadable}
+use Rattle.gomod_words.specs.Private.Given.{IsWordAt, IsUnreadable, IsUnreadableWord}
 use Rattle.gomod_words.specs.Usage.{IsLineOf, unreadable_text}
 use Rattle.gomod_words.specs.declared.usage.UsageFault.{UsageFault}
 use Rattle.gomod_words.specs.declared.usage.UsageFault.TheVariants.{NoMemory, Help, Version, Line, BadPath, BadProxy}

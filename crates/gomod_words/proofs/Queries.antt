@@ -4,7 +4,8 @@ use Rattle.std.specs.Prelude.{is_some}
 use Rattle.clap.specs.Walk.{Row, Text, first_of}
 use Rattle.gm_name.specs.Path.{IsPath}
 use Rattle.gm_store.specs.declared.fallback.proxy_list.ProxyList.{ProxyList}
-use Rattle.gomod_words.specs.Usage.{ArePlaces, AreRecognized, HasBadPath, HasProxy, IsEntriesFault, IsLimit, IsPlacesFault, IsProxy, IsValidBeforeProxy, Means, has_limit, is_input_twice, is_proxy}
+use Rattle.gomod_words.specs.Usage.{ArePlaces, AreRecognized, HasBadPath, IsLimit, IsProxy, IsValidBeforeProxy, Means, has_limit, is_input_twice, is_proxy}
+use Rattle.gomod_words.specs.Private.Usage.{HasProxy, IsEntriesFault, IsPlacesFault}
 use Rattle.gomod_words.specs.declared.usage.Command.{Command}
 use Rattle.gomod_words.specs.declared.usage.Command.TheVariants.{Versions, Fmt, Edit, Graph, List as Rows, Chain}
 use Rattle.gomod_words.specs.declared.usage.Places.{Places}

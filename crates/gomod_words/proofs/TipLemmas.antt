@@ -5,9 +5,9 @@ use Rattle.std.specs.Prelude.{IfOk, IfSome}
 use Rattle.std.specs.String.{string_bytes}
 use Rattle.std.specs.declared.alloc.AllocError.{AllocError}
 use Rattle.clap.specs.Walk.{Text}
-use Rattle.gomod_words.specs.Placed.{shown_words}
-use Rattle.gomod_words.specs.Rows.{Becomes, is_over_file}
-use Rattle.gomod_words.specs.Tips.{IsShown, IsTipOf, IsTold}
+use Rattle.gomod_words.specs.Private.Placed.{shown_words}
+use Rattle.gomod_words.specs.Private.Rows.{Becomes, is_over_file}
+use Rattle.gomod_words.specs.Private.Tips.{IsShown, IsTipOf, IsTold}
 use Rattle.gomod_words.specs.declared.items.Item.{Item}
 use Rattle.gomod_words.specs.declared.placed.Placed.{Placed}
 

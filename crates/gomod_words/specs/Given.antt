@@ -1,6 +1,6 @@
 -- The words that a program was given, and the error if one is not UTF-8. Where they may be unknown, `given` is None if
 -- they are.
-use Rattle.std.specs.Prelude.{◌≡◌, ◌<◌, ℕ, IfSome, List, Option, Some, None, Result, Ok, Err, false, find, length, not, slice_get, take}
+use Rattle.std.specs.Prelude.{◌≡◌, ◌<◌, ℕ, IfSome, List, Option, Some, None, Result, Ok, Err, find, length, not, take}
 use Rattle.std.specs.Str.{is_utf8}
 use Rattle.std.specs.String.{string_bytes}
 use Rattle.std.specs.declared.env.FillError.{FillError}
@@ -20,10 +20,6 @@ IsFilled _ room _ = ⊥
 abbrev pub AreGiven : Option (List (List ℕ)) → List (List ℕ) → Type 0
 AreGiven given words = IfSome given (λ all. words ≡ all)
 
--- this is the word with that number, or there is none
-abbrev pub IsWordAt : Option (List (List ℕ)) → ℕ → Option (List ℕ) → Type 0
-IsWordAt given number word = IfSome given (λ all. word ≡ slice_get all number)
-
 -- the first word that is not UTF-8, if there is one
 abbrev pub first_unreadable : List (List ℕ) → Option (List ℕ)
 first_unreadable words = find (λ word. not (is_utf8 word)) words
@@ -33,14 +29,6 @@ abbrev pub ShowsUnreadable : (List ℕ → Type 0) → UsageFault → Type 0
 ShowsUnreadable is_kind NoMemory = Unit {0}
 ShowsUnreadable is_kind (Line text) = (word : List ℕ) × is_kind word × (string_bytes text ≡ unreadable_text word)
 ShowsUnreadable is_kind _ = ⊥
-
--- it shows this word
-abbrev pub IsUnreadable : List ℕ → UsageFault → Type 0
-IsUnreadable word = ShowsUnreadable (λ shown. (shown ≡ word) × (is_utf8 shown ≡ false))
-
--- it shows the word with that number
-abbrev pub IsUnreadableWord : Option (List (List ℕ)) → ℕ → UsageFault → Type 0
-IsUnreadableWord given number = ShowsUnreadable (λ word. IsWordAt given number (Some word) × (is_utf8 word ≡ false))
 
 -- it shows the first of the given words that is not UTF-8
 abbrev pub IsUnreadableWords : Option (List (List ℕ)) → UsageFault → Type 0

@@ -1,5 +1,5 @@
 -- How words are typed in a shell.
-use Rattle.std.specs.Prelude.{◌≡◌, ℕ, ◌==◌, ◌&&◌, ◌||◌, ◌++◌, ◌∷◌, nat_le, nat_lt, Bool, List, [], codes, encode_utf8, flat_map, length, if◌then◌else◌}
+use Rattle.std.specs.Prelude.{ℕ, ◌==◌, ◌&&◌, ◌||◌, ◌++◌, ◌∷◌, nat_le, nat_lt, Bool, List, [], codes, encode_utf8, flat_map, length, if◌then◌else◌}
 use Rattle.std.specs.Char.{is_ascii_alphanumeric}
 use Rattle.std.specs.List.{list_all}
 use Rattle.std.specs.Str.{chars}
@@ -30,7 +30,3 @@ typed_words words = flat_map (λ word. codes " " ++ typed_word word) words
 abbrev pub left_text : List Text → List ℕ
 left_text [] = []
 left_text (word ∷ words) = codes "\n       left out:" ++ typed_words (word ∷ words)
-
--- the text ends with this
-abbrev pub EndsWith : List ℕ → List ℕ → Type 0
-EndsWith end text = (front : List ℕ) × (text ≡ front ++ end)

@@ -14,10 +14,8 @@ use Rattle.clap.specs.Faults.{fault_of}
 use Rattle.clap.specs.Kinds.{IsAmong}
 use Rattle.clap.specs.Takes.{takes}
 use Rattle.clap.specs.declared.builder.action.ArgAction.TheVariants.{SetTrue}
-use Rattle.clap.specs.declared.error.Error.{Error}
-use Rattle.clap.specs.Values.{kind_of}
 use Rattle.clap.specs.declared.error.kind.ErrorKind.{ErrorKind}
-use Rattle.clap.specs.declared.error.kind.ErrorKind.TheVariants.{DisplayHelp, DisplayVersion, OutOfMemory}
+use Rattle.clap.specs.declared.error.kind.ErrorKind.TheVariants.{DisplayHelp, DisplayVersion}
 use Rattle.gm_name.specs.Path.{IsPath}
 use Rattle.gm_store.specs.Proxies.{folders_in, folders_of, is_folder, marks_in, marks_of}
 use Rattle.gm_store.specs.declared.fallback.proxy_list.ProxyList.{ProxyList}
@@ -235,15 +233,6 @@ abbrev pub AreRecognized : Option (Text × List Row) → Type 0
 AreRecognized entered = ((command : Command) × (places : Places) × IsMeant entered command places)
     ⊎ ((text : Text) × HasBadPath entered text) ⊎ ((text : Text) × HasBadProxy entered text)
 
--- what a fault says about the entries
-abbrev pub IsEntriesFault : Option (Text × List Row) → UsageFault → Type 0
-IsEntriesFault entered NoMemory = Unit {0}
-IsEntriesFault entered (Help text) = ⊥
-IsEntriesFault entered (Version text) = ⊥
-IsEntriesFault entered (Line text) = ¬ (AreRecognized entered)
-IsEntriesFault entered (BadPath text) = HasBadPath entered (string_bytes text)
-IsEntriesFault entered (BadProxy text) = HasBadProxy entered (string_bytes text)
-
 -- What a fault says about words that the parser reads: help is asked for; or the version is, which is this one; or the
 -- parser refuses them for another reason; or it accepts them, but its entries stand for no command, the path is
 -- invalid, or the value of `--proxy` is invalid.
@@ -327,57 +316,6 @@ IsFaultBy None words fault = IsReadFault words fault × ShowsUsage words fault
 -- words. A usage error shows the usage line of the command that the words name.
 abbrev pub IsFaultOf : List Text → UsageFault → Type 0
 IsFaultOf words fault = IsFaultBy (dashed_in words) words fault
-
--- the words ask for a command
-abbrev pub AskForSomething : List Text → Type 0
-AskForSomething words = (command : Command) × (places : Places) × AskFor words command places
-
--- the fault that a parser's error stands for
-abbrev pub IsParserFault : Error → UsageFault → Type 0
-IsParserFault error NoMemory = Unit {0}
-IsParserFault error (Help text) = kind_of error ≡ DisplayHelp
-IsParserFault error (Version text) = (kind_of error ≡ DisplayVersion) × (string_bytes text ≡ version_line)
-IsParserFault error (Line text) =
-    (kind_of error ≢ DisplayHelp) × (kind_of error ≢ DisplayVersion) × (kind_of error ≢ OutOfMemory)
-IsParserFault error (BadPath text) = ⊥
-IsParserFault error (BadProxy text) = ⊥
-
--- the text is not a path, or memory ran out
-abbrev pub IsPathFault : Text → UsageFault → Type 0
-IsPathFault path NoMemory = Unit {0}
-IsPathFault path (BadPath text) = (string_bytes text ≡ path) × ¬ (IsPath path)
-IsPathFault path _ = ⊥
-
--- the value is not a valid list of folders, or memory ran out
-abbrev pub IsProxyFault : Option Text → UsageFault → Type 0
-IsProxyFault value NoMemory = Unit {0}
-IsProxyFault value (BadProxy text) = (value ≡ Some (string_bytes text)) × (is_proxy (string_bytes text) ≡ false)
-IsProxyFault value _ = ⊥
-
--- the folders of `--proxy` are valid
-abbrev pub HasProxy : List Row → Type 0
-HasProxy rows = (value : Text) × (first_of (codes "proxy") rows ≡ Some value) × (is_proxy value ≡ true)
-
--- `--proxy` is missing although it must be given, or its value is not a valid list of folders; or it is valid, and
--- standard input is both the main file and the go.sum; or memory ran out
-abbrev pub IsPlacesFault : List Row → UsageFault → Type 0
-IsPlacesFault rows NoMemory = Unit {0}
-IsPlacesFault rows (Line text) =
-    (first_of (codes "proxy") rows ≡ None) ⊎ (HasProxy rows × (is_input_twice rows ≡ true))
-IsPlacesFault rows (BadProxy text) = (first_of (codes "proxy") rows ≡ Some (string_bytes text))
-    × (is_proxy (string_bytes text) ≡ false)
-IsPlacesFault rows _ = ⊥
-
--- the value is given and is not a path, or memory ran out
-abbrev pub IsAfterFault : Option Text → UsageFault → Type 0
-IsAfterFault None fault = fault ≡ NoMemory
-IsAfterFault (Some text) fault = IsPathFault text fault
-
--- the value is not a valid number of rows, or memory ran out
-abbrev pub IsLimitFault : Option Text → UsageFault → Type 0
-IsLimitFault value NoMemory = Unit {0}
-IsLimitFault value (Line text) = has_limit value ≡ false
-IsLimitFault value _ = ⊥
 
 -- the fault is the version, or memory ran out
 abbrev pub IsVersionLine : UsageFault → Type 0

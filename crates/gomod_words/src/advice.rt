@@ -4,10 +4,10 @@
 
 ghost use Rattle.std.specs.Prelude.{◌≡◌, ◌++◌, IfOk, IfSome, Some, map, option_map, true};
 ghost use Rattle.std.specs.String.{string_bytes};
-ghost use Rattle.gomod_words.specs.Items.{words_in};
-ghost use Rattle.gomod_words.specs.Made.{name_in};
-ghost use Rattle.gomod_words.specs.Rows.{is_over_file};
-ghost use Rattle.gomod_words.specs.Tips.{IsShown, IsTipOf, is_mod, is_versions, is_word, without_name, without_versions};
+ghost use Rattle.gomod_words.specs.Private.Items.{words_in};
+ghost use Rattle.gomod_words.specs.Private.Made.{name_in};
+ghost use Rattle.gomod_words.specs.Private.Rows.{is_over_file};
+ghost use Rattle.gomod_words.specs.Private.Tips.{IsShown, IsTipOf, is_mod, is_versions, is_word, without_name, without_versions};
 ghost use Rattle.gomod_words.specs.Typed.{left_text, typed_words};
 ghost use Rattle.gomod_words.specs.Usage.{ShowsLine, is_line_or_memory, usage_of};
 

@@ -3,7 +3,7 @@
 ghost use Rattle.std.specs.Prelude.{◌≡◌, IfOk, map};
 ghost use Rattle.clap.specs.Simple.{app_of, new_app};
 ghost use Rattle.clap.specs.Words.{rule_of};
-ghost use Rattle.gomod_words.specs.Made.{IsMade, app_in, rule_for, rule_in, with_rules_for};
+ghost use Rattle.gomod_words.specs.Private.Made.{IsMade, app_in, rule_for, rule_in, with_rules_for};
 ghost use Rattle.gomod_words.specs.Usage.{bare_gomod, gomod_app};
 
 use crate::help;

@@ -8,7 +8,7 @@ ghost use Rattle.std.specs.String.{string_bytes};
 ghost use Rattle.clap.specs.Lexer.{strip_byte, without_minus};
 ghost use Rattle.gomod_words.specs.Typed.{typed_words};
 ghost use Rattle.gomod_words.specs.Usage.{IsLineOf, dashed_message, dashed_text, edit_message, words_after};
-ghost use Rattle.gomod_words.specs.Items.{waiting};
+ghost use Rattle.gomod_words.specs.Private.Items.{waiting};
 ghost use Rattle.gomod_words.specs.Dashed.{begins_with_dash, dashed_in, edit_words, free_from, is_file, is_free, is_operation, is_operation_name, joined_from, joined_words, left_from, left_words, names_operation, names_value, operation_in, operations_in, takes_value, without_dashes};
 
 use crate::help::usage_of;

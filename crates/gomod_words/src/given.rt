@@ -2,7 +2,8 @@
 
 ghost use Rattle.std.specs.Prelude.{◌≡◌, IfErr, IfOk, map, option_map};
 ghost use Rattle.std.specs.String.{string_bytes};
-ghost use Rattle.gomod_words.specs.Given.{AreGiven, IsWordAt, IsUnreadable, IsUnreadableWord, IsUnreadableWords};
+ghost use Rattle.gomod_words.specs.Given.{AreGiven, IsUnreadableWords};
+ghost use Rattle.gomod_words.specs.Private.Given.{IsWordAt, IsUnreadable, IsUnreadableWord};
 
 use crate::usage::{UsageFault, unreadable};
 use std::alloc::{AllocError, Global};

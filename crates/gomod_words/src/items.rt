@@ -3,7 +3,7 @@
 ghost use Rattle.std.specs.Prelude.{◌≡◌, ◌∷◌, ◌++◌, IfOk, [], OnOk, map};
 ghost use Rattle.std.specs.List.{before_first};
 ghost use Rattle.std.specs.Option.{option_copied};
-ghost use Rattle.gomod_words.specs.Items.{is_equals, not_empty, option_in, option_name, option_value, value_after, waiting, words_in, words_of};
+ghost use Rattle.gomod_words.specs.Private.Items.{is_equals, not_empty, option_in, option_name, option_value, value_after, waiting, words_in, words_of};
 
 use crate::dashed::{begins_with_dash, names_operation, without_dashes};
 use std::alloc::{AllocError, Global};

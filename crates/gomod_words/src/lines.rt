@@ -2,9 +2,9 @@
 
 ghost use Rattle.std.specs.Prelude.{◌≡◌, ◌++◌, IfOk, IfSome, OnOk, [], codes, flat_map, map};
 ghost use Rattle.std.specs.String.{string_bytes};
-ghost use Rattle.gomod_words.specs.Placed.{after_program, command_text, end_in, end_of, grouped, json_text, keeps_output, line_text, or_else, proxy_words, second_of, shown_words};
-ghost use Rattle.gomod_words.specs.Rows.{is_over_file};
-ghost use Rattle.gomod_words.specs.Tips.{IsShown, IsTold};
+ghost use Rattle.gomod_words.specs.Private.Placed.{after_program, command_text, end_in, end_of, grouped, json_text, keeps_output, line_text, or_else, proxy_words, second_of, shown_words};
+ghost use Rattle.gomod_words.specs.Private.Rows.{is_over_file};
+ghost use Rattle.gomod_words.specs.Private.Tips.{IsShown, IsTold};
 ghost use Rattle.gomod_words.specs.Typed.{left_text};
 ghost use Rattle.gomod_words.specs.declared.placed.Group.TheVariants.{Folders, Left, Lists, Operands, Options, Outputs};
 

@@ -4,9 +4,9 @@
 ghost use Rattle.std.specs.Prelude.{◌≡◌, ◌∷◌, ◌++◌, All, IfOk, [], OnOk, codes, map};
 ghost use Rattle.std.specs.List.{list_any};
 ghost use Rattle.std.specs.String.{string_bytes};
-ghost use Rattle.gomod_words.specs.Made.{name_in};
-ghost use Rattle.gomod_words.specs.Placed.{asks_for_json, grouped, is_of, left_by, operation_text, operations_by, operations_in, option_words, part_words, release_words, undashed, words_by};
-ghost use Rattle.gomod_words.specs.Rows.{Becomes, is_over_file};
+ghost use Rattle.gomod_words.specs.Private.Made.{name_in};
+ghost use Rattle.gomod_words.specs.Private.Placed.{asks_for_json, grouped, is_of, left_by, operation_text, operations_by, operations_in, option_words, part_words, release_words, undashed, words_by};
+ghost use Rattle.gomod_words.specs.Private.Rows.{Becomes, is_over_file};
 
 use crate::dashed::{operation_in, without_dashes};
 use crate::items::{Item, push_words};

@@ -7,7 +7,8 @@ ghost use Rattle.std.specs.String.{string_bytes};
 ghost use Rattle.clap.specs.Words.{first_of, found_of, rows_of};
 ghost use Rattle.gm_name.specs.Path.{IsPath};
 ghost use Rattle.gomod_words.specs.Limits.{limit_of};
-ghost use Rattle.gomod_words.specs.Usage.{ArePlaces, IsAfterFault, IsEntriesFault, IsLimit, IsLimitFault, IsPlacesFault, IsProxy, Means, ShowsLine, is_input, is_input_twice, is_line_or_memory};
+ghost use Rattle.gomod_words.specs.Usage.{ArePlaces, IsLimit, IsProxy, Means, ShowsLine, is_input, is_input_twice, is_line_or_memory};
+ghost use Rattle.gomod_words.specs.Private.Usage.{IsAfterFault, IsEntriesFault, IsLimitFault, IsPlacesFault};
 
 use crate::usage::{Command, Places, UsageFault, line, read_path, read_proxy, value_of};
 use clap::ArgMatches;

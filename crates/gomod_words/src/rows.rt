@@ -2,8 +2,8 @@
 
 ghost use Rattle.std.specs.Prelude.{◌≡◌, ◌++◌, IfSome, Some, false, true};
 ghost use Rattle.std.specs.Option.{option_copied};
-ghost use Rattle.gomod_words.specs.Made.{name_in};
-ghost use Rattle.gomod_words.specs.Rows.{Becomes, by_value, fits, is_operation_item, is_over_file, json_in, only_word, part_text, slot_named, slot_of};
+ghost use Rattle.gomod_words.specs.Private.Made.{name_in};
+ghost use Rattle.gomod_words.specs.Private.Rows.{Becomes, by_value, fits, is_operation_item, is_over_file, json_in, only_word, part_text, slot_named, slot_of};
 ghost use Rattle.gomod_words.specs.declared.rows.Slot.TheVariants.{Operand};
 
 use crate::dashed::{begins_with_dash, is_operation_name, operation_in};
@@ -193,7 +193,7 @@ fn slot_in(item: Item<'_>) -> Option<Slot>
 }
 
 /// The part of a command line that an option with this name is.
-#[tactic(auto, unfolding(crate::specs::Rows::slot_named))]
+#[tactic(auto, unfolding(crate::specs::Private::Rows::slot_named))]
 fn slot_named(name: &str) -> Option<Slot>
     ensures { result ≡ slot_named name.now }
 {

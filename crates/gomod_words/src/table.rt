@@ -1,7 +1,7 @@
 //! The table of commands: what each is called, the texts of its help, and the arguments that it takes.
 
 ghost use Rattle.std.specs.Prelude.{◌≡◌};
-ghost use Rattle.gomod_words.specs.Made.{arguments_in, name_in, rule_for, rule_in};
+ghost use Rattle.gomod_words.specs.Private.Made.{arguments_in, name_in, rule_for, rule_in};
 
 use crate::help::{self, End, Help};
 

@@ -8,7 +8,8 @@ ghost use Rattle.std.specs.Option.{option_copied, option_map};
 ghost use Rattle.clap.specs.Words.{all_of, first_of, found_of, rows_of, subcommand_rows_of};
 ghost use Rattle.std.specs.Char.Escape.{escape_ascii};
 ghost use Rattle.std.specs.String.{string_bytes};
-ghost use Rattle.gomod_words.specs.Usage.{AskFor, AskForSomething, IsEntriesFault, IsFaultOf, IsLineOf, IsMeant, IsParserFault, IsPathFault, IsProxy, IsProxyFault, IsVersionLine, Means, ShowsLine, ShowsUsage, is_given, is_line_or_memory, shown_bytes, texts_in, unreadable_text, usage_text};
+ghost use Rattle.gomod_words.specs.Usage.{AskFor, IsFaultOf, IsLineOf, IsMeant, IsProxy, IsVersionLine, Means, ShowsLine, ShowsUsage, is_given, is_line_or_memory, shown_bytes, texts_in, unreadable_text, usage_text};
+ghost use Rattle.gomod_words.specs.Private.Usage.{AskForSomething, IsEntriesFault, IsParserFault, IsPathFault, IsProxyFault};
 ghost use Rattle.gm_name.specs.Path.{IsPath};
 ghost use Rattle.gomod_words.specs.declared.usage.UsageFault.TheVariants.{NoMemory};
 

@@ -1,5 +1,5 @@
 use Rattle.std.proofs.Common.{◌≡◌, ◌++◌, drop, true}
-use Rattle.gomod_words.specs.Tips.{without_name_from}
+use Rattle.gomod_words.specs.Private.Tips.{without_name_from}
 use Rattle.gomod_words.proofs.advice.without_name.Given as goal
 
 -- the items so far, and the others without the command

@@ -1,5 +1,5 @@
 use Rattle.std.proofs.Common.{◌≡◌, take}
-use Rattle.gomod_words.specs.Tips.{without_versions}
+use Rattle.gomod_words.specs.Private.Tips.{without_versions}
 use Rattle.gomod_words.proofs.advice.without_versions.Given as goal
 
 -- the items so far

@@ -3,7 +3,7 @@ use Rattle.std.proofs.lemmas.Result.{IfOk-weaker}
 use Rattle.clap.specs.Built.{AddsInTurn, AddsSubcommand}
 use Rattle.clap.specs.Simple.{App, app_of}
 use Rattle.gomod_words.proofs.Commands.{all_commands, all_names, commands_add}
-use Rattle.gomod_words.specs.Made.{with_commands}
+use Rattle.gomod_words.specs.Private.Made.{with_commands}
 use Rattle.gomod_words.specs.Usage.{gomod_app}
 use Rattle.gomod_words.proofs.command.gomod_command.Goals as goal
 

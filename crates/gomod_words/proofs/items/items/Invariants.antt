@@ -1,5 +1,5 @@
 use Rattle.std.proofs.Common.{◌≡◌, ◌++◌, map, take}
-use Rattle.gomod_words.specs.Items.{waiting, words_in}
+use Rattle.gomod_words.specs.Private.Items.{waiting, words_in}
 use Rattle.gomod_words.proofs.items.items.Given as goal
 
 -- the words so far: those of the items, and the option that waits for its value

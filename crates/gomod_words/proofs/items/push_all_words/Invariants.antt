@@ -1,5 +1,5 @@
 use Rattle.std.proofs.Common.{◌≡◌, ◌++◌, map, take}
-use Rattle.gomod_words.specs.Items.{words_in}
+use Rattle.gomod_words.specs.Private.Items.{words_in}
 use Rattle.gomod_words.proofs.items.push_all_words.Given as goal
 
 -- the words of the items so far

@@ -1,6 +1,6 @@
 use Rattle.std.proofs.Common.{◌≡◌, map, take}
 use Rattle.std.specs.String.{string_bytes}
-use Rattle.gomod_words.specs.Placed.{end_in}
+use Rattle.gomod_words.specs.Private.Placed.{end_in}
 use Rattle.gomod_words.proofs.lines.end_in.Given as goal
 
 -- the ends so far

@@ -1,6 +1,6 @@
 use Rattle.std.proofs.Common.{◌≡◌, All, map, take}
-use Rattle.gomod_words.specs.Made.{name_in}
-use Rattle.gomod_words.specs.Rows.{Becomes, is_over_file}
+use Rattle.gomod_words.specs.Private.Made.{name_in}
+use Rattle.gomod_words.specs.Private.Rows.{Becomes, is_over_file}
 use Rattle.gomod_words.proofs.placed.place_all.Given as goal
 
 -- the items so far, each as what it may become

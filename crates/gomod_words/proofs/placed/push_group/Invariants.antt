@@ -1,5 +1,5 @@
 use Rattle.std.proofs.Common.{◌≡◌, ◌++◌, map, take}
-use Rattle.gomod_words.specs.Placed.{grouped}
+use Rattle.gomod_words.specs.Private.Placed.{grouped}
 use Rattle.gomod_words.proofs.placed.push_group.Given as goal
 
 -- the words so far

@@ -1,6 +1,6 @@
 use Rattle.std.proofs.Common.{◌≡◌, ◌++◌, map, take}
 use Rattle.std.specs.String.{string_bytes}
-use Rattle.gomod_words.specs.Placed.{operations_in}
+use Rattle.gomod_words.specs.Private.Placed.{operations_in}
 use Rattle.gomod_words.proofs.placed.push_operations.Given as goal
 
 -- the operations so far

@@ -1,7 +1,7 @@
 use Rattle.std.proofs.Common.{◌∙◌, Some, ap, codes, inl, inr, refl, sym}
 use Rattle.clap.specs.Words.{found_of, rows_of}
 use Rattle.std.specs.Option.{option_copied}
-use Rattle.gomod_words.specs.Usage.{IsEntriesFault}
+use Rattle.gomod_words.specs.Private.Usage.{IsEntriesFault}
 use Rattle.gomod_words.proofs.EntriesFaults.{passed, path_fault}
 use Rattle.gomod_words.proofs.Queries.{chain_places_fault}
 use Rattle.gomod_words.proofs.UsageLines.{line_shows}

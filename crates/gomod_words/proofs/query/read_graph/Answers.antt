@@ -1,6 +1,6 @@
 use Rattle.std.proofs.Common.{Some, codes}
 use Rattle.clap.specs.Words.{found_of, rows_of}
-use Rattle.gomod_words.specs.Usage.{IsEntriesFault}
+use Rattle.gomod_words.specs.Private.Usage.{IsEntriesFault}
 use Rattle.gomod_words.proofs.EntriesFaults.{passed}
 use Rattle.gomod_words.proofs.Queries.{graph_places_fault}
 use Rattle.gomod_words.proofs.query.read_graph.Goals as goal

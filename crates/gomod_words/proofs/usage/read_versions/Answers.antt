@@ -1,7 +1,7 @@
 use Rattle.std.proofs.Common.{◌∙◌, Some, ap, codes, inl, refl, sym}
 use Rattle.clap.specs.Words.{found_of, rows_of}
 use Rattle.std.specs.Option.{option_copied}
-use Rattle.gomod_words.specs.Usage.{IsEntriesFault}
+use Rattle.gomod_words.specs.Private.Usage.{IsEntriesFault}
 use Rattle.gomod_words.proofs.EntriesFaults.{passed, path_fault, versions_proxy_fault}
 use Rattle.gomod_words.proofs.UsageLines.{line_shows}
 use Rattle.gomod_words.proofs.usage.read_versions.Goals as goal

@@ -4,7 +4,7 @@ use Rattle.std.specs.List.{list_any}
 use Rattle.std.specs.Str.{bytes_eq}
 use Rattle.clap.specs.Walk.{Text}
 use Rattle.gomod_words.specs.Dashed.{operation_in, without_dashes}
-use Rattle.gomod_words.specs.Items.{words_of}
+use Rattle.gomod_words.specs.Private.Items.{words_of}
 use Rattle.gomod_words.specs.Typed.{typed_words}
 use Rattle.gomod_words.specs.declared.items.Item.{Item}
 use Rattle.gomod_words.specs.declared.items.Item.TheVariants.{Word, Pair}

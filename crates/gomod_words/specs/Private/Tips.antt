@@ -3,10 +3,10 @@ use Rattle.std.specs.Prelude.{◌≡◌, ◌&&◌, ◌∷◌, ◌++◌, if◌the
 use Rattle.std.specs.Str.{bytes_eq}
 use Rattle.clap.specs.Walk.{Text}
 use Rattle.gomod_words.specs.Dashed.{begins_with_dash, without_dashes}
-use Rattle.gomod_words.specs.Placed.{after_program, command_text, end_in, grouped, json_text, second_of, shown_words}
-use Rattle.gomod_words.specs.Rows.{Becomes, is_over_file}
+use Rattle.gomod_words.specs.Private.Placed.{after_program, command_text, end_in, grouped, json_text, second_of, shown_words}
+use Rattle.gomod_words.specs.Private.Rows.{Becomes, is_over_file}
 use Rattle.gomod_words.specs.Typed.{left_text}
-use Rattle.gomod_words.specs.Usage.{AskForSomething}
+use Rattle.gomod_words.specs.Private.Usage.{AskForSomething}
 use Rattle.gomod_words.specs.declared.items.Item.{Item}
 use Rattle.gomod_words.specs.declared.items.Item.TheVariants.{Word}
 use Rattle.gomod_words.specs.declared.placed.Group.TheVariants as g

@@ -5,7 +5,7 @@ use Rattle.std.specs.List.{list_any}
 use Rattle.std.specs.Str.{bytes_eq}
 use Rattle.clap.specs.Walk.{Text}
 use Rattle.gomod_words.specs.Dashed.{is_operation_name, operation_in}
-use Rattle.gomod_words.specs.Items.{option_name, option_value}
+use Rattle.gomod_words.specs.Private.Items.{option_name, option_value}
 use Rattle.gomod_words.specs.declared.items.Item.{Item}
 use Rattle.gomod_words.specs.declared.items.Item.TheVariants.{Word, Pair}
 use Rattle.gomod_words.specs.declared.rows.Row.{Row}
