@@ -19,7 +19,7 @@ CRATES = pathlib.Path("crates")
 PAGE = "page"
 # crates whose private definitions don't stand apart yet
 NOT_MOVED = set("""
-gomod_run
+
 """.split())
 
 # names of two or more files of specs/ that are to have one meaning or another name

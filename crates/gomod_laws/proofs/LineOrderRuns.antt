@@ -5,7 +5,8 @@ use Rattle.gomod_run.specs.ListingLaws.{AnswerAlike}
 use Rattle.gomod_run.specs.Outcomes.{Answers, QueryEnds, answers_of, given_of}
 use Rattle.gomod_run.specs.Outcome.{Outcome}
 use Rattle.gomod_words.specs.declared.usage.Command.{Command}
-use Rattle.gomod_run.specs.Runs.{PrintsOf, is_query}
+use Rattle.gomod_run.specs.Runs.{is_query}
+use Rattle.gomod_run.specs.Private.Runs.{PrintsOf}
 use Rattle.gomod_run.proofs.QueryParts.{query_ends}
 use Rattle.gomod_laws.specs.Shown.{run_over}
 use Rattle.gomod_laws.proofs.Ended.{Ends}

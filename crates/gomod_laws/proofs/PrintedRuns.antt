@@ -10,7 +10,8 @@ use Rattle.gomod_run.proofs.OneRead.{one_main}
 use Rattle.gomod_run.proofs.PrintedList.{printed_run}
 use Rattle.gomod_run.proofs.QueryParts.{query_ends}
 use Rattle.gomod_words.specs.declared.usage.Command.{Command}
-use Rattle.gomod_run.specs.Runs.{PrintsOf, is_query}
+use Rattle.gomod_run.specs.Runs.{is_query}
+use Rattle.gomod_run.specs.Private.Runs.{PrintsOf}
 use Rattle.gomod_laws.specs.Runs.{HasPrinted}
 use Rattle.gomod_laws.specs.Shown.{run_over}
 use Rattle.gomod_laws.proofs.Ended.{Ends}

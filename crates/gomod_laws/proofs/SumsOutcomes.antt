@@ -9,7 +9,8 @@ use Rattle.gomod_run.specs.ListingLaws.{AnswerAlike}
 use Rattle.gomod_run.specs.Outcomes.{AreFound, AreSums, FilesReadAs, QueryEnds, answers_of, bad_main, bad_sums, device, faulty, longest, no_fault, too_many}
 use Rattle.gomod_run.specs.Needs.{GraphNeeds}
 use Rattle.gomod_run.specs.Outcome.{Outcome}
-use Rattle.gomod_run.specs.Runs.{PrintsOf, is_query}
+use Rattle.gomod_run.specs.Runs.{is_query}
+use Rattle.gomod_run.specs.Private.Runs.{PrintsOf}
 use Rattle.gomod_run.proofs.OneQueryStore.{alike_back}
 use Rattle.gomod_run.proofs.OneRead.{misread_or_main}
 use Rattle.gomod_run.proofs.QueryParts.{query_ends}

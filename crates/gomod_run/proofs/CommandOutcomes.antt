@@ -32,15 +32,16 @@ use Rattle.gomod_run.specs.declared.listing.query.Query.TheVariants.{Graph, List
 use Rattle.gomod_run.specs.ListingTexts.{up_to, list_text}
 use Rattle.gomod_run.specs.Outcomes.{AreInvalidSums, AreSums, FilesReadAs, Given, PrintsRows, QueryEnds, answers_of, bad_main, bad_sums, device, faulty, given_of, no_fault, path_listed, too_many}
 use Rattle.gomod_run.specs.Needs.{AnswersByName, FailsInTurn, GraphNeeds}
-use Rattle.gomod_run.specs.Refusals.{IsRefusedRead}
-use Rattle.gomod_run.specs.Runs.{ComesTo, Needs, PrintsOf, RunEnds, command_of, run_between}
+use Rattle.gomod_run.specs.Private.Refusals.{IsRefusedRead}
+use Rattle.gomod_run.specs.Runs.{ComesTo, Needs, RunEnds, command_of, run_between}
+use Rattle.gomod_run.specs.Private.Runs.{PrintsOf}
 use Rattle.gomod_run.specs.Versions.{IsRefusedList}
 use Rattle.gomod_run.proofs.AllAsked.{done_if_memory}
 use Rattle.gomod_run.proofs.InTurn.{loading_in_turn, loading_needs}
 use Rattle.gm_graph.proofs.Dues.{none_in_turn}
 use Rattle.gomod_words.specs.declared.usage.Command.{Command}
 use Rattle.gomod_words.specs.declared.usage.Command.TheVariants.{Versions}
-use Rattle.gomod_run.specs.Found.{IsOutcomeOfFound, PrintsFound, ReportsFaultsOr}
+use Rattle.gomod_run.specs.Private.Found.{IsOutcomeOfFound, PrintsFound, ReportsFaultsOr}
 use Rattle.gomod_run.proofs.MainMisreading.{IsMalformed, main_refused}
 
 -- ---- what is printed

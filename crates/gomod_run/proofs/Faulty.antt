@@ -2,7 +2,7 @@
 use Rattle.std.proofs.Common.{List, [], ◌∷◌, ◌≡◌, length, true, false, refl}
 use Rattle.std.specs.Bool.{◌==◌}
 use Rattle.gm_graph.specs.declared.fault.Fault.{Fault}
-use Rattle.gomod_run.specs.Found.{ReportsFaultsOr}
+use Rattle.gomod_run.specs.Private.Found.{ReportsFaultsOr}
 use Rattle.gomod_run.specs.Outcome.{refusal_outcome}
 use Rattle.gomod_run.specs.Reports.{faults_text}
 

@@ -6,10 +6,10 @@ use Rattle.gm_file.specs.Main.{Main}
 use Rattle.gm_graph.specs.declared.fault.Fault.{Fault}
 use Rattle.gm_graph.specs.Run.{AreTooMany, run_of}
 use Rattle.gm_graph.proofs.RunLemmas.{Agrees, same_edges, too_many as many_stay}
-use Rattle.gomod_run.specs.Found.{ReportsFaultsOr}
+use Rattle.gomod_run.specs.Private.Found.{ReportsFaultsOr}
 use Rattle.gomod_run.specs.ListingLaws.{AreAlike}
 use Rattle.gomod_run.specs.Outcomes.{AreFound, FilesReadAs, Given, Prints, QueryEnds}
-use Rattle.gomod_run.specs.Refusals.{IsRefusedRead}
+use Rattle.gomod_run.specs.Private.Refusals.{IsRefusedRead}
 use Rattle.gomod_run.proofs.QueryParts.{LoadingEnd, Parts, are_read, is_broken, is_known, is_many, parts, unread}
 use Rattle.gomod_run.specs.Outcome.{Outcome, failure_outcome, refusal_outcome}
 use Rattle.gomod_run.specs.Reports.{FaultPlace, device_line, main_line}

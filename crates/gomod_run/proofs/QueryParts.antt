@@ -6,12 +6,13 @@ use Rattle.gm_store_sums.specs.Sums.{Sums}
 use Rattle.gm_file.specs.Main.{Main}
 use Rattle.gm_graph.specs.declared.fault.Fault.{Fault}
 use Rattle.gm_graph.specs.Run.{AreTooMany, IsDue, IsRead, run_of}
-use Rattle.gomod_run.specs.Found.{ReportsFaultsOr}
+use Rattle.gomod_run.specs.Private.Found.{ReportsFaultsOr}
 use Rattle.gomod_run.specs.Outcomes.{AreFound, FilesReadAs, Given, IsUnasked, Prints, QueryEnds, bad_main, bad_sums, device, faulty, no_fault, too_many}
 use Rattle.gomod_run.specs.Outcome.{Outcome, failure_outcome, refusal_outcome}
-use Rattle.gomod_run.specs.Refusals.{IsRefusedRead}
+use Rattle.gomod_run.specs.Private.Refusals.{IsRefusedRead}
 use Rattle.gomod_run.specs.Reports.{device_line, too_many_line}
-use Rattle.gomod_run.specs.Runs.{PrintsOf, RunEnds, is_query}
+use Rattle.gomod_run.specs.Runs.{RunEnds, is_query}
+use Rattle.gomod_run.specs.Private.Runs.{PrintsOf}
 use Rattle.gomod_words.specs.declared.usage.Command.{Command}
 use Rattle.gomod_words.specs.declared.usage.Command.TheVariants.{Fmt, Edit, Versions, Graph, List as Rows, Chain}
 

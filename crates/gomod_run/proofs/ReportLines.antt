@@ -2,7 +2,7 @@
 use Rattle.std.proofs.Common.{◌≡◌, ◌++◌, ℕ, List, [], Result, append_assoc, append-nil, codes, refl, sym, subst}
 use Rattle.gm_store.specs.Taken.{SinkState}
 use Rattle.gm_store.specs.declared.sinks.WriteFault.{WriteFault}
-use Rattle.gomod_run.specs.Giving.{IsGiven}
+use Rattle.gomod_run.specs.Private.Giving.{IsGiven}
 use Rattle.gomod_run.specs.Taking.{Took}
 use Rattle.gm_graph.specs.ClassWords.{class_word}
 use Rattle.gm_graph.specs.declared.cache.class.Class.{Class}

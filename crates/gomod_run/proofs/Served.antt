@@ -17,7 +17,8 @@ use Rattle.gomod_run.specs.declared.reports.report.Report.{Report}
 use Rattle.gomod_run.specs.declared.reports.status.Status.{Status}
 use Rattle.gomod_run.specs.Program.{AreToldBy, IsInput, bytes_of, held_for, sums_input}
 use Rattle.gomod_run.specs.Runs.{RunEnds, is_query, run_between, told_between}
-use Rattle.gomod_run.specs.Written.{EndsAsStated, EndsOrStops, IsWritten}
+use Rattle.gomod_run.specs.Written.{EndsAsStated, IsWritten}
+use Rattle.gomod_run.specs.Private.Written.{EndsOrStops}
 
 -- ---- what was read
 

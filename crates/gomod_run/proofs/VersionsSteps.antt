@@ -13,12 +13,12 @@ use Rattle.gm_graph.specs.Reading.{AreRetractedBy, IsContentReading, IsFileReadi
 use Rattle.gm_graph.specs.Run.{AskedInTurn, more, nothing}
 use Rattle.gm_graph.specs.Summaries.{RetractsBy, reading_of}
 use Rattle.gm_graph.proofs.Dues.{none_in_turn}
-use Rattle.gomod_run.specs.Asking.{IsAnsweredAsk, IsRefusedAt, IsUnanswered}
+use Rattle.gomod_run.specs.Private.Asking.{IsAnsweredAsk, IsRefusedAt, IsUnanswered}
 use Rattle.gomod_run.specs.Outcome.{OrNoMemory, Outcome, out_of_memory, refusal_outcome, text_outcome}
 use Rattle.gomod_run.specs.Reports.{fault_line}
 use Rattle.gomod_run.specs.Runs.{ComesTo}
 use Rattle.gomod_run.specs.Versions.{AreShown, HasListed, IsLatestListed, IsRefusedList, LatestSays, VersionsEnds, VersionsNeed, all_listed, bad_file, device, list_refusal, no_list, not_retracted, printed, versions_line}
-use Rattle.gomod_run.specs.VersionsRuns.{AreToBeShown, AreVersionsAnswered, IsListAnswered, IsVersionsRun, broken_run, still_run}
+use Rattle.gomod_run.specs.Private.VersionsRuns.{AreToBeShown, AreVersionsAnswered, IsListAnswered, IsVersionsRun, broken_run, still_run}
 use Rattle.gomod_words.specs.declared.usage.Command.TheVariants.{Versions}
 use Rattle.gomod_run.proofs.Answering.{file_answer, list_answer}
 use Rattle.gomod_run.proofs.CommandOutcomes.{broken_comes, still_comes}

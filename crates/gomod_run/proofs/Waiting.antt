@@ -5,7 +5,7 @@ use Rattle.std.specs.List.{flat_map}
 use Rattle.gm_store.specs.Taken.{SinkState}
 use Rattle.gm_store.specs.declared.sinks.WriteFault.{WriteFault}
 use Rattle.gomod_run.proofs.Takings.{part_of_longer, took_both, took_nothing, took_then_part}
-use Rattle.gomod_run.specs.Giving.{IsGiven, IsEnded, WasGiven}
+use Rattle.gomod_run.specs.Private.Giving.{IsGiven, IsEnded, WasGiven}
 use Rattle.gomod_run.specs.Taking.{Took, TookAll, TookPrefix}
 
 -- nothing more was given

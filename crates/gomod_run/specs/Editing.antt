@@ -21,11 +21,6 @@ abbrev pub refusal_of : Option Edit → Option (List ℕ)
 refusal_of None = Some (codes "Spelling")
 refusal_of (Some edit) = if is_fit edit then None else Some (codes "Misfit")
 
--- the operation of this number is refused, and this is reported
-abbrev pub IsRefusedOperation : ℕ → Option Edit → Outcome → Type 0
-IsRefusedOperation number operation outcome =
-    (kind : List ℕ) × (refusal_of operation ≡ Some kind) × (outcome ≡ refusal_outcome (edit_line (number, kind)))
-
 -- the refused operations with their numbers; the first operation has this number
 abbrev pub refusals_from : ℕ → List (List ℕ) → List (ℕ × List ℕ)
 refusals_from number [] = []

@@ -1,9 +1,7 @@
-pub mod Asking
 pub mod Editing
 pub mod Laws
-pub mod VersionsRuns
+pub mod Private
 pub mod Program
-pub mod Refusals
 pub mod Runs
 pub mod Versions
 pub mod Written
@@ -12,10 +10,8 @@ pub mod Reports
 pub mod FromFaults
 pub mod Outcome
 pub mod Taking
-pub mod Giving
 pub mod ListingTexts
 pub mod Outcomes
 pub mod Needs
-pub mod Found
 pub mod ListingLaws
 pub mod PrintedLines

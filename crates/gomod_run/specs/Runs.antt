@@ -13,7 +13,7 @@ use Rattle.gm_syntax.specs.Tokens.{Placed}
 use Rattle.gomod_run.specs.declared.listing.query.Query.{Query}
 use Rattle.gomod_run.specs.declared.listing.query.Query.TheVariants as query
 use Rattle.gomod_run.specs.Outcome.{OrNoMemory, Outcome, failure_outcome, text_outcome, refusal_outcome}
-use Rattle.gomod_run.specs.Outcomes.{Answers, ChainEnds, Given, GraphEnds, ListEnds, Prints, PrintsChain, PrintsGraph, PrintsList, answers_of, given_of}
+use Rattle.gomod_run.specs.Outcomes.{Answers, ChainEnds, Given, GraphEnds, ListEnds, answers_of, given_of}
 use Rattle.gomod_run.specs.Reports.{FaultPlace, device_line, main_line, syntax_place}
 use Rattle.gomod_run.specs.Needs.{AnsweredAll, AnswersByName, FailsInTurn, GraphNeeds}
 use Rattle.gomod_words.specs.Usage.{texts_in}
@@ -30,13 +30,6 @@ is_query Graph = true
 is_query (Rows after limit) = true
 is_query (Chain path) = true
 is_query _ = false
-
--- what a query on a module graph prints; the other commands are no queries
-abbrev pub PrintsOf : Command → Prints
-PrintsOf Graph = PrintsGraph
-PrintsOf (Rows after limit) = PrintsList after limit
-PrintsOf (Chain path) = PrintsChain path
-PrintsOf _ = λ run outcome. ⊥
 
 -- the command that asks this
 abbrev pub command_of : Query → Command

@@ -1,11 +1,9 @@
 -- What sinks hold after texts were written to them.
-use Rattle.std.specs.Prelude.{◌≡◌, ◌⊎◌, ℕ, List, Result, Ok, Err}
+use Rattle.std.specs.Prelude.{◌≡◌, ◌⊎◌, ℕ, List}
 use Rattle.std.specs.Str.{IsUtf8}
 use Rattle.gm_store.specs.Taken.{SinkState}
-use Rattle.gomod_run.specs.Outcome.{OrNoMemory, Outcome, code_of, report_outcome}
+use Rattle.gomod_run.specs.Outcome.{OrNoMemory, Outcome}
 use Rattle.gomod_run.specs.Taking.{TookAll, TookPrefix}
-use Rattle.gomod_run.specs.declared.reports.report.Report.{Report}
-use Rattle.gomod_run.specs.declared.reports.status.Status.{Status}
 
 -- both texts were written
 abbrev pub WroteBoth : List ℕ → List ℕ → SinkState → SinkState → SinkState → SinkState → Type 0
@@ -29,11 +27,3 @@ pub record EndsAsStated (stated : Outcome → Type 0) (out out' report report' :
   pub as_stated : OrNoMemory stated outcome
   pub utf8 : IsUtf8 outcome.text
   pub written : IsWritten outcome out out' report report' status
-
--- A run ended as stated; or it could not begin, and nothing was written: its report is one of the stated outcomes, or
--- says that memory ran out.
-abbrev pub EndsOrStops : (Outcome → Type 0) → SinkState → SinkState → SinkState → SinkState → Result Status Report
-    → Type 0
-EndsOrStops stated out out' report report' (Ok status) = EndsAsStated stated out out' report report' (code_of status)
-EndsOrStops stated out out' report report' (Err told) =
-    OrNoMemory stated (report_outcome told) × (out' ≡ out) × (report' ≡ report)

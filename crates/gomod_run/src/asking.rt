@@ -3,7 +3,7 @@
 ghost use Rattle.std.specs.Prelude.{◌≡◌, None};
 ghost use Rattle.gm_store.specs.Asked.{answer_in, name_of};
 ghost use Rattle.gm_store.specs.States.{HasServed};
-ghost use Rattle.gomod_run.specs.Asking.{IsAsked};
+ghost use Rattle.gomod_run.specs.Private.Asking.{IsAsked};
 
 use crate::reports::report::Report;
 use gm_store::{AskFault, Asks, FileName};

@@ -7,7 +7,8 @@ ghost use Rattle.std.specs.String.{string_bytes};
 ghost use Rattle.gomod_run.specs.Outcome.{code_of, report_outcome};
 ghost use Rattle.gomod_run.specs.Program.{IsServed};
 ghost use Rattle.gm_store.specs.Taken.{SinkState};
-ghost use Rattle.gomod_run.specs.Written.{EndsAsStated, EndsOrStops, IsWritten};
+ghost use Rattle.gomod_run.specs.Written.{EndsAsStated, IsWritten};
+ghost use Rattle.gomod_run.specs.Private.Written.{EndsOrStops};
 
 use crate::inputs::read_inputs;
 use crate::reports::report::Report;

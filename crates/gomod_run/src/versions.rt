@@ -14,7 +14,7 @@ ghost use Rattle.gm_graph.specs.Reading.{IsFileReading};
 ghost use Rattle.gm_graph.specs.Summaries.{RetractsBy, reading_of};
 ghost use Rattle.gomod_run.specs.Outcome.{outcome_view, report_outcome};
 ghost use Rattle.gomod_run.specs.Versions.{list_refusal, versions_line};
-ghost use Rattle.gomod_run.specs.VersionsRuns.{AreVersionsAnswered, GoesOn, IsListAnswered, IsVersionsRun, retracted_in};
+ghost use Rattle.gomod_run.specs.Private.VersionsRuns.{AreVersionsAnswered, GoesOn, IsListAnswered, IsVersionsRun, retracted_in};
 
 use crate::asking::ask_for;
 use crate::reports::report::Report;

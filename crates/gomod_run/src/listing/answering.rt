@@ -6,7 +6,7 @@ ghost use Rattle.std.specs.Option.{option_copied};
 ghost use Rattle.gm_file.specs.Main.{main_of};
 ghost use Rattle.gomod_run.specs.Outcomes.{FilesReadAs};
 ghost use Rattle.gomod_run.specs.Outcome.{OrNoMemory, outcome_view, report_outcome};
-ghost use Rattle.gomod_run.specs.Refusals.{IsRefusedRead};
+ghost use Rattle.gomod_run.specs.Private.Refusals.{IsRefusedRead};
 ghost use Rattle.gomod_run.specs.Runs.{ComesTo, command_of};
 
 use crate::listing::printing::tell;

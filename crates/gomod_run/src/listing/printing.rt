@@ -7,7 +7,7 @@ ghost use Rattle.gm_file.specs.Main.{main_of};
 ghost use Rattle.gm_graph_select.specs.BuildList.{entries_of_rows};
 ghost use Rattle.gm_graph_select.specs.Graph.{among};
 ghost use Rattle.gomod_run.specs.ListingTexts.{graph_text, list_text, up_to};
-ghost use Rattle.gomod_run.specs.Found.{IsOutcomeOfFound, PrintsFound};
+ghost use Rattle.gomod_run.specs.Private.Found.{IsOutcomeOfFound, PrintsFound};
 ghost use Rattle.gomod_run.specs.Outcomes.{PrintsRows, ShowsChain};
 ghost use Rattle.gomod_run.specs.Outcome.{OrNoMemory, outcome_view, text_outcome};
 

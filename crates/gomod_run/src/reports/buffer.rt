@@ -3,7 +3,7 @@
 
 ghost use Rattle.std.specs.Prelude.{◌≡◌, ◌-◌, ◌^◌, [], OnOk, length, min};
 ghost use Rattle.std.specs.List.{flat_map};
-ghost use Rattle.gomod_run.specs.Giving.{IsGiven, IsEnded};
+ghost use Rattle.gomod_run.specs.Private.Giving.{IsGiven, IsEnded};
 ghost use Rattle.gomod_run.specs.ReportTexts.{line};
 
 use arrayvec::ArrayVec;

@@ -3,7 +3,7 @@ use Rattle.std.proofs.lemmas.Result.{err_from_is_err_and}
 use Rattle.gm_graph.specs.Reading.{IsFileReading}
 use Rattle.gm_graph.specs.Summaries.{reading_of}
 use Rattle.gm_store.specs.Asked.{Name, answer_in, mod_file, reply_of}
-use Rattle.gomod_run.specs.Asking.{IsAnsweredAsk, IsAsked}
+use Rattle.gomod_run.specs.Private.Asking.{IsAnsweredAsk, IsAsked}
 use Rattle.gomod_run.proofs.VersionsSteps.{file_faulty, file_memory, file_unanswered, file_valid}
 use Rattle.gomod_run.proofs.versions.latest_file.Goals as goal
 

@@ -2,7 +2,7 @@ use Rattle.std.proofs.Common.{◌≡◌, ◌∙◌, ℕ, Err, List, None, ap, in
 use Rattle.std.proofs.lemmas.Result.{err_from_is_err_and}
 use Rattle.gm_name.specs.Path.{is_fetchable}
 use Rattle.gm_store.specs.Asked.{Reply, answer_in, bytes, list_file, reply_of}
-use Rattle.gomod_run.specs.Asking.{IsAnsweredAsk, IsAsked}
+use Rattle.gomod_run.specs.Private.Asking.{IsAnsweredAsk, IsAsked}
 use Rattle.gomod_run.proofs.VersionsSteps.{Pairs, list_known, listed_memory, no_list_run, unfetchable_run, unlisted_run}
 use Rattle.gomod_run.proofs.versions.list_of.Goals as goal
 

@@ -1,6 +1,6 @@
 use Rattle.std.proofs.Common.{Bool, refl, subst, sym}
 use Rattle.std.proofs.lemmas.Result.{err_from_is_err_and}
-use Rattle.gomod_run.specs.VersionsRuns.{GoesOn}
+use Rattle.gomod_run.specs.Private.VersionsRuns.{GoesOn}
 use Rattle.gomod_run.proofs.VersionsSteps.{all_shown, listed_memory, none_hidden}
 use Rattle.gomod_run.proofs.versions.retracting_file.Goals as goal
 

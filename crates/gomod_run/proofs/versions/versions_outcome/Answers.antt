@@ -5,7 +5,7 @@ use Rattle.gm_file.specs.Views.{interval_views}
 use Rattle.gm_store.proofs.Serving.{served_both}
 use Rattle.gomod_run.specs.Outcome.{outcome_view, text_outcome}
 use Rattle.gomod_run.specs.Versions.{versions_line}
-use Rattle.gomod_run.specs.VersionsRuns.{AreVersionsAnswered, IsVersionsRun}
+use Rattle.gomod_run.specs.Private.VersionsRuns.{AreVersionsAnswered, IsVersionsRun}
 use Rattle.gomod_run.proofs.PassedOn.{no_memory, passed}
 use Rattle.gomod_run.proofs.VersionsSteps.{file_unasked, listed_memory, shown_run}
 use Rattle.gomod_run.proofs.versions.versions_outcome.Goals as goal

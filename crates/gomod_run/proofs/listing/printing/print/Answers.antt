@@ -1,6 +1,6 @@
 use Rattle.std.proofs.Common.{subst, sym}
 use Rattle.gm_file.specs.Main.{main_of}
-use Rattle.gomod_run.specs.Found.{PrintsFound}
+use Rattle.gomod_run.specs.Private.Found.{PrintsFound}
 use Rattle.gomod_run.specs.Outcome.{OrNoMemory, outcome_view}
 use Rattle.gomod_run.specs.declared.listing.query.Query.{Query}
 use Rattle.gomod_run.proofs.listing.printing.print.Goals as goal

@@ -1,6 +1,6 @@
 use Rattle.std.proofs.Common.{[], Ok, take}
 use Rattle.gm_store.specs.declared.sinks.WriteFault.{WriteFault}
-use Rattle.gomod_run.specs.Giving.{IsGiven}
+use Rattle.gomod_run.specs.Private.Giving.{IsGiven}
 use Rattle.gomod_run.specs.Reports.{faults_text}
 use Rattle.gomod_run.proofs.reports.writing.write_faults.Given as goal
 

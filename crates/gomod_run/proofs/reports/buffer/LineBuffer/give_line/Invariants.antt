@@ -1,7 +1,7 @@
 use Rattle.std.proofs.Common.{take, Ok}
 use Rattle.std.specs.List.{flat_map}
 use Rattle.gm_store.specs.declared.sinks.WriteFault.{WriteFault}
-use Rattle.gomod_run.specs.Giving.{IsGiven}
+use Rattle.gomod_run.specs.Private.Giving.{IsGiven}
 use Rattle.gomod_run.proofs.reports.buffer.LineBuffer.give_line.Given as goal
 
 -- the pieces so far were given
