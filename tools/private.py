@@ -24,7 +24,6 @@ NOT_MOVED = set("""
 
 # names of two or more files of specs/ that are to have one meaning or another name
 SHARED = set("""
-IsFileOf IsPlaceOf KeepsTurns Visits folders_in left_by left_in left_words line_text operations_in words_of
 """.split())
 
 DECLARATION = re.compile(r"(?:(?:abbrev|unfoldable|pub) )*(?:(?:data|record) )?([^\s:(){}]+)(?= :| \(| \{|$)")

@@ -13,7 +13,7 @@ use Rattle.gm_file_edit.specs.declared.adding.Spot.{Spot}
 use Rattle.gm_file_edit.specs.NewWords.{entry_at, single}
 use Rattle.gm_file_edit.specs.Holding.{directive_at, passes, is_there}
 use Rattle.gm_file_edit.specs.Private.Keys.{changes_block, entry_verb, key_of}
-use Rattle.gm_file_edit.specs.Private.Marks.{IsPlaceOf, line_at}
+use Rattle.gm_file_edit.specs.Private.Marks.{IsAdditionSpot, line_at}
 use Rattle.gm_file_edit.specs.declared.keys.Key.{Key}
 use Rattle.gm_file.specs.declared.verb.Verb.{Verb}
 use Rattle.gm_file.specs.declared.verb.Verb.TheVariants as verb
@@ -35,7 +35,7 @@ insert-behind [] back line entry = refl
 insert-behind (first ∷ front) back line entry = ap (λ (ls : List (Line Placed)). first ∷ ls) (insert-behind front back line entry)
 
 -- it is where an entry of the verb is added
-pub place-is : (own : Verb) (lines : List (Line Placed)) (spot : Spot) → IsSpotOf (is_of_verb own) lines spot → IsPlaceOf own lines spot
+pub place-is : (own : Verb) (lines : List (Line Placed)) (spot : Spot) → IsSpotOf (is_of_verb own) lines spot → IsAdditionSpot own lines spot
 place-is own lines spot is =
     let at = is.last in
     let long = ap length at.parts ∙ length-append at.front (at.line ∷ at.back) in
@@ -103,7 +103,7 @@ last-more own whole block next_block n key found best next known sound lt is tel
     let one = better-line (is_of_verb own) front (line_at whole n) n (is_some block) found best (sym (length-take-le n whole (omega (arith, lt)))) inside (sym (tells ∙ key-tells own whole n block key known sound lt is so.verb)) so.best_is in
     record { verb = verb-more whole n block next_block key lt is step so.verb; best_is = subst (λ (ls : List (Line Placed)). IsBest (is_of_verb own) ls next) (sym (take_more whole n Blank lt)) (rw better one) }
 
-pub best-place : (own : Verb) (lines : List (Line Placed)) (best : Option Spot) → IsBest (is_of_verb own) lines best → IfSome best (λ s. IsPlaceOf own lines s)
+pub best-place : (own : Verb) (lines : List (Line Placed)) (best : Option Spot) → IsBest (is_of_verb own) lines best → IfSome best (λ s. IsAdditionSpot own lines s)
 best-place own lines None is = tt
 best-place own lines (Some spot) is = place-is own lines spot is
 
@@ -253,12 +253,12 @@ IsOpenTo whole from n = (new : List (Line Placed)) → take n whole ++ after_clo
 -- ---- the lines with new ones
 
 pub add-there : (own : Verb) (text : List ℕ) (arguments : List Placed) (lines : List (Line Placed)) (line : Line Placed) (o : Option Spot) (spot : Spot)
-    → IfSome o (λ s. IsPlaceOf own lines s) → o ≡ Some spot → main_verb text ≡ own → line ≡ entry_at spot.inside text arguments → insert lines spot.before line ≡ with_addition text arguments lines
+    → IfSome o (λ s. IsAdditionSpot own lines s) → o ≡ Some spot → main_verb text ≡ own → line ≡ entry_at spot.inside text arguments → insert lines spot.before line ≡ with_addition text arguments lines
 add-there own text arguments lines line o spot place is named so =
-    ap (insert lines spot.before) so ∙ (subst (λ (p : Option Spot). IfSome p (λ s. IsPlaceOf own lines s)) is place).adds text arguments named
+    ap (insert lines spot.before) so ∙ (subst (λ (p : Option Spot). IfSome p (λ s. IsAdditionSpot own lines s)) is place).adds text arguments named
 
-pub add-in-range : (own : Verb) (lines : List (Line Placed)) (o : Option Spot) (spot : Spot) → IfSome o (λ s. IsPlaceOf own lines s) → o ≡ Some spot → spot.before ≤ length lines
-add-in-range own lines o spot place is = (subst (λ (p : Option Spot). IfSome p (λ s. IsPlaceOf own lines s)) is place).in_range
+pub add-in-range : (own : Verb) (lines : List (Line Placed)) (o : Option Spot) (spot : Spot) → IfSome o (λ s. IsAdditionSpot own lines s) → o ≡ Some spot → spot.before ≤ length lines
+add-in-range own lines o spot place is = (subst (λ (p : Option Spot). IfSome p (λ s. IsAdditionSpot own lines s)) is place).in_range
 
 pub add-last : (own : Verb) (text : List ℕ) (arguments : List Placed) (lines : List (Line Placed)) (o : Option Spot)
     → IfNone o (is_there (is_of_verb own) None lines ≡ false) → o ≡ None → main_verb text ≡ own → lines ++ (Blank ∷ single text arguments ∷ []) ≡ with_addition text arguments lines

@@ -12,7 +12,7 @@ ghost use Rattle.gm_file.specs.Faults.{fault_of, is_module};
 ghost use Rattle.gm_file_edit.specs.Edited.{with_addition, after_closing, after_first_of};
 ghost use Rattle.gm_syntax.specs.Lines.{HasNoLineFeed};
 ghost use Rattle.gm_file_edit.specs.NewWords.{entry_at, made_word, single};
-ghost use Rattle.gm_file_edit.specs.Private.Marks.{IsPlaceOf};
+ghost use Rattle.gm_file_edit.specs.Private.Marks.{IsAdditionSpot};
 ghost use Rattle.gm_file_edit.specs.Holding.{is_there};
 
 use crate::keyed_lines::KeyedLines;
@@ -36,7 +36,7 @@ fn last_spot(own: Verb, lines: &KeyedLines) -> Option<Spot>
     requires known { verb_eq own Unknown ≡ false }
     requires document { IsDocument (plain_lines lines.now) }
     requires sound { fault_of Strict (plain_lines lines.now) ≡ None }
-    ensures place { IfSome result (λ spot. IsPlaceOf own lines.now spot) }
+    ensures place { IfSome result (λ spot. IsAdditionSpot own lines.now spot) }
     ensures none { IfNone result (is_there (is_of_verb own) None lines.now ≡ false) }
 {
     let mut spot = None;
@@ -60,7 +60,7 @@ fn tail_spot(own: Verb, lines: &KeyedLines) -> Option<Spot>
     requires known { verb_eq own Unknown ≡ false }
     requires document { IsDocument (plain_lines lines.now) }
     requires sound { fault_of Strict (plain_lines lines.now) ≡ None }
-    ensures { IfSome result (λ spot. IsPlaceOf own lines.now spot) }
+    ensures { IfSome result (λ spot. IsAdditionSpot own lines.now spot) }
 {
     let mut n = lines.len();
     while n > 0 && !changes_block(lines.key(n - 1)) {
@@ -80,7 +80,7 @@ fn added_spot(own: Verb, lines: &KeyedLines) -> Option<Spot>
     requires known { verb_eq own Unknown ≡ false }
     requires document { IsDocument (plain_lines lines.now) }
     requires sound { fault_of Strict (plain_lines lines.now) ≡ None }
-    ensures place { IfSome result (λ spot. IsPlaceOf own lines.now spot) }
+    ensures place { IfSome result (λ spot. IsAdditionSpot own lines.now spot) }
     ensures none { IfNone result (is_there (is_of_verb own) None lines.now ≡ false) }
 {
     match tail_spot(own, lines) {

@@ -10,7 +10,7 @@ use Rattle.gm_store.specs.declared.files.AskFault.TheVariants as ask
 use Rattle.gm_store.specs.declared.files.FileName.{FileName}
 use Rattle.gm_store.proofs.Serving.{request_served}
 use Rattle.gm_graph.specs.Asking.{AsksFor, StillLacks}
-use Rattle.gm_graph.specs.Private.Asking.{AsksOne, HasName, IsFileOf, IsLoadFaultOf}
+use Rattle.gm_graph.specs.Private.Asking.{AsksOne, HasName, IsAskableFile, IsLoadFaultOf}
 use Rattle.gm_graph.specs.Refusals.{refused_names}
 use Rattle.gm_graph.specs.declared.cache.load_fault.LoadFault.{LoadFault}
 use Rattle.gm_file.specs.Main.{Main}
@@ -76,13 +76,13 @@ module _ {A : Name → Type 0} {before after : Name → Option Reply → Type 0}
 
 -- It is that of an equal vertex's file.
 pub asks_same : {before after : Name → Option Reply → Type 0} {old new : StoreState} {failed names : List Name} (main main' : Main) (x x' : ModuleVersion) → main ≡ main' → x ≡ x' → failed ≡ names
-    → AsksOne (IsFileOf main x) before after old new failed → AsksOne (IsFileOf main' x') before after old new names
+    → AsksOne (IsAskableFile main x) before after old new failed → AsksOne (IsAskableFile main' x') before after old new names
 asks_same main main' x x' same is e one = asks_by e (asks_wider (λ n file. (file.0 ∙ ap₂ file_of same is, file.1)) one)
 
 -- ---- what it means for a vertex
 
 module _ {before after : Name → Option Reply → Type 0} {old new : StoreState} {failed : List Name} (main : Main) (x : ModuleVersion)
-    (one : AsksOne (IsFileOf main x) before after old new failed) where
+    (one : AsksOne (IsAskableFile main x) before after old new failed) where
   pub asks_for : AsksFor main old new x
   asks_for = elim one.asks [
     | inl same ↦ inl same

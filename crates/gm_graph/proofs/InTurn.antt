@@ -12,7 +12,7 @@ use Rattle.gm_graph.specs.declared.findings.Findings.{Findings}
 use Rattle.gm_graph.specs.declared.followed.Followed.{Followed}
 use Rattle.gm_graph.specs.declared.worklist.Worklist.{Worklist}
 use Rattle.gm_graph.specs.declared.worklist.NumberedTurn.{NumberedTurn}
-use Rattle.gm_graph.specs.Private.Asking.{AsksInTurn, AsksOne, IsFileOf}
+use Rattle.gm_graph.specs.Private.Asking.{AsksInTurn, AsksOne, IsAskableFile}
 use Rattle.gm_graph.specs.Private.Worklists.{turns_of}
 use Rattle.gm_graph.specs.Cached.{main_in, run_in, table_in}
 use Rattle.gm_graph.specs.Private.Cached.{module_numbered}
@@ -52,7 +52,7 @@ module _ {main other : Main} {sums others : Option Sums} {before after : Name �
 module _ {main : Main} {sums : Option Sums} {cache : Cache} {worklist : Worklist} {findings : Findings} {at : ℕ} {before after : Name → Option Reply → Type 0}
     {old new : StoreState} {failed : List Name} (one : NumberedTurn) (state : IsAt main sums cache old.asked worklist findings at)
     (below : at < length worklist.turns.items) (here : one ≡ get_or worklist.turns.items at one)
-    (asks : AsksOne (IsFileOf (main_in cache) (module_numbered cache one.number)) before after old new failed) where
+    (asks : AsksOne (IsAskableFile (main_in cache) (module_numbered cache one.number)) before after old new failed) where
   abbrev vertex : ModuleVersion
   vertex = module_numbered cache one.number
 

@@ -20,7 +20,7 @@ use Rattle.gm_graph.specs.declared.worklist.NumberedTurn.{NumberedTurn}
 use Rattle.gm_graph.specs.declared.worklist.Worklist.{Worklist}
 use Rattle.gm_graph.specs.Cached.{main_in, run_in, sums_in, table_in}
 use Rattle.gm_graph.specs.Private.Cached.{module_numbered}
-use Rattle.gm_graph.specs.Private.CacheVisits.{HasVisited, IsVisit, KeepsTurns as KeptTurns, required_by, table_of}
+use Rattle.gm_graph.specs.Private.CacheVisits.{HasVisited, IsVisit, IsRefusedVisit as KeptTurns, required_by, table_of}
 use Rattle.gm_graph.specs.Private.Findings.{AreFindings, FindsOne}
 use Rattle.gm_graph.specs.Private.Followed.{AddsFollowed, AreFollowedIn, FollowsFile}
 use Rattle.gm_graph.specs.Run.{Run, Says}

@@ -38,7 +38,7 @@ ghost use Rattle.gm_store.specs.States.{AddsAnswer};
 ghost use Rattle.gm_store.specs.declared.files.FileName.{FileName};
 ghost use Rattle.gm_file.specs.Listed.{with_requirements};
 ghost use Rattle.gm_file.specs.Main.{main_of, without_excluded};
-ghost use Rattle.gm_graph.specs.Private.Asking.{AsksOne, HasName, IsFileOf, IsLoadFaultOf};
+ghost use Rattle.gm_graph.specs.Private.Asking.{AsksOne, HasName, IsAskableFile, IsLoadFaultOf};
 ghost use Rattle.gm_graph.specs.Reading.{IsFileReading, file_of, is_askable as may_be_asked};
 ghost use Rattle.gm_graph.specs.Private.FileTable.{PutsFile, IsNewFile, NotesFiles, replacing_place};
 ghost use Rattle.gm_graph.specs.Private.Held.{HoldsSome};
@@ -166,7 +166,7 @@ impl<'a> Cache<'a> {
     ghost use Rattle.gm_graph.specs.Private.Cached.{ArePartsOf, HasFileAt, HasMadeKnown, IsPlaceFor, LendsTurns, module_numbered, span_at};
     ghost use Rattle.gm_graph.specs.Private.Held.{lent_table};
     ghost use Rattle.gm_graph.specs.declared.cache.Cache.{Cache};
-    ghost use Rattle.gm_graph.specs.Private.CacheVisits.{IsSaid, LendsOver, Visits};
+    ghost use Rattle.gm_graph.specs.Private.CacheVisits.{IsSaid, LendsOver, VisitEnds};
     ghost use Rattle.gm_graph.specs.Run.{KeepsSayings};
 
     /// A cache for a main file, without files. If there is a go.sum, the files that come from proxies are checked
@@ -294,7 +294,7 @@ impl<'a> Cache<'a> {
             (module_numbered self.old number)) }
         ensures lent { LentSame self.old self.new }
         ensures err { OnErr result (HoldsSame self.old self.new) }
-        ensures asks { AsksOne (IsFileOf (main_in self.old) (module_numbered self.old number))
+        ensures asks { AsksOne (IsAskableFile (main_in self.old) (module_numbered self.old number))
             (F.may_answer files.old) (F.may_answer files.new) (F.state files.old) (F.state files.new)
             (refused_for (file_of (main_in self.old) (module_numbered self.old number)) result) }
         ensures failed { result ≡ Err AskFault.Device
@@ -380,10 +380,10 @@ impl<'a> Cache<'a> {
         requires vertex { number < length (table_in self.old) }
         requires few { file_count self.old < 4294967295 }
         ensures lends { IfOk result (LendsOver self.old (run_in self.old (F.state files.old).asked)) }
-        ensures asks { AsksOne (IsFileOf (main_in self.old) (module_numbered self.old number))
+        ensures asks { AsksOne (IsAskableFile (main_in self.old) (module_numbered self.old number))
             (F.may_answer files.old) (F.may_answer files.new) (F.state files.old) (F.state files.new)
             (refused_for (file_of (main_in self.old) (module_numbered self.old number)) result) }
-        ensures* after { sem 𝓛 (Visits self.entry (F.state files.old) (F.state files.new) number depth result) }
+        ensures* after { sem 𝓛 (VisitEnds self.entry (F.state files.old) (F.state files.new) number depth result) }
     {
         let place = self.known_at(files, number)?;
         // This is read first, since a reference that one branch alone borrows is not covered by the borrow checker.

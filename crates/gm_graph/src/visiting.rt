@@ -2,7 +2,7 @@
 
 ghost use Rattle.std.specs.Prelude.{◌≡◌, ◌<◌, [], OnOk, Contains, Err, length, true};
 ghost use Rattle.gm_name.specs.ModuleVersion.{ModuleVersion};
-ghost use Rattle.gm_graph.specs.Private.Asking.{AsksOne, IsFileOf};
+ghost use Rattle.gm_graph.specs.Private.Asking.{AsksOne, IsAskableFile};
 ghost use Rattle.gm_graph.specs.Cached.{Knows, file_count, main_in, run_in, table_in};
 ghost use Rattle.gm_graph.specs.Private.Cached.{module_numbered};
 ghost use Rattle.gm_graph.specs.Private.CacheVisits.{IsVisit, required_by, table_of};
@@ -90,7 +90,7 @@ pub(crate) fn visit<F: Asks>(
         worklist.old worklist.new followed.new findings.old findings.new one) }
     ensures too_many { result ≡ Err LoadFault.TooMany → OverflowsAt (run_in cache.old (F.state files.new).asked)
         (turns_of (table_in cache.old) worklist.old) (module_numbered cache.old one.number) one.depth }
-    ensures asks { AsksOne (IsFileOf (main_in cache.old) (module_numbered cache.old one.number))
+    ensures asks { AsksOne (IsAskableFile (main_in cache.old) (module_numbered cache.old one.number))
         (F.may_answer files.old) (F.may_answer files.new) (F.state files.old) (F.state files.new) (refused_in result) }
 {
     match cache.visit(files, one.number, one.depth) {

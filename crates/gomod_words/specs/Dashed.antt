@@ -80,8 +80,8 @@ left_from is_value has_file (word ∷ words) =
     else word ∷ left_from (takes_value word) (has_file || is_file is_value has_file word) words
 
 -- the words that are left out of what to type after `edit`
-abbrev pub left_words : List Text → List Text
-left_words words = left_from false false words
+abbrev pub omitted_words : List Text → List Text
+omitted_words words = left_from false false words
 
 -- the name of an operation
 abbrev pub names_operation : Text → Bool

@@ -19,7 +19,7 @@ use Rattle.clap.specs.declared.error.kind.ErrorKind.TheVariants.{DisplayHelp, Di
 use Rattle.gm_name.specs.Path.{IsPath}
 use Rattle.gm_store.specs.Proxies.{folders_in, folders_of, is_folder, marks_in, marks_of}
 use Rattle.gm_store.specs.declared.fallback.proxy_list.ProxyList.{ProxyList}
-use Rattle.gomod_words.specs.Dashed.{dashed_in, edit_words, joined_words, left_words}
+use Rattle.gomod_words.specs.Dashed.{dashed_in, edit_words, joined_words, omitted_words}
 use Rattle.gomod_words.specs.Limits.{limit_of}
 use Rattle.gomod_words.specs.Typed.{left_text, typed_words}
 use Rattle.gomod_words.specs.declared.usage.Command.{Command}
@@ -282,7 +282,7 @@ IsLineOf text _ = ⊥
 abbrev pub edit_message : List ℕ → List Text → List ℕ
 edit_message operation words =
     codes "error: operations have no dash: " ++ operation
-    ++ codes "\n\n  tip: gomod edit" ++ typed_words (edit_words words) ++ left_text (left_words words)
+    ++ codes "\n\n  tip: gomod edit" ++ typed_words (edit_words words) ++ left_text (omitted_words words)
 
 -- the same, where an operation may be an option with its value in the next word
 abbrev pub dashed_message : List ℕ → List Text → List ℕ

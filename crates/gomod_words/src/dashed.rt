@@ -9,7 +9,7 @@ ghost use Rattle.clap.specs.Lexer.{strip_byte, without_minus};
 ghost use Rattle.gomod_words.specs.Typed.{typed_words};
 ghost use Rattle.gomod_words.specs.Usage.{IsLineOf, dashed_message, dashed_text, edit_message, words_after};
 ghost use Rattle.gomod_words.specs.Private.Items.{waiting};
-ghost use Rattle.gomod_words.specs.Dashed.{begins_with_dash, dashed_in, edit_words, free_from, is_file, is_free, is_operation, is_operation_name, joined_from, joined_words, left_from, left_words, names_operation, names_value, operation_in, operations_in, takes_value, without_dashes};
+ghost use Rattle.gomod_words.specs.Dashed.{begins_with_dash, dashed_in, edit_words, free_from, is_file, is_free, is_operation, is_operation_name, joined_from, joined_words, left_from, omitted_words, names_operation, names_value, operation_in, operations_in, takes_value, without_dashes};
 
 use crate::help::usage_of;
 use crate::lines::push_texts;
@@ -168,7 +168,7 @@ pub(crate) fn edit_words<'a>(alloc: Global, words: &[&'a str]) -> Result<Vec<&'a
 
 /// The words after `edit` that are neither the file nor an operation.
 fn left_words<'a>(alloc: Global, words: &[&'a str]) -> Result<Vec<&'a str>, AllocError>
-    ensures { IfOk result (λ left. map (λ word. word.now) left.items ≡ left_words (map (λ word. word.now) words.now)) }
+    ensures { IfOk result (λ left. map (λ word. word.now) left.items ≡ omitted_words (map (λ word. word.now) words.now)) }
 {
     let mut left = Vec::new(alloc);
     let mut is_value = false;

@@ -3,7 +3,7 @@
 ghost use Rattle.std.specs.Prelude.{◌≡◌, ◌∷◌, ◌++◌, IfOk, [], OnOk, map};
 ghost use Rattle.std.specs.List.{before_first};
 ghost use Rattle.std.specs.Option.{option_copied};
-ghost use Rattle.gomod_words.specs.Private.Items.{is_equals, not_empty, option_in, option_name, option_value, value_after, waiting, words_in, words_of};
+ghost use Rattle.gomod_words.specs.Private.Items.{is_equals, not_empty, option_in, option_name, option_value, value_after, waiting, words_in, item_words};
 
 use crate::dashed::{begins_with_dash, names_operation, without_dashes};
 use std::alloc::{AllocError, Global};
@@ -86,7 +86,7 @@ pub(crate) fn value_in<'a>(item: Item<'a>) -> Option<&'a str>
 /// Appends the words of an item, as they were typed.
 pub(crate) fn push_words<'a>(words: &mut Vec<&'a str>, item: Item<'a>) -> Result<(), AllocError>
     ensures { OnOk result (map (λ word. word.now) words.new.items
-        ≡ map (λ word. word.now) words.old.items ++ words_of item.entry) }
+        ≡ map (λ word. word.now) words.old.items ++ item_words item.entry) }
 {
     match item {
         Item::Word(word) => words.push(word)?,

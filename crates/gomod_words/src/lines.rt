@@ -2,7 +2,7 @@
 
 ghost use Rattle.std.specs.Prelude.{◌≡◌, ◌++◌, IfOk, IfSome, OnOk, [], codes, flat_map, map};
 ghost use Rattle.std.specs.String.{string_bytes};
-ghost use Rattle.gomod_words.specs.Private.Placed.{after_program, command_text, end_in, end_of, grouped, json_text, keeps_output, line_text, or_else, proxy_words, second_of, shown_words};
+ghost use Rattle.gomod_words.specs.Private.Placed.{after_program, command_text, end_in, end_of, grouped, json_text, keeps_output, typed_line, or_else, proxy_words, second_of, shown_words};
 ghost use Rattle.gomod_words.specs.Private.Rows.{is_over_file};
 ghost use Rattle.gomod_words.specs.Private.Tips.{IsShown, IsTold};
 ghost use Rattle.gomod_words.specs.Typed.{left_text};
@@ -227,7 +227,7 @@ fn end_for(alloc: Global, file: &str, placed: &[Placed<'_>]) -> Result<String, A
 
 /// A command line of gomod with these words and this end.
 fn line_text(alloc: Global, words: &[&str], end: &str) -> Result<String, AllocError>
-    ensures { IfOk result (λ line. string_bytes line ≡ line_text (map (λ word. word.now) words.now) end.now) }
+    ensures { IfOk result (λ line. string_bytes line ≡ typed_line (map (λ word. word.now) words.now) end.now) }
 {
     let mut line = followed(alloc, "gomod", words)?;
     line.push_str(end)?;

@@ -5,7 +5,7 @@ ghost use Rattle.std.specs.Prelude.{◌≡◌, ◌∷◌, ◌++◌, All, IfOk, [
 ghost use Rattle.std.specs.List.{list_any};
 ghost use Rattle.std.specs.String.{string_bytes};
 ghost use Rattle.gomod_words.specs.Private.Made.{name_in};
-ghost use Rattle.gomod_words.specs.Private.Placed.{asks_for_json, grouped, is_of, left_by, operation_text, operations_by, operations_in, option_words, part_words, release_words, undashed, words_by};
+ghost use Rattle.gomod_words.specs.Private.Placed.{asks_for_json, grouped, is_of, omitted_by, operation_text, operations_by, placed_operations, option_words, part_words, release_words, undashed, words_by};
 ghost use Rattle.gomod_words.specs.Private.Rows.{Becomes, is_over_file};
 
 use crate::dashed::{operation_in, without_dashes};
@@ -269,7 +269,7 @@ fn push_release<'a>(
 /// Appends the words of this group that an item has which is left out.
 fn push_left<'a>(words: &mut Vec<&'a str>, group: Group, item: Item<'a>) -> Result<(), AllocError>
     ensures { OnOk result (map (λ word. word.now) words.new.items
-        ≡ map (λ word. word.now) words.old.items ++ left_by group item.entry) }
+        ≡ map (λ word. word.now) words.old.items ++ omitted_by group item.entry) }
 {
     match group {
         Group::Left => push_words(words, item),
@@ -378,7 +378,7 @@ pub(crate) fn push_operations(
     placed: &[Placed<'_>],
 ) -> Result<(), AllocError>
     ensures { OnOk result (map string_bytes texts.new.items
-        ≡ map string_bytes texts.old.items ++ operations_in placed.now) }
+        ≡ map string_bytes texts.old.items ++ placed_operations placed.now) }
 {
     for each in placed {
         push_operation(alloc, texts, *each)?;

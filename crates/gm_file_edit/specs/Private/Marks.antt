@@ -50,7 +50,7 @@ fates_of (mark ∷ marks) [] = []
 fates_of (mark ∷ marks) (line ∷ lines) = fate_by mark line ∷ fates_of marks lines
 
 -- a position is where an entry with this verb is added next to others
-pub record IsPlaceOf (own : Verb) (lines : List (Line Placed)) (spot : Spot) : Type 0 where
+pub record IsAdditionSpot (own : Verb) (lines : List (Line Placed)) (spot : Spot) : Type 0 where
   pub in_range : spot.before ≤ length lines
   pub adds : (verb : List ℕ) (arguments : List Placed) → main_verb verb ≡ own
       → insert lines spot.before (entry_at spot.inside verb arguments) ≡ with_addition verb arguments lines

@@ -14,8 +14,8 @@ use Rattle.gm_graph.specs.declared.cache.load_fault.LoadFault.{LoadFault}
 use Rattle.gm_graph.specs.declared.cache.load_fault.LoadFault.TheVariants.{NoMemory, Device}
 
 -- this is the name of the vertex's file, which may be asked for
-abbrev pub IsFileOf : Main → ModuleVersion → Name → Type 0
-IsFileOf main x name = (name ≡ file_of main x) × (is_askable name ≡ true)
+abbrev pub IsAskableFile : Main → ModuleVersion → Name → Type 0
+IsAskableFile main x name = (name ≡ file_of main x) × (is_askable name ≡ true)
 
 -- What a call did to a store that asks for one of these names at most. `before` says what might come of a request
 -- before the call, `after` what may come of one after it, and the names in `failed` were refused.

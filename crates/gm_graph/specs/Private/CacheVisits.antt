@@ -106,12 +106,12 @@ pub record HasVisited (old : Cache) (earlier : List (Name × Reply)) (new : Cach
   pub visit_is : IsVisit new (run_in new pairs) (module_numbered old number) d visit
 
 -- After a refusal the list of turns is the same, and if the device failed, the cache has the name of the file.
-abbrev pub KeepsTurns : Cache → Cache → ℕ → AskFault → Type 0
-KeepsTurns old new number fault = (turns_in new ≡ turns_in old)
+abbrev pub IsRefusedVisit : Cache → Cache → ℕ → AskFault → Type 0
+IsRefusedVisit old new number fault = (turns_in new ≡ turns_in old)
     × (fault ≡ Device → HasName new.failed (file_of (main_in old) (module_numbered old number)))
 
 -- Once the borrow of what a visit got ends, the cache has visited the vertex, or a refusal left its turns.
-abbrev pub Visits : MutBor Cache → StoreState → StoreState → ℕ → Depth → Result Visit AskFault → Fml
-Visits cache before after number d result = Rests (the_row (record { mir = named 1; lft = [] })) cache
+abbrev pub VisitEnds : MutBor Cache → StoreState → StoreState → ℕ → Depth → Result Visit AskFault → Fml
+VisitEnds cache before after number d result = Rests (the_row (record { mir = named 1; lft = [] })) cache
     (λ end. MatchResult result (λ visit. HasVisited cache.now before.asked end after.asked number d visit)
-    (λ fault. KeepsTurns cache.now end number fault))
+    (λ fault. IsRefusedVisit cache.now end number fault))

@@ -9,13 +9,13 @@ use Rattle.gomod_words.specs.declared.items.Item.{Item}
 use Rattle.gomod_words.specs.declared.items.Item.TheVariants.{Word, Pair}
 
 -- the words that an item was typed as
-abbrev pub words_of : Item → List Text
-words_of (Word word) = word.now ∷ []
-words_of (Pair option value) = option.now ∷ value.now ∷ []
+abbrev pub item_words : Item → List Text
+item_words (Word word) = word.now ∷ []
+item_words (Pair option value) = option.now ∷ value.now ∷ []
 
 -- the words that items were typed as, in order
 abbrev pub words_in : List Item → List Text
-words_in items = flat_map words_of items
+words_in items = flat_map item_words items
 
 -- the option that waits for its value, if there is one
 abbrev pub waiting : Option (Bor Text) → List Text

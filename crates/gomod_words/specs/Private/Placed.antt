@@ -4,7 +4,7 @@ use Rattle.std.specs.List.{list_any}
 use Rattle.std.specs.Str.{bytes_eq}
 use Rattle.clap.specs.Walk.{Text}
 use Rattle.gomod_words.specs.Dashed.{operation_in, without_dashes}
-use Rattle.gomod_words.specs.Private.Items.{words_of}
+use Rattle.gomod_words.specs.Private.Items.{item_words}
 use Rattle.gomod_words.specs.Typed.{typed_words}
 use Rattle.gomod_words.specs.declared.items.Item.{Item}
 use Rattle.gomod_words.specs.declared.items.Item.TheVariants.{Word, Pair}
@@ -46,17 +46,17 @@ release_words g.Left path version = version ∷ []
 release_words _ path version = []
 
 -- the words of this group that an item has which is left out: all of it is named
-abbrev pub left_by : Group → Item → List Text
-left_by g.Left item = words_of item
-left_by _ item = []
+abbrev pub omitted_by : Group → Item → List Text
+omitted_by g.Left item = item_words item
+omitted_by _ item = []
 
 -- the words of this group that there are of an item of which this becomes
 abbrev pub words_by : Group → Item → Row → List Text
 words_by group item (Part slot text) = part_words group slot text.now
 words_by group item (Release path version) = release_words group path.now version.now
 words_by group item Operation = []
-words_by group item LeftOut = left_by group item
-words_by group item Unknown = left_by group item
+words_by group item LeftOut = omitted_by group item
+words_by group item Unknown = omitted_by group item
 
 -- the words of this group
 abbrev pub grouped : Group → List Placed → List Text
@@ -77,8 +77,8 @@ operations_by item Operation = operation_text item ∷ []
 operations_by item _ = []
 
 -- the operations
-abbrev pub operations_in : List Placed → List Text
-operations_in placed = flat_map (λ each. operations_by each.item each.row) placed
+abbrev pub placed_operations : List Placed → List Text
+placed_operations placed = flat_map (λ each. operations_by each.item each.row) placed
 
 -- JSON is asked for by this
 abbrev pub asks_for_json : Row → Bool
@@ -122,7 +122,7 @@ proxy_words (first ∷ lists) = codes "--proxy" ∷ (first ++ flat_map (λ list.
 abbrev pub shown_words : Text → List Text → List Text → List Placed → List Text
 shown_words name files lists placed =
     (codes "gomod" ∷ name ∷ []) ++ or_else files (grouped g.Operands placed)
-    ++ proxy_words (or_else lists (grouped g.Lists placed)) ++ grouped g.Options placed ++ operations_in placed
+    ++ proxy_words (or_else lists (grouped g.Lists placed)) ++ grouped g.Options placed ++ placed_operations placed
 
 -- the words after the program's name
 abbrev pub after_program : List Text → List Text
@@ -130,14 +130,14 @@ after_program (program ∷ words) = words
 after_program _ = []
 
 -- a command line of gomod with these words after its name, and this end
-abbrev pub line_text : List Text → List ℕ → List ℕ
-line_text words end = codes "gomod" ++ typed_words words ++ end
+abbrev pub typed_line : List Text → List ℕ → List ℕ
+typed_line words end = codes "gomod" ++ typed_words words ++ end
 
 -- the same, in these folders
 abbrev pub command_text : List Text → List Text → List ℕ → List ℕ
-command_text [] words end = line_text words end
+command_text [] words end = typed_line words end
 command_text (folder ∷ folders) words end =
-    codes "(cd" ++ typed_words (folder ∷ folders) ++ codes " && " ++ line_text words end ++ codes ")"
+    codes "(cd" ++ typed_words (folder ∷ folders) ++ codes " && " ++ typed_line words end ++ codes ")"
 
 -- the word after a command's name; without one it is `go.mod`
 abbrev pub second_of : List Text → Text

@@ -5,7 +5,7 @@ use Rattle.gm_graph.specs.declared.cache.visit.Visit.{Visit}
 use Rattle.gm_graph.specs.declared.cache.visit.Visit.TheVariants as visit
 use Rattle.gm_graph.specs.Cached.{main_in, run_in, table_in}
 use Rattle.gm_graph.specs.Private.Cached.{module_numbered}
-use Rattle.gm_graph.specs.Private.CacheVisits.{IsVisit, KeepsTurns, LendsOver, table_of}
+use Rattle.gm_graph.specs.Private.CacheVisits.{IsVisit, IsRefusedVisit, LendsOver, table_of}
 use Rattle.gm_graph.specs.Reading.{file_of}
 use Rattle.gm_graph.specs.Run.{Says}
 use Rattle.gm_graph.proofs.AskedFile.{asks_by, has_some, refused_failed}
@@ -92,7 +92,7 @@ load_fault-requires g c = λ is.
     let old = c.args.cache.now in
     let name = file_of (main_in old) (module_numbered old c.args.one.number) in
     let end = c.visit.follows.lender-at-none in
-    let ended : KeepsTurns old end c.args.one.number c.in-Err.fault = rw c.in-Err.is at c.visit.follows.holds-at-none in
+    let ended : IsRefusedVisit old end c.args.one.number c.in-Err.fault = rw c.in-Err.is at c.visit.follows.holds-at-none in
     has_some end.failed name (ended.1 is)
 
 pub returns-in-Err-clause-too_many : goal.returns-in-Err-clause-too_many
@@ -105,5 +105,5 @@ returns-in-Err-clause-asks g c =
     let old = c.args.cache.now in
     let name = file_of (main_in old) (module_numbered old c.args.one.number) in
     let end = c.visit.follows.lender-at-none in
-    let ended : KeepsTurns old end c.args.one.number c.in-Err.fault = rw c.in-Err.is at c.visit.follows.holds-at-none in
+    let ended : IsRefusedVisit old end c.args.one.number c.in-Err.fault = rw c.in-Err.is at c.visit.follows.holds-at-none in
     asks_by (refused_failed Visit name c.in-Err.fault end.failed c.load_fault.result ended.1 c.load_fault.ensures.fault) c.in-Err.ensures.asks

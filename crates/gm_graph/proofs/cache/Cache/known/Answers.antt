@@ -2,7 +2,7 @@ use Rattle.std.proofs.Common.{◌≡◌, ◌∙◌, ℕ, Option, Some, ap, inl, 
 use Rattle.gm_name.specs.ModuleVersion.{ModuleVersion}
 use Rattle.gm_store.specs.Asked.{name_of}
 use Rattle.gm_graph.specs.declared.cache.load_fault.LoadFault.TheVariants as load
-use Rattle.gm_graph.specs.Private.Asking.{AsksOne, IsFileOf}
+use Rattle.gm_graph.specs.Private.Asking.{AsksOne, IsAskableFile}
 use Rattle.gm_graph.specs.Refusals.{refused_names}
 use Rattle.gm_graph.proofs.AskedFile.{asks_for, asks_same, lacks_still, refused_failed}
 use Rattle.gm_graph.specs.Cached.{IsKnownAs, main_in, run_in, table_in}
@@ -36,7 +36,7 @@ returns-in-Ok-clause-asks g c =
     (ap main_of c.number.ensures.holds.main) c.in_ok-number.ensures.module refl c.in-Ok.ensures.asks)
 
 asked : (g : Over) (c : goal.After-of_request g)
-    → AsksOne (IsFileOf (main_in c.args.self.now) c.args.vertex.now) (g.F.Asks.may_answer c.args.files.now) (g.F.Asks.may_answer c.known_at.new.files)
+    → AsksOne (IsAskableFile (main_in c.args.self.now) c.args.vertex.now) (g.F.Asks.may_answer c.args.files.now) (g.F.Asks.may_answer c.known_at.new.files)
     (g.F.Asks.state c.args.files.now) (g.F.Asks.state c.known_at.new.files) (refused_names c.of_request.result)
 asked g c =
     let mid = c.number.new.self in
