@@ -30,7 +30,8 @@ pub record IsSpotOf (test : Directive → Bool) (lines : List (Line Placed)) (sp
   pub before : spot.before ≡ suc (length last.front)
   pub inside : spot.inside ≡ is_some (block_after_lines None last.front)
 
-insert-behind : (front back : List (Line Placed)) (line entry : Line Placed) → insert (front ++ line ∷ back) (suc (length front)) entry ≡ front ++ line ∷ entry ∷ back
+insert-behind : (front back : List (Line Placed)) (line entry : Line Placed)
+    → insert (front ++ line ∷ back) (suc (length front)) entry ≡ front ++ line ∷ entry ∷ back
 insert-behind [] back line entry = refl
 insert-behind (first ∷ front) back line entry = ap (λ (ls : List (Line Placed)). first ∷ ls) (insert-behind front back line entry)
 
@@ -42,7 +43,8 @@ place-is own lines spot is =
     let before = is.before in
     record { in_range = omega (arith, long, before); adds = adds }
   where
-    adds : (verb : List ℕ) (arguments : List Placed) → main_verb verb ≡ own → insert lines spot.before (entry_at spot.inside verb arguments) ≡ with_addition verb arguments lines
+    adds : (verb : List ℕ) (arguments : List Placed) → main_verb verb ≡ own
+        → insert lines spot.before (entry_at spot.inside verb arguments) ≡ with_addition verb arguments lines
     adds verb arguments named =
         let at = is.last in
         let own_verb : is_of_verb own ≡ has_verb verb = ap is_of_verb (sym named) in
@@ -60,12 +62,16 @@ IsBest test lines None = is_there test None lines ≡ false
 IsBest test lines (Some spot) = IsSpotOf test lines spot
 
 -- one more line, which holds no such directive
-later-line : (test : Directive → Bool) (lines : List (Line Placed)) (line : Line Placed) (best : Option Spot) → passes test (directive_at (block_after_lines None lines) line) ≡ false → IsBest test lines best → IsBest test (lines ++ line ∷ []) best
-later-line test lines line None miss none = there-append test None lines (line ∷ []) ∙ or_from (is_there test None lines) _ none (ap (λ (b : Bool). b || false) miss)
+later-line : (test : Directive → Bool) (lines : List (Line Placed)) (line : Line Placed) (best : Option Spot)
+    → passes test (directive_at (block_after_lines None lines) line) ≡ false → IsBest test lines best
+    → IsBest test (lines ++ line ∷ []) best
+later-line test lines line None miss none = there-append test None lines (line ∷ [])
+    ∙ or_from (is_there test None lines) _ none (ap (λ (b : Bool). b || false) miss)
 later-line test lines line (Some spot) miss is =
     let at = is.last in
     let parts : lines ≡ (at.front ++ at.line ∷ []) ++ at.back = at.parts ∙ sym (append_assoc at.front (at.line ∷ []) at.back) in
-    let block : block_after_lines None lines ≡ block_after_lines (block_after_lines None (at.front ++ at.line ∷ [])) at.back = ap (block_after_lines None) parts ∙ block-append None (at.front ++ at.line ∷ []) at.back in
+    let block : block_after_lines None lines ≡ block_after_lines (block_after_lines None (at.front ++ at.line ∷ []))
+    at.back = ap (block_after_lines None) parts ∙ block-append None (at.front ++ at.line ∷ []) at.back in
     let missed = ap (λ (b : Option Placed). passes test (directive_at b line) || false) (sym block) ∙ ap (λ (b : Bool). b || false) miss in
     record {
       last = record {
@@ -85,9 +91,17 @@ abbrev pub better_at : ℕ → Bool → Bool → Option Spot → Option Spot
 better_at n inside true best = Some (record { before = n + 1; inside = inside })
 better_at n inside false best = best
 
-better-line : (test : Directive → Bool) (lines : List (Line Placed)) (line : Line Placed) (n : ℕ) (inside found : Bool) (best : Option Spot) → n ≡ length lines → inside ≡ is_some (block_after_lines None lines)
-    → passes test (directive_at (block_after_lines None lines) line) ≡ found → IsBest test lines best → IsBest test (lines ++ line ∷ []) (better_at n inside found best)
-better-line test lines line n inside true best long within hit is = record { last = record { front = lines; line = line; back = []; parts = refl; hit = hit; later = refl }; before = omega (arith, long); inside = within }
+better-line : (test : Directive → Bool) (lines : List (Line Placed)) (line : Line Placed) (n : ℕ) (inside found : Bool)
+    (best : Option Spot) → n ≡ length lines → inside ≡ is_some (block_after_lines None lines)
+    → passes test (directive_at (block_after_lines None lines) line) ≡ found → IsBest test lines best
+    → IsBest test (lines ++ line ∷ []) (better_at n inside found best)
+better-line test lines line n inside true best long within hit is =
+    record {
+      last = record { front = lines; line = line; back = []; parts = refl; hit = hit; later = refl };
+      before =
+          omega (arith, long);
+      inside = within;
+    }
 better-line test lines line n inside false best long within miss is = later-line test lines line best miss is
 
 -- Loop invariant: the position is the best of the lines so far, and the verb is that of the block which is open.
@@ -95,23 +109,36 @@ pub record IsLastTo (own : Verb) (whole : List (Line Placed)) (block : Option Ve
   pub verb : IsVerbTo whole n block
   pub best_is : IsBest (is_of_verb own) (take n whole) best
 
-pub last-more : (own : Verb) (whole : List (Line Placed)) (block next_block : Option Verb) (n : ℕ) (key : Key) (found : Bool) (best next : Option Spot) → IsKnown own → IsSound whole → n < length whole → key ≡ key_of (line_at whole n)
-    → found ≡ verb_eq own (entry_verb block key) → next ≡ better_at n (is_some block) found best → StepsVerb block key next_block → IsLastTo own whole block n best → IsLastTo own whole next_block (n + 1) next
+pub last-more : (own : Verb) (whole : List (Line Placed)) (block next_block : Option Verb) (n : ℕ) (key : Key)
+    (found : Bool) (best next : Option Spot) → IsKnown own → IsSound whole → n < length whole
+    → key ≡ key_of (line_at whole n)
+    → found ≡ verb_eq own (entry_verb block key) → next ≡ better_at n (is_some block) found best
+    → StepsVerb block key next_block → IsLastTo own whole block n best → IsLastTo own whole next_block (n + 1) next
 last-more own whole block next_block n key found best next known sound lt is tells better step so =
     let front : List (Line Placed) = take n whole in
     let inside : is_some block ≡ is_some (block_after_lines None front) = ap is_some so.verb ∙ verb-inside (block_after_lines None front) in
-    let one = better-line (is_of_verb own) front (line_at whole n) n (is_some block) found best (sym (length-take-le n whole (omega (arith, lt)))) inside (sym (tells ∙ key-tells own whole n block key known sound lt is so.verb)) so.best_is in
-    record { verb = verb-more whole n block next_block key lt is step so.verb; best_is = subst (λ (ls : List (Line Placed)). IsBest (is_of_verb own) ls next) (sym (take_more whole n Blank lt)) (rw better one) }
+    let one = better-line (is_of_verb own) front (line_at whole n) n (is_some block) found best
+    (sym (length-take-le n whole (omega (arith, lt)))) inside
+    (sym (tells ∙ key-tells own whole n block key known sound lt is so.verb)) so.best_is in
+    record {
+      verb = verb-more whole n block next_block key lt is step so.verb;
+      best_is =
+          subst (λ (ls : List (Line Placed)). IsBest (is_of_verb own) ls next) (sym (take_more whole n Blank lt))
+          (rw better one);
+    }
 
-pub best-place : (own : Verb) (lines : List (Line Placed)) (best : Option Spot) → IsBest (is_of_verb own) lines best → IfSome best (λ s. IsAdditionSpot own lines s)
+pub best-place : (own : Verb) (lines : List (Line Placed)) (best : Option Spot) → IsBest (is_of_verb own) lines best
+    → IfSome best (λ s. IsAdditionSpot own lines s)
 best-place own lines None is = tt
 best-place own lines (Some spot) is = place-is own lines spot is
 
-pub best-none : (own : Verb) (lines : List (Line Placed)) (best : Option Spot) → IsBest (is_of_verb own) lines best → IfNone best (is_there (is_of_verb own) None lines ≡ false)
+pub best-none : (own : Verb) (lines : List (Line Placed)) (best : Option Spot) → IsBest (is_of_verb own) lines best
+    → IfNone best (is_there (is_of_verb own) None lines ≡ false)
 best-none own lines None is = is
 best-none own lines (Some spot) is = tt
 
-pub last-end : (own : Verb) (whole : List (Line Placed)) (block : Option Verb) (n : ℕ) (best : Option Spot) → length whole ≤ n → IsLastTo own whole block n best → IsBest (is_of_verb own) whole best
+pub last-end : (own : Verb) (whole : List (Line Placed)) (block : Option Verb) (n : ℕ) (best : Option Spot)
+    → length whole ≤ n → IsLastTo own whole block n best → IsBest (is_of_verb own) whole best
 last-end own whole block n best over so = subst (λ (ls : List (Line Placed)). IsBest (is_of_verb own) ls best) (take_all n whole over) so.best_is
 
 -- ---- the same position, looked for from the end up to the last line that opens or closes a block
@@ -135,16 +162,23 @@ record IsBefore (own : Verb) (lines : List (Line Placed)) (n : ℕ) (found : Boo
   pub holds : passes (is_of_verb own) (directive_at None (line_at lines n)) ≡ found
   pub level : block_after_line None (line_at lines n) ≡ None
 
-before-tail : (own : Verb) (lines : List (Line Placed)) (n : ℕ) (found : Bool) → IsKnown own → IsSound lines → n < length lines → changes_block (key_of (line_at lines n)) ≡ false
+before-tail : (own : Verb) (lines : List (Line Placed)) (n : ℕ) (found : Bool) → IsKnown own → IsSound lines
+    → n < length lines → changes_block (key_of (line_at lines n)) ≡ false
     → verb_eq own (entry_verb None (key_of (line_at lines n))) ≡ found → IsTail own lines (n + 1) → IsBefore own lines n found
 before-tail own lines n found known sound lt level is so =
     let line : Line Placed = line_at lines n in
     let outside : block_after_lines None (take n lines) ≡ None = sym (block-level lines n lt level) ∙ so.outside in
     let tells = key-tells own lines n None (key_of line) known sound lt refl (rw outside refl) in
-    record { outside = outside; holds = ap (λ (b : Option Placed). passes (is_of_verb own) (directive_at b line)) (sym outside) ∙ sym tells ∙ is; level = level-line None line level }
+    record {
+      outside = outside;
+      holds = ap (λ (b : Option Placed). passes (is_of_verb own) (directive_at b line))
+          (sym outside) ∙ sym tells ∙ is;
+      level = level-line None line level;
+    }
 
 -- one more line
-pub tail-more : (own : Verb) (lines : List (Line Placed)) (n next : ℕ) → IsKnown own → IsSound lines → next + 1 ≡ n → changes_block (key_of (line_at lines next)) ≡ false
+pub tail-more : (own : Verb) (lines : List (Line Placed)) (n next : ℕ) → IsKnown own → IsSound lines → next + 1 ≡ n
+    → changes_block (key_of (line_at lines next)) ≡ false
     → verb_eq own (entry_verb None (key_of (line_at lines next))) ≡ false → IsTail own lines n → IsTail own lines next
 tail-more own lines n next known sound is level fails so =
     let le = so.in_range in
@@ -158,8 +192,10 @@ tail-more own lines n next known sound is level fails so =
     }
 
 -- the entry before the tail is the last
-pub tail-found : (own : Verb) (lines : List (Line Placed)) (n next : ℕ) → IsKnown own → IsSound lines → next + 1 ≡ n → changes_block (key_of (line_at lines next)) ≡ false
-    → verb_eq own (entry_verb None (key_of (line_at lines next))) ≡ true → IsTail own lines n → IsSpotOf (is_of_verb own) lines (record { before = n; inside = false })
+pub tail-found : (own : Verb) (lines : List (Line Placed)) (n next : ℕ) → IsKnown own → IsSound lines → next + 1 ≡ n
+    → changes_block (key_of (line_at lines next)) ≡ false
+    → verb_eq own (entry_verb None (key_of (line_at lines next))) ≡ true → IsTail own lines n
+    → IsSpotOf (is_of_verb own) lines (record { before = n; inside = false })
 tail-found own lines n next known sound is level holds so =
     let le = so.in_range in
     let lt : next < length lines = omega (arith, le, is) in
@@ -175,7 +211,8 @@ tail-found own lines n next known sound is level holds so =
         back = drop (next + 1) lines;
         parts = sym (take-append-drop next lines) ∙ ap (λ (ls : List (Line Placed)). front ++ ls) (line-here lines next lt);
         hit = ap (λ (b : Option Placed). passes (is_of_verb own) (directive_at b line)) at.outside ∙ at.holds;
-        later = ap (λ (b : Option Placed). is_there (is_of_verb own) b (drop (next + 1) lines)) (ap (block_after_lines None) (sym (take_more lines next Blank lt)) ∙ tail.outside) ∙ tail.none;
+        later = ap (λ (b : Option Placed). is_there (is_of_verb own) b (drop (next + 1) lines))
+            (ap (block_after_lines None) (sym (take_more lines next Blank lt)) ∙ tail.outside) ∙ tail.none;
       };
       before = omega (arith, count, is);
       inside = ap is_some (sym at.outside);
@@ -193,22 +230,29 @@ at-end lines new n is =
 -- Loop invariant: the lines up to an index are passed over, and the verb is that of the block which is open.
 pub record IsUnmetTo (whole : List (Line Placed)) (block : Option Verb) (n : ℕ) : Type 0 where
   pub verb : IsVerbTo whole n block
-  pub same : (new : List (Line Placed)) → take n whole ++ after_first_of is_module new (block_after_lines None (take n whole)) (drop n whole) ≡ after_first_of is_module new None whole
+  pub same : (new : List (Line Placed)) → take n whole ++ after_first_of is_module new
+      (block_after_lines None (take n whole)) (drop n whole) ≡ after_first_of is_module new None whole
 
 -- the lines from the next one on, with new ones after the first module directive
-here-on : (whole new : List (Line Placed)) (at : Option Verb) (n : ℕ) → n < length whole → IsUnmetTo whole at n → take n whole ++ after_first_of is_module new (block_after_lines None (take n whole)) (line_at whole n ∷ drop (n + 1) whole) ≡ after_first_of is_module new None whole
-here-on whole new at n lt so = ap (λ (ls : List (Line Placed)). take n whole ++ after_first_of is_module new (block_after_lines None (take n whole)) ls) (sym (line-here whole n lt)) ∙ so.same new
+here-on : (whole new : List (Line Placed)) (at : Option Verb) (n : ℕ) → n < length whole → IsUnmetTo whole at n
+    → take n whole ++ after_first_of is_module new (block_after_lines None (take n whole))
+    (line_at whole n ∷ drop (n + 1) whole) ≡ after_first_of is_module new None whole
+here-on whole new at n lt so = ap (λ (ls : List (Line Placed)).
+    take n whole ++ after_first_of is_module new (block_after_lines None (take n whole)) ls)
+    (sym (line-here whole n lt)) ∙ so.same new
 
 -- the lines up to and including the next one
 taken-next : (whole rest : List (Line Placed)) (n : ℕ) → n < length whole → take (n + 1) whole ++ rest ≡ take n whole ++ line_at whole n ∷ rest
 taken-next whole rest n lt = ap (λ (ls : List (Line Placed)). ls ++ rest) (take_more whole n Blank lt) ∙ append_assoc (take n whole) (line_at whole n ∷ []) rest
 
 -- the lines with new ones after the first that passes a test, by its first line
-after-hit : (test : Directive → Bool) (new : List (Line Placed)) (block : Option Placed) (line : Line Placed) (lines : List (Line Placed)) → passes test (directive_at block line) ≡ true
+after-hit : (test : Directive → Bool) (new : List (Line Placed)) (block : Option Placed) (line : Line Placed)
+    (lines : List (Line Placed)) → passes test (directive_at block line) ≡ true
     → after_first_of test new block (line ∷ lines) ≡ line ∷ (if is_some block then after_closing new lines else new ++ lines)
 after-hit test new block line lines hit = rw hit refl
 
-after-miss : (test : Directive → Bool) (new : List (Line Placed)) (block : Option Placed) (line : Line Placed) (lines : List (Line Placed)) → passes test (directive_at block line) ≡ false
+after-miss : (test : Directive → Bool) (new : List (Line Placed)) (block : Option Placed) (line : Line Placed)
+    (lines : List (Line Placed)) → passes test (directive_at block line) ≡ false
     → after_first_of test new block (line ∷ lines) ≡ line ∷ after_first_of test new (block_after_line block line) lines
 after-miss test new block line lines miss = rw miss refl
 
@@ -222,11 +266,14 @@ unmet-more whole at next_at n key sound lt is fails step so =
       same = λ new.
           ap (λ (b : Option Placed). take (n + 1) whole ++ after_first_of is_module new b (drop (n + 1) whole)) (block-next whole n lt)
           ∙ taken-next whole (after_first_of is_module new (block_after_line block (line_at whole n)) (drop (n + 1) whole)) n lt
-          ∙ ap (λ (ls : List (Line Placed)). take n whole ++ ls) (sym (after-miss is_module new block (line_at whole n) (drop (n + 1) whole) miss)) ∙ here-on whole new at n lt so;
+          ∙ ap (λ (ls : List (Line Placed)). take n whole ++ ls)
+          (sym (after-miss is_module new block (line_at whole n) (drop (n + 1) whole) miss))
+          ∙ here-on whole new at n lt so;
     }
 
 -- the lines with new ones after the line at an index, or after its block
-pub unmet-found : (whole : List (Line Placed)) (at : Option Verb) (n : ℕ) (key : Key) (inside : Bool) → IsSound whole → n < length whole → key ≡ key_of (line_at whole n)
+pub unmet-found : (whole : List (Line Placed)) (at : Option Verb) (n : ℕ) (key : Key) (inside : Bool) → IsSound whole
+    → n < length whole → key ≡ key_of (line_at whole n)
     → verb_eq verb.Module (entry_verb at key) ≡ true → inside ≡ is_some at → IsUnmetTo whole at n → (new : List (Line Placed))
     → take (n + 1) whole ++ (if inside then after_closing new (drop (n + 1) whole) else new ++ drop (n + 1) whole) ≡ after_first_of is_module new None whole
 unmet-found whole at n key inside sound lt is holds within so new =
@@ -237,7 +284,9 @@ unmet-found whole at n key inside sound lt is holds within so new =
     ∙ ap (λ (b : Bool). take n whole ++ line_at whole n ∷ (if b then after_closing new rest else new ++ rest)) (within ∙ ap is_some so.verb ∙ verb-inside block)
     ∙ ap (λ (ls : List (Line Placed)). take n whole ++ ls) (sym (after-hit is_module new block (line_at whole n) rest hit)) ∙ here-on whole new at n lt so
 
-pub unmet-end : (whole : List (Line Placed)) (at : Option Verb) (n count : ℕ) → length whole ≤ n → count ≡ length whole → IsUnmetTo whole at n → (new : List (Line Placed)) → take count whole ++ (new ++ drop count whole) ≡ after_first_of is_module new None whole
+pub unmet-end : (whole : List (Line Placed)) (at : Option Verb) (n count : ℕ) → length whole ≤ n → count ≡ length whole
+    → IsUnmetTo whole at n → (new : List (Line Placed)) → take count whole ++ (new ++ drop count whole)
+    ≡ after_first_of is_module new None whole
 unmet-end whole at n count over is so new =
     at-end whole new count is
     ∙ ap (λ (ls : List (Line Placed)). ls ++ new) (sym (take_all n whole over))
@@ -253,17 +302,22 @@ IsOpenTo whole from n = (new : List (Line Placed)) → take n whole ++ after_clo
 -- ---- the lines with new ones
 
 pub add-there : (own : Verb) (text : List ℕ) (arguments : List Placed) (lines : List (Line Placed)) (line : Line Placed) (o : Option Spot) (spot : Spot)
-    → IfSome o (λ s. IsAdditionSpot own lines s) → o ≡ Some spot → main_verb text ≡ own → line ≡ entry_at spot.inside text arguments → insert lines spot.before line ≡ with_addition text arguments lines
+    → IfSome o (λ s. IsAdditionSpot own lines s) → o ≡ Some spot → main_verb text ≡ own
+    → line ≡ entry_at spot.inside text arguments → insert lines spot.before line
+    ≡ with_addition text arguments lines
 add-there own text arguments lines line o spot place is named so =
     ap (insert lines spot.before) so ∙ (subst (λ (p : Option Spot). IfSome p (λ s. IsAdditionSpot own lines s)) is place).adds text arguments named
 
-pub add-in-range : (own : Verb) (lines : List (Line Placed)) (o : Option Spot) (spot : Spot) → IfSome o (λ s. IsAdditionSpot own lines s) → o ≡ Some spot → spot.before ≤ length lines
+pub add-in-range : (own : Verb) (lines : List (Line Placed)) (o : Option Spot) (spot : Spot)
+    → IfSome o (λ s. IsAdditionSpot own lines s) → o ≡ Some spot → spot.before ≤ length lines
 add-in-range own lines o spot place is = (subst (λ (p : Option Spot). IfSome p (λ s. IsAdditionSpot own lines s)) is place).in_range
 
 pub add-last : (own : Verb) (text : List ℕ) (arguments : List Placed) (lines : List (Line Placed)) (o : Option Spot)
-    → IfNone o (is_there (is_of_verb own) None lines ≡ false) → o ≡ None → main_verb text ≡ own → lines ++ (Blank ∷ single text arguments ∷ []) ≡ with_addition text arguments lines
+    → IfNone o (is_there (is_of_verb own) None lines ≡ false) → o ≡ None → main_verb text ≡ own
+    → lines ++ (Blank ∷ single text arguments ∷ []) ≡ with_addition text arguments lines
 unfolding with_addition
 add-last own text arguments lines o none is named =
     let absent : is_there (has_verb text) None lines ≡ false =
-    ap (λ (v : Verb). is_there (is_of_verb v) None lines) named ∙ subst (λ (p : Option Spot). IfNone p (is_there (is_of_verb own) None lines ≡ false)) is none in
+    ap (λ (v : Verb). is_there (is_of_verb v) None lines) named
+    ∙ subst (λ (p : Option Spot). IfNone p (is_there (is_of_verb own) None lines ≡ false)) is none in
     rw absent refl

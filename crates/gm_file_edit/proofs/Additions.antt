@@ -16,13 +16,18 @@ use Rattle.gm_file.specs.Faults.{is_go, is_module}
 use Rattle.gm_file_edit.specs.Holding.{directive_at, passes, is_there}
 use Rattle.gm_file_edit.specs.GoPlace.{GoFollowsModule, GoFollowsModuleBlock, IsFirstModule, is_loose}
 
-put-added : (edit : Edit) (entry : List ℕ × List Placed) (lines : List (Line Placed)) → new_entry edit ≡ Some entry → put_in edit lines ≡ with_addition entry.0 entry.1 lines
+put-added : (edit : Edit) (entry : List ℕ × List Placed) (lines : List (Line Placed)) → new_entry edit ≡ Some entry
+    → put_in edit lines ≡ with_addition entry.0 entry.1 lines
 unfolding put_in
 put-added (Set (GoIs text)) entry lines is = absurd cc
 put-added edit entry lines is = ap (λ (o : Option (List ℕ × List Placed)). with_entry o lines) is
 
-pub edited-added : (edit : Edit) (entry : List ℕ × List Placed) (lines : List (Line Placed)) → new_entry edit ≡ Some entry → list_any (about edit) (directives_of lines) ≡ false → lines_after edit lines ≡ with_addition entry.0 entry.1 lines
-edited-added edit entry lines adds none = by-edited (λ after. after ≡ with_addition entry.0 entry.1 lines) edit lines (λ there. absurd (true≢false (sym there ∙ there-said (about edit) lines ∙ none))) (λ absent. put-added edit entry lines adds)
+pub edited-added : (edit : Edit) (entry : List ℕ × List Placed) (lines : List (Line Placed))
+    → new_entry edit ≡ Some entry → list_any (about edit) (directives_of lines) ≡ false
+    → lines_after edit lines ≡ with_addition entry.0 entry.1 lines
+edited-added edit entry lines adds none = by-edited (λ after. after ≡ with_addition entry.0 entry.1 lines) edit lines
+    (λ there. absurd (true≢false (sym there ∙ there-said (about edit) lines ∙ none)))
+    (λ absent. put-added edit entry lines adds)
 
 pub addition-follows : AdditionFollowsItsVerb
 addition-follows edit verb arguments front back line adds none is =
@@ -35,9 +40,11 @@ addition-last edit verb arguments lines adds none new =
 -- ---- a new go directive
 
 -- the lines before the first module directive stay
-first-behind : (test : Directive → Bool) (new : List (Line Placed)) (block : Option Placed) (front back : List (Line Placed)) (line : Line Placed) → is_there test block front ≡ false
+first-behind : (test : Directive → Bool) (new : List (Line Placed)) (block : Option Placed)
+    (front back : List (Line Placed)) (line : Line Placed) → is_there test block front ≡ false
     → passes test (directive_at (block_after_lines block front) line) ≡ true
-    → after_first_of test new block (front ++ line ∷ back) ≡ front ++ line ∷ (if is_some (block_after_lines block front) then after_closing new back else new ++ back)
+    → after_first_of test new block (front ++ line ∷ back) ≡ front ++ line
+    ∷ (if is_some (block_after_lines block front) then after_closing new back else new ++ back)
 first-behind test new block [] back line none hit =
     let held : passes test (directive_at block line) ≡ true = hit in
     rw held refl
@@ -45,7 +52,8 @@ first-behind test new block (x ∷ front) back line none hit =
     let parts = or_parts (passes test (directive_at block x)) (is_there test (block_after_line block x) front) none in
     rw parts.0 (ap (λ (ls : List (Line Placed)). x ∷ ls) (first-behind test new (block_after_line block x) front back line parts.1 hit))
 
-to-closing : (new inner back : List (Line Placed)) (last : Option (List ℕ)) → list_all is_loose inner ≡ true → after_closing new (inner ++ Close last ∷ back) ≡ inner ++ Close last ∷ (new ++ back)
+to-closing : (new inner back : List (Line Placed)) (last : Option (List ℕ)) → list_all is_loose inner ≡ true
+    → after_closing new (inner ++ Close last ∷ back) ≡ inner ++ Close last ∷ (new ++ back)
 to-closing new [] back last e = refl
 to-closing new (Blank ∷ inner) back last e = ap (λ (ls : List (Line Placed)). Blank ∷ ls) (to-closing new inner back last e)
 to-closing new (Comment text ∷ inner) back last e = ap (λ (ls : List (Line Placed)). Comment text ∷ ls) (to-closing new inner back last e)
@@ -53,14 +61,19 @@ to-closing new (Open verb suffix ∷ inner) back last e = absurd cc
 to-closing new (Close suffix ∷ inner) back last e = absurd cc
 to-closing new (Entry words suffix ∷ inner) back last e = ap (λ (ls : List (Line Placed)). Entry words suffix ∷ ls) (to-closing new inner back last e)
 
-edited-go : (text : List ℕ) (lines : List (Line Placed)) → list_any is_go (directives_of lines) ≡ false → lines_after (Set (GoIs text)) lines ≡ after_first_of is_module (new_go text) None lines
+edited-go : (text : List ℕ) (lines : List (Line Placed)) → list_any is_go (directives_of lines) ≡ false
+    → lines_after (Set (GoIs text)) lines ≡ after_first_of is_module (new_go text) None lines
 unfolding put_in
 edited-go text lines none =
-    by-edited (λ after. after ≡ after_first_of is_module (new_go text) None lines) (Set (GoIs text)) lines (λ there. absurd (true≢false (sym there ∙ there-said is_go lines ∙ none))) (λ absent. refl)
+    by-edited (λ after. after ≡ after_first_of is_module (new_go text) None lines) (Set (GoIs text)) lines
+    (λ there. absurd (true≢false (sym there ∙ there-said is_go lines ∙ none))) (λ absent. refl)
 
-go-placed : (text : List ℕ) (front back : List (Line Placed)) (line : Line Placed) → IsFirstModule front line → list_any is_go (directives_of (front ++ line ∷ back)) ≡ false
-    → lines_after (Set (GoIs text)) (front ++ line ∷ back) ≡ front ++ line ∷ (if is_some (block_after_lines None front) then after_closing (new_go text) back else new_go text ++ back)
-go-placed text front back line first none = edited-go text (front ++ line ∷ back) none ∙ first-behind is_module (new_go text) None front back line first.none_earlier first.is_module_line
+go-placed : (text : List ℕ) (front back : List (Line Placed)) (line : Line Placed) → IsFirstModule front line
+    → list_any is_go (directives_of (front ++ line ∷ back)) ≡ false
+    → lines_after (Set (GoIs text)) (front ++ line ∷ back) ≡ front ++ line
+    ∷ (if is_some (block_after_lines None front) then after_closing (new_go text) back else new_go text ++ back)
+go-placed text front back line first none = edited-go text (front ++ line ∷ back) none
+    ∙ first-behind is_module (new_go text) None front back line first.none_earlier first.is_module_line
 
 pub go-follows : GoFollowsModule
 go-follows text front back line first none outside =

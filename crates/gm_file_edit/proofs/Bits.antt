@@ -51,7 +51,8 @@ abbrev pub AreValuesIn : Option (List ℕ) × Option (List ℕ) → List Word �
 AreValuesIn texts words = IsValueIn texts.0 words × IsValueIn texts.1 words
 
 -- the words have their bits
-pub values-have : (bits : ℕ) (texts : Option (List ℕ) × Option (List ℕ)) (words : List Word) → AreValuesIn texts words → AreAmong (bits_with bits words) (texts_bits texts)
+pub values-have : (bits : ℕ) (texts : Option (List ℕ) × Option (List ℕ)) (words : List Word) → AreValuesIn texts words
+    → AreAmong (bits_with bits words) (texts_bits texts)
 values-have bits texts words are = λ i.
     let e = bit_at_or (optional_bits texts.0) (optional_bits texts.1) i in
     let x = value-has bits texts.0 words are.0 i in
@@ -124,45 +125,60 @@ same-pair a b e =
     let parts = and_both (bytes_eq a.0 b.0) (bytes_eq a.1 b.1) e in
     ap (λ (t : List ℕ). (t, a.1)) (same-text a.0 b.0 parts.0) ∙ ap (λ (t : List ℕ). (b.0, t)) (same-text a.1 b.1 parts.1)
 
-requirement-has : (path : List ℕ) (words : List Word) (d : Directive) → option_map Requires (pair_of words) ≡ Some d → requires_path path d ≡ true → AreValuesIn (Some path, None) words
+requirement-has : (path : List ℕ) (words : List Word) (d : Directive) → option_map Requires (pair_of words) ≡ Some d
+    → requires_path path d ≡ true → AreValuesIn (Some path, None) words
 requirement-has path words d is hit =
     let made = map-some Requires (pair_of words) d is in
     let same : made.0.0 ≡ path = same-text made.0.0 path (ap (requires_path path) made.2 ∙ hit) in
     (subst (λ (t : List ℕ). IsValueIn (Some t) words) same (pair-named words made.0 made.1).0, tt)
 
-exclusion-has : (p : ModuleVersion) (words : List Word) (d : Directive) → option_map Excludes (pair_of words) ≡ Some d → excludes_pair p d ≡ true → AreValuesIn (Some p.0, Some p.1) words
+exclusion-has : (p : ModuleVersion) (words : List Word) (d : Directive) → option_map Excludes (pair_of words) ≡ Some d
+    → excludes_pair p d ≡ true → AreValuesIn (Some p.0, Some p.1) words
 exclusion-has p words d is hit =
     let made = map-some Excludes (pair_of words) d is in
-    subst (λ (q : ModuleVersion). AreValuesIn (Some q.0, Some q.1) words) (same-pair made.0 p (ap (excludes_pair p) made.2 ∙ hit)) (pair-named words made.0 made.1)
+    subst (λ (q : ModuleVersion). AreValuesIn (Some q.0, Some q.1) words)
+    (same-pair made.0 p (ap (excludes_pair p) made.2 ∙ hit)) (pair-named words made.0 made.1)
 
-retraction-has : (ends : VersionInterval) (words : List Word) (d : Directive) → option_map Retracts (ends_of words) ≡ Some d → retracts_ends ends d ≡ true → AreValuesIn (Some ends.0, Some ends.1) words
+retraction-has : (ends : VersionInterval) (words : List Word) (d : Directive)
+    → option_map Retracts (ends_of words) ≡ Some d → retracts_ends ends d ≡ true
+    → AreValuesIn (Some ends.0, Some ends.1) words
 retraction-has ends words d is hit =
     let made = map-some Retracts (ends_of words) d is in
-    subst (λ (e : VersionInterval). AreValuesIn (Some e.0, Some e.1) words) (same-pair made.0 ends (ap (retracts_ends ends) made.2 ∙ hit)) (ends-named words made.0 made.1)
+    subst (λ (e : VersionInterval). AreValuesIn (Some e.0, Some e.1) words)
+    (same-pair made.0 ends (ap (retracts_ends ends) made.2 ∙ hit)) (ends-named words made.0 made.1)
 
 -- a left side that is the same, or that the other supersedes
-same-left : (words : List Word) (one : Left) (path : List ℕ) (version : Option (List ℕ)) → is_same_left one (record { path = path; version = version }) ≡ true → AreValuesIn (Some one.path, one.version) words → AreValuesIn (Some path, version) words
+same-left : (words : List Word) (one : Left) (path : List ℕ) (version : Option (List ℕ))
+    → is_same_left one (record { path = path; version = version }) ≡ true
+    → AreValuesIn (Some one.path, one.version) words → AreValuesIn (Some path, version) words
 same-left words one path version same are =
-    let parts = and_both (bytes_eq one.path path) (is_same_version one.version version) same in
-    (subst (λ (t : List ℕ). IsValueIn (Some t) words) (same-text one.path path parts.0) are.0, subst (λ (v : Option (List ℕ)). IsValueIn v words) (same-version one.version version parts.1) are.1)
+    let parts = and_both (bytes_eq one.path path) (is_same_version one.version version) same in (
+      subst (λ (t : List ℕ). IsValueIn (Some t) words) (same-text one.path path parts.0) are.0,
+      subst (λ (v : Option (List ℕ)). IsValueIn v words) (same-version one.version version parts.1) are.1,
+    )
 
-covered-left : (words : List Word) (own one : Left) (version : Option (List ℕ)) → own.version ≡ version → is_covered_by own version one ≡ true → AreValuesIn (Some one.path, one.version) words → AreValuesIn (Some own.path, version) words
+covered-left : (words : List Word) (own one : Left) (version : Option (List ℕ)) → own.version ≡ version
+    → is_covered_by own version one ≡ true → AreValuesIn (Some one.path, one.version) words
+    → AreValuesIn (Some own.path, version) words
 covered-left words own one None is hit are = (subst (λ (t : List ℕ). IsValueIn (Some t) words) (same-text one.path own.path hit) are.0, tt)
 covered-left words own one (Some version) is hit are =
     same-left words one own.path (Some version) (ap (λ (v : Option (List ℕ)). is_same_left one (record { path = own.path; version = v })) (sym is) ∙ hit) are
 
-replaced-has : (new : Left) (words : List Word) (d : Directive) → option_map Replaces (replacing_of words) ≡ Some d → is_replaced_by new d ≡ true → AreValuesIn (Some new.path, new.version) words
+replaced-has : (new : Left) (words : List Word) (d : Directive) → option_map Replaces (replacing_of words) ≡ Some d
+    → is_replaced_by new d ≡ true → AreValuesIn (Some new.path, new.version) words
 replaced-has new words d is hit =
     let made = map-some Replaces (replacing_of words) d is in
     covered-left words new made.0.0 new.version refl (ap (is_replaced_by new) made.2 ∙ hit) (replaced-named words made.0 made.1)
 
-left-has : (left : Left) (words : List Word) (d : Directive) → option_map Replaces (replacing_of words) ≡ Some d → replaces_left left d ≡ true → AreValuesIn (Some left.path, left.version) words
+left-has : (left : Left) (words : List Word) (d : Directive) → option_map Replaces (replacing_of words) ≡ Some d
+    → replaces_left left d ≡ true → AreValuesIn (Some left.path, left.version) words
 left-has left words d is hit =
     let made = map-some Replaces (replacing_of words) d is in
     same-left words made.0.0 left.path left.version (ap (replaces_left left) made.2 ∙ hit) (replaced-named words made.0 made.1)
 
 -- the words of an entry whose directive an operation targets have the operation's texts
-pub target-has : (edit : Edit) (words : List Word) (d : Directive) → directive_of (target_verb edit) words ≡ Some d → about edit d ≡ true → AreValuesIn (target_texts edit) words
+pub target-has : (edit : Edit) (words : List Word) (d : Directive) → directive_of (target_verb edit) words ≡ Some d
+    → about edit d ≡ true → AreValuesIn (target_texts edit) words
 unfolding directive_of
 target-has (Set (ModuleIs path)) words d is hit = (tt, tt)
 target-has (Set (GoIs text)) words d is hit = (tt, tt)

@@ -23,7 +23,8 @@ comments lines = filter is_comment_line lines
 
 -- ---- the lines that remain
 
-left-comments : (block : Option Bool) (behind : Bool) (fates : List Fate) → comments (kept_lines (widened_from block behind fates)) ≡ comments (kept_lines fates)
+left-comments : (block : Option Bool) (behind : Bool) (fates : List Fate)
+    → comments (kept_lines (widened_from block behind fates)) ≡ comments (kept_lines fates)
 left-comments block behind [] = refl
 left-comments block behind (None ∷ fates) = left-comments block behind fates
 left-comments block behind (Some Blank ∷ fates) = elim (cases_Bool (is_in_gone block || behind)) [
@@ -52,7 +53,8 @@ abbrev RewritesEntries : (Option Placed → Line Placed → Line Placed) → Typ
 RewritesEntries new = (block : Option Placed) (words : List Placed) (suffix : Option (List ℕ)) → is_comment_line (new block (Entry words suffix)) ≡ false
 
 -- a line that holds a directive is no comment line, and neither is its rewritten form
-no-comment : (test : Directive → Bool) (new : Option Placed → Line Placed → Line Placed) → RewritesEntries new → (block : Option Placed) (line : Line Placed) → passes test (directive_at block line) ≡ true
+no-comment : (test : Directive → Bool) (new : Option Placed → Line Placed → Line Placed) → RewritesEntries new
+    → (block : Option Placed) (line : Line Placed) → passes test (directive_at block line) ≡ true
     → (is_comment_line line ≡ false) × (is_comment_line (new block line) ≡ false)
 unfolding item_at
 no-comment test new rewrites block Blank hit = absurd cc
@@ -64,7 +66,8 @@ no-comment test new rewrites block (Entry words suffix) hit = (refl, rewrites bl
 behind-same : (line : Line Placed) (xs ys : List (Line Placed)) → comments xs ≡ comments ys → comments (line ∷ xs) ≡ comments (line ∷ ys)
 behind-same line xs ys e = ap (λ (ls : List (Line Placed)). if is_comment_line line then line ∷ ls else ls) e
 
-dropping-comments : (test : Directive → Bool) (block : Option Placed) (lines : List (Line Placed)) → comments (kept_lines (dropping_from test block lines)) ≡ comments lines
+dropping-comments : (test : Directive → Bool) (block : Option Placed) (lines : List (Line Placed))
+    → comments (kept_lines (dropping_from test block lines)) ≡ comments lines
 dropping-comments test block [] = refl
 dropping-comments test block (line ∷ lines) =
     let rest = dropping-comments test (block_after_line block line) lines in
@@ -73,33 +76,39 @@ dropping-comments test block (line ∷ lines) =
       | inr miss ↦ rw miss (behind-same line (kept_lines (dropping_from test (block_after_line block line) lines)) lines rest)
     ]
 
-renewing-comments : (test : Directive → Bool) (new : Option Placed → Line Placed → Line Placed) → RewritesEntries new → (block : Option Placed) (lines : List (Line Placed)) → comments (kept_lines (renewing_from test new block lines)) ≡ comments lines
+renewing-comments : (test : Directive → Bool) (new : Option Placed → Line Placed → Line Placed) → RewritesEntries new
+    → (block : Option Placed) (lines : List (Line Placed))
+    → comments (kept_lines (renewing_from test new block lines)) ≡ comments lines
 renewing-comments test new rewrites block [] = refl
 renewing-comments test new rewrites block (line ∷ lines) =
     let behind : Option Placed = block_after_line block line in
     elim (cases_Bool (passes test (directive_at block line))) [
       | inl hit ↦
           let none = no-comment test new rewrites block line hit in
-          rw hit (filter-none is_comment_line (new block line) (kept_lines (dropping_from test behind lines)) none.1 ∙ dropping-comments test behind lines ∙ sym (filter-none is_comment_line line lines none.0))
+          rw hit (filter-none is_comment_line (new block line) (kept_lines (dropping_from test behind lines)) none.1
+          ∙ dropping-comments test behind lines ∙ sym (filter-none is_comment_line line lines none.0))
       | inr miss ↦ rw miss (behind-same line (kept_lines (renewing_from test new behind lines)) lines (renewing-comments test new rewrites behind lines))
     ]
 
 dropped-comments : (test : Directive → Bool) (lines : List (Line Placed)) → comments (without_targets test lines) ≡ comments lines
 dropped-comments test lines = remaining-comments (dropping_from test None lines) ∙ dropping-comments test None lines
 
-renewed-comments : (test : Directive → Bool) (new : Option Placed → Line Placed → Line Placed) → RewritesEntries new → (lines : List (Line Placed)) → comments (with_renewal test new lines) ≡ comments lines
+renewed-comments : (test : Directive → Bool) (new : Option Placed → Line Placed → Line Placed) → RewritesEntries new
+    → (lines : List (Line Placed)) → comments (with_renewal test new lines) ≡ comments lines
 renewed-comments test new rewrites lines = remaining-comments (renewing_from test new None lines) ∙ renewing-comments test new rewrites None lines
 
 -- ---- the lines with new entries
 
 -- a blank line and an entry are no comment lines
-gap-comments : (gap inside : Bool) (verb : List ℕ) (arguments : List Placed) (lines : List (Line Placed)) → comments (gap_lines gap ++ entry_at inside verb arguments ∷ lines) ≡ comments lines
+gap-comments : (gap inside : Bool) (verb : List ℕ) (arguments : List Placed) (lines : List (Line Placed))
+    → comments (gap_lines gap ++ entry_at inside verb arguments ∷ lines) ≡ comments lines
 gap-comments true true verb arguments lines = refl
 gap-comments true false verb arguments lines = refl
 gap-comments false true verb arguments lines = refl
 gap-comments false false verb arguments lines = refl
 
-into-comments : (verb : List ℕ) (arguments : List Placed) (lines after : List (Line Placed)) → IsPutInto verb arguments lines after → comments after ≡ comments lines
+into-comments : (verb : List ℕ) (arguments : List Placed) (lines after : List (Line Placed))
+    → IsPutInto verb arguments lines after → comments after ≡ comments lines
 into-comments verb arguments lines after put =
     ap comments put.is ∙ filter-append is_comment_line put.front (gap_lines put.gap ++ entry_at put.inside verb arguments ∷ put.back)
     ∙ ap (λ (ls : List (Line Placed)). comments put.front ++ ls) (gap-comments put.gap put.inside verb arguments put.back)
@@ -120,7 +129,9 @@ changed-comments (Add a) lines = refl
 changed-comments (Drop t) lines = dropped-comments (about (Drop t)) lines
 
 put-comments : (edit : Edit) (lines : List (Line Placed)) → comments (put_in edit lines) ≡ comments lines
-put-comments edit lines = by-put (λ other after. comments after ≡ comments lines) lines (λ path. refl) (λ other entry after is put. into-comments entry.0 entry.1 lines after put) (λ t. refl) edit
+put-comments edit lines = by-put (λ other after. comments after ≡ comments lines) lines (λ path. refl)
+    (λ other entry after is put. into-comments entry.0 entry.1 lines after put) (λ t. refl) edit
 
 pub pass-comments : (edit : Edit) (lines : List (Line Placed)) → filter is_comment_line (lines_after edit lines) ≡ filter is_comment_line lines
-pass-comments edit lines = by-edited (λ after. comments after ≡ comments lines) edit lines (λ there. changed-comments edit lines) (λ none. put-comments edit lines)
+pass-comments edit lines = by-edited (λ after. comments after ≡ comments lines) edit lines
+    (λ there. changed-comments edit lines) (λ none. put-comments edit lines)

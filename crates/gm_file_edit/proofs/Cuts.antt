@@ -23,16 +23,21 @@ any-position b (x ∷ xs) = elim (cases_Bool (x == b)) [
 ]
 
 pub cut-none : (b : ℕ) (text : List ℕ) → position_or_len (λ c. c == b) text ≡ length text → split_at_byte b text ≡ None
-cut-none b text e = let f : has_byte b text ≡ false = any-position b text ∙ (let g : nat_lt (position_or_len (λ c. c == b) text) (length text) ≡ false = grind (arith, nat_tests) in g) in rw f refl
+cut-none b text e = let f : has_byte b text ≡ false = any-position b text
+    ∙ (let g : nat_lt (position_or_len (λ c. c == b) text) (length text) ≡ false = grind (arith, nat_tests) in g) in
+    rw f refl
 
 pub cut-some : (b : ℕ) (text front back : List ℕ) → position_or_len (λ c. c == b) text < length text
     → front ≡ before_first (λ c. c == b) text → back ≡ after_first (λ c. c == b) text → Some (front, back) ≡ split_at_byte b text
 cut-some b text front back lt f g =
-    let there : has_byte b text ≡ true = any-position b text ∙ (let h : nat_lt (position_or_len (λ c. c == b) text) (length text) ≡ true = grind (arith, nat_tests) in h) in
+    let there : has_byte b text ≡ true = any-position b text
+    ∙ (let h : nat_lt (position_or_len (λ c. c == b) text) (length text) ≡ true = grind (arith, nat_tests) in h) in
     rw (there, f, g) refl
 
 pub cut-is : (b : ℕ) (text : List ℕ) (r : Option (Bor (List ℕ) × Bor (List ℕ)))
-    → MatchOption r (position_or_len (λ c. c == b) text ≡ length text) (λ x. (position_or_len (λ c. c == b) text < length text) × (x.0.now ≡ before_first (λ c. c == b) text) × (x.1.now ≡ after_first (λ c. c == b) text))
+    → MatchOption r (position_or_len (λ c. c == b) text ≡ length text)
+    (λ x. (position_or_len (λ c. c == b) text < length text) × (x.0.now ≡ before_first (λ c. c == b) text)
+    × (x.1.now ≡ after_first (λ c. c == b) text))
     → split_view r ≡ split_at_byte b text
 cut-is b text None e = rw (cut-none b text e) refl
 cut-is b text (Some x) is = cut-some b text x.0.now x.1.now is.0 is.1 is.2

@@ -25,17 +25,21 @@ use Rattle.gm_file_edit.proofs.Seats.{fewer-all, remaining-left}
 abbrev AreRightTo : Option Placed → List (Line Placed) → Option Placed → Type 0
 AreRightTo block lines last = AreRightFrom block lines × (block_after_lines block lines ≡ last)
 
-dropping-right : (test : Directive → Bool) (block : Option Placed) (lines : List (Line Placed)) → AreRightFrom block lines → AreRightTo block (kept_lines (dropping_from test block lines)) (block_after_lines block lines)
+dropping-right : (test : Directive → Bool) (block : Option Placed) (lines : List (Line Placed))
+    → AreRightFrom block lines → AreRightTo block (kept_lines (dropping_from test block lines))
+    (block_after_lines block lines)
 dropping-right test block [] right = (tt, refl)
 dropping-right test block (line ∷ lines) right =
     let behind : Option Placed = block_after_line block line in
     let rest = dropping-right test behind lines right.1 in
     elim (cases_Bool (passes test (directive_at block line))) [
-      | inl hit ↦ rw hit (subst (λ (b : Option Placed). AreRightTo b (kept_lines (dropping_from test behind lines)) (block_after_lines behind lines)) (passing-level test block line hit) rest)
+      | inl hit ↦ rw hit (subst (λ (b : Option Placed). AreRightTo b (kept_lines (dropping_from test behind lines))
+          (block_after_lines behind lines)) (passing-level test block line hit) rest)
       | inr miss ↦ rw miss ((right.0, rest.0), rest.1)
     ]
 
-renewing-right : (test : Directive → Bool) (said : Directive) (make : Option Placed → Line Placed → Line Placed) → Makes test said make → (block : Option Placed) (lines : List (Line Placed)) → AreRightFrom block lines
+renewing-right : (test : Directive → Bool) (said : Directive) (make : Option Placed → Line Placed → Line Placed)
+    → Makes test said make → (block : Option Placed) (lines : List (Line Placed)) → AreRightFrom block lines
     → AreRightTo block (kept_lines (renewing_from test make block lines)) (block_after_lines block lines)
 renewing-right test said make makes block [] right = (tt, refl)
 renewing-right test said make makes block (line ∷ lines) right =
@@ -45,8 +49,11 @@ renewing-right test said make makes block (line ∷ lines) right =
           let h = held-some test (directive_at block line) hit in
           let made = makes block line h.0 h.1 h.2 right.0.0 in
           let left : List (Line Placed) = kept_lines (dropping_from test behind lines) in
-          let rest : AreRightTo block left (block_after_lines behind lines) = subst (λ (b : Option Placed). AreRightTo b left (block_after_lines behind lines)) (passing-level test block line hit) (dropping-right test behind lines right.1) in
-          rw hit (subst (λ (l : Line Placed). AreRightTo block (l ∷ left) (block_after_lines behind lines)) (sym made.is_entry) (((made.stands, made.alone), rest.0), rest.1))
+          let rest : AreRightTo block left (block_after_lines behind lines) =
+          subst (λ (b : Option Placed). AreRightTo b left (block_after_lines behind lines))
+          (passing-level test block line hit) (dropping-right test behind lines right.1) in
+          rw hit (subst (λ (l : Line Placed). AreRightTo block (l ∷ left) (block_after_lines behind lines))
+          (sym made.is_entry) (((made.stands, made.alone), rest.0), rest.1))
       | inr miss ↦ let rest = renewing-right test said make makes behind lines right.1 in rw miss ((right.0, rest.0), rest.1)
     ]
 
@@ -80,34 +87,47 @@ any-parts test p (d ∷ ds) = elim (cases_Bool (test d)) [
 ]
 
 -- of the targeted directives there is the new one alone, and the others are apart
-pub new-apart : (test : Directive → Bool) (new : Directive) → ((d : Directive) → test d ≡ false → do_clash new d ≡ false) → (ds : List Directive) → filter test ds ≡ new ∷ [] → AreApart (filter (others test) ds) → AreApart ds
+pub new-apart : (test : Directive → Bool) (new : Directive)
+    → ((d : Directive) → test d ≡ false → do_clash new d ≡ false) → (ds : List Directive) → filter test ds ≡ new ∷ []
+    → AreApart (filter (others test) ds) → AreApart ds
 new-apart test new mild [] alone apart = tt
 new-apart test new mild (d ∷ ds) alone apart = elim (cases_Bool (test d)) [
   | inl hit ↦
       let whole : d ∷ filter test ds ≡ new ∷ [] = sym (filter-one test d ds hit) ∙ alone in
       let same : d ≡ new = cc in
       let none : filter test ds ≡ [] = cc in
-      let rest = only-others ds (none-any test ds none) in
-      (subst (λ (x : Directive). list_any (do_clash x) ds ≡ false) (sym same) (fewer-any test (do_clash new) mild ds (none-any test ds none)), subst AreApart rest (subst AreApart (filter-none (others test) d ds (ap not hit)) apart))
+      let rest = only-others ds (none-any test ds none) in (
+        subst (λ (x : Directive). list_any (do_clash x) ds ≡ false) (sym same)
+            (fewer-any test (do_clash new) mild ds (none-any test ds none)),
+        subst AreApart rest (subst AreApart (filter-none (others test) d ds (ap not hit)) apart),
+      )
   | inr miss ↦
       let one : filter test ds ≡ new ∷ [] = sym (filter-none test d ds miss) ∙ alone in
       let both : AreApart (d ∷ filter (others test) ds) = subst AreApart (filter-one (others test) d ds (ap not miss)) apart in
-      let fresh : do_clash d new ≡ false = clash-mutual d new ∙ mild d miss in
-      (any-parts test (do_clash d) ds ∙ or_from (list_any (do_clash d) (filter test ds)) (list_any (do_clash d) (filter (others test) ds)) (ap (list_any (do_clash d)) one ∙ or_from (do_clash d new) false fresh refl) both.0, new-apart test new mild ds one both.1)
+      let fresh : do_clash d new ≡ false = clash-mutual d new ∙ mild d miss in (
+        any-parts test (do_clash d) ds ∙ or_from (list_any (do_clash d) (filter test ds))
+            (list_any (do_clash d) (filter (others test) ds)) (ap (list_any (do_clash d)) one
+            ∙ or_from (do_clash d new) false fresh refl) both.0,
+        new-apart test new mild ds one both.1,
+      )
 ]
   where
     only-others : (es : List Directive) → list_any test es ≡ false → filter (others test) es ≡ es
     only-others [] none = refl
-    only-others (e ∷ es) none = let parts = or_parts (test e) (list_any test es) none in filter-one (others test) e es (ap not parts.0) ∙ ap (λ (xs : List Directive). e ∷ xs) (only-others es parts.1)
+    only-others (e ∷ es) none = let parts = or_parts (test e) (list_any test es) none in
+        filter-one (others test) e es (ap not parts.0) ∙ ap (λ (xs : List Directive). e ∷ xs) (only-others es parts.1)
 
 -- if no targeted directive declares a module, one of the others does
-others-declared : (test : Directive → Bool) → ((d : Directive) → test d ≡ true → is_module d ≡ false) → (ds : List Directive) → list_any is_module ds ≡ true → list_any is_module (filter (others test) ds) ≡ true
+others-declared : (test : Directive → Bool) → ((d : Directive) → test d ≡ true → is_module d ≡ false)
+    → (ds : List Directive) → list_any is_module ds ≡ true → list_any is_module (filter (others test) ds) ≡ true
 others-declared test other ds some =
-    ap (λ (b : Bool). b || list_any is_module (filter (others test) ds)) (sym (none-filtered is_module test other ds)) ∙ sym (any-parts test is_module ds) ∙ some
+    ap (λ (b : Bool). b || list_any is_module (filter (others test) ds)) (sym (none-filtered is_module test other ds))
+    ∙ sym (any-parts test is_module ds) ∙ some
 
 -- ---- both
 
-sound-by : (lines : List (Line Placed)) → AreRightTo None lines None → AreApart (held_from None lines) → list_any is_module (held_from None lines) ≡ true → IsSound lines
+sound-by : (lines : List (Line Placed)) → AreRightTo None lines None → AreApart (held_from None lines)
+    → list_any is_module (held_from None lines) ≡ true → IsSound lines
 sound-by lines right apart declared = record { lines_are = record { right = right.0; apart = apart; declared = declared }; closed = right.1 }
 
 module _ (test : Directive → Bool) (lines : List (Line Placed)) (sound : IsSound lines) where
@@ -121,10 +141,12 @@ module _ (test : Directive → Bool) (lines : List (Line Placed)) (sound : IsSou
   dropped-sound other =
       let held : held_from None (without_targets test lines) ≡ filter (others test) ds = dropped-held test lines in
       let right = dropping-right test None lines sound.lines_are.right in
-      sound-by (without_targets test lines) (left-right (dropping_from test None lines) (right.0, right.1 ∙ sound.closed)) (subst AreApart (sym held) rest-apart)
+      sound-by (without_targets test lines) (left-right (dropping_from test None lines)
+      (right.0, right.1 ∙ sound.closed)) (subst AreApart (sym held) rest-apart)
       (ap (list_any is_module) held ∙ others-declared test other ds sound.lines_are.declared)
 
-  pub renewed-sound : (said : Directive) (make : Option Placed → Line Placed → Line Placed) → IsRenewal test said make → is_there test None lines ≡ true → IsSound (with_renewal test make lines)
+  pub renewed-sound : (said : Directive) (make : Option Placed → Line Placed → Line Placed) → IsRenewal test said make
+      → is_there test None lines ≡ true → IsSound (with_renewal test make lines)
   renewed-sound said make by there =
       let after : List Directive = held_from None (with_renewal test make lines) in
       let rest : filter (others test) after ≡ filter (others test) ds = renewed-others test said make by.wanted.own by.made lines sound in

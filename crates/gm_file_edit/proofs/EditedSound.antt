@@ -57,13 +57,22 @@ entry-alone text arguments plain_text are = entry_stands false (new_word text �
   closes_nothing = made-no-mark 41 text;
 })
 
-addition : (verb : List ℕ) (arguments : List Placed) (new : Directive) → has_byte 10 verb ≡ false → main_verb (new_word verb).spelling ≡ main_verb verb → AreArguments arguments
+addition : (verb : List ℕ) (arguments : List Placed) (new : Directive) → has_byte 10 verb ≡ false
+    → main_verb (new_word verb).spelling ≡ main_verb verb → AreArguments arguments
     → directive_of (main_verb verb) (words_of arguments) ≡ Some new → IsAddition verb arguments new
 addition verb arguments new feed written are says =
-    record { inside = entry-inside arguments are; alone = entry-alone verb arguments (byte-feed verb feed) are; written = written; filled = are.no_block; says = says }
+    record {
+      inside = entry-inside arguments are;
+      alone =
+          entry-alone verb arguments (byte-feed verb feed) are;
+      written = written;
+      filled = are.no_block;
+      says = says;
+    }
 
 pair-are : (p : ModuleVersion) → IsPairOfNames p → AreArguments (pair_words p)
-pair-are p names = begins-path p.0 _ (path-feed p.0 names.0) (made-stands p.1 (version-feed p.1 names.1), tt) (made-no-mark 40 p.1) (rw (made-no-mark 40 p.0) refl)
+pair-are p names = begins-path p.0 _ (path-feed p.0 names.0) (made-stands p.1 (version-feed p.1 names.1), tt)
+    (made-no-mark 40 p.1) (rw (made-no-mark 40 p.0) refl)
 
 require-says : (p : ModuleVersion) → IsPairOfNames p → directive_of ForRequire (words_of (pair_words p)) ≡ Some (Requires p)
 unfolding directive_of
@@ -107,12 +116,39 @@ pub record Says (edit : Edit) (entry : List ℕ × List Placed) : Type 0 where
 entry-says : (edit : Edit) → IsSoundEdit edit → IfSome (entry_put edit) (Says edit)
 unfolding can_be_bare bare_len is_word_byte is_blank is_bracket_or_comma is_quote is_bad
 entry-says (Set (ModuleIs path)) good = tt
-entry-says (Set (GoIs text)) good = let plain = go-feed text good in record { new = DeclaresGo text; put = refl; is = addition (codes "go") _ (DeclaresGo text) refl refl (one-are text plain) (go-says text plain) }
-entry-says (Set (RequireAt p)) good = record { new = Requires p; put = refl; is = addition (codes "require") (pair_words p) (Requires p) refl refl (pair-are p good) (require-says p good) }
+entry-says (Set (GoIs text)) good = let plain = go-feed text good in
+    record {
+      new = DeclaresGo text;
+      put = refl;
+      is = addition (codes "go") _ (DeclaresGo text) refl refl
+          (one-are text plain) (go-says text plain);
+    }
+entry-says (Set (RequireAt p)) good = record {
+  new = Requires p;
+  put = refl;
+  is =
+      addition (codes "require") (pair_words p) (Requires p) refl refl (pair-are p good) (require-says p good);
+}
 entry-says (Set (ReplaceWith r)) good =
-    record { new = Replaces r; put = refl; is = addition (codes "replace") (replace_words r) (Replaces r) refl refl (replace-are r good.0 good.1) (replace-says r good.0 good.1) }
-entry-says (Add (Exclude p)) good = record { new = Excludes p; put = refl; is = addition (codes "exclude") (pair_words p) (Excludes p) refl refl (pair-are p good) (exclude-says p good) }
-entry-says (Add (Retract ends)) good = record { new = Retracts ends; put = refl; is = addition (codes "retract") (interval_words ends) (Retracts ends) refl refl (ends-are ends good) (ends-says ends good) }
+    record {
+      new = Replaces r;
+      put = refl;
+      is = addition (codes "replace") (replace_words r) (Replaces r) refl refl
+          (replace-are r good.0 good.1) (replace-says r good.0 good.1);
+    }
+entry-says (Add (Exclude p)) good = record {
+  new = Excludes p;
+  put = refl;
+  is =
+      addition (codes "exclude") (pair_words p) (Excludes p) refl refl (pair-are p good) (exclude-says p good);
+}
+entry-says (Add (Retract ends)) good = record {
+  new = Retracts ends;
+  put = refl;
+  is =
+      addition (codes "retract") (interval_words ends) (Retracts ends) refl refl (ends-are ends good)
+      (ends-says ends good);
+}
 entry-says (Drop t) good = tt
 
 pub says : (edit : Edit) (entry : List ℕ × List Placed) → entry_put edit ≡ Some entry → IsSoundEdit edit → Says edit entry
@@ -120,7 +156,8 @@ says edit entry e good = subst (λ (o : Option (List ℕ × List Placed)). IfSom
 
 -- ---- the lines after an operation
 
-changed-sound : (edit : Edit) (lines : List (Line Placed)) → IsSoundEdit edit → is_fit edit ≡ true → is_there (about edit) None lines ≡ true → IsSound lines → IsSound (with_change edit lines)
+changed-sound : (edit : Edit) (lines : List (Line Placed)) → IsSoundEdit edit → is_fit edit ≡ true
+    → is_there (about edit) None lines ≡ true → IsSound lines → IsSound (with_change edit lines)
 unfolding with_change
 changed-sound (Set s) lines good fit there sound = renewed-sound (about (Set s)) lines sound (directive_set s) (made_new (Set s)) (renewal s good fit) there
 changed-sound (Add a) lines good fit there sound = sound
@@ -131,21 +168,27 @@ changed-sound (Drop t) lines good fit there sound = dropped-sound (about (Drop t
     no-module t = refl
 
 -- what an operation puts in is new to lines of which it targets none
-put-new : (edit : Edit) (new : Directive) (lines : List (Line Placed)) → put_by edit ≡ Some new → IsSoundEdit edit → is_fit edit ≡ true → is_there (about edit) None lines ≡ false → IsNewTo (held_from None lines) new
+put-new : (edit : Edit) (new : Directive) (lines : List (Line Placed)) → put_by edit ≡ Some new → IsSoundEdit edit
+    → is_fit edit ≡ true → is_there (about edit) None lines ≡ false → IsNewTo (held_from None lines) new
 put-new edit new lines put good fit none =
     let by = wanted edit new put good fit in
     (by.kinds, fewer-any (about edit) (do_clash new) by.mild (held_from None lines) (sym (there-is (about edit) None lines) ∙ none))
 
-put-sound : (lines : List (Line Placed)) → IsSound lines → (edit : Edit) → IsSoundEdit edit → is_fit edit ≡ true → is_there (about edit) None lines ≡ false → IsSound (put_in edit lines)
-put-sound lines sound = by-put (λ edit after. IsSoundEdit edit → is_fit edit ≡ true → is_there (about edit) None lines ≡ false → IsSound after) lines (λ path good fit none. sound)
+put-sound : (lines : List (Line Placed)) → IsSound lines → (edit : Edit) → IsSoundEdit edit → is_fit edit ≡ true
+    → is_there (about edit) None lines ≡ false → IsSound (put_in edit lines)
+put-sound lines sound = by-put (λ edit after. IsSoundEdit edit → is_fit edit ≡ true
+    → is_there (about edit) None lines ≡ false → IsSound after) lines (λ path good fit none. sound)
     (λ edit entry after is put good fit none.
     let by = says edit entry is good in
     into-sound entry.0 entry.1 by.new lines after by.is (put-new edit by.new lines by.put good fit none) sound put)
     (λ t good fit none. sound)
 
 pub edited-sound : (edit : Edit) (lines : List (Line Placed)) → IsSoundEdit edit → is_fit edit ≡ true → IsSound lines → IsSound (lines_after edit lines)
-edited-sound edit lines good fit sound = by-edited IsSound edit lines (λ there. changed-sound edit lines good fit there sound) (λ none. put-sound lines sound edit good fit none)
+edited-sound edit lines good fit sound = by-edited IsSound edit lines
+    (λ there. changed-sound edit lines good fit there sound) (λ none. put-sound lines sound edit good fit none)
 
-pub edited-document : (edit : Edit) (lines : List (Line Placed)) → IsSoundEdit edit → is_fit edit ≡ true → IsDocument (plain_lines lines) → fault_of Strict (plain_lines lines) ≡ None
+pub edited-document : (edit : Edit) (lines : List (Line Placed)) → IsSoundEdit edit → is_fit edit ≡ true
+    → IsDocument (plain_lines lines) → fault_of Strict (plain_lines lines) ≡ None
     → IsDocument (plain_lines (lines_after edit lines)) × (fault_of Strict (plain_lines (lines_after edit lines)) ≡ None)
-edited-document edit lines good fit document none = sound-document (lines_after edit lines) (edited-sound edit lines good fit (document-sound lines document none))
+edited-document edit lines good fit document none = sound-document (lines_after edit lines)
+    (edited-sound edit lines good fit (document-sound lines document none))

@@ -21,17 +21,21 @@ use Rattle.gm_file_edit.proofs.Written.{written-sound}
 -- ---- one operation on two files
 
 -- files that say the same of what an operation targets do so after it
-targeted-same : (edit : Edit) (xs ys : List (Line Placed)) → IsEditOf edit xs → IsEditOf edit ys → filter (about edit) (directives_of xs) ≡ filter (about edit) (directives_of ys)
+targeted-same : (edit : Edit) (xs ys : List (Line Placed)) → IsEditOf edit xs → IsEditOf edit ys
+    → filter (about edit) (directives_of xs) ≡ filter (about edit) (directives_of ys)
     → filter (about edit) (directives_of (lines_after edit xs)) ≡ filter (about edit) (directives_of (lines_after edit ys))
 targeted-same (Set s) xs ys one two same = set-stands-alone (Set s) xs (directive_set s) one refl ∙ sym (set-stands-alone (Set s) ys (directive_set s) two refl)
 targeted-same (Add a) xs ys one two same =
     let test : Directive → Bool = about (Add a) in
-    let there : list_any test (directives_of xs) ≡ list_any test (directives_of ys) = any-filled test (directives_of xs) ∙ ap is_filled same ∙ sym (any-filled test (directives_of ys)) in
+    let there : list_any test (directives_of xs) ≡ list_any test (directives_of ys) =
+    any-filled test (directives_of xs) ∙ ap is_filled same ∙ sym (any-filled test (directives_of ys)) in
     added-is-there (Add a) xs (directive_added a) one refl ∙ ap (λ (b : Bool). if b then filter test (directives_of xs) else directive_added a ∷ []) there
-    ∙ ap (λ (ds : List Directive). if list_any test (directives_of ys) then ds else directive_added a ∷ []) same ∙ sym (added-is-there (Add a) ys (directive_added a) two refl)
+    ∙ ap (λ (ds : List Directive). if list_any test (directives_of ys) then ds else directive_added a ∷ []) same
+    ∙ sym (added-is-there (Add a) ys (directive_added a) two refl)
 targeted-same (Drop t) xs ys one two same =
     let test : Directive → Bool = about (Drop t) in
-    no-filter test (directives_of (lines_after (Drop t) xs)) (dropped-is-gone (Drop t) xs refl) ∙ sym (no-filter test (directives_of (lines_after (Drop t) ys)) (dropped-is-gone (Drop t) ys refl))
+    no-filter test (directives_of (lines_after (Drop t) xs)) (dropped-is-gone (Drop t) xs refl)
+    ∙ sym (no-filter test (directives_of (lines_after (Drop t) ys)) (dropped-is-gone (Drop t) ys refl))
 
 -- an operation on what another left
 edit-after : (edit other : Edit) (lines : List (Line Placed)) → IsEditOf edit lines → IsEditOf other lines → IsEditOf edit (lines_after other lines)
@@ -42,13 +46,17 @@ edit-after edit other lines is also =
 -- ---- both orders
 
 -- another operation leaves what an operation targets
-kept-by : (edit other : Edit) (lines : List (Line Placed)) → IsEditOf other lines → AreApart edit other → filter (about edit) (directives_of (lines_after other lines)) ≡ filter (about edit) (directives_of lines)
+kept-by : (edit other : Edit) (lines : List (Line Placed)) → IsEditOf other lines → AreApart edit other
+    → filter (about edit) (directives_of (lines_after other lines)) ≡ filter (about edit) (directives_of lines)
 kept-by edit other lines is apart =
-    sym (among-others (about edit) (about other) apart (directives_of (lines_after other lines))) ∙ ap (filter (about edit)) (others-stay other lines is) ∙ among-others (about edit) (about other) apart (directives_of lines)
+    sym (among-others (about edit) (about other) apart (directives_of (lines_after other lines)))
+    ∙ ap (filter (about edit)) (others-stay other lines is)
+    ∙ among-others (about edit) (about other) apart (directives_of lines)
 
 -- so what an operation targets is the same in both orders
 first-same : (one other : Edit) (lines : List (Line Placed)) → IsEditOf one lines → IsEditOf other lines → AreApart one other
-    → filter (about one) (directives_of (lines_after other (lines_after one lines))) ≡ filter (about one) (directives_of (lines_after one (lines_after other lines)))
+    → filter (about one) (directives_of (lines_after other (lines_after one lines)))
+    ≡ filter (about one) (directives_of (lines_after one (lines_after other lines)))
 first-same one other lines is also apart =
     kept-by one other (lines_after one lines) (edit-after other one lines also is) apart
     ∙ targeted-same one lines (lines_after other lines) is (edit-after one other lines is also) (sym (kept-by one other lines also apart))
@@ -57,11 +65,14 @@ first-same one other lines is also apart =
 abbrev neither : Edit → Edit → List Directive → List Directive
 neither one other ds = filter (others (about other)) (filter (others (about one)) ds)
 
-neither-after : (one other : Edit) (lines : List (Line Placed)) → IsEditOf one lines → IsEditOf other lines → neither one other (directives_of (lines_after other (lines_after one lines))) ≡ neither one other (directives_of lines)
+neither-after : (one other : Edit) (lines : List (Line Placed)) → IsEditOf one lines → IsEditOf other lines
+    → neither one other (directives_of (lines_after other (lines_after one lines)))
+    ≡ neither one other (directives_of lines)
 neither-after one other lines is also =
     filters-swap (others (about other)) (others (about one)) (directives_of (lines_after other (lines_after one lines)))
     ∙ ap (filter (others (about one))) (others-stay other (lines_after one lines) (edit-after other one lines also is))
-    ∙ filters-swap (others (about one)) (others (about other)) (directives_of (lines_after one lines)) ∙ ap (filter (others (about other))) (others-stay one lines is)
+    ∙ filters-swap (others (about one)) (others (about other)) (directives_of (lines_after one lines))
+    ∙ ap (filter (others (about other))) (others-stay one lines is)
 
 -- the directives in three parts
 abbrev parts_of : Edit → Edit → List Directive → List Directive
@@ -76,8 +87,11 @@ in-parts one other ds apart =
     let q : Directive → Bool = about other in
     let rest : List Directive = filter (others p) ds in
     let inner : IsPermutation rest (filter q ds ++ neither one other ds) =
-    subst (λ (es : List Directive). IsPermutation rest (es ++ neither one other ds)) (among-others q p (apart-swap one other apart) ds) (IsPermutation-filter_both q (others q) (λ d. refl) rest) in
-    IsPermutation-trans ds (filter p ds ++ rest) (parts_of one other ds) (IsPermutation-filter_both p (others p) (λ d. refl) ds) (IsPermutation-append_right (filter p ds) rest (filter q ds ++ neither one other ds) inner)
+    subst (λ (es : List Directive). IsPermutation rest (es ++ neither one other ds))
+    (among-others q p (apart-swap one other apart) ds) (IsPermutation-filter_both q (others q) (λ d. refl) rest) in
+    IsPermutation-trans ds (filter p ds ++ rest) (parts_of one other ds)
+    (IsPermutation-filter_both p (others p) (λ d. refl) ds)
+    (IsPermutation-append_right (filter p ds) rest (filter q ds ++ neither one other ds) inner)
 
 pub either-order : EitherOrderLeavesTheSame
 either-order one other lines is also apart =
@@ -86,8 +100,12 @@ either-order one other lines is also apart =
     let here : filter (about one) xs ≡ filter (about one) ys = first-same one other lines is also apart in
     let there : filter (about other) xs ≡ filter (about other) ys = sym (first-same other one lines also is (apart-swap one other apart)) in
     let rest : neither one other xs ≡ neither one other ys =
-    neither-after one other lines is also ∙ filters-swap (others (about other)) (others (about one)) (directives_of lines) ∙ sym (neither-after other one lines also is) ∙ sym (filters-swap (others (about other)) (others (about one)) ys) in
+    neither-after one other lines is also ∙ filters-swap (others (about other)) (others (about one))
+    (directives_of lines) ∙ sym (neither-after other one lines also is)
+    ∙ sym (filters-swap (others (about other)) (others (about one)) ys) in
     let same : parts_of one other xs ≡ parts_of one other ys =
-    ap (λ (ds : List Directive). ds ++ (filter (about other) xs ++ neither one other xs)) here ∙ ap (λ (ds : List Directive). filter (about one) ys ++ (ds ++ neither one other xs)) there
+    ap (λ (ds : List Directive). ds ++ (filter (about other) xs ++ neither one other xs)) here
+    ∙ ap (λ (ds : List Directive). filter (about one) ys ++ (ds ++ neither one other xs)) there
     ∙ ap (λ (ds : List Directive). filter (about one) ys ++ (filter (about other) ys ++ ds)) rest in
-    IsPermutation-trans xs (parts_of one other ys) ys (subst (IsPermutation xs) same (in-parts one other xs apart)) (IsPermutation-sym ys (parts_of one other ys) (in-parts one other ys apart))
+    IsPermutation-trans xs (parts_of one other ys) ys (subst (IsPermutation xs) same (in-parts one other xs apart))
+    (IsPermutation-sym ys (parts_of one other ys) (in-parts one other ys apart))

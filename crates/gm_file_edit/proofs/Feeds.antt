@@ -31,7 +31,8 @@ pub then-some : {X Y : Type 0} (f : X → Option Y) (o : Option X) (y : Y) → o
 then-some f None y e = absurd cc
 then-some f (Some x) y e = (x, refl, e)
 
-pub both-are : {A B C : Type 0} (f : A → B → C) (a : Option A) (b : Option B) (c : C) → both f a b ≡ Some c → (x : A) × (y : B) × (a ≡ Some x) × (b ≡ Some y) × (f x y ≡ c)
+pub both-are : {A B C : Type 0} (f : A → B → C) (a : Option A) (b : Option B) (c : C) → both f a b ≡ Some c
+    → (x : A) × (y : B) × (a ≡ Some x) × (b ≡ Some y) × (f x y ≡ c)
 both-are f None b c e = absurd cc
 both-are f (Some x) None c e = absurd cc
 both-are f (Some x) (Some y) c e = (x, y, refl, refl, cc)
@@ -119,7 +120,8 @@ last-feed : (text : List ℕ) (n : ℕ) → last_number text ≡ Some n → HasN
 unfolding last_number
 last-feed text n e =
     let digits : List ℕ = take_while is_ascii_digit text in
-    behind-feed is_ascii_digit refl text (suffix-feed (drop (length digits) text) (if-some (is_go_suffix (drop (length digits) text)) (small_number digits) n e).0)
+    behind-feed is_ascii_digit refl text (suffix-feed (drop (length digits) text)
+    (if-some (is_go_suffix (drop (length digits) text)) (small_number digits) n e).0)
 
 dot-feed : (text : List ℕ) → HasNoLineFeed (before_dot text) → HasNoLineFeed (after_dot text) → HasNoLineFeed text
 dot-feed [] before after = tt

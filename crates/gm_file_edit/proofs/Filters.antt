@@ -27,7 +27,8 @@ any-filter p q (x ∷ xs) = elim (cases_Bool (q x)) [
 ]
 
 -- a test that passes no more than another passes none where that passes none
-pub fewer-any : {X : Type 0} (test fewer : X → Bool) → ((x : X) → test x ≡ false → fewer x ≡ false) → (xs : List X) → list_any test xs ≡ false → list_any fewer xs ≡ false
+pub fewer-any : {X : Type 0} (test fewer : X → Bool) → ((x : X) → test x ≡ false → fewer x ≡ false) → (xs : List X)
+    → list_any test xs ≡ false → list_any fewer xs ≡ false
 fewer-any test fewer less [] e = refl
 fewer-any test fewer less (x ∷ xs) e =
     let parts = or_parts (test x) (list_any test xs) e in
@@ -41,7 +42,8 @@ and-none false b f = refl
 pub none-filtered : {X : Type 0} (p q : X → Bool) → ((x : X) → q x ≡ true → p x ≡ false) → (xs : List X) → list_any p (filter q xs) ≡ false
 none-filtered p q other [] = refl
 none-filtered p q other (x ∷ xs) =
-    any-filter p q (x ∷ xs) ∙ or_from (q x && p x) (list_any (λ y. q y && p y) xs) (and-none (q x) (p x) (other x)) (sym (any-filter p q xs) ∙ none-filtered p q other xs)
+    any-filter p q (x ∷ xs) ∙ or_from (q x && p x) (list_any (λ y. q y && p y) xs) (and-none (q x) (p x) (other x))
+    (sym (any-filter p q xs) ∙ none-filtered p q other xs)
 
 pub filter-any : {X : Type 0} (p q : X → Bool) (xs : List X) → list_any p xs ≡ false → list_any p (filter q xs) ≡ false
 filter-any p q xs none = any-filter p q xs ∙ fewer-any p (λ x. q x && p x) (λ x miss. and_right (q x) (p x) miss) xs none
@@ -81,8 +83,10 @@ pub none-of-others : {X : Type 0} (test : X → Bool) (xs : List X) → filter t
 none-of-others test xs = no-filter test (filter (others test) xs) (others-none test xs)
 
 -- what passes a test is not lost among the others of a test that excludes it
-pub among-others : {X : Type 0} (test other : X → Bool) → ((x : X) → (test x && other x) ≡ false) → (xs : List X) → filter test (filter (others other) xs) ≡ filter test xs
-among-others test other apart xs = filter-filter test (others other) xs ∙ filter_agree (λ x. others other x && test x) test (λ x. beside (test x) (other x) (apart x)) xs
+pub among-others : {X : Type 0} (test other : X → Bool) → ((x : X) → (test x && other x) ≡ false) → (xs : List X)
+    → filter test (filter (others other) xs) ≡ filter test xs
+among-others test other apart xs = filter-filter test (others other) xs
+    ∙ filter_agree (λ x. others other x && test x) test (λ x. beside (test x) (other x) (apart x)) xs
   where
     beside : (a b : Bool) → (a && b) ≡ false → (not b && a) ≡ a
     beside true true e = absurd cc
@@ -96,4 +100,5 @@ filters-swap p q xs = filter-filter p q xs ∙ filter_agree (λ x. q x && p x) (
 
 -- filtering a second time changes nothing
 pub others-twice : {X : Type 0} (test : X → Bool) (xs : List X) → filter (others test) (filter (others test) xs) ≡ filter (others test) xs
-others-twice test xs = filter-filter (others test) (others test) xs ∙ filter_agree (λ x. others test x && others test x) (others test) (λ x. and_self (others test x)) xs
+others-twice test xs = filter-filter (others test) (others test) xs
+    ∙ filter_agree (λ x. others test x && others test x) (others test) (λ x. and_self (others test x)) xs

@@ -45,7 +45,15 @@ joined-begins [] some all = absurd (omega arith)
 joined-begins (e ∷ []) some all = element-begins e (and_both (is_element e) true all).0
 joined-begins (e ∷ f ∷ es) some all =
     let first = element-begins e (and_both (is_element e) (list_all is_element (f ∷ es)) all).0 in
-    record { byte = first.byte; rest = first.rest ++ 47 ∷ join_with_byte 47 (f ∷ es); is = ap (λ (t : List ℕ). t ++ 47 ∷ join_with_byte 47 (f ∷ es)) first.is; no_dot = first.no_dot; no_slash = first.no_slash }
+    record {
+      byte = first.byte;
+      rest = first.rest ++ 47 ∷ join_with_byte 47 (f ∷ es);
+      is =
+          ap (λ (t : List ℕ). t ++ 47 ∷ join_with_byte 47 (f ∷ es)) first.is;
+      no_dot = first.no_dot;
+      no_slash =
+          first.no_slash;
+    }
 
 begins-no-folder : (b : ℕ) (rest : List ℕ) → (b == 46) ≡ false → (b == 47) ≡ false → is_folder_path (b ∷ rest) ≡ false
 unfolding is_folder_path

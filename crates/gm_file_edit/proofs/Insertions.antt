@@ -25,29 +25,35 @@ use Rattle.gm_file.proofs.Pairwise.{IsClear}
 
 -- ---- lines that hold a directive
 
-pub there-append : (test : Directive → Bool) (block : Option Placed) (xs ys : List (Line Placed)) → is_there test block (xs ++ ys) ≡ (is_there test block xs || is_there test (block_after_lines block xs) ys)
+pub there-append : (test : Directive → Bool) (block : Option Placed) (xs ys : List (Line Placed))
+    → is_there test block (xs ++ ys) ≡ (is_there test block xs || is_there test (block_after_lines block xs) ys)
 there-append test block [] ys = refl
 there-append test block (line ∷ xs) ys =
     let here : Bool = passes test (directive_at block line) in
     let behind : Option Placed = block_after_line block line in
-    ap (λ (b : Bool). here || b) (there-append test behind xs ys) ∙ sym (or_assoc here (is_there test behind xs) (is_there test (block_after_lines behind xs) ys))
+    ap (λ (b : Bool). here || b) (there-append test behind xs ys)
+    ∙ sym (or_assoc here (is_there test behind xs) (is_there test (block_after_lines behind xs) ys))
 
-any-held : (test : Directive → Bool) (held : Option Directive) (rest : List Directive) → list_any test (cons_option held rest) ≡ (passes test held || list_any test rest)
+any-held : (test : Directive → Bool) (held : Option Directive) (rest : List Directive)
+    → list_any test (cons_option held rest) ≡ (passes test held || list_any test rest)
 any-held test None rest = refl
 any-held test (Some d) rest = refl
 
 -- an entry is found if and only if one of the directives that the lines hold passes the test
-pub there-is : (test : Directive → Bool) (block : Option Placed) (lines : List (Line Placed)) → is_there test block lines ≡ list_any test (held_from block lines)
+pub there-is : (test : Directive → Bool) (block : Option Placed) (lines : List (Line Placed))
+    → is_there test block lines ≡ list_any test (held_from block lines)
 there-is test block [] = refl
 there-is test block (line ∷ lines) =
     let held : Option Directive = directive_at block line in
-    ap (λ (b : Bool). passes test held || b) (there-is test (block_after_line block line) lines) ∙ sym (any-held test held (held_from (block_after_line block line) lines))
+    ap (λ (b : Bool). passes test held || b) (there-is test (block_after_line block line) lines)
+    ∙ sym (any-held test held (held_from (block_after_line block line) lines))
 
 pub there-said : (test : Directive → Bool) (lines : List (Line Placed)) → is_there test None lines ≡ list_any test (directives_of lines)
 there-said test lines = there-is test None lines ∙ ap (list_any test) (sym (file-held lines))
 
 -- a line that holds a directive leaves the open block open
-pub passing-level : (test : Directive → Bool) (block : Option Placed) (line : Line Placed) → passes test (directive_at block line) ≡ true → block_after_line block line ≡ block
+pub passing-level : (test : Directive → Bool) (block : Option Placed) (line : Line Placed)
+    → passes test (directive_at block line) ≡ true → block_after_line block line ≡ block
 unfolding item_at
 passing-level test block Blank e = refl
 passing-level test block (Comment text) e = refl
@@ -60,7 +66,8 @@ abbrev pub IsOfVerb : List ℕ → Option Placed → Type 0
 IsOfVerb v None = ⊤
 IsOfVerb v (Some t) = verb_in Strict t.word.spelling ≡ main_verb v
 
-pub passing-verb : (v : List ℕ) (block : Option Placed) (line : Line Placed) (held : Option Directive) → directive_at block line ≡ held → passes (has_verb v) held ≡ true → IsOfVerb v block
+pub passing-verb : (v : List ℕ) (block : Option Placed) (line : Line Placed) (held : Option Directive)
+    → directive_at block line ≡ held → passes (has_verb v) held ≡ true → IsOfVerb v block
 unfolding item_at
 passing-verb v None line held is e = tt
 passing-verb v (Some t) line None is e = absurd cc
@@ -68,7 +75,9 @@ passing-verb v (Some t) Blank (Some d) is e = absurd cc
 passing-verb v (Some t) (Comment text) (Some d) is e = absurd cc
 passing-verb v (Some t) (Open opened suffix) (Some d) is e = absurd cc
 passing-verb v (Some t) (Close suffix) (Some d) is e = absurd cc
-passing-verb v (Some t) (Entry words suffix) (Some d) is e = sym (directive-verb (verb_in Strict t.word.spelling) (words_of words) d is) ∙ sym (same-verb (main_verb v) (verb_of_directive d) e)
+passing-verb v (Some t) (Entry words suffix) (Some d) is e =
+    sym (directive-verb (verb_in Strict t.word.spelling) (words_of words) d is)
+    ∙ sym (same-verb (main_verb v) (verb_of_directive d) e)
 
 -- ---- after the last line that holds a directive of a verb
 
@@ -90,31 +99,59 @@ last-one test block [] e = absurd cc
 last-one test block (line ∷ lines) e = elim (cases_Bool (is_there test (block_after_line block line) lines)) [
   | inl later ↦
       let is = last-one test (block_after_line block line) lines later in
-      record { front = line ∷ is.front; line = is.line; back = is.back; parts = ap (λ (ls : List (Line Placed)). line ∷ ls) is.parts; hit = is.hit; later = is.later }
+      record {
+        front = line ∷ is.front;
+        line = is.line;
+        back = is.back;
+        parts =
+            ap (λ (ls : List (Line Placed)). line ∷ ls) is.parts;
+        hit = is.hit;
+        later = is.later;
+      }
   | inr none ↦
-      record { front = []; line = line; back = lines; parts = refl; hit = or-first (passes test (directive_at block line)) (is_there test (block_after_line block line) lines) none e; later = none }
+      record {
+        front = [];
+        line = line;
+        back = lines;
+        parts = refl;
+        hit =
+            or-first (passes test (directive_at block line)) (is_there test (block_after_line block line) lines) none e;
+        later = none;
+      }
 ]
 
 -- the line stands somewhere behind
-there-behind : (test : Directive → Bool) (block : Option Placed) (front back : List (Line Placed)) (line : Line Placed) → passes test (directive_at (block_after_lines block front) line) ≡ true → is_there test block (front ++ line ∷ back) ≡ true
+there-behind : (test : Directive → Bool) (block : Option Placed) (front back : List (Line Placed)) (line : Line Placed)
+    → passes test (directive_at (block_after_lines block front) line) ≡ true
+    → is_there test block (front ++ line ∷ back) ≡ true
 there-behind test block front back line hit =
-    there-append test block front (line ∷ back) ∙ or_right (is_there test block front) _ (ap (λ (b : Bool). b || is_there test (block_after_line (block_after_lines block front) line) back) hit)
+    there-append test block front (line ∷ back) ∙ or_right (is_there test block front) _
+    (ap (λ (b : Bool). b || is_there test (block_after_line (block_after_lines block front) line) back) hit)
 
-after-last-behind : (test : Directive → Bool) (text : List ℕ) (arguments : List Placed) (block : Option Placed) (front back : List (Line Placed)) (line : Line Placed) → passes test (directive_at (block_after_lines block front) line) ≡ true
+after-last-behind : (test : Directive → Bool) (text : List ℕ) (arguments : List Placed) (block : Option Placed)
+    (front back : List (Line Placed)) (line : Line Placed)
+    → passes test (directive_at (block_after_lines block front) line) ≡ true
     → is_there test (block_after_lines block (front ++ line ∷ [])) back ≡ false
     → after_last_of test text arguments block (front ++ line ∷ back) ≡ front ++ line ∷ entry_at (is_some (block_after_lines block front)) text arguments ∷ back
-after-last-behind test text arguments block [] back line hit none = let held : passes test (directive_at block line) ≡ true = hit in let later : is_there test (block_after_line block line) back ≡ false = none in rw (held, later) refl
+after-last-behind test text arguments block [] back line hit none =
+    let held : passes test (directive_at block line) ≡ true = hit in
+    let later : is_there test (block_after_line block line) back ≡ false = none in rw (held, later) refl
 after-last-behind test text arguments block (x ∷ front) back line hit none =
     rw (there-behind test (block_after_line block x) front back line hit, and_right (passes test (directive_at block x)) false refl)
     (ap (λ (ls : List (Line Placed)). x ∷ ls) (after-last-behind test text arguments (block_after_line block x) front back line hit none))
 
-pub added-after-last : (verb : List ℕ) (arguments : List Placed) (front back : List (Line Placed)) (line : Line Placed) → passes (has_verb verb) (directive_at (block_after_lines None front) line) ≡ true
+pub added-after-last : (verb : List ℕ) (arguments : List Placed) (front back : List (Line Placed)) (line : Line Placed)
+    → passes (has_verb verb) (directive_at (block_after_lines None front) line) ≡ true
     → is_there (has_verb verb) (block_after_lines None (front ++ line ∷ [])) back ≡ false
     → with_addition verb arguments (front ++ line ∷ back) ≡ front ++ line ∷ entry_at (is_some (block_after_lines None front)) verb arguments ∷ back
 unfolding with_addition
-added-after-last verb arguments front back line hit none = rw (there-behind (has_verb verb) None front back line hit) (after-last-behind (has_verb verb) verb arguments None front back line hit none)
+added-after-last verb arguments front back line hit none =
+    rw (there-behind (has_verb verb) None front back line hit)
+    (after-last-behind (has_verb verb) verb arguments None front back line hit none)
 
-pub added-at-end : (verb : List ℕ) (arguments : List Placed) (lines : List (Line Placed)) → is_there (has_verb verb) None lines ≡ false → with_addition verb arguments lines ≡ lines ++ Blank ∷ single verb arguments ∷ []
+pub added-at-end : (verb : List ℕ) (arguments : List Placed) (lines : List (Line Placed))
+    → is_there (has_verb verb) None lines ≡ false → with_addition verb arguments lines ≡ lines ++ Blank
+    ∷ single verb arguments ∷ []
 unfolding with_addition
 added-at-end verb arguments lines none = rw none refl
 
@@ -141,7 +178,8 @@ added-into v arguments lines = elim (cases_Bool (is_there (has_verb v) None line
   | inl there ↦
       let at = last-one (has_verb v) None lines there in
       let block : Option Placed = block_after_lines None at.front in
-      let behind : block_after_lines None (at.front ++ at.line ∷ []) ≡ block = block-append None at.front (at.line ∷ []) ∙ passing-level (has_verb v) block at.line at.hit in
+      let behind : block_after_lines None (at.front ++ at.line ∷ []) ≡ block =
+      block-append None at.front (at.line ∷ []) ∙ passing-level (has_verb v) block at.line at.hit in
       record {
         front = at.front ++ at.line ∷ [];
         back = at.back;
@@ -172,9 +210,18 @@ record IsPutOutside (more : List (Line Placed)) (block : Option Placed) (lines a
   is : after ≡ front ++ (more ++ back)
   outside : block_after_lines block lines ≡ None → block_after_lines block front ≡ None
 
-behind-line : (more : List (Line Placed)) (block : Option Placed) (line : Line Placed) (lines after : List (Line Placed)) → IsPutOutside more (block_after_line block line) lines after → IsPutOutside more block (line ∷ lines) (line ∷ after)
+behind-line : (more : List (Line Placed)) (block : Option Placed) (line : Line Placed)
+    (lines after : List (Line Placed)) → IsPutOutside more (block_after_line block line) lines after
+    → IsPutOutside more block (line ∷ lines) (line ∷ after)
 behind-line more block line lines after put =
-    record { front = line ∷ put.front; back = put.back; was = ap (λ (ls : List (Line Placed)). line ∷ ls) put.was; is = ap (λ (ls : List (Line Placed)). line ∷ ls) put.is; outside = put.outside }
+    record {
+      front = line ∷ put.front;
+      back = put.back;
+      was = ap (λ (ls : List (Line Placed)). line ∷ ls) put.was;
+      is =
+          ap (λ (ls : List (Line Placed)). line ∷ ls) put.is;
+      outside = put.outside;
+    }
 
 behind-closing : (more : List (Line Placed)) (block : Option Placed) (lines : List (Line Placed)) → IsPutOutside more block lines (after_closing more lines)
 behind-closing more block [] = record { front = []; back = []; was = refl; is = sym (append-nil more); outside = λ closed. closed }
@@ -184,17 +231,26 @@ behind-closing more block (Open verb suffix ∷ lines) = behind-line more block 
 behind-closing more block (Close suffix ∷ lines) = record { front = Close suffix ∷ []; back = lines; was = refl; is = refl; outside = λ closed. refl }
 behind-closing more block (Entry words suffix ∷ lines) = behind-line more block (Entry words suffix) lines _ (behind-closing more block lines)
 
-behind-first : (test : Directive → Bool) (more : List (Line Placed)) (block : Option Placed) (lines : List (Line Placed)) → IsPutOutside more block lines (after_first_of test more block lines)
+behind-first : (test : Directive → Bool) (more : List (Line Placed)) (block : Option Placed)
+    (lines : List (Line Placed)) → IsPutOutside more block lines (after_first_of test more block lines)
 behind-first test more block [] = behind-closing more block []
 behind-first test more block (line ∷ lines) = elim (cases_Bool (passes test (directive_at block line))) [
   | inl hit ↦ rw hit (elim (cases_Bool (is_some block)) [
     | inl inside ↦ rw inside (behind-line more block line lines _ (behind-closing more (block_after_line block line) lines))
-    | inr outside ↦ rw outside (record { front = line ∷ []; back = lines; was = refl; is = refl; outside = λ closed. passing-level test block line hit ∙ no-block block outside })
+    | inr outside ↦ rw outside (record {
+      front = line ∷ [];
+      back = lines;
+      was = refl;
+      is = refl;
+      outside =
+          λ closed. passing-level test block line hit ∙ no-block block outside;
+    })
   ])
   | inr miss ↦ rw miss (behind-line more block line lines _ (behind-first test more (block_after_line block line) lines))
 ]
 
-pub after-first-into : (test : Directive → Bool) (v : List ℕ) (arguments : List Placed) (lines : List (Line Placed)) → IsPutInto v arguments lines (after_first_of test (Blank ∷ single v arguments ∷ []) None lines)
+pub after-first-into : (test : Directive → Bool) (v : List ℕ) (arguments : List Placed) (lines : List (Line Placed))
+    → IsPutInto v arguments lines (after_first_of test (Blank ∷ single v arguments ∷ []) None lines)
 after-first-into test v arguments lines =
     let put = behind-first test (Blank ∷ single v arguments ∷ []) None lines in
     record {
@@ -216,7 +272,9 @@ entry_put edit = new_entry edit
 
 -- what holds of the lines after an operation that targets none
 pub by-put : (P : Edit → List (Line Placed) → Type 0) (lines : List (Line Placed)) → ((path : List ℕ) → P (Set (ModuleIs path)) lines)
-    → ((edit : Edit) (entry : List ℕ × List Placed) (after : List (Line Placed)) → entry_put edit ≡ Some entry → IsPutInto entry.0 entry.1 lines after → P edit after) → ((t : Target) → P (Drop t) lines) → (edit : Edit) → P edit (put_in edit lines)
+    → ((edit : Edit) (entry : List ℕ × List Placed) (after : List (Line Placed)) → entry_put edit ≡ Some entry
+    → IsPutInto entry.0 entry.1 lines after → P edit after) → ((t : Target) → P (Drop t) lines) → (edit : Edit)
+    → P edit (put_in edit lines)
 unfolding put_in
 by-put P lines module_is put drop (Set (ModuleIs path)) = module_is path
 by-put P lines module_is put drop (Set (GoIs text)) = put (Set (GoIs text)) _ _ refl (after-first-into is_module (codes "go") (made_word text ∷ []) lines)
@@ -246,7 +304,8 @@ item-alone (Opening text) new e right = absurd cc
 item-alone (Saying text arguments) new e right = ap (entry_kinds Strict [] (verb_in Strict text)) e ∙ right
 
 -- insertion between the lines of a file
-put-in : (new : Directive) (front back : List (Line Placed)) (line : Line Placed) → Fits (block_after_lines None front) new line → IsNewTo (held_from None (front ++ back)) new
+put-in : (new : Directive) (front back : List (Line Placed)) (line : Line Placed)
+    → Fits (block_after_lines None front) new line → IsNewTo (held_from None (front ++ back)) new
     → IsSound (front ++ back) → IsSound (front ++ line ∷ back)
 put-in new front back line fits fresh sound =
     let block : Option Placed = block_after_lines None front in
@@ -270,25 +329,43 @@ pub record IsAddition (v : List ℕ) (arguments : List Placed) (new : Directive)
   pub filled : is_empty_block (words_of arguments) ≡ false
   pub says : directive_of (main_verb v) (words_of arguments) ≡ Some new
 
-single-holds : (text : List ℕ) (v : Verb) (arguments : List Placed) (new : Directive) → verb_in Strict (new_word text).spelling ≡ v → is_empty_block (words_of arguments) ≡ false
+single-holds : (text : List ℕ) (v : Verb) (arguments : List Placed) (new : Directive)
+    → verb_in Strict (new_word text).spelling ≡ v → is_empty_block (words_of arguments) ≡ false
     → directive_of v (words_of arguments) ≡ Some new → directive_at None (single text arguments) ≡ Some new
 unfolding item_at
 single-holds text v arguments new named filled says = rw (filled, named) says
 
-pub entry-fits : (v : List ℕ) (arguments : List Placed) (new : Directive) (block : Option Placed) → IsOfVerb v block → IsAddition v arguments new → Fits block new (entry_at (is_some block) v arguments)
+pub entry-fits : (v : List ℕ) (arguments : List Placed) (new : Directive) (block : Option Placed) → IsOfVerb v block
+    → IsAddition v arguments new → Fits block new (entry_at (is_some block) v arguments)
 unfolding item_at
-entry-fits v arguments new None is so = record { stands = so.alone; holds = single-holds v (main_verb v) arguments new so.written so.filled so.says; level = refl }
-entry-fits v arguments new (Some t) is so = record { stands = so.inside; holds = ap (λ (x : Verb). directive_of x (words_of arguments)) is ∙ so.says; level = refl }
+entry-fits v arguments new None is so = record {
+  stands = so.alone;
+  holds =
+      single-holds v (main_verb v) arguments new so.written so.filled so.says;
+  level = refl;
+}
+entry-fits v arguments new (Some t) is so = record {
+  stands = so.inside;
+  holds =
+      ap (λ (x : Verb). directive_of x (words_of arguments)) is ∙ so.says;
+  level = refl;
+}
 
-pub into-fits : (v : List ℕ) (arguments : List Placed) (new : Directive) (block : Option Placed) (inside : Bool) → IsAddition v arguments new → (is_some block ≡ inside) × IsOfVerb v block → Fits block new (entry_at inside v arguments)
-into-fits v arguments new block inside so fits = subst (λ (b : Bool). Fits block new (entry_at b v arguments)) fits.0 (entry-fits v arguments new block fits.1 so)
+pub into-fits : (v : List ℕ) (arguments : List Placed) (new : Directive) (block : Option Placed) (inside : Bool)
+    → IsAddition v arguments new → (is_some block ≡ inside) × IsOfVerb v block
+    → Fits block new (entry_at inside v arguments)
+into-fits v arguments new block inside so fits = subst (λ (b : Bool). Fits block new (entry_at b v arguments)) fits.0
+    (entry-fits v arguments new block fits.1 so)
 
 -- an entry that is put in
-pub into-sound : (v : List ℕ) (arguments : List Placed) (new : Directive) (lines after : List (Line Placed)) → IsAddition v arguments new → IsNewTo (held_from None lines) new
+pub into-sound : (v : List ℕ) (arguments : List Placed) (new : Directive) (lines after : List (Line Placed))
+    → IsAddition v arguments new → IsNewTo (held_from None lines) new
     → IsSound lines → IsPutInto v arguments lines after → IsSound after
 into-sound v arguments new lines after so fresh sound put =
     let block : Option Placed = block_after_lines None put.front in
     let fits : Fits block new (entry_at put.inside v arguments) = into-fits v arguments new block put.inside so (put.fits sound.closed) in
     subst IsSound (sym put.is)
     (with-gap put.gap put.front (entry_at put.inside v arguments ∷ put.back)
-    (put-in new put.front put.back (entry_at put.inside v arguments) fits (subst (λ (ls : List (Line Placed)). IsNewTo (held_from None ls) new) put.was fresh) (subst IsSound put.was sound)))
+    (put-in new put.front put.back (entry_at put.inside v arguments) fits
+    (subst (λ (ls : List (Line Placed)). IsNewTo (held_from None ls) new) put.was fresh)
+    (subst IsSound put.was sound)))

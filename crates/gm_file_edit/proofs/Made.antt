@@ -45,7 +45,8 @@ pub record IsMadeNew (new : Directive) (block : Option Placed) (next : Line Plac
 
 -- each line that holds a targeted directive is rewritten to such an entry
 abbrev pub Makes : (Directive → Bool) → Directive → (Option Placed → Line Placed → Line Placed) → Type 0
-Makes test said make = (block : Option Placed) (line : Line Placed) (d : Directive) → directive_at block line ≡ Some d → test d ≡ true → IsValidLine (is_some block) (plain line) → IsMadeNew said block (make block line)
+Makes test said make = (block : Option Placed) (line : Line Placed) (d : Directive) → directive_at block line ≡ Some d
+    → test d ≡ true → IsValidLine (is_some block) (plain line) → IsMadeNew said block (make block line)
 
 -- how an operation rewrites the entries that it targets; it targets module directives only to set one
 pub record IsRenewal (test : Directive → Bool) (said : Directive) (make : Option Placed → Line Placed → Line Placed) : Type 0 where
@@ -114,14 +115,24 @@ held-by block Blank d e = absurd cc
 held-by block (Comment text) d e = absurd cc
 held-by block (Open verb suffix) d e = absurd cc
 held-by block (Close suffix) d e = absurd cc
-held-by (Some v) (Entry words suffix) d e = record { front = []; verb = v.word.spelling; arguments = words; suffix = suffix; is = refl; at = (refl, refl); says = e }
+held-by (Some v) (Entry words suffix) d e = record {
+  front = [];
+  verb = v.word.spelling;
+  arguments = words;
+  suffix =
+      suffix;
+  is = refl;
+  at = (refl, refl);
+  says = e;
+}
 held-by None (Entry [] suffix) d e = absurd cc
 held-by None (Entry (w ∷ words) suffix) d e = elim (cases_Bool (is_empty_block (words_of words))) [
   | inl holds ↦ let wrong = rw holds at e in absurd cc
   | inr fails ↦ record { front = w ∷ []; verb = w.word.spelling; arguments = words; suffix = suffix; is = refl; at = (w, refl, refl); says = rw fails at e }
 ]
 
-new-item : (block : Option Placed) (verb : List ℕ) (front arguments : List Placed) (suffix : Option (List ℕ)) → IsFront block verb front → is_empty_block (words_of arguments) ≡ false
+new-item : (block : Option Placed) (verb : List ℕ) (front arguments : List Placed) (suffix : Option (List ℕ))
+    → IsFront block verb front → is_empty_block (words_of arguments) ≡ false
     → item_of block (Entry (front ++ arguments) suffix) ≡ Saying verb (words_of arguments)
 unfolding item_at
 new-item None verb front arguments suffix at fails = rw (at.1, at.2, fails) refl
@@ -160,8 +171,10 @@ pub entry-made : (new was : Directive) (block : Option Placed) (line next : Line
     → directive_of (main_verb h.verb) (words_of arguments) ≡ Some new → directive_kinds Strict [] new ≡ []
     → IsMadeNew new block next
 entry-made new was block line next h arguments is stands are says kinds =
-    let item : item_of block (Entry (h.front ++ arguments) h.suffix) ≡ Saying h.verb (words_of arguments) = new-item block h.verb h.front arguments h.suffix h.at are.no_block in
-    let stood : IsValidLine (is_some block) (plain (Entry (h.front ++ h.arguments) h.suffix)) = subst (λ (l : Line Placed). IsValidLine (is_some block) (plain l)) h.is stands in
+    let item : item_of block (Entry (h.front ++ arguments) h.suffix) ≡ Saying h.verb (words_of arguments) =
+    new-item block h.verb h.front arguments h.suffix h.at are.no_block in
+    let stood : IsValidLine (is_some block) (plain (Entry (h.front ++ h.arguments) h.suffix)) =
+    subst (λ (l : Line Placed). IsValidLine (is_some block) (plain l)) h.is stands in
     let old : IsEntry (words_of (h.front ++ h.arguments)) h.suffix = standing_entry (is_some block) (words_of (h.front ++ h.arguments)) h.suffix stood in
     let entry : IsEntry (words_of (h.front ++ arguments)) h.suffix = new-entry block h.verb h.front h.arguments arguments h.suffix h.at old are in
     record {
@@ -178,10 +191,13 @@ entry-made new was block line next h arguments is stands are says kinds =
 without-last : (words : List Placed) (last : Placed) → take (length (words ++ last ∷ []) - 1) (words ++ last ∷ []) ≡ words
 without-last words last = take_at words (last ∷ []) (length (words ++ last ∷ []) - 1) (omega (arith, length-append words (last ∷ [])))
 
-pub last-replaced : (value : List ℕ) (block : Option Placed) (words : List Placed) (last : Placed) (suffix : Option (List ℕ)) → with_last value block (Entry (words ++ last ∷ []) suffix) ≡ Entry (words ++ made_word value ∷ []) suffix
+pub last-replaced : (value : List ℕ) (block : Option Placed) (words : List Placed) (last : Placed)
+    (suffix : Option (List ℕ)) → with_last value block (Entry (words ++ last ∷ []) suffix)
+    ≡ Entry (words ++ made_word value ∷ []) suffix
 last-replaced value block words last suffix = ap (λ (front : List Placed). Entry (front ++ made_word value ∷ []) suffix) (without-last words last)
 
-pub all-arguments : (block : Option Placed) (verb : List ℕ) (front old : List Placed) (line : Line Placed) (suffix : Option (List ℕ)) (arguments : List Placed) → IsFront block verb front
+pub all-arguments : (block : Option Placed) (verb : List ℕ) (front old : List Placed) (line : Line Placed)
+    (suffix : Option (List ℕ)) (arguments : List Placed) → IsFront block verb front
     → line ≡ Entry (front ++ old) suffix → with_arguments arguments block line ≡ Entry (front ++ arguments) suffix
 all-arguments None verb front old line suffix arguments at is = rw (is, at.1) refl
 all-arguments (Some v) verb front old line suffix arguments at is = rw (is, at.0) refl
@@ -193,7 +209,8 @@ one-argument [] v e = absurd cc
 one-argument (a ∷ []) v e = (a, refl)
 one-argument (a ∷ b ∷ words) v e = absurd cc
 
-pub two-arguments : (words : List Placed) (p : ModuleVersion) → pair_of (words_of words) ≡ Some p → (a b : Placed) × (words ≡ a ∷ b ∷ []) × (argument a.word ≡ Some p.0)
+pub two-arguments : (words : List Placed) (p : ModuleVersion) → pair_of (words_of words) ≡ Some p
+    → (a b : Placed) × (words ≡ a ∷ b ∷ []) × (argument a.word ≡ Some p.0)
 two-arguments [] p e = absurd cc
 two-arguments (a ∷ []) p e = absurd cc
 two-arguments (a ∷ b ∷ []) p e =
@@ -221,7 +238,8 @@ two-are a path value word is plain = record {
 }
 
 -- a new path before other words
-pub begins-path : (path : List ℕ) (more : List Placed) → HasNoLineFeed path → AllByRecursion IsWord (words_of more) → ends_open (words_of (made_word path ∷ more)) ≡ false
+pub begins-path : (path : List ℕ) (more : List Placed) → HasNoLineFeed path → AllByRecursion IsWord (words_of more)
+    → ends_open (words_of (made_word path ∷ more)) ≡ false
     → is_empty_block (words_of (made_word path ∷ more)) ≡ false → AreArguments (made_word path ∷ more)
 begins-path path more plain words opens filled =
     record { words = (made-stands path plain, words); filled = omega arith; opens_nothing = opens; closes_nothing = made-no-mark 41 path; no_block = filled }

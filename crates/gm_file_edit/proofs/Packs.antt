@@ -46,17 +46,24 @@ pub record IsKeptTo (marks : List Bool) (whole : List (Line Placed)) (n count : 
   pub left : take count lines ++ kept_lines (fates_of (drop n marks) (drop n whole)) ≡ kept_lines (fates_of marks whole)
 
 -- a line that stays is kept, and one that goes is passed over
-left-more : (mark : Bool) (front new : List (Line Placed)) (line : Line Placed) (fates : List Fate) → (mark ≡ true → new ≡ front) → (mark ≡ false → new ≡ front ++ line ∷ []) → new ++ kept_lines fates ≡ front ++ kept_lines (fate_by mark line ∷ fates)
+left-more : (mark : Bool) (front new : List (Line Placed)) (line : Line Placed) (fates : List Fate)
+    → (mark ≡ true → new ≡ front) → (mark ≡ false → new ≡ front ++ line ∷ [])
+    → new ++ kept_lines fates ≡ front ++ kept_lines (fate_by mark line ∷ fates)
 left-more true front new line fates gone stays = ap (λ (ls : List (Line Placed)). ls ++ kept_lines fates) (gone refl)
-left-more false front new line fates gone stays = ap (λ (ls : List (Line Placed)). ls ++ kept_lines fates) (stays refl) ∙ append_assoc front (line ∷ []) (kept_lines fates)
+left-more false front new line fates gone stays = ap (λ (ls : List (Line Placed)). ls ++ kept_lines fates) (stays refl)
+    ∙ append_assoc front (line ∷ []) (kept_lines fates)
 
 pub keep-more : (marks : List Bool) (whole : List (Line Placed)) (n count next : ℕ) (lines new : List (Line Placed)) (mark : Bool)
-    → n < length marks → length marks ≡ length whole → mark ≡ get_or marks n mark → length new ≡ length lines → next ≤ n + 1 → drop (n + 1) new ≡ drop (n + 1) lines
-    → (mark ≡ true → take next new ≡ take count lines) → (mark ≡ false → take next new ≡ take count lines ++ line_at lines n ∷ []) → IsKeptTo marks whole n count lines → IsKeptTo marks whole (n + 1) next new
+    → n < length marks → length marks ≡ length whole → mark ≡ get_or marks n mark → length new ≡ length lines
+    → next ≤ n + 1 → drop (n + 1) new ≡ drop (n + 1) lines
+    → (mark ≡ true → take next new ≡ take count lines) → (mark ≡ false
+    → take next new ≡ take count lines ++ line_at lines n ∷ []) → IsKeptTo marks whole n count lines
+    → IsKeptTo marks whole (n + 1) next new
 keep-more marks whole n count next lines new mark lt even is len bound same gone stays so =
     let c = so.len in
     let there : drop n whole ≡ line_at lines n ∷ drop (n + 1) whole =
-    line-here whole n (omega (arith, lt, even)) ∙ ap (λ (l : Line Placed). l ∷ drop (n + 1) whole) (sym (first-same lines whole n (omega (arith, lt, even, c)) (omega (arith, lt, even)) so.rest)) in
+    line-here whole n (omega (arith, lt, even)) ∙ ap (λ (l : Line Placed). l ∷ drop (n + 1) whole)
+    (sym (first-same lines whole n (omega (arith, lt, even, c)) (omega (arith, lt, even)) so.rest)) in
     let marks_here : drop n marks ≡ mark ∷ drop (n + 1) marks = drop-next marks n mark lt is in
     record {
       len = len ∙ so.len;
@@ -64,7 +71,9 @@ keep-more marks whole n count next lines new mark lt even is len bound same gone
       rest = same ∙ next-rest lines whole n so.rest;
       left =
           left-more mark (take count lines) (take next new) (line_at lines n) (fates_of (drop (n + 1) marks) (drop (n + 1) whole)) gone stays
-          ∙ ap (λ (fs : List Fate). take count lines ++ kept_lines fs) (sym (ap (λ (ms : List Bool). fates_of ms (drop n whole)) marks_here ∙ ap (fates_of (mark ∷ drop (n + 1) marks)) there))
+          ∙ ap (λ (fs : List Fate). take count lines ++ kept_lines fs)
+          (sym (ap (λ (ms : List Bool). fates_of ms (drop n whole)) marks_here
+          ∙ ap (fates_of (mark ∷ drop (n + 1) marks)) there))
           ∙ so.left;
     }
 
@@ -74,18 +83,25 @@ keep-more marks whole n count next lines new mark lt even is len bound same gone
 pub record IsWidenedTo (whole : List (Line Placed)) (old : List Bool) (n : ℕ) (block : Option Bool) (behind : Bool) (marks : List Bool) : Type 0 where
   pub size : length marks ≡ length old
   pub rest : drop n marks ≡ drop n old
-  pub left : fates_of (take n marks) (take n whole) ++ widened_from block behind (fates_of (drop n old) (drop n whole)) ≡ widened_from None false (fates_of old whole)
+  pub left : fates_of (take n marks) (take n whole) ++ widened_from block behind (fates_of (drop n old) (drop n whole))
+      ≡ widened_from None false (fates_of old whole)
 
-marked-more : (front : List Bool) (lines : List (Line Placed)) (mark : Bool) (line : Line Placed) → length front ≡ length lines → fates_of (front ++ mark ∷ []) (lines ++ line ∷ []) ≡ fates_of front lines ++ fate_by mark line ∷ []
+marked-more : (front : List Bool) (lines : List (Line Placed)) (mark : Bool) (line : Line Placed)
+    → length front ≡ length lines → fates_of (front ++ mark ∷ []) (lines ++ line ∷ []) ≡ fates_of front lines
+    ++ fate_by mark line ∷ []
 marked-more [] [] mark line even = refl
 marked-more [] (l ∷ lines) mark line even = absurd (omega (arith, even))
 marked-more (m ∷ front) [] mark line even = absurd (omega (arith, even))
 marked-more (m ∷ front) (l ∷ lines) mark line even = ap (λ (fs : List Fate). fate_by m l ∷ fs) (marked-more front lines mark line (omega (arith, even)))
 
 -- one more line
-widen-more : (whole : List (Line Placed)) (old : List Bool) (n : ℕ) (block next_block : Option Bool) (behind next_behind mark next_mark : Bool) (marks next : List Bool)
-    → length old ≡ length whole → n < length whole → mark ≡ get_or marks n mark → length next ≡ length marks → drop (n + 1) next ≡ drop (n + 1) marks → take (n + 1) next ≡ take n marks ++ next_mark ∷ []
-    → widened_from block behind (fate_by mark (line_at whole n) ∷ fates_of (drop (n + 1) old) (drop (n + 1) whole)) ≡ fate_by next_mark (line_at whole n) ∷ widened_from next_block next_behind (fates_of (drop (n + 1) old) (drop (n + 1) whole))
+widen-more : (whole : List (Line Placed)) (old : List Bool) (n : ℕ) (block next_block : Option Bool)
+    (behind next_behind mark next_mark : Bool) (marks next : List Bool)
+    → length old ≡ length whole → n < length whole → mark ≡ get_or marks n mark → length next ≡ length marks
+    → drop (n + 1) next ≡ drop (n + 1) marks → take (n + 1) next ≡ take n marks ++ next_mark ∷ []
+    → widened_from block behind (fate_by mark (line_at whole n) ∷ fates_of (drop (n + 1) old) (drop (n + 1) whole))
+    ≡ fate_by next_mark (line_at whole n) ∷ widened_from next_block next_behind
+    (fates_of (drop (n + 1) old) (drop (n + 1) whole))
     → IsWidenedTo whole old n block behind marks → IsWidenedTo whole old (n + 1) next_block next_behind next
 widen-more whole old n block next_block behind next_behind mark next_mark marks next even lt is same_size same_rest put step so =
     let line : Line Placed = line_at whole n in
@@ -93,16 +109,23 @@ widen-more whole old n block next_block behind next_behind mark next_mark marks 
     let after : List Fate = widened_from next_block next_behind (fates_of (drop (n + 1) old) (drop (n + 1) whole)) in
     let size = so.size in
     let rest : drop (n + 1) marks ≡ drop (n + 1) old = next-rest marks old n so.rest in
-    let mark_here : drop n old ≡ mark ∷ drop (n + 1) old = sym so.rest ∙ drop-next marks n mark (omega (arith, size, even, lt)) is ∙ ap (λ (ms : List Bool). mark ∷ ms) rest in
-    let taken : length (take n marks) ≡ length (take n whole) = length-take-le n marks (omega (arith, size, even, lt)) ∙ sym (length-take-le n whole (omega (arith, lt))) in
+    let mark_here : drop n old ≡ mark ∷ drop (n + 1) old =
+    sym so.rest ∙ drop-next marks n mark (omega (arith, size, even, lt)) is
+    ∙ ap (λ (ms : List Bool). mark ∷ ms) rest in
+    let taken : length (take n marks) ≡ length (take n whole) =
+    length-take-le n marks (omega (arith, size, even, lt)) ∙ sym (length-take-le n whole (omega (arith, lt))) in
     record {
       size = same_size ∙ size;
       rest = same_rest ∙ rest;
       left =
-          ap (λ (ms : List Bool). fates_of ms (take (n + 1) whole) ++ after) put ∙ ap (λ (ls : List (Line Placed)). fates_of (take n marks ++ next_mark ∷ []) ls ++ after) (take_more whole n Blank lt)
+          ap (λ (ms : List Bool). fates_of ms (take (n + 1) whole) ++ after) put
+          ∙ ap (λ (ls : List (Line Placed)). fates_of (take n marks ++ next_mark ∷ []) ls ++ after)
+          (take_more whole n Blank lt)
           ∙ ap (λ (fs : List Fate). fs ++ after) (marked-more (take n marks) (take n whole) next_mark line taken)
           ∙ append_assoc front (fate_by next_mark line ∷ []) after ∙ ap (λ (fs : List Fate). front ++ fs) (sym step)
-          ∙ ap (λ (fs : List Fate). front ++ widened_from block behind fs) (sym (ap (λ (ms : List Bool). fates_of ms (drop n whole)) mark_here ∙ ap (fates_of (mark ∷ drop (n + 1) old)) (line-here whole n lt)))
+          ∙ ap (λ (fs : List Fate). front ++ widened_from block behind fs)
+          (sym (ap (λ (ms : List Bool). fates_of ms (drop n whole)) mark_here
+          ∙ ap (fates_of (mark ∷ drop (n + 1) old)) (line-here whole n lt)))
           ∙ so.left;
     }
 
@@ -110,28 +133,38 @@ pub rest-of : {X : Type 0} (xs : List X) (n : ℕ) → take (length xs - n) (dro
 rest-of xs n = let rest = length-drop n xs in take_all (length xs - n) (drop n xs) (omega (arith, rest))
 
 -- a line without a mark
-pub widen-line : (whole : List (Line Placed)) (old : List Bool) (n : ℕ) (block next_block : Option Bool) (behind next_behind seen next_mark : Bool) (marks slice : List Bool)
+pub widen-line : (whole : List (Line Placed)) (old : List Bool) (n : ℕ) (block next_block : Option Bool)
+    (behind next_behind seen next_mark : Bool) (marks slice : List Bool)
     → length old ≡ length whole → n < length whole → seen ≡ get_or marks n seen → seen ≡ false → slice ≡ marks
-    → widened_from block behind (Some (line_at whole n) ∷ fates_of (drop (n + 1) slice) (drop (n + 1) whole)) ≡ fate_by next_mark (line_at whole n) ∷ widened_from next_block next_behind (fates_of (drop (n + 1) slice) (drop (n + 1) whole))
+    → widened_from block behind (Some (line_at whole n) ∷ fates_of (drop (n + 1) slice) (drop (n + 1) whole))
+    ≡ fate_by next_mark (line_at whole n) ∷ widened_from next_block next_behind
+    (fates_of (drop (n + 1) slice) (drop (n + 1) whole))
     → IsWidenedTo whole old n block behind marks → IsWidenedTo whole old (n + 1) next_block next_behind (set marks n next_mark)
 widen-line whole old n block next_block behind next_behind seen next_mark marks slice even lt seen_is unmarked same step so =
     let size = so.size in
     let rest : drop (n + 1) slice ≡ drop (n + 1) old = ap (drop (n + 1)) same ∙ next-rest marks old n so.rest in
-    widen-more whole old n block next_block behind next_behind false next_mark marks (set marks n next_mark) even lt (sym unmarked ∙ seen_is ∙ ap (get_or marks n) unmarked) (length-set marks n next_mark)
+    widen-more whole old n block next_block behind next_behind false next_mark marks (set marks n next_mark) even lt
+    (sym unmarked ∙ seen_is ∙ ap (get_or marks n) unmarked) (length-set marks n next_mark)
     (drop-set-lt (n + 1) marks n next_mark (omega arith)) (take_more_set marks n next_mark (omega (arith, size, even, lt)))
-    (subst (λ (ms : List Bool). widened_from block behind (Some (line_at whole n) ∷ fates_of ms (drop (n + 1) whole)) ≡ fate_by next_mark (line_at whole n) ∷ widened_from next_block next_behind (fates_of ms (drop (n + 1) whole))) rest step) so
+    (subst (λ (ms : List Bool). widened_from block behind (Some (line_at whole n) ∷ fates_of ms (drop (n + 1) whole))
+    ≡ fate_by next_mark (line_at whole n) ∷ widened_from next_block next_behind (fates_of ms (drop (n + 1) whole)))
+    rest step) so
 
 -- a line with a mark
 pub widen-marked : (whole : List (Line Placed)) (old : List Bool) (n : ℕ) (block : Option Bool) (behind seen : Bool) (marks : List Bool)
-    → length old ≡ length whole → n < length whole → seen ≡ get_or marks n seen → seen ≡ true → IsWidenedTo whole old n block behind marks → IsWidenedTo whole old (n + 1) block behind marks
+    → length old ≡ length whole → n < length whole → seen ≡ get_or marks n seen → seen ≡ true
+    → IsWidenedTo whole old n block behind marks → IsWidenedTo whole old (n + 1) block behind marks
 widen-marked whole old n block behind seen marks even lt seen_is has_mark so =
     let size = so.size in
     let mark_is : true ≡ get_or marks n true = sym has_mark ∙ seen_is ∙ ap (get_or marks n) has_mark in
-    widen-more whole old n block block behind behind true true marks marks even lt mark_is refl refl (take_more marks n true (omega (arith, size, even, lt)) ∙ ap (λ (m : Bool). take n marks ++ m ∷ []) (sym mark_is)) refl so
+    widen-more whole old n block block behind behind true true marks marks even lt mark_is refl refl
+    (take_more marks n true (omega (arith, size, even, lt))
+    ∙ ap (λ (m : Bool). take n marks ++ m ∷ []) (sym mark_is)) refl so
 
 -- ---- the loop that looks for the end of a block
 
-empties-blank : (lost : Bool) (line : Line Placed) (fates : List Fate) → is_blank_source_line line ≡ true → empties lost (Some line ∷ fates) ≡ empties lost fates
+empties-blank : (lost : Bool) (line : Line Placed) (fates : List Fate) → is_blank_source_line line ≡ true
+    → empties lost (Some line ∷ fates) ≡ empties lost fates
 empties-blank lost Blank fates is = refl
 empties-blank lost (Comment text) fates is = absurd cc
 empties-blank lost (Open verb suffix) fates is = absurd cc
@@ -139,24 +172,30 @@ empties-blank lost (Close suffix) fates is = absurd cc
 empties-blank lost (Entry words suffix) fates is = absurd cc
 
 -- the fates from an index on begin with that of the line there
-fates-here : (marks : List Bool) (lines : List (Line Placed)) (n : ℕ) (mark : Bool) → length marks ≡ length lines → n < length lines → get_or marks n false ≡ mark
+fates-here : (marks : List Bool) (lines : List (Line Placed)) (n : ℕ) (mark : Bool) → length marks ≡ length lines
+    → n < length lines → get_or marks n false ≡ mark
     → fates_of (drop n marks) (drop n lines) ≡ fate_by mark (line_at lines n) ∷ fates_of (drop (n + 1) marks) (drop (n + 1) lines)
 fates-here marks lines n mark even lt is =
     let in_marks : n < length marks = omega (arith, even, lt) in
     ap (λ (ms : List Bool). fates_of ms (drop n lines)) (drop-next marks n mark in_marks (sym is ∙ get_or_default marks n false mark in_marks))
     ∙ ap (fates_of (mark ∷ drop (n + 1) marks)) (line-here lines n lt)
 
-pub look-marked : (marks : List Bool) (lines : List (Line Placed)) (n : ℕ) (lost : Bool) → length marks ≡ length lines → n < length lines → get_or marks n false ≡ true
+pub look-marked : (marks : List Bool) (lines : List (Line Placed)) (n : ℕ) (lost : Bool) → length marks ≡ length lines
+    → n < length lines → get_or marks n false ≡ true
     → empties lost (fates_of (drop n marks) (drop n lines)) ≡ empties true (fates_of (drop (n + 1) marks) (drop (n + 1) lines))
 look-marked marks lines n lost even lt is = ap (empties lost) (fates-here marks lines n true even lt is)
 
-pub look-blank : (marks : List Bool) (lines : List (Line Placed)) (n : ℕ) (lost : Bool) → length marks ≡ length lines → n < length lines → get_or marks n false ≡ false
-    → is_blank_source_line (line_at lines n) ≡ true → empties lost (fates_of (drop n marks) (drop n lines)) ≡ empties lost (fates_of (drop (n + 1) marks) (drop (n + 1) lines))
-look-blank marks lines n lost even lt is blank = ap (empties lost) (fates-here marks lines n false even lt is) ∙ empties-blank lost (line_at lines n) (fates_of (drop (n + 1) marks) (drop (n + 1) lines)) blank
+pub look-blank : (marks : List Bool) (lines : List (Line Placed)) (n : ℕ) (lost : Bool) → length marks ≡ length lines
+    → n < length lines → get_or marks n false ≡ false
+    → is_blank_source_line (line_at lines n) ≡ true → empties lost (fates_of (drop n marks) (drop n lines))
+    ≡ empties lost (fates_of (drop (n + 1) marks) (drop (n + 1) lines))
+look-blank marks lines n lost even lt is blank = ap (empties lost) (fates-here marks lines n false even lt is)
+    ∙ empties-blank lost (line_at lines n) (fates_of (drop (n + 1) marks) (drop (n + 1) lines)) blank
 
 -- ---- no line with a mark
 
-none-marked : (marks : List Bool) (lines : List (Line Placed)) → length marks ≡ length lines → list_any (λ mark. mark) marks ≡ false → fates_of marks lines ≡ all_stay lines
+none-marked : (marks : List Bool) (lines : List (Line Placed)) → length marks ≡ length lines
+    → list_any (λ mark. mark) marks ≡ false → fates_of marks lines ≡ all_stay lines
 none-marked [] [] even none = refl
 none-marked [] (line ∷ lines) even none = absurd (omega (arith, even))
 none-marked (mark ∷ marks) [] even none = absurd (omega (arith, even))
@@ -167,7 +206,8 @@ kept-all : (lines : List (Line Placed)) → kept_lines (all_stay lines) ≡ line
 kept-all [] = refl
 kept-all (line ∷ lines) = ap (λ (ls : List (Line Placed)). line ∷ ls) (kept-all lines)
 
-pub all-kept : (marks : List Bool) (lines : List (Line Placed)) → length marks ≡ length lines → list_any (λ mark. mark) marks ≡ false → lines ≡ remaining (fates_of marks lines)
+pub all-kept : (marks : List Bool) (lines : List (Line Placed)) → length marks ≡ length lines
+    → list_any (λ mark. mark) marks ≡ false → lines ≡ remaining (fates_of marks lines)
 all-kept marks lines even none = sym (ap remaining (none-marked marks lines even none) ∙ all-lines-stay lines)
 
 -- ---- one line with a mark
@@ -186,7 +226,8 @@ first-is (false ∷ marks) =
     ap (λ (n : ℕ). length (take n (false ∷ marks))) more ∙ ap suc (first-is marks)
 
 -- if no line after the first with a mark has one, that line alone goes
-pub one-removed : (marks : List Bool) (lines : List (Line Placed)) → length marks ≡ length lines → first_of marks < length marks → list_any (λ mark. mark) (drop (suc (first_of marks)) marks) ≡ false
+pub one-removed : (marks : List Bool) (lines : List (Line Placed)) → length marks ≡ length lines
+    → first_of marks < length marks → list_any (λ mark. mark) (drop (suc (first_of marks)) marks) ≡ false
     → take (first_of marks) lines ++ drop (suc (first_of marks)) lines ≡ kept_lines (fates_of marks lines)
 one-removed [] lines even lt none = absurd (omega (arith, lt))
 one-removed (mark ∷ marks) [] even lt none = absurd (omega (arith, even))
@@ -194,16 +235,24 @@ one-removed (true ∷ marks) (line ∷ lines) even lt none = sym (ap kept_lines 
 one-removed (false ∷ marks) (line ∷ lines) even lt none =
     ap (λ (ls : List (Line Placed)). line ∷ ls) (one-removed marks lines (omega (arith, even)) (omega (arith, lt)) none)
 
-pub removed-is : (marks : List Bool) (lines : List (Line Placed)) (n : ℕ) → length marks ≡ length lines → n ≡ length (take_while (λ mark. not mark) marks) → n < length marks
-    → list_any (λ mark. mark) (take (length marks - (n + 1)) (drop (n + 1) marks)) ≡ false → take n lines ++ drop (n + 1) lines ≡ kept_lines (fates_of marks lines)
+pub removed-is : (marks : List Bool) (lines : List (Line Placed)) (n : ℕ) → length marks ≡ length lines
+    → n ≡ length (take_while (λ mark. not mark) marks) → n < length marks
+    → list_any (λ mark. mark) (take (length marks - (n + 1)) (drop (n + 1) marks)) ≡ false
+    → take n lines ++ drop (n + 1) lines ≡ kept_lines (fates_of marks lines)
 removed-is marks lines n even is lt none =
     let first : n ≡ first_of marks = is ∙ first-is marks in
     let next : n + 1 ≡ suc (first_of marks) = omega (arith, first) in
-    let rest : list_any (λ mark. mark) (drop (suc (first_of marks)) marks) ≡ false = ap (λ (k : ℕ). list_any (λ mark. mark) (drop k marks)) (sym next) ∙ ap (list_any (λ mark. mark)) (sym (rest-of marks (n + 1))) ∙ none in
-    ap (λ (k : ℕ). take k lines ++ drop (n + 1) lines) first ∙ ap (λ (k : ℕ). take (first_of marks) lines ++ drop k lines) next ∙ one-removed marks lines even (omega (arith, first, lt)) rest
+    let rest : list_any (λ mark. mark) (drop (suc (first_of marks)) marks) ≡ false =
+    ap (λ (k : ℕ). list_any (λ mark. mark) (drop k marks)) (sym next)
+    ∙ ap (list_any (λ mark. mark)) (sym (rest-of marks (n + 1))) ∙ none in
+    ap (λ (k : ℕ). take k lines ++ drop (n + 1) lines) first
+    ∙ ap (λ (k : ℕ). take (first_of marks) lines ++ drop k lines) next
+    ∙ one-removed marks lines even (omega (arith, first, lt)) rest
 
 -- ---- all of it
 
-pub pack-is : (marks widened slice : List Bool) (lines : List (Line Placed)) → slice ≡ widened → fates_of widened lines ≡ widened_from None false (fates_of marks lines) → kept_lines (fates_of slice lines) ≡ remaining (fates_of marks lines)
+pub pack-is : (marks widened slice : List Bool) (lines : List (Line Placed)) → slice ≡ widened
+    → fates_of widened lines ≡ widened_from None false (fates_of marks lines)
+    → kept_lines (fates_of slice lines) ≡ remaining (fates_of marks lines)
 unfolding remaining
 pack-is marks widened slice lines same are = ap (λ (ms : List Bool). kept_lines (fates_of ms lines)) same ∙ ap kept_lines are

@@ -34,8 +34,10 @@ held_in seats = filter_map held_at seats
 abbrev pub held_from : Option Placed → List (Line Placed) → List Directive
 held_from block lines = held_in (with_blocks_from block lines)
 
-pub held-append : (block : Option Placed) (front back : List (Line Placed)) → held_from block (front ++ back) ≡ held_from block front ++ held_from (block_after_lines block front) back
-held-append block front back = ap held_in (with_blocks-snoc block front back) ∙ filter_map-append held_at (with_blocks_from block front) (with_blocks_from (block_after_lines block front) back)
+pub held-append : (block : Option Placed) (front back : List (Line Placed))
+    → held_from block (front ++ back) ≡ held_from block front ++ held_from (block_after_lines block front) back
+held-append block front back = ap held_in (with_blocks-snoc block front back)
+    ∙ filter_map-append held_at (with_blocks_from block front) (with_blocks_from (block_after_lines block front) back)
 
 -- a line can be in its place and has no fault by itself
 abbrev pub IsRightLine : Seat → Type 0
@@ -58,14 +60,16 @@ pub record IsSound (lines : List (Line Placed)) : Type 0 where
 
 -- ---- the same as a document without a fault
 
-pub block-plain : (block : Option Placed) (line : Line Placed) → block_after_line (option_map word_of block) (plain line) ≡ option_map word_of (block_after_line block line)
+pub block-plain : (block : Option Placed) (line : Line Placed)
+    → block_after_line (option_map word_of block) (plain line) ≡ option_map word_of (block_after_line block line)
 block-plain block Blank = refl
 block-plain block (Comment text) = refl
 block-plain block (Open verb suffix) = refl
 block-plain block (Close suffix) = refl
 block-plain block (Entry words suffix) = refl
 
-inside-plain : (inside : Bool) (block : Option Placed) (line : Line Placed) → inside ≡ is_some block → inside_after inside (plain line) ≡ is_some (block_after_line block line)
+inside-plain : (inside : Bool) (block : Option Placed) (line : Line Placed) → inside ≡ is_some block
+    → inside_after inside (plain line) ≡ is_some (block_after_line block line)
 inside-plain inside block Blank e = e
 inside-plain inside block (Comment text) e = e
 inside-plain inside block (Open verb suffix) e = refl
@@ -79,17 +83,21 @@ no-block (Some t) e = absurd cc
 abbrev AreAlone : Option Word → List (Line Word) → Type 0
 AreAlone block lines = AllByRecursion IsRightAlone (with_blocks_from block lines)
 
-plain-held : (block : Option Placed) (lines : List (Line Placed)) → filter_map (directive_said Strict) (with_blocks_from (option_map word_of block) (plain_lines lines)) ≡ held_in (with_blocks_from block lines)
+plain-held : (block : Option Placed) (lines : List (Line Placed))
+    → filter_map (directive_said Strict) (with_blocks_from (option_map word_of block) (plain_lines lines))
+    ≡ held_in (with_blocks_from block lines)
 plain-held block [] = refl
 plain-held block (line ∷ lines) =
-    ap (λ (b : Option Word). cons_option (directive_at block line) (filter_map (directive_said Strict) (with_blocks_from b (plain_lines lines)))) (block-plain block line)
+    ap (λ (b : Option Word). cons_option (directive_at block line)
+    (filter_map (directive_said Strict) (with_blocks_from b (plain_lines lines)))) (block-plain block line)
     ∙ ap (cons_option (directive_at block line)) (plain-held (block_after_line block line) lines)
 
 -- the directives of a file
 pub file-held : (lines : List (Line Placed)) → directives Strict (plain_lines lines) ≡ held_from None lines
 file-held lines = plain-held None lines
 
-right-lines : (inside : Bool) (block : Option Placed) (lines : List (Line Placed)) → inside ≡ is_some block → AreValidFrom inside (plain_lines lines) → inside_after_all inside (plain_lines lines) ≡ false
+right-lines : (inside : Bool) (block : Option Placed) (lines : List (Line Placed)) → inside ≡ is_some block
+    → AreValidFrom inside (plain_lines lines) → inside_after_all inside (plain_lines lines) ≡ false
     → AreAlone (option_map word_of block) (plain_lines lines) → AreRightFrom block lines × (block_after_lines block lines ≡ None)
 right-lines inside block [] at stand ends alone = (tt, no-block block (sym at ∙ ends))
 right-lines inside block (line ∷ lines) at stand ends alone =
@@ -97,8 +105,10 @@ right-lines inside block (line ∷ lines) at stand ends alone =
     (subst (λ (b : Option Word). AreAlone b (plain_lines lines)) (block-plain block line) alone.1) in
     (((subst (λ (b : Bool). IsValidLine b (plain line)) at stand.0, alone.0), rest.0), rest.1)
 
-lines-right : (inside : Bool) (block : Option Placed) (lines : List (Line Placed)) → inside ≡ is_some block → AreRightFrom block lines → block_after_lines block lines ≡ None
-    → (AreValidFrom inside (plain_lines lines) × (inside_after_all inside (plain_lines lines) ≡ false)) × AreAlone (option_map word_of block) (plain_lines lines)
+lines-right : (inside : Bool) (block : Option Placed) (lines : List (Line Placed)) → inside ≡ is_some block
+    → AreRightFrom block lines → block_after_lines block lines ≡ None
+    → (AreValidFrom inside (plain_lines lines) × (inside_after_all inside (plain_lines lines) ≡ false))
+    × AreAlone (option_map word_of block) (plain_lines lines)
 lines-right inside block [] at right closed = ((tt, at ∙ ap is_some closed), tt)
 lines-right inside block (line ∷ lines) at right closed =
     let rest = lines-right (inside_after inside (plain line)) (block_after_line block line) lines (inside-plain inside block line at) right.1 closed in (
@@ -134,11 +144,13 @@ sound-document lines sound =
 
 -- ---- a line that is put in
 
-right-with : (xs : List Seat) (seat : Seat) (ys : List Seat) → IsRightLine seat → AllByRecursion IsRightLine (xs ++ ys) → AllByRecursion IsRightLine (xs ++ seat ∷ ys)
+right-with : (xs : List Seat) (seat : Seat) (ys : List Seat) → IsRightLine seat → AllByRecursion IsRightLine (xs ++ ys)
+    → AllByRecursion IsRightLine (xs ++ seat ∷ ys)
 right-with [] seat ys right all = (right, all)
 right-with (x ∷ xs) seat ys right all = (all.0, right-with xs seat ys right all.1)
 
-any-with : (p : Directive → Bool) (xs : List Directive) (o : Option Directive) (ys : List Directive) → list_any p (xs ++ ys) ≡ true → list_any p (xs ++ cons_option o ys) ≡ true
+any-with : (p : Directive → Bool) (xs : List Directive) (o : Option Directive) (ys : List Directive)
+    → list_any p (xs ++ ys) ≡ true → list_any p (xs ++ cons_option o ys) ≡ true
 any-with p xs None ys some = some
 any-with p [] (Some d) ys some = or_right (p d) (list_any p ys) some
 any-with p (x ∷ xs) (Some d) ys some = elim (or_cases (p x) (list_any p (xs ++ ys)) some) [
@@ -151,23 +163,28 @@ apart-put xs None ys clear apart = apart
 apart-put xs (Some d) ys clear apart = apart-with xs d ys clear apart
 
 -- the lines before and after a place, and one more there
-pub with-line : (xs : List Seat) (seat : Seat) (ys : List Seat) → IsRightLine seat → IsClear (held_at seat) (held_in xs ++ held_in ys) → AreSound (xs ++ ys) → AreSound (xs ++ seat ∷ ys)
+pub with-line : (xs : List Seat) (seat : Seat) (ys : List Seat) → IsRightLine seat
+    → IsClear (held_at seat) (held_in xs ++ held_in ys) → AreSound (xs ++ ys) → AreSound (xs ++ seat ∷ ys)
 with-line xs seat ys right clear are =
     let without : held_in (xs ++ ys) ≡ held_in xs ++ held_in ys = filter_map-append held_at xs ys in
     let whole : held_in xs ++ cons_option (held_at seat) (held_in ys) ≡ held_in (xs ++ seat ∷ ys) = sym (filter_map-append held_at xs (seat ∷ ys)) in
     record {
       right = right-with xs seat ys right are.right;
       apart = subst AreApart whole (apart-put (held_in xs) (held_at seat) (held_in ys) clear (subst AreApart without are.apart));
-      declared = sym (ap (list_any is_module) whole) ∙ any-with is_module (held_in xs) (held_at seat) (held_in ys) (sym (ap (list_any is_module) without) ∙ are.declared);
+      declared = sym (ap (list_any is_module) whole) ∙ any-with is_module (held_in xs) (held_at seat) (held_in ys)
+          (sym (ap (list_any is_module) without) ∙ are.declared);
     }
 
-pub block-append : (block : Option Placed) (front back : List (Line Placed)) → block_after_lines block (front ++ back) ≡ block_after_lines (block_after_lines block front) back
+pub block-append : (block : Option Placed) (front back : List (Line Placed))
+    → block_after_lines block (front ++ back) ≡ block_after_lines (block_after_lines block front) back
 block-append block [] back = refl
 block-append block (line ∷ front) back = block-append (block_after_line block line) front back
 
 -- a line that leaves the open block open, between the lines of a file
-pub put-line : (front back : List (Line Placed)) (line : Line Placed) → IsRightLine (block_after_lines None front, line) → block_after_line (block_after_lines None front) line ≡ block_after_lines None front
-    → IsClear (directive_at (block_after_lines None front) line) (held_in (with_blocks (front ++ back))) → IsSound (front ++ back) → IsSound (front ++ line ∷ back)
+pub put-line : (front back : List (Line Placed)) (line : Line Placed) → IsRightLine (block_after_lines None front, line)
+    → block_after_line (block_after_lines None front) line ≡ block_after_lines None front
+    → IsClear (directive_at (block_after_lines None front) line) (held_in (with_blocks (front ++ back)))
+    → IsSound (front ++ back) → IsSound (front ++ line ∷ back)
 put-line front back line right level clear sound =
     let block : Option Placed = block_after_lines None front in
     let xs : List Seat = with_blocks_from None front in
@@ -178,5 +195,6 @@ put-line front back line right level clear sound =
     record {
       lines_are = subst AreSound new (with-line xs (block, line) ys right
           (subst (IsClear (directive_at block line)) (ap held_in old ∙ filter_map-append held_at xs ys) clear) (subst AreSound old sound.lines_are));
-      closed = block-append None front (line ∷ back) ∙ ap (λ (b : Option Placed). block_after_lines b back) level ∙ sym (block-append None front back) ∙ sound.closed;
+      closed = block-append None front (line ∷ back) ∙ ap (λ (b : Option Placed). block_after_lines b back) level
+          ∙ sym (block-append None front back) ∙ sound.closed;
     }

@@ -36,7 +36,8 @@ verb-inside None = refl
 verb-inside (Some word) = refl
 
 -- the key of a line says whether the line is an entry of the verb
-entry-said : (own : Verb) → IsKnown own → (block : Option Placed) (line : Line Placed) → verb_eq own (entry_verb (block_verb block) (key_of line)) ≡ is_entry_of own (item_of block line)
+entry-said : (own : Verb) → IsKnown own → (block : Option Placed) (line : Line Placed)
+    → verb_eq own (entry_verb (block_verb block) (key_of line)) ≡ is_entry_of own (item_of block line)
 unfolding item_at
 entry-said own is None Blank = is
 entry-said own is (Some word) Blank = is
@@ -56,11 +57,14 @@ entry-said own is None (Entry (word ∷ words) suffix) = elim (cases_Bool (is_em
 -- ---- lines that an operation targets
 
 -- an entry that an operation targets has the operation's verb and texts
-held : (edit : Edit) (verb : Verb) (words : List Word) (o : Option Directive) → directive_of verb words ≡ o → passes (about edit) o ≡ true → (verb_eq (target_verb edit) verb ≡ true) × AreValuesIn (target_texts edit) words
+held : (edit : Edit) (verb : Verb) (words : List Word) (o : Option Directive) → directive_of verb words ≡ o
+    → passes (about edit) o ≡ true → (verb_eq (target_verb edit) verb ≡ true) × AreValuesIn (target_texts edit) words
 held edit verb words None says hit = absurd cc
 held edit verb words (Some d) says hit =
-    let same : verb ≡ target_verb edit = sym (directive-verb verb words d says) ∙ about-verb edit d hit in
-    (ap (verb_eq (target_verb edit)) same ∙ verb-itself (target_verb edit), target-has edit words d (ap (λ (v : Verb). directive_of v words) (sym same) ∙ says) hit)
+    let same : verb ≡ target_verb edit = sym (directive-verb verb words d says) ∙ about-verb edit d hit in (
+      ap (verb_eq (target_verb edit)) same ∙ verb-itself (target_verb edit),
+      target-has edit words d (ap (λ (v : Verb). directive_of v words) (sym same) ∙ says) hit,
+    )
 
 -- so no line that it targets is passed over
 pub record MayHold (edit : Edit) (block : Option Placed) (line : Line Placed) : Type 0 where
@@ -87,14 +91,17 @@ never-passed edit None (Entry (word ∷ words) suffix) hit = elim (cases_Bool (i
   | inr full ↦
       let texts = target_texts edit in
       let is = held edit (main_verb word.word.spelling) (words_of words) _ refl (rw full at hit) in
-      let are : AreValuesIn texts (word.word ∷ words_of words) = (behind texts.0 word.word (words_of words) is.1.0, behind texts.1 word.word (words_of words) is.1.1) in
+      let are : AreValuesIn texts (word.word ∷ words_of words) =
+      (behind texts.0 word.word (words_of words) is.1.0, behind texts.1 word.word (words_of words) is.1.1) in
       record { verb = rw full is.0; bits = values-have 0 texts (word.word ∷ words_of words) are; texts = are }
 ]
 
 -- the code's test of the verb passes such a line
-pub verb-passes : (edit : Edit) (block : Option Placed) (line : Line Placed) (own : Verb) (inner : Option Verb) (key : Key) (found : Bool) → (IsKnown own → found ≡ verb_eq own (entry_verb inner key))
+pub verb-passes : (edit : Edit) (block : Option Placed) (line : Line Placed) (own : Verb) (inner : Option Verb)
+    (key : Key) (found : Bool) → (IsKnown own → found ≡ verb_eq own (entry_verb inner key))
     → own ≡ target_verb edit → inner ≡ block_verb block → key ≡ key_of line → MayHold edit block line → found ≡ true
-verb-passes edit block line own inner key found tells own_is inner_is key_is may = tells (ap (λ (v : Verb). verb_eq v Unknown) own_is ∙ target-known edit) ∙ rw (own_is, inner_is, key_is) may.verb
+verb-passes edit block line own inner key found tells own_is inner_is key_is may =
+    tells (ap (λ (v : Verb). verb_eq v Unknown) own_is ∙ target-known edit) ∙ rw (own_is, inner_is, key_is) may.verb
 
 -- ---- lines that a loop walks over by their keys
 
@@ -104,13 +111,17 @@ IsVerbTo whole n verb = verb ≡ block_verb (block_after_lines None (take n whol
 
 -- the block after one more line, and its verb
 abbrev pub StepsVerb : Option Verb → Key → Option Verb → Type 0
-StepsVerb verb key next = (block : Option Placed) (line : Line Placed) → verb ≡ block_verb block → key ≡ key_of line → next ≡ block_verb (block_after_line block line)
+StepsVerb verb key next = (block : Option Placed) (line : Line Placed) → verb ≡ block_verb block → key ≡ key_of line
+    → next ≡ block_verb (block_after_line block line)
 
-pub verb-more : (whole : List (Line Placed)) (n : ℕ) (verb next : Option Verb) (key : Key) → n < length whole → key ≡ key_of (line_at whole n) → StepsVerb verb key next → IsVerbTo whole n verb → IsVerbTo whole (n + 1) next
-verb-more whole n verb next key lt is step so = step (block_after_lines None (take n whole)) (line_at whole n) so is ∙ ap block_verb (sym (block-next whole n lt))
+pub verb-more : (whole : List (Line Placed)) (n : ℕ) (verb next : Option Verb) (key : Key) → n < length whole
+    → key ≡ key_of (line_at whole n) → StepsVerb verb key next → IsVerbTo whole n verb → IsVerbTo whole (n + 1) next
+verb-more whole n verb next key lt is step so = step (block_after_lines None (take n whole)) (line_at whole n) so is
+    ∙ ap block_verb (sym (block-next whole n lt))
 
 -- the key of a line of a valid file says whether the line holds a directive of the verb
-pub key-tells : (own : Verb) (whole : List (Line Placed)) (n : ℕ) (verb : Option Verb) (key : Key) → IsKnown own → IsSound whole → n < length whole → key ≡ key_of (line_at whole n) → IsVerbTo whole n verb
+pub key-tells : (own : Verb) (whole : List (Line Placed)) (n : ℕ) (verb : Option Verb) (key : Key) → IsKnown own
+    → IsSound whole → n < length whole → key ≡ key_of (line_at whole n) → IsVerbTo whole n verb
     → verb_eq own (entry_verb verb key) ≡ passes (is_of_verb own) (directive_at (block_after_lines None (take n whole)) (line_at whole n))
 key-tells own whole n verb key known sound lt is so =
     let block : Option Placed = block_after_lines None (take n whole) in

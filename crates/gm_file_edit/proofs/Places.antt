@@ -55,7 +55,8 @@ plain-loose (Entry words suffix) = ap (λ (ws : List Word). Entry ws suffix) (wo
 
 plain_lines-loose : (lines : List (Line Placed)) → plain_lines (loose_lines lines) ≡ plain_lines lines
 plain_lines-loose [] = refl
-plain_lines-loose (line ∷ lines) = ap (λ (l : Line Word). l ∷ plain_lines (loose_lines lines)) (plain-loose line) ∙ ap (λ (ls : List (Line Word)). plain line ∷ ls) (plain_lines-loose lines)
+plain_lines-loose (line ∷ lines) = ap (λ (l : Line Word). l ∷ plain_lines (loose_lines lines)) (plain-loose line)
+    ∙ ap (λ (ls : List (Line Word)). plain line ∷ ls) (plain_lines-loose lines)
 
 -- removing positions is the same as placing the bare words anew, without a position
 words-again : (words : List Placed) → map loose words ≡ map unplaced_word (map (λ (t : Placed). t.word) words)
@@ -72,10 +73,12 @@ line-again (Entry words suffix) = ap (λ (ts : List Placed). Entry ts suffix) (w
 lines-again : (lines : List (Line Placed)) → loose_lines lines ≡ map (λ (l : Line Word). map_line unplaced_word l) (plain_lines lines)
 lines-again [] = refl
 lines-again (line ∷ lines) =
-    ap (λ (l : Line Placed). l ∷ loose_lines lines) (line-again line) ∙ ap (λ (ls : List (Line Placed)). map_line unplaced_word (plain line) ∷ ls) (lines-again lines)
+    ap (λ (l : Line Placed). l ∷ loose_lines lines) (line-again line)
+    ∙ ap (λ (ls : List (Line Placed)). map_line unplaced_word (plain line) ∷ ls) (lines-again lines)
 
 same-loose : (lines others : List (Line Placed)) → plain_lines lines ≡ plain_lines others → loose_lines lines ≡ loose_lines others
-same-loose lines others e = lines-again lines ∙ ap (λ (ls : List (Line Word)). map (λ (l : Line Word). map_line unplaced_word l) ls) e ∙ sym (lines-again others)
+same-loose lines others e = lines-again lines ∙ ap (λ (ls : List (Line Word)).
+    map (λ (l : Line Word). map_line unplaced_word l) ls) e ∙ sym (lines-again others)
 
 -- ---- what a line holds
 
@@ -100,7 +103,8 @@ held-loose block line =
     ap (λ (b : Option Word). directive_in Strict (item_at (b, plain (loose_line line)))) (block-word block)
     ∙ ap (λ (l : Line Word). directive_in Strict (item_at (option_map word_of block, l))) (plain-loose line)
 
-passes-loose : (test : Directive → Bool) (block : Option Placed) (line : Line Placed) → passes test (directive_at (loose_block block) (loose_line line)) ≡ passes test (directive_at block line)
+passes-loose : (test : Directive → Bool) (block : Option Placed) (line : Line Placed)
+    → passes test (directive_at (loose_block block) (loose_line line)) ≡ passes test (directive_at block line)
 passes-loose test block line = ap (passes test) (held-loose block line)
 
 behind-loose : (block : Option Placed) (line : Line Placed) → block_after_line (loose_block block) (loose_line line) ≡ loose_block (block_after_line block line)
@@ -110,7 +114,8 @@ behind-loose block (Open verb suffix) = refl
 behind-loose block (Close suffix) = refl
 behind-loose block (Entry words suffix) = refl
 
-there-loose : (test : Directive → Bool) (block : Option Placed) (lines : List (Line Placed)) → is_there test (loose_block block) (loose_lines lines) ≡ is_there test block lines
+there-loose : (test : Directive → Bool) (block : Option Placed) (lines : List (Line Placed))
+    → is_there test (loose_block block) (loose_lines lines) ≡ is_there test block lines
 there-loose test block [] = refl
 there-loose test block (line ∷ lines) = rw (passes-loose test block line, behind-loose block line, there-loose test (block_after_line block line) lines) refl
 
@@ -120,7 +125,8 @@ fate-loose : (mark : Bool) (line : Line Placed) → fate_by mark (loose_line lin
 fate-loose true line = refl
 fate-loose false line = refl
 
-dropping-loose : (test : Directive → Bool) (block : Option Placed) (lines : List (Line Placed)) → dropping_from test (loose_block block) (loose_lines lines) ≡ loose_fates (dropping_from test block lines)
+dropping-loose : (test : Directive → Bool) (block : Option Placed) (lines : List (Line Placed))
+    → dropping_from test (loose_block block) (loose_lines lines) ≡ loose_fates (dropping_from test block lines)
 dropping-loose test block [] = refl
 dropping-loose test block (line ∷ lines) =
     rw (passes-loose test block line, behind-loose block line, dropping-loose test (block_after_line block line) lines)
@@ -130,13 +136,15 @@ dropping-loose test block (line ∷ lines) =
 abbrev IsBlind : (Option Placed → Line Placed → Line Placed) → Type 0
 IsBlind new = (block : Option Placed) (line : Line Placed) → new (loose_block block) (loose_line line) ≡ loose_line (new block line)
 
-renewing-loose : (test : Directive → Bool) (new : Option Placed → Line Placed → Line Placed) → IsBlind new → (block : Option Placed) (lines : List (Line Placed))
+renewing-loose : (test : Directive → Bool) (new : Option Placed → Line Placed → Line Placed) → IsBlind new
+    → (block : Option Placed) (lines : List (Line Placed))
     → renewing_from test new (loose_block block) (loose_lines lines) ≡ loose_fates (renewing_from test new block lines)
 renewing-loose test new blind block [] = refl
 renewing-loose test new blind block (line ∷ lines) =
     let behind : Option Placed = block_after_line block line in
     rw (passes-loose test block line, behind-loose block line, blind block line, dropping-loose test behind lines, renewing-loose test new blind behind lines)
-    (pushed loose_fates (passes test (directive_at block line)) (Some (new block line) ∷ dropping_from test behind lines) (Some line ∷ renewing_from test new behind lines))
+    (pushed loose_fates (passes test (directive_at block line))
+    (Some (new block line) ∷ dropping_from test behind lines) (Some line ∷ renewing_from test new behind lines))
 
 empties-loose : (lost : Bool) (fates : List Fate) → empties lost (loose_fates fates) ≡ empties lost fates
 empties-loose lost [] = refl
@@ -147,7 +155,8 @@ empties-loose lost (Some (Open verb suffix) ∷ fates) = refl
 empties-loose lost (Some (Close suffix) ∷ fates) = refl
 empties-loose lost (Some (Entry words suffix) ∷ fates) = refl
 
-widened-loose : (block : Option Bool) (behind : Bool) (fates : List Fate) → widened_from block behind (loose_fates fates) ≡ loose_fates (widened_from block behind fates)
+widened-loose : (block : Option Bool) (behind : Bool) (fates : List Fate)
+    → widened_from block behind (loose_fates fates) ≡ loose_fates (widened_from block behind fates)
 widened-loose block behind [] = refl
 widened-loose block behind (None ∷ fates) = ap (λ (fs : List Fate). None ∷ fs) (widened-loose block behind fates)
 widened-loose block behind (Some Blank ∷ fates) = elim (cases_Bool (is_in_gone block || behind)) [
@@ -166,7 +175,8 @@ widened-loose block behind (Some (Close suffix) ∷ fates) = elim (cases_Bool (i
   | inl gone ↦ rw gone (ap (λ (fs : List Fate). None ∷ fs) (widened-loose None true fates))
   | inr stays ↦ rw stays (ap (λ (fs : List Fate). Some (Close suffix) ∷ fs) (widened-loose None false fates))
 ]
-widened-loose block behind (Some (Entry words suffix) ∷ fates) = ap (λ (fs : List Fate). Some (Entry (map loose words) suffix) ∷ fs) (widened-loose block false fates)
+widened-loose block behind (Some (Entry words suffix) ∷ fates) =
+    ap (λ (fs : List Fate). Some (Entry (map loose words) suffix) ∷ fs) (widened-loose block false fates)
 
 kept-loose : (fates : List Fate) → kept_lines (loose_fates fates) ≡ loose_lines (kept_lines fates)
 kept-loose [] = refl
@@ -180,7 +190,9 @@ remaining-loose fates = ap kept_lines (widened-loose None false fates) ∙ kept-
 dropped-loose : (test : Directive → Bool) (lines : List (Line Placed)) → without_targets test (loose_lines lines) ≡ loose_lines (without_targets test lines)
 dropped-loose test lines = ap remaining (dropping-loose test None lines) ∙ remaining-loose (dropping_from test None lines)
 
-renewed-loose : (test : Directive → Bool) (new : Option Placed → Line Placed → Line Placed) → IsBlind new → (lines : List (Line Placed)) → with_renewal test new (loose_lines lines) ≡ loose_lines (with_renewal test new lines)
+renewed-loose : (test : Directive → Bool) (new : Option Placed → Line Placed → Line Placed) → IsBlind new
+    → (lines : List (Line Placed)) → with_renewal test new (loose_lines lines)
+    ≡ loose_lines (with_renewal test new lines)
 renewed-loose test new blind lines = ap remaining (renewing-loose test new blind None lines) ∙ remaining-loose (renewing_from test new None lines)
 
 -- ---- rewritten entries
@@ -239,27 +251,41 @@ interval-are ends = either-are (bytes_eq ends.0 ends.1) _ _ refl refl
 single-loose : (verb : List ℕ) (arguments : List Placed) → AreLoose arguments → loose_line (single verb arguments) ≡ single verb arguments
 single-loose verb arguments are = ap (λ (ws : List Placed). single verb ws) are
 
-entry-loose : (inside : Bool) (verb : List ℕ) (arguments : List Placed) → AreLoose arguments → loose_line (entry_at inside verb arguments) ≡ entry_at inside verb arguments
+entry-loose : (inside : Bool) (verb : List ℕ) (arguments : List Placed) → AreLoose arguments
+    → loose_line (entry_at inside verb arguments) ≡ entry_at inside verb arguments
 entry-loose false verb arguments are = single-loose verb arguments are
 entry-loose true verb arguments are = ap (λ (ws : List Placed). Entry ws None) are
 
-after-last-loose : (test : Directive → Bool) (verb : List ℕ) (arguments : List Placed) → AreLoose arguments → (block : Option Placed) (lines : List (Line Placed))
+after-last-loose : (test : Directive → Bool) (verb : List ℕ) (arguments : List Placed) → AreLoose arguments
+    → (block : Option Placed) (lines : List (Line Placed))
     → after_last_of test verb arguments (loose_block block) (loose_lines lines) ≡ loose_lines (after_last_of test verb arguments block lines)
 after-last-loose test verb arguments are block [] = refl
 after-last-loose test verb arguments are block (line ∷ lines) =
     let behind : Option Placed = block_after_line block line in
     let last : Bool = passes test (directive_at block line) && not (is_there test behind lines) in
     let later : List (Line Placed) = after_last_of test verb arguments behind lines in
-    rw (passes-loose test block line, behind-loose block line, there-loose test behind lines, inside-loose block, after-last-loose test verb arguments are behind lines)
-    (ap (λ (l : Line Placed). if last then loose_line line ∷ l ∷ loose_lines lines else loose_line line ∷ loose_lines later) (sym (entry-loose (is_some block) verb arguments are))
+    rw (
+      passes-loose test block line,
+      behind-loose block line,
+      there-loose test behind lines,
+      inside-loose block,
+      after-last-loose test verb arguments are behind lines,
+    )
+    (ap (λ (l : Line Placed). if last then loose_line line ∷ l ∷ loose_lines lines
+    else loose_line line ∷ loose_lines later) (sym (entry-loose (is_some block) verb arguments are))
     ∙ pushed loose_lines last (line ∷ entry_at (is_some block) verb arguments ∷ lines) (line ∷ later))
 
-added-loose : (verb : List ℕ) (arguments : List Placed) → AreLoose arguments → (lines : List (Line Placed)) → with_addition verb arguments (loose_lines lines) ≡ loose_lines (with_addition verb arguments lines)
+added-loose : (verb : List ℕ) (arguments : List Placed) → AreLoose arguments → (lines : List (Line Placed))
+    → with_addition verb arguments (loose_lines lines) ≡ loose_lines (with_addition verb arguments lines)
 unfolding with_addition
 added-loose verb arguments are lines =
-    chosen loose_lines (is_there (has_verb verb) None (loose_lines lines)) (is_there (has_verb verb) None lines) (after_last_of (has_verb verb) verb arguments None (loose_lines lines)) (loose_lines lines ++ Blank ∷ single verb arguments ∷ [])
-    (after_last_of (has_verb verb) verb arguments None lines) (lines ++ Blank ∷ single verb arguments ∷ []) (there-loose (has_verb verb) None lines) (after-last-loose (has_verb verb) verb arguments are None lines)
-    (ap (λ (l : Line Placed). loose_lines lines ++ Blank ∷ l ∷ []) (sym (single-loose verb arguments are)) ∙ sym (map-append loose_line lines (Blank ∷ single verb arguments ∷ [])))
+    chosen loose_lines (is_there (has_verb verb) None (loose_lines lines)) (is_there (has_verb verb) None lines)
+    (after_last_of (has_verb verb) verb arguments None (loose_lines lines))
+    (loose_lines lines ++ Blank ∷ single verb arguments ∷ [])
+    (after_last_of (has_verb verb) verb arguments None lines) (lines ++ Blank ∷ single verb arguments ∷ [])
+    (there-loose (has_verb verb) None lines) (after-last-loose (has_verb verb) verb arguments are None lines)
+    (ap (λ (l : Line Placed). loose_lines lines ++ Blank ∷ l ∷ []) (sym (single-loose verb arguments are))
+    ∙ sym (map-append loose_line lines (Blank ∷ single verb arguments ∷ [])))
 
 first-new : (new lines : List (Line Placed)) → loose_lines new ≡ new → new ++ loose_lines lines ≡ loose_lines (new ++ lines)
 first-new new lines are = ap (λ (ls : List (Line Placed)). ls ++ loose_lines lines) (sym are) ∙ sym (map-append loose_line new lines)
@@ -272,18 +298,30 @@ closing-loose new (Open verb suffix ∷ lines) are = ap (λ (ls : List (Line Pla
 closing-loose new (Close suffix ∷ lines) are = ap (λ (ls : List (Line Placed)). Close suffix ∷ ls) (first-new new lines are)
 closing-loose new (Entry words suffix ∷ lines) are = ap (λ (ls : List (Line Placed)). Entry (map loose words) suffix ∷ ls) (closing-loose new lines are)
 
-first-of-loose : (test : Directive → Bool) (new : List (Line Placed)) → loose_lines new ≡ new → (block : Option Placed) (lines : List (Line Placed)) → after_first_of test new (loose_block block) (loose_lines lines) ≡ loose_lines (after_first_of test new block lines)
+first-of-loose : (test : Directive → Bool) (new : List (Line Placed)) → loose_lines new ≡ new
+    → (block : Option Placed) (lines : List (Line Placed))
+    → after_first_of test new (loose_block block) (loose_lines lines)
+    ≡ loose_lines (after_first_of test new block lines)
 first-of-loose test new are block [] = sym are
 first-of-loose test new are block (line ∷ lines) =
     let behind : Option Placed = block_after_line block line in
     let later : List (Line Placed) = after_first_of test new behind lines in
     let here : List (Line Placed) = if is_some block then after_closing new lines else new ++ lines in
-    rw (passes-loose test block line, behind-loose block line, inside-loose block, closing-loose new lines are, first-new new lines are, first-of-loose test new are behind lines)
+    rw (
+      passes-loose test block line,
+      behind-loose block line,
+      inside-loose block,
+      closing-loose new lines are,
+      first-new new lines are,
+      first-of-loose test new are behind lines,
+    )
     (ap (λ (ls : List (Line Placed)). loose_line line ∷ ls)
-    (ap (λ (ls : List (Line Placed)). if passes test (directive_at block line) then ls else loose_lines later) (pushed loose_lines (is_some block) (after_closing new lines) (new ++ lines))
+    (ap (λ (ls : List (Line Placed)). if passes test (directive_at block line) then ls else loose_lines later)
+    (pushed loose_lines (is_some block) (after_closing new lines) (new ++ lines))
     ∙ pushed loose_lines (passes test (directive_at block line)) here later))
 
-behind-first-loose : (test : Directive → Bool) (new lines : List (Line Placed)) → loose_lines new ≡ new → after_first_of test new None (loose_lines lines) ≡ loose_lines (after_first_of test new None lines)
+behind-first-loose : (test : Directive → Bool) (new lines : List (Line Placed)) → loose_lines new ≡ new
+    → after_first_of test new None (loose_lines lines) ≡ loose_lines (after_first_of test new None lines)
 behind-first-loose test new lines are = first-of-loose test new are None lines
 
 -- ---- the lines after an operation
@@ -295,7 +333,8 @@ changed-loose (Set (GoIs text)) lines = renewed-loose is_go (with_last text) (la
 changed-loose (Set (RequireAt p)) lines = renewed-loose (requires_path p.0) (with_last p.1) (last-blind p.1) lines
 changed-loose (Drop t) lines = dropped-loose (about (Drop t)) lines
 changed-loose (Add a) lines = refl
-changed-loose (Set (ReplaceWith r)) lines = renewed-loose (is_replaced_by r.0) (with_arguments (replace_words r)) (arguments-blind (replace_words r) (replace-are r)) lines
+changed-loose (Set (ReplaceWith r)) lines = renewed-loose (is_replaced_by r.0) (with_arguments (replace_words r))
+    (arguments-blind (replace_words r) (replace-are r)) lines
 
 put-in-loose : (edit : Edit) (lines : List (Line Placed)) → put_in edit (loose_lines lines) ≡ loose_lines (put_in edit lines)
 unfolding put_in
@@ -310,11 +349,14 @@ put-in-loose (Drop t) lines = refl
 pass-loose : (edit : Edit) (lines : List (Line Placed)) → lines_after edit (loose_lines lines) ≡ loose_lines (lines_after edit lines)
 unfolding lines_after
 pass-loose edit lines =
-    chosen loose_lines (is_there (about edit) None (loose_lines lines)) (is_there (about edit) None lines) (with_change edit (loose_lines lines)) (put_in edit (loose_lines lines)) (with_change edit lines) (put_in edit lines)
+    chosen loose_lines (is_there (about edit) None (loose_lines lines)) (is_there (about edit) None lines)
+    (with_change edit (loose_lines lines)) (put_in edit (loose_lines lines)) (with_change edit lines)
+    (put_in edit lines)
     (there-loose (about edit) None lines) (changed-loose edit lines) (put-in-loose edit lines)
 
 -- an operation gives the same result for lines that differ only in source positions
-pub edited-same : (edit : Edit) (lines others : List (Line Placed)) → plain_lines lines ≡ plain_lines others → plain_lines (lines_after edit lines) ≡ plain_lines (lines_after edit others)
+pub edited-same : (edit : Edit) (lines others : List (Line Placed)) → plain_lines lines ≡ plain_lines others
+    → plain_lines (lines_after edit lines) ≡ plain_lines (lines_after edit others)
 edited-same edit lines others e =
     sym (plain_lines-loose (lines_after edit lines)) ∙ ap plain_lines (sym (pass-loose edit lines))
     ∙ ap (λ (ls : List (Line Placed)). plain_lines (lines_after edit ls)) (same-loose lines others e)

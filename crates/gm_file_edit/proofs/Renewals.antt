@@ -54,8 +54,12 @@ unfolding directive_of
 go-says text plain = rw (made-value text plain) refl
 
 -- a directive of one argument
-one-made : (v : Verb) (make : List ℕ → Directive) → ((words : List Word) → directive_of v words ≡ option_map make (one_of words)) → (text : List ℕ) → HasNoLineFeed text → directive_kinds Strict [] (make text) ≡ []
-    → (block : Option Placed) (line : Line Placed) (d : Directive) → directive_at block line ≡ Some d → verb_of_directive d ≡ v → IsValidLine (is_some block) (plain line) → IsMadeNew (make text) block (with_last text block line)
+one-made : (v : Verb) (make : List ℕ → Directive) → ((words : List Word)
+    → directive_of v words ≡ option_map make (one_of words)) → (text : List ℕ) → HasNoLineFeed text
+    → directive_kinds Strict [] (make text) ≡ []
+    → (block : Option Placed) (line : Line Placed) (d : Directive) → directive_at block line ≡ Some d
+    → verb_of_directive d ≡ v → IsValidLine (is_some block) (plain line)
+    → IsMadeNew (make text) block (with_last text block line)
 one-made v make reads text plain kinds block line d held named stands =
     let by = held-by block line d held in
     let verb : main_verb by.verb ≡ v = sym (directive-verb (main_verb by.verb) (words_of by.arguments) d by.says) ∙ named in
@@ -63,16 +67,20 @@ one-made v make reads text plain kinds block line d held named stands =
     let one = map-some make (one_of (words_of by.arguments)) d (sym (reads (words_of by.arguments)) ∙ said) in
     let a = one-argument by.arguments one.0 one.1 in
     let is : line ≡ Entry (by.front ++ a.0 ∷ []) by.suffix = by.is ∙ ap (λ (ws : List Placed). Entry (by.front ++ ws) by.suffix) a.1 in
-    entry-made (make text) d block line (with_last text block line) by (made_word text ∷ []) (ap (with_last text block) is ∙ last-replaced text block by.front a.0 by.suffix) stands (one-are text plain)
-    (ap (λ (x : Verb). directive_of x (words_of (made_word text ∷ []))) verb ∙ reads (words_of (made_word text ∷ [])) ∙ ap (option_map make) (made-value text plain)) kinds
+    entry-made (make text) d block line (with_last text block line) by (made_word text ∷ [])
+    (ap (with_last text block) is ∙ last-replaced text block by.front a.0 by.suffix) stands (one-are text plain)
+    (ap (λ (x : Verb). directive_of x (words_of (made_word text ∷ []))) verb ∙ reads (words_of (made_word text ∷ []))
+    ∙ ap (option_map make) (made-value text plain)) kinds
 
 module-made : (path : List ℕ) → is_path path ≡ true → Makes is_module (DeclaresModule path) (with_last path)
 unfolding directive_of
-module-made path h = λ block line d held e stands. one-made ForModule DeclaresModule (λ words. refl) path (path-feed path h) (module-kinds path h) block line d held (about-verb (Set (ModuleIs path)) d e) stands
+module-made path h = λ block line d held e stands. one-made ForModule DeclaresModule (λ words. refl) path
+    (path-feed path h) (module-kinds path h) block line d held (about-verb (Set (ModuleIs path)) d e) stands
 
 go-made : (text : List ℕ) → is_some (strict_go text) ≡ true → Makes is_go (DeclaresGo text) (with_last text)
 unfolding directive_of
-go-made text h = λ block line d held e stands. one-made ForGo DeclaresGo (λ words. refl) text (go-feed text h) (go-kinds text h) block line d held (about-verb (Set (GoIs text)) d e) stands
+go-made text h = λ block line d held e stands. one-made ForGo DeclaresGo (λ words. refl) text (go-feed text h)
+    (go-kinds text h) block line d held (about-verb (Set (GoIs text)) d e) stands
 
 -- ---- a requirement
 
@@ -83,7 +91,8 @@ require-kinds : (p : ModuleVersion) → IsPairOfNames p → does_fit p.0 p.1 ≡
 unfolding directive_kinds
 require-kinds p names fit = pair-kinds p names fit
 
-require-says : (a : Placed) (p : ModuleVersion) → argument a.word ≡ Some p.0 → HasNoLineFeed p.1 → directive_of ForRequire (words_of (a ∷ made_word p.1 ∷ [])) ≡ Some (Requires p)
+require-says : (a : Placed) (p : ModuleVersion) → argument a.word ≡ Some p.0 → HasNoLineFeed p.1
+    → directive_of ForRequire (words_of (a ∷ made_word p.1 ∷ [])) ≡ Some (Requires p)
 unfolding directive_of
 require-says a p is plain = rw (is, made-value p.1 plain) refl
 
@@ -92,7 +101,9 @@ unfolding directive_of
 held-pair words p e = let m = map-some Requires (pair_of words) (Requires p) e in let same : m.0 ≡ p = cc in m.1 ∙ ap Some same
 
 -- the words of an existing line are valid words
-kept-word : (block : Option Placed) (verb : List ℕ) (front others : List Placed) (suffix : Option (List ℕ)) (a : Placed) (line : Line Placed) → IsFront block verb front → line ≡ Entry (front ++ a ∷ others) suffix → IsValidLine (is_some block) (plain line) → IsWord a.word
+kept-word : (block : Option Placed) (verb : List ℕ) (front others : List Placed) (suffix : Option (List ℕ)) (a : Placed)
+    (line : Line Placed) → IsFront block verb front → line ≡ Entry (front ++ a ∷ others) suffix
+    → IsValidLine (is_some block) (plain line) → IsWord a.word
 kept-word None verb front others suffix a line at is stands =
     let whole : line ≡ Entry (at.0 ∷ a ∷ others) suffix = is ∙ ap (λ (f : List Placed). Entry (f ++ a ∷ others) suffix) at.1 in
     let entry = standing_entry false (words_of (at.0 ∷ a ∷ others)) suffix (subst (λ (l : Line Placed). IsValidLine false (plain l)) whole stands) in
@@ -102,7 +113,9 @@ kept-word (Some v) verb front others suffix a line at is stands =
     let entry = standing_entry true (words_of (a ∷ others)) suffix (subst (λ (l : Line Placed). IsValidLine true (plain l)) whole stands) in
     entry.are_words.0
 
-require-made : (p : ModuleVersion) → IsPairOfNames p → does_fit p.0 p.1 ≡ true → (block : Option Placed) (line : Line Placed) (d : Directive) → directive_at block line ≡ Some d → requires_path p.0 d ≡ true → IsValidLine (is_some block) (plain line)
+require-made : (p : ModuleVersion) → IsPairOfNames p → does_fit p.0 p.1 ≡ true
+    → (block : Option Placed) (line : Line Placed) (d : Directive) → directive_at block line ≡ Some d
+    → requires_path p.0 d ≡ true → IsValidLine (is_some block) (plain line)
     → IsMadeNew (Requires p) block (with_last p.1 block line)
 require-made p names fit block line (Requires q) held e stands =
     let plain_version = version-feed p.1 names.1 in
@@ -114,8 +127,13 @@ require-made p names fit block line (Requires q) held e stands =
     let is : line ≡ Entry (by.front ++ two.0 ∷ two.1 ∷ []) by.suffix = by.is ∙ ap (λ (ws : List Placed). Entry (by.front ++ ws) by.suffix) two.2 in
     let word : IsWord two.0.word = kept-word block by.verb by.front (two.1 ∷ []) by.suffix two.0 line by.at is stands in
     entry-made (Requires p) (Requires q) block line (with_last p.1 block line) by (two.0 ∷ made_word p.1 ∷ [])
-    (ap (with_last p.1 block) (is ∙ ap (λ (ws : List Placed). Entry ws by.suffix) (sym (append_assoc by.front (two.0 ∷ []) (two.1 ∷ [])))) ∙ last-replaced p.1 block (by.front ++ two.0 ∷ []) two.1 by.suffix
-    ∙ ap (λ (ws : List Placed). Entry ws by.suffix) (append_assoc by.front (two.0 ∷ []) (made_word p.1 ∷ []))) stands (two-are two.0 p.0 p.1 word path plain_version) (subst (λ (v : Verb). directive_of v (words_of (two.0 ∷ made_word p.1 ∷ [])) ≡ Some (Requires p)) (sym verb) (require-says two.0 p path plain_version)) (require-kinds p names fit)
+    (ap (with_last p.1 block) (is ∙ ap (λ (ws : List Placed). Entry ws by.suffix)
+    (sym (append_assoc by.front (two.0 ∷ []) (two.1 ∷ []))))
+    ∙ last-replaced p.1 block (by.front ++ two.0 ∷ []) two.1 by.suffix
+    ∙ ap (λ (ws : List Placed). Entry ws by.suffix) (append_assoc by.front (two.0 ∷ []) (made_word p.1 ∷ []))) stands
+    (two-are two.0 p.0 p.1 word path plain_version) (subst
+    (λ (v : Verb). directive_of v (words_of (two.0 ∷ made_word p.1 ∷ [])) ≡ Some (Requires p)) (sym verb)
+    (require-says two.0 p path plain_version)) (require-kinds p names fit)
 require-made p names fit block line d held e stands = absurd cc
 
 -- ---- a replace
@@ -157,12 +175,15 @@ no-arrow : (value : List ℕ) → is_arrow (new_word value) ≡ false
 no-arrow value = elim (cases_Bool (can_be_bare value)) [ inl e ↦ rw e refl | inr e ↦ rw e refl ]
 
 -- the words before and after the arrow
-arrow-splits : (path : List ℕ) (version : Option (List ℕ)) (rest : List Placed) → (before_first is_arrow (words_of (left_words path version ++ made_mark Arrow ∷ rest)) ≡ words_of (left_words path version))
+arrow-splits : (path : List ℕ) (version : Option (List ℕ)) (rest : List Placed)
+    → (before_first is_arrow (words_of (left_words path version ++ made_mark Arrow ∷ rest))
+    ≡ words_of (left_words path version))
     × (after_first is_arrow (words_of (left_words path version ++ made_mark Arrow ∷ rest)) ≡ words_of rest)
 arrow-splits path None rest = rw (no-arrow path) (refl, refl)
 arrow-splits path (Some version) rest = rw (no-arrow path, no-arrow version) (refl, refl)
 
-left-says : (path : List ℕ) (version : Option (List ℕ)) → is_path path ≡ true → IsSoundVersion version → left_of (words_of (left_words path version)) ≡ Some (record { path = path; version = version })
+left-says : (path : List ℕ) (version : Option (List ℕ)) → is_path path ≡ true → IsSoundVersion version
+    → left_of (words_of (left_words path version)) ≡ Some (record { path = path; version = version })
 left-says path None p v = rw (made-value path (path-feed path p)) refl
 left-says path (Some version) p v = rw (made-value path (path-feed path p), made-value version (version-feed version v)) refl
 
@@ -171,7 +192,8 @@ right-says (Folder text) r = rw (made-value text (byte-feed text r.1), r.0) refl
 right-says (Module q w) r = rw (made-value q (path-feed q r.0), made-value w (version-feed w r.1), path-no-folder q r.0) refl
 
 replace-says-of : (path : List ℕ) (version : Option (List ℕ)) (right : Right) → is_path path ≡ true → IsSoundVersion version → IsSoundRight right
-    → directive_of ForReplace (words_of (left_words path version ++ made_mark Arrow ∷ right_words right)) ≡ Some (Replaces (record { path = path; version = version }, right))
+    → directive_of ForReplace (words_of (left_words path version ++ made_mark Arrow ∷ right_words right))
+    ≡ Some (Replaces (record { path = path; version = version }, right))
 unfolding directive_of
 replace-says-of path version right p v r =
     let parts = arrow-splits path version (right_words right) in
@@ -186,24 +208,38 @@ replace-says r left right = replace-says-of r.0.path r.0.version r.1 left.0 left
 
 replace-are-of : (path : List ℕ) (version : Option (List ℕ)) (right : Right) → is_path path ≡ true → IsSoundVersion version → IsSoundRight right
     → AreArguments (left_words path version ++ made_mark Arrow ∷ right_words right)
-replace-are-of path None (Folder text) p v r = begins-path path _ (path-feed path p) (mark_stands Arrow, (made-stands text (byte-feed text r.1), tt)) (made-no-mark 40 text) refl
+replace-are-of path None (Folder text) p v r = begins-path path _ (path-feed path p)
+    (mark_stands Arrow, (made-stands text (byte-feed text r.1), tt)) (made-no-mark 40 text) refl
 replace-are-of path None (Module q w) p v r =
-    begins-path path _ (path-feed path p) (mark_stands Arrow, (made-stands q (path-feed q r.0), (made-stands w (version-feed w r.1), tt))) (made-no-mark 40 w) refl
+    begins-path path _ (path-feed path p) (
+      mark_stands Arrow,
+      (made-stands q (path-feed q r.0), (made-stands w (version-feed w r.1), tt)),
+    ) (made-no-mark 40 w) refl
 replace-are-of path (Some version) (Folder text) p v r =
-    begins-path path _ (path-feed path p) (made-stands version (version-feed version v), (mark_stands Arrow, (made-stands text (byte-feed text r.1), tt))) (made-no-mark 40 text) refl
+    begins-path path _ (path-feed path p) (
+      made-stands version (version-feed version v),
+      (mark_stands Arrow, (made-stands text (byte-feed text r.1), tt)),
+    ) (made-no-mark 40 text) refl
 replace-are-of path (Some version) (Module q w) p v r =
-    begins-path path _ (path-feed path p) (made-stands version (version-feed version v), (mark_stands Arrow, (made-stands q (path-feed q r.0), (made-stands w (version-feed w r.1), tt)))) (made-no-mark 40 w) refl
+    begins-path path _ (path-feed path p) (
+      made-stands version (version-feed version v),
+      (mark_stands Arrow, (made-stands q (path-feed q r.0), (made-stands w (version-feed w r.1), tt))),
+    )
+    (made-no-mark 40 w) refl
 
 pub replace-are : (r : Replacing) → IsSoundLeft r.0 → IsSoundRight r.1 → AreArguments (replace_words r)
 replace-are r left right = replace-are-of r.0.path r.0.version r.1 left.0 left.1 right
 
-replace-made : (r : Replacing) → IsSoundLeft r.0 → IsSoundRight r.1 → does_left_fit r.0.path r.0.version ≡ true → (block : Option Placed) (line : Line Placed) (d : Directive)
-    → directive_at block line ≡ Some d → is_replaced_by r.0 d ≡ true → IsValidLine (is_some block) (plain line) → IsMadeNew (Replaces r) block (with_arguments (replace_words r) block line)
+replace-made : (r : Replacing) → IsSoundLeft r.0 → IsSoundRight r.1 → does_left_fit r.0.path r.0.version ≡ true
+    → (block : Option Placed) (line : Line Placed) (d : Directive)
+    → directive_at block line ≡ Some d → is_replaced_by r.0 d ≡ true → IsValidLine (is_some block) (plain line)
+    → IsMadeNew (Replaces r) block (with_arguments (replace_words r) block line)
 replace-made r left right fit block line (Replaces q) held e stands =
     let by = held-by block line (Replaces q) held in
     let verb : main_verb by.verb ≡ ForReplace = sym (directive-verb (main_verb by.verb) (words_of by.arguments) (Replaces q) by.says) in
     entry-made (Replaces r) (Replaces q) block line (with_arguments (replace_words r) block line) by (replace_words r)
-    (all-arguments block by.verb by.front by.arguments line by.suffix (replace_words r) by.at by.is) stands (replace-are r left right) (rw verb (replace-says r left right))
+    (all-arguments block by.verb by.front by.arguments line by.suffix (replace_words r) by.at by.is) stands
+    (replace-are r left right) (rw verb (replace-says r left right))
     (replace-kinds r left right fit)
 replace-made r left right fit block line d held e stands = absurd cc
 
@@ -250,7 +286,22 @@ wanted edit new e good fit = subst (λ (o : Option Directive). IfSome o (IsWante
 
 -- how a setting rewrites an entry
 pub renewal : (s : Setting) → IsSoundEdit (Set s) → is_fit (Set s) ≡ true → IsRenewal (about (Set s)) (directive_set s) (made_new (Set s))
-renewal (ModuleIs path) good fit = record { wanted = wanted (Set (ModuleIs path)) _ refl good fit; made = module-made path good; other = about-module (Set (ModuleIs path)) }
+renewal (ModuleIs path) good fit = record {
+  wanted = wanted (Set (ModuleIs path)) _ refl good fit;
+  made =
+      module-made path good;
+  other = about-module (Set (ModuleIs path));
+}
 renewal (GoIs text) good fit = record { wanted = wanted (Set (GoIs text)) _ refl good fit; made = go-made text good; other = about-module (Set (GoIs text)) }
-renewal (RequireAt p) good fit = record { wanted = wanted (Set (RequireAt p)) _ refl good fit; made = require-made p good fit; other = about-module (Set (RequireAt p)) }
-renewal (ReplaceWith r) good fit = record { wanted = wanted (Set (ReplaceWith r)) _ refl good fit; made = replace-made r good.0 good.1 fit; other = about-module (Set (ReplaceWith r)) }
+renewal (RequireAt p) good fit = record {
+  wanted = wanted (Set (RequireAt p)) _ refl good fit;
+  made =
+      require-made p good fit;
+  other = about-module (Set (RequireAt p));
+}
+renewal (ReplaceWith r) good fit = record {
+  wanted = wanted (Set (ReplaceWith r)) _ refl good fit;
+  made =
+      replace-made r good.0 good.1 fit;
+  other = about-module (Set (ReplaceWith r));
+}

@@ -20,15 +20,18 @@ use Rattle.gm_file_edit.proofs.Pairs.{AreRightFrom, IsSound, held-append, held_f
 
 -- ---- the directive that a line holds, if any, before others
 
-gone-held : (test : Directive → Bool) (held : Option Directive) (rest : List Directive) → passes test held ≡ true → filter (others test) (cons_option held rest) ≡ filter (others test) rest
+gone-held : (test : Directive → Bool) (held : Option Directive) (rest : List Directive) → passes test held ≡ true
+    → filter (others test) (cons_option held rest) ≡ filter (others test) rest
 gone-held test None rest e = absurd cc
 gone-held test (Some d) rest e = filter-none (others test) d rest (ap not e)
 
-stay-held : (test : Directive → Bool) (held : Option Directive) (rest : List Directive) → passes test held ≡ false → filter (others test) (cons_option held rest) ≡ cons_option held (filter (others test) rest)
+stay-held : (test : Directive → Bool) (held : Option Directive) (rest : List Directive) → passes test held ≡ false
+    → filter (others test) (cons_option held rest) ≡ cons_option held (filter (others test) rest)
 stay-held test None rest e = refl
 stay-held test (Some d) rest e = filter-one (others test) d rest (ap not e)
 
-pub past-held : (test : Directive → Bool) (held : Option Directive) (rest : List Directive) → passes test held ≡ false → filter test (cons_option held rest) ≡ filter test rest
+pub past-held : (test : Directive → Bool) (held : Option Directive) (rest : List Directive) → passes test held ≡ false
+    → filter test (cons_option held rest) ≡ filter test rest
 past-held test None rest e = refl
 past-held test (Some d) rest e = filter-none test d rest e
 
@@ -39,19 +42,24 @@ left-held fates = fewer-held (remaining-left fates).0
 
 -- ---- what is said after entries are removed
 
-dropping-held : (test : Directive → Bool) (block : Option Placed) (lines : List (Line Placed)) → held_from block (kept_lines (dropping_from test block lines)) ≡ filter (others test) (held_from block lines)
+dropping-held : (test : Directive → Bool) (block : Option Placed) (lines : List (Line Placed))
+    → held_from block (kept_lines (dropping_from test block lines)) ≡ filter (others test) (held_from block lines)
 dropping-held test block [] = refl
 dropping-held test block (line ∷ lines) =
     let behind : Option Placed = block_after_line block line in
     let rest : List Directive = held_from behind lines in
     elim (cases_Bool (passes test (directive_at block line))) [
       | inl holds ↦
-          rw holds (ap (λ (b : Option Placed). held_from b (kept_lines (dropping_from test behind lines))) (sym (passing-level test block line holds)) ∙ dropping-held test behind lines ∙ sym (gone-held test (directive_at block line) rest holds))
-      | inr fails ↦ rw fails (ap (cons_option (directive_at block line)) (dropping-held test behind lines) ∙ sym (stay-held test (directive_at block line) rest fails))
+          rw holds (ap (λ (b : Option Placed). held_from b (kept_lines (dropping_from test behind lines)))
+          (sym (passing-level test block line holds)) ∙ dropping-held test behind lines
+          ∙ sym (gone-held test (directive_at block line) rest holds))
+      | inr fails ↦ rw fails (ap (cons_option (directive_at block line)) (dropping-held test behind lines)
+          ∙ sym (stay-held test (directive_at block line) rest fails))
     ]
 
 -- a drop leaves exactly the other directives
-pub dropped-held : (test : Directive → Bool) (lines : List (Line Placed)) → held_from None (without_targets test lines) ≡ filter (others test) (held_from None lines)
+pub dropped-held : (test : Directive → Bool) (lines : List (Line Placed))
+    → held_from None (without_targets test lines) ≡ filter (others test) (held_from None lines)
 dropped-held test lines = left-held (dropping_from test None lines) ∙ dropping-held test None lines
 
 -- ---- what is said after an entry is rewritten
@@ -60,14 +68,17 @@ pub held-some : (test : Directive → Bool) (held : Option Directive) → passes
 held-some test None e = absurd cc
 held-some test (Some d) e = (d, refl, e)
 
-made-held : (said : Directive) (block : Option Placed) (next : Line Placed) (back : List (Line Placed)) → IsMadeNew said block next → held_from block (next ∷ back) ≡ said ∷ held_from block back
+made-held : (said : Directive) (block : Option Placed) (next : Line Placed) (back : List (Line Placed))
+    → IsMadeNew said block next → held_from block (next ∷ back) ≡ said ∷ held_from block back
 made-held said block next back made =
     ap (λ (l : Line Placed). held_from block (l ∷ back)) made.is_entry ∙ ap (λ (o : Option Directive). cons_option o (held_from block back)) made.holds
 
 -- the first matching entry is rewritten, and the later ones are removed
-first-held : (test : Directive → Bool) (said : Directive) (make : Option Placed → Line Placed → Line Placed) → Makes test said make → (block : Option Placed) (line : Line Placed) (lines : List (Line Placed))
+first-held : (test : Directive → Bool) (said : Directive) (make : Option Placed → Line Placed → Line Placed)
+    → Makes test said make → (block : Option Placed) (line : Line Placed) (lines : List (Line Placed))
     → passes test (directive_at block line) ≡ true → IsValidLine (is_some block) (plain line)
-    → held_from block (make block line ∷ kept_lines (dropping_from test (block_after_line block line) lines)) ≡ said ∷ filter (others test) (held_from (block_after_line block line) lines)
+    → held_from block (make block line ∷ kept_lines (dropping_from test (block_after_line block line) lines)) ≡ said
+    ∷ filter (others test) (held_from (block_after_line block line) lines)
 first-held test said make makes block line lines holds stands =
     let h = held-some test (directive_at block line) holds in
     let behind : Option Placed = block_after_line block line in
@@ -75,7 +86,8 @@ first-held test said make makes block line lines holds stands =
     ∙ ap (λ (b : Option Placed). said ∷ held_from b (kept_lines (dropping_from test behind lines))) (sym (passing-level test block line holds))
     ∙ ap (λ (ds : List Directive). said ∷ ds) (dropping-held test behind lines)
 
-module _ (test : Directive → Bool) (said : Directive) (make : Option Placed → Line Placed → Line Placed) (own : test said ≡ true) (makes : Makes test said make) where
+module _ (test : Directive → Bool) (said : Directive) (make : Option Placed → Line Placed → Line Placed)
+    (own : test said ≡ true) (makes : Makes test said make) where
   renewing-others : (block : Option Placed) (lines : List (Line Placed)) → AreRightFrom block lines
       → filter (others test) (held_from block (kept_lines (renewing_from test make block lines))) ≡ filter (others test) (held_from block lines)
   renewing-others block [] right = refl
@@ -85,7 +97,8 @@ module _ (test : Directive → Bool) (said : Directive) (make : Option Placed �
       let rest : List Directive = held_from behind lines in
       elim (cases_Bool (passes test held)) [
         | inl holds ↦
-            rw holds (ap (filter (others test)) (first-held test said make makes block line lines holds right.0.0) ∙ filter-none (others test) said (filter (others test) rest) (ap not own)
+            rw holds (ap (filter (others test)) (first-held test said make makes block line lines holds right.0.0)
+            ∙ filter-none (others test) said (filter (others test) rest) (ap not own)
             ∙ others-twice test rest ∙ sym (gone-held test held rest holds))
         | inr fails ↦
             rw fails (stay-held test held (held_from behind (kept_lines (renewing_from test make behind lines))) fails
@@ -100,16 +113,21 @@ module _ (test : Directive → Bool) (said : Directive) (make : Option Placed �
       let rest : List Directive = held_from behind lines in
       elim (cases_Bool (passes test (directive_at block line))) [
         | inl holds ↦
-            rw holds (ap (filter test) (first-held test said make makes block line lines holds right.0.0) ∙ filter-one test said (filter (others test) rest) own ∙ ap (λ (ds : List Directive). said ∷ ds) (none-of-others test rest))
+            rw holds (ap (filter test) (first-held test said make makes block line lines holds right.0.0)
+            ∙ filter-one test said (filter (others test) rest) own
+            ∙ ap (λ (ds : List Directive). said ∷ ds) (none-of-others test rest))
         | inr fails ↦
             rw fails (past-held test (directive_at block line) (held_from behind (kept_lines (renewing_from test make behind lines))) fails
             ∙ renewing-alone behind lines right.1 (ap (λ (b : Bool). b || is_there test behind lines) (sym fails) ∙ there))
       ]
 
-  pub renewed-others : (lines : List (Line Placed)) → IsSound lines → filter (others test) (held_from None (with_renewal test make lines)) ≡ filter (others test) (held_from None lines)
+  pub renewed-others : (lines : List (Line Placed)) → IsSound lines
+      → filter (others test) (held_from None (with_renewal test make lines))
+      ≡ filter (others test) (held_from None lines)
   renewed-others lines sound = ap (filter (others test)) (left-held (renewing_from test make None lines)) ∙ renewing-others None lines sound.lines_are.right
 
-  pub renewed-alone : (lines : List (Line Placed)) → IsSound lines → is_there test None lines ≡ true → filter test (held_from None (with_renewal test make lines)) ≡ said ∷ []
+  pub renewed-alone : (lines : List (Line Placed)) → IsSound lines → is_there test None lines ≡ true
+      → filter test (held_from None (with_renewal test make lines)) ≡ said ∷ []
   renewed-alone lines sound there = ap (filter test) (left-held (renewing_from test make None lines)) ∙ renewing-alone None lines sound.lines_are.right there
 
 -- ---- what is said after an entry is put in
@@ -121,16 +139,19 @@ pub record IsPutIn (new : Directive) (before after : List Directive) : Type 0 wh
   pub was : before ≡ front ++ back
   pub is : after ≡ front ++ new ∷ back
 
-fits-held : (new : Directive) (block : Option Placed) (line : Line Placed) (back : List (Line Placed)) → Fits block new line → held_from block (line ∷ back) ≡ new ∷ held_from block back
+fits-held : (new : Directive) (block : Option Placed) (line : Line Placed) (back : List (Line Placed))
+    → Fits block new line → held_from block (line ∷ back) ≡ new ∷ held_from block back
 fits-held new block line back fits =
-    ap (λ (o : Option Directive). cons_option o (held_from (block_after_line block line) back)) fits.holds ∙ ap (λ (b : Option Placed). new ∷ held_from b back) fits.level
+    ap (λ (o : Option Directive). cons_option o (held_from (block_after_line block line) back)) fits.holds
+    ∙ ap (λ (b : Option Placed). new ∷ held_from b back) fits.level
 
 gap-held : (gap : Bool) (block : Option Placed) (back : List (Line Placed)) → held_from block (gap_lines gap ++ back) ≡ held_from block back
 unfolding item_at
 gap-held true block back = refl
 gap-held false block back = refl
 
-pub into-said : (v : List ℕ) (arguments : List Placed) (new : Directive) (lines after : List (Line Placed)) → IsAddition v arguments new → IsSound lines → IsPutInto v arguments lines after
+pub into-said : (v : List ℕ) (arguments : List Placed) (new : Directive) (lines after : List (Line Placed))
+    → IsAddition v arguments new → IsSound lines → IsPutInto v arguments lines after
     → IsPutIn new (held_from None lines) (held_from None after)
 into-said v arguments new lines after so sound put =
     let block : Option Placed = block_after_lines None put.front in
@@ -142,18 +163,22 @@ into-said v arguments new lines after so sound put =
       is =
           ap (held_from None) put.is ∙ held-append None put.front (gap_lines put.gap ++ entry ∷ put.back)
           ∙ ap (λ (ds : List Directive). held_from None put.front ++ ds)
-          (gap-held put.gap block (entry ∷ put.back) ∙ fits-held new block entry put.back (into-fits v arguments new block put.inside so (put.fits sound.closed)));
+          (gap-held put.gap block (entry ∷ put.back) ∙ fits-held new block entry put.back
+          (into-fits v arguments new block put.inside so (put.fits sound.closed)));
     }
 
-pub put-others : (test : Directive → Bool) (new : Directive) (before after : List Directive) → test new ≡ true → IsPutIn new before after → filter (others test) after ≡ filter (others test) before
+pub put-others : (test : Directive → Bool) (new : Directive) (before after : List Directive) → test new ≡ true
+    → IsPutIn new before after → filter (others test) after ≡ filter (others test) before
 put-others test new before after own put =
     ap (filter (others test)) put.is ∙ filter-append (others test) put.front (new ∷ put.back)
     ∙ ap (λ (ds : List Directive). filter (others test) put.front ++ ds) (filter-none (others test) new put.back (ap not own))
     ∙ sym (ap (filter (others test)) put.was ∙ filter-append (others test) put.front put.back)
 
-pub put-alone : (test : Directive → Bool) (new : Directive) (before after : List Directive) → test new ≡ true → list_any test before ≡ false → IsPutIn new before after → filter test after ≡ new ∷ []
+pub put-alone : (test : Directive → Bool) (new : Directive) (before after : List Directive) → test new ≡ true
+    → list_any test before ≡ false → IsPutIn new before after → filter test after ≡ new ∷ []
 put-alone test new before after own none put =
-    let nothing : filter test put.front ++ filter test put.back ≡ [] = sym (filter-append test put.front put.back) ∙ ap (filter test) (sym put.was) ∙ no-filter test before none in
+    let nothing : filter test put.front ++ filter test put.back ≡ [] =
+    sym (filter-append test put.front put.back) ∙ ap (filter test) (sym put.was) ∙ no-filter test before none in
     let parts = nil-parts (filter test put.front) (filter test put.back) nothing in
     ap (filter test) put.is ∙ filter-append test put.front (new ∷ put.back) ∙ ap (λ (ds : List Directive). ds ++ filter test (new ∷ put.back)) parts.0
     ∙ filter-one test new put.back own ∙ ap (λ (ds : List Directive). new ∷ ds) parts.1

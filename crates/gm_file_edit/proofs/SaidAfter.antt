@@ -35,8 +35,11 @@ module-there P lines sound none = absurd (true≢false (sym sound.lines_are.decl
 -- ---- if no entry is targeted
 
 -- what an operation puts in if it targets no line
-puts : (lines : List (Line Placed)) → IsSound lines → (edit : Edit) (new : Directive) → put_by edit ≡ Some new → IsSoundEdit edit → is_there (about edit) None lines ≡ false → IsPutIn new (held_from None lines) (held_from None (put_in edit lines))
-puts lines sound edit = by-put (λ edit after. (new : Directive) → put_by edit ≡ Some new → IsSoundEdit edit → is_there (about edit) None lines ≡ false → IsPutIn new (held_from None lines) (held_from None after)) lines
+puts : (lines : List (Line Placed)) → IsSound lines → (edit : Edit) (new : Directive) → put_by edit ≡ Some new
+    → IsSoundEdit edit → is_there (about edit) None lines ≡ false
+    → IsPutIn new (held_from None lines) (held_from None (put_in edit lines))
+puts lines sound edit = by-put (λ edit after. (new : Directive) → put_by edit ≡ Some new → IsSoundEdit edit
+    → is_there (about edit) None lines ≡ false → IsPutIn new (held_from None lines) (held_from None after)) lines
     (λ path new put good none. module-there _ lines sound none)
     (λ edit entry after is into new put good none.
     let by = says edit entry is good in
@@ -45,13 +48,16 @@ puts lines sound edit = by-put (λ edit after. (new : Directive) → put_by edit
 
 -- ---- what an operation doesn't target
 
-drop-others : (test : Directive → Bool) (lines : List (Line Placed)) (after : List Directive) → after ≡ filter (others test) (held_from None lines) → filter (others test) after ≡ filter (others test) (held_from None lines)
+drop-others : (test : Directive → Bool) (lines : List (Line Placed)) (after : List Directive)
+    → after ≡ filter (others test) (held_from None lines)
+    → filter (others test) after ≡ filter (others test) (held_from None lines)
 drop-others test lines after is = ap (filter (others test)) is ∙ others-twice test (held_from None lines)
 
 changed-others : (edit : Edit) (lines : List (Line Placed)) → IsSoundEdit edit → is_fit edit ≡ true → IsSound lines
     → filter (others (about edit)) (held_from None (with_change edit lines)) ≡ filter (others (about edit)) (held_from None lines)
 unfolding with_change
-changed-others (Set s) lines good fit sound = let by = renewal s good fit in renewed-others (about (Set s)) (directive_set s) (made_new (Set s)) by.wanted.own by.made lines sound
+changed-others (Set s) lines good fit sound = let by = renewal s good fit in
+    renewed-others (about (Set s)) (directive_set s) (made_new (Set s)) by.wanted.own by.made lines sound
 changed-others (Add a) lines good fit sound = refl
 changed-others (Drop t) lines good fit sound = drop-others (about (Drop t)) lines _ (dropped-held (about (Drop t)) lines)
 
@@ -59,30 +65,38 @@ put-in-others : (edit : Edit) (lines : List (Line Placed)) → IsSoundEdit edit 
     → filter (others (about edit)) (held_from None (put_in edit lines)) ≡ filter (others (about edit)) (held_from None lines)
 unfolding put_in
 put-in-others (Drop t) lines good fit sound none = refl
-put-in-others (Set s) lines good fit sound none = put-others (about (Set s)) (directive_set s) (held_from None lines) _ (wanted (Set s) _ refl good fit).own (puts lines sound (Set s) _ refl good none)
-put-in-others (Add a) lines good fit sound none = put-others (about (Add a)) (directive_added a) (held_from None lines) _ (wanted (Add a) _ refl good fit).own (puts lines sound (Add a) _ refl good none)
+put-in-others (Set s) lines good fit sound none = put-others (about (Set s)) (directive_set s) (held_from None lines) _
+    (wanted (Set s) _ refl good fit).own (puts lines sound (Set s) _ refl good none)
+put-in-others (Add a) lines good fit sound none = put-others (about (Add a)) (directive_added a) (held_from None lines)
+    _ (wanted (Add a) _ refl good fit).own (puts lines sound (Add a) _ refl good none)
 
 others-after : (edit : Edit) (lines : List (Line Placed)) → IsSoundEdit edit → is_fit edit ≡ true → IsSound lines
     → filter (others (about edit)) (held_from None (lines_after edit lines)) ≡ filter (others (about edit)) (held_from None lines)
-others-after edit lines good fit sound = by-edited (λ after. filter (others (about edit)) (held_from None after) ≡ filter (others (about edit)) (held_from None lines)) edit lines
+others-after edit lines good fit sound = by-edited (λ after.
+    filter (others (about edit)) (held_from None after) ≡ filter (others (about edit)) (held_from None lines)) edit
+    lines
     (λ there. changed-others edit lines good fit sound) (λ none. put-in-others edit lines good fit sound none)
 
 -- ---- what an operation sets
 
-changed-alone : (edit : Edit) (lines : List (Line Placed)) (d : Directive) → IsSoundEdit edit → is_fit edit ≡ true → IsSound lines → is_there (about edit) None lines ≡ true → set_by edit ≡ Some d
+changed-alone : (edit : Edit) (lines : List (Line Placed)) (d : Directive) → IsSoundEdit edit → is_fit edit ≡ true
+    → IsSound lines → is_there (about edit) None lines ≡ true → set_by edit ≡ Some d
     → filter (about edit) (held_from None (with_change edit lines)) ≡ d ∷ []
 unfolding with_change
 changed-alone (Set s) lines d good fit sound there e =
     let by = renewal s good fit in
-    renewed-alone (about (Set s)) (directive_set s) (made_new (Set s)) by.wanted.own by.made lines sound there ∙ ap (λ (x : Directive). x ∷ []) (same_Some _ _ e)
+    renewed-alone (about (Set s)) (directive_set s) (made_new (Set s)) by.wanted.own by.made lines sound there
+    ∙ ap (λ (x : Directive). x ∷ []) (same_Some _ _ e)
 changed-alone (Add a) lines d good fit sound there e = absurd cc
 changed-alone (Drop t) lines d good fit sound there e = absurd cc
 
 -- what is put in is the only directive that is then targeted
-put-in-once : (edit : Edit) (lines : List (Line Placed)) (d : Directive) → IsSoundEdit edit → is_fit edit ≡ true → IsSound lines → is_there (about edit) None lines ≡ false → put_by edit ≡ Some d
+put-in-once : (edit : Edit) (lines : List (Line Placed)) (d : Directive) → IsSoundEdit edit → is_fit edit ≡ true
+    → IsSound lines → is_there (about edit) None lines ≡ false → put_by edit ≡ Some d
     → filter (about edit) (held_from None (put_in edit lines)) ≡ d ∷ []
 put-in-once edit lines d good fit sound none e =
-    put-alone (about edit) d (held_from None lines) _ (wanted edit d e good fit).own (sym (there-is (about edit) None lines) ∙ none) (puts lines sound edit d e good none)
+    put-alone (about edit) d (held_from None lines) _ (wanted edit d e good fit).own
+    (sym (there-is (about edit) None lines) ∙ none) (puts lines sound edit d e good none)
 
 pub set-put : (edit : Edit) (d : Directive) → set_by edit ≡ Some d → put_by edit ≡ Some d
 set-put (Set s) d e = e
@@ -112,7 +126,8 @@ once_or_as_before edit d said = if list_any (about edit) said then filter (about
 
 added-after : (edit : Edit) (lines : List (Line Placed)) (d : Directive) → IsSoundEdit edit → is_fit edit ≡ true → IsSound lines → added_by edit ≡ Some d
     → filter (about edit) (held_from None (lines_after edit lines)) ≡ once_or_as_before edit d (held_from None lines)
-added-after edit lines d good fit sound e = by-edited (λ after. filter (about edit) (held_from None after) ≡ once_or_as_before edit d (held_from None lines)) edit lines
+added-after edit lines d good fit sound e = by-edited (λ after.
+    filter (about edit) (held_from None after) ≡ once_or_as_before edit d (held_from None lines)) edit lines
     (λ there.
     let any : list_any (about edit) (held_from None lines) ≡ true = sym (there-is (about edit) None lines) ∙ there in
     rw any (ap (λ (ls : List (Line Placed)). filter (about edit) (held_from None ls)) (addition-changes-nothing edit lines d e)))
@@ -127,7 +142,8 @@ sound-of edit lines is = (written-sound is.0.0 edit is.0.1, document-sound lines
 
 pub dropped-is-gone : DroppedIsGone
 dropped-is-gone = λ edit lines e.
-    ap (list_any (about edit)) (file-held (lines_after edit lines) ∙ ap (held_from None) (edited-drop edit lines e) ∙ dropped-held (about edit) lines) ∙ others-none (about edit) (held_from None lines)
+    ap (list_any (about edit)) (file-held (lines_after edit lines) ∙ ap (held_from None) (edited-drop edit lines e)
+    ∙ dropped-held (about edit) lines) ∙ others-none (about edit) (held_from None lines)
 
 pub set-stands-alone : SetStandsAlone
 set-stands-alone = λ edit lines d is e.
@@ -137,12 +153,14 @@ set-stands-alone = λ edit lines d is e.
 pub added-is-there : AddedIsThere
 added-is-there = λ edit lines d is e.
     let sound = sound-of edit lines is in
-    ap (filter (about edit)) (file-held (lines_after edit lines)) ∙ added-after edit lines d sound.0 is.1 sound.1 e ∙ ap (once_or_as_before edit d) (sym (file-held lines))
+    ap (filter (about edit)) (file-held (lines_after edit lines)) ∙ added-after edit lines d sound.0 is.1 sound.1 e
+    ∙ ap (once_or_as_before edit d) (sym (file-held lines))
 
 pub others-stay : OthersStay
 others-stay = λ edit lines is.
     let sound = sound-of edit lines is in
-    ap (filter (others (about edit))) (file-held (lines_after edit lines)) ∙ others-after edit lines sound.0 is.1 sound.1 ∙ ap (filter (others (about edit))) (sym (file-held lines))
+    ap (filter (others (about edit))) (file-held (lines_after edit lines))
+    ∙ others-after edit lines sound.0 is.1 sound.1 ∙ ap (filter (others (about edit))) (sym (file-held lines))
 
 -- ---- operations with nothing to do
 
@@ -161,5 +179,7 @@ second-addition edit lines d is adds =
     idle-addition edit (lines_after edit lines) d adds
     (elim (cases_Bool (list_any (about edit) (directives_of lines))) [
       | inl some ↦ ap (λ (ls : List (Line Placed)). list_any (about edit) (directives_of ls)) (idle-addition edit lines d adds some) ∙ some
-      | inr none ↦ any-filled (about edit) (directives_of (lines_after edit lines)) ∙ ap is_filled (added-is-there edit lines d is adds ∙ ap (λ (b : Bool). if b then filter (about edit) (directives_of lines) else d ∷ []) none)
+      | inr none ↦ any-filled (about edit) (directives_of (lines_after edit lines))
+          ∙ ap is_filled (added-is-there edit lines d is adds
+          ∙ ap (λ (b : Bool). if b then filter (about edit) (directives_of lines) else d ∷ []) none)
     ])

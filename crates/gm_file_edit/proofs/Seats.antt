@@ -28,12 +28,17 @@ fewer-all P (goes seat silent rest) all = fewer-all P rest all.1
 
 -- such lines, which end outside blocks if the others do
 abbrev AreLeft : Option Placed → List (Line Placed) → Option Placed → List (Line Placed) → Type 0
-AreLeft after left before old = AreFewer (with_blocks_from after left) (with_blocks_from before old) × (block_after_lines before old ≡ None → block_after_lines after left ≡ None)
+AreLeft after left before old = AreFewer (with_blocks_from after left) (with_blocks_from before old)
+    × (block_after_lines before old ≡ None → block_after_lines after left ≡ None)
 
-same-first : (block : Option Placed) (line : Line Placed) (left old : List (Line Placed)) → AreLeft (block_after_line block line) left (block_after_line block line) old → AreLeft block (line ∷ left) block (line ∷ old)
+same-first : (block : Option Placed) (line : Line Placed) (left old : List (Line Placed))
+    → AreLeft (block_after_line block line) left (block_after_line block line) old
+    → AreLeft block (line ∷ left) block (line ∷ old)
 same-first block line left old is = (stays (block, line) is.0, is.1)
 
-gone-first : (after block : Option Placed) (line : Line Placed) (left old : List (Line Placed)) → held_at (block, line) ≡ None → AreLeft after left (block_after_line block line) old → AreLeft after left block (line ∷ old)
+gone-first : (after block : Option Placed) (line : Line Placed) (left old : List (Line Placed))
+    → held_at (block, line) ≡ None → AreLeft after left (block_after_line block line) old
+    → AreLeft after left block (line ∷ old)
 gone-first after block line left old silent is = (goes (block, line) silent is.0, is.1)
 
 -- a block that goes is emptied by the lines from here on
@@ -77,16 +82,20 @@ left-lines None gone behind (Some (Open verb suffix) ∷ fates) is = elim (cases
   | inl empty ↦ rw empty (gone-first None None (Open verb suffix) _ _ refl (left-lines (Some verb) true false fates (going-opened suffix fates empty)))
   | inr still ↦ rw still (same-first None (Open verb suffix) _ _ (left-lines (Some verb) false false fates tt))
 ]
-left-lines (Some outer) false behind (Some (Open verb suffix) ∷ fates) is = same-first (Some outer) (Open verb suffix) _ _ (left-lines (Some verb) false false fates tt)
+left-lines (Some outer) false behind (Some (Open verb suffix) ∷ fates) is =
+    same-first (Some outer) (Open verb suffix) _ _ (left-lines (Some verb) false false fates tt)
 left-lines (Some outer) true behind (Some (Open verb suffix) ∷ fates) is = absurd cc
 left-lines None gone behind (Some (Close suffix) ∷ fates) is = same-first None (Close suffix) _ _ (left-lines None false false fates tt)
 left-lines (Some verb) false behind (Some (Close suffix) ∷ fates) is = same-first (Some verb) (Close suffix) _ _ (left-lines None false false fates tt)
 left-lines (Some verb) true behind (Some (Close suffix) ∷ fates) is = gone-first None (Some verb) (Close suffix) _ _ refl (left-lines None false true fates tt)
 left-lines None gone behind (Some (Entry words suffix) ∷ fates) is = same-first None (Entry words suffix) _ _ (left-lines None false false fates tt)
-left-lines (Some verb) false behind (Some (Entry words suffix) ∷ fates) is = same-first (Some verb) (Entry words suffix) _ _ (left-lines (Some verb) false false fates tt)
+left-lines (Some verb) false behind (Some (Entry words suffix) ∷ fates) is =
+    same-first (Some verb) (Entry words suffix) _ _ (left-lines (Some verb) false false fates tt)
 left-lines (Some verb) true behind (Some (Entry words suffix) ∷ fates) is = absurd cc
 
 -- of the lines without a mark, widening leaves out some that hold no directive
-pub remaining-left : (fates : List Fate) → AreFewer (with_blocks_from None (remaining fates)) (with_blocks_from None (kept_lines fates)) × (block_after_lines None (kept_lines fates) ≡ None → block_after_lines None (remaining fates) ≡ None)
+pub remaining-left : (fates : List Fate) → AreFewer (with_blocks_from None (remaining fates))
+    (with_blocks_from None (kept_lines fates)) × (block_after_lines None (kept_lines fates) ≡ None
+    → block_after_lines None (remaining fates) ≡ None)
 unfolding remaining
 remaining-left fates = left-lines None false false fates tt

@@ -42,15 +42,20 @@ is_entry_of verb Silent = false
 is_entry_of verb (Opening text) = false
 is_entry_of verb (Saying text arguments) = verb_eq verb (main_verb text)
 
-said-passes : (verb : Verb) (earlier : List Directive) (said : Verb) (words : List Word) (o : Option Directive) → directive_of said words ≡ o → entry_kinds Strict earlier said o ≡ [] → verb_eq verb said ≡ passes (is_of_verb verb) o
+said-passes : (verb : Verb) (earlier : List Directive) (said : Verb) (words : List Word) (o : Option Directive)
+    → directive_of said words ≡ o → entry_kinds Strict earlier said o ≡ []
+    → verb_eq verb said ≡ passes (is_of_verb verb) o
 said-passes verb earlier said words None says right = absurd cc
 said-passes verb earlier said words (Some d) says right = ap (verb_eq verb) (sym (directive-verb said words d says))
 
-valid-passes : (verb : Verb) (item : Item) (earlier : List Directive) → item_kinds Strict earlier item ≡ [] → is_entry_of verb item ≡ passes (is_of_verb verb) (directive_in Strict item)
+valid-passes : (verb : Verb) (item : Item) (earlier : List Directive) → item_kinds Strict earlier item ≡ []
+    → is_entry_of verb item ≡ passes (is_of_verb verb) (directive_in Strict item)
 valid-passes verb Silent earlier right = refl
 valid-passes verb (Opening text) earlier right = refl
-valid-passes verb (Saying text arguments) earlier right = said-passes verb earlier (main_verb text) arguments (directive_of (main_verb text) arguments) refl right
+valid-passes verb (Saying text arguments) earlier right =
+    said-passes verb earlier (main_verb text) arguments (directive_of (main_verb text) arguments) refl right
 
 -- in a valid file the entries of a verb are the lines that hold its directives
-pub entry-holds : (verb : Verb) (block : Option Placed) (line : Line Placed) → IsValidAt block line → is_entry_of verb (item_of block line) ≡ passes (is_of_verb verb) (directive_at block line)
+pub entry-holds : (verb : Verb) (block : Option Placed) (line : Line Placed) → IsValidAt block line
+    → is_entry_of verb (item_of block line) ≡ passes (is_of_verb verb) (directive_at block line)
 entry-holds verb block line valid = valid-passes verb (item_of block line) [] valid

@@ -80,11 +80,21 @@ end-blank text n (c, passes, at) =
     let parts = sym (take-append-drop (length text - n) text) in
     elim (either-blank c passes) [
       | inl is ↦
-          let there : HasCharAt 32 text (length text - n) (length text) = subst (λ d. HasCharAt d text (length text - n) (length text)) is at in
-          (32, refl, omega (arith, there.ends), parts ∙ ap (λ t. take (length text - n) text ++ t) (there.split ∙ ap (λ t. 32 ∷ t) (drop_all (length text) text (omega arith))))
+          let there : HasCharAt 32 text (length text - n) (length text) = subst (λ d. HasCharAt d text (length text - n) (length text)) is at in (
+            32,
+            refl,
+            omega (arith, there.ends),
+            parts ∙ ap (λ t. take (length text - n) text ++ t)
+                (there.split ∙ ap (λ t. 32 ∷ t) (drop_all (length text) text (omega arith))),
+          )
       | inr is ↦
-          let there : HasCharAt 9 text (length text - n) (length text) = subst (λ d. HasCharAt d text (length text - n) (length text)) is at in
-          (9, refl, omega (arith, there.ends), parts ∙ ap (λ t. take (length text - n) text ++ t) (there.split ∙ ap (λ t. 9 ∷ t) (drop_all (length text) text (omega arith))))
+          let there : HasCharAt 9 text (length text - n) (length text) = subst (λ d. HasCharAt d text (length text - n) (length text)) is at in (
+            9,
+            refl,
+            omega (arith, there.ends),
+            parts ∙ ap (λ t. take (length text - n) text ++ t)
+                (there.split ∙ ap (λ t. 9 ∷ t) (drop_all (length text) text (omega arith))),
+          )
     ]
 
 trailing-more : (front : List ℕ) (b : ℕ) → is_space_or_tab b ≡ true → without_trailing (front ++ b ∷ []) ≡ without_trailing front

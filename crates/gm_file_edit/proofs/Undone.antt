@@ -33,8 +33,10 @@ use Rattle.std.proofs.lemmas.Option.{same_Some}
 -- ---- the fates of the lines
 
 -- only an entry behind these lines is dropped
-one-gone : (test : Directive → Bool) (block : Option Placed) (front back : List (Line Placed)) (entry : Line Placed) → is_there test block (front ++ back) ≡ false
-    → passes test (directive_at (block_after_lines block front) entry) ≡ true → dropping_from test block (front ++ entry ∷ back) ≡ all_stay front ++ None ∷ all_stay back
+one-gone : (test : Directive → Bool) (block : Option Placed) (front back : List (Line Placed)) (entry : Line Placed)
+    → is_there test block (front ++ back) ≡ false
+    → passes test (directive_at (block_after_lines block front) entry) ≡ true
+    → dropping_from test block (front ++ entry ∷ back) ≡ all_stay front ++ None ∷ all_stay back
 one-gone test block [] back entry none hit =
     let level : block_after_line block entry ≡ block = passing-level test block entry hit in
     let held : passes test (directive_at block entry) ≡ true = hit in
@@ -53,7 +55,8 @@ next-gone words suffix back inside = ap (λ (ls : List (Line Placed)). Entry wor
 gone-behind : (words : List Placed) (suffix : Option (List ℕ)) (front back : List (Line Placed))
     → remaining (all_stay front ++ Some (Entry words suffix) ∷ None ∷ all_stay back) ≡ front ++ Entry words suffix ∷ back
 unfolding remaining
-gone-behind words suffix front back = stay-before (Some (Entry words suffix) ∷ None ∷ all_stay back) (Entry words suffix ∷ back) refl (next-gone words suffix back) false front
+gone-behind words suffix front back = stay-before (Some (Entry words suffix) ∷ None ∷ all_stay back)
+    (Entry words suffix ∷ back) refl (next-gone words suffix back) false front
 
 -- the last line is removed
 last-gone : (front : List (Line Placed)) → remaining (all_stay front ++ None ∷ []) ≡ front
@@ -63,7 +66,9 @@ last-gone front = stay-before (None ∷ []) [] refl (λ inside. refl) false fron
 -- ---- the lines
 
 -- a line that holds a directive is an entry
-holds-entry : (test : Directive → Bool) (block : Option Placed) (line : Line Placed) → passes test (directive_at block line) ≡ true → (words : List Placed) × (suffix : Option (List ℕ)) × (line ≡ Entry words suffix)
+holds-entry : (test : Directive → Bool) (block : Option Placed) (line : Line Placed)
+    → passes test (directive_at block line) ≡ true → (words : List Placed) × (suffix : Option (List ℕ))
+    × (line ≡ Entry words suffix)
 unfolding item_at
 holds-entry test block Blank e = absurd cc
 holds-entry test block (Comment text) e = absurd cc
@@ -72,7 +77,8 @@ holds-entry test block (Close suffix) e = absurd cc
 holds-entry test block (Entry words suffix) e = (words, suffix, refl)
 
 -- what is put in behind an entry of its verb and dropped
-behind-entry : (test : Directive → Bool) (v : List ℕ) (arguments : List Placed) (new : Directive) (front back : List (Line Placed)) (line : Line Placed) → IsAddition v arguments new → test new ≡ true
+behind-entry : (test : Directive → Bool) (v : List ℕ) (arguments : List Placed) (new : Directive)
+    (front back : List (Line Placed)) (line : Line Placed) → IsAddition v arguments new → test new ≡ true
     → is_there test None (front ++ line ∷ back) ≡ false → passes (has_verb v) (directive_at (block_after_lines None front) line) ≡ true
     → without_targets test (front ++ line ∷ entry_at (is_some (block_after_lines None front)) v arguments ∷ back) ≡ front ++ line ∷ back
 behind-entry test v arguments new front back line so own none hit =
@@ -83,35 +89,44 @@ behind-entry test v arguments new front back line so own none hit =
     let behind : block_after_lines None (front ++ line ∷ []) ≡ block = block-append None front (line ∷ []) ∙ passing-level (has_verb v) block line hit in
     let whole : (front ++ line ∷ []) ++ back ≡ front ++ line ∷ back = append_assoc front (line ∷ []) back in
     let fates : dropping_from test None ((front ++ line ∷ []) ++ entry ∷ back) ≡ all_stay (front ++ line ∷ []) ++ None ∷ all_stay back =
-    one-gone test None (front ++ line ∷ []) back entry (ap (is_there test None) whole ∙ none) (ap (λ (b : Option Placed). passes test (directive_at b entry)) behind ∙ passed) in
+    one-gone test None (front ++ line ∷ []) back entry (ap (is_there test None) whole ∙ none)
+    (ap (λ (b : Option Placed). passes test (directive_at b entry)) behind ∙ passed) in
     let is = holds-entry (has_verb v) block line hit in
     ap (without_targets test) (sym (append_assoc front (line ∷ []) (entry ∷ back))) ∙ ap (remaining) (fates ∙ split) ∙ left is.0 is.1 is.2
   where
     split : all_stay (front ++ line ∷ []) ++ None ∷ all_stay back ≡ all_stay front ++ Some line ∷ None ∷ all_stay back
-    split = ap (λ (fs : List Fate). fs ++ None ∷ all_stay back) (map-append (λ (l : Line Placed). Some l) front (line ∷ [])) ∙ append_assoc (all_stay front) (Some line ∷ []) (None ∷ all_stay back)
+    split = ap (λ (fs : List Fate). fs ++ None ∷ all_stay back)
+        (map-append (λ (l : Line Placed). Some l) front (line ∷ []))
+        ∙ append_assoc (all_stay front) (Some line ∷ []) (None ∷ all_stay back)
 
-    left : (words : List Placed) (suffix : Option (List ℕ)) → line ≡ Entry words suffix → remaining (all_stay front ++ Some line ∷ None ∷ all_stay back) ≡ front ++ line ∷ back
+    left : (words : List Placed) (suffix : Option (List ℕ)) → line ≡ Entry words suffix
+        → remaining (all_stay front ++ Some line ∷ None ∷ all_stay back) ≡ front ++ line ∷ back
     left words suffix is =
-        subst (λ (l : Line Placed). remaining (all_stay front ++ Some l ∷ None ∷ all_stay back) ≡ front ++ l ∷ back) (sym is) (gone-behind words suffix front back)
+        subst (λ (l : Line Placed). remaining (all_stay front ++ Some l ∷ None ∷ all_stay back) ≡ front ++ l ∷ back)
+        (sym is) (gone-behind words suffix front back)
 
 blank-none : (test : Directive → Bool) (lines : List (Line Placed)) → is_there test None lines ≡ false → is_there test None (lines ++ Blank ∷ []) ≡ false
 unfolding item_at
 blank-none test lines none = there-append test None lines (Blank ∷ []) ∙ ap (λ (b : Bool). b || false) none
 
 -- what is put in at the end and dropped
-at-end : (test : Directive → Bool) (v : List ℕ) (arguments : List Placed) (new : Directive) (lines : List (Line Placed)) → IsAddition v arguments new → test new ≡ true
+at-end : (test : Directive → Bool) (v : List ℕ) (arguments : List Placed) (new : Directive) (lines : List (Line Placed))
+    → IsAddition v arguments new → test new ≡ true
     → is_there test None lines ≡ false → IsSound lines → without_targets test (lines ++ Blank ∷ single v arguments ∷ []) ≡ lines ++ Blank ∷ []
 at-end test v arguments new lines so own none sound =
     let front : List (Line Placed) = lines ++ Blank ∷ [] in
     let entry : Line Placed = single v arguments in
     let fits : Fits None new entry = entry-fits v arguments new None tt so in
     let outside : block_after_lines None front ≡ None = block-append None lines (Blank ∷ []) ∙ sound.closed in
-    let passed : passes test (directive_at (block_after_lines None front) entry) ≡ true = ap (λ (b : Option Placed). passes test (directive_at b entry)) outside ∙ ap (passes test) fits.holds ∙ own in
+    let passed : passes test (directive_at (block_after_lines None front) entry) ≡ true =
+    ap (λ (b : Option Placed). passes test (directive_at b entry)) outside ∙ ap (passes test) fits.holds ∙ own in
     let absent : is_there test None (front ++ []) ≡ false = ap (is_there test None) (append-nil front) ∙ blank-none test lines none in
     ap (without_targets test) (sym (append_assoc lines (Blank ∷ []) (entry ∷ []))) ∙ ap (remaining) (one-gone test None front [] entry absent passed)
     ∙ last-gone front
 
-added-undone : (test : Directive → Bool) (v : List ℕ) (arguments : List Placed) (new : Directive) (lines : List (Line Placed)) → IsAddition v arguments new → test new ≡ true → is_there test None lines ≡ false → IsSound lines
+added-undone : (test : Directive → Bool) (v : List ℕ) (arguments : List Placed) (new : Directive)
+    (lines : List (Line Placed)) → IsAddition v arguments new → test new ≡ true → is_there test None lines ≡ false
+    → IsSound lines
     → without_targets test (with_addition v arguments lines) ≡ (if is_there (has_verb v) None lines then lines else lines ++ Blank ∷ [])
 added-undone test v arguments new lines so own none sound = elim (cases_Bool (is_there (has_verb v) None lines)) [
   | inl there ↦
@@ -134,7 +149,8 @@ record IsUndoing (edit undo : Edit) : Type 0 where
   own : (new : Directive) → put_by edit ≡ Some new → about undo new ≡ true
   fewer : (d : Directive) → about edit d ≡ false → about undo d ≡ false
 
-covered-left : (left other : Left) (version : Option (List ℕ)) → left.version ≡ version → is_covered_by left version other ≡ false → is_same_left other left ≡ false
+covered-left : (left other : Left) (version : Option (List ℕ)) → left.version ≡ version
+    → is_covered_by left version other ≡ false → is_same_left other left ≡ false
 covered-left left other None is e = rw e refl
 covered-left left other (Some version) is e = e
 
@@ -145,10 +161,38 @@ replaced-left left d e = refl
 drop-of : (edit : Edit) → IfSome (undone_by edit) (IsUndoing edit)
 drop-of (Set (ModuleIs path)) = tt
 drop-of (Set (GoIs text)) = tt
-drop-of (Set (RequireAt p)) = record { drops = refl; entry = _; adds = refl; own = λ new put. ap (requires_path p.0) (sym (same_Some _ _ put)) ∙ text-itself p.0; fewer = λ d f. f }
-drop-of (Set (ReplaceWith r)) = record { drops = refl; entry = _; adds = refl; own = λ new put. ap (replaces_left r.0) (sym (same_Some _ _ put)) ∙ left-itself r.0; fewer = replaced-left r.0 }
-drop-of (Add (Exclude p)) = record { drops = refl; entry = _; adds = refl; own = λ new put. ap (excludes_pair p) (sym (same_Some _ _ put)) ∙ pair-itself p; fewer = λ d f. f }
-drop-of (Add (Retract ends)) = record { drops = refl; entry = _; adds = refl; own = λ new put. ap (retracts_ends ends) (sym (same_Some _ _ put)) ∙ pair-itself ends; fewer = λ d f. f }
+drop-of (Set (RequireAt p)) = record {
+  drops = refl;
+  entry = _;
+  adds = refl;
+  own =
+      λ new put. ap (requires_path p.0) (sym (same_Some _ _ put)) ∙ text-itself p.0;
+  fewer = λ d f. f;
+}
+drop-of (Set (ReplaceWith r)) = record {
+  drops = refl;
+  entry = _;
+  adds = refl;
+  own =
+      λ new put. ap (replaces_left r.0) (sym (same_Some _ _ put)) ∙ left-itself r.0;
+  fewer = replaced-left r.0;
+}
+drop-of (Add (Exclude p)) = record {
+  drops = refl;
+  entry = _;
+  adds = refl;
+  own =
+      λ new put. ap (excludes_pair p) (sym (same_Some _ _ put)) ∙ pair-itself p;
+  fewer = λ d f. f;
+}
+drop-of (Add (Retract ends)) = record {
+  drops = refl;
+  entry = _;
+  adds = refl;
+  own =
+      λ new put. ap (retracts_ends ends) (sym (same_Some _ _ put)) ∙ pair-itself ends;
+  fewer = λ d f. f;
+}
 drop-of (Drop t) = tt
 
 undoing : (edit undo : Edit) → undone_by edit ≡ Some undo → IsUndoing edit undo
@@ -163,9 +207,11 @@ drop-undoes edit undo verb arguments lines is adds undoes none =
     let sound = sound-of edit lines is in
     let by = says edit (verb, arguments) (new-put edit (verb, arguments) adds) sound.0 in
     let u = undoing edit undo undoes in
-    let absent : is_there (about undo) None lines ≡ false = there-said (about undo) lines ∙ fewer-any (about edit) (about undo) u.fewer (directives_of lines) none in
+    let absent : is_there (about undo) None lines ≡ false =
+    there-said (about undo) lines ∙ fewer-any (about edit) (about undo) u.fewer (directives_of lines) none in
     edited-drop undo (lines_after edit lines) u.drops ∙ ap (without_targets (about undo)) (edited-added edit (verb, arguments) lines adds none)
-    ∙ added-undone (about undo) verb arguments by.new lines by.is (u.own by.new by.put) absent sound.1 ∙ ap (λ (b : Bool). if b then lines else lines ++ Blank ∷ []) (there-said (has_verb verb) lines)
+    ∙ added-undone (about undo) verb arguments by.new lines by.is (u.own by.new by.put) absent sound.1
+    ∙ ap (λ (b : Bool). if b then lines else lines ++ Blank ∷ []) (there-said (has_verb verb) lines)
 
 -- ---- the layout
 
@@ -184,4 +230,6 @@ either-layout false lines = ap layout (map-append plain lines (Blank ∷ [])) �
 pub drop-undoes-layout : DropUndoesForLayout
 drop-undoes-layout edit undo lines is undoes none =
     let u = undoing edit undo undoes in
-    ap (λ (ls : List (Line Placed)). layout (plain_lines ls)) (drop-undoes edit undo u.entry.0 u.entry.1 lines is u.adds undoes none) ∙ either-layout (list_any (has_verb u.entry.0) (directives_of lines)) lines
+    ap (λ (ls : List (Line Placed)). layout (plain_lines ls))
+    (drop-undoes edit undo u.entry.0 u.entry.1 lines is u.adds undoes none)
+    ∙ either-layout (list_any (has_verb u.entry.0) (directives_of lines)) lines

@@ -14,7 +14,8 @@ use Rattle.std.proofs.lemmas.Bool.{and_right, cases_Bool, or_parts}
 abbrev pub all_stay : List (Line Placed) → List Fate
 all_stay lines = map (λ line. Some line) lines
 
-pub none-dropped-from : (test : Directive → Bool) (block : Option Placed) (lines : List (Line Placed)) → is_there test block lines ≡ false → dropping_from test block lines ≡ all_stay lines
+pub none-dropped-from : (test : Directive → Bool) (block : Option Placed) (lines : List (Line Placed))
+    → is_there test block lines ≡ false → dropping_from test block lines ≡ all_stay lines
 none-dropped-from test block [] e = refl
 none-dropped-from test block (line ∷ lines) e =
     let parts = or_parts (passes test (directive_at block line)) (is_there test (block_after_line block line) lines) e in
@@ -35,22 +36,27 @@ staying false = None
 staying true = Some false
 
 -- lines that stay, before fates that empty no block and leave these lines
-pub stay-before : (fates : List Fate) (rest : List (Line Placed)) → empties false fates ≡ false → ((inside : Bool) → kept_lines (widened_from (staying inside) false fates) ≡ rest)
+pub stay-before : (fates : List Fate) (rest : List (Line Placed)) → empties false fates ≡ false
+    → ((inside : Bool) → kept_lines (widened_from (staying inside) false fates) ≡ rest)
     → (inside : Bool) (lines : List (Line Placed)) → kept_lines (widened_from (staying inside) false (all_stay lines ++ fates)) ≡ lines ++ rest
 stay-before fates rest none is inside [] = is inside
 stay-before fates rest none is false (Blank ∷ lines) = ap (λ (ls : List (Line Placed)). Blank ∷ ls) (stay-before fates rest none is false lines)
 stay-before fates rest none is true (Blank ∷ lines) = ap (λ (ls : List (Line Placed)). Blank ∷ ls) (stay-before fates rest none is true lines)
 stay-before fates rest none is inside (Comment text ∷ lines) = ap (λ (ls : List (Line Placed)). Comment text ∷ ls) (stay-before fates rest none is inside lines)
 stay-before fates rest none is inside (Open verb suffix ∷ lines) =
-    let stays : is_emptied (staying inside) suffix (all_stay lines ++ fates) ≡ false = and_right (is_none (staying inside) && is_none suffix) (empties false (all_stay lines ++ fates)) (empties-none fates none lines) in
+    let stays : is_emptied (staying inside) suffix (all_stay lines ++ fates) ≡ false =
+    and_right (is_none (staying inside) && is_none suffix) (empties false (all_stay lines ++ fates))
+    (empties-none fates none lines) in
     rw stays (ap (λ (ls : List (Line Placed)). Open verb suffix ∷ ls) (stay-before fates rest none is true lines))
 stay-before fates rest none is false (Close suffix ∷ lines) = ap (λ (ls : List (Line Placed)). Close suffix ∷ ls) (stay-before fates rest none is false lines)
 stay-before fates rest none is true (Close suffix ∷ lines) = ap (λ (ls : List (Line Placed)). Close suffix ∷ ls) (stay-before fates rest none is false lines)
-stay-before fates rest none is inside (Entry words suffix ∷ lines) = ap (λ (ls : List (Line Placed)). Entry words suffix ∷ ls) (stay-before fates rest none is inside lines)
+stay-before fates rest none is inside (Entry words suffix ∷ lines) =
+    ap (λ (ls : List (Line Placed)). Entry words suffix ∷ ls) (stay-before fates rest none is inside lines)
 
 pub all-lines-left : (inside : Bool) (lines : List (Line Placed)) → kept_lines (widened_from (staying inside) false (all_stay lines)) ≡ lines
 all-lines-left inside lines =
-    ap (λ (fs : List Fate). kept_lines (widened_from (staying inside) false fs)) (sym (append-nil (all_stay lines))) ∙ stay-before [] [] refl (λ within. refl) inside lines ∙ append-nil lines
+    ap (λ (fs : List Fate). kept_lines (widened_from (staying inside) false fs)) (sym (append-nil (all_stay lines)))
+    ∙ stay-before [] [] refl (λ within. refl) inside lines ∙ append-nil lines
 
 pub all-lines-stay : (lines : List (Line Placed)) → remaining (all_stay lines) ≡ lines
 unfolding remaining
@@ -62,7 +68,9 @@ none-dropped test lines e = ap remaining (none-dropped-from test None lines e) �
 -- ---- the lines after an operation
 
 -- what holds whether an operation targets a directive or none
-pub by-edited : (P : List (Line Placed) → Type 0) (edit : Edit) (lines : List (Line Placed)) → (is_there (about edit) None lines ≡ true → P (with_change edit lines)) → (is_there (about edit) None lines ≡ false → P (put_in edit lines)) → P (lines_after edit lines)
+pub by-edited : (P : List (Line Placed) → Type 0) (edit : Edit) (lines : List (Line Placed))
+    → (is_there (about edit) None lines ≡ true → P (with_change edit lines))
+    → (is_there (about edit) None lines ≡ false → P (put_in edit lines)) → P (lines_after edit lines)
 unfolding lines_after
 by-edited P edit lines there none = elim (cases_Bool (is_there (about edit) None lines)) [
   | inl is ↦ rw is (there is)
@@ -72,6 +80,7 @@ by-edited P edit lines there none = elim (cases_Bool (is_there (about edit) None
 -- a drop
 pub edited-drop : (edit : Edit) (lines : List (Line Placed)) → is_drop edit ≡ true → lines_after edit lines ≡ without_targets (about edit) lines
 unfolding with_change put_in
-edited-drop (Drop t) lines e = by-edited (λ ls. ls ≡ without_targets (about (Drop t)) lines) (Drop t) lines (λ there. refl) (λ none. sym (none-dropped (about (Drop t)) lines none))
+edited-drop (Drop t) lines e = by-edited (λ ls. ls ≡ without_targets (about (Drop t)) lines) (Drop t) lines
+    (λ there. refl) (λ none. sym (none-dropped (about (Drop t)) lines none))
 edited-drop (Set s) lines e = absurd cc
 edited-drop (Add a) lines e = absurd cc

@@ -18,7 +18,8 @@ pub line-here : (whole : List (Line Placed)) (n : ℕ) → n < length whole → 
 line-here whole n lt = drop-next whole n (line_at whole n) lt (get_or_default whole n Blank (line_at whole n) lt)
 
 -- a line of a file is right in its block
-pub right-at : (block : Option Placed) (lines : List (Line Placed)) (n : ℕ) → n < length lines → AreRightFrom block lines → IsRightLine (block_after_lines block (take n lines), line_at lines n)
+pub right-at : (block : Option Placed) (lines : List (Line Placed)) (n : ℕ) → n < length lines
+    → AreRightFrom block lines → IsRightLine (block_after_lines block (take n lines), line_at lines n)
 right-at block [] n lt right = absurd (omega (arith, lt))
 right-at block (line ∷ lines) zero lt right = right.0
 right-at block (line ∷ lines) (suc n) lt right = right-at (block_after_line block line) lines n (omega (arith, lt)) right.1
@@ -34,8 +35,12 @@ level-line block (Close suffix) level = absurd cc
 level-line block (Entry words suffix) level = refl
 
 -- the block after one more line
-pub block-next : (lines : List (Line Placed)) (n : ℕ) → n < length lines → block_after_lines None (take (n + 1) lines) ≡ block_after_line (block_after_lines None (take n lines)) (line_at lines n)
+pub block-next : (lines : List (Line Placed)) (n : ℕ) → n < length lines
+    → block_after_lines None (take (n + 1) lines) ≡ block_after_line (block_after_lines None (take n lines))
+    (line_at lines n)
 block-next lines n lt = ap (block_after_lines None) (take_more lines n Blank lt) ∙ block-append None (take n lines) (line_at lines n ∷ [])
 
-pub block-level : (lines : List (Line Placed)) (n : ℕ) → n < length lines → changes_block (key_of (line_at lines n)) ≡ false → block_after_lines None (take (n + 1) lines) ≡ block_after_lines None (take n lines)
+pub block-level : (lines : List (Line Placed)) (n : ℕ) → n < length lines
+    → changes_block (key_of (line_at lines n)) ≡ false → block_after_lines None (take (n + 1) lines)
+    ≡ block_after_lines None (take n lines)
 block-level lines n lt level = block-next lines n lt ∙ level-line (block_after_lines None (take n lines)) (line_at lines n) level

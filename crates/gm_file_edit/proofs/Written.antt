@@ -70,7 +70,8 @@ ends-sound : (text : List ℕ) (ends : VersionInterval) → interval_in text ≡
 unfolding interval_in
 ends-sound text ends e = elim (cases_Bool (is_bracketed text)) [
   | inl two ↦
-      let cut = then-some (λ (parts : List ℕ × List ℕ). both pair (version_in (trim parts.0)) (version_in (trim parts.1))) (split_at_byte 44 (inside_brackets text)) ends (rw two at e) in
+      let cut = then-some (λ (parts : List ℕ × List ℕ). both pair (version_in (trim parts.0))
+      (version_in (trim parts.1))) (split_at_byte 44 (inside_brackets text)) ends (rw two at e) in
       let parts = both-are pair (version_in (trim cut.0.0)) (version_in (trim cut.0.1)) ends cut.2 in
       subst AreVersions parts.4 (version-sound (trim cut.0.0) parts.0 parts.2, version-sound (trim cut.0.1) parts.1 parts.3)
   | inr one ↦
@@ -80,7 +81,8 @@ ends-sound text ends e = elim (cases_Bool (is_bracketed text)) [
 ]
 
 -- an operation with this name or one of the other names
-one-named : {X : Type 0} (P : Edit → Type 0) (named_so : Bool) (make : X → Edit) (part : Option X) (rest : Option Edit) (edit : Edit) → ((x : X) → part ≡ Some x → P (make x)) → (rest ≡ Some edit → P edit)
+one-named : {X : Type 0} (P : Edit → Type 0) (named_so : Bool) (make : X → Edit) (part : Option X) (rest : Option Edit)
+    (edit : Edit) → ((x : X) → part ≡ Some x → P (make x)) → (rest ≡ Some edit → P edit)
     → (if named_so then option_map make part else rest) ≡ Some edit → P edit
 one-named P true make part rest edit here other e = let m = map-some make part edit e in subst P m.2 (here m.0 m.1)
 one-named P false make part rest edit here other e = other e
@@ -97,7 +99,8 @@ named-sound name text edit =
     (one-named IsSoundEdit (bytes_eq name (codes "replace")) (λ r. Set (ReplaceWith r)) (replacing_in text) _ edit (replacing-sound text)
     (one-named IsSoundEdit (bytes_eq name (codes "dropreplace")) (λ left. Drop (AnyReplace left)) (left_in text) _ edit (λ left is. tt)
     (one-named IsSoundEdit (bytes_eq name (codes "retract")) (λ ends. Add (Retract ends)) (interval_in text) _ edit (ends-sound text)
-    (one-named IsSoundEdit (bytes_eq name (codes "dropretract")) (λ ends. Drop (AnyRetract ends)) (interval_in text) _ edit (λ ends is. tt) (λ e. absurd cc))))))))))
+    (one-named IsSoundEdit (bytes_eq name (codes "dropretract")) (λ ends. Drop (AnyRetract ends)) (interval_in text) _
+    edit (λ ends is. tt) (λ e. absurd cc))))))))))
 
 -- an operation that some text spells has valid arguments
 pub written-sound : (text : List ℕ) (edit : Edit) → edit_in text ≡ Some edit → IsSoundEdit edit

@@ -62,9 +62,12 @@ module _ {A : Name → Type 0} {before after : Name → Option Reply → Type 0}
   pub asks_passed : (S : Type 0) {T : Type 0} (name : Name) (fault : AskFault) (result : Result T AskFault) → IsErrAnd result (λ f. f ≡ fault)
       → AsksOne A before after old new (refused_for {T = S} name (Err fault)) → AsksOne A before after old new (refused_for name result)
   asks_passed S name fault (Ok value) given one = absurd given
-  asks_passed S {T} name fault (Err f) given one = subst (λ (e : AskFault). AsksOne A before after old new (refused_for {T = T} name (Err e))) (sym given) (same_for fault one)
+  asks_passed S {T} name fault (Err f) given one = subst
+      (λ (e : AskFault). AsksOne A before after old new (refused_for {T = T} name (Err e))) (sym given)
+      (same_for fault one)
     where
-      same_for : (e : AskFault) → AsksOne A before after old new (refused_for {T = S} name (Err e)) → AsksOne A before after old new (refused_for {T = T} name (Err e))
+      same_for : (e : AskFault) → AsksOne A before after old new (refused_for {T = S} name (Err e))
+          → AsksOne A before after old new (refused_for {T = T} name (Err e))
       same_for ask.NoMemory is = is
       same_for ask.Device is = is
 
@@ -75,7 +78,8 @@ module _ {A : Name → Type 0} {before after : Name → Option Reply → Type 0}
   asks_still {T} name (Err fault) given one = asks_by (ap (λ (f : AskFault). refused_for {T = T} name (Err f)) (sym given)) one
 
 -- It is that of an equal vertex's file.
-pub asks_same : {before after : Name → Option Reply → Type 0} {old new : StoreState} {failed names : List Name} (main main' : Main) (x x' : ModuleVersion) → main ≡ main' → x ≡ x' → failed ≡ names
+pub asks_same : {before after : Name → Option Reply → Type 0} {old new : StoreState} {failed names : List Name}
+    (main main' : Main) (x x' : ModuleVersion) → main ≡ main' → x ≡ x' → failed ≡ names
     → AsksOne (IsAskableFile main x) before after old new failed → AsksOne (IsAskableFile main' x') before after old new names
 asks_same main main' x x' same is e one = asks_by e (asks_wider (λ n file. (file.0 ∙ ap₂ file_of same is, file.1)) one)
 

@@ -77,7 +77,9 @@ refused_same (Err k) f h e = ap refused_names (h k refl)
 
 -- ---- the cache's turns are a prefix of the worklist
 
-pub lent_more : (lent after : List Turn) (old new rest : List Turn) (at : ℕ) (one : Turn) → lent ≡ take at old → after ≡ lent ++ one ∷ [] → new ≡ old ++ rest → at < length old → get_or old at one ≡ one → after ≡ take (at + 1) new
+pub lent_more : (lent after : List Turn) (old new rest : List Turn) (at : ℕ) (one : Turn) → lent ≡ take at old
+    → after ≡ lent ++ one ∷ [] → new ≡ old ++ rest → at < length old → get_or old at one ≡ one
+    → after ≡ take (at + 1) new
 lent_more lent after old new rest at one is longer e below here =
     let front : take (at + 1) new ≡ take (at + 1) old = ap (take (at + 1)) e ∙ take-append-le (at + 1) old rest (omega arith) in
     longer ∙ ap (λ (ts : List Turn). ts ++ one ∷ []) is ∙ ap (λ (t : Turn). take at old ++ t ∷ []) (sym here) ∙ sym (take_more old at one below) ∙ sym front

@@ -19,11 +19,13 @@ module _ (run : Run) where
   opened_end x (inr d) = deep_end d
 
   -- An edge of the list of all edges leads to an opened vertex.
-  pub opened_among : (edges : List Edge) → ((e : Edge) → Contains edges e ↔ IsEdge run e.from e.to) → (x : ModuleVersion) → IsOpened run x → IsEdgeEnd (among edges) x
+  pub opened_among : (edges : List Edge) → ((e : Edge) → Contains edges e ↔ IsEdge run e.from e.to)
+      → (x : ModuleVersion) → IsOpened run x → IsEdgeEnd (among edges) x
   opened_among edges exact x opened = let end = opened_end x opened in (end.0, (exact (edge end.0 x)).1 end.1)
 
 -- If edges lead to each vertex that is left, the vertices that edges lead to or that are left are those that edges lead to.
-pub ends_are : (vertices : List ModuleVersion) (sources : List Step) (old new : List Edge) → HaveSame old new → ((x : ModuleVersion) → Contains vertices x ↔ (IsEdgeEnd (among new) x ⊎ Contains sources (Of x)))
+pub ends_are : (vertices : List ModuleVersion) (sources : List Step) (old new : List Edge) → HaveSame old new
+    → ((x : ModuleVersion) → Contains vertices x ↔ (IsEdgeEnd (among new) x ⊎ Contains sources (Of x)))
     → ((x : ModuleVersion) → Contains sources (Of x) → IsEdgeEnd (among old) x) → AreEnds vertices (among new)
 ends_are vertices sources old new same are left x = (
   (λ h. elim ((are x).0 h) [

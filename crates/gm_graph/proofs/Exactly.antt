@@ -59,7 +59,8 @@ none_named (pair ∷ pairs) n h =
       | false ↦ λ e. none_named pairs n e
     ] h
 
-named_if : (b : Bool) (pair : Name × Reply) (ns : List Name) (n : Name) (o : Option Reply) → same_name n pair.0 ≡ b → IsSome (cond b (Some pair.1) o) → (IsSome o → Contains ns n) → Contains (pair.0 ∷ ns) n
+named_if : (b : Bool) (pair : Name × Reply) (ns : List Name) (n : Name) (o : Option Reply) → same_name n pair.0 ≡ b
+    → IsSome (cond b (Some pair.1) o) → (IsSome o → Contains ns n) → Contains (pair.0 ∷ ns) n
 named_if true pair ns n o e s there = (0, omega arith, sym (exact_name n pair.0 e))
 named_if false pair ns n o e s there = let (k, below, at) = there s in (suc k, omega (arith, below), at)
 
@@ -81,11 +82,13 @@ needed_kept : (main : Main) (sums : Option Sums) (pairs : List (Name × Reply)) 
 needed_kept main sums pairs one n (x, opened, is, askable) =
     (x, opened_kept main sums pairs (pairs ++ one ∷ []) (says_more main sums pairs (one ∷ [])) x opened, is, askable)
 
-asked_only : (main : Main) (sums : Option Sums) {pairs : List (Name × Reply)} → AskedInTurn (LoadingNeeds main sums) pairs → (n : Name) → Contains (names_in pairs) n
+asked_only : (main : Main) (sums : Option Sums) {pairs : List (Name × Reply)}
+    → AskedInTurn (LoadingNeeds main sums) pairs → (n : Name) → Contains (names_in pairs) n
     → IsNeeded (run_of main sums pairs) n
 asked_only main sums nothing n h = absurd (omega (arith, h.1))
 asked_only main sums (more {pairs} {name} reply asks called unasked) n h =
-    needed_kept main sums pairs (name, reply) n (elim (Contains-push_cases (names_in pairs) name n (subst (λ (ns : List Name). Contains ns n) (names_push pairs name reply) h)) [
+    needed_kept main sums pairs (name, reply) n (elim (Contains-push_cases (names_in pairs) name n
+    (subst (λ (ns : List Name). Contains ns n) (names_push pairs name reply) h)) [
       | inl there ↦ asked_only main sums asks n there
       | inr same ↦ subst (λ (m : Name). IsNeeded (run_of main sums pairs) m) same called.needed
     ])
@@ -133,6 +136,7 @@ module _ (run : Run) (vertices : List ModuleVersion) (turns : List Turn) (are : 
   pub few_opened : (xs : List ModuleVersion) → AreOpened run xs → length xs ≤ 65536
   few_opened xs opened =
       let fewer : length xs ≤ length vertices = length-le_from_is_member pairs-equivalence xs vertices opened.once
-      (λ q h. let there = (is_member-Decides pair_eq-Decides xs q).0 h in (is_member-Decides pair_eq-Decides vertices q).1 (opened_there q (opened.each q there))) in
+      (λ q h. let there = (is_member-Decides pair_eq-Decides xs q).0 h in
+      (is_member-Decides pair_eq-Decides vertices q).1 (opened_there q (opened.each q there))) in
       let few = are.few in
       omega arith

@@ -8,4 +8,5 @@ pub all_others : {X : Type 0} (p : X → Bool) (xs : List X) → list_any p xs �
 all_others p [] e = refl
 all_others p (x ∷ xs) e =
     let both = or_parts (p x) (list_any p xs) e in
-    ap (λ (rest : List _). x ∷ rest) (all_others p xs both.1) ∙ ap (λ (b : Bool). cond b (x ∷ filter (λ y. not (p y)) xs) (filter (λ y. not (p y)) xs)) (sym (ap not both.0))
+    ap (λ (rest : List _). x ∷ rest) (all_others p xs both.1)
+    ∙ ap (λ (b : Bool). cond b (x ∷ filter (λ y. not (p y)) xs) (filter (λ y. not (p y)) xs)) (sym (ap not both.0))

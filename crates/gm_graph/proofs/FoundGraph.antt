@@ -21,7 +21,7 @@ use Rattle.gm_graph.specs.declared.worklist.Worklist.{Worklist}
 use Rattle.gm_graph.specs.Cached.{kept_file, table_in}
 use Rattle.gm_graph.specs.Private.Cached.{ArePartsOf, module_numbered}
 use Rattle.gm_graph.specs.Private.Findings.{WasVisited, place_found}
-use Rattle.gm_graph.specs.Private.Gathering.{AreFaultsOf, AreFilePlaces, HasFaultOf, fault, has_file, sources_of, steps_by}
+use Rattle.gm_graph.specs.Private.Gathering.{AreFaultsOf, AreFilePlaces, HasFaultOf, fault, has_file, gathered_sources, steps_by}
 use Rattle.gm_graph.specs.Run.{AreFaults, IsEdge, IsFault, IsOpened, Requires, Run, Says}
 use Rattle.gm_graph.specs.Summaries.{at_span}
 use Rattle.gm_graph.specs.Private.Summaries.{span_found}
@@ -143,7 +143,7 @@ module _ (run : Run) (cache : Cache) (worklist : Worklist) (findings : Findings)
   has_place : (number place : ℕ) → place_found findings number ≡ Some place → WasVisited findings number
   has_place number place e = inl (subst (λ (o : Option ℕ). IsSome o) (sym e) refl)
 
-  source_edge : (one : Source) → Contains (sources_of places) one → (y : ModuleVersion)
+  source_edge : (one : Source) → Contains (gathered_sources places) one → (y : ModuleVersion)
       → Contains (modules_at modules (list_at lists one.list)) y → IsEdge run (step_with modules one.from) y
   source_edge one (zero, below, at) y h =
       subst (λ (s : Source). IsEdge run (step_with modules s.from) y) at
@@ -162,12 +162,12 @@ module _ (run : Run) (cache : Cache) (worklist : Worklist) (findings : Findings)
         ),
       )
 
-  listed_edge : (one : Source) (y : ModuleVersion) → Contains (sources_of places) one
+  listed_edge : (one : Source) (y : ModuleVersion) → Contains (gathered_sources places) one
       → Contains (modules_at modules (list_at lists one.list)) y → Contains (edges_of modules steps) (edge (step_with modules one.from) y)
   listed_edge one y there h =
       let found = from_mapped (module_at modules) (list_at lists one.list) y h in
       subst (λ (z : ModuleVersion). Contains (edges_of modules steps) (edge (step_with modules one.from) z)) found.2
-      (edge_there modules steps (step_edges lists one) found.0 (in_mapped (step_edges lists) (sources_of places) one there) found.1)
+      (edge_there modules steps (step_edges lists one) found.0 (in_mapped (step_edges lists) (gathered_sources places) one there) found.1)
 
   found_edge : (x y : ModuleVersion) (number : ℕ) → WasVisited findings number → module_numbered cache number ≡ x → Requires run x y
       → Contains (edges_of modules steps) (edge (Of x) y)
@@ -193,7 +193,7 @@ module _ (run : Run) (cache : Cache) (worklist : Worklist) (findings : Findings)
   only : (e : Edge) → Contains (edges_of modules steps) e → IsEdge run e.from e.to
   only e h =
       let found = edge_from modules steps e h in
-      let source = from_mapped (step_edges lists) (sources_of places) found.0 found.1 in
+      let source = from_mapped (step_edges lists) (gathered_sources places) found.0 found.1 in
       let number = found.2.0 in
       subst (λ (one : Edge). IsEdge run one.from one.to) found.2.2
       (subst (λ (s : StepEdges). IsEdge run (left_by modules s) (module_at modules number)) source.2
@@ -209,10 +209,10 @@ module _ (run : Run) (cache : Cache) (worklist : Worklist) (findings : Findings)
   pub sources_opened : (x : ModuleVersion) → Contains (steps_left modules steps) (Of x) → IsOpened run x
   sources_opened x h =
       let left = from_mapped (left_by modules) steps (Of x) h in
-      let source = from_mapped (step_edges lists) (sources_of places) left.0 left.1 in
+      let source = from_mapped (step_edges lists) (gathered_sources places) left.0 left.1 in
       by_source source.0 source.1 (ap (left_by modules) source.2 ∙ left.2)
     where
-      by_source : (one : Source) → Contains (sources_of places) one → step_with modules one.from ≡ Of x → IsOpened run x
+      by_source : (one : Source) → Contains (gathered_sources places) one → step_with modules one.from ≡ Of x → IsOpened run x
       by_source one (zero, below, at) is =
           let main : FromMain ≡ Of x = ap (λ (s : Source). step_with modules s.from) at ∙ is in absurd (cc main)
       by_source one (suc i, below, at) is =

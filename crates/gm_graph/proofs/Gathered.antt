@@ -16,12 +16,12 @@ use Rattle.gm_graph.specs.declared.cache.summary.Kept.{Kept}
 use Rattle.gm_graph.specs.declared.cache.summary.Kept.TheVariants.{Valid, Faulty}
 use Rattle.gm_graph.specs.declared.cache.summary.Summary.{Summary}
 use Rattle.gm_graph.specs.Private.Findings.{place_at}
-use Rattle.gm_graph.specs.Private.Gathering.{AreFilePlaces, has_file, sources_from, sources_of, span_after, spans_from, spans_of, steps_by}
-use Rattle.gm_graph.specs.Private.Summaries.{AreInOrder}
+use Rattle.gm_graph.specs.Private.Gathering.{AreFilePlaces, has_file, sources_from, gathered_sources, span_after, spans_from, spans_of, steps_by}
+use Rattle.gm_graph.specs.Private.Summaries.{AreListsInOrder}
 use Rattle.gm_graph_select.specs.declared.adjacency.Source.{Source}
 use Rattle.gm_graph_select.specs.declared.number_lists.Span.{Span}
 use Rattle.gm_graph_select.specs.Adjacency.{AreUsed, HaveNumbers, IsBelow, IsNumbered, StepEdges, by_step, left_by, list_at, same_step, step_edges}
-use Rattle.gm_graph_select.specs.Spans.{AreApart, lists_at, part_at}
+use Rattle.gm_graph_select.specs.Spans.{AreSpansApart, lists_at, part_at}
 use Rattle.gm_graph_select.specs.declared.step.Step.TheVariants.{Main, Of}
 use Rattle.gm_graph_select.specs.StepOrder.{step_eq}
 use Rattle.gm_graph.proofs.Ordered.{order_from}
@@ -109,7 +109,7 @@ module _ (modules : List ModuleVersion) (distinct : IsDistinct pair_eq modules) 
   )
 
   pub sources_once : (places : List (Option ℕ)) → ((k place : ℕ) → place_at places k ≡ Some place → k < length modules)
-      → IsDistinct (same_step modules) (by_step lists (sources_of places))
+      → IsDistinct (same_step modules) (by_step lists (gathered_sources places))
   unfolding IsDistinct
   sources_once places below = (main_differs 0 places, once_from 0 places (λ k place e. omega (arith, below k place e)))
 
@@ -120,17 +120,17 @@ past_end [] k e = omega arith
 past_end (file ∷ files) zero e = absurd (cc e)
 past_end (file ∷ files) (suc k) e = omega (arith, past_end files k e)
 
-pub spans_apart : (used : ℕ → Bool) (place from : ℕ) (files : List Kept) (to : ℕ) → AreInOrder from files to
-    → AreApart from (spans_from used place from files) to
+pub spans_apart : (used : ℕ → Bool) (place from : ℕ) (files : List Kept) (to : ℕ) → AreListsInOrder from files to
+    → AreSpansApart from (spans_from used place from files) to
 spans_apart used place from [] to are = are
 spans_apart used place from (Faulty class ∷ files) to are =
-    elim (used place) as (λ b. AreApart from (span_after from b (Faulty class)
+    elim (used place) as (λ b. AreSpansApart from (span_after from b (Faulty class)
     ∷ spans_from used (suc place) (span_after from b (Faulty class)).end files) to) [
       | true ↦ (omega arith, omega arith, spans_apart used (suc place) from files to are)
       | false ↦ (omega arith, omega arith, spans_apart used (suc place) from files to are)
     ]
 spans_apart used place from (Valid summary ∷ files) to are =
-    elim (used place) as (λ b. AreApart from (span_after from b (Valid summary)
+    elim (used place) as (λ b. AreSpansApart from (span_after from b (Valid summary)
     ∷ spans_from used (suc place) (span_after from b (Valid summary)).end files) to) [
       | true ↦ (are.0, are.1, spans_apart used (suc place) summary.kept.end files to are.2)
       | false ↦ (
@@ -273,13 +273,13 @@ module _ (parts : CacheParts) (places : List (Option ℕ)) (are : AreFilePlaces 
   abbrev lists : List (List ℕ)
   lists = lists_by parts places
 
-  pub lists_apart : AreApart 0 (spans_of parts.first parts.files.items (has_file places)) (length parts.numbers.items)
+  pub lists_apart : AreSpansApart 0 (spans_of parts.first parts.files.items (has_file places)) (length parts.numbers.items)
   lists_apart = (omega arith, omega arith, spans_apart (has_file places) 0 parts.first parts.files.items (length parts.numbers.items) parts.in_order)
 
   pub steps_once : IsDistinct (same_step parts.modules.items) (steps_by parts places)
   steps_once = sources_once parts.modules.items parts.distinct lists places (λ k place e. (are k place e).0)
 
-  pub lists_used : AreUsed lists (sources_of places)
+  pub lists_used : AreUsed lists (gathered_sources places)
   lists_used zero some = (record { from = None; list = 0 }, (0, omega arith, refl), refl)
   lists_used (suc place) some =
       let (k, there) = has_noted places place (list_used parts.numbers.items (has_file places) parts.first parts.files.items place some) in
@@ -298,14 +298,14 @@ module _ (parts : CacheParts) (places : List (Option ℕ)) (are : AreFilePlaces 
   list_below (span ∷ spans) zero = part_below span
   list_below (span ∷ spans) (suc place) = list_below spans place
 
-  from_below : (one : Source) → Contains (sources_of places) one → IsBelow (length parts.modules.items) one.from
+  from_below : (one : Source) → Contains (gathered_sources places) one → IsBelow (length parts.modules.items) one.from
   from_below one (zero, below, at) = subst (λ (s : Source). IsBelow (length parts.modules.items) s.from) at tt
   from_below one (suc i, below, at) =
       let (k, place, e, is) = source_is places one (i, omega (arith, below), at) in
       subst (λ (s : Source). IsBelow (length parts.modules.items) s.from) (sym is) (omega (arith, (are k place e).0))
 
   pub steps_numbered : HaveNumbers (length parts.modules.items) (steps_by parts places)
-  steps_numbered = each (sources_of places) (λ one h. from_below one h)
+  steps_numbered = each (gathered_sources places) (λ one h. from_below one h)
     where
       each : (sources : List Source) → ((one : Source) → Contains sources one → IsBelow (length parts.modules.items) one.from)
           → HaveNumbers (length parts.modules.items) (by_step lists sources)
@@ -319,13 +319,13 @@ module _ (parts : CacheParts) (places : List (Option ℕ)) (are : AreFilePlaces 
 pub record IsInput (modules : List ModuleVersion) (numbers : List ℕ) (spans : List Span) (sources : List Source) : Type 0 where
   pub few : length modules ≤ 4294967295
   pub distinct : IsDistinct pair_eq modules
-  pub apart : AreApart 0 spans (length numbers)
+  pub apart : AreSpansApart 0 spans (length numbers)
   pub numbered : HaveNumbers (length modules) (by_step (lists_at numbers spans) sources)
   pub once : IsDistinct (same_step modules) (by_step (lists_at numbers spans) sources)
   pub used : AreUsed (lists_at numbers spans) sources
 
 pub is_input : (parts : CacheParts) (places : List (Option ℕ)) → AreFilePlaces parts places
-    → IsInput parts.modules.items parts.numbers.items (spans_of parts.first parts.files.items (has_file places)) (sources_of places)
+    → IsInput parts.modules.items parts.numbers.items (spans_of parts.first parts.files.items (has_file places)) (gathered_sources places)
 is_input parts places are = record {
   few = parts.few;
   distinct = parts.distinct;
@@ -337,7 +337,7 @@ is_input parts places are = record {
 
 -- The edges that leave each source are those of the parts.
 pub steps_are : (parts : CacheParts) (places : List (Option ℕ)) (numbers : List ℕ) (spans : List Span) (sources : List Source)
-    → numbers ≡ parts.numbers.items → spans ≡ spans_of parts.first parts.files.items (has_file places) → sources ≡ sources_of places
+    → numbers ≡ parts.numbers.items → spans ≡ spans_of parts.first parts.files.items (has_file places) → sources ≡ gathered_sources places
     → by_step (lists_at numbers spans) sources ≡ steps_by parts places
 steps_are parts places numbers spans sources same at are =
     ap (λ (ns : List ℕ). by_step (lists_at ns spans) sources) same

@@ -94,7 +94,8 @@ pub map_cond : {A B : Type 0} (f : A → B) (b : Bool) (v : A) (r : Option A) �
 map_cond f true v r = refl
 map_cond f false v r = refl
 
-pub kept_with : (b : Bool) (main : Main) (modules : List ModuleVersion) (o : Option Kept) (one some : Kept) → ((any : Kept) → o ≡ Some any → IsKept main modules any) → IsKept main modules one
+pub kept_with : (b : Bool) (main : Main) (modules : List ModuleVersion) (o : Option Kept) (one some : Kept)
+    → ((any : Kept) → o ≡ Some any → IsKept main modules any) → IsKept main modules one
     → cond b (Some one) o ≡ Some some → IsKept main modules some
 kept_with true main modules o one some were is e = let same : one ≡ some = cc in subst (λ (x : Kept). IsKept main modules x) same is
 kept_with false main modules o one some were is e = were some e
@@ -112,7 +113,8 @@ answer_put false sums name other reply reading answer held is reads before = bef
 module _ (main : Main) (sums : Option Sums) (list : NumberedList) (old new : FileTable) where
   module _ (name : Name) (reply : Reply) (one : Kept) (puts : PutsFile old new name one)
       (reads : IsFileReading sums name reply (summary_reading (modules_of list) one)) (is : IsKept main (modules_of list) one) where
-    put_held : (other : Name) → held_under list new other ≡ cond (same_name other name) (Some (summary_reading (modules_of list) one)) (held_under list old other)
+    put_held : (other : Name) → held_under list new other
+        ≡ cond (same_name other name) (Some (summary_reading (modules_of list) one)) (held_under list old other)
     put_held other = ap (option_map (summary_reading (modules_of list))) (puts other)
         ∙ map_cond (summary_reading (modules_of list)) (same_name other name) one (kept_at old other)
 
@@ -120,10 +122,12 @@ module _ (main : Main) (sums : Option Sums) (list : NumberedList) (old new : Fil
         → IsAnswerOf sums other (answer_in ((name, reply) ∷ pairs) other) (held_under list new other)
     put_answers pairs holds other =
         subst (λ (held : Option (Result Dependency Class)). IsAnswerOf sums other (answer_in ((name, reply) ∷ pairs) other) held) (sym (put_held other))
-        (answer_put (same_name other name) sums name other reply (summary_reading (modules_of list) one) (answer_in pairs other) (held_under list old other) refl reads
+        (answer_put (same_name other name) sums name other reply (summary_reading (modules_of list) one)
+        (answer_in pairs other) (held_under list old other) refl reads
         (record { kept = holds.kept other; only = holds.only other }))
 
-    put_holds : (pairs : List (Name × Reply)) → HoldsAnswers (run_of main sums pairs) list old → HoldsAnswers (run_of main sums ((name, reply) ∷ pairs)) list new
+    put_holds : (pairs : List (Name × Reply)) → HoldsAnswers (run_of main sums pairs) list old
+        → HoldsAnswers (run_of main sums ((name, reply) ∷ pairs)) list new
     put_holds pairs holds = record {
       kept = λ other. (put_answers pairs holds other).kept;
       only = λ other. (put_answers pairs holds other).only;

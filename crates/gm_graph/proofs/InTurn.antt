@@ -66,7 +66,8 @@ module _ {main : Main} {sums : Option Sums} {cache : Cache} {worklist : Worklist
   read = read_by main sums cache old.asked state.sums_are state.knows
 
   -- what was asked for
-  pub asked_in_turn : {first : Name → Option Reply → Type 0} {start : StoreState} → AsksInTurn main sums first before start old [] → AsksInTurn main sums first after start new failed
+  pub asked_in_turn : {first : Name → Option Reply → Type 0} {start : StoreState}
+      → AsksInTurn main sums first before start old [] → AsksInTurn main sums first after start new failed
   asked_in_turn {first} {start} is =
       let turns = turns_of (table_in cache) worklist in
       let inside = turn_below (table_in cache) worklist at below in

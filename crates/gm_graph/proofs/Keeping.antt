@@ -189,7 +189,8 @@ names_none : (fault : LoadFault) → fault ≡ load.NoMemory → refused_names f
 names_none fault is = ap refused_names is
 
 -- Where memory runs out, no name is refused.
-pub none_refused : {T : Type 0} (result : Result T LoadFault) (old new : List Name) → IsErrAnd result (λ fault. fault ≡ load.NoMemory) → new ≡ old → new ≡ old ++ refused_in result
+pub none_refused : {T : Type 0} (result : Result T LoadFault) (old new : List Name)
+    → IsErrAnd result (λ fault. fault ≡ load.NoMemory) → new ≡ old → new ≡ old ++ refused_in result
 none_refused (Ok value) old new given same = absurd given
 none_refused (Err fault) old new given same = same ∙ sym (append-nil old) ∙ ap (λ (names : List Name). old ++ names) (sym (names_none fault given))
 

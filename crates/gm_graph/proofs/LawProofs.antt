@@ -17,12 +17,15 @@ use Rattle.gm_graph.specs.Laws.{EarlierSayingsStay, FirstAnswersSaySomething, Is
 use Rattle.gm_graph.proofs.Sayings.{answer_stays, one_said, says_more}
 
 pub rows_are_required : RowsAreRequired
-rows_are_required run asked loaded is x right there = (lawful.row_selected run.main.path run.main.replaces (IsEdge run) loaded.rows is.rows x right there).is_end
+rows_are_required run asked loaded is x right there = (lawful.row_selected run.main.path run.main.replaces (IsEdge run)
+    loaded.rows is.rows x right there).is_end
 
 pub rows_satisfy : RowsSatisfyRequirements
 rows_satisfy run asked loaded is from y to other =
     let same : AreSame (among loaded.edges) (IsEdge run) = λ s z. is.edges.each (edge s z) in
-    let list : IsBuildList run.main.path run.main.replaces (among loaded.edges) loaded.rows = same_build_list run.main.path run.main.replaces (IsEdge run) (among loaded.edges) loaded.rows (same_back (among loaded.edges) (IsEdge run) same) is.rows in
+    let list : IsBuildList run.main.path run.main.replaces (among loaded.edges) loaded.rows =
+    same_build_list run.main.path run.main.replaces (IsEdge run) (among loaded.edges) loaded.rows
+    (same_back (among loaded.edges) (IsEdge run) same) is.rows in
     lawful.rows_satisfy run.main.path run.main.replaces loaded.edges loaded.rows list y (from, (same from y).1 to) other
 
 module _ (run : Run) (unpruned : is_pruned_by run.main.go ≡ false) where

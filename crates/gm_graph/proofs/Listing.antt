@@ -22,7 +22,9 @@ behind : (main : List ℕ) (e : Entry) (es : List Entry) (path : List ℕ) → p
 behind main e es path other (entry, (zero, below, is), same) = absurd (other (ap (λ (x : Entry). path_of main x.0) is ∙ same))
 behind main e es path other (entry, (suc k, below, is), same) = (entry, (k, omega arith, is), same)
 
-not_before : (main : List ℕ) (e : Entry) (before : List Entry) (path : List ℕ) → path_of main e.0 ≢ path → ((x : Entry) → Contains before x → path_of main x.0 ≢ path) → (x : Entry) → Contains (e ∷ before) x → path_of main x.0 ≢ path
+not_before : (main : List ℕ) (e : Entry) (before : List Entry) (path : List ℕ) → path_of main e.0 ≢ path
+    → ((x : Entry) → Contains before x → path_of main x.0 ≢ path) → (x : Entry) → Contains (e ∷ before) x
+    → path_of main x.0 ≢ path
 not_before main e before path other others x (zero, below, is) = subst (λ (y : Entry). path_of main y.0 ≢ path) is other
 not_before main e before path other others x (suc k, below, is) = others x (k, omega arith, is)
 
@@ -46,11 +48,14 @@ pub first_at : (main : List ℕ) (entries : List Entry) (path : List ℕ) → Ha
 first_at main [] path (entry, there, same) = absurd (omega (arith, there.1))
 first_at main (e ∷ es) path listed = elim (cases_Bool (bytes_eq (path_of main e.0) path)) [
   | inl is ↦ found_now main e es path (same_bytes (path_of main e.0) path is)
-  | inr is_not ↦ (let other = differs (path_of main e.0) path is_not in found_later main e es path other (first_at main es path (behind main e es path other listed)))
+  | inr is_not ↦ (let other = differs (path_of main e.0) path is_not in
+      found_later main e es path other (first_at main es path (behind main e es path other listed)))
 ]
 
 -- Edges lead to that entry.
-pub reached_entry : (main : List ℕ) (edges : List Edge) (entries : List Entry) (path : List ℕ) → AreReached edges entries → ¬ ((s : Step) × IsEntryOf main entries path s × IsReached (among edges) s) → ¬ (HasEntryFor main entries path)
+pub reached_entry : (main : List ℕ) (edges : List Edge) (entries : List Entry) (path : List ℕ)
+    → AreReached edges entries → ¬ ((s : Step) × IsEntryOf main entries path s × IsReached (among edges) s)
+    → ¬ (HasEntryFor main entries path)
 reached_entry main edges entries path are none listed =
     let found = first_at main entries path listed in
     let at = found.2 in

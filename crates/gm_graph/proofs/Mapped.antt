@@ -42,7 +42,9 @@ module _ (faults : tree.BTreeMap ModuleVersion Class) (ordered : tree.IsOrdered 
     (λ h. in_mapped entry_fault faults.entries (one.vertex, one.class) ((btree_map_get_iff pair_total pair-anti faults ordered one.vertex one.class).0 h)),
   )
 
-  vertex_at : (i : ℕ) (d : Fault) → i < length faults.entries → (get_or (map (λ e. fault e.0 e.1) faults.entries) i d).vertex ≡ get_or (map (λ (e : ModuleVersion × Class). e.0) faults.entries) i d.vertex
+  vertex_at : (i : ℕ) (d : Fault) → i < length faults.entries
+      → (get_or (map (λ e. fault e.0 e.1) faults.entries) i d).vertex
+      ≡ get_or (map (λ (e : ModuleVersion × Class). e.0) faults.entries) i d.vertex
   vertex_at i d inside =
       ap (λ (f : Fault). f.vertex) (get_or-map entry_fault faults.entries i (entry_of_fault d) d inside)
       ∙ sym (get_or-map (λ (e : ModuleVersion × Class). e.0) faults.entries i (entry_of_fault d) d.vertex inside)

@@ -68,7 +68,8 @@ one_unless : (o : Option Class) (content : List ℕ) (a b : Result Dependency Cl
 one_unless None content a b is other = one_content content a b is other
 one_unless (Some class) content a b is other = is ∙ sym other
 
-pub one_reading : (sums : Option Sums) (name : Name) (reply : Reply) (a b : Result Dependency Class) → IsFileReading sums name reply a → IsFileReading sums name reply b → a ≡ b
+pub one_reading : (sums : Option Sums) (name : Name) (reply : Reply) (a b : Result Dependency Class)
+    → IsFileReading sums name reply a → IsFileReading sums name reply b → a ≡ b
 one_reading sums name absent a b is other = is ∙ sym other
 one_reading sums name too_long a b is other = is ∙ sym other
 one_reading sums name (bytes content) a b is other = one_unless (sum_fault sums name content) content a b is other

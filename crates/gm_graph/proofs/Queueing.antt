@@ -85,7 +85,8 @@ module _ (main : Main) (sums : Option Sums) (pairs longer : List (Name × Reply)
     ];
     done = λ k d lt. elim (cases_eq k at) [
       | inl is ↦ subst (λ (t : Turn). IsDone later new t)
-          (sym (ap (λ (n : ℕ). get_or new n d) is ∙ get_or-along old new follows.extends.0 at d follows.extends.1 below ∙ get_or_default old at d (turn x depth) below ∙ here)) follows.done
+          (sym (ap (λ (n : ℕ). get_or new n d) is ∙ get_or-along old new follows.extends.0 at d follows.extends.1 below
+          ∙ get_or_default old at d (turn x depth) below ∙ here)) follows.done
       | inr not_is ↦ let lower : k < at = omega arith in let inside : k < length old = omega arith in
           subst (λ (t : Turn). IsDone later new t) (sym (get_or-along old new follows.extends.0 k d follows.extends.1 inside))
           (done_along later old new (get_or old k d) follows.extends (IsDone-kept main sums pairs longer keeps old (get_or old k d) (queue.done k d lower)))

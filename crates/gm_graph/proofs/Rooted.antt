@@ -38,7 +38,8 @@ list_rooted run edges exact =
     same_rooted (IsEdge run) (among edges) (same_back (among edges) (IsEdge run) (same_edges run edges exact)) (edges_rooted run)
 
 -- The entries of a build list are reached.
-module _ (main : List ℕ) (replaces : List Replacing) (edges : List Edge) (entries : List Entry) (rooted : IsRooted (among edges)) (list : IsBuildList main replaces (among edges) entries) where
+module _ (main : List ℕ) (replaces : List Replacing) (edges : List Edge) (entries : List Entry)
+    (rooted : IsRooted (among edges)) (list : IsBuildList main replaces (among edges) entries) where
   selected_reached : (x : ModuleVersion) → IsSelected main (among edges) x → IsReached (among edges) (Of x)
   selected_reached x is = let (s, e) = is.is_end in let (n, l) = rooted s x e in (suc n, along l e)
 

@@ -39,8 +39,10 @@ both_turns vertices = map (λ x. turn x Top) vertices ++ map (λ x. turn x Deep)
 
 among_both : (vertices : List ModuleVersion) (x : ModuleVersion) (d : Depth) → Contains vertices x → Contains (both_turns vertices) (turn x d)
 unfolding both_turns
-among_both vertices x Top h = Contains-append_left (map (λ y. turn y Top) vertices) (map (λ y. turn y Deep) vertices) (turn x Top) (Contains-map (λ y. turn y Top) vertices x h)
-among_both vertices x Deep h = Contains-append_right (map (λ y. turn y Top) vertices) (map (λ y. turn y Deep) vertices) (turn x Deep) (Contains-map (λ y. turn y Deep) vertices x h)
+among_both vertices x Top h = Contains-append_left (map (λ y. turn y Top) vertices) (map (λ y. turn y Deep) vertices)
+    (turn x Top) (Contains-map (λ y. turn y Top) vertices x h)
+among_both vertices x Deep h = Contains-append_right (map (λ y. turn y Top) vertices) (map (λ y. turn y Deep) vertices)
+    (turn x Deep) (Contains-map (λ y. turn y Deep) vertices x h)
 
 length-both_turns : (vertices : List ModuleVersion) → length (both_turns vertices) ≡ length vertices + length vertices
 unfolding both_turns
@@ -50,7 +52,9 @@ pub few_turns : (vertices : List ModuleVersion) (turns : List Turn) → AreTurns
     → length turns ≤ 131072
 few_turns vertices turns are =
     let most : length turns ≤ length (both_turns vertices) = length-le_from_is_member turns_equivalence turns (both_turns vertices) are.turns_once
-    (λ q h. let there = (is_member-Decides same_turn-Decides turns q).0 h in (is_member-Decides same_turn-Decides (both_turns vertices) q).1 (among_both vertices q.vertex q.depth (are.has_vertex q there))) in
+    (λ q h. let there = (is_member-Decides same_turn-Decides turns q).0 h in
+    (is_member-Decides same_turn-Decides (both_turns vertices) q).1
+    (among_both vertices q.vertex q.depth (are.has_vertex q there))) in
     let few = are.few in
     let twice = length-both_turns vertices in
     omega arith
@@ -111,7 +115,8 @@ module _ (run : Run) (old new : List Turn) (none : old ≡ []) where
     ];
   }
 
-  first_by : (pruned : Bool) → is_pruned_by run.main.go ≡ pruned → AddsAll old new (without_excluded run.main run.main.requirements) (depth_by pruned) → AreFirstTurns run new
+  first_by : (pruned : Bool) → is_pruned_by run.main.go ≡ pruned
+      → AddsAll old new (without_excluded run.main run.main.requirements) (depth_by pruned) → AreFirstTurns run new
   first_by true is adds = first_tops is adds
   first_by false is adds = first_deeps is adds
 

@@ -38,16 +38,20 @@ abbrev pub SaysToo : Run → Run → Type 0
 SaysToo one other = (x : ModuleVersion) → IsOpened other x → (said : Result Dependency Class) → Says one x said → Says other x said
 
 module _ (one other : Run) (same : ReplaceAlike one.main other.main) (alike : SayAlike one other) (heard : HearsAll other) where
-  right_too : (x : ModuleVersion) (file : Dependency) (b : Bool) → is_right_path x (replacement_in one.main x) file.declared ≡ b → is_right_path x (replacement_in other.main x) file.declared ≡ b
+  right_too : (x : ModuleVersion) (file : Dependency) (b : Bool)
+      → is_right_path x (replacement_in one.main x) file.declared ≡ b
+      → is_right_path x (replacement_in other.main x) file.declared ≡ b
   right_too x file b is = subst (λ (right : Option Right). is_right_path x right file.declared ≡ b) (same x) is
 
-  heard_too : (x : ModuleVersion) {said : Result Dependency Class} → IsOpened other x → FileSays one (file_of other.main x) said → FileSays other (file_of other.main x) said
+  heard_too : (x : ModuleVersion) {said : Result Dependency Class} → IsOpened other x
+      → FileSays one (file_of other.main x) said → FileSays other (file_of other.main x) said
   heard_too x opened (unaskable e) = unaskable e
   heard_too x {said} opened (answered reply ask at reads) =
       let (again, there) = heard (file_of other.main x) (x, opened, refl, ask) in
       answered again ask there (alike (file_of other.main x) reply again at there said reads)
 
-  file_too : (x : ModuleVersion) (said : Result Dependency Class) → IsOpened other x → FileSays one (file_of one.main x) said → FileSays other (file_of other.main x) said
+  file_too : (x : ModuleVersion) (said : Result Dependency Class) → IsOpened other x
+      → FileSays one (file_of one.main x) said → FileSays other (file_of other.main x) said
   file_too x said opened is = heard_too x opened (subst (λ (name : Name). FileSays one name said) (ap (file_named x) (same x)) is)
 
   pub says_too : SaysToo one other

@@ -68,7 +68,8 @@ pub answer_stays : (pairs more : List (Name × Reply)) (name : Name) (reply : Re
     → answer_in (pairs ++ more) name ≡ Some reply
 answer_stays [] more name reply e = absurd cc
 answer_stays (pair ∷ pairs) more name reply e =
-    elim (same_name name pair.0) as (λ b. cond b (Some pair.1) (answer_in pairs name) ≡ Some reply → cond b (Some pair.1) (answer_in (pairs ++ more) name) ≡ Some reply) [
+    elim (same_name name pair.0) as (λ b. cond b (Some pair.1) (answer_in pairs name) ≡ Some reply
+    → cond b (Some pair.1) (answer_in (pairs ++ more) name) ≡ Some reply) [
       | true ↦ λ h. h
       | false ↦ λ h. answer_stays pairs more name reply h
     ] e

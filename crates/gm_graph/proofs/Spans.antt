@@ -38,7 +38,8 @@ kept_still main old new (Valid summary) begins is = record {
 }
 kept_still main old new (Faulty class) begins is = tt
 
-reading_still : (main : Main) (old new : List ModuleVersion) (one : Kept) → BeginsWith old new → IsKept main old one → summary_reading new one ≡ summary_reading old one
+reading_still : (main : Main) (old new : List ModuleVersion) (one : Kept) → BeginsWith old new → IsKept main old one
+    → summary_reading new one ≡ summary_reading old one
 reading_still main old new (Valid summary) begins is =
     ap (λ (xs : List ModuleVersion). Ok (with_requirements summary.file xs)) (span_still old new summary.all begins is.all_within)
 reading_still main old new (Faulty class) begins is = refl
@@ -49,7 +50,8 @@ readings_still main old new None begins is = refl
 readings_still main old new (Some one) begins is = ap Some (reading_still main old new one begins (is one refl))
 
 -- Where the requirements of an entry are, if there is one, is within the list.
-pub span_within : (main : Main) (modules : List ModuleVersion) (o : Option Kept) → ((one : Kept) → o ≡ Some one → IsKept main modules one) → IsWithinList modules (span_found o)
+pub span_within : (main : Main) (modules : List ModuleVersion) (o : Option Kept)
+    → ((one : Kept) → o ≡ Some one → IsKept main modules one) → IsWithinList modules (span_found o)
 span_within main modules None is = record { order = omega arith; within = omega arith }
 span_within main modules (Some (Faulty class)) is = record { order = omega arith; within = omega arith }
 span_within main modules (Some (Valid summary)) is = (is (Valid summary) refl).kept_within

@@ -36,14 +36,16 @@ use Rattle.gm_graph.proofs.Rounds.{are_turns, has_turn_of, opened_from, opened_k
 
 module _ (modules : List ModuleVersion) (worklist : Worklist) (at : ℕ) where
   -- The turn at a position is that of the numbered one there.
-  pub turn_here : (one : NumberedTurn) → at < length worklist.turns.items → one ≡ get_or worklist.turns.items at one → get_or (turns_of modules worklist) at (turn_of modules one) ≡ turn_of modules one
+  pub turn_here : (one : NumberedTurn) → at < length worklist.turns.items → one ≡ get_or worklist.turns.items at one
+      → get_or (turns_of modules worklist) at (turn_of modules one) ≡ turn_of modules one
   turn_here one below is = get_or-map (turn_of modules) worklist.turns.items at one (turn_of modules one) below ∙ ap (turn_of modules) (sym is)
 
   pub turn_below : at < length worklist.turns.items → at < length (turns_of modules worklist)
   turn_below below = rw length-map below
 
   -- Its number is that of a module.
-  pub number_here : (one : NumberedTurn) → IsWorklist modules worklist → at < length worklist.turns.items → one ≡ get_or worklist.turns.items at one → one.number < length modules
+  pub number_here : (one : NumberedTurn) → IsWorklist modules worklist → at < length worklist.turns.items
+      → one ≡ get_or worklist.turns.items at one → one.number < length modules
   number_here one is below here = All-contains (λ (o : NumberedTurn). o.number < length modules) worklist.turns.items one is.turned (at, below, sym here)
 
   pub past_all : length worklist.turns.items ≤ at → length (turns_of modules worklist) ≤ at

@@ -38,23 +38,30 @@ not_asked cache pairs name knows e = none_told (sums_in cache) name (answer_in p
 
 -- ---- one more answer
 
-answer_there : (pairs : List (Name × Reply)) (name : Name) (reply : Reply) → answer_in pairs name ≡ None → answer_in (pairs ++ (name, reply) ∷ []) name ≡ Some reply
+answer_there : (pairs : List (Name × Reply)) (name : Name) (reply : Reply) → answer_in pairs name ≡ None
+    → answer_in (pairs ++ (name, reply) ∷ []) name ≡ Some reply
 answer_there [] name reply e = ap (λ (b : Bool). cond b (Some reply) None) (name_itself name)
 answer_there (pair ∷ pairs) name reply e =
-    elim (same_name name pair.0) as (λ b. cond b (Some pair.1) (answer_in pairs name) ≡ None → cond b (Some pair.1) (answer_in (pairs ++ (name, reply) ∷ []) name) ≡ Some reply) [
+    elim (same_name name pair.0) as (λ b. cond b (Some pair.1) (answer_in pairs name) ≡ None
+    → cond b (Some pair.1) (answer_in (pairs ++ (name, reply) ∷ []) name) ≡ Some reply) [
       | true ↦ λ h. absurd cc
       | false ↦ λ h. answer_there pairs name reply h
     ] e
 
-answer_elsewhere : (pairs : List (Name × Reply)) (name other : Name) (reply : Reply) → same_name other name ≡ false → answer_in (pairs ++ (name, reply) ∷ []) other ≡ answer_in pairs other
+answer_elsewhere : (pairs : List (Name × Reply)) (name other : Name) (reply : Reply) → same_name other name ≡ false
+    → answer_in (pairs ++ (name, reply) ∷ []) other ≡ answer_in pairs other
 answer_elsewhere [] name other reply e = ap (λ (b : Bool). cond b (Some reply) None) e
-answer_elsewhere (pair ∷ pairs) name other reply e = ap (λ (o : Option Reply). cond (same_name other pair.0) (Some pair.1) o) (answer_elsewhere pairs name other reply e)
+answer_elsewhere (pair ∷ pairs) name other reply e = ap
+    (λ (o : Option Reply). cond (same_name other pair.0) (Some pair.1) o) (answer_elsewhere pairs name other reply e)
 
-answer_along : (sums : Option Sums) (name : Name) (a b : Option Reply) (h k : Option (Result Dependency Class)) → a ≡ b → h ≡ k → IsAnswerOf sums name b k → IsAnswerOf sums name a h
-answer_along sums name a b h k e f is = subst (λ (x : Option Reply). IsAnswerOf sums name x h) (sym e) (subst (λ (y : Option (Result Dependency Class)). IsAnswerOf sums name b y) (sym f) is)
+answer_along : (sums : Option Sums) (name : Name) (a b : Option Reply) (h k : Option (Result Dependency Class)) → a ≡ b
+    → h ≡ k → IsAnswerOf sums name b k → IsAnswerOf sums name a h
+answer_along sums name a b h k e f is = subst (λ (x : Option Reply). IsAnswerOf sums name x h) (sym e)
+    (subst (λ (y : Option (Result Dependency Class)). IsAnswerOf sums name b y) (sym f) is)
 
 -- what is held with one more reading, at one name
-answer_with : (b : Bool) (old : Cache) (pairs : List (Name × Reply)) (held : Option (Result Dependency Class)) (name : Name) (reply : Reply) (reading : Result Dependency Class) (other : Name)
+answer_with : (b : Bool) (old : Cache) (pairs : List (Name × Reply)) (held : Option (Result Dependency Class))
+    (name : Name) (reply : Reply) (reading : Result Dependency Class) (other : Name)
     → (b ≡ same_name other name) → Knows old pairs → answer_in pairs name ≡ None → IsFileReading (sums_in old) name reply reading
     → held ≡ cond b (Some reading) (held_of old other) → IsAnswerOf (sums_in old) other (answer_in (pairs ++ (name, reply) ∷ []) other) held
 answer_with true old pairs held name reply reading other is knows fresh reads e =
@@ -84,7 +91,8 @@ pub knows_more : (old new : Cache) (pairs : List (Name × Reply)) (name : Name) 
 knows_more old new pairs name reply one knows none same_main same_sums modules keeps reads is =
     let all : List (Name × Reply) = pairs ++ (name, reply) ∷ [] in
     let answers : (other : Name) → IsAnswerOf (sums_in old) other (answer_in all other) (held_of new other) =
-    λ other. answer_with (same_name other name) old pairs (held_of new other) name reply (summary_reading (modules_of old.modules) one) other refl knows none reads
+    λ other. answer_with (same_name other name) old pairs (held_of new other) name reply
+    (summary_reading (modules_of old.modules) one) other refl knows none reads
     (held_with old new name one modules keeps other) in
     let said : (other : Name) → IsAnswerOf (sums_in new) other (answer_in all other) (held_of new other) =
     λ other. subst (λ (s : Option Sums). IsAnswerOf s other (answer_in all other) (held_of new other)) (sym same_sums) (answers other) in
@@ -101,7 +109,9 @@ knows_more old new pairs name reply one knows none same_main same_sums modules k
 pub knows_read : (old mid new : Cache) (pairs all : List (Name × Reply)) (name : Name) (reply : Reply) (one : Kept)
     → Knows old pairs → HoldsSame old mid → LentSame mid new → new.modules ≡ mid.modules → summary_at old name ≡ None
     → PutsFile mid.files new.files name one
-    → all ≡ pairs ++ (name, reply) ∷ [] → IsFileReading (sums_in old) name reply (summary_reading (modules_of mid.modules) one) → IsKept (main_in old) (modules_of mid.modules) one → Knows new all
+    → all ≡ pairs ++ (name, reply) ∷ [] → IsFileReading (sums_in old) name reply
+    (summary_reading (modules_of mid.modules) one) → IsKept (main_in old) (modules_of mid.modules) one
+    → Knows new all
 knows_read old mid new pairs all name reply one knows same lent modules none adds e reads is =
     subst (λ (ps : List (Name × Reply)). Knows new ps) (sym e)
     (knows_more mid new pairs name reply one (knows_still old mid pairs same knows) (not_asked old pairs name knows none) lent.main lent.sums modules adds

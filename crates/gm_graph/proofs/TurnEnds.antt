@@ -44,7 +44,8 @@ pub got : (old new : Cache) (earlier pairs : List (Name × Reply)) (number : ℕ
     → HasVisited old earlier new pairs number d v
 got old new earlier pairs number d is same ends =
     subst (λ (one : Visit). HasVisited old earlier new pairs number d one) same
-    (subst (λ (r : Result Visit AskFault). MatchResult r (λ one. HasVisited old earlier new pairs number d one) (λ fault. KeptTurns old new number fault)) is ends)
+    (subst (λ (r : Result Visit AskFault). MatchResult r (λ one. HasVisited old earlier new pairs number d one)
+    (λ fault. KeptTurns old new number fault)) is ends)
 
 -- ---- the cache may have numbered more modules
 

@@ -44,7 +44,7 @@ ghost use Rattle.gm_graph.specs.Private.FileTable.{PutsFile, IsNewFile, NotesFil
 ghost use Rattle.gm_graph.specs.Private.Held.{HoldsSome};
 ghost use Rattle.gm_graph.specs.Lent.{lent_modules};
 ghost use Rattle.gm_graph.specs.Summaries.{IsKept, IsWithinList, at_span, summary_reading};
-ghost use Rattle.gm_graph.specs.Private.Summaries.{AreInOrder, order_is_fact, Grows};
+ghost use Rattle.gm_graph.specs.Private.Summaries.{AreListsInOrder, order_is_fact, Grows};
 
 use crate::cache::class::Class;
 use crate::cache::depth::Depth;
@@ -94,7 +94,7 @@ pub struct Cache<'a> {
     ghost places_within: { length files.places.items ≤ length modules.modules },
     ghost holds_some: { ∥ HoldsSome (main_of main.now) (option_copied sums) modules files ∥₁ },
     ghost notes: { NotesFiles (main_of main.now) modules.modules files },
-    ghost in_order: { AreInOrder first files.files.items (length modules.numbers) } by { order_is_fact first files.files.items (length modules.numbers) },
+    ghost in_order: { AreListsInOrder first files.files.items (length modules.numbers) } by { order_is_fact first files.files.items (length modules.numbers) },
 }
 
 /// A table of names without a limit, which knows the paths that the main file requires.
@@ -143,7 +143,7 @@ fn summarize(
         (summary_reading (modules_of modules.new) kept)) }
     ensures kept { IfOk result (IsKept (main_of main.now) (modules_of modules.new)) }
     ensures order { IfOk result (λ kept.
-        AreInOrder (length modules.old.numbers) (kept ∷ []) (length modules.new.numbers)) }
+        AreListsInOrder (length modules.old.numbers) (kept ∷ []) (length modules.new.numbers)) }
     ensures grows { Grows modules.old modules.new }
 {
     expect_path(names, name)?;
@@ -209,7 +209,7 @@ impl<'a> Cache<'a> {
             × IsFileReading (sums_in self.old) (name_of name.now) reply
             (summary_reading (modules_of self.new.modules) kept)) }
         ensures kept { IfOk result (IsKept (main_in self.old) (modules_of self.new.modules)) }
-        ensures order { IfOk result (λ kept. AreInOrder self.new.first (self.new.files.files.items ++ kept ∷ [])
+        ensures order { IfOk result (λ kept. AreListsInOrder self.new.first (self.new.files.files.items ++ kept ∷ [])
             (length self.new.modules.numbers)) }
         ensures holds { HoldsSame self.old self.new }
         ensures lent { LentSame self.old self.new }
@@ -238,7 +238,7 @@ impl<'a> Cache<'a> {
         requires reading { (reply : Reply) × IsFileReading (sums_in self.old) (name_of name.now) reply
             (summary_reading (modules_of self.old.modules) kept) }
         requires kept { IsKept (main_in self.old) (modules_of self.old.modules) kept }
-        requires order { AreInOrder self.old.first (self.old.files.files.items ++ kept ∷ [])
+        requires order { AreListsInOrder self.old.first (self.old.files.files.items ++ kept ∷ [])
             (length self.old.modules.numbers) }
         ensures count { file_count self.new ≤ file_count self.old + 1 }
         ensures adds { OnOk result (PutsFile self.old.files self.new.files (name_of name.now) kept) }

@@ -7,8 +7,8 @@ ghost use Rattle.std.specs.Prelude.{◌≡◌, ◌↔◌, ◌⊎◌, ◌<◌, �
 ghost use Rattle.std.specs.BTreeMap as tree;
 ghost use Rattle.gm_name.specs.ModuleVersion.{ModuleVersion, module_at, pair_cmp};
 ghost use Rattle.gm_graph.specs.Private.Findings.{place_at};
-ghost use Rattle.gm_graph.specs.Private.Gathering.{AreFaultsOf, AreFilePlaces, HasFaultOf, fault, has_file, source_at, sources_of, span_after, spans_of, steps_by};
-ghost use Rattle.gm_graph.specs.Private.Summaries.{AreInOrder};
+ghost use Rattle.gm_graph.specs.Private.Gathering.{AreFaultsOf, AreFilePlaces, HasFaultOf, fault, has_file, source_at, gathered_sources, span_after, spans_of, steps_by};
+ghost use Rattle.gm_graph.specs.Private.Summaries.{AreListsInOrder};
 ghost use Rattle.gm_graph_select.specs.Adjacency.{edges_of, sources_of as steps_left};
 ghost use Rattle.gm_graph_select.specs.declared.step.Step.TheVariants.{Of};
 ghost use Rattle.gm_graph_select.specs.Graph.{IsEdgeEnd, among, edge_cmp};
@@ -45,7 +45,7 @@ fn push_source(
 /// The sources: the main module, and each vertex that has a file, by its number.
 fn source_list(alloc: Global, places: &[Option<u32>]) -> Result<Vec<Source>, AllocError>
     requires { (number : ℕ) → IsSome (place_at places.now number) → number < 4294967296 }
-    ensures { IfOk result (λ sources. sources.items ≡ sources_of places.now) }
+    ensures { IfOk result (λ sources. sources.items ≡ gathered_sources places.now) }
 {
     let mut sources = Vec::new(alloc);
     sources.push(Source {
@@ -78,7 +78,7 @@ fn used_files(alloc: Global, count: usize, places: &[Option<u32>]) -> Result<Vec
 
 /// Where the requirements of a file are, if a vertex has the file: otherwise an empty span at this place.
 fn span_after(end: u32, is_used: bool, kept: &Kept) -> Span
-    requires { AreInOrder end (kept.now ∷ []) 4294967295 }
+    requires { AreListsInOrder end (kept.now ∷ []) 4294967295 }
     ensures { result ≡ span_after end is_used kept.now }
 {
     match kept {
@@ -98,7 +98,7 @@ fn span_list(
     files: &[Kept],
     used: &[bool],
 ) -> Result<Vec<Span>, AllocError>
-    requires order { AreInOrder first files.now 4294967295 }
+    requires order { AreListsInOrder first files.now 4294967295 }
     requires used { length used.now ≡ length files.now }
     ensures { IfOk result (λ spans. spans.items
         ≡ spans_of first files.now (λ place. slice_index_or used.now place false)) }
@@ -135,7 +135,7 @@ fn lists_of(
     requires { AreFilePlaces parts.now places.items }
     ensures spans { IfOk result (λ lists. lists.spans.items
         ≡ spans_of parts.now.first parts.now.files.items (has_file places.items)) }
-    ensures sources { IfOk result (λ lists. lists.sources.items ≡ sources_of places.items) }
+    ensures sources { IfOk result (λ lists. lists.sources.items ≡ gathered_sources places.items) }
 {
     if parts.numbers.len() >= MOST_PLACES as usize {
         return Err(AllocError);

@@ -46,7 +46,8 @@ module _ {T : Type 0} where
 -- ---- two lists
 
 -- pairs within two lists and between them
-pub pairs_append : {T : Type 0} (R : T → T → Type 0) (xs ys : List T) → AllPairs R xs → AllPairs R ys → ((x y : T) → Contains xs x → Contains ys y → R x y) → AllPairs R (xs ++ ys)
+pub pairs_append : {T : Type 0} (R : T → T → Type 0) (xs ys : List T) → AllPairs R xs → AllPairs R ys
+    → ((x y : T) → Contains xs x → Contains ys y → R x y) → AllPairs R (xs ++ ys)
 pairs_append R [] ys a b between = b
 pairs_append {T} R (x ∷ xs) ys a b between =
     AllPairs-cons R x (xs ++ ys) firsts (pairs_append R xs ys (pairs_tail R x xs a) b (λ y z h k. between y z (member_tail x y xs h) k))
@@ -63,7 +64,8 @@ same_append {T} xs ys us vs front back x = (
   along ys xs vs us (λ h. (front x).1 h) (λ h. (back x).1 h),
 )
   where
-    along : (olds news cs ds : List T) → (Contains olds x → Contains news x) → (Contains cs x → Contains ds x) → Contains (olds ++ cs) x → Contains (news ++ ds) x
+    along : (olds news cs ds : List T) → (Contains olds x → Contains news x) → (Contains cs x → Contains ds x)
+        → Contains (olds ++ cs) x → Contains (news ++ ds) x
     along olds news cs ds f g h = elim (Contains-append_cases olds cs x h) [
       | inl here ↦ Contains-append_left news ds x (f here)
       | inr later ↦ Contains-append_right news ds x (g later)
@@ -97,13 +99,17 @@ module _ {T : Type 0} {cmp : T → T → Ordering} (total : IsTotalOrder cmp) wh
 
       there : (z : T) → Contains xs z → Contains ys z
       there z inside = elim (member_cases y z ys ((h z).0 (member_tail x z xs inside))) [
-        | inl is ↦ absurd (less_itself x (subst (λ (w : T). cmp x w ≡ Less) (sym (first (member_cases y x ys ((h x).0 (member_head x xs))) ∙ is)) (pairs_head (λ a b. cmp a b ≡ Less) x z xs up inside)))
+        | inl is ↦ absurd (less_itself x (subst (λ (w : T). cmp x w ≡ Less)
+            (sym (first (member_cases y x ys ((h x).0 (member_head x xs))) ∙ is))
+            (pairs_head (λ a b. cmp a b ≡ Less) x z xs up inside)))
         | inr rest ↦ rest
       ]
 
       back : (z : T) → Contains ys z → Contains xs z
       back z inside = elim (member_cases x z xs ((h z).1 (member_tail y z ys inside))) [
-        | inl is ↦ absurd (less_itself y (subst (λ (w : T). cmp y w ≡ Less) (sym (sym (first (member_cases y x ys ((h x).0 (member_head x xs)))) ∙ is)) (pairs_head (λ a b. cmp a b ≡ Less) y z ys down inside)))
+        | inl is ↦ absurd (less_itself y (subst (λ (w : T). cmp y w ≡ Less)
+            (sym (sym (first (member_cases y x ys ((h x).0 (member_head x xs)))) ∙ is))
+            (pairs_head (λ a b. cmp a b ≡ Less) y z ys down inside)))
         | inr rest ↦ rest
       ]
 

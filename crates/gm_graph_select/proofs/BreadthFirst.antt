@@ -59,7 +59,8 @@ main_level : (E : Edges) → IsLevel E Main 0
 main_level E = record { leads = at_main; least = λ m h. omega arith }
 
 -- If no edge leaves a step of a level, edges lead to no step beyond it.
-all_within : (E : Edges) (level : ℕ) → ((s : Step) (y : ModuleVersion) → IsLevel E s level → E s y → ⊥) → (s : Step) (k : ℕ) → Leads E s k → (IsWithin E level s → ⊥) → ⊥
+all_within : (E : Edges) (level : ℕ) → ((s : Step) (y : ModuleVersion) → IsLevel E s level → E s y → ⊥)
+    → (s : Step) (k : ℕ) → Leads E s k → (IsWithin E level s → ⊥) → ⊥
 all_within E level none _ _ at_main far = far (0, omega arith, at_main)
 all_within E level none _ _ (along {s} {y} {n} l e) far = all_within E level none s n l (λ (m, low, near).
     not_further E level y far (λ t here a. none t y here a) (suc m, omega (arith, low), along near e))
@@ -73,7 +74,9 @@ pub visit_last : (visits : List Visit) (v : Visit) → visit_at (visits ++ v ∷
 visit_last visits v = get_or-append_seam visits v [] (record { number = 0; before = 0 })
 
 -- What holds of each visit at its place, and of one more.
-each_more : (P : ℕ → Visit → Type 0) (visits : List Visit) (v : Visit) → ((k : ℕ) → k < length visits → P k (visit_at visits k)) → P (length visits) v → (k : ℕ) → k < length (visits ++ v ∷ []) → P k (visit_at (visits ++ v ∷ []) k)
+each_more : (P : ℕ → Visit → Type 0) (visits : List Visit) (v : Visit)
+    → ((k : ℕ) → k < length visits → P k (visit_at visits k)) → P (length visits) v → (k : ℕ)
+    → k < length (visits ++ v ∷ []) → P k (visit_at (visits ++ v ∷ []) k)
 each_more P visits v each last k below = elim (cases_lt k (length visits)) [
   | inl lt ↦ subst (λ (u : Visit). P k u) (sym (visit_kept visits v k lt)) (each k lt)
   | inr ge ↦
@@ -82,7 +85,8 @@ each_more P visits v each last k below = elim (cases_lt k (length visits)) [
 ]
 
 module _ (E : Edges) (steps : List Step) (visits : List Visit) (v : Visit) where
-  traced_later : (place later : ℕ) (w : Visit) → place ≤ length visits → place ≤ later → IsTraced E steps visits place w → IsTraced E steps (visits ++ v ∷ []) later w
+  traced_later : (place later : ℕ) (w : Visit) → place ≤ length visits → place ≤ later → IsTraced E steps visits place w
+      → IsTraced E steps (visits ++ v ∷ []) later w
   traced_later place later w inside le (inl main) = inl main
   traced_later place later w inside le (inr (y, is, below, before)) = inr (
     y,
@@ -102,9 +106,12 @@ module _ (E : Edges) (steps : List Step) (visits : List Visit) (v : Visit) where
         (traced_later (length visits) (length visits) v (omega arith) (omega arith) traced);
   }
 
-pub last_visit : (steps : List Step) (visits : List Visit) (v : Visit) (all : List Visit) (p : ℕ) → all ≡ visits ++ v ∷ [] → p ≡ length visits → (visited_step steps all p ≡ step_at steps v.number) × (p < length all)
+pub last_visit : (steps : List Step) (visits : List Visit) (v : Visit) (all : List Visit) (p : ℕ)
+    → all ≡ visits ++ v ∷ [] → p ≡ length visits → (visited_step steps all p ≡ step_at steps v.number)
+    × (p < length all)
 last_visit steps visits v all p is at = (
-  ap (λ (vs : List Visit). visited_step steps vs p) is ∙ ap (visited_step steps (visits ++ v ∷ [])) at ∙ ap (λ (u : Visit). step_at steps u.number) (visit_last visits v),
+  ap (λ (vs : List Visit). visited_step steps vs p) is ∙ ap (visited_step steps (visits ++ v ∷ [])) at
+      ∙ ap (λ (u : Visit). step_at steps u.number) (visit_last visits v),
   (let long = ap length is in omega (arith, long, at, length-append visits (v ∷ []))),
 )
 
@@ -118,7 +125,8 @@ module _ (G : GraphView) (goal : ModuleVersion) (level : ℕ) (before : List Boo
   steps = steps_of G
 
   -- A step is the predecessor of a vertex if no edge that was followed leads there.
-  predecessor : (s : Step) (y : ModuleVersion) → E s y → IsTurn G level before tried s → (IsWithin E level (Of y) → ⊥) → ((t : Step) → Contains tried (edge t y) → ⊥) → IsPredecessor E s y
+  predecessor : (s : Step) (y : ModuleVersion) → E s y → IsTurn G level before tried s → (IsWithin E level (Of y) → ⊥)
+      → ((t : Step) → Contains tried (edge t y) → ⊥) → IsPredecessor E s y
   predecessor s y there turn far new = record {
     is_edge = there;
     level = level;
@@ -128,7 +136,8 @@ module _ (G : GraphView) (goal : ModuleVersion) (level : ℕ) (before : List Boo
   }
 
   -- Edges whose ends were found.
-  with_edges : (state : State) (more : List Edge) → ((e : Edge) → Contains more e → IsFoundEnd G goal state.found e.to) → IsFollowed G goal level before tried state → IsFollowed G goal level before (tried ++ more) state
+  with_edges : (state : State) (more : List Edge) → ((e : Edge) → Contains more e → IsFoundEnd G goal state.found e.to)
+      → IsFollowed G goal level before tried state → IsFollowed G goal level before (tried ++ more) state
   with_edges state more ends f = record {
     found = f.found;
     count = f.count;
@@ -139,19 +148,28 @@ module _ (G : GraphView) (goal : ModuleVersion) (level : ℕ) (before : List Boo
   }
 
   -- One more visit.
-  pub visited_now : (state : State) (visits : List Visit) (v : Visit) → v.number < length steps → visits ≡ state.visits ++ v ∷ [] → IsVisitedNext G goal level before tried state v → IsFollowed G goal level before tried (record state { visits = visits })
+  pub visited_now : (state : State) (visits : List Visit) (v : Visit) → v.number < length steps
+      → visits ≡ state.visits ++ v ∷ [] → IsVisitedNext G goal level before tried state v
+      → IsFollowed G goal level before tried (record state { visits = visits })
   visited_now state visits v inside is due =
       let f = due.followed in
       subst (λ (vs : List Visit). IsFollowed G goal level before tried (record state { visits = vs })) (sym is) (record {
         found = f.found;
         count = f.count;
-        each = λ w h. record { inside = (f.each w h).inside; on_level = (f.each w h).on_level; traced = traced_more E steps state.visits v w (f.each w h).traced };
+        each = λ w h. record {
+          inside = (f.each w h).inside;
+          on_level = (f.each w h).on_level;
+          traced =
+              traced_more E steps state.visits v w (f.each w h).traced;
+        };
         ends = f.ends;
         visits = all_traced E steps state.visits v inside due.traced f.visits;
         passed = f.passed;
       })
 
-  module _ (state : State) (place number : ℕ) (e : Edge) (are : IsGraph G) (next : IsNextEdge G goal level before tried state.visits place number e) (f : IsFollowed G goal level before tried state) where
+  module _ (state : State) (place number : ℕ) (e : Edge) (are : IsGraph G)
+      (next : IsNextEdge G goal level before tried state.visits place number e)
+      (f : IsFollowed G goal level before tried state) where
     end_at : (found : List Bool) → HasMark found number → (a : Edge) → Contains (e ∷ []) a → IsFoundEnd G goal found a.to
     end_at found mark a h = subst (λ (b : Edge). IsFoundEnd G goal found b.to) (one_member e a h) (record {
       end = λ i below is. subst (λ (n : ℕ). HasMark found n) (sym (same_number steps (steps_ascend G are) i number below next.inside (is ∙ sym next.to))) mark;
@@ -176,7 +194,8 @@ module _ (G : GraphView) (goal : ModuleVersion) (level : ℕ) (before : List Boo
       later y h = record { end = λ j low at. (marked.each j).1 (inl (h.end j low at)); miss = h.miss }
 
       far : IsWithin E level (Of e.to) → ⊥
-      far w = false≢true (sym none ∙ (f.found.each number).1 (inl (next.turn.full number next.inside (subst (λ (s : Step). IsWithin E level s) (sym next.to) w))))
+      far w = false≢true (sym none ∙ (f.found.each number).1
+          (inl (next.turn.full number next.inside (subst (λ (s : Step). IsWithin E level s) (sym next.to) w))))
 
       its_visit : IsVisitDue G (suc level) state.visits v
       its_visit = record {
@@ -208,14 +227,19 @@ module _ (G : GraphView) (goal : ModuleVersion) (level : ℕ) (before : List Boo
 
   module _ (state : State) (number list : ℕ) (ranks : List ℕ) where
     -- The edges of a step whose list was passed lead to nothing new.
-    pub with_passed : number < length steps → HasList G number list → AreLeaving G number ranks → HasMark state.passed list → IsFollowed G goal level before tried state → IsFollowed G goal level before (tried ++ edges_leaving G number ranks) state
+    pub with_passed : number < length steps → HasList G number list → AreLeaving G number ranks
+        → HasMark state.passed list → IsFollowed G goal level before tried state
+        → IsFollowed G goal level before (tried ++ edges_leaving G number ranks) state
     with_passed inside has are mark f = with_edges state (edges_leaving G number ranks) (λ e h.
         let (rank, there, is) = from_mapped (edge_leaving G number) ranks e h in
         subst (λ (a : Edge). IsFoundEnd G goal state.found a.to) is
-        (f.passed number list inside has mark (module_at G.vertices rank) (All-contains (λ (r : ℕ). Contains G.edges (edge_leaving G number r)) ranks rank are.only there))) f
+        (f.passed number list inside has mark (module_at G.vertices rank)
+        (All-contains (λ (r : ℕ). Contains G.edges (edge_leaving G number r)) ranks rank are.only there))) f
 
     -- The edges of a step with a list were followed, so the list was passed.
-    pub list_passed : AreInList G list ranks → IsFollowed G goal level before (tried ++ edges_leaving G number ranks) state → IsFollowed G goal level before (tried ++ edges_leaving G number ranks) (record state { passed = set state.passed list true })
+    pub list_passed : AreInList G list ranks → IsFollowed G goal level before (tried ++ edges_leaving G number ranks)
+        state → IsFollowed G goal level before (tried ++ edges_leaving G number ranks)
+        (record state { passed = set state.passed list true })
     list_passed are f = record { found = f.found; count = f.count; each = f.each; ends = f.ends; visits = f.visits; passed = now }
       where
         now : ArePassed G goal state.found (set state.passed list true)
@@ -224,7 +248,8 @@ module _ (G : GraphView) (goal : ModuleVersion) (level : ℕ) (before : List Boo
               (let leaving = are other inside (subst (λ (p : ℕ). HasList G other p) same has) in
               let (rank, there, is) = from_mapped (edge_leaving G other) ranks (edge (step_at steps other) y) (leaving.all y e) in
               subst (λ (z : ModuleVersion). IsFoundEnd G goal state.found z) (ap (λ (a : Edge). a.to) is)
-              (f.ends (edge_leaving G number rank) (Contains-append_right tried (edges_leaving G number ranks) (edge_leaving G number rank) (in_mapped (edge_leaving G number) ranks rank there))))
+              (f.ends (edge_leaving G number rank) (Contains-append_right tried (edges_leaving G number ranks)
+              (edge_leaving G number rank) (in_mapped (edge_leaving G number) ranks rank there))))
           | inr unlike ↦ f.passed other place inside has (sym (get_or-set_other state.passed list place true false unlike) ∙ mark) y e
         ]
 
@@ -236,7 +261,9 @@ module _ (G : GraphView) (goal : ModuleVersion) (level : ℕ) (before : List Boo
   }
 
   -- The goal is found by an edge that leaves the last visited step.
-  pub found_here : (state : State) (old : List Visit) (v : Visit) → state.visits ≡ old ++ v ∷ [] → E (step_at steps v.number) goal → IsTurn G level before tried (step_at steps v.number) → (IsWithin E level (Of goal) → ⊥)
+  pub found_here : (state : State) (old : List Visit) (v : Visit) → state.visits ≡ old ++ v ∷ []
+      → E (step_at steps v.number) goal → IsTurn G level before tried (step_at steps v.number)
+      → (IsWithin E level (Of goal) → ⊥)
       → IsFollowed G goal level before tried state → IsTracedTo G goal state.visits
   found_here state old v is there turn far f =
       let long = ap length is in
@@ -248,17 +275,26 @@ module _ (G : GraphView) (goal : ModuleVersion) (level : ℕ) (before : List Boo
             (predecessor (step_at steps v.number) goal there turn far (λ t h. (f.ends (edge t goal) h).miss refl));
       }
 
-pub one_more : (G : GraphView) (number : ℕ) (done : List Edge) (ranks : List ℕ) (i rank : ℕ) → i < length ranks → rank ≡ get_or ranks i 0 → (done ++ edges_leaving G number (take i ranks)) ++ edge_leaving G number rank ∷ [] ≡ done ++ edges_leaving G number (take (i + 1) ranks)
+pub one_more : (G : GraphView) (number : ℕ) (done : List Edge) (ranks : List ℕ) (i rank : ℕ) → i < length ranks
+    → rank ≡ get_or ranks i 0 → (done ++ edges_leaving G number (take i ranks)) ++ edge_leaving G number rank ∷ []
+    ≡ done ++ edges_leaving G number (take (i + 1) ranks)
 one_more G number done ranks i rank below is =
     append_assoc done (edges_leaving G number (take i ranks)) (edge_leaving G number rank ∷ [])
-    ∙ ap (λ (es : List Edge). done ++ es) (ap (λ (r : ℕ). edges_leaving G number (take i ranks) ++ edge_leaving G number r ∷ []) is ∙ sym (map_more (edge_leaving G number) ranks i 0 below))
+    ∙ ap (λ (es : List Edge). done ++ es) (ap (λ (r : ℕ).
+    edges_leaving G number (take i ranks) ++ edge_leaving G number r ∷ []) is
+    ∙ sym (map_more (edge_leaving G number) ranks i 0 below))
 
 -- ---- one more visit of a level
 
-pub one_tried : (G : GraphView) (v : Visit) (more : List Edge) → ((y : ModuleVersion) → graph_edges G (step_at (steps_of G) v.number) y → Contains more (edge (step_at (steps_of G) v.number) y)) → AreTried G (v ∷ []) more
-one_tried G v more all w h y e = subst (λ (u : Visit). graph_edges G (step_at (steps_of G) u.number) y → Contains more (edge (step_at (steps_of G) u.number) y)) (one_member v w h) (all y) e
+pub one_tried : (G : GraphView) (v : Visit) (more : List Edge)
+    → ((y : ModuleVersion) → graph_edges G (step_at (steps_of G) v.number) y
+    → Contains more (edge (step_at (steps_of G) v.number) y)) → AreTried G (v ∷ []) more
+one_tried G v more all w h y e = subst (λ (u : Visit). graph_edges G (step_at (steps_of G) u.number) y
+    → Contains more (edge (step_at (steps_of G) u.number) y)) (one_member v w h) (all y) e
 
-pub tried_more : (G : GraphView) (due : List Visit) (i : ℕ) (v : Visit) (tried more : List Edge) → i < length due → v ≡ get_or due i v → AreTried G (take i due) tried → AreTried G (v ∷ []) more → AreTried G (take (i + 1) due) (tried ++ more)
+pub tried_more : (G : GraphView) (due : List Visit) (i : ℕ) (v : Visit) (tried more : List Edge) → i < length due
+    → v ≡ get_or due i v → AreTried G (take i due) tried → AreTried G (v ∷ []) more
+    → AreTried G (take (i + 1) due) (tried ++ more)
 tried_more G due i v tried more below is old new =
     subst (λ (vs : List Visit). AreTried G vs (tried ++ more)) (ap (λ (u : Visit). take i due ++ u ∷ []) is ∙ sym (take_more due i v below))
     (λ w there y e. elim (Contains-push_cases (take i due) v w there) [
@@ -268,15 +304,19 @@ tried_more G due i v tried more below is old new =
 
 module _ (G : GraphView) (goal : ModuleVersion) (level : ℕ) (start : State) (due : List Visit) (are : IsGraph G) (h : IsSearchedTo G goal level start due) where
   -- A step of the level with an edge is that of a visit that is due.
-  visit_to : (s : Step) (y : ModuleVersion) → graph_edges G s y → IsLevel (graph_edges G) s level → (v : Visit) × Contains due v × (step_at (steps_of G) v.number ≡ s)
+  visit_to : (s : Step) (y : ModuleVersion) → graph_edges G s y → IsLevel (graph_edges G) s level
+      → (v : Visit) × Contains due v × (step_at (steps_of G) v.number ≡ s)
   visit_to s y e l =
       let (i, inside, at) = step_number G are s y e in
       let (v, there, number) = h.listed i inside (subst (λ (t : Step). IsLevel (graph_edges G) t level) (sym at) l) in
       (v, there, ap (step_at (steps_of G)) number ∙ at)
 
   -- its edge, if those of these visits were followed
-  tried_edge : (visits : List Visit) (tried : List Edge) (v : Visit) (s : Step) (y : ModuleVersion) → AreTried G visits tried → Contains visits v → step_at (steps_of G) v.number ≡ s → graph_edges G s y → Contains tried (edge s y)
-  tried_edge visits tried v s y all there same e = subst (λ (t : Step). Contains tried (edge t y)) same (all v there y (subst (λ (t : Step). graph_edges G t y) (sym same) e))
+  tried_edge : (visits : List Visit) (tried : List Edge) (v : Visit) (s : Step) (y : ModuleVersion)
+      → AreTried G visits tried → Contains visits v → step_at (steps_of G) v.number ≡ s → graph_edges G s y
+      → Contains tried (edge s y)
+  tried_edge visits tried v s y all there same e = subst (λ (t : Step). Contains tried (edge t y)) same
+      (all v there y (subst (λ (t : Step). graph_edges G t y) (sym same) e))
 
   -- No edge was followed yet.
   pub level_begins : IsFollowed G goal level start.found [] start
@@ -290,7 +330,9 @@ module _ (G : GraphView) (goal : ModuleVersion) (level : ℕ) (start : State) (d
   }
 
   -- A visit of the level is due after those before it.
-  pub due_next : (state : State) (tried : List Edge) (i : ℕ) (v : Visit) → i < length due → v ≡ get_or due i v → AreTried G (take i due) tried → IsTraced (graph_edges G) (steps_of G) state.visits (length state.visits) v → IsFollowed G goal level start.found tried state
+  pub due_next : (state : State) (tried : List Edge) (i : ℕ) (v : Visit) → i < length due → v ≡ get_or due i v
+      → AreTried G (take i due) tried → IsTraced (graph_edges G) (steps_of G) state.visits (length state.visits) v
+      → IsFollowed G goal level start.found tried state
       → IsVisitedNext G goal level start.found tried state v
   due_next state tried i v below is all traced f = record {
     turn = record { on_level = (h.each v member).on_level; lower = lower; full = λ j inside w. (h.found j inside).1 w };
@@ -302,13 +344,17 @@ module _ (G : GraphView) (goal : ModuleVersion) (level : ℕ) (start : State) (d
       member : Contains due v
       member = (i, below, sym is)
 
-      lower : (t : Step) (y : ModuleVersion) → graph_edges G t y → IsLevel (graph_edges G) t level → is_lt (step_cmp t (step_at (steps_of G) v.number)) ≡ true → Contains tried (edge t y)
+      lower : (t : Step) (y : ModuleVersion) → graph_edges G t y → IsLevel (graph_edges G) t level
+          → is_lt (step_cmp t (step_at (steps_of G) v.number)) ≡ true → Contains tried (edge t y)
       lower t y e l low =
           let (w, (p, room, found), same) = visit_to t y e l in
-          let less : w.number < v.number = less_number (steps_of G) (steps_ascend G are) w.number v.number (h.each w (p, room, found)).inside (h.each v member).inside
+          let less : w.number < v.number = less_number (steps_of G) (steps_ascend G are) w.number v.number
+          (h.each w (p, room, found)).inside (h.each v member).inside
           (subst (λ (s : Step). is_lt (step_cmp s (step_at (steps_of G) v.number)) ≡ true) (sym same) low) in
           elim (cases_lt p i) [
-            | inl lt ↦ tried_edge (take i due) tried w t y all (p, omega (arith, length-take-le i due (omega (arith, below)), lt), get_or-take i due p w lt ∙ found) same e
+            | inl lt ↦ tried_edge (take i due) tried w t y all
+                (p, omega (arith, length-take-le i due (omega (arith, below)), lt), get_or-take i due p w lt ∙ found)
+                same e
             | inr ge ↦
                 (let up : (get_or due i w).number ≤ (get_or due p w).number = h.ascending i p w ge room in
                 let here : (get_or due i w).number ≡ v.number = ap (λ (u : Visit). u.number) (get_or_default due i w v below ∙ sym is) in
@@ -345,7 +391,8 @@ module _ (G : GraphView) (goal : ModuleVersion) (level : ℕ) (start : State) (d
     found_by : (i : ℕ) → HasMark state.found i → HasMark start.found i ⊎ ((v : Visit) × Contains state.next v × (v.number ≡ i))
     found_by i g = elim ((f.found.each i).0 g) [ inl old ↦ inl old | inr new ↦ inr (from_mapped (λ (v : Visit). v.number) state.next i new) ]
 
-    pub level_more : (next : List Visit) → HaveSame state.next next → IsNonDecreasingBy (λ (v : Visit). v.number) next → IsSearchedTo G goal (suc level) (record state { next = [] }) next
+    pub level_more : (next : List Visit) → HaveSame state.next next → IsNonDecreasingBy (λ (v : Visit). v.number) next
+        → IsSearchedTo G goal (suc level) (record state { next = [] }) next
     level_more next same up = record {
       size = f.found.count ∙ h.size;
       found = λ i inside. ((λ g. within i inside g), (λ w. found_next i inside w));
@@ -361,7 +408,12 @@ module _ (G : GraphView) (goal : ModuleVersion) (level : ℕ) (start : State) (d
         within : (i : ℕ) → i < length (steps_of G) → HasMark state.found i → IsWithin (graph_edges G) (suc level) (step_at (steps_of G) i)
         within i inside g = elim (found_by i g) [
           | inl old ↦ let (k, low, l) = (h.found i inside).0 old in (k, omega (arith, low), l)
-          | inr (v, there, number) ↦ (suc level, omega arith, subst (λ (n : ℕ). Leads (graph_edges G) (step_at (steps_of G) n) (suc level)) number (f.each v there).on_level.leads)
+          | inr (v, there, number) ↦ (
+            suc level,
+            omega arith,
+            subst (λ (n : ℕ). Leads (graph_edges G) (step_at (steps_of G) n) (suc level)) number
+                (f.each v there).on_level.leads,
+          )
         ]
 
         dues : (i : ℕ) → i < length (steps_of G) → IsLevel (graph_edges G) (step_at (steps_of G) i) (suc level) → (v : Visit) × Contains next v × (v.number ≡ i)
@@ -372,13 +424,16 @@ module _ (G : GraphView) (goal : ModuleVersion) (level : ℕ) (start : State) (d
 
 -- ---- the first level
 
-pub first_level : (G : GraphView) (goal : ModuleVersion) (lists : ℕ) (due : List Visit) → IsGraph G → 0 < length (steps_of G) → step_at (steps_of G) 0 ≡ Main → due ≡ record { number = 0; before = 0 } ∷ [] → IsSearchedTo G goal 0 (first_state (length (steps_of G)) lists) due
+pub first_level : (G : GraphView) (goal : ModuleVersion) (lists : ℕ) (due : List Visit) → IsGraph G
+    → 0 < length (steps_of G) → step_at (steps_of G) 0 ≡ Main → due ≡ record { number = 0; before = 0 } ∷ []
+    → IsSearchedTo G goal 0 (first_state (length (steps_of G)) lists) due
 first_level G goal lists due are some main is = subst (λ (d : List Visit). IsSearchedTo G goal 0 (first_state (length (steps_of G)) lists) d) (sym is) (record {
   size = marked.count ∙ length-replicate (length (steps_of G)) false;
   found = λ i inside. (
     (λ g. elim ((marked.each i).0 g) [
       | inl old ↦ absurd (none_marked (length (steps_of G)) i old)
-      | inr first ↦ subst (λ (n : ℕ). IsWithin (graph_edges G) 0 (step_at (steps_of G) n)) (one_member 0 i first) (subst (λ (s : Step). IsWithin (graph_edges G) 0 s) (sym main) (0, omega arith, at_main))
+      | inr first ↦ subst (λ (n : ℕ). IsWithin (graph_edges G) 0 (step_at (steps_of G) n)) (one_member 0 i first)
+          (subst (λ (s : Step). IsWithin (graph_edges G) 0 s) (sym main) (0, omega arith, at_main))
     ]),
     (λ w. (marked.each i).1 (inr (0, omega arith, sym (only i inside (within_none (graph_edges G) (step_at (steps_of G) i) w))))),
   );
@@ -423,24 +478,34 @@ no_due (v ∷ due) n is h = absurd (let nil = eqb-true n 0 h in omega (arith, is
 -- ---- the way back
 
 module _ (E : Edges) (steps : List Step) (visits : List Visit) where
-  pub back_begins : (goal : ModuleVersion) (p : ℕ) (items : List Step) → items ≡ Of goal ∷ [] → IsPredecessor E (visited_step steps visits p) goal → (c : List Step) → IsChain E (visited_step steps visits p) c → IsChain E (Of goal) (c ++ reverse items)
+  pub back_begins : (goal : ModuleVersion) (p : ℕ) (items : List Step) → items ≡ Of goal ∷ []
+      → IsPredecessor E (visited_step steps visits p) goal → (c : List Step) → IsChain E (visited_step steps visits p) c
+      → IsChain E (Of goal) (c ++ reverse items)
   back_begins goal p items is before c h = subst (λ (l : List Step). IsChain E (Of goal) (c ++ reverse l)) (sym is) (goes_on h before)
 
   -- one step back
-  pub back_more : (k : ℕ) (x : ModuleVersion) → IsTraced E steps visits k (visit_at visits k) → visited_step steps visits k ≡ Of x → ((visit_at visits k).before < k) × ((c : List Step) → IsChain E (visited_step steps visits (visit_at visits k).before) c → IsChain E (visited_step steps visits k) (c ++ Of x ∷ []))
+  pub back_more : (k : ℕ) (x : ModuleVersion) → IsTraced E steps visits k (visit_at visits k)
+      → visited_step steps visits k ≡ Of x → ((visit_at visits k).before < k)
+      × ((c : List Step) → IsChain E (visited_step steps visits (visit_at visits k).before) c
+      → IsChain E (visited_step steps visits k) (c ++ Of x ∷ []))
   back_more k x (inl main) at = absurd (let wrong : Main ≡ Of x = sym main ∙ at in cc wrong)
   back_more k x (inr (y, is, below, before)) at = (
     below,
     λ c h.
         let same : y ≡ x = (let e : Of y ≡ Of x = sym is ∙ at in cc e) in
-        subst (λ (s : Step). IsChain E s (c ++ Of x ∷ [])) (sym at) (goes_on h (subst (λ (z : ModuleVersion). IsPredecessor E (visited_step steps visits (visit_at visits k).before) z) same before)),
+        subst (λ (s : Step). IsChain E s (c ++ Of x ∷ [])) (sym at)
+        (goes_on h (subst (λ (z : ModuleVersion). IsPredecessor E
+        (visited_step steps visits (visit_at visits k).before) z) same before)),
   )
 
-  pub back_longer : (goal : ModuleVersion) (at s : Step) (items more : List Step) → more ≡ items ++ s ∷ [] → (c : List Step) → IsChain E (Of goal) ((c ++ s ∷ []) ++ reverse items) → IsChain E (Of goal) (c ++ reverse more)
+  pub back_longer : (goal : ModuleVersion) (at s : Step) (items more : List Step) → more ≡ items ++ s ∷ []
+      → (c : List Step) → IsChain E (Of goal) ((c ++ s ∷ []) ++ reverse items) → IsChain E (Of goal) (c ++ reverse more)
   back_longer goal at s items more is c h = subst (λ (l : List Step). IsChain E (Of goal) l)
       (append_assoc c (s ∷ []) (reverse items) ∙ ap (λ (l : List Step). c ++ l) (sym (ap reverse is ∙ reverse-append items (s ∷ [])))) h
 
   -- The main module was reached.
-  pub back_done : (goal : ModuleVersion) (at : Step) (items all : List Step) → at ≡ Main → all ≡ reverse (items ++ Main ∷ []) → ((c : List Step) → IsChain E at c → IsChain E (Of goal) (c ++ reverse items)) → IsChain E (Of goal) all
+  pub back_done : (goal : ModuleVersion) (at : Step) (items all : List Step) → at ≡ Main
+      → all ≡ reverse (items ++ Main ∷ []) → ((c : List Step) → IsChain E at c
+      → IsChain E (Of goal) (c ++ reverse items)) → IsChain E (Of goal) all
   back_done goal at items all main is chain = subst (λ (l : List Step). IsChain E (Of goal) l) (sym (is ∙ reverse-append items (Main ∷ [])))
       (chain (Main ∷ []) (subst (λ (s : Step). IsChain E s (Main ∷ [])) (sym main) begins))

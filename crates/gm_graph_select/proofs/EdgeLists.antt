@@ -19,7 +19,8 @@ edges_with vertices one = along one.to
 pub edges_of-numbered : (vertices : List ModuleVersion) (all : List StepEdges) → map (edge_with vertices) (numbered_edges all) ≡ edges_of vertices all
 edges_of-numbered vertices [] = refl
 edges_of-numbered vertices (one ∷ all) =
-    map-append (edge_with vertices) (numbered_from one.from one.to) (numbered_edges all) ∙ ap₂ (λ (xs ys : List Edge). xs ++ ys) (sym (edges_with vertices one)) (edges_of-numbered vertices all)
+    map-append (edge_with vertices) (numbered_from one.from one.to) (numbered_edges all)
+    ∙ ap₂ (λ (xs ys : List Edge). xs ++ ys) (sym (edges_with vertices one)) (edges_of-numbered vertices all)
 
 pub pairs_below : (count : ℕ) (all : List StepEdges) → HaveNumbers count all → All (AreEndsBelow count) (numbered_edges all)
 pairs_below count [] numbered = All-nil (AreEndsBelow count)
@@ -30,7 +31,9 @@ pairs_below count (one ∷ all) numbered =
     (pairs_below count all (All-tail (IsNumbered count) one all numbered))
 
 -- The first of the edges that are left, and those after it.
-pub next_below : (count : ℕ) (pairs : List NumberedEdge) (pair : NumberedEdge) (rest : List NumberedEdge) → pairs ≡ pair ∷ rest → All (AreEndsBelow count) pairs → IsBelow count pair.0 × (pair.1 < count) × All (AreEndsBelow count) rest
+pub next_below : (count : ℕ) (pairs : List NumberedEdge) (pair : NumberedEdge) (rest : List NumberedEdge)
+    → pairs ≡ pair ∷ rest → All (AreEndsBelow count) pairs
+    → IsBelow count pair.0 × (pair.1 < count) × All (AreEndsBelow count) rest
 next_below count pairs pair rest is below =
     let all : All (AreEndsBelow count) (pair ∷ rest) = subst (λ (ps : List NumberedEdge). All (AreEndsBelow count) ps) is below in
     let here : AreEndsBelow count pair = All-head (AreEndsBelow count) pair rest all in

@@ -69,7 +69,9 @@ end_new : (ends : List ModuleVersion) (e : ModuleVersion) → IsEdgeEnd (ending 
 end_new ends e = (Main, Contains-push ends e)
 
 -- A vertex that is not above the greatest of its path changes nothing.
-selected_kept : (main : List ℕ) (ends : List ModuleVersion) (e x : ModuleVersion) → (e.0 ≡ x.0 → is_gt (version_cmp e.1 x.1) ≡ false) → IsSelected main (ending ends) x → IsSelected main (ending (ends ++ e ∷ [])) x
+selected_kept : (main : List ℕ) (ends : List ModuleVersion) (e x : ModuleVersion)
+    → (e.0 ≡ x.0 → is_gt (version_cmp e.1 x.1) ≡ false) → IsSelected main (ending ends) x
+    → IsSelected main (ending (ends ++ e ∷ [])) x
 selected_kept main ends e x low is = record {
   not_main = is.not_main;
   is_end = end_kept ends e x is.is_end;
@@ -80,33 +82,53 @@ selected_kept main ends e x low is = record {
 }
 
 -- A vertex of the main module's path changes nothing.
-pub greatest_main : (main : List ℕ) (ends : List ModuleVersion) (path : List ℕ) (e : ModuleVersion) (o : Option ModuleVersion) → e.0 ≡ main → IsGreatest main (ending ends) path o → IsGreatest main (ending (ends ++ e ∷ [])) path o
-greatest_main main ends path e None is g = λ y h same. elim (end_cases ends e y h) [ inl there ↦ g y there same | inr new ↦ sym same ∙ ap (λ (z : ModuleVersion). z.0) (sym new) ∙ is ]
+pub greatest_main : (main : List ℕ) (ends : List ModuleVersion) (path : List ℕ) (e : ModuleVersion)
+    (o : Option ModuleVersion) → e.0 ≡ main → IsGreatest main (ending ends) path o
+    → IsGreatest main (ending (ends ++ e ∷ [])) path o
+greatest_main main ends path e None is g = λ y h same.
+    elim (end_cases ends e y h) [
+      | inl there ↦ g y there same
+      | inr new ↦ sym same
+          ∙ ap (λ (z : ModuleVersion). z.0) (sym new) ∙ is
+    ]
 greatest_main main ends path e (Some x) is g = (g.0, selected_kept main ends e x (λ same. absurd (g.1.not_main (sym same ∙ is))) g.1)
 
 -- A vertex of another path changes nothing.
-greatest_other : (main : List ℕ) (ends : List ModuleVersion) (path : List ℕ) (e : ModuleVersion) (o : Option ModuleVersion) → e.0 ≢ path → IsGreatest main (ending ends) path o → IsGreatest main (ending (ends ++ e ∷ [])) path o
-greatest_other main ends path e None other g = λ y h same. elim (end_cases ends e y h) [ inl there ↦ g y there same | inr new ↦ absurd (other (ap (λ (z : ModuleVersion). z.0) new ∙ same)) ]
+greatest_other : (main : List ℕ) (ends : List ModuleVersion) (path : List ℕ) (e : ModuleVersion)
+    (o : Option ModuleVersion) → e.0 ≢ path → IsGreatest main (ending ends) path o
+    → IsGreatest main (ending (ends ++ e ∷ [])) path o
+greatest_other main ends path e None other g = λ y h same.
+    elim (end_cases ends e y h) [
+      | inl there ↦ g y there same
+      | inr new ↦ absurd
+          (other (ap (λ (z : ModuleVersion). z.0) new ∙ same))
+    ]
 greatest_other main ends path e (Some x) other g = (g.0, selected_kept main ends e x (λ same. absurd (other (same ∙ g.0))) g.1)
 
 -- A vertex that is not above the greatest so far changes nothing.
-greatest_beaten : (main : List ℕ) (ends : List ModuleVersion) (e : ModuleVersion) (o : Option ModuleVersion) → is_above e o ≡ false → IsGreatest main (ending ends) e.0 o → IsGreatest main (ending (ends ++ e ∷ [])) e.0 o
+greatest_beaten : (main : List ℕ) (ends : List ModuleVersion) (e : ModuleVersion) (o : Option ModuleVersion)
+    → is_above e o ≡ false → IsGreatest main (ending ends) e.0 o → IsGreatest main (ending (ends ++ e ∷ [])) e.0 o
 greatest_beaten main ends e None low g = absurd (false≢true (sym low))
 greatest_beaten main ends e (Some x) low g = (g.0, selected_kept main ends e x (λ same. low) g.1)
 
 -- A vertex that is above all so far is the greatest.
-greatest_new : (main : List ℕ) (ends : List ModuleVersion) (e : ModuleVersion) (o : Option ModuleVersion) → e.0 ≢ main → is_above e o ≡ true → IsGreatest main (ending ends) e.0 o → IsGreatest main (ending (ends ++ e ∷ [])) e.0 (Some e)
+greatest_new : (main : List ℕ) (ends : List ModuleVersion) (e : ModuleVersion) (o : Option ModuleVersion) → e.0 ≢ main
+    → is_above e o ≡ true → IsGreatest main (ending ends) e.0 o → IsGreatest main (ending (ends ++ e ∷ [])) e.0 (Some e)
 greatest_new main ends e o not_main above g = (refl, record { not_main = not_main; is_end = end_new ends e; greatest = top o above g })
   where
     itself : (y : ModuleVersion) → e ≡ y → is_gt (version_cmp y.1 e.1) ≡ false
     itself y new = subst (λ (z : ModuleVersion). is_gt (version_cmp z.1 e.1) ≡ false) new (equal_itself e.1)
 
-    top : (o : Option ModuleVersion) → is_above e o ≡ true → IsGreatest main (ending ends) e.0 o → (y : ModuleVersion) → IsEdgeEnd (ending (ends ++ e ∷ [])) y → y.0 ≡ e.0 → is_gt (version_cmp y.1 e.1) ≡ false
+    top : (o : Option ModuleVersion) → is_above e o ≡ true → IsGreatest main (ending ends) e.0 o → (y : ModuleVersion)
+        → IsEdgeEnd (ending (ends ++ e ∷ [])) y → y.0 ≡ e.0 → is_gt (version_cmp y.1 e.1) ≡ false
     top None above g y h same = elim (end_cases ends e y h) [ inl there ↦ absurd (not_main (g y there same)) | inr new ↦ itself y new ]
-    top (Some x) above g y h same = elim (end_cases ends e y h) [ inl there ↦ below_more y.1 x.1 e.1 (g.1.greatest y there (same ∙ sym g.0)) above | inr new ↦ itself y new ]
+    top (Some x) above g y h same = elim (end_cases ends e y h)
+        [ inl there ↦ below_more y.1 x.1 e.1 (g.1.greatest y there (same ∙ sym g.0)) above | inr new ↦ itself y new ]
 
 -- The greatest versions stay if a vertex is not above that of its path.
-pub greatest_stays : (main : List ℕ) (ends : List ModuleVersion) (path : List ℕ) (e : ModuleVersion) (best : List ℕ → Option ModuleVersion) → is_above e (best e.0) ≡ false → IsGreatest main (ending ends) path (best path) → IsGreatest main (ending (ends ++ e ∷ [])) path (best path)
+pub greatest_stays : (main : List ℕ) (ends : List ModuleVersion) (path : List ℕ) (e : ModuleVersion)
+    (best : List ℕ → Option ModuleVersion) → is_above e (best e.0) ≡ false
+    → IsGreatest main (ending ends) path (best path) → IsGreatest main (ending (ends ++ e ∷ [])) path (best path)
 greatest_stays main ends path e best low g = go (bytes_eq e.0 path) refl
   where
     go : (b : Bool) → bytes_eq e.0 path ≡ b → IsGreatest main (ending (ends ++ e ∷ [])) path (best path)
@@ -117,8 +139,13 @@ greatest_stays main ends path e best low g = go (bytes_eq e.0 path) refl
     go false is = greatest_other main ends path e (best path) (λ same. false≢true (sym is ∙ (bytes_eq-Decides e.0 path).1 same)) g
 
 -- If it is above, they are those of the map with the vertex put in.
-greatest_insert : (main : List ℕ) (ends : List ModuleVersion) (path : List ℕ) (e : ModuleVersion) (old new : List ℕ → Option ModuleVersion) → ((q : List ℕ) → new q ≡ cond (is_eq (slice_cmp nat_cmp e.0 q)) (Some e) (old q)) → e.0 ≢ main → is_above e (old e.0) ≡ true → IsGreatest main (ending ends) path (old path) → IsGreatest main (ending (ends ++ e ∷ [])) path (new path)
-greatest_insert main ends path e old new puts not_main above g = subst (λ (o : Option ModuleVersion). IsGreatest main (ending (ends ++ e ∷ [])) path o) (sym (puts path)) (go (is_eq (slice_cmp nat_cmp e.0 path)) refl)
+greatest_insert : (main : List ℕ) (ends : List ModuleVersion) (path : List ℕ) (e : ModuleVersion)
+    (old new : List ℕ → Option ModuleVersion) → ((q : List ℕ)
+    → new q ≡ cond (is_eq (slice_cmp nat_cmp e.0 q)) (Some e) (old q)) → e.0 ≢ main → is_above e (old e.0) ≡ true
+    → IsGreatest main (ending ends) path (old path) → IsGreatest main (ending (ends ++ e ∷ [])) path (new path)
+greatest_insert main ends path e old new puts not_main above g =
+    subst (λ (o : Option ModuleVersion). IsGreatest main (ending (ends ++ e ∷ [])) path o) (sym (puts path))
+    (go (is_eq (slice_cmp nat_cmp e.0 path)) refl)
   where
     go : (b : Bool) → is_eq (slice_cmp nat_cmp e.0 path) ≡ b → IsGreatest main (ending (ends ++ e ∷ [])) path (cond b (Some e) (old path))
     go true is =
@@ -136,7 +163,12 @@ one_best : (main : List ℕ) (done : List ModuleVersion) (e : ModuleVersion) →
 one_best main done e (best, g) = of_main (bytes_eq e.0 main) refl
   where
     above : (b : Bool) → is_above e (best e.0) ≡ b → e.0 ≢ main → Bests main (done ++ e ∷ [])
-    above true is apart = ((λ q. cond (is_eq (slice_cmp nat_cmp e.0 q)) (Some e) (best q)), λ path. greatest_insert main done path e best (λ q. cond (is_eq (slice_cmp nat_cmp e.0 q)) (Some e) (best q)) (λ q. refl) apart is (g path))
+    above true is apart = (
+      (λ q. cond (is_eq (slice_cmp nat_cmp e.0 q)) (Some e) (best q)),
+      λ path.
+          greatest_insert main done path e best (λ q. cond (is_eq (slice_cmp nat_cmp e.0 q)) (Some e) (best q))
+          (λ q. refl) apart is (g path),
+    )
     above false is apart = (best, λ path. greatest_stays main done path e best is (g path))
 
     of_main : (b : Bool) → bytes_eq e.0 main ≡ b → Bests main (done ++ e ∷ [])
@@ -145,7 +177,8 @@ one_best main done e (best, g) = of_main (bytes_eq e.0 main) refl
 
 all_bests : (main : List ℕ) (done rest : List ModuleVersion) → Bests main done → Bests main (done ++ rest)
 all_bests main done [] b = subst (λ (l : List ModuleVersion). Bests main l) (sym (append-nil done)) b
-all_bests main done (e ∷ rest) b = subst (λ (l : List ModuleVersion). Bests main l) (append_assoc done (e ∷ []) rest) (all_bests main (done ++ e ∷ []) rest (one_best main done e b))
+all_bests main done (e ∷ rest) b = subst (λ (l : List ModuleVersion). Bests main l) (append_assoc done (e ∷ []) rest)
+    (all_bests main (done ++ e ∷ []) rest (one_best main done e b))
 
 pub bests : (main : List ℕ) (ends : List ModuleVersion) → Bests main ends
 bests main ends = all_bests main [] ends ((λ path. None), λ path y h. absurd (let there = h.1.1 in omega (arith, there)))

@@ -23,7 +23,8 @@ use Rattle.gm_graph_select.proofs.Same.{ends_of, ends_same}
 abbrev Below : ModuleVersion → ModuleVersion → Type 0
 Below x y = pair_cmp x y ≡ Less
 
-above_first : (x : ModuleVersion) (ys : List ModuleVersion) → ((y : ModuleVersion) → Contains ys y → Below x y) → IsAscending pair_cmp ys → IsAscending pair_cmp (x ∷ ys)
+above_first : (x : ModuleVersion) (ys : List ModuleVersion) → ((y : ModuleVersion) → Contains ys y → Below x y)
+    → IsAscending pair_cmp ys → IsAscending pair_cmp (x ∷ ys)
 above_first x ys low up = AllPairs-cons Below x ys firsts up
   where
     firsts : All (Below x) ys
@@ -52,12 +53,20 @@ inserted e (y ∷ ys) up = by_order (pair_cmp e y) refl (inserted e ys (pairs_ta
         | inl same ↦ subst (λ (v : ModuleVersion). Below e v) same is
         | inr later ↦ pair_total.trans e y x is (pairs_head Below y x ys up later)
       ]) up;
-      kept = λ x h. elim h [ inl same ↦ subst (λ (v : ModuleVersion). Contains (e ∷ y ∷ ys) v) same (member_head e (y ∷ ys)) | inr there ↦ member_tail e x (y ∷ ys) there ];
+      kept = λ x h. elim h [
+        | inl same ↦ subst (λ (v : ModuleVersion). Contains (e ∷ y ∷ ys) v) same
+            (member_head e (y ∷ ys))
+        | inr there ↦ member_tail e x (y ∷ ys) there
+      ];
       only = λ x h. member_cases e x (y ∷ ys) h;
     }
     by_order Equal is rest = record {
       ascending = up;
-      kept = λ x h. elim h [ inl same ↦ subst (λ (v : ModuleVersion). Contains (y ∷ ys) v) (sym (pair-anti e y is) ∙ same) (member_head y ys) | inr there ↦ there ];
+      kept = λ x h. elim h [
+        | inl same ↦ subst (λ (v : ModuleVersion). Contains (y ∷ ys) v)
+            (sym (pair-anti e y is) ∙ same) (member_head y ys)
+        | inr there ↦ there
+      ];
       only = λ x h. inr h;
     }
     by_order Greater is in_rest =
@@ -90,7 +99,10 @@ in_order_same (e ∷ xs) x =
     let is = inserted e (in_order pair_cmp xs) (in_order_ascends xs) in
     let same = in_order_same xs x in (
       (λ h. is.kept x (elim (member_cases e x xs h) [ inl first ↦ inl first | inr later ↦ inr (same.0 later) ])),
-      (λ h. elim (is.only x h) [ inl first ↦ subst (λ (v : ModuleVersion). Contains (e ∷ xs) v) first (member_head e xs) | inr there ↦ member_tail e x xs (same.1 there) ]),
+      (λ h. elim (is.only x h) [
+        | inl first ↦ subst (λ (v : ModuleVersion). Contains (e ∷ xs) v) first (member_head e xs)
+        | inr there ↦ member_tail e x xs (same.1 there)
+      ]),
     )
 
 -- An ascending list with the members of another is the other in order.

@@ -35,7 +35,8 @@ same_paths a b e = (bytes_eq-Decides a b).0 (sym (is_eq-slice_cmp a b) ∙ ap is
 below_parts : (x y : ModuleVersion) → Below x y → (path_cmp x y ≡ Less) ⊎ ((x.0 ≡ y.0) × (version_cmp x.1 y.1 ≡ Less))
 below_parts x y h = go (slice_cmp nat_cmp x.0 y.0) refl h
   where
-    go : (r : Ordering) → slice_cmp nat_cmp x.0 y.0 ≡ r → ordering_then r (version_cmp x.1 y.1) ≡ Less → (path_cmp x y ≡ Less) ⊎ ((x.0 ≡ y.0) × (version_cmp x.1 y.1 ≡ Less))
+    go : (r : Ordering) → slice_cmp nat_cmp x.0 y.0 ≡ r → ordering_then r (version_cmp x.1 y.1) ≡ Less
+        → (path_cmp x y ≡ Less) ⊎ ((x.0 ≡ y.0) × (version_cmp x.1 y.1 ≡ Less))
     go Less e h = inl e
     go Equal e h = inr (same_paths x.0 y.0 e, h)
     go Greater e h = cc
@@ -57,7 +58,8 @@ lower_path x y h apart = elim (below_parts x y h) [
 
 -- ---- after the last vertex of a path come other paths
 
-other_paths : (z : ModuleVersion) (zs : List ModuleVersion) → IsAscending pair_cmp (z ∷ zs) → first_has_path z.0 zs ≡ false → (y : ModuleVersion) → Contains zs y → y.0 ≢ z.0
+other_paths : (z : ModuleVersion) (zs : List ModuleVersion) → IsAscending pair_cmp (z ∷ zs)
+    → first_has_path z.0 zs ≡ false → (y : ModuleVersion) → Contains zs y → y.0 ≢ z.0
 other_paths z [] up e y h same = no_member y h
 other_paths z (next ∷ zs) up e y h same = elim (member_cases next y zs h) [
   | inl is ↦ apart (ap (λ (v : ModuleVersion). v.0) is ∙ same)
@@ -98,7 +100,8 @@ abbrev IsGreatestOf : List ℕ → List ModuleVersion → ModuleVersion → Type
 IsGreatestOf main xs x = (x.0 ≢ main) × Contains xs x × ((y : ModuleVersion) → Contains xs y → y.0 ≡ x.0 → is_gt (version_cmp y.1 x.1) ≡ false)
 
 -- one more vertex at the beginning
-selected_first : (main : List ℕ) (z : ModuleVersion) (zs : List ModuleVersion) → IsAscending pair_cmp (z ∷ zs) → is_selected main z zs ≡ true → IsGreatestOf main (z ∷ zs) z
+selected_first : (main : List ℕ) (z : ModuleVersion) (zs : List ModuleVersion) → IsAscending pair_cmp (z ∷ zs)
+    → is_selected main z zs ≡ true → IsGreatestOf main (z ∷ zs) z
 selected_first main z zs up e =
     let two = not_and_parts (bytes_eq z.0 main) (first_has_path z.0 zs) e in (
       texts_differ z.0 main two.0,
@@ -109,38 +112,46 @@ selected_first main z zs up e =
       ]),
     )
 
-selected_behind : (main : List ℕ) (z : ModuleVersion) (zs : List ModuleVersion) → IsAscending pair_cmp (z ∷ zs) → (x : ModuleVersion) → IsGreatestOf main zs x → IsGreatestOf main (z ∷ zs) x
+selected_behind : (main : List ℕ) (z : ModuleVersion) (zs : List ModuleVersion) → IsAscending pair_cmp (z ∷ zs)
+    → (x : ModuleVersion) → IsGreatestOf main zs x → IsGreatestOf main (z ∷ zs) x
 selected_behind main z zs up x is =
     let lower : Below z x = pairs_head Below z x zs up is.1 in (
       is.0,
       member_tail z x zs is.1,
       (λ y there same. elim (member_cases z y zs there) [
-        | inl first ↦ subst (λ (v : ModuleVersion). is_gt (version_cmp v.1 x.1) ≡ false) first (ap is_gt (lower_version z x lower (ap (λ (v : ModuleVersion). v.0) first ∙ same)))
+        | inl first ↦ subst (λ (v : ModuleVersion). is_gt (version_cmp v.1 x.1) ≡ false) first
+            (ap is_gt (lower_version z x lower (ap (λ (v : ModuleVersion). v.0) first ∙ same)))
         | inr later ↦ is.2 y later same
       ]),
     )
 
-selected_by : (main : List ℕ) (z : ModuleVersion) (zs : List ModuleVersion) → IsAscending pair_cmp (z ∷ zs) → ((x : ModuleVersion) → Contains (greatest_of main zs) x → IsGreatestOf main zs x)
-    → (x : ModuleVersion) (b : Bool) → is_selected main z zs ≡ b → Contains (if b then z ∷ greatest_of main zs else greatest_of main zs) x → IsGreatestOf main (z ∷ zs) x
+selected_by : (main : List ℕ) (z : ModuleVersion) (zs : List ModuleVersion) → IsAscending pair_cmp (z ∷ zs)
+    → ((x : ModuleVersion) → Contains (greatest_of main zs) x → IsGreatestOf main zs x)
+    → (x : ModuleVersion) (b : Bool) → is_selected main z zs ≡ b
+    → Contains (if b then z ∷ greatest_of main zs else greatest_of main zs) x → IsGreatestOf main (z ∷ zs) x
 selected_by main z zs up behind x true e h = elim (member_cases z x (greatest_of main zs) h) [
   | inl is ↦ subst (λ (v : ModuleVersion). IsGreatestOf main (z ∷ zs) v) is (selected_first main z zs up e)
   | inr later ↦ selected_behind main z zs up x (behind x later)
 ]
 selected_by main z zs up behind x false e h = selected_behind main z zs up x (behind x h)
 
-selected_is : (main : List ℕ) (xs : List ModuleVersion) → IsAscending pair_cmp xs → (x : ModuleVersion) → Contains (greatest_of main xs) x → IsGreatestOf main xs x
+selected_is : (main : List ℕ) (xs : List ModuleVersion) → IsAscending pair_cmp xs → (x : ModuleVersion)
+    → Contains (greatest_of main xs) x → IsGreatestOf main xs x
 selected_is main [] up x h = absurd (no_member x h)
 selected_is main (z ∷ zs) up x h = selected_by main z zs up (λ y there. selected_is main zs (pairs_tail Below z zs up) y there) x (is_selected main z zs) refl h
 
 -- No vertex of the same path comes after the greatest version.
-last_of_path : (z : ModuleVersion) (zs : List ModuleVersion) → IsAscending pair_cmp (z ∷ zs) → ((y : ModuleVersion) → Contains zs y → y.0 ≡ z.0 → is_gt (version_cmp y.1 z.1) ≡ false) → first_has_path z.0 zs ≡ false
+last_of_path : (z : ModuleVersion) (zs : List ModuleVersion) → IsAscending pair_cmp (z ∷ zs)
+    → ((y : ModuleVersion) → Contains zs y → y.0 ≡ z.0 → is_gt (version_cmp y.1 z.1) ≡ false)
+    → first_has_path z.0 zs ≡ false
 last_of_path z [] up top = refl
 last_of_path z (next ∷ zs) up top = apart_texts next.0 z.0 (λ same.
     let less = lower_version z next (pairs_head Below z next (next ∷ zs) up (member_head next zs)) (sym same) in
     let more : version_cmp next.1 z.1 ≡ Greater = version_total.antisymm next.1 z.1 ∙ ap ordering_reverse less in
     false≢true (sym (top next (member_head next zs) same) ∙ ap is_gt more))
 
-is_selected_in : (main : List ℕ) (xs : List ModuleVersion) → IsAscending pair_cmp xs → (x : ModuleVersion) → IsGreatestOf main xs x → Contains (greatest_of main xs) x
+is_selected_in : (main : List ℕ) (xs : List ModuleVersion) → IsAscending pair_cmp xs → (x : ModuleVersion)
+    → IsGreatestOf main xs x → Contains (greatest_of main xs) x
 is_selected_in main [] up x is = absurd (no_member x is.1)
 is_selected_in main (z ∷ zs) up x is = elim (member_cases z x zs is.1) [
   | inl first ↦ here first (is_selected main z zs) (subst (λ (v : ModuleVersion). is_selected main v zs ≡ true) (sym first) (kept first))
@@ -161,13 +172,16 @@ is_selected_in main (z ∷ zs) up x is = elim (member_cases z x zs is.1) [
 
 -- ---- their order
 
-pairs_more : (x : ModuleVersion) (xs : List ModuleVersion) → ((y : ModuleVersion) → Contains xs y → path_cmp x y ≡ Less) → IsAscending path_cmp xs → IsAscending path_cmp (x ∷ xs)
+pairs_more : (x : ModuleVersion) (xs : List ModuleVersion) → ((y : ModuleVersion) → Contains xs y → path_cmp x y ≡ Less)
+    → IsAscending path_cmp xs → IsAscending path_cmp (x ∷ xs)
 pairs_more x xs low up zero zero d lt below = absurd (omega (arith, lt))
 pairs_more x xs low up zero (suc j) d lt below = low _ (j, omega (arith, below), get_or_default xs j _ d (omega (arith, below)))
 pairs_more x xs low up (suc i) zero d lt below = absurd (omega (arith, lt))
 pairs_more x xs low up (suc i) (suc j) d lt below = up i j d (omega (arith, lt)) (omega (arith, below))
 
-ascend_by : (main : List ℕ) (z : ModuleVersion) (zs : List ModuleVersion) → IsAscending pair_cmp (z ∷ zs) → IsAscending path_cmp (greatest_of main zs) → (b : Bool) → is_selected main z zs ≡ b → IsAscending path_cmp (if b then z ∷ greatest_of main zs else greatest_of main zs)
+ascend_by : (main : List ℕ) (z : ModuleVersion) (zs : List ModuleVersion) → IsAscending pair_cmp (z ∷ zs)
+    → IsAscending path_cmp (greatest_of main zs) → (b : Bool) → is_selected main z zs ≡ b
+    → IsAscending path_cmp (if b then z ∷ greatest_of main zs else greatest_of main zs)
 ascend_by main z zs up behind true e = pairs_more z (greatest_of main zs)
     (λ y h. let there = (selected_is main zs (pairs_tail Below z zs up) y h).1 in
     lower_path z y (pairs_head Below z y zs up there) (other_paths z zs up (not_and_parts (bytes_eq z.0 main) (first_has_path z.0 zs) e).1 y there)) behind
@@ -178,7 +192,8 @@ selected_ascend main [] up = λ i j d lt below. absurd (omega (arith, below))
 selected_ascend main (z ∷ zs) up = ascend_by main z zs up (selected_ascend main zs (pairs_tail Below z zs up)) (is_selected main z zs) refl
 
 -- Of vertices in ascending order, these are the selected ones of every relation that leads to exactly those vertices.
-pub are_selected : (main : List ℕ) (xs : List ModuleVersion) → IsAscending pair_cmp xs → (edges : Edges) → AreEnds xs edges → AreSelected main edges (greatest_of main xs)
+pub are_selected : (main : List ℕ) (xs : List ModuleVersion) → IsAscending pair_cmp xs → (edges : Edges)
+    → AreEnds xs edges → AreSelected main edges (greatest_of main xs)
 are_selected main xs up edges ends = record {
   ascending = selected_ascend main xs up;
   each = λ x. (
@@ -188,5 +203,6 @@ are_selected main xs up edges ends = record {
 }
 
 -- The main module and the selected vertices are the build list.
-pub listed : (main : List ℕ) (replaces : List Replacing) (edges : Edges) (xs : List ModuleVersion) → AreSelected main edges xs → IsBuildList main replaces edges (main_entry ∷ map (entry_of replaces) xs)
+pub listed : (main : List ℕ) (replaces : List Replacing) (edges : Edges) (xs : List ModuleVersion)
+    → AreSelected main edges xs → IsBuildList main replaces edges (main_entry ∷ map (entry_of replaces) xs)
 listed main replaces edges xs are = record { selected = xs; entries_are = refl; ascending = are.ascending; each = are.each }

@@ -39,7 +39,9 @@ nowhere = ([], [])
 module _ (main : List ℕ) (replaces : List Replacing) (E : Edges) (entries : List Entry) (list : IsBuildList main replaces E entries) where
   -- The vertex of a row is selected.
   pub row_selected : (x : ModuleVersion) (right : Option Right) → Contains entries (Of x, right) → IsSelected main E x
-  row_selected x right there = (list.each x).0 (cases (member_cases main_entry (Of x, right) (map (entry_of replaces) list.selected) (subst (λ (es : List Entry). Contains es (Of x, right)) list.entries_are there)))
+  row_selected x right there = (list.each x).0 (cases (member_cases main_entry (Of x, right)
+      (map (entry_of replaces) list.selected) (subst (λ (es : List Entry). Contains es (Of x, right)) list.entries_are
+      there)))
     where
       same_vertex : (v : ModuleVersion) → Of v ≡ Of x → v ≡ x
       same_vertex v e = cc e
@@ -47,21 +49,35 @@ module _ (main : List ℕ) (replaces : List Replacing) (E : Edges) (entries : Li
       cases : (main_entry ≡ (Of x, right)) ⊎ Contains (map (entry_of replaces) list.selected) (Of x, right) → Contains list.selected x
       cases (inl is) = absurd (let first : Main ≡ Of x = ap (λ (e : Entry). e.0) is in cc first)
       cases (inr (k, below, at)) =
-          let inside : k < length list.selected = rw length-map at below in
-          (k, inside, same_vertex (get_or list.selected k x) (ap (λ (e : Entry). e.0) (sym (get_or-map (entry_of replaces) list.selected k x (Of x, right) inside) ∙ at)))
+          let inside : k < length list.selected = rw length-map at below in (
+            k,
+            inside,
+            same_vertex (get_or list.selected k x)
+                (ap (λ (e : Entry). e.0) (sym (get_or-map (entry_of replaces) list.selected k x (Of x, right) inside)
+                ∙ at)),
+          )
 
   -- Each selected vertex has a row.
   pub selected_row : (x : ModuleVersion) → IsSelected main E x → Contains entries (entry_of replaces x)
   selected_row x is =
       let (k, below, at) = (list.each x).1 is in
-      let there : Contains (map (entry_of replaces) list.selected) (entry_of replaces x) = (k, rw length-map below, get_or-map (entry_of replaces) list.selected k x (entry_of replaces x) below ∙ ap (entry_of replaces) at) in
-      subst (λ (es : List Entry). Contains es (entry_of replaces x)) (sym list.entries_are) (member_tail main_entry (entry_of replaces x) (map (entry_of replaces) list.selected) there)
+      let there : Contains (map (entry_of replaces) list.selected) (entry_of replaces x) = (
+        k,
+        rw length-map below,
+        get_or-map (entry_of replaces) list.selected k x (entry_of replaces x) below
+            ∙ ap (entry_of replaces) at,
+      ) in
+      subst (λ (es : List Entry). Contains es (entry_of replaces x)) (sym list.entries_are)
+      (member_tail main_entry (entry_of replaces x) (map (entry_of replaces) list.selected) there)
 
   -- No two entries have the same path.
   pub distinct : AllPairs (λ (a b : Entry). path_of main a.0 ≢ path_of main b.0) entries
-  distinct = subst (λ (es : List Entry). AllPairs (λ (a b : Entry). path_of main a.0 ≢ path_of main b.0) es) (sym list.entries_are) (AllPairs-cons (λ (a b : Entry). path_of main a.0 ≢ path_of main b.0) main_entry (map (entry_of replaces) list.selected) firsts others)
+  distinct = subst (λ (es : List Entry). AllPairs (λ (a b : Entry). path_of main a.0 ≢ path_of main b.0) es)
+      (sym list.entries_are) (AllPairs-cons (λ (a b : Entry). path_of main a.0 ≢ path_of main b.0) main_entry
+      (map (entry_of replaces) list.selected) firsts others)
     where
-      path_at : (k : ℕ) (d : Entry) → k < length list.selected → path_of main (get_or (map (entry_of replaces) list.selected) k d).0 ≡ (get_or list.selected k nowhere).0
+      path_at : (k : ℕ) (d : Entry) → k < length list.selected
+          → path_of main (get_or (map (entry_of replaces) list.selected) k d).0 ≡ (get_or list.selected k nowhere).0
       path_at k d below = ap (λ (e : Entry). path_of main e.0) (get_or-map (entry_of replaces) list.selected k nowhere d below)
 
       firsts : All (λ (b : Entry). main ≢ path_of main b.0) (map (entry_of replaces) list.selected)
@@ -88,7 +104,9 @@ module _ (main : List ℕ) (replaces : List Replacing) (E : Edges) (entries : Li
       go Main e = (0, at_main)
       go (Of x) e =
           let make : Step → Option Right → Entry = λ t o. (t, o) in
-          let row : Contains entries (Of x, entry.1) = subst (λ (r : Entry). Contains entries r) (ap (λ (t : Step). make t entry.1) e) (subst (λ (es : List Entry). Contains es entry) (sym at.parts) (Contains-append_right at.before (entry ∷ rest) entry (member_head entry rest))) in
+          let row : Contains entries (Of x, entry.1) = subst (λ (r : Entry). Contains entries r)
+          (ap (λ (t : Step). make t entry.1) e) (subst (λ (es : List Entry). Contains es entry) (sym at.parts)
+          (Contains-append_right at.before (entry ∷ rest) entry (member_head entry rest))) in
           let (t, edge) = (row_selected x entry.1 row).is_end in
           let (n, leads) = rooted t x edge in
           (suc n, along leads edge)
@@ -105,13 +123,24 @@ rows_satisfy main replaces edges entries list y end apart = go ((bests main ends
     alike : EndAlike (ending ends) (among edges)
     alike = ends_alike ends (ending ends) (among edges) (ending_ends ends) (ends_of edges)
 
-    go : (o : Option ModuleVersion) → IsGreatest main (ending ends) y.0 o → (x : ModuleVersion) × (right : Option Right) × Contains entries (Of x, right) × (x.0 ≡ y.0) × (is_gt (version_cmp y.1 x.1) ≡ false)
+    go : (o : Option ModuleVersion) → IsGreatest main (ending ends) y.0 o
+        → (x : ModuleVersion) × (right : Option Right) × Contains entries (Of x, right) × (x.0 ≡ y.0)
+        × (is_gt (version_cmp y.1 x.1) ≡ false)
     go None g = absurd (apart (g y ((alike y).1 end) refl))
-    go (Some x) (is, selected) = (x, replacement_of replaces x, selected_row main replaces (among edges) entries list x (alike_selected main (ending ends) (among edges) alike x selected), is, selected.greatest y ((alike y).1 end) (sym is))
+    go (Some x) (is, selected) = (
+      x,
+      replacement_of replaces x,
+      selected_row main replaces (among edges) entries list x
+          (alike_selected main (ending ends) (among edges) alike x selected),
+      is,
+      selected.greatest y ((alike y).1 end) (sym is),
+    )
 
-pub same_build_lists : (main : List ℕ) (replaces : List Replacing) (E : Edges) (a b : List Entry) → IsBuildList main replaces E a → IsBuildList main replaces E b → a ≡ b
+pub same_build_lists : (main : List ℕ) (replaces : List Replacing) (E : Edges) (a b : List Entry)
+    → IsBuildList main replaces E a → IsBuildList main replaces E b → a ≡ b
 same_build_lists main replaces E a b x y =
-    let same : x.selected ≡ y.selected = same_lists path_total x.selected y.selected x.ascending y.ascending (λ z. ((λ h. (y.each z).1 ((x.each z).0 h)), (λ h. (x.each z).1 ((y.each z).0 h)))) in
+    let same : x.selected ≡ y.selected = same_lists path_total x.selected y.selected x.ascending y.ascending
+    (λ z. ((λ h. (y.each z).1 ((x.each z).0 h)), (λ h. (x.each z).1 ((y.each z).0 h)))) in
     x.entries_are ∙ ap (λ (xs : List ModuleVersion). main_entry ∷ map (entry_of replaces) xs) same ∙ sym y.entries_are
 
 pub one_build_list : OneBuildList
@@ -122,7 +151,14 @@ one_rest main entries path a b (x, h) (y, g) = (one_at main entries path x y a b
 
 pub main_is_first : MainIsFirst
 main_is_first main replaces edges entries s list entry =
-    let first : IsAt main entries main main_entry (map (entry_of replaces) list.selected) = record { before = []; parts = list.entries_are; path_is = refl; others = λ x h. absurd (let none = h.1 in omega (arith, none)) } in
+    let first : IsAt main entries main main_entry (map (entry_of replaces) list.selected) =
+    record {
+      before = [];
+      parts = list.entries_are;
+      path_is = refl;
+      others =
+          λ x h. absurd (let none = h.1 in omega (arith, none));
+    } in
     one_entry main entries main s Main entry (main_entry, map (entry_of replaces) list.selected, first, refl)
 
 pub entries_are_reached : EntriesAreReached
@@ -162,7 +198,8 @@ of_main : (E : Edges) {s : Step} {b : List Step} → IsChain E s b → s ≡ Mai
 of_main E begins e = refl
 of_main E (goes_on {s} {y} c before) e = absurd (let same : Of y ≡ Main = e in cc same)
 
-of_vertex : (E : Edges) {s : Step} {b : List Step} → IsChain E s b → (y : ModuleVersion) → s ≡ Of y → (t : Step) × (steps : List Step) × IsChain E t steps × IsPredecessor E t y × (b ≡ steps ++ Of y ∷ [])
+of_vertex : (E : Edges) {s : Step} {b : List Step} → IsChain E s b → (y : ModuleVersion) → s ≡ Of y
+    → (t : Step) × (steps : List Step) × IsChain E t steps × IsPredecessor E t y × (b ≡ steps ++ Of y ∷ [])
 of_vertex E begins y e = absurd (let same : Main ≡ Of y = e in cc same)
 of_vertex E (goes_on {s} {y = z} {steps} c before) y e =
     let same : z ≡ y = cc e in
@@ -188,47 +225,62 @@ snoc x (y ∷ xs) =
 
 module _ (main : List ℕ) (entries : List Entry) (apart : AllPairs (λ (a b : Entry). path_of main a.0 ≢ path_of main b.0) entries) (n : ℕ) where
   -- What is left after a page follows the page's last entry.
-  page_end : (before left front : List Entry) (last : Entry) → entries ≡ before ++ left → take n left ≡ front ++ last ∷ [] → IsAt main entries (path_of main last.0) last (drop n left)
+  page_end : (before left front : List Entry) (last : Entry) → entries ≡ before ++ left
+      → take n left ≡ front ++ last ∷ [] → IsAt main entries (path_of main last.0) last (drop n left)
   page_end before left front last whole page = record { before = before ++ front; parts = parts; path_is = refl; others = others }
     where
       parts : entries ≡ (before ++ front) ++ last ∷ drop n left
       parts =
-          whole ∙ ap (λ (l : List Entry). before ++ l) (sym (take-append-drop n left) ∙ ap (λ (l : List Entry). l ++ drop n left) page ∙ append_assoc front (last ∷ []) (drop n left))
+          whole ∙ ap (λ (l : List Entry). before ++ l) (sym (take-append-drop n left)
+          ∙ ap (λ (l : List Entry). l ++ drop n left) page ∙ append_assoc front (last ∷ []) (drop n left))
           ∙ sym (append_assoc before front (last ∷ drop n left))
 
       others : (x : Entry) → Contains (before ++ front) x → path_of main x.0 ≢ path_of main last.0
-      others x h = pairs_split (λ (a b : Entry). path_of main a.0 ≢ path_of main b.0) (before ++ front) (drop n left) last x (subst (λ (l : List Entry). AllPairs (λ (a b : Entry). path_of main a.0 ≢ path_of main b.0) l) (
-          whole ∙ ap (λ (l : List Entry). before ++ l) (sym (take-append-drop n left) ∙ ap (λ (l : List Entry). l ++ drop n left) page ∙ append_assoc front (last ∷ []) (drop n left))
+      others x h = pairs_split (λ (a b : Entry). path_of main a.0 ≢ path_of main b.0) (before ++ front) (drop n left)
+          last x (subst (λ (l : List Entry). AllPairs (λ (a b : Entry). path_of main a.0 ≢ path_of main b.0) l) (
+          whole ∙ ap (λ (l : List Entry). before ++ l) (sym (take-append-drop n left)
+          ∙ ap (λ (l : List Entry). l ++ drop n left) page ∙ append_assoc front (last ∷ []) (drop n left))
           ∙ sym (append_assoc before front (last ∷ drop n left))) apart) h
 
   further : (before left : List Entry) → entries ≡ before ++ left → entries ≡ (before ++ take n left) ++ drop n left
-  further before left whole = whole ∙ ap (λ (l : List Entry). before ++ l) (sym (take-append-drop n left)) ∙ sym (append_assoc before (take n left) (drop n left))
+  further before left whole = whole ∙ ap (λ (l : List Entry). before ++ l) (sym (take-append-drop n left))
+      ∙ sym (append_assoc before (take n left) (drop n left))
 
-  pages_join_from : (before left : List Entry) (pages : List (List Entry)) → entries ≡ before ++ left → ArePages main entries n left pages → entries_of_pages pages ≡ left
+  pages_join_from : (before left : List Entry) (pages : List (List Entry)) → entries ≡ before ++ left
+      → ArePages main entries n left pages → entries_of_pages pages ≡ left
   pages_join_from before _ _ whole no_more = refl
   pages_join_from before left _ whole (one_more {rest} {pages} front last page after more) =
       let (entry, at) = after in
-      let same : rest ≡ drop n left = (one_at main entries (path_of main last.0) entry last rest (drop n left) at (page_end before left front last whole page)).1 in
-      let rest_whole : entries ≡ (before ++ take n left) ++ rest = subst (λ (l : List Entry). entries ≡ (before ++ take n left) ++ l) (sym same) (further before left whole) in
+      let same : rest ≡ drop n left = (one_at main entries (path_of main last.0) entry last rest (drop n left) at
+      (page_end before left front last whole page)).1 in
+      let rest_whole : entries ≡ (before ++ take n left) ++ rest =
+      subst (λ (l : List Entry). entries ≡ (before ++ take n left) ++ l) (sym same) (further before left whole) in
       ap (λ (l : List Entry). take n left ++ l) (pages_join_from (before ++ take n left) rest pages rest_whole more ∙ same) ∙ take-append-drop n left
 
   -- one page, followed by the others
-  page_more : 0 < n → (before left : List Entry) (x : Entry) → entries ≡ before ++ x ∷ left → (page : List Entry) → take n (x ∷ left) ≡ page → (pages : List (List Entry)) × ArePages main entries n (drop n (x ∷ left)) pages → (pages : List (List Entry)) × ArePages main entries n (x ∷ left) pages
+  page_more : 0 < n → (before left : List Entry) (x : Entry) → entries ≡ before ++ x ∷ left → (page : List Entry)
+      → take n (x ∷ left) ≡ page → (pages : List (List Entry)) × ArePages main entries n (drop n (x ∷ left)) pages
+      → (pages : List (List Entry)) × ArePages main entries n (x ∷ left) pages
   page_more some before left x whole [] is more = absurd (let none = ap length is in omega (arith, length-take n (x ∷ left), none, some))
   page_more some before left x whole (y ∷ ys) is (pages, more) =
       let (front, last, parts) = snoc y ys in
       let page : take n (x ∷ left) ≡ front ++ last ∷ [] = is ∙ parts in
       (take n (x ∷ left) ∷ pages, one_more front last page (last, page_end before (x ∷ left) front last whole page) more)
 
-  pages_from : 0 < n → (m : ℕ) (before left : List Entry) → length left ≤ m → entries ≡ before ++ left → (pages : List (List Entry)) × ArePages main entries n left pages
+  pages_from : 0 < n → (m : ℕ) (before left : List Entry) → length left ≤ m → entries ≡ before ++ left
+      → (pages : List (List Entry)) × ArePages main entries n left pages
   pages_from some m before [] low whole = ([], no_more)
   pages_from some zero before (x ∷ left) low whole = absurd (omega (arith, low))
   pages_from some (suc m) before (x ∷ left) low whole =
       let shorter : length (drop n (x ∷ left)) ≤ m = omega (arith, length-drop n (x ∷ left), low, some) in
-      page_more some before left x whole (take n (x ∷ left)) refl (pages_from some m (before ++ take n (x ∷ left)) (drop n (x ∷ left)) shorter (further before (x ∷ left) whole))
+      page_more some before left x whole (take n (x ∷ left)) refl
+      (pages_from some m (before ++ take n (x ∷ left)) (drop n (x ∷ left)) shorter
+      (further before (x ∷ left) whole))
 
 pub pages_join : PagesJoin
-pages_join main replaces edges entries n pages list h = pages_join_from main entries (distinct main replaces (among edges) entries list) n [] entries pages refl h
+pages_join main replaces edges entries n pages list h =
+    pages_join_from main entries (distinct main replaces (among edges) entries list) n [] entries pages refl h
 
 pub pages_exist : PagesExist
-pages_exist main replaces edges entries n some list = pages_from main entries (distinct main replaces (among edges) entries list) n some (length entries) [] entries (omega arith) refl
+pages_exist main replaces edges entries n some list = pages_from main entries
+    (distinct main replaces (among edges) entries list) n some (length entries) [] entries (omega arith) refl

@@ -80,10 +80,13 @@ both_marked old mid new first second a b = record {
 
 module _ {T : Type 0} (names : T → List ℕ) where
   -- The numbers that one more item names were marked.
-  pub next_named : (old mid new : List Bool) (all : List T) (i : ℕ) (one : T) → i < length all → one ≡ get_or all i one → AreMarked old (flat_map names (take i all)) mid → AreMarked mid (names one) new → AreMarked old (flat_map names (take (i + 1) all)) new
+  pub next_named : (old mid new : List Bool) (all : List T) (i : ℕ) (one : T) → i < length all → one ≡ get_or all i one
+      → AreMarked old (flat_map names (take i all)) mid → AreMarked mid (names one) new
+      → AreMarked old (flat_map names (take (i + 1) all)) new
   next_named old mid new all i one inside is so more =
       subst (λ (ns : List ℕ). AreMarked old ns new) same
-      (both_marked old mid new (flat_map names (take i all)) (flat_map names (one ∷ [])) so (subst (λ (ns : List ℕ). AreMarked mid ns new) (sym (append-nil (names one))) more))
+      (both_marked old mid new (flat_map names (take i all)) (flat_map names (one ∷ [])) so
+      (subst (λ (ns : List ℕ). AreMarked mid ns new) (sym (append-nil (names one))) more))
     where
       same : flat_map names (take i all) ++ flat_map names (one ∷ []) ≡ flat_map names (take (i + 1) all)
       same = sym (flat_map-append names (take i all) (one ∷ []))
@@ -92,8 +95,12 @@ module _ {T : Type 0} (names : T → List ℕ) where
 
   pub named_from : (all : List T) (one : T) (number : ℕ) → Contains all one → Contains (names one) number → Contains (flat_map names all) number
   named_from [] one number there h = absurd (no_member one there)
-  named_from (first ∷ all) one number (zero, below, is) h = Contains-append_left (names first) (flat_map names all) number (subst (λ (o : T). Contains (names o) number) (sym is) h)
-  named_from (first ∷ all) one number (suc k, below, is) h = Contains-append_right (names first) (flat_map names all) number (named_from all one number (k, omega (arith, below), is) h)
+  named_from (first ∷ all) one number (zero, below, is) h =
+      Contains-append_left (names first) (flat_map names all) number
+      (subst (λ (o : T). Contains (names o) number) (sym is) h)
+  named_from (first ∷ all) one number (suc k, below, is) h =
+      Contains-append_right (names first) (flat_map names all) number
+      (named_from all one number (k, omega (arith, below), is) h)
 
   pub named_only : (all : List T) (number : ℕ) → Contains (flat_map names all) number → (one : T) × Contains all one × Contains (names one) number
   named_only [] number h = absurd (no_member number h)
@@ -112,7 +119,8 @@ numbers_named all = flat_map named_by all
 
 -- Edges name the number of the step that they leave, and those that they lead to.
 pub names_from : (one : StepEdges) (number : ℕ) → one.from ≡ Some number → Contains (named_by one) number
-names_from one number is = Contains-append_left (option_to_list one.from) one.to number (subst (λ (from : Option ℕ). Contains (option_to_list from) number) (sym is) (member_head number []))
+names_from one number is = Contains-append_left (option_to_list one.from) one.to number
+    (subst (λ (from : Option ℕ). Contains (option_to_list from) number) (sym is) (member_head number []))
 
 pub names_to : (one : StepEdges) (number : ℕ) → Contains one.to number → Contains (named_by one) number
 names_to one number h = Contains-append_right (option_to_list one.from) one.to number h

@@ -22,7 +22,8 @@ lower_number a b e = ranked a b Less (sym e)
 module _ {T : Type 0} (now old : List T) (i : ℕ) (rest : drop i now ≡ drop i old) where
   -- What stands there.
   pub same_here : (d : T) → i < length now → i < length old → get_or now i d ≡ get_or old i d
-  same_here d first inside = first_is (get_or now i d) (get_or old i d) (drop (i + 1) now) (drop (i + 1) old) (sym (drop_more now i d first) ∙ rest ∙ drop_more old i d inside)
+  same_here d first inside = first_is (get_or now i d) (get_or old i d) (drop (i + 1) now) (drop (i + 1) old)
+      (sym (drop_more now i d first) ∙ rest ∙ drop_more old i d inside)
     where
       first_is : (a b : T) (xs ys : List T) → a ∷ xs ≡ b ∷ ys → a ≡ b
       first_is a b xs ys e = cc
@@ -93,7 +94,8 @@ module _ (old now : List ℕ) (place count : ℕ) (are : AreMoved old now place 
         few = omega (arith, are.few);
         size = length-set now count number ∙ are.size;
         ascending = subst (λ (xs : List ℕ). IsAscending nat_cmp xs) (sym front)
-            (pairs_append (λ (a b : ℕ). nat_cmp a b ≡ Less) (take count now) (number ∷ []) are.ascending (λ i j d lt below. absurd (omega (arith, lt, below))) between);
+            (pairs_append (λ (a b : ℕ). nat_cmp a b ≡ Less) (take count now) (number ∷ []) are.ascending
+            (λ i j d lt below. absurd (omega (arith, lt, below))) between);
         members = subst (λ (xs : List ℕ). HaveSame xs (take (count + 1) (set now count number))) (sym one_more)
             (subst (λ (xs : List ℕ). HaveSame (take place old ++ number ∷ []) xs) (sym front)
             (same_append (take place old) (take count now) (number ∷ []) (number ∷ []) are.members (λ x. ((λ h. h), (λ h. h)))));
@@ -113,7 +115,8 @@ module _ (old now : List ℕ) (place count : ℕ) (are : AreMoved old now place 
 
       last : 0 < count → get_or now (count - 1) 0 < number
       last some =
-          let there : Contains (take count now) (get_or (take count now) (count - 1) 0) = Contains-get_or (take count now) (count - 1) 0 (omega (arith, some, front_size)) in
+          let there : Contains (take count now) (get_or (take count now) (count - 1) 0) =
+          Contains-get_or (take count now) (count - 1) 0 (omega (arith, some, front_size)) in
           let most = at_most (get_or (take count now) (count - 1) 0) there in
           let is = get_or-take count now (count - 1) 0 (omega (arith, some)) in
           let differs = other some in
@@ -126,7 +129,9 @@ module _ (old now : List ℕ) (place count : ℕ) (are : AreMoved old now place 
           let same = get_or-take count now (count - 1) x (omega (arith, some)) in
           let default = get_or_default now (count - 1) x 0 (omega (arith, some, are.few, are.size, inside)) in
           elim (cases_lt k (count - 1)) [
-            | inl lt ↦ (let up = lower_number (get_or (take count now) k x) (get_or (take count now) (count - 1) x) (are.ascending k (count - 1) x lt (omega (arith, some, front_size))) in omega (arith, up, is, same, default, top))
+            | inl lt ↦ (let up = lower_number (get_or (take count now) k x) (get_or (take count now) (count - 1) x)
+                (are.ascending k (count - 1) x lt (omega (arith, some, front_size))) in
+                omega (arith, up, is, same, default, top))
             | inr ge ↦ (let at : k ≡ count - 1 = omega (arith, ge, below, front_size) in
                 let found : get_or (take count now) (count - 1) x ≡ x = subst (λ (n : ℕ). get_or (take count now) n x ≡ x) at is in
                 omega (arith, found, same, default, top))

@@ -46,7 +46,9 @@ module _ (steps : List Step) (up : IsAscending step_cmp steps) where
   less_number i j below inside low = elim (cases_lt i j) [
     | inl lt ↦ lt
     | inr ge ↦ elim (cases_lt j i) [
-      | inl lt ↦ absurd (less_itself step_total (step_at steps i) (step_total.trans (step_at steps i) (step_at steps j) (step_at steps i) (lt_less _ low) (up j i Main lt below)))
+      | inl lt ↦ absurd (less_itself step_total (step_at steps i)
+          (step_total.trans (step_at steps i) (step_at steps j) (step_at steps i) (lt_less _ low)
+          (up j i Main lt below)))
       | inr le ↦
           let same : j ≡ i = omega (arith, ge, le) in
           absurd (less_itself step_total (step_at steps i) (subst (λ (k : ℕ). step_cmp (step_at steps i) (step_at steps k) ≡ Less) same (lt_less _ low)))
@@ -70,11 +72,13 @@ all_steps_ascend vertices up = AllPairs-cons (λ (s t : Step). step_cmp s t ≡ 
         let inside : k < length vertices = rw length-map at below in
         ap (step_cmp Main) (get_or-map Of vertices k ([], []) d inside)
 
-pub step_of_rank : (vertices : List ModuleVersion) (rank : ℕ) → rank < length vertices → step_at (Main ∷ map Of vertices) (rank + 1) ≡ Of (module_at vertices rank)
+pub step_of_rank : (vertices : List ModuleVersion) (rank : ℕ) → rank < length vertices
+    → step_at (Main ∷ map Of vertices) (rank + 1) ≡ Of (module_at vertices rank)
 step_of_rank vertices rank below = rw add-one (get_or-map Of vertices rank ([], []) Main below)
 
 -- Two ranks of a vertex are the same.
-pub same_rank : (vertices : List ModuleVersion) → IsAscending pair_cmp vertices → (i j : ℕ) → i < length vertices → j < length vertices → module_at vertices i ≡ module_at vertices j → i ≡ j
+pub same_rank : (vertices : List ModuleVersion) → IsAscending pair_cmp vertices → (i j : ℕ) → i < length vertices
+    → j < length vertices → module_at vertices i ≡ module_at vertices j → i ≡ j
 same_rank vertices up i j below inside same =
     let steps = map Of vertices in
     let count : length steps ≡ length vertices = length-map vertices Of in
@@ -86,17 +90,20 @@ module _ (graph : GraphView) (are : IsGraph graph) where
   steps_ascend = all_steps_ascend graph.vertices are.ascending
 
   -- A step that an edge leaves has a number.
-  pub step_number : (s : Step) (y : ModuleVersion) → Contains graph.edges (edge s y) → (i : ℕ) × (i < length (steps_of graph)) × (step_at (steps_of graph) i ≡ s)
+  pub step_number : (s : Step) (y : ModuleVersion) → Contains graph.edges (edge s y)
+      → (i : ℕ) × (i < length (steps_of graph)) × (step_at (steps_of graph) i ≡ s)
   step_number s y h = number_in (steps_of graph) s (are.left (edge s y) h)
 
 -- ---- binary searches
 
-module _ {X K : Type 0} {cmp : K → K → Ordering} (total : IsTotalOrder cmp) (key : X → K) (xs : List X) (up : AllPairs (λ (a b : X). cmp (key a) (key b) ≡ Less) xs) where
+module _ {X K : Type 0} {cmp : K → K → Ordering} (total : IsTotalOrder cmp) (key : X → K) (xs : List X)
+    (up : AllPairs (λ (a b : X). cmp (key a) (key b) ≡ Less) xs) where
   sorted_by : IsSortedBy (λ (a b : X). is_lt (cmp (key a) (key b))) xs
   sorted_by k d low high = ap is_lt (total.antisymm (key (get_or xs (k + 1) d)) (key (get_or xs k d)) ∙ ap ordering_reverse (up k (k + 1) d (omega arith) high))
 
   -- A binary search that finds nothing says that there is nothing.
-  pub nothing_found : (x : K) (i : ℕ) → (IsNonDecreasingBy (λ (y : X). ordering_index (cmp (key y) x)) xs → IsPartitionPoint (λ (y : X). cmp (key y) x ≡ Less) (λ (y : X). cmp (key y) x ≡ Greater) xs i)
+  pub nothing_found : (x : K) (i : ℕ) → (IsNonDecreasingBy (λ (y : X). ordering_index (cmp (key y) x)) xs
+      → IsPartitionPoint (λ (y : X). cmp (key y) x ≡ Less) (λ (y : X). cmp (key y) x ≡ Greater) xs i)
       → (y : X) → Contains xs y → cmp (key y) x ≡ Equal → ⊥
   nothing_found x i says y (k, below, at) e = elim (cases_lt k i) [
     | inl lt ↦ (let less : cmp (key y) x ≡ Less = subst (λ (z : X). cmp (key z) x ≡ Less) at (point.0 k y (omega arith) lt) in cc (sym less ∙ e))
@@ -114,9 +121,15 @@ left_number one = number_with one.from
 
 module _ (vertices : List ModuleVersion) (all : List StepEdges) (sources : List Source) (are : AreRanked vertices all) where
   -- the step that a list leaves has the list's number
-  its_number : (from : Option ℕ) → IsBelow (length vertices) from → (number_with from < length (Main ∷ map Of vertices)) × (step_at (Main ∷ map Of vertices) (number_with from) ≡ step_with vertices from)
+  its_number : (from : Option ℕ) → IsBelow (length vertices) from
+      → (number_with from < length (Main ∷ map Of vertices))
+      × (step_at (Main ∷ map Of vertices) (number_with from) ≡ step_with vertices from)
   its_number None within = (omega arith, refl)
-  its_number (Some rank) within = (let count : length (map Of vertices) ≡ length vertices = length-map vertices Of in omega (arith, within, count), step_of_rank vertices rank within)
+  its_number (Some rank) within = (
+    let count : length (map Of vertices) ≡ length vertices = length-map vertices Of in
+        omega (arith, within, count),
+    step_of_rank vertices rank within,
+  )
 
   numbered_list : (one : StepEdges) → Contains all one → IsNumbered (length vertices) one
   numbered_list one there = All-contains (IsNumbered (length vertices)) all one are.numbered there
@@ -128,11 +141,14 @@ module _ (vertices : List ModuleVersion) (all : List StepEdges) (sources : List 
         let (one, there, at) = edges_only vertices all e h in
         let (rank, held, is) = from_mapped (λ (n : ℕ). edge (left_by vertices one) (module_at vertices n)) one.to e at in
         let (inside, same) = its_number one.from (numbered_list one there).from in
-        subst (λ (s : Step). Contains (Main ∷ map Of vertices) s) (same ∙ ap (λ (f : Edge). f.from) is) (Contains-at (Main ∷ map Of vertices) (left_number one) inside);
+        subst (λ (s : Step). Contains (Main ∷ map Of vertices) s) (same ∙ ap (λ (f : Edge). f.from) is)
+        (Contains-at (Main ∷ map Of vertices) (left_number one) inside);
     ends = λ e h.
         let (one, there, at) = edges_only vertices all e h in
         let (rank, held, is) = from_mapped (λ (n : ℕ). edge (left_by vertices one) (module_at vertices n)) one.to e at in
-        subst (λ (y : ModuleVersion). Contains vertices y) (ap (λ (f : Edge). f.to) is) (Contains-get_or vertices rank ([], []) (All-contains (λ (n : ℕ). n < length vertices) one.to rank (numbered_list one there).to held));
+        subst (λ (y : ModuleVersion). Contains vertices y) (ap (λ (f : Edge). f.to) is)
+        (Contains-get_or vertices rank ([], []) (All-contains (λ (n : ℕ). n < length vertices) one.to rank
+        (numbered_list one there).to held));
   }
     where
       Contains-at : (steps : List Step) (i : ℕ) → i < length steps → Contains steps (step_at steps i)
@@ -161,8 +177,10 @@ module _ (vertices : List ModuleVersion) (all : List StepEdges) (sources : List 
   ]
 
   -- An edge from the step with a number is in the list with that number.
-  list_with : (number : ℕ) → number < length (Main ∷ map Of vertices) → (y : ModuleVersion) → Contains (edges_of vertices all) (edge (step_at (Main ∷ map Of vertices) number) y)
-      → (one : StepEdges) × Contains all one × (left_number one ≡ number) × Contains (edges_from vertices one) (edge (step_at (Main ∷ map Of vertices) number) y)
+  list_with : (number : ℕ) → number < length (Main ∷ map Of vertices) → (y : ModuleVersion)
+      → Contains (edges_of vertices all) (edge (step_at (Main ∷ map Of vertices) number) y)
+      → (one : StepEdges) × Contains all one × (left_number one ≡ number)
+      × Contains (edges_from vertices one) (edge (step_at (Main ∷ map Of vertices) number) y)
   list_with number below y h =
       let steps = Main ∷ map Of vertices in
       let (one, there, at) = edges_only vertices all (edge (step_at steps number) y) h in
@@ -172,7 +190,9 @@ module _ (vertices : List ModuleVersion) (all : List StepEdges) (sources : List 
       (one, there, same_number steps (all_steps_ascend vertices are.vertices_ascend) (left_number one) number inside below alike, at)
 
   -- The list with that number has the edges.
-  pub list_leaves : (one : StepEdges) (number : ℕ) → Contains all one → left_number one ≡ number → number < length (steps_of (record { vertices = vertices; edges = edges_of vertices all; sources = sources })) → AreLeaving (record { vertices = vertices; edges = edges_of vertices all; sources = sources }) number one.to
+  pub list_leaves : (one : StepEdges) (number : ℕ) → Contains all one → left_number one ≡ number
+      → number < length (steps_of (record { vertices = vertices; edges = edges_of vertices all; sources = sources }))
+      → AreLeaving (record { vertices = vertices; edges = edges_of vertices all; sources = sources }) number one.to
   list_leaves one number there is below = record {
     within = (numbered_list one there).to;
     only = λ k d inside. edges_each vertices all one (edge (step_at (Main ∷ map Of vertices) number) (module_at vertices (get_or one.to k d))) there
@@ -189,7 +209,9 @@ module _ (vertices : List ModuleVersion) (all : List StepEdges) (sources : List 
       left = sym (its_number one.from (numbered_list one there).from).1 ∙ ap (step_at (Main ∷ map Of vertices)) is
 
   -- Without such a list no edge leaves the step.
-  pub none_leave : (number : ℕ) → ((one : StepEdges) → Contains all one → left_number one ≡ number → ⊥) → number < length (steps_of (record { vertices = vertices; edges = edges_of vertices all; sources = sources })) → AreLeaving (record { vertices = vertices; edges = edges_of vertices all; sources = sources }) number []
+  pub none_leave : (number : ℕ) → ((one : StepEdges) → Contains all one → left_number one ≡ number → ⊥)
+      → number < length (steps_of (record { vertices = vertices; edges = edges_of vertices all; sources = sources }))
+      → AreLeaving (record { vertices = vertices; edges = edges_of vertices all; sources = sources }) number []
   none_leave number none below = record {
     within = λ k d inside. absurd (omega (arith, inside));
     only = λ k d inside. absurd (omega (arith, inside));
@@ -208,7 +230,9 @@ module _ (vertices : List ModuleVersion) (lists : List (List ℕ)) (sources : Li
       let count : length all ≡ length sources = length-map sources (step_edges lists) in
       let first = get_or-map (step_edges lists) sources i d (step_edges lists d) (omega (arith, lt, below)) in
       let second = get_or-map (step_edges lists) sources j d (step_edges lists d) below in
-      let low = lower_with vertices all sources are (get_or all i (step_edges lists d)).from (get_or all j (step_edges lists d)).from (are.lists_ascend i j (step_edges lists d) lt (omega (arith, below, count))) in
+      let low = lower_with vertices all sources are (get_or all i (step_edges lists d)).from
+      (get_or all j (step_edges lists d)).from (are.lists_ascend i j (step_edges lists d) lt
+      (omega (arith, below, count))) in
       less_number_cmp (number_left (get_or sources i d)) (number_left (get_or sources j d))
       (omega (arith, low, ap (λ (o : StepEdges). number_with o.from) first, ap (λ (o : StepEdges). number_with o.from) second))
     where
@@ -216,7 +240,8 @@ module _ (vertices : List ModuleVersion) (lists : List (List ℕ)) (sources : Li
       less_number_cmp a b lt = cond-true (nat_lt a b) Less _ (lt-ltb a b lt)
 
   -- A binary search found the source with that number.
-  pub source_found : (number place : ℕ) (one : Source) → place < length sources → one ≡ get_or sources place one → nat_cmp (number_left one) number ≡ Equal → HasList its_graph number one.list
+  pub source_found : (number place : ℕ) (one : Source) → place < length sources → one ≡ get_or sources place one
+      → nat_cmp (number_left one) number ≡ Equal → HasList its_graph number one.list
   source_found number place one inside is e = (one, (place, inside, sym is), nat_cmp-IsAntisymmetric (number_left one) number e, refl)
 
   -- The list at a place has the ranks of the vertices that edges lead to from each of its steps.
@@ -226,15 +251,22 @@ module _ (vertices : List ModuleVersion) (lists : List (List ℕ)) (sources : Li
       (list_leaves vertices (by_step lists sources) sources are (step_edges lists one) number (in_mapped (step_edges lists) sources one there) number_is below)
 
   -- It found none.
-  pub source_not_found : (number i : ℕ) → (IsNonDecreasingBy (λ (y : Source). ordering_index (nat_cmp (number_left y) number)) sources → IsPartitionPoint (λ (y : Source). nat_cmp (number_left y) number ≡ Less) (λ (y : Source). nat_cmp (number_left y) number ≡ Greater) sources i)
+  pub source_not_found : (number i : ℕ) → (IsNonDecreasingBy
+      (λ (y : Source). ordering_index (nat_cmp (number_left y) number)) sources
+      → IsPartitionPoint (λ (y : Source). nat_cmp (number_left y) number ≡ Less)
+      (λ (y : Source). nat_cmp (number_left y) number ≡ Greater) sources i)
       → number < length (steps_of its_graph) → AreLeaving its_graph number []
   source_not_found number i says below = none_leave vertices (by_step lists sources) sources are number
       (λ edges there is.
       let (one, found, same) = from_mapped (step_edges lists) sources edges there in
       let number_is : number_left one ≡ number = ap (λ (o : StepEdges). left_number o) same ∙ is in
-      nothing_found nat_cmp_total (λ (y : Source). number_left y) sources sources_rise number i says one found (ap (λ (n : ℕ). nat_cmp n number) number_is ∙ tied_itself nat_cmp_total number))
+      nothing_found nat_cmp_total (λ (y : Source). number_left y) sources sources_rise number i says one found
+      (ap (λ (n : ℕ). nat_cmp n number) number_is ∙ tied_itself nat_cmp_total number))
       below
 
 -- A binary search found no such vertex.
-pub vertex_not_found : (vertices : List ModuleVersion) (x : ModuleVersion) (i : ℕ) → IsAscending pair_cmp vertices → (IsNonDecreasingBy (λ (y : ModuleVersion). ordering_index (pair_cmp y x)) vertices → IsPartitionPoint (λ (y : ModuleVersion). pair_cmp y x ≡ Less) (λ (y : ModuleVersion). pair_cmp y x ≡ Greater) vertices i) → Contains vertices x → ⊥
+pub vertex_not_found : (vertices : List ModuleVersion) (x : ModuleVersion) (i : ℕ) → IsAscending pair_cmp vertices
+    → (IsNonDecreasingBy (λ (y : ModuleVersion). ordering_index (pair_cmp y x)) vertices
+    → IsPartitionPoint (λ (y : ModuleVersion). pair_cmp y x ≡ Less) (λ (y : ModuleVersion). pair_cmp y x ≡ Greater)
+    vertices i) → Contains vertices x → ⊥
 vertex_not_found vertices x i up says there = nothing_found pair_total (λ (y : ModuleVersion). y) vertices up x i says x there (tied_itself pair_total x)

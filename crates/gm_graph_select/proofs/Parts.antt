@@ -8,27 +8,28 @@ use Rattle.std.proofs.lemmas.Slice.{between-put_mid, between_is, drop-put_mid, t
 use borrow.Rule.Slice.PartMut.{post_of, put_mid}
 use Rattle.gm_graph_select.specs.declared.number_lists.Span.{Span}
 use Rattle.gm_graph_select.specs.Private.Adjacency.{IsByRanks}
-use Rattle.gm_graph_select.specs.Spans.{AreApart, lists_at, part_at}
-use Rattle.gm_graph_select.specs.Private.Spans.{IsPartByRanks, IsPart}
+use Rattle.gm_graph_select.specs.Spans.{AreSpansApart, lists_at, part_at}
+use Rattle.gm_graph_select.specs.Private.Spans.{IsPartByRanks, IsSpanWithin}
 use Rattle.gm_graph_select.proofs.Moving.{same_here, same_later}
 
 -- ---- spans that lie apart
 
-apart_order : (spans : List Span) (from to : ℕ) → AreApart from spans to → from ≤ to
+apart_order : (spans : List Span) (from to : ℕ) → AreSpansApart from spans to → from ≤ to
 apart_order [] from to h = h
 apart_order (span ∷ spans) from to (low, order, rest) = omega (arith, low, order, apart_order spans span.end to rest)
 
 -- each of them
-pub all_within : (spans : List Span) (from to : ℕ) → AreApart from spans to → All (IsPart to) spans
-all_within [] from to h = All-nil (IsPart to)
+pub all_within : (spans : List Span) (from to : ℕ) → AreSpansApart from spans to → All (IsSpanWithin to) spans
+all_within [] from to h = All-nil (IsSpanWithin to)
 all_within (span ∷ spans) from to (low, order, rest) =
-    All-cons (IsPart to) span spans (record { order = order; within = apart_order spans span.end to rest }) (all_within spans span.end to rest)
+    All-cons (IsSpanWithin to) span spans (record { order = order; within = apart_order spans span.end to rest }) (all_within spans span.end to rest)
 
-apart_further : (spans : List Span) (from to more : ℕ) → AreApart from spans to → to ≤ more → AreApart from spans more
+apart_further : (spans : List Span) (from to more : ℕ) → AreSpansApart from spans to → to ≤ more → AreSpansApart from spans more
 apart_further [] from to more h le = omega (arith, h, le)
 apart_further (span ∷ spans) from to more (low, order, rest) le = (low, order, apart_further spans span.end to more rest le)
 
-apart_push : (spans : List Span) (span : Span) (from to : ℕ) → AreApart from spans to → to ≤ span.start → span.start ≤ span.end → AreApart from (spans ++ span ∷ []) span.end
+apart_push : (spans : List Span) (span : Span) (from to : ℕ) → AreSpansApart from spans to → to ≤ span.start
+    → span.start ≤ span.end → AreSpansApart from (spans ++ span ∷ []) span.end
 apart_push [] span from to h le up = (omega (arith, h, le), up, omega arith)
 apart_push (first ∷ spans) span from to (low, order, rest) le up = (low, order, apart_push spans span first.end to rest le up)
 
@@ -42,7 +43,8 @@ module _ (new old : List ℕ) where
       (sym (take-take span.end place new le) ∙ ap (λ (xs : List ℕ). take span.end xs) same ∙ take-take span.end place old le)
       ∙ sym (between_is old span.start span.end)
 
-  lists_before : (spans : List Span) (from place : ℕ) → AreApart from spans place → take place new ≡ take place old → lists_at new spans ≡ lists_at old spans
+  lists_before : (spans : List Span) (from place : ℕ) → AreSpansApart from spans place → take place new ≡ take place old
+      → lists_at new spans ≡ lists_at old spans
   lists_before [] from place h same = refl
   lists_before (span ∷ spans) from place (low, order, rest) same = ap₂ (λ (xs : List ℕ) (all : List (List ℕ)). xs ∷ all)
       (part_before span place (apart_order spans span.end place rest) same) (lists_before spans span.end place rest same)
@@ -58,12 +60,12 @@ pub record AreRankedTo (ranks old : List ℕ) (spans : List Span) (now : List �
   pub count : length left ≡ length spans
   pub to_come : drop place left ≡ drop place spans
   pub end : ℕ
-  pub done : AreApart 0 (take place left) end
-  pub ahead : AreApart end (drop place spans) (length old)
+  pub done : AreSpansApart 0 (take place left) end
+  pub ahead : AreSpansApart end (drop place spans) (length old)
   pub rest : drop end now ≡ drop end old
   pub zip : AllZip (IsByRanks ranks) (lists_at old (take place spans)) (lists_at now (take place left))
 
-pub none_ranked : (ranks old : List ℕ) (spans : List Span) → AreApart 0 spans (length old) → AreRankedTo ranks old spans old spans 0
+pub none_ranked : (ranks old : List ℕ) (spans : List Span) → AreSpansApart 0 spans (length old) → AreRankedTo ranks old spans old spans 0
 none_ranked ranks old spans apart = record {
   size = refl;
   count = refl;
@@ -80,10 +82,11 @@ module _ (ranks old : List ℕ) (spans : List Span) (now : List ℕ) (left : Lis
     here : one ≡ get_or spans place one
     here = is ∙ same_here left spans place are.to_come one (omega (arith, inside, are.count)) inside
 
-    next : AreApart are.end (one ∷ drop (place + 1) spans) (length old)
-    next = subst (λ (all : List Span). AreApart are.end all (length old)) (drop_more spans place one inside ∙ ap (λ (s : Span). s ∷ drop (place + 1) spans) (sym here)) are.ahead
+    next : AreSpansApart are.end (one ∷ drop (place + 1) spans) (length old)
+    next = subst (λ (all : List Span). AreSpansApart are.end all (length old))
+        (drop_more spans place one inside ∙ ap (λ (s : Span). s ∷ drop (place + 1) spans) (sym here)) are.ahead
 
-    pub within_now : IsPart (length now) one
+    pub within_now : IsSpanWithin (length now) one
     within_now = record { order = next.1; within = omega (arith, are.size, apart_order (drop (place + 1) spans) one.end (length old) next.2) }
 
     pub part_is : part_at now one ≡ part_at old (get_or spans place one)
@@ -96,11 +99,14 @@ module _ (ranks old : List ℕ) (spans : List Span) (now : List ℕ) (left : Lis
       count = length-set left place given ∙ are.count;
       to_come = drop-set-lt (place + 1) left place given (omega arith) ∙ same_later left spans place are.to_come (place + 1) (omega arith);
       end = one.end;
-      done = subst (λ (all : List Span). AreApart 0 all one.end) (sym front)
-          (apart_further (take place left ++ given ∷ []) 0 given.end one.end (apart_push (take place left) given 0 are.end are.done (omega (arith, by.start, next.0)) by.order) by.end);
+      done = subst (λ (all : List Span). AreSpansApart 0 all one.end) (sym front)
+          (apart_further (take place left ++ given ∷ []) 0 given.end one.end
+          (apart_push (take place left) given 0 are.end are.done (omega (arith, by.start, next.0)) by.order)
+          by.end);
       ahead = next.2;
       rest = by.after ∙ same_later now old are.end are.rest one.end (omega (arith, next.0, next.1));
-      zip = subst (λ (all : List (List ℕ)). AllZip (IsByRanks ranks) (lists_at old (take (place + 1) spans)) all) (sym (ap (λ (all : List Span). lists_at new all) front ∙ new_lists))
+      zip = subst (λ (all : List (List ℕ)). AllZip (IsByRanks ranks) (lists_at old (take (place + 1) spans)) all)
+          (sym (ap (λ (all : List Span). lists_at new all) front ∙ new_lists))
           (subst (λ (all : List (List ℕ)). AllZip (IsByRanks ranks) all (lists_at now (take place left) ++ part_at new given ∷ [])) (sym old_lists)
           (AllZip-push (IsByRanks ranks) (lists_at old (take place spans)) (lists_at now (take place left)) (part_at old one) (part_at new given) are.zip
           (subst (λ (xs : List ℕ). IsByRanks ranks xs (part_at new given)) (part_after now old one are.end next.0 are.rest) by.is)));
@@ -130,8 +136,8 @@ module _ (ranks old : List ℕ) (spans : List Span) (now : List ℕ) (left : Lis
     all_ranked = subst (λ (all : List Span). AllZip (IsByRanks ranks) (lists_at old all) (lists_at now left)) all_spans
         (subst (λ (all : List Span). AllZip (IsByRanks ranks) (lists_at old (take place spans)) (lists_at now all)) all_left are.zip)
 
-    pub all_apart : AreApart 0 left (length old)
-    all_apart = apart_further left 0 are.end (length old) (subst (λ (all : List Span). AreApart 0 all are.end) all_left are.done)
+    pub all_apart : AreSpansApart 0 left (length old)
+    all_apart = apart_further left 0 are.end (length old) (subst (λ (all : List Span). AreSpansApart 0 all are.end) all_left are.done)
         (apart_order (drop place spans) are.end (length old) are.ahead)
 
 -- ---- the part at one span
@@ -146,14 +152,25 @@ module _ (ranks old : List ℕ) (span : Span) (part : List ℕ) (count : ℕ) wh
   abbrev new : List ℕ
   new = put_mid start width old part
 
-  module _ (within : IsPart (length old) span) (size : length part ≡ width) (few : count ≤ width) where
+  module _ (within : IsSpanWithin (length old) span) (size : length part ≡ width) (few : count ≤ width) where
     front : between start (start + count) new ≡ take count part
     front = ap (λ (n : ℕ). take n (drop start new)) (let same : start + count - start ≡ count = omega arith in same)
         ∙ sym (take-take count width (drop start new) few)
         ∙ ap (λ (xs : List ℕ). take count xs) (between-put_mid start width old part span.end (omega (arith, within.order, within.within)) size)
 
     new_size : length new ≡ length old
-    new_size = omega (arith, length-append (take start old) (part ++ post_of start width old), length-append part (post_of start width old), length-take-le start old (omega (arith, within.order, within.within)), length-drop width (drop start old), length-drop start old, size, within.order, within.within)
+    new_size = omega (
+      arith,
+      length-append (take start old) (part ++ post_of start width old),
+      length-append part (post_of start width old),
+      length-take-le start old
+          (omega (arith, within.order, within.within)),
+      length-drop width (drop start old),
+      length-drop start old,
+      size,
+      within.order,
+      within.within,
+    )
 
     -- The ranks are at the front of the part.
     pub part_ranked : IsByRanks ranks (part_at old span) (take count part) → IsPartByRanks ranks old span new (record { start = start; end = start + count })

@@ -48,12 +48,18 @@ leading vertices one number = edge (left_by vertices one) (module_at vertices nu
 
 -- ---- the edges of steps
 
-pub edges_each : (vertices : List ModuleVersion) (all : List StepEdges) (one : StepEdges) (e : Edge) → Contains all one → Contains (edges_from vertices one) e → Contains (edges_of vertices all) e
+pub edges_each : (vertices : List ModuleVersion) (all : List StepEdges) (one : StepEdges) (e : Edge) → Contains all one
+    → Contains (edges_from vertices one) e → Contains (edges_of vertices all) e
 edges_each vertices [] one e there h = absurd (omega (arith, there.1))
-edges_each vertices (first ∷ all) one e (zero, below, is) h = Contains-append_left (edges_from vertices first) (edges_of vertices all) e (subst (λ (o : StepEdges). Contains (edges_from vertices o) e) (sym is) h)
-edges_each vertices (first ∷ all) one e (suc k, below, is) h = Contains-append_right (edges_from vertices first) (edges_of vertices all) e (edges_each vertices all one e (k, omega arith, is) h)
+edges_each vertices (first ∷ all) one e (zero, below, is) h =
+    Contains-append_left (edges_from vertices first) (edges_of vertices all) e
+    (subst (λ (o : StepEdges). Contains (edges_from vertices o) e) (sym is) h)
+edges_each vertices (first ∷ all) one e (suc k, below, is) h =
+    Contains-append_right (edges_from vertices first) (edges_of vertices all) e
+    (edges_each vertices all one e (k, omega arith, is) h)
 
-pub edges_only : (vertices : List ModuleVersion) (all : List StepEdges) (e : Edge) → Contains (edges_of vertices all) e → (one : StepEdges) × Contains all one × Contains (edges_from vertices one) e
+pub edges_only : (vertices : List ModuleVersion) (all : List StepEdges) (e : Edge) → Contains (edges_of vertices all) e
+    → (one : StepEdges) × Contains all one × Contains (edges_from vertices one) e
 edges_only vertices [] e h = absurd (omega (arith, h.1))
 edges_only vertices (first ∷ all) e h = elim (Contains-append_cases (edges_from vertices first) (edges_of vertices all) e h) [
   | inl here ↦ (first, (0, omega arith, refl), here)
@@ -70,7 +76,8 @@ edges_permuted vertices old new same e = (along old new same, along new old (IsP
 -- ---- ascending edges
 
 module _ (vertices : List ModuleVersion) (up : IsAscending pair_cmp vertices) where
-  to_ascends : (s : Step) (to : List ℕ) → IsAscending nat_cmp to → All (λ n. n < length vertices) to → IsAscending edge_cmp (map (λ (n : ℕ). edge s (module_at vertices n)) to)
+  to_ascends : (s : Step) (to : List ℕ) → IsAscending nat_cmp to → All (λ n. n < length vertices) to
+      → IsAscending edge_cmp (map (λ (n : ℕ). edge s (module_at vertices n)) to)
   to_ascends s to ranks within i j d lt below =
       let lead = λ (n : ℕ). edge s (module_at vertices n) in
       let inside : j < length to = rw length-map at below in
@@ -86,12 +93,15 @@ module _ (vertices : List ModuleVersion) (up : IsAscending pair_cmp vertices) wh
   lower_step (Some a) None within e = absurd (cc e)
   lower_step (Some a) (Some b) within e = up a b ([], []) (lower_number a b e) within
 
-  edges_ascend : (all : List StepEdges) → HaveNumbers (length vertices) all → AllPairs LeavesLower all → All (λ (one : StepEdges). IsAscending nat_cmp one.to) all → IsAscending edge_cmp (edges_of vertices all)
+  edges_ascend : (all : List StepEdges) → HaveNumbers (length vertices) all → AllPairs LeavesLower all
+      → All (λ (one : StepEdges). IsAscending nat_cmp one.to) all → IsAscending edge_cmp (edges_of vertices all)
   edges_ascend [] numbered lower each = λ i j d lt below. absurd (omega (arith, below))
   edges_ascend (one ∷ all) numbered lower each =
       pairs_append (λ (a b : Edge). edge_cmp a b ≡ Less) (edges_from vertices one) (edges_of vertices all)
-      (to_ascends (left_by vertices one) one.to (All-head (λ (o : StepEdges). IsAscending nat_cmp o.to) one all each) (All-head (IsNumbered (length vertices)) one all numbered).to)
-      (edges_ascend all (All-tail (IsNumbered (length vertices)) one all numbered) (pairs_tail LeavesLower one all lower) (All-tail (λ (o : StepEdges). IsAscending nat_cmp o.to) one all each))
+      (to_ascends (left_by vertices one) one.to (All-head (λ (o : StepEdges). IsAscending nat_cmp o.to) one all each)
+      (All-head (IsNumbered (length vertices)) one all numbered).to)
+      (edges_ascend all (All-tail (IsNumbered (length vertices)) one all numbered)
+      (pairs_tail LeavesLower one all lower) (All-tail (λ (o : StepEdges). IsAscending nat_cmp o.to) one all each))
       between
     where
       between : (a b : Edge) → Contains (edges_from vertices one) a → Contains (edges_of vertices all) b → edge_cmp a b ≡ Less
@@ -101,7 +111,8 @@ module _ (vertices : List ModuleVersion) (up : IsAscending pair_cmp vertices) wh
           let (m, found, same) = from_mapped (leading vertices other) other.to b at in
           let numbers = All-contains (IsNumbered (length vertices)) all other (All-tail (IsNumbered (length vertices)) one all numbered) later in
           ap₂ edge_cmp (sym is) (sym same)
-          ∙ ap (λ (o : Ordering). ordering_then o (pair_cmp (module_at vertices n) (module_at vertices m))) (lower_step one.from other.from numbers.from (pairs_head LeavesLower one other all lower later))
+          ∙ ap (λ (o : Ordering). ordering_then o (pair_cmp (module_at vertices n) (module_at vertices m)))
+          (lower_step one.from other.from numbers.from (pairs_head LeavesLower one other all lower later))
 
 -- The edges of a graph by ranks are in ascending order.
 pub ranked_edges_ascend : (vertices : List ModuleVersion) (all : List StepEdges) → AreRanked vertices all → IsAscending edge_cmp (edges_of vertices all)
@@ -123,12 +134,14 @@ options = options_total nat_cmp_total
 lists_order : IsTotalOrder (λ (a b : StepEdges). option_cmp nat_cmp a.from b.from)
 lists_order = on_total (λ (one : StepEdges). one.from) options
 
-lists_ascend : (all : List StepEdges) → IsSortedByKey (λ (one : StepEdges). one.from) (option_cmp nat_cmp) all → IsDistinct same_from all → AllPairs LeavesLower all
+lists_ascend : (all : List StepEdges) → IsSortedByKey (λ (one : StepEdges). one.from) (option_cmp nat_cmp) all
+    → IsDistinct same_from all → AllPairs LeavesLower all
 lists_ascend all sorted distinct = from_adjacent lists_order all (λ k d inside.
     let a = get_or all k d in
     let b = get_or all (k + 1) d in
     let apart = apart_from_distinct same_from all k (k + 1) d distinct (omega arith) inside in
-    let low : is_lt (ordering_reverse (option_cmp nat_cmp a.from b.from)) ≡ false = ap is_lt (sym (options.antisymm b.from a.from)) ∙ sorted k d (omega arith) inside in
+    let low : is_lt (ordering_reverse (option_cmp nat_cmp a.from b.from)) ≡ false =
+    ap is_lt (sym (options.antisymm b.from a.from)) ∙ sorted k d (omega arith) inside in
     sym (ap is_lt (later_list (option_cmp nat_cmp a.from b.from) low apart)))
 
 eq_flips : (r : Ordering) → is_eq (ordering_reverse r) ≡ is_eq r
@@ -167,7 +180,9 @@ pub record AreByRanks (ranks : List ℕ) (old new : List StepEdges) : Type 0 whe
 
 module _ (ranks : List ℕ) where
   -- The same holds at each place, also past the end.
-  list_ranked : (olds news : List (List ℕ)) → AllZip (IsByRanks ranks) olds news → (place : ℕ) → IsAscending nat_cmp (list_at news place) × HaveSame (map (rank_of ranks) (list_at olds place)) (list_at news place)
+  list_ranked : (olds news : List (List ℕ)) → AllZip (IsByRanks ranks) olds news → (place : ℕ)
+      → IsAscending nat_cmp (list_at news place) × HaveSame (map (rank_of ranks) (list_at olds place))
+      (list_at news place)
   list_ranked [] [] zip place = ((λ i j d lt below. absurd (omega (arith, below))), (λ x. ((λ h. h), (λ h. h))))
   list_ranked [] (b ∷ news) zip place = absurd zip
   list_ranked (a ∷ olds) [] zip place = absurd zip
@@ -181,7 +196,8 @@ module _ (ranks : List ℕ) where
         let (ascending, members) = list_ranked olds news zip one.list in
         (record { from = refl; ascending = ascending; members = members }, zip_steps sources)
 
-    steps_sorted : (sources : List Source) → IsSortedByKey (λ (one : Source). one.from) (option_cmp nat_cmp) sources → IsSortedByKey (λ (one : StepEdges). one.from) (option_cmp nat_cmp) (by_step news sources)
+    steps_sorted : (sources : List Source) → IsSortedByKey (λ (one : Source). one.from) (option_cmp nat_cmp) sources
+        → IsSortedByKey (λ (one : StepEdges). one.from) (option_cmp nat_cmp) (by_step news sources)
     steps_sorted sources sorted k d low high =
         let none : Source = record { from = None; list = 0 } in
         let count : length (by_step news sources) ≡ length sources = length-map sources (step_edges news) in
@@ -232,13 +248,16 @@ module _ (modules : List ModuleVersion) (marks : List Bool) (ordered : List Modu
         there h =
             let (number, held, is) = from_mapped (leading modules old) old.to e h in
             let found = (has.members (rank_of ranks number)).0 (in_mapped (rank_of ranks) old.to number held) in
-            subst (λ (f : Edge). Contains (edges_from ordered new) f) (edge_kept number held ∙ is) (in_mapped (leading ordered new) new.to (rank_of ranks number) found)
+            subst (λ (f : Edge). Contains (edges_from ordered new) f) (edge_kept number held ∙ is)
+            (in_mapped (leading ordered new) new.to (rank_of ranks number) found)
 
         back : Contains (edges_from ordered new) e → Contains (edges_from modules old) e
         back h =
             let (rank, held, is) = from_mapped (leading ordered new) new.to e h in
             let (number, found, at) = from_mapped (rank_of ranks) old.to rank ((has.members rank).1 held) in
-            subst (λ (f : Edge). Contains (edges_from modules old) f) (sym (edge_kept number found) ∙ ap (λ (n : ℕ). leading ordered new n) at ∙ is) (in_mapped (leading modules old) old.to number found)
+            subst (λ (f : Edge). Contains (edges_from modules old) f)
+            (sym (edge_kept number found) ∙ ap (λ (n : ℕ). leading ordered new n) at ∙ is)
+            (in_mapped (leading modules old) old.to number found)
 
     numbered_kept : IsNumbered (length ordered) new
     numbered_kept = record {
@@ -274,13 +293,15 @@ module _ (modules : List ModuleVersion) (marks : List Bool) (ordered : List Modu
   each_ascends (a ∷ olds) (b ∷ news) (one, rest) = All-cons (λ (one : StepEdges). IsAscending nat_cmp one.to) b news one.ascending (each_ascends olds news rest)
 
   -- Lists that leave different steps have different ranks.
-  same_left : (a b x y : StepEdges) → NamesMarked marks a → NamesMarked marks b → HasRanks ranks a x → HasRanks ranks b y → same_from x y ≡ true → same_step modules a b ≡ true
+  same_left : (a b x y : StepEdges) → NamesMarked marks a → NamesMarked marks b → HasRanks ranks a x
+      → HasRanks ranks b y → same_from x y ≡ true → same_step modules a b ≡ true
   same_left a b x y of_a of_b to_x to_y e =
       let same : left_by modules a ≡ left_by modules b =
       sym (left_kept a x of_a to_x) ∙ ap (λ (from : Option ℕ). step_with ordered from) (same_options x.from y.from e) ∙ left_kept b y of_b to_y in
       ap (λ (s : Step). step_eq (left_by modules a) s) (sym same) ∙ step_equiv.refl (left_by modules a)
 
-  apart_kept : (old new : List StepEdges) → All (NamesMarked marks) old → AllZip (HasRanks ranks) old new → IsDistinct (same_step modules) old → IsDistinct same_from new
+  apart_kept : (old new : List StepEdges) → All (NamesMarked marks) old → AllZip (HasRanks ranks) old new
+      → IsDistinct (same_step modules) old → IsDistinct same_from new
   apart_kept old new numbered zip distinct = IsDistinct-from_apart same_from new apart
     where
       apart : (i j : ℕ) (d : StepEdges) → i < j → j < length new → same_from (get_or new i d) (get_or new j d) ≡ false
@@ -304,6 +325,7 @@ module _ (modules : List ModuleVersion) (marks : List Bool) (ordered : List Modu
     lists_are_ranked up distinct = record {
       vertices_ascend = up;
       numbered = All-permutation (IsNumbered (length ordered)) by.lists new by.permutation (all_numbered old by.lists numbered by.each);
-      lists_ascend = lists_ascend new by.sorted (IsDistinct-IsPermutation same_from from_flips by.lists new by.permutation (apart_kept old by.lists numbered by.each distinct));
+      lists_ascend = lists_ascend new by.sorted (IsDistinct-IsPermutation same_from from_flips by.lists new
+          by.permutation (apart_kept old by.lists numbered by.each distinct));
       each_ascends = All-permutation (λ (one : StepEdges). IsAscending nat_cmp one.to) by.lists new by.permutation (each_ascends old by.lists by.each);
     }

@@ -41,14 +41,17 @@ module _ (vertices : List ModuleVersion) (ranks : List ℕ) (next one : Numbered
 
   rank_kept : one.number ≢ next.number → IsRanked vertices ranks one → IsRanked (vertices ++ next.vertex ∷ []) (set ranks next.number (length vertices)) one
   rank_kept apart so =
-      let rank : rank_of (set ranks next.number (length vertices)) one.number ≡ rank_of ranks one.number = get_or-set_other ranks next.number one.number (length vertices) 0 apart in
+      let rank : rank_of (set ranks next.number (length vertices)) one.number ≡ rank_of ranks one.number =
+      get_or-set_other ranks next.number one.number (length vertices) 0 apart in
       record {
         within = omega (arith, rank, so.within, length_push vertices next.vertex);
-        is = ap (λ (n : ℕ). module_at (vertices ++ next.vertex ∷ []) n) rank ∙ get_or_append_left vertices (next.vertex ∷ []) ([], []) (rank_of ranks one.number) so.within ∙ so.is;
+        is = ap (λ (n : ℕ). module_at (vertices ++ next.vertex ∷ []) n) rank
+            ∙ get_or_append_left vertices (next.vertex ∷ []) ([], []) (rank_of ranks one.number) so.within ∙ so.is;
       }
 
   -- A vertex that has its rank keeps it.
-  pub rank_more : (one.number ≡ next.number → one.vertex ≡ next.vertex) → IsRanked vertices ranks one → IsRanked (vertices ++ next.vertex ∷ []) (set ranks next.number (length vertices)) one
+  pub rank_more : (one.number ≡ next.number → one.vertex ≡ next.vertex) → IsRanked vertices ranks one
+      → IsRanked (vertices ++ next.vertex ∷ []) (set ranks next.number (length vertices)) one
   rank_more tied so = elim (cases_eq one.number next.number) [
     | inl e ↦ rank_here e (tied e)
     | inr apart ↦ rank_kept apart so
@@ -57,15 +60,22 @@ module _ (vertices : List ModuleVersion) (ranks : List ℕ) (next one : Numbered
 -- ---- the ranking so far
 
 -- It has fewer vertices than all if some are left.
-pub fewer : (all : List Numbered) (before : List ModuleVersion) (rest : List Numbered) → before ++ map vertex_of rest ≡ map vertex_of all → length before + length rest ≡ length all
-fewer all before rest is = sym (ap (λ (n : ℕ). length before + n) (length-map rest vertex_of)) ∙ sym (length-append before (map vertex_of rest)) ∙ ap (λ (xs : List ModuleVersion). length xs) is ∙ length-map all vertex_of
+pub fewer : (all : List Numbered) (before : List ModuleVersion) (rest : List Numbered)
+    → before ++ map vertex_of rest ≡ map vertex_of all → length before + length rest ≡ length all
+fewer all before rest is = sym (ap (λ (n : ℕ). length before + n) (length-map rest vertex_of))
+    ∙ sym (length-append before (map vertex_of rest)) ∙ ap (λ (xs : List ModuleVersion). length xs) is
+    ∙ length-map all vertex_of
 
-pub next_vertices : (all : List Numbered) (before : List ModuleVersion) (next : Numbered) (rest : List Numbered) → before ++ map vertex_of (next ∷ rest) ≡ map vertex_of all → (before ++ next.vertex ∷ []) ++ map vertex_of rest ≡ map vertex_of all
+pub next_vertices : (all : List Numbered) (before : List ModuleVersion) (next : Numbered) (rest : List Numbered)
+    → before ++ map vertex_of (next ∷ rest) ≡ map vertex_of all
+    → (before ++ next.vertex ∷ []) ++ map vertex_of rest ≡ map vertex_of all
 next_vertices all before next rest is = append_assoc before (next.vertex ∷ []) (map vertex_of rest) ∙ is
 
 -- After the next vertex each one has its rank or is left.
-pub next_ranked : (all : List Numbered) (before : List ModuleVersion) (ranks : List ℕ) (next : Numbered) (rest : List Numbered) → HaveOneVertexEach all → Contains all next → next.number < length ranks
-    → (x : Numbered) → Contains all x → IsRanked before ranks x ⊎ Contains (next ∷ rest) x → IsRanked (before ++ next.vertex ∷ []) (set ranks next.number (length before)) x ⊎ Contains rest x
+pub next_ranked : (all : List Numbered) (before : List ModuleVersion) (ranks : List ℕ) (next : Numbered)
+    (rest : List Numbered) → HaveOneVertexEach all → Contains all next → next.number < length ranks
+    → (x : Numbered) → Contains all x → IsRanked before ranks x ⊎ Contains (next ∷ rest) x
+    → IsRanked (before ++ next.vertex ∷ []) (set ranks next.number (length before)) x ⊎ Contains rest x
 next_ranked all before ranks next rest once in_all inside x there so = elim so [
   | inl ranked ↦ inl (rank_more before ranks next x inside (once x next there in_all) ranked)
   | inr left ↦ elim (member_cases next x rest left) [
@@ -97,13 +107,16 @@ module _ (front : List ModuleVersion) (marks : List Bool) (x : ModuleVersion) (a
   }
 
   -- One more that is.
-  numbered_too : (next : Numbered) → next.number ≡ length front → next.vertex ≡ x → HasMark marks (length front) → AreMarkedModules (front ++ x ∷ []) marks (all ++ next ∷ [])
+  numbered_too : (next : Numbered) → next.number ≡ length front → next.vertex ≡ x → HasMark marks (length front)
+      → AreMarkedModules (front ++ x ∷ []) marks (all ++ next ∷ [])
   numbered_too next number_is vertex_is marked = record {
     few = omega (arith, are.few, length_push front x, length_push all next);
-    placed = All-push (IsPlaced (front ++ x ∷ []) marks) all next (All-weaker (IsPlaced front marks) (IsPlaced (front ++ x ∷ []) marks) wider all are.placed) last;
+    placed = All-push (IsPlaced (front ++ x ∷ []) marks) all next
+        (All-weaker (IsPlaced front marks) (IsPlaced (front ++ x ∷ []) marks) wider all are.placed) last;
     each = λ number below h. elim (cases_eq number (length front)) [
       | inl same ↦ (next, Contains-push all next, number_is ∙ sym same)
-      | inr apart ↦ (let (one, there, is) = are.each number (omega (arith, below, apart, length_push front x)) h in (one, Contains-append_left all (next ∷ []) one there, is))
+      | inr apart ↦ (let (one, there, is) = are.each number (omega (arith, below, apart, length_push front x)) h in
+          (one, Contains-append_left all (next ∷ []) one there, is))
     ];
     ascending = all_pairs_push (λ (a b : Numbered). a.number < b.number) all next are.ascending (λ k d below. lower k d below);
   }
@@ -119,7 +132,8 @@ module _ (front : List ModuleVersion) (marks : List Bool) (x : ModuleVersion) (a
       lower k d below = let placed = are.placed k d below in omega (arith, placed.within, number_is)
 
   -- One more, by its mark.
-  pub next_numbered : (next : Numbered) → next.number ≡ length front → next.vertex ≡ x → AreMarkedModules (front ++ x ∷ []) marks (if get_or marks next.number false then all ++ next ∷ [] else all)
+  pub next_numbered : (next : Numbered) → next.number ≡ length front → next.vertex ≡ x
+      → AreMarkedModules (front ++ x ∷ []) marks (if get_or marks next.number false then all ++ next ∷ [] else all)
   next_numbered next number_is vertex_is = elim (cases_Bool (get_or marks next.number false)) [
     | inl marked ↦ subst (λ (b : Bool). AreMarkedModules (front ++ x ∷ []) marks (if b then all ++ next ∷ [] else all)) (sym marked)
         (numbered_too next number_is vertex_is (subst (λ (n : ℕ). HasMark marks n) number_is marked))
@@ -128,7 +142,9 @@ module _ (front : List ModuleVersion) (marks : List Bool) (x : ModuleVersion) (a
   ]
 
 -- The next of the modules that are left.
-pub next_module : (modules rest : List ModuleVersion) (x : ModuleVersion) (i : ℕ) → i ≤ length modules → take i modules ++ x ∷ rest ≡ modules → (i < length modules) × (length (take i modules) ≡ i) × (take (i + 1) modules ≡ take i modules ++ x ∷ [])
+pub next_module : (modules rest : List ModuleVersion) (x : ModuleVersion) (i : ℕ) → i ≤ length modules
+    → take i modules ++ x ∷ rest ≡ modules → (i < length modules) × (length (take i modules) ≡ i)
+    × (take (i + 1) modules ≡ take i modules ++ x ∷ [])
 next_module modules rest x i within is = (inside, size, taken)
   where
     size : length (take i modules) ≡ i
@@ -155,12 +171,14 @@ module _ (modules : List ModuleVersion) (marks : List Bool) (all : List Numbered
           let placed = are.placed k e below in
           get_or-map vertex_of all k e d below ∙ placed.is ∙ get_or_default modules (get_or all k e).number ([], []) d placed.within
 
-      apart : (i j : ℕ) (d : ModuleVersion) → i < j → j < length (map vertex_of all) → pair_eq (get_or (map vertex_of all) i d) (get_or (map vertex_of all) j d) ≡ false
+      apart : (i j : ℕ) (d : ModuleVersion) → i < j → j < length (map vertex_of all)
+          → pair_eq (get_or (map vertex_of all) i d) (get_or (map vertex_of all) j d) ≡ false
       apart i j d lt below =
           let e : Numbered = record { vertex = d; number = 0 } in
           let inside : j < length all = omega (arith, below, length-map all vertex_of) in
           ap₂ pair_eq (vertex_is i d e (omega (arith, lt, inside))) (vertex_is j d e inside)
-          ∙ apart_from_distinct pair_eq modules (get_or all i e).number (get_or all j e).number d distinct (are.ascending i j e lt inside) (are.placed j e inside).within
+          ∙ apart_from_distinct pair_eq modules (get_or all i e).number (get_or all j e).number d distinct
+          (are.ascending i j e lt inside) (are.placed j e inside).within
 
   module _ (ordered : List Numbered) (same : IsPermutation all ordered) where
     ordered_placed : All (IsPlaced modules marks) ordered
@@ -195,7 +213,8 @@ module _ (modules : List ModuleVersion) (marks : List Bool) (all : List Numbered
         back (number, below, marked, is) =
             let (one, found, number_is) = its_entry number below marked in
             let placed = All-contains (IsPlaced modules marks) ordered one ordered_placed found in
-            subst (λ (y : ModuleVersion). Contains (map vertex_of ordered) y) (placed.is ∙ ap (λ (n : ℕ). module_at modules n) number_is ∙ is) (in_mapped vertex_of ordered one found)
+            subst (λ (y : ModuleVersion). Contains (map vertex_of ordered) y)
+            (placed.is ∙ ap (λ (n : ℕ). module_at modules n) number_is ∙ is) (in_mapped vertex_of ordered one found)
 
     module _ (ranks : List ℕ) (each : All (IsRanked (map vertex_of ordered) ranks) ordered) where
       pub ranks_are : length ranks ≡ length modules → length marks ≡ length modules → AreRanks modules marks (map vertex_of ordered) ranks
@@ -203,7 +222,8 @@ module _ (modules : List ModuleVersion) (marks : List Bool) (all : List Numbered
         count = count;
         within = λ number marked.
             let (one, there, e) = its_entry number (below number marked) marked in
-            subst (λ (n : ℕ). rank_of ranks n < length (map vertex_of ordered)) e (All-contains (IsRanked (map vertex_of ordered) ranks) ordered one each there).within;
+            subst (λ (n : ℕ). rank_of ranks n < length (map vertex_of ordered)) e
+            (All-contains (IsRanked (map vertex_of ordered) ranks) ordered one each there).within;
         same = λ number marked.
             let (one, there, e) = its_entry number (below number marked) marked in
             let placed = All-contains (IsPlaced modules marks) ordered one ordered_placed there in
@@ -230,13 +250,16 @@ module _ (modules : List ModuleVersion) (marks : List Bool) (all : List Numbered
     pair_flips x y = pair_ties x y ∙ ap is_eq (pair_total.antisymm x y) ∙ eq_flips (pair_cmp y x) ∙ sym (pair_ties y x)
 
     -- Sorted, distinct vertices ascend.
-    pub vertices_ascend : IsSorted (λ (a b : Numbered). ordering_then (pair_cmp a.vertex b.vertex) (nat_cmp a.number b.number)) ordered → IsDistinct pair_eq modules → IsAscending pair_cmp (map vertex_of ordered)
+    pub vertices_ascend : IsSorted (λ (a b : Numbered). ordering_then (pair_cmp a.vertex b.vertex)
+        (nat_cmp a.number b.number)) ordered → IsDistinct pair_eq modules → IsAscending pair_cmp (map vertex_of ordered)
     vertices_ascend sorted distinct = from_adjacent pair_total (map vertex_of ordered) next
       where
         apart : IsDistinct pair_eq (map vertex_of ordered)
-        apart = IsDistinct-IsPermutation pair_eq pair_flips (map vertex_of all) (map vertex_of ordered) (IsPermutation-map vertex_of all ordered same) (all_distinct distinct)
+        apart = IsDistinct-IsPermutation pair_eq pair_flips (map vertex_of all) (map vertex_of ordered)
+            (IsPermutation-map vertex_of all ordered same) (all_distinct distinct)
 
-        next : (k : ℕ) (d : ModuleVersion) → k + 1 < length (map vertex_of ordered) → true ≡ is_lt (pair_cmp (get_or (map vertex_of ordered) k d) (get_or (map vertex_of ordered) (k + 1) d))
+        next : (k : ℕ) (d : ModuleVersion) → k + 1 < length (map vertex_of ordered)
+            → true ≡ is_lt (pair_cmp (get_or (map vertex_of ordered) k d) (get_or (map vertex_of ordered) (k + 1) d))
         next k d inside =
             let e : Numbered = record { vertex = d; number = 0 } in
             let within : k + 1 < length ordered = omega (arith, inside, length-map ordered vertex_of) in
@@ -245,7 +268,9 @@ module _ (modules : List ModuleVersion) (marks : List Bool) (all : List Numbered
             let left : get_or (map vertex_of ordered) k d ≡ a.vertex = get_or-map vertex_of ordered k e d (omega arith) in
             let right : get_or (map vertex_of ordered) (k + 1) d ≡ b.vertex = get_or-map vertex_of ordered (k + 1) e d within in
             let differ : is_eq (pair_cmp a.vertex b.vertex) ≡ false =
-            sym (pair_ties a.vertex b.vertex) ∙ sym (ap₂ pair_eq left right) ∙ apart_from_distinct pair_eq (map vertex_of ordered) k (k + 1) d apart (omega arith) inside in
+            sym (pair_ties a.vertex b.vertex) ∙ sym (ap₂ pair_eq left right)
+            ∙ apart_from_distinct pair_eq (map vertex_of ordered) k (k + 1) d apart (omega arith) inside in
             let low : is_lt (ordering_then (ordering_reverse (pair_cmp a.vertex b.vertex)) (nat_cmp b.number a.number)) ≡ false =
-            ap (λ (r : Ordering). is_lt (ordering_then r (nat_cmp b.number a.number))) (sym (pair_total.antisymm b.vertex a.vertex)) ∙ sorted k e (omega arith) within in
+            ap (λ (r : Ordering). is_lt (ordering_then r (nat_cmp b.number a.number)))
+            (sym (pair_total.antisymm b.vertex a.vertex)) ∙ sorted k e (omega arith) within in
             sym (ap is_lt (ap₂ pair_cmp left right ∙ later_vertex (pair_cmp a.vertex b.vertex) (nat_cmp b.number a.number) low differ))

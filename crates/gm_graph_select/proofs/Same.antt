@@ -47,8 +47,12 @@ ends_of edges y = (from, to)
     from : Contains (map (λ (e : Edge). e.to) edges) y → IsEdgeEnd (among edges) y
     from (k, below, at) =
         let inside : k < length edges = rw length-map at below in
-        let e = get_or edges k (edge Main y) in
-        (e.from, subst (λ (z : ModuleVersion). Contains edges (edge e.from z)) (sym (get_or-map (λ (e : Edge). e.to) edges k (edge Main y) y inside) ∙ at) (Contains-get_or edges k (edge Main y) inside))
+        let e = get_or edges k (edge Main y) in (
+          e.from,
+          subst (λ (z : ModuleVersion). Contains edges (edge e.from z))
+              (sym (get_or-map (λ (e : Edge). e.to) edges k (edge Main y) y inside) ∙ at)
+              (Contains-get_or edges k (edge Main y) inside),
+        )
 
     to : IsEdgeEnd (among edges) y → Contains (map (λ (e : Edge). e.to) edges) y
     to (s, there) =
@@ -63,7 +67,8 @@ alike_selected main E F h x is = record {
 }
 
 -- A build list depends only on the vertices that edges lead to.
-pub alike_build_list : (main : List ℕ) (replaces : List Replacing) (E F : Edges) (entries : List Entry) → EndAlike E F → IsBuildList main replaces E entries → IsBuildList main replaces F entries
+pub alike_build_list : (main : List ℕ) (replaces : List Replacing) (E F : Edges) (entries : List Entry) → EndAlike E F
+    → IsBuildList main replaces E entries → IsBuildList main replaces F entries
 alike_build_list main replaces E F entries h list = record {
   selected = list.selected;
   entries_are = list.entries_are;
@@ -74,7 +79,8 @@ alike_build_list main replaces E F entries h list = record {
   );
 }
 
-pub same_build_list : (main : List ℕ) (replaces : List Replacing) (E F : Edges) (entries : List Entry) → AreSame E F → IsBuildList main replaces E entries → IsBuildList main replaces F entries
+pub same_build_list : (main : List ℕ) (replaces : List Replacing) (E F : Edges) (entries : List Entry) → AreSame E F
+    → IsBuildList main replaces E entries → IsBuildList main replaces F entries
 same_build_list main replaces E F entries h = alike_build_list main replaces E F entries (same_ends E F h)
 
 pub same_leads : (E F : Edges) → AreSame E F → {s : Step} {n : ℕ} → Leads E s n → Leads F s n

@@ -33,7 +33,8 @@ module _ {T : Type 0} {cmp : T → T → Ordering} (total : IsTotalOrder cmp) {e
           subst (λ (z : T). Contains (dedup eq ys) z) (sym is) there
 
 -- Each element is less than the next.
-pub from_adjacent : {T : Type 0} {cmp : T → T → Ordering} → IsTotalOrder cmp → (xs : List T) → AllAdjacentBelow (λ x y. true ≡ is_lt (cmp x y)) xs (length xs) → IsAscending cmp xs
+pub from_adjacent : {T : Type 0} {cmp : T → T → Ordering} → IsTotalOrder cmp → (xs : List T)
+    → AllAdjacentBelow (λ x y. true ≡ is_lt (cmp x y)) xs (length xs) → IsAscending cmp xs
 from_adjacent {T} {cmp} total xs each i j d lt below =
     Less-from_sorted cmp xs i j d (sorted_from_all_adjacent total xs d (λ k inside. lt_Less _ (sym (each k d inside)))) lt below
   where
@@ -43,12 +44,14 @@ from_adjacent {T} {cmp} total xs each i j d lt below =
     lt_Less Greater e = cc
 
 -- Some element is not less than the next.
-pub not_ascending : {T : Type 0} (cmp : T → T → Ordering) (xs : List T) (k : ℕ) → k + 1 < length xs → ((d : T) → false ≡ is_lt (cmp (get_or xs k d) (get_or xs (k + 1) d))) → IsAscending cmp xs → ⊥
+pub not_ascending : {T : Type 0} (cmp : T → T → Ordering) (xs : List T) (k : ℕ) → k + 1 < length xs
+    → ((d : T) → false ≡ is_lt (cmp (get_or xs k d) (get_or xs (k + 1) d))) → IsAscending cmp xs → ⊥
 not_ascending cmp [] k below low up = omega (arith, below)
 not_ascending cmp (x ∷ xs) k below low up = false≢true (low x ∙ ap is_lt (up k (k + 1) x (omega arith) below))
 
 -- A list that ascends by a number first is in the order of these numbers.
-pub numbers_ascend : {T : Type 0} (number : T → ℕ) (cmp : T → T → Ordering) (xs : List T) → IsAscending (λ a b. ordering_then (nat_cmp (number a) (number b)) (cmp a b)) xs → IsNonDecreasingBy number xs
+pub numbers_ascend : {T : Type 0} (number : T → ℕ) (cmp : T → T → Ordering) (xs : List T)
+    → IsAscending (λ a b. ordering_then (nat_cmp (number a) (number b)) (cmp a b)) xs → IsNonDecreasingBy number xs
 numbers_ascend number cmp xs up = IsNonDecreasingBy-from_all_adjacent number xs (λ k d below.
     at_most (number (get_or xs k d)) (number (get_or xs (k + 1) d)) (cmp (get_or xs k d) (get_or xs (k + 1) d)) (up k (k + 1) d (omega arith) below))
   where

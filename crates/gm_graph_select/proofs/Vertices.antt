@@ -20,10 +20,15 @@ use Rattle.gm_graph_select.proofs.Ascending.{no_member}
 use Rattle.gm_graph_select.proofs.Marks.{marked_inside, named_by, named_from, named_only, names_from, names_only, names_to, numbers_named}
 use Rattle.gm_graph_select.proofs.RankedLists.{AreByRanks, IsFromMarked, NamesMarked, edges_each, edges_only, from_mapped, in_mapped, lists_are_ranked, same_edges, steps_by_ranks}
 
-module _ (modules : List ModuleVersion) (marks : List Bool) (all : List StepEdges) (are : (number : ℕ) → HasMark marks number ↔ Contains (numbers_named all) number) where
+module _ (modules : List ModuleVersion) (marks : List Bool) (all : List StepEdges)
+    (are : (number : ℕ) → HasMark marks number ↔ Contains (numbers_named all) number) where
   -- Each number that a list names is marked.
   all_named : All (NamesMarked marks) all
-  all_named k d below = record { from = from_of one.from refl; to = λ j e inside. marked (get_or one.to j e) (names_to one (get_or one.to j e) (Contains-get_or one.to j e inside)) }
+  all_named k d below = record {
+    from = from_of one.from refl;
+    to =
+        λ j e inside. marked (get_or one.to j e) (names_to one (get_or one.to j e) (Contains-get_or one.to j e inside));
+  }
     where
       one : StepEdges
       one = get_or all k d
@@ -53,7 +58,8 @@ module _ (modules : List ModuleVersion) (marks : List Bool) (all : List StepEdge
           )
         ]
 
-    marked_module : length marks ≡ length modules → (x : ModuleVersion) → (one : StepEdges) → Contains all one → (number : ℕ) → Contains (named_by one) number → module_at modules number ≡ x → IsMarkedModule modules marks x
+    marked_module : length marks ≡ length modules → (x : ModuleVersion) → (one : StepEdges) → Contains all one
+        → (number : ℕ) → Contains (named_by one) number → module_at modules number ≡ x → IsMarkedModule modules marks x
     marked_module count x one there number named is =
         let marked : HasMark marks number = (are number).1 (named_from named_by all one number there named) in
         (number, subst (λ (n : ℕ). number < n) count (marked_inside marks number marked), marked, is)
@@ -72,13 +78,15 @@ module _ (modules : List ModuleVersion) (marks : List Bool) (all : List StepEdge
         same_vertex : (y : ModuleVersion) → Of y ≡ Of x → y ≡ x
         same_vertex y e = cc
 
-        its_vertex : (one : StepEdges) → Contains all one → (from : Option ℕ) → one.from ≡ from → step_with modules one.from ≡ Of x → IsMarkedModule modules marks x
+        its_vertex : (one : StepEdges) → Contains all one → (from : Option ℕ) → one.from ≡ from
+            → step_with modules one.from ≡ Of x → IsMarkedModule modules marks x
         its_vertex one there None is step = absurd (let main : Main ≡ Of x = sym (ap (λ (f : Option ℕ). step_with modules f) is) ∙ step in cc main)
         its_vertex one there (Some number) is step =
             marked_module count x one there number (names_from one number is)
             (same_vertex (module_at modules number) (sym (ap (λ (f : Option ℕ). step_with modules f) is) ∙ step))
 
-    vertices_named : length marks ≡ length modules → (x : ModuleVersion) → IsMarkedModule modules marks x ↔ (IsEdgeEnd (among edges) x ⊎ Contains (sources_of modules all) (Of x))
+    vertices_named : length marks ≡ length modules → (x : ModuleVersion)
+        → IsMarkedModule modules marks x ↔ (IsEdgeEnd (among edges) x ⊎ Contains (sources_of modules all) (Of x))
     vertices_named count x = (
       end_or_source x,
       (λ so. elim so [ inl end ↦ an_end count x end | inr source ↦ a_source count x source ]),
@@ -93,17 +101,22 @@ listed_at (first ∷ lists) (suc place) number h = Contains-append_right first (
 
 module _ (lists : List (List ℕ)) (sources : List Source) where
   -- A list with a number is used.
-  its_source : AreUsed lists sources → (place number : ℕ) → Contains (list_at lists place) number → (one : Source) × Contains sources one × (list_at lists one.list ≡ list_at lists place)
+  its_source : AreUsed lists sources → (place number : ℕ) → Contains (list_at lists place) number
+      → (one : Source) × Contains sources one × (list_at lists one.list ≡ list_at lists place)
   its_source used place number h =
       let (one, found, is) = used place (λ none. no_member number (subst (λ (ns : List ℕ). Contains ns number) none h)) in
       (one, found, ap (λ (n : ℕ). list_at lists n) is)
 
   -- If each list is used, they name what the edges of steps name.
-  steps_name : AreUsed lists sources → (number : ℕ) → Contains (numbers_left sources ++ numbers_listed lists) number ↔ Contains (numbers_named (by_step lists sources)) number
+  steps_name : AreUsed lists sources → (number : ℕ) → Contains (numbers_left sources ++ numbers_listed lists) number
+      ↔ Contains (numbers_named (by_step lists sources)) number
   steps_name used number = (there, back)
     where
-      named_by_source : (one : Source) → Contains sources one → Contains (option_to_list one.from ++ list_at lists one.list) number → Contains (numbers_named (by_step lists sources)) number
-      named_by_source one found at = named_from named_by (by_step lists sources) (step_edges lists one) number (in_mapped (step_edges lists) sources one found) at
+      named_by_source : (one : Source) → Contains sources one
+          → Contains (option_to_list one.from ++ list_at lists one.list) number
+          → Contains (numbers_named (by_step lists sources)) number
+      named_by_source one found at = named_from named_by (by_step lists sources) (step_edges lists one) number
+          (in_mapped (step_edges lists) sources one found) at
 
       there : Contains (numbers_left sources ++ numbers_listed lists) number → Contains (numbers_named (by_step lists sources)) number
       there h = elim (Contains-append_cases (numbers_left sources) (numbers_listed lists) number h) [
@@ -122,8 +135,10 @@ module _ (lists : List (List ℕ)) (sources : List Source) where
       back h =
           let (edges, found, at) = named_only named_by (by_step lists sources) number h in
           let (one, there_is, same) = from_mapped (step_edges lists) sources edges found in
-          elim (Contains-append_cases (option_to_list one.from) (list_at lists one.list) number (subst (λ (e : StepEdges). Contains (named_by e) number) (sym same) at)) [
-            | inl left ↦ Contains-append_left (numbers_left sources) (numbers_listed lists) number (named_from (λ (o : Source). option_to_list o.from) sources one number there_is left)
+          elim (Contains-append_cases (option_to_list one.from) (list_at lists one.list) number
+          (subst (λ (e : StepEdges). Contains (named_by e) number) (sym same) at)) [
+            | inl left ↦ Contains-append_left (numbers_left sources) (numbers_listed lists) number
+                (named_from (λ (o : Source). option_to_list o.from) sources one number there_is left)
             | inr listed ↦ Contains-append_right (numbers_left sources) (numbers_listed lists) number (listed_at lists one.list number listed)
           ]
 
@@ -137,7 +152,8 @@ module _ (lists : List (List ℕ)) (sources : List Source) where
     lists_below used place d below k e inside =
         let list = get_or lists place d in
         let here : list ≡ list_at lists place = get_or_default lists place d [] below in
-        let (one, found, same) = its_source used place (get_or list k e) (subst (λ (ns : List ℕ). Contains ns (get_or list k e)) here (Contains-get_or list k e inside)) in
+        let (one, found, same) = its_source used place (get_or list k e)
+        (subst (λ (ns : List ℕ). Contains ns (get_or list k e)) here (Contains-get_or list k e inside)) in
         let is = All-contains (IsNumbered count) (by_step lists sources) (step_edges lists one) numbered (in_mapped (step_edges lists) sources one found) in
         subst (λ (ns : List ℕ). All (λ n. n < count) ns) (same ∙ sym here) is.to k e inside
 
@@ -169,13 +185,18 @@ from_steps modules marks vertices ranks old new count are contains up ranked by 
 
 -- `lists`, `sources`, `is_vertex` and `places` are what the calls were given: the lists, the sources, the marks and the
 -- ranks.
-pub is_graph_of : (modules : List ModuleVersion) (marks is_vertex : List Bool) (vertices : List ModuleVersion) (ranks places others : List ℕ) (old_lists lists new_lists : List (List ℕ)) (old_sources sources new_sources : List Source)
+pub is_graph_of : (modules : List ModuleVersion) (marks is_vertex : List Bool) (vertices : List ModuleVersion)
+    (ranks places others : List ℕ) (old_lists lists new_lists : List (List ℕ))
+    (old_sources sources new_sources : List Source)
     → lists ≡ old_lists → sources ≡ old_sources → is_vertex ≡ marks → places ≡ ranks → others ≡ ranks → AreUsed old_lists old_sources
     → length marks ≡ length modules → ((number : ℕ) → HasMark marks number ↔ Contains (numbers_left sources ++ numbers_listed lists) number)
-    → ((x : ModuleVersion) → Contains vertices x ↔ IsMarkedModule modules is_vertex x) → IsAscending pair_cmp vertices → AreRanks modules is_vertex vertices ranks
-    → AllZip (IsByRanks places) lists new_lists → AreSourcesByRanks others old_sources new_sources → IsDistinct (same_step modules) (by_step old_lists old_sources)
+    → ((x : ModuleVersion) → Contains vertices x ↔ IsMarkedModule modules is_vertex x) → IsAscending pair_cmp vertices
+    → AreRanks modules is_vertex vertices ranks
+    → AllZip (IsByRanks places) lists new_lists → AreSourcesByRanks others old_sources new_sources
+    → IsDistinct (same_step modules) (by_step old_lists old_sources)
     → IsGraphOf modules (by_step old_lists old_sources) vertices (by_step new_lists new_sources)
-is_graph_of modules marks is_vertex vertices ranks places others old_lists lists new_lists old_sources sources new_sources lists_are sources_are marks_are places_are others_are used count are contains up ranked zip by once =
+is_graph_of modules marks is_vertex vertices ranks places others old_lists lists new_lists old_sources sources
+    new_sources lists_are sources_are marks_are places_are others_are used count are contains up ranked zip by once =
     from_steps modules marks vertices ranks (by_step old_lists old_sources) (by_step new_lists new_sources) count named
     (subst (λ (bs : List Bool). (x : ModuleVersion) → Contains vertices x ↔ IsMarkedModule modules bs x) marks_are contains)
     up

@@ -12,6 +12,6 @@ abbrev pub lists_at : List ℕ → List Span → List (List ℕ)
 lists_at numbers spans = map (part_at numbers) spans
 
 -- The spans lie between these two places, and each begins at or after the end of the one before.
-abbrev pub AreApart : ℕ → List Span → ℕ → Type 0
-AreApart from [] to = from ≤ to
-AreApart from (span ∷ spans) to = (from ≤ span.start) × (span.start ≤ span.end) × AreApart span.end spans to
+abbrev pub AreSpansApart : ℕ → List Span → ℕ → Type 0
+AreSpansApart from [] to = from ≤ to
+AreSpansApart from (span ∷ spans) to = (from ≤ span.start) × (span.start ≤ span.end) × AreSpansApart span.end spans to

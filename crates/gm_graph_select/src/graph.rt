@@ -12,7 +12,7 @@ ghost use Rattle.gm_graph_select.specs.declared.step.Step.TheVariants.{Of};
 ghost use Rattle.gm_graph_select.specs.BuildList.{AreSelected};
 ghost use Rattle.gm_graph_select.specs.Graph.{AreEnds, IsEdgeEnd, among, edge_cmp};
 ghost use Rattle.gm_graph_select.specs.Order.{HaveSame, IsAscending};
-ghost use Rattle.gm_graph_select.specs.Spans.{AreApart, lists_at};
+ghost use Rattle.gm_graph_select.specs.Spans.{AreSpansApart, lists_at};
 
 use crate::adjacency::{Source, sources_by_ranks};
 use crate::edge_list::Edges;
@@ -69,7 +69,7 @@ impl Graph {
     ) -> Result<Graph, NoMemory>
         requires few { length modules.items ≤ 4294967295 }
         requires distinct { IsDistinct pair_eq modules.items }
-        requires apart { AreApart 0 spans.items (length numbers.items) }
+        requires apart { AreSpansApart 0 spans.items (length numbers.items) }
         requires numbered { HaveNumbers (length modules.items)
             (by_step (lists_at numbers.items spans.items) sources.items) }
         requires once { IsDistinct (same_step modules.items)

@@ -6,8 +6,8 @@ ghost use Rattle.std.specs.Prelude.{◌≡◌, ◌≤◌, All, length};
 ghost use Rattle.std.specs.List.{AllZip};
 ghost use Rattle.gm_graph_select.specs.Adjacency.{list_at};
 ghost use Rattle.gm_graph_select.specs.Private.Adjacency.{IsByRanks, IsNumberedList};
-ghost use Rattle.gm_graph_select.specs.Spans.{AreApart, lists_at, part_at};
-ghost use Rattle.gm_graph_select.specs.Private.Spans.{IsPartByRanks, IsPart};
+ghost use Rattle.gm_graph_select.specs.Spans.{AreSpansApart, lists_at, part_at};
+ghost use Rattle.gm_graph_select.specs.Private.Spans.{IsPartByRanks, IsSpanWithin};
 
 use crate::adjacency::rank_list;
 use std::marker::Model;
@@ -23,7 +23,7 @@ pub struct Span {
 
 /// The numbers at a span.
 fn part(numbers: &[u32], span: Span) -> &[u32]
-    requires { IsPart (length numbers.now) span }
+    requires { IsSpanWithin (length numbers.now) span }
     ensures { result.now ≡ part_at numbers.now span }
 {
     &numbers[span.start as usize..span.end as usize]
@@ -32,7 +32,7 @@ fn part(numbers: &[u32], span: Span) -> &[u32]
 /// Puts ranks in the places of the numbers at a span, in ascending order, each once, and returns where they are: at the
 /// front of the span.
 fn rank_part(numbers: &mut [u32], span: Span, ranks: &[u32]) -> Span
-    requires within { IsPart (length numbers.old) span }
+    requires within { IsSpanWithin (length numbers.old) span }
     requires numbered { IsNumberedList (length ranks.now) (part_at numbers.old span) }
     ensures { IsPartByRanks ranks.now numbers.old span numbers.new result }
 {
@@ -47,10 +47,10 @@ fn rank_part(numbers: &mut [u32], span: Span, ranks: &[u32]) -> Span
 /// Puts ranks in the places of the numbers at each of these spans, in ascending order, each once. The spans end earlier
 /// if there are fewer ranks than numbers.
 fn rank_parts(numbers: &mut [u32], spans: &mut [Span], ranks: &[u32])
-    requires apart { AreApart 0 spans.old (length numbers.old) }
+    requires apart { AreSpansApart 0 spans.old (length numbers.old) }
     requires numbered { All (IsNumberedList (length ranks.now)) (lists_at numbers.old spans.old) }
     ensures size { length numbers.new ≡ length numbers.old }
-    ensures apart { AreApart 0 spans.new (length numbers.old) }
+    ensures apart { AreSpansApart 0 spans.new (length numbers.old) }
     ensures ranks { AllZip (IsByRanks ranks.now) (lists_at numbers.old spans.old) (lists_at numbers.new spans.new) }
 {
     for span in spans.iter_mut() {
@@ -69,19 +69,19 @@ pub(crate) struct NumberLists {
 
 impl Model for NumberLists {
     ghost use Rattle.std.specs.Prelude.{List, ℕ, length};
-    ghost use Rattle.gm_graph_select.specs.Spans.{AreApart, lists_at};
+    ghost use Rattle.gm_graph_select.specs.Spans.{AreSpansApart, lists_at};
 
     ghost Value = { List (List ℕ) };
 
     ghost view = { λ a. lists_at a.numbers.items a.spans.items };
 
-    ghost invariant = { λ a. AreApart 0 a.spans.items (length a.numbers.items) };
+    ghost invariant = { λ a. AreSpansApart 0 a.spans.items (length a.numbers.items) };
 }
 
 impl NumberLists {
     /// The lists at these spans.
     pub(crate) fn new(numbers: Vec<u32>, spans: Vec<Span>) -> NumberLists
-        requires { AreApart 0 spans.items (length numbers.items) }
+        requires { AreSpansApart 0 spans.items (length numbers.items) }
         ensures { result ≡ lists_at numbers.items spans.items }
     {
         NumberLists { numbers, spans }

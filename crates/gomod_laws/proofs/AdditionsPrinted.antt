@@ -21,7 +21,8 @@ use Rattle.gomod_laws.proofs.WiderRuns.{narrow_says, prints_too}
 
 -- ---- a main file that says more
 
-module _ (first second : Main) (more : SaysMore first second) (t u : Option Sums) (asked later : List (Name × Reply)) (says : SaysToo (run_of first t asked) (run_of second u later)) where
+module _ (first second : Main) (more : SaysMore first second) (t u : Option Sums) (asked later : List (Name × Reply))
+    (says : SaysToo (run_of first t asked) (run_of second u later)) where
   abbrev one : Run
   one = run_of first t asked
 
@@ -32,7 +33,10 @@ module _ (first second : Main) (more : SaysMore first second) (t u : Option Sums
   top_more x top = kept_more first second more.excludes first.requirements second.requirements x (more.requires x) top
 
   requires_more : RequiresToo one next
-  requires_more x y file is be has there = (says x be (Ok file) has, kept_more first second more.excludes file.requirements file.requirements y (λ among. among) there)
+  requires_more x y file is be has there = (
+    says x be (Ok file) has,
+    kept_more first second more.excludes file.requirements file.requirements y (λ among. among) there,
+  )
 
   opened_more : (x : ModuleVersion) → IsOpened one x → IsOpened next x
   opened_more x is = opened_too one next more.unpruned (λ y top. inl (top_more y top)) requires_more x is
@@ -55,7 +59,9 @@ list_lowers_nothing file other sums first second one next runs more ends =
     let after = run_over other sums runs.later in
     let (u, found, (others, others_are, others_text)) = printed_by (PrintsList None None) after second next runs.second_says runs.second_runs.0 ends in
     let (t, valid, (rows, rows_are, rows_text)) =
-    prints_too run after first second u found runs.first_says refl runs.alike more.replaces (λ v says x is. opened_more first second more v u runs.asked runs.later says x is) refl (PrintsList None None) one runs.first_runs.0 in
+    prints_too run after first second u found runs.first_says refl runs.alike more.replaces
+    (λ v says x is. opened_more first second more v u runs.asked runs.later says x is) refl (PrintsList None None)
+    one runs.first_runs.0 in
     let says = narrow_says run after first second u found runs.first_says refl runs.alike more.replaces t valid.read.sums in (
       rows,
       others,
@@ -70,7 +76,9 @@ graph_keeps_lines file other sums first second one next runs more ends =
     let after = run_over other sums runs.later in
     let (u, found, (others, others_are, others_text)) = printed_by PrintsGraph after second next runs.second_says runs.second_runs.0 ends in
     let (t, valid, (edges, edges_are, edges_text)) =
-    prints_too run after first second u found runs.first_says refl runs.alike more.replaces (λ v says x is. opened_more first second more v u runs.asked runs.later says x is) refl PrintsGraph one runs.first_runs.0 in
+    prints_too run after first second u found runs.first_says refl runs.alike more.replaces
+    (λ v says x is. opened_more first second more v u runs.asked runs.later says x is) refl PrintsGraph one
+    runs.first_runs.0 in
     let says = narrow_says run after first second u found runs.first_says refl runs.alike more.replaces t valid.read.sums in (
       edges,
       others,

@@ -39,8 +39,10 @@ pub line_is_lost : LineIsLost
 line_is_lost run later first second (edges, others, shows, also, kept) =
     let first_are : edges ≡ edge_to one_zero ∷ [] = edges_are run first one_zero one_zero_is edges shows in
     let others_are : others ≡ edge_to one_one ∷ [] = edges_are later second one_one one_one_is others also in
-    let there : Contains edges (edge_to one_zero) = subst (λ (es : List Edge). Contains es (edge_to one_zero)) (sym first_are) (member_head (edge_to one_zero) []) in
-    let among : Contains (edge_to one_one ∷ []) (edge_to one_zero) = subst (λ (es : List Edge). Contains es (edge_to one_zero)) others_are (kept (edge_to one_zero) there) in
+    let there : Contains edges (edge_to one_zero) = subst (λ (es : List Edge). Contains es (edge_to one_zero))
+    (sym first_are) (member_head (edge_to one_zero) []) in
+    let among : Contains (edge_to one_one ∷ []) (edge_to one_zero) =
+    subst (λ (es : List Edge). Contains es (edge_to one_zero)) others_are (kept (edge_to one_zero) there) in
     elim (member_cases (edge_to one_one) (edge_to one_zero) [] among) [
       | inl same ↦ versions_differ (sym (ap (λ (x : ModuleVersion). x.1) (edge_of (edge_to one_one) (edge_to one_zero) same)))
       | inr none ↦ no_member (edge_to one_zero) none
@@ -81,7 +83,8 @@ way_to_a : (last : List ℕ) (lines : List (List ℕ)) → Ways last lines → l
 way_to_a last lines here is = let first : 109 ≡ 97 = first_byte 109 97 _ _ is in absurd (omega (arith, first))
 way_to_a last lines (further {last = before} {lines = others} next leads there) is =
     let text : codes "m" ++ codes " a.b@v1.0.0" ≡ before ++ codes " a.b@v1.0.0" =
-    line_only ((before ++ codes " ") ++ next) there ∙ ap (λ (t : List ℕ). (before ++ codes " ") ++ t) is ∙ append_assoc before (codes " ") (codes "a.b@v1.0.0") in
+    line_only ((before ++ codes " ") ++ next) there ∙ ap (λ (t : List ℕ). (before ++ codes " ") ++ t) is
+    ∙ append_assoc before (codes " ") (codes "a.b@v1.0.0") in
     let own : before ≡ codes "m" = sym (append_cancel_right (codes "m") before (codes " a.b@v1.0.0") text) in
     ap (λ (ls : List (List ℕ)). ls ++ next ∷ []) (way_to_m before others leads own)
     ∙ ap (λ (t : List ℕ). codes "m" ∷ t ∷ []) is

@@ -72,7 +72,8 @@ module _ (asked : List (Name × Reply)) (one other : Outcome) (law : LeavesOutRe
       (same_text (versions_line (codes "a.b") law.shown) (versions_line (codes "a.b") known) (sym law.one_prints ∙ is))
 
 -- the latest version's file retracts one thing
-retracts_once : (asked : List (Name × Reply)) (path version : List ℕ) (xs ys : List VersionInterval) → Retracts asked path version xs → Retracts asked path version ys → xs ≡ ys
+retracts_once : (asked : List (Name × Reply)) (path version : List ℕ) (xs ys : List VersionInterval)
+    → Retracts asked path version xs → Retracts asked path version ys → xs ≡ ys
 retracts_once asked path version xs ys (reply, file, answered, finds, are) (other, also, known, says, is) =
     let same : reply ≡ other = same_Some reply other (sym answered ∙ known) in
     one_retracted other xs ys (subst (λ (r : Reply). AreRetractedBy r xs) same are) is
@@ -86,7 +87,8 @@ shown_of_both : (asked : List (Name × Reply)) (shown : List (List ℕ)) (interv
 shown_of_both asked shown intervals retracts (inl (none, nothing)) = absurd (is_none one_zero (one_one ∷ []) none)
 shown_of_both asked shown intervals retracts (inr (latest, others, greatest, says, is)) =
     let own : latest ≡ one_one = latest_once both latest one_one greatest one_one_is_latest in
-    let same : others ≡ intervals = retracts_once asked (codes "a.b") one_one others intervals (subst (λ (v : List ℕ). Retracts asked (codes "a.b") v others) own says) retracts in
+    let same : others ≡ intervals = retracts_once asked (codes "a.b") one_one others intervals
+    (subst (λ (v : List ℕ). Retracts asked (codes "a.b") v others) own says) retracts in
     is ∙ ap (λ (xs : List VersionInterval). shown_of xs both) same
 
 at_most_itself : is_at_most one_zero one_zero ≡ true
@@ -102,7 +104,8 @@ retracted_is_shown asked retracts law =
     let intervals = pair one_zero one_zero ∷ [] in
     let shown : law.shown ≡ shown_of intervals both =
     shown_of_both asked law.shown intervals retracts (subst (λ (vs : List (List ℕ)). AreUnretracted asked (codes "a.b") vs law.shown) all law.unretracted) in
-    let there : Contains (shown_of intervals both) one_zero = subst (λ (vs : List (List ℕ)). Contains vs one_zero) (sym rest ∙ shown) (member_head one_zero (one_one ∷ [])) in
+    let there : Contains (shown_of intervals both) one_zero =
+    subst (λ (vs : List (List ℕ)). Contains vs one_zero) (sym rest ∙ shown) (member_head one_zero (one_one ∷ [])) in
     let kept : not (is_retracted intervals one_zero) ≡ true = (from_filtered (λ v. not (is_retracted intervals v)) both one_zero there).1 in
     let gone : not (is_retracted intervals one_zero) ≡ false = ap not (holds_itself one_zero at_most_itself) in
     false≢true (sym gone ∙ kept)
@@ -115,7 +118,8 @@ unretracted_is_left_out asked retracts law =
     let rest = rest_are asked first both_of_a law (one_one ∷ []) (one_known one_one one_one_is) refl in
     let shown : law.shown ≡ shown_of none both =
     shown_of_both asked law.shown none retracts (subst (λ (vs : List (List ℕ)). AreUnretracted asked (codes "a.b") vs law.shown) all law.unretracted) in
-    let there : Contains (shown_of none both) one_zero = in_filtered (λ v. not (is_retracted none v)) both one_zero (member_head one_zero (one_one ∷ [])) refl in
+    let there : Contains (shown_of none both) one_zero = in_filtered (λ v. not (is_retracted none v)) both one_zero
+    (member_head one_zero (one_one ∷ [])) refl in
     let only : Contains (one_one ∷ []) one_zero = subst (λ (vs : List (List ℕ)). Contains vs one_zero) (sym shown ∙ rest) there in
     elim (member_cases one_one one_zero [] only) [
       | inl same ↦ versions_differ (sym same)

@@ -66,11 +66,13 @@ a_step = (a_is_path, one_zero_is)
 b_step : IsProperStep (Of b_one)
 b_step = (b_is_path, one_zero_is)
 
-module _ (run : Given) (main : Main) (table : Option Sums) (found : AreFound run main table []) {s : Step} {steps : List Step} (walk : IsWalk (IsEdge (run_of main table run.told.asked)) s steps) where
+module _ (run : Given) (main : Main) (table : Option Sums) (found : AreFound run main table []) {s : Step}
+    {steps : List Step} (walk : IsWalk (IsEdge (run_of main table run.told.asked)) s steps) where
   steps_proper : AreProperSteps steps
   steps_proper FromMain there = tt
   steps_proper (Of y) there =
-      let (t, is) = walk_step (IsEdge (run_of main table run.told.asked)) walk y there in end_name (run_of main table run.told.asked) run.file found.read.main_file t y is
+      let (t, is) = walk_step (IsEdge (run_of main table run.told.asked)) walk y there in
+      end_name (run_of main table run.told.asked) run.file found.read.main_file t y is
 
   known_steps : (known : List Step) → AreProperSteps known → chain_text main.path steps ≡ chain_text main.path known → steps ≡ known
   known_steps known proper text =
@@ -83,7 +85,8 @@ module _ (run : Given) (main : Main) (table : Option Sums) (found : AreFound run
       let (rest, begins) = walk_begins (IsEdge (run_of main table run.told.asked)) walk in
       let text : main.path ++ (10 ∷ chain_text main.path rest) ≡ codes "m" ++ (10 ∷ chain_text (codes "m") known) =
       sym (append_assoc main.path (codes "\n") (chain_text main.path rest)) ∙ ap (chain_text main.path) (sym begins) ∙ e in
-      let own = (cut_at 10 main.path (codes "m") (chain_text main.path rest) (chain_text (codes "m") known) (path_has_no_feed main.path (run_has_names run main table found.read).0) m_lacks text).0 in
+      let own = (cut_at 10 main.path (codes "m") (chain_text main.path rest) (chain_text (codes "m") known)
+      (path_has_no_feed main.path (run_has_names run main table found.read).0) m_lacks text).0 in
       (own, known_steps (FromMain ∷ known) proper (e ∙ ap (λ (m : List ℕ). chain_text m (FromMain ∷ known)) (sym own)))
 
 abbrev to_a : List Step
@@ -125,21 +128,25 @@ not_from_main x rest e = cc e
 
 pub chain_ends_elsewhere : ChainEndsElsewhere
 chain_ends_elsewhere run (main, table, rows, s, steps, found, are, (entry, rest, at, is), says, walk, least) =
-    let (own, same) = steps_are run main table found walk (Of a_one ∷ []) to_a_proper (sym (same_text (codes "m\na.b@v1.0.0\n") (chain_text main.path steps) says)) in
+    let (own, same) = steps_are run main table found walk (Of a_one ∷ []) to_a_proper
+    (sym (same_text (codes "m\na.b@v1.0.0\n") (chain_text main.path steps) says)) in
     let (front, ends) = walk_ends (IsEdge (run_of main table run.told.asked)) walk in
     let last : s ≡ Of a_one = last_of_two front s FromMain (Of a_one) (sym ends ∙ same) in
     other_name (ap (path_of main.path) (sym last ∙ sym is) ∙ at.path_is)
 
 pub chain_begins_elsewhere : ChainBeginsElsewhere
 chain_begins_elsewhere path run (main, table, rows, s, steps, found, are, row, says, walk, least) =
-    let same : steps ≡ Of a_one ∷ [] = known_steps run main table found walk (Of a_one ∷ []) (each_of IsProperStep (Of a_one ∷ []) (a_step, tt)) (sym (same_text (codes "a.b@v1.0.0\n") (chain_text main.path steps) says)) in
+    let same : steps ≡ Of a_one ∷ [] = known_steps run main table found walk (Of a_one ∷ [])
+    (each_of IsProperStep (Of a_one ∷ []) (a_step, tt))
+    (sym (same_text (codes "a.b@v1.0.0\n") (chain_text main.path steps) says)) in
     let (rest, begins) = walk_begins (IsEdge (run_of main table run.told.asked)) walk in
     not_from_main a_one rest (sym begins ∙ same)
 
 pub chain_is_too_long : ChainIsTooLong
 chain_is_too_long run file is top (main, table, rows, s, steps, found, are, row, says, walk, least) =
     let edges : Edges = IsEdge (run_of main table run.told.asked) in
-    let (own, same) = steps_are run main table found walk (Of b_one ∷ Of a_one ∷ []) by_b_proper (sym (same_text (codes "m\nb.c@v1.0.0\na.b@v1.0.0\n") (chain_text main.path steps) says)) in
+    let (own, same) = steps_are run main table found walk (Of b_one ∷ Of a_one ∷ []) by_b_proper
+    (sym (same_text (codes "m\nb.c@v1.0.0\na.b@v1.0.0\n") (chain_text main.path steps) says)) in
     let (front, ends) = walk_ends edges walk in
     let last : s ≡ Of a_one = last_of_three front s FromMain (Of b_one) (Of a_one) (sym ends ∙ same) in
     let required : IsRequiredBy main a_one = subst (λ (m : Main). IsRequiredBy m a_one) (one_main run.file file main is found.read.main_file) top in
@@ -150,10 +157,12 @@ chain_is_too_long run file is top (main, table, rows, s, steps, found, are, row,
 
 -- ---- one graph
 
-edges_are : (run : Given) (main : Main) (table : Option Sums) (edges : List Edge) → AreFound run main table [] → AreEdges (run_of main table run.told.asked) edges → main.path ≡ codes "m"
+edges_are : (run : Given) (main : Main) (table : Option Sums) (edges : List Edge) → AreFound run main table []
+    → AreEdges (run_of main table run.told.asked) edges → main.path ≡ codes "m"
     → graph_of_a ≡ text_outcome (graph_text main.path edges) → edges ≡ edge_to one_zero ∷ []
 edges_are run main table edges found exact own says =
-    text_says_edges main.path edges (edge_to one_zero ∷ []) (run_has_names run main table found.read).0 (run_has_proper_edges run main table edges found.read exact) (edge_proper one_zero one_zero_is)
+    text_says_edges main.path edges (edge_to one_zero ∷ []) (run_has_names run main table found.read).0
+    (run_has_proper_edges run main table edges found.read exact) (edge_proper one_zero one_zero_is)
     (sym (same_text (codes "m a.b@v1.0.0\n") (graph_text main.path edges) says) ∙ ap (λ (m : List ℕ). graph_text m (edge_to one_zero ∷ [])) (sym own))
 
 -- no such edge leads to b.c
@@ -172,9 +181,14 @@ with_b_proper = each_of IsProperRow rows_with_b (refl, ((b_is_path, one_zero_is,
 pub list_is_of_another_graph : ListIsOfAnotherGraph
 list_is_of_another_graph path run chain (main, table, edges, rows, found, exact, one) =
     let here_edges : Edges = IsEdge (run_of main table run.told.asked) in
-    let are : AreRows (run_of main table run.told.asked) rows = same_build_list main.path main.replaces (among edges) here_edges rows (λ t y. exact.each (edge t y)) one.build_list in
-    let (own, same) = rows_are run main table rows found are ((Of b_one, None) ∷ []) with_b_proper (sym (same_text (codes "m\nb.c v1.0.0\n") (list_text main.path rows) (all_rows main rows None (text_outcome (codes "m\nb.c v1.0.0\n")) one.list_is))) in
-    let there : Contains rows (Of b_one, None) = subst (λ (es : List Entry). Contains es (Of b_one, None)) (sym same) (member_tail main_entry (Of b_one, None) ((Of b_one, None) ∷ []) (member_head (Of b_one, None) [])) in
+    let are : AreRows (run_of main table run.told.asked) rows =
+    same_build_list main.path main.replaces (among edges) here_edges rows (λ t y. exact.each (edge t y))
+    one.build_list in
+    let (own, same) = rows_are run main table rows found are ((Of b_one, None) ∷ []) with_b_proper
+    (sym (same_text (codes "m\nb.c v1.0.0\n") (list_text main.path rows)
+    (all_rows main rows None (text_outcome (codes "m\nb.c v1.0.0\n")) one.list_is))) in
+    let there : Contains rows (Of b_one, None) = subst (λ (es : List Entry). Contains es (Of b_one, None)) (sym same)
+    (member_tail main_entry (Of b_one, None) ((Of b_one, None) ∷ []) (member_head (Of b_one, None) [])) in
     let (s, end) = rows_are_ends main.path main.replaces edges rows one.build_list b_one None there in
     b_is_no_end edges s (edges_are run main table edges found exact own one.graph_is) end
 
@@ -183,9 +197,13 @@ chain_is_of_another_graph after limit path run list (main, table, edges, rows, f
   | inr (none, says) ↦ not_printed (codes "m\nb.c@v1.0.0\n") (not_listed_line path) says
   | inl (s, steps, row, chain, says) ↦ (
       let same_graph : AreSame (among edges) (IsEdge (run_of main table run.told.asked)) = λ t y. exact.each (edge t y) in
-      let walk : IsWalk (IsEdge (run_of main table run.told.asked)) s steps = chain_walk (IsEdge (run_of main table run.told.asked)) (same_chain (among edges) (IsEdge (run_of main table run.told.asked)) same_graph chain) in
-      let (own, same) = steps_are run main table found walk (Of b_one ∷ []) to_b_proper (sym (same_text (codes "m\nb.c@v1.0.0\n") (chain_text main.path steps) says)) in
-      let there : Contains steps (Of b_one) = subst (λ (ss : List Step). Contains ss (Of b_one)) (sym same) (member_tail FromMain (Of b_one) (Of b_one ∷ []) (member_head (Of b_one) [])) in
+      let walk : IsWalk (IsEdge (run_of main table run.told.asked)) s steps =
+      chain_walk (IsEdge (run_of main table run.told.asked))
+      (same_chain (among edges) (IsEdge (run_of main table run.told.asked)) same_graph chain) in
+      let (own, same) = steps_are run main table found walk (Of b_one ∷ []) to_b_proper
+      (sym (same_text (codes "m\nb.c@v1.0.0\n") (chain_text main.path steps) says)) in
+      let there : Contains steps (Of b_one) = subst (λ (ss : List Step). Contains ss (Of b_one)) (sym same)
+      (member_tail FromMain (Of b_one) (Of b_one ∷ []) (member_head (Of b_one) [])) in
       let (t, end) = walk_step (among edges) (chain_walk (among edges) chain) b_one there in
       b_is_no_end edges t (edges_are run main table edges found exact own one.graph_is) end)
 ]

@@ -92,7 +92,8 @@ m_lacks = ((λ e. omega (arith, e)), tt)
 own_path : (main rest text : List ℕ) → IsPath main → ((main ++ []) ++ codes "\n") ++ rest ≡ codes "m" ++ (10 ∷ text) → main ≡ codes "m"
 own_path main rest text is e = (cut_at 10 main (codes "m") rest text (path_has_no_feed main is) m_lacks (sym (spread_main main rest) ∙ e)).0
 
-module _ (run : Given) (main : Main) (table : Option Sums) (rows : List Entry) (found : AreFound run main table []) (are : AreRows (run_of main table run.told.asked) rows) where
+module _ (run : Given) (main : Main) (table : Option Sums) (rows : List Entry) (found : AreFound run main table [])
+    (are : AreRows (run_of main table run.told.asked) rows) where
   pub main_is_path : IsPath main.path
   main_is_path = (run_has_names run main table found.read).0
 
@@ -105,11 +106,15 @@ module _ (run : Given) (main : Main) (table : Option Sums) (rows : List Entry) (
   rows_are known proper e =
       let begins : list_text main.path (main_entry ∷ map (entry_of main.replaces) are.selected) ≡ list_text (codes "m") (main_entry ∷ known) =
       ap (list_text main.path) (sym are.entries_are) ∙ e in
-      let own = own_path main.path (list_text main.path (map (entry_of main.replaces) are.selected)) (list_text (codes "m") known) main_is_path begins in
-      (own, text_says_rows main.path rows (main_entry ∷ known) main_is_path rows_proper proper (e ∙ ap (λ (m : List ℕ). list_text m (main_entry ∷ known)) (sym own)))
+      let own = own_path main.path (list_text main.path (map (entry_of main.replaces) are.selected)) (list_text (codes "m") known) main_is_path begins in (
+        own,
+        text_says_rows main.path rows (main_entry ∷ known) main_is_path rows_proper proper
+            (e ∙ ap (λ (m : List ℕ). list_text m (main_entry ∷ known)) (sym own)),
+      )
 
   -- so are rows that are some of them
-  some_are : (shown known : List Entry) → ((row : Entry) → Contains shown row → Contains rows row) → AreProperRows known → list_text main.path shown ≡ list_text main.path known → shown ≡ known
+  some_are : (shown known : List Entry) → ((row : Entry) → Contains shown row → Contains rows row) → AreProperRows known
+      → list_text main.path shown ≡ list_text main.path known → shown ≡ known
   some_are shown known inside proper e =
       text_says_rows main.path shown known main_is_path (λ row there. rows_proper row (inside row there)) proper e
 
@@ -149,7 +154,8 @@ record Selects (run : Given) (known : List ModuleVersion) : Type 0 where
   own : main.path ≡ codes "m"
   greatest : AreGreatest (run_of main table run.told.asked) known
 
-selects : (run : Given) (text : List ℕ) (known : List ModuleVersion) → AllByRecursion IsName known → text ≡ list_text (codes "m") (main_entry ∷ map row_at known)
+selects : (run : Given) (text : List ℕ) (known : List ModuleVersion) → AllByRecursion IsName known
+    → text ≡ list_text (codes "m") (main_entry ∷ map row_at known)
     → ShowsBuildList run (text_outcome text) → Selects run known
 selects run text known names is (main, table, selected, found, greatest, says) =
     let r : Run = run_of main table run.told.asked in
@@ -157,7 +163,8 @@ selects run text known names is (main, table, selected, found, greatest, says) =
     let are : AreRows r rows = as_build_list r selected greatest in
     let proper : AreProperRows (main_entry ∷ map row_at known) = each_of IsProperRow (main_entry ∷ map row_at known) (refl, names_proper known names) in
     let (own, same) = rows_are run main table rows found are (map row_at known) proper (sym (same_text text (list_text main.path rows) says) ∙ is) in
-    let modules : selected ≡ known = vertices_are main.replaces selected known (tails_same main_entry main_entry (map (entry_of main.replaces) selected) (map row_at known) same) in
+    let modules : selected ≡ known = vertices_are main.replaces selected known
+    (tails_same main_entry main_entry (map (entry_of main.replaces) selected) (map row_at known) same) in
     record { main = main; table = table; found = found; own = own; greatest = subst (λ (xs : List ModuleVersion). AreGreatest r xs) modules greatest }
 
 a_name : IsName a_one
@@ -187,7 +194,8 @@ main_is_missing run (main, table, selected, found, greatest, says) =
     let rows : List Entry = main_entry ∷ map (entry_of main.replaces) selected in
     let is = main_is_path run main table rows found (as_build_list (run_of main table run.told.asked) selected greatest) in
     let rest = list_text main.path (map (entry_of main.replaces) selected) in
-    let text : codes "a.b v1.0.0" ++ (10 ∷ []) ≡ main.path ++ (10 ∷ rest) = same_text (codes "a.b v1.0.0\n") (list_text main.path rows) says ∙ spread_main main.path rest in
+    let text : codes "a.b v1.0.0" ++ (10 ∷ []) ≡ main.path ++ (10 ∷ rest) =
+    same_text (codes "a.b v1.0.0\n") (list_text main.path rows) says ∙ spread_main main.path rest in
     let own = (cut_at 10 (codes "a.b v1.0.0") main.path [] rest first_lacks (path_has_no_feed main.path is) text).0 in
     let plain : Lacks 32 (codes "a.b v1.0.0") = subst (Lacks 32) (sym own) (path_has_no_blank main.path is) in
     plain.1.1.1.0 refl
@@ -250,7 +258,8 @@ pub part_has_another_row : PartHasAnotherRow
 part_has_another_row after limit run (main, table, rows, found, are, says, prints) =
     let (own, same) = whole_is run main table rows found are says in
     let (shown, text, inside) = printed_rows main rows after limit (text_outcome (codes "b.c v1.0.0\n")) refl prints in
-    let is : shown ≡ row_at b_one ∷ [] = some_are run main table rows found are shown (row_at b_one ∷ []) inside (each_of IsProperRow (row_at b_one ∷ []) (b_proper, tt)) (sym text) in
+    let is : shown ≡ row_at b_one ∷ [] = some_are run main table rows found are shown (row_at b_one ∷ []) inside
+    (each_of IsProperRow (row_at b_one ∷ []) (b_proper, tt)) (sym text) in
     let there : Contains shown (row_at b_one) = subst (λ (es : List Entry). Contains es (row_at b_one)) (sym is) (member_head (row_at b_one) []) in
     b_is_no_row (subst (λ (es : List Entry). Contains es (row_at b_one)) same (inside (row_at b_one) there))
 
@@ -258,15 +267,18 @@ pub part_is_too_long : PartIsTooLong
 part_is_too_long run (main, table, rows, found, are, says, prints) =
     let (own, same) = whole_is run main table rows found are says in
     let one : list_of_a ≡ text_outcome (list_text (codes "m") (up_to (Some 1) rows_with_a)) =
-    all_rows main rows (Some 1) list_of_a prints ∙ ap (λ (m : List ℕ). text_outcome (list_text m (up_to (Some 1) rows))) own ∙ ap (λ (es : List Entry). text_outcome (list_text (codes "m") (up_to (Some 1) es))) same in
+    all_rows main rows (Some 1) list_of_a prints ∙ ap (λ (m : List ℕ). text_outcome (list_text m (up_to (Some 1) rows)))
+    own ∙ ap (λ (es : List Entry). text_outcome (list_text (codes "m") (up_to (Some 1) es))) same in
     let size : ◌≡◌ {A = ℕ} 13 2 = ap (λ (o : Outcome). length o.text) one in
     omega (arith, size)
 
 -- what follows a row of a list is in what follows the first row
-later_rows : (before rest : List Entry) (entry first row : Entry) (others : List Entry) → before ++ entry ∷ rest ≡ first ∷ others → Contains rest row → Contains others row
+later_rows : (before rest : List Entry) (entry first row : Entry) (others : List Entry)
+    → before ++ entry ∷ rest ≡ first ∷ others → Contains rest row → Contains others row
 later_rows [] rest entry first row others e there = subst (λ (es : List Entry). Contains es row) (tails_same entry first rest others e) there
 later_rows (x ∷ before) rest entry first row others e there =
-    subst (λ (es : List Entry). Contains es row) (tails_same x first (before ++ entry ∷ rest) others e) (Contains-append_right before (entry ∷ rest) row (member_tail entry row rest there))
+    subst (λ (es : List Entry). Contains es row) (tails_same x first (before ++ entry ∷ rest) others e)
+    (Contains-append_right before (entry ∷ rest) row (member_tail entry row rest there))
 
 main_is_not_later : Contains (row_at a_one ∷ []) main_entry → ⊥
 main_is_not_later there = elim (member_cases (row_at a_one) main_entry [] there) [
@@ -276,16 +288,21 @@ main_is_not_later there = elim (member_cases (row_at a_one) main_entry [] there)
 
 pub part_is_the_whole : PartIsTheWhole
 part_is_the_whole path limit run (main, table, rows, found, are, says, no_path none tells) = cc none
-part_is_the_whole path limit run (main, table, rows, found, are, says, path_unlisted other is (none, tells)) = not_printed (codes "m\na.b v1.0.0\n") (not_listed_line other) tells
+part_is_the_whole path limit run (main, table, rows, found, are, says, path_unlisted other is (none, tells)) =
+    not_printed (codes "m\na.b v1.0.0\n") (not_listed_line other) tells
 part_is_the_whole path limit run (main, table, rows, found, are, says, path_listed other rest at_path (entry, at) tells) =
     let (own, same) = whole_is run main table rows found are says in
     let inside : (row : Entry) → Contains (up_to limit rest) row → Contains rows row =
-    λ row there. subst (λ (es : List Entry). Contains es row) (sym at.parts) (Contains-append_right at.before (entry ∷ rest) row (member_tail entry row rest (limited_member limit rest row there))) in
+    λ row there. subst (λ (es : List Entry). Contains es row) (sym at.parts)
+    (Contains-append_right at.before (entry ∷ rest) row
+    (member_tail entry row rest (limited_member limit rest row there))) in
     let text : list_text main.path (up_to limit rest) ≡ list_text main.path rows_with_a =
     sym (same_text (codes "m\na.b v1.0.0\n") (list_text main.path (up_to limit rest)) tells) ∙ ap (λ (m : List ℕ). list_text m rows_with_a) (sym own) in
     let is : up_to limit rest ≡ rows_with_a = some_are run main table rows found are (up_to limit rest) rows_with_a inside with_a_proper text in
-    let there : Contains (up_to limit rest) main_entry = subst (λ (es : List Entry). Contains es main_entry) (sym is) (member_head main_entry (row_at a_one ∷ [])) in
-    main_is_not_later (later_rows at.before rest entry main_entry main_entry (row_at a_one ∷ []) (sym at.parts ∙ same) (limited_member limit rest main_entry there))
+    let there : Contains (up_to limit rest) main_entry = subst (λ (es : List Entry). Contains es main_entry) (sym is)
+    (member_head main_entry (row_at a_one ∷ [])) in
+    main_is_not_later (later_rows at.before rest entry main_entry main_entry (row_at a_one ∷ []) (sym at.parts ∙ same)
+    (limited_member limit rest main_entry there))
 
 -- ---- pages
 
@@ -297,9 +314,12 @@ data PageCase (run : Given) (main text : List ℕ) : List (List Entry) → Type 
 
 page_case : (run : Given) (main text : List ℕ) {after : Option (List ℕ)} {pages : List (List Entry)} → ListEnds after (Some 1) run (text_outcome text)
     → ArePrintedPages run main 1 after pages → PageCase run main text pages
-page_case run main text is (no_row {after} says) = none_left (same_text text [] (one_outcome (Rows after (Some 1)) run (text_outcome text) (text_outcome []) is says))
+page_case run main text is (no_row {after} says) = none_left
+    (same_text text [] (one_outcome (Rows after (Some 1)) run (text_outcome text) (text_outcome []) is says))
 page_case run main text is (one_page {after} {pages} front last says more) =
-    some_left front last (same_text (list_text main (front ++ last ∷ [])) text (one_outcome (Rows after (Some 1)) run (text_outcome (list_text main (front ++ last ∷ []))) (text_outcome text) says is)) more
+    some_left front last (same_text (list_text main (front ++ last ∷ [])) text
+    (one_outcome (Rows after (Some 1)) run (text_outcome (list_text main (front ++ last ∷ []))) (text_outcome text)
+    says is)) more
 
 last_of : (front : List Entry) (last one : Entry) → front ++ last ∷ [] ≡ one ∷ [] → last ≡ one
 last_of [] last one e = cc e
@@ -330,47 +350,58 @@ module _ (run : Given) (main : Main) (table : Option Sums) (found : AreFound run
   joined_are pages are text = whole_is run main table (entries_of_pages pages) found are (ap text_outcome (text ∙ sym (texts_join main.path pages)))
 
   -- the first page is that of the main module
-  first_is : (page : List Entry) (pages : List (List Entry)) → AreJoined (page ∷ pages) → IsText (page ∷ pages) → list_text main.path page ≡ only_m → page ≡ main_entry ∷ []
+  first_is : (page : List Entry) (pages : List (List Entry)) → AreJoined (page ∷ pages) → IsText (page ∷ pages)
+      → list_text main.path page ≡ only_m → page ≡ main_entry ∷ []
   first_is page pages are text says =
       let own = (joined_are (page ∷ pages) are text).0 in
-      some_are run main table (entries_of_pages (page ∷ pages)) found are page (main_entry ∷ []) (λ row there. Contains-append_left page (entries_of_pages pages) row there) m_proper
+      some_are run main table (entries_of_pages (page ∷ pages)) found are page (main_entry ∷ [])
+      (λ row there. Contains-append_left page (entries_of_pages pages) row there) m_proper
       (says ∙ ap (λ (m : List ℕ). list_text m (main_entry ∷ [])) (sym own))
 
   -- what the second is, if this is the text of the second page
   second_case : (front : List Entry) (last : Entry) (pages : List (List Entry)) (text : List ℕ) → main.path ≡ codes "m" → front ++ last ∷ [] ≡ main_entry ∷ []
-      → ListEnds (Some (codes "m")) (Some 1) run (text_outcome text) → ArePrintedPages run main.path 1 (Some (path_of main.path last.0)) pages → PageCase run main.path text pages
+      → ListEnds (Some (codes "m")) (Some 1) run (text_outcome text)
+      → ArePrintedPages run main.path 1 (Some (path_of main.path last.0)) pages → PageCase run main.path text pages
   second_case front last pages text own page is more =
       let path : path_of main.path last.0 ≡ codes "m" = ap (λ (row : Entry). path_of main.path row.0) (last_of front last main_entry page) ∙ own in
       page_case run main.path text is (subst (λ (p : List ℕ). ArePrintedPages run main.path 1 (Some p) pages) path more)
 
   module _ (page : List Entry) (first : page ≡ main_entry ∷ []) where
     in_second : (second : List Entry) (pages : List (List Entry)) (row : Entry) → Contains second row → Contains (entries_of_pages (page ∷ second ∷ pages)) row
-    in_second second pages row there = Contains-append_right page (second ++ entries_of_pages pages) row (Contains-append_left second (entries_of_pages pages) row there)
+    in_second second pages row there = Contains-append_right page (second ++ entries_of_pages pages) row
+        (Contains-append_left second (entries_of_pages pages) row there)
 
     missing_second : {pages : List (List Entry)} → AreJoined (page ∷ pages) → IsText (page ∷ pages) → PageCase run main.path [] pages → ⊥
     missing_second are text (none_left none) =
         only_main (sym (append-nil (main_entry ∷ [])) ∙ ap (λ (es : List Entry). es ++ []) (sym first) ∙ (joined_are (page ∷ []) are text).1)
     missing_second are text (some_left {pages} front last says more) =
         let second : List Entry = front ++ last ∷ [] in
-        no_last front last (some_are run main table (entries_of_pages (page ∷ second ∷ pages)) found are second [] (λ row there. in_second second pages row there) (each_of IsProperRow [] tt) says)
+        no_last front last (some_are run main table (entries_of_pages (page ∷ second ∷ pages)) found are second []
+        (λ row there. in_second second pages row there) (each_of IsProperRow [] tt) says)
 
     other_second : {pages : List (List Entry)} → AreJoined (page ∷ pages) → IsText (page ∷ pages) → PageCase run main.path (codes "b.c v1.0.0\n") pages → ⊥
     other_second are text (none_left none) = cc none
     other_second are text (some_left {pages} front last says more) =
         let second : List Entry = front ++ last ∷ [] in
         let is : second ≡ row_at b_one ∷ [] =
-        some_are run main table (entries_of_pages (page ∷ second ∷ pages)) found are second (row_at b_one ∷ []) (λ row there. in_second second pages row there) (each_of IsProperRow (row_at b_one ∷ []) (b_proper, tt)) says in
+        some_are run main table (entries_of_pages (page ∷ second ∷ pages)) found are second (row_at b_one ∷ [])
+        (λ row there. in_second second pages row there) (each_of IsProperRow (row_at b_one ∷ []) (b_proper, tt))
+        says in
         let there : Contains second (row_at b_one) = subst (λ (es : List Entry). Contains es (row_at b_one)) (sym is) (member_head (row_at b_one) []) in
-        b_is_no_row (subst (λ (es : List Entry). Contains es (row_at b_one)) (joined_are (page ∷ second ∷ pages) are text).1 (in_second second pages (row_at b_one) there))
+        b_is_no_row (subst (λ (es : List Entry). Contains es (row_at b_one))
+        (joined_are (page ∷ second ∷ pages) are text).1 (in_second second pages (row_at b_one) there))
 
-  missing_first : {pages : List (List Entry)} → AreJoined pages → IsText pages → ListEnds (Some (codes "m")) (Some 1) run (text_outcome []) → PageCase run main.path only_m pages → ⊥
+  missing_first : {pages : List (List Entry)} → AreJoined pages → IsText pages
+      → ListEnds (Some (codes "m")) (Some 1) run (text_outcome []) → PageCase run main.path only_m pages → ⊥
   missing_first are text is (none_left none) = cc none
   missing_first are text is (some_left {pages} front last says more) =
       let page : List Entry = front ++ last ∷ [] in
       let first = first_is page pages are text says in
       missing_second page first are text (second_case front last pages [] (joined_are (page ∷ pages) are text).0 first is more)
 
-  other_first : {pages : List (List Entry)} → AreJoined pages → IsText pages → ListEnds (Some (codes "m")) (Some 1) run (text_outcome (codes "b.c v1.0.0\n")) → PageCase run main.path only_m pages → ⊥
+  other_first : {pages : List (List Entry)} → AreJoined pages → IsText pages
+      → ListEnds (Some (codes "m")) (Some 1) run (text_outcome (codes "b.c v1.0.0\n"))
+      → PageCase run main.path only_m pages → ⊥
   other_first are text is (none_left none) = cc none
   other_first are text is (some_left {pages} front last says more) =
       let page : List Entry = front ++ last ∷ [] in
@@ -378,7 +409,9 @@ module _ (run : Given) (main : Main) (table : Option Sums) (found : AreFound run
       other_second page first are text (second_case front last pages (codes "b.c v1.0.0\n") (joined_are (page ∷ pages) are text).0 first is more)
 
 pub page_is_missing : PageIsMissing
-page_is_missing run first second (main, table, pages, found, are, paged, text) = missing_first run main table found are text second (page_case run main.path only_m first paged)
+page_is_missing run first second (main, table, pages, found, are, paged, text) =
+    missing_first run main table found are text second (page_case run main.path only_m first paged)
 
 pub page_has_another_row : PageHasAnotherRow
-page_has_another_row run first second (main, table, pages, found, are, paged, text) = other_first run main table found are text second (page_case run main.path only_m first paged)
+page_has_another_row run first second (main, table, pages, found, are, paged, text) =
+    other_first run main table found are text second (page_case run main.path only_m first paged)

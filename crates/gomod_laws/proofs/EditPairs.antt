@@ -47,25 +47,30 @@ drop_fits (Add (Retract ends)) = refl
 drop_fits (Drop t) = tt
 
 pub undone_is_formatted : UndoneIsFormatted
-undone_is_formatted operations put file edited_to formatted are fit targets one other = elim (subst (λ (ts : List (List ℕ)). EditEnds ts file edited_to) are.given one.0) [
-  | bad_main place malformed says ↦ absurd (misread_or_lines file place targets.lines malformed targets.is_main)
-  | applied lines main says ↦
-      let sound = read_sound file lines main in
-      let absent : list_any (about put) (directives_of lines) ≡ false =
-      ap (λ (ls : List (Line Word)). list_any (about put) (directives Strict ls)) (same_lines file lines targets.lines main.0 targets.is_main.0) ∙ targets.none in
-      let undo_fits = subst (λ (o : Option Operation). IfSome o (λ undo. is_fit undo ≡ true)) are.undoes (drop_fits put) in
-      let states : edited_to ≡ text_outcome (layout (plain_lines lines)) =
-      says ∙ taken_turn 1 are.first (are.second ∷ []) lines put are.puts fit ∙ taken_turn 2 are.second [] (lines_after put lines) are.undo are.drops undo_fits
-      ∙ ap text_outcome (drop-undoes-layout put are.undo lines ((are.first, are.puts), fit, sound.0, sound.1) are.undoes absent) in
-      (states ∙ fmt_is file lines formatted main.0 other.0, layout (plain_lines lines), states)
-]
+undone_is_formatted operations put file edited_to formatted are fit targets one other =
+    elim (subst (λ (ts : List (List ℕ)). EditEnds ts file edited_to) are.given one.0) [
+      | bad_main place malformed says ↦ absurd (misread_or_lines file place targets.lines malformed targets.is_main)
+      | applied lines main says ↦
+          let sound = read_sound file lines main in
+          let absent : list_any (about put) (directives_of lines) ≡ false =
+          ap (λ (ls : List (Line Word)). list_any (about put) (directives Strict ls))
+          (same_lines file lines targets.lines main.0 targets.is_main.0) ∙ targets.none in
+          let undo_fits = subst (λ (o : Option Operation). IfSome o (λ undo. is_fit undo ≡ true)) are.undoes (drop_fits put) in
+          let states : edited_to ≡ text_outcome (layout (plain_lines lines)) =
+          says ∙ taken_turn 1 are.first (are.second ∷ []) lines put are.puts fit ∙ taken_turn 2 are.second [] (lines_after put lines) are.undo are.drops undo_fits
+          ∙ ap text_outcome (drop-undoes-layout put are.undo lines ((are.first, are.puts), fit, sound.0, sound.1) are.undoes absent) in
+          (states ∙ fmt_is file lines formatted main.0 other.0, layout (plain_lines lines), states)
+    ]
 
 -- ---- two operations in either order
 
 -- the lines of the file, which all operations but the last two turn, and what the text reads as
-last_two : (operations : Vec (String Global)) (file text : List ℕ) (earlier : List (List ℕ)) (first second : List ℕ) (one other : Operation) → texts_in operations ≡ earlier ++ first ∷ second ∷ [] → edit_in first ≡ Some one → edit_in second ≡ Some other
+last_two : (operations : Vec (String Global)) (file text : List ℕ) (earlier : List (List ℕ)) (first second : List ℕ)
+    (one other : Operation) → texts_in operations ≡ earlier ++ first ∷ second ∷ [] → edit_in first ≡ Some one
+    → edit_in second ≡ Some other
     → IsEdited operations file text → length text ≤ longest
-    → (lines doc : List (Line Placed)) × IsMainOf file lines × IsEditOf one (turned earlier lines) × IsMainOf text doc × (directives_of doc ≡ directives_of (lines_after other (lines_after one (turned earlier lines))))
+    → (lines doc : List (Line Placed)) × IsMainOf file lines × IsEditOf one (turned earlier lines) × IsMainOf text doc
+    × (directives_of doc ≡ directives_of (lines_after other (lines_after one (turned earlier lines))))
 last_two operations file text earlier first second one other given first_is second_is prints short =
     let (lines, main, from) = edited_from operations earlier (first ∷ second ∷ []) file text given prints in
     let then = next_is first (second ∷ []) text (turned earlier lines) one first_is from in
@@ -74,15 +79,22 @@ last_two operations file text earlier first second one other given first_is seco
     (lines, doc, main, then.1, reread, said)
 
 pub either_order_changes_no_build : EitherOrderChangesNoBuild
-either_order_changes_no_build command operations swapped one other file text also sums asked answered before after query swap apart prints too short low alike run rerun =
-    let (lines, doc, main, edit, reread, said) = last_two operations file text swap.earlier swap.first swap.second one other swap.given swap.first_is swap.second_is prints short in
-    let (others, again, main_too, edit_too, reread_too, said_too) = last_two swapped file also swap.earlier swap.second swap.first other one swap.in_other_order swap.second_is swap.first_is too low in
+either_order_changes_no_build command operations swapped one other file text also sums asked answered before after query
+    swap apart prints too short low alike run rerun =
+    let (lines, doc, main, edit, reread, said) = last_two operations file text swap.earlier swap.first swap.second one
+    other swap.given swap.first_is swap.second_is prints short in
+    let (others, again, main_too, edit_too, reread_too, said_too) =
+    last_two swapped file also swap.earlier swap.second swap.first other one swap.in_other_order swap.second_is
+    swap.first_is too low in
     let front : List (Line Placed) = turned swap.earlier lines in
     let beside : List (Line Placed) = turned swap.earlier others in
-    let same : plain_lines beside ≡ plain_lines front = in_turn_same (filter_map edit_in swap.earlier) others lines (same_lines file others lines main_too.0 main.0) in
+    let same : plain_lines beside ≡ plain_lines front = in_turn_same (filter_map edit_in swap.earlier) others lines
+    (same_lines file others lines main_too.0 main.0) in
     let ends = said_too ∙ ap (directives Strict) (edited-same one (lines_after other beside) (lines_after other front) (edited-same other beside front same)) in
     let orders = either-order one other front edit (edit_too.0, edit_too.1, edit.2, edit.3) apart in
     let are : IsPermutation (directives_of doc) (directives_of again) =
-    subst (λ (ds : List Directive). IsPermutation ds (directives_of again)) (sym said) (subst (IsPermutation (directives_of (lines_after other (lines_after one front)))) (sym ends) orders) in
-    let hold : HoldTheSame (plain_lines doc) (plain_lines again) = (λ d. (Contains-permutation _ _ d are, Contains-permutation _ _ d (IsPermutation-sym _ _ are))) in
+    subst (λ (ds : List Directive). IsPermutation ds (directives_of again)) (sym said)
+    (subst (IsPermutation (directives_of (lines_after other (lines_after one front)))) (sym ends) orders) in
+    let hold : HoldTheSame (plain_lines doc) (plain_lines again) =
+    (λ d. (Contains-permutation _ _ d are, Contains-permutation _ _ d (IsPermutation-sym _ _ are))) in
     lines_in_any_order command text also doc again sums asked answered before after query reread reread_too hold alike run rerun

@@ -67,11 +67,15 @@ turn_of text = by_operation (edit_in text) refl
       | inr misfit ↦ is_refused (codes "Misfit") (rw (written, misfit) refl)
     ]
 
-pub refused_turn : (number : ℕ) (kind text : List ℕ) (texts : List (List ℕ)) (lines : List (Line Placed)) → refusal_of (edit_in text) ≡ Some kind → outcome_from number (text ∷ texts) lines ≡ refusal_outcome (edit_line (number, kind))
+pub refused_turn : (number : ℕ) (kind text : List ℕ) (texts : List (List ℕ)) (lines : List (Line Placed))
+    → refusal_of (edit_in text) ≡ Some kind → outcome_from number (text ∷ texts) lines
+    ≡ refusal_outcome (edit_line (number, kind))
 refused_turn number kind text texts lines is =
-    ap (λ (k : Option (List ℕ)). edits_outcome (option_to_list (option_map (λ (why : List ℕ). (number, why)) k) ++ refusals_from (number + 1) texts) (turned (text ∷ texts) lines)) is
+    ap (λ (k : Option (List ℕ)). edits_outcome (option_to_list (option_map (λ (why : List ℕ). (number, why)) k)
+    ++ refusals_from (number + 1) texts) (turned (text ∷ texts) lines)) is
 
-pub taken_turn : (number : ℕ) (text : List ℕ) (texts : List (List ℕ)) (lines : List (Line Placed)) (operation : Operation) → edit_in text ≡ Some operation → is_fit operation ≡ true
+pub taken_turn : (number : ℕ) (text : List ℕ) (texts : List (List ℕ)) (lines : List (Line Placed))
+    (operation : Operation) → edit_in text ≡ Some operation → is_fit operation ≡ true
     → outcome_from number (text ∷ texts) lines ≡ outcome_from (number + 1) texts (lines_after operation lines)
 taken_turn number text texts lines operation written fit = rw (written, fit) refl
 
@@ -87,7 +91,8 @@ pub record PrintsFrom (texts : List (List ℕ)) (text : List ℕ) (lines : List 
 abbrev IsNext : List ℕ → List (List ℕ) → List ℕ → List (Line Placed) → Operation → Type 0
 IsNext first texts text lines operation = (edit_in first ≡ Some operation) × IsEditOf operation lines × PrintsFrom texts text (lines_after operation lines)
 
-next : (first : List ℕ) (texts : List (List ℕ)) (text : List ℕ) (lines : List (Line Placed)) → PrintsFrom (first ∷ texts) text lines → (operation : Operation) × IsNext first texts text lines operation
+next : (first : List ℕ) (texts : List (List ℕ)) (text : List ℕ) (lines : List (Line Placed))
+    → PrintsFrom (first ∷ texts) text lines → (operation : Operation) × IsNext first texts text lines operation
 next first texts text lines from = elim (turn_of first) [
   | is_refused kind is ↦ absurd (not_printed text (edit_line (from.number, kind)) (sym from.prints ∙ refused_turn from.number kind first texts lines is))
   | is_taken operation written fit ↦
@@ -96,12 +101,15 @@ next first texts text lines from = elim (turn_of first) [
       (operation, (written, edit, record { sound = edit_sound operation lines edit; number = from.number + 1; prints = prints }))
 ]
 
-pub next_is : (first : List ℕ) (texts : List (List ℕ)) (text : List ℕ) (lines : List (Line Placed)) (operation : Operation) → edit_in first ≡ Some operation → PrintsFrom (first ∷ texts) text lines → IsNext first texts text lines operation
+pub next_is : (first : List ℕ) (texts : List (List ℕ)) (text : List ℕ) (lines : List (Line Placed))
+    (operation : Operation) → edit_in first ≡ Some operation → PrintsFrom (first ∷ texts) text lines
+    → IsNext first texts text lines operation
 next_is first texts text lines operation written from =
     let (other, is) = next first texts text lines from in
     subst (IsNext first texts text lines) (same_Some _ _ (sym is.0 ∙ written)) is
 
-after_all : (earlier rest : List (List ℕ)) (text : List ℕ) (lines : List (Line Placed)) → PrintsFrom (earlier ++ rest) text lines → PrintsFrom rest text (turned earlier lines)
+after_all : (earlier rest : List (List ℕ)) (text : List ℕ) (lines : List (Line Placed))
+    → PrintsFrom (earlier ++ rest) text lines → PrintsFrom rest text (turned earlier lines)
 after_all [] rest text lines from = from
 after_all (first ∷ earlier) rest text lines from =
     let (operation, is) = next first (earlier ++ rest) text lines from in
@@ -111,7 +119,8 @@ after_all (first ∷ earlier) rest text lines from =
 -- ---- what `edit` prints
 
 -- the lines of the file, and what is left to do after the first operations
-pub edited_from : (operations : Vec (String Global)) (earlier rest : List (List ℕ)) (file text : List ℕ) → texts_in operations ≡ earlier ++ rest → IsEdited operations file text
+pub edited_from : (operations : Vec (String Global)) (earlier rest : List (List ℕ)) (file text : List ℕ)
+    → texts_in operations ≡ earlier ++ rest → IsEdited operations file text
     → (lines : List (Line Placed)) × IsMainOf file lines × PrintsFrom rest text (turned earlier lines)
 edited_from operations earlier rest file text given prints = elim (subst (λ (ts : List (List ℕ)). EditEnds ts file (text_outcome text)) given prints.0) [
   | bad_main place malformed says ↦ absurd (not_printed text (main_line place) says)
@@ -124,5 +133,8 @@ pub text_lines : (lines : List (Line Placed)) (text : List ℕ) → PrintsFrom [
 text_lines lines text from utf8 short =
     let is : layout (plain_lines lines) ≡ text = ap (λ (o : Outcome). o.text) from.prints in
     let read = layout_read (plain_lines lines) from.sound.0 (subst IsUtf8 (sym is) utf8) (subst (λ (t : List ℕ). length t ≤ longest) (sym is) short) in
-    let parsed : IsParsedAs text (Ok read.doc) = subst (λ (t : List ℕ). IsParsedAs t (Ok read.doc)) is read.parsed in
-    (read.doc, (parsed, no_fault_again (plain_lines lines) (plain_lines read.doc) read.same_filled from.sound.1), same_said (plain_lines lines) (plain_lines read.doc) read.same_filled)
+    let parsed : IsParsedAs text (Ok read.doc) = subst (λ (t : List ℕ). IsParsedAs t (Ok read.doc)) is read.parsed in (
+      read.doc,
+      (parsed, no_fault_again (plain_lines lines) (plain_lines read.doc) read.same_filled from.sound.1),
+      same_said (plain_lines lines) (plain_lines read.doc) read.same_filled,
+    )

@@ -21,25 +21,37 @@ abbrev AreAlike : List (List ℕ) → ℕ → Outcome → Outcome → Type 0
 AreAlike later number first second = ((later ≡ []) → first ≡ second) × AreOneOrRefuseALater number first second
 
 -- outcomes that are the same as others are alike if those are
-alike_as : (later : List (List ℕ)) (number : ℕ) (first second one other : Outcome) → first ≡ one → second ≡ other → AreAlike later number one other → AreAlike later number first second
+alike_as : (later : List (List ℕ)) (number : ℕ) (first second one other : Outcome) → first ≡ one → second ≡ other
+    → AreAlike later number one other → AreAlike later number first second
 alike_as later number first second one other first_is second_is are =
     subst (λ (o : Outcome). AreAlike later number o second) (sym first_is) (subst (AreAlike later number one) (sym second_is) are)
 
 -- operations after one more than before
-later_alike : (later : List (List ℕ)) (before number : ℕ) (lines : List (Line Placed)) → before < number → AreAlike later before (outcome_from number later lines) (outcome_from (number + 1) later lines)
+later_alike : (later : List (List ℕ)) (before number : ℕ) (lines : List (Line Placed)) → before < number
+    → AreAlike later before (outcome_from number later lines) (outcome_from (number + 1) later lines)
 later_alike [] before number lines low = ((λ nothing. refl), inl refl)
 later_alike (text ∷ later) before number lines low = elim (turn_of text) [
   | is_refused kind is ↦
-      let refused : RefuseALater before _ _ = record { refusal = (number, kind); is_later = low; refused_once = refused_turn number kind text later lines is; refused_twice = refused_turn (number + 1) kind text later lines is } in
+      let refused : RefuseALater before _ _ = record {
+        refusal = (number, kind);
+        is_later = low;
+        refused_once =
+            refused_turn number kind text later lines is;
+        refused_twice =
+            refused_turn (number + 1) kind text later lines is;
+      } in
       ((λ nothing. absurd cc), inr refused)
   | is_taken operation written fit ↦
-      alike_as (text ∷ later) before _ _ _ _ (taken_turn number text later lines operation written fit) (taken_turn (number + 1) text later lines operation written fit)
+      alike_as (text ∷ later) before _ _ _ _ (taken_turn number text later lines operation written fit)
+      (taken_turn (number + 1) text later lines operation written fit)
       ((λ nothing. absurd cc), (later_alike later before (number + 1) (lines_after operation lines) (omega (arith, low))).1)
 ]
 
 module _ (text : List ℕ) (later : List (List ℕ)) where
   -- an operation that is taken leaves the second time what it left the first time
-  here_alike : (number : ℕ) (lines : List (Line Placed)) → AreSoundLines lines → AreAlike later number (outcome_from number (text ∷ later) lines) (outcome_from number (text ∷ text ∷ later) lines)
+  here_alike : (number : ℕ) (lines : List (Line Placed)) → AreSoundLines lines
+      → AreAlike later number (outcome_from number (text ∷ later) lines)
+      (outcome_from number (text ∷ text ∷ later) lines)
   here_alike number lines sound = elim (turn_of text) [
     | is_refused kind is ↦
         let same = refused_turn number kind text later lines is ∙ sym (refused_turn number kind text (text ∷ later) lines is) in
@@ -56,19 +68,24 @@ module _ (text : List ℕ) (later : List (List ℕ)) where
       → AreAlike later at (outcome_from number (earlier ++ text ∷ later) lines) (outcome_from number (earlier ++ text ∷ text ∷ later) lines)
   all_alike [] at number lines is sound =
       let here : number ≡ at = omega (arith, is) in
-      subst (λ (n : ℕ). AreAlike later n (outcome_from number (text ∷ later) lines) (outcome_from number (text ∷ text ∷ later) lines)) here (here_alike number lines sound)
+      subst (λ (n : ℕ). AreAlike later n (outcome_from number (text ∷ later) lines)
+      (outcome_from number (text ∷ text ∷ later) lines)) here (here_alike number lines sound)
   all_alike (first ∷ earlier) at number lines is sound = elim (turn_of first) [
     | is_refused kind why ↦
-        let same = refused_turn number kind first (earlier ++ text ∷ later) lines why ∙ sym (refused_turn number kind first (earlier ++ text ∷ text ∷ later) lines why) in
+        let same = refused_turn number kind first (earlier ++ text ∷ later) lines why
+        ∙ sym (refused_turn number kind first (earlier ++ text ∷ text ∷ later) lines why) in
         ((λ nothing. same), inl same)
     | is_taken operation written fit ↦
-        alike_as later at _ _ _ _ (taken_turn number first (earlier ++ text ∷ later) lines operation written fit) (taken_turn number first (earlier ++ text ∷ text ∷ later) lines operation written fit)
-        (all_alike earlier at (number + 1) (lines_after operation lines) (omega (arith, is)) (edit_sound operation lines ((first, written), fit, sound.0, sound.1)))
+        alike_as later at _ _ _ _ (taken_turn number first (earlier ++ text ∷ later) lines operation written fit)
+        (taken_turn number first (earlier ++ text ∷ text ∷ later) lines operation written fit)
+        (all_alike earlier at (number + 1) (lines_after operation lines) (omega (arith, is))
+        (edit_sound operation lines ((first, written), fit, sound.0, sound.1)))
   ]
 
 -- ---- the laws
 
-runs_alike : (once twice : Vec (String Global)) (file : List ℕ) (first second : Outcome) (repeats : RepeatsOne once twice) → Ends (Edit once) file None [] first → Ends (Edit twice) file None [] second
+runs_alike : (once twice : Vec (String Global)) (file : List ℕ) (first second : Outcome)
+    (repeats : RepeatsOne once twice) → Ends (Edit once) file None [] first → Ends (Edit twice) file None [] second
     → AreAlike repeats.later (length repeats.earlier + 1) first second
 runs_alike once twice file first second repeats one two = elim (subst (λ (ts : List (List ℕ)). EditEnds ts file first) repeats.given_once one) [
   | bad_main place malformed says ↦

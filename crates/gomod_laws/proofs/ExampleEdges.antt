@@ -73,7 +73,9 @@ module _ (requirements : List ModuleVersion) where
   requires_is : (x y : ModuleVersion) → Requires run x y → (x ≡ top_one) × (y ≡ mid_ten)
   requires_is x y (file, says, there) =
       let is : x ≡ top_one = ap own (says_top x says file refl) in
-      let same : file ≡ top_file = same_file file top_file (modules_say_one_thing run top_one (Ok file) (Ok top_file) (subst (λ (m : ModuleVersion). Says run m (Ok file)) is says) top_says) in
+      let same : file ≡ top_file = same_file file top_file
+      (modules_say_one_thing run top_one (Ok file) (Ok top_file)
+      (subst (λ (m : ModuleVersion). Says run m (Ok file)) is says) top_says) in
       let left : Contains (mid_ten ∷ []) y = subst (λ (f : Dependency). Contains (without_excluded run.main f.requirements) y) same there in
       (is, each_of (λ (z : ModuleVersion). z ≡ mid_ten) (mid_ten ∷ []) (refl, tt) y left)
 

@@ -91,7 +91,8 @@ is_listed_alone = record {
 
 bad_sum_reported : ListEnds None None run_with_bad_sum (refusal_outcome (codes "go.sum:1: BadSum\n"))
 bad_sum_reported =
-    bad_sums (main_requiring []) (codes "go.sum:1: BadSum\n") files_are_read.one (inr (omega arith, 1, (omega arith, refl), rw (decimal_digit 1 (lit< tt)) refl)) (refl, refl) refl
+    bad_sums (main_requiring []) (codes "go.sum:1: BadSum\n") files_are_read.one
+    (inr (omega arith, 1, (omega arith, refl), rw (decimal_digit 1 (lit< tt)) refl)) (refl, refl) refl
 
 pub bad_sum_is_refused : BadSumIsRefused
 bad_sum_is_refused = record {
@@ -163,7 +164,8 @@ top_needed asked = (top_one, inl (member_head top_one []), refl, refl)
 
 -- no file is valid if none is read as a valid one
 is_silent : (asked : List (Name × Reply))
-    → ((name : Name) (reply : Reply) (file : Dependency) → (run_with asked).answers name ≡ Some reply → IsFileReading None name reply (Ok file) → ⊥) → IsSilent (run_with asked)
+    → ((name : Name) (reply : Reply) (file : Dependency) → (run_with asked).answers name ≡ Some reply
+    → IsFileReading None name reply (Ok file) → ⊥) → IsSilent (run_with asked)
 is_silent asked unread x file says = by says refl
   where
     by_file : {said : Result Dependency Class} → FileSays (run_with asked) (file_of main x) said → (other : Dependency) → said ≡ Ok other → ⊥
@@ -237,7 +239,8 @@ ok_is_missing : (file : Dependency) → ◌≡◌ {A = Result Dependency Class} 
 ok_is_missing file e = cc e
 
 -- the files of these names are
-absent_in : (asked : List (Name × Reply)) → ((name : Name) (reply : Reply) → (run_with asked).answers name ≡ Some reply → reply ≡ absent) → IsSilent (run_with asked)
+absent_in : (asked : List (Name × Reply)) → ((name : Name) (reply : Reply) → (run_with asked).answers name ≡ Some reply
+    → reply ≡ absent) → IsSilent (run_with asked)
 absent_in asked gone =
     is_silent asked
     (λ name reply file at is. ok_is_missing file (subst (λ (r : Reply). IsFileReading None name r (Ok file)) (gone name reply at) is))
@@ -276,7 +279,8 @@ once_asked = (tt, tt)
 
 top_not_due : (name : Name) → IsDue (run_with told) name → top_name ∷ [] ≡ name ∷ [] → ⊥
 top_not_due name due failed =
-    let unasked : (run_with told).answers top_name ≡ None = subst (λ (n : Name). (run_with told).answers n ≡ None) (sym (one_of top_name name failed)) due.unasked in
+    let unasked : (run_with told).answers top_name ≡ None =
+    subst (λ (n : Name). (run_with told).answers n ≡ None) (sym (one_of top_name name failed)) due.unasked in
     cc unasked
 
 named_needed : (name : Name) → Contains (top_name ∷ []) name → IsNeeded (run_with told) name
@@ -315,7 +319,9 @@ member_faulty one there = elim (member_cases top_fault one [] there) [
 faulty_member : (one : Fault) → IsFault (run_with told) one → Contains (top_fault ∷ []) one
 faulty_member one (opens, says) =
     let own : one.vertex ≡ top_one = opened_is told missing_silent one.vertex opens in
-    let class : Missing ≡ one.class = same_fault Missing one.class (modules_say_one_thing (run_with told) top_one (Err Missing) (Err one.class) top_is_missing (subst (λ (x : ModuleVersion). Says (run_with told) x (Err one.class)) own says)) in
+    let class : Missing ≡ one.class = same_fault Missing one.class
+    (modules_say_one_thing (run_with told) top_one (Err Missing) (Err one.class) top_is_missing
+    (subst (λ (x : ModuleVersion). Says (run_with told) x (Err one.class)) own says)) in
     let same : top_fault ≡ one = ap₂ fault_with (sym own) class in
     subst (Contains (top_fault ∷ [])) same (member_head top_fault [])
 

@@ -123,7 +123,10 @@ pub laid_parsed : (text : List ℕ) (texts : List (List (List ℕ))) → list_al
 laid_parsed text texts plain laid same short ascii =
     let ls : List (Line Word) = map line texts in
     let stable = (is_stable ls (lines_stand start refl texts plain)).reads in
-    let laid_out : ReadsLines start (lines_of (layout ls)) ls Whole = subst (λ (others : List (Line Word)). ReadsLines start (lines_of (layout ls)) others Whole) same stable in
+    let laid_out : ReadsLines start (lines_of (layout ls)) ls Whole =
+    subst (λ (others : List (Line Word)). ReadsLines start (lines_of (layout ls)) others Whole) same stable in
     let read : ReadsLines start (lines_of text) ls Whole = subst (λ (t : List ℕ). ReadsLines start (lines_of t) ls Whole) laid laid_out in
-    let reads : ReadsLines start (lines_of text) (plain_lines (placeless ls)) Whole = subst (λ (others : List (Line Word)). ReadsLines start (lines_of text) others Whole) (sym (plain_placeless ls)) read in
+    let reads : ReadsLines start (lines_of text) (plain_lines (placeless ls)) Whole =
+    subst (λ (others : List (Line Word)). ReadsLines start (lines_of text) others Whole) (sym (plain_placeless ls))
+    read in
     reading_parsed text (Ok (placeless ls)) ((short, ascii_utf8 text ascii), reading_of text (plain_lines (placeless ls)) Whole reads)

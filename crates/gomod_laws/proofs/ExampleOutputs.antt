@@ -135,7 +135,8 @@ ends_by words outcome (given, same, ends) = subst (λ (ws : List (List ℕ)). Is
 
 version_ends : (outcome : Outcome) → EndsBy (version_flag ∷ []) outcome → (outcome ≡ text_outcome version_line) ⊎ (outcome ≡ out_of_memory)
 version_ends outcome ends = version_is_printed (codes "gomod") version_flag outcome (inl refl)
-    (subst (λ (found : Option (List ℕ)). IsOutcomeUnless anything any_input (version_flag ∷ []) found outcome) version_readable (ends_by (version_flag ∷ []) outcome ends))
+    (subst (λ (found : Option (List ℕ)). IsOutcomeUnless anything any_input (version_flag ∷ []) found outcome)
+    version_readable (ends_by (version_flag ∷ []) outcome ends))
 
 not_dropped : (outcome : Outcome) → outcome.status ≡ 2 → ¬ (EndsBy (version_flag ∷ []) outcome)
 not_dropped outcome usage ends = elim (version_ends outcome ends) [
@@ -149,21 +150,26 @@ not_made_up line some ends = elim (nothing_is_printed (codes "gomod") (text_outc
   | inr is ↦ let wrong : 0 ≡ 3 = ap (λ (o : Outcome). o.status) is in omega (arith, wrong)
 ]
 
-shown_status : (words : List (List ℕ)) (word : List ℕ) (outcome : Outcome) → first_unreadable words ≡ Some word → EndsBy words outcome → outcome ≡ usage_error (unreadable_text word)
-shown_status words word outcome first ends = subst (λ (found : Option (List ℕ)). IsOutcomeUnless anything any_input words found outcome) first (ends_by words outcome ends)
+shown_status : (words : List (List ℕ)) (word : List ℕ) (outcome : Outcome) → first_unreadable words ≡ Some word
+    → EndsBy words outcome → outcome ≡ usage_error (unreadable_text word)
+shown_status words word outcome first ends = subst (λ (found : Option (List ℕ)).
+    IsOutcomeUnless anything any_input words found outcome) first (ends_by words outcome ends)
 
 not_passed_over : ¬ (EndsBy (unreadable ∷ version_flag ∷ []) (text_outcome version_line))
 not_passed_over ends =
-    let wrong : 0 ≡ 2 = ap (λ (o : Outcome). o.status) (shown_status (unreadable ∷ version_flag ∷ []) unreadable (text_outcome version_line) (byte_unreadable (version_flag ∷ [])) ends) in omega (arith, wrong)
+    let wrong : 0 ≡ 2 = ap (λ (o : Outcome). o.status) (shown_status (unreadable ∷ version_flag ∷ []) unreadable
+    (text_outcome version_line) (byte_unreadable (version_flag ∷ [])) ends) in omega (arith, wrong)
 
-unreadable_shown : IsOutcomeUnless anything any_input (unreadable ∷ version_flag ∷ []) (first_unreadable (unreadable ∷ version_flag ∷ [])) (usage_error (unreadable_text unreadable))
+unreadable_shown : IsOutcomeUnless anything any_input (unreadable ∷ version_flag ∷ [])
+    (first_unreadable (unreadable ∷ version_flag ∷ [])) (usage_error (unreadable_text unreadable))
 unreadable_shown = rw (byte_unreadable (version_flag ∷ [])) refl
 
 -- their reports differ in a digit of the byte
 not_last : ¬ (EndsBy (unreadable ∷ also_unreadable ∷ []) (usage_error (unreadable_text also_unreadable)))
 unfolding lib.Utf8.encode
 not_last ends =
-    let same = shown_status (unreadable ∷ also_unreadable ∷ []) unreadable (usage_error (unreadable_text also_unreadable)) (byte_unreadable (also_unreadable ∷ [])) ends in
+    let same = shown_status (unreadable ∷ also_unreadable ∷ []) unreadable
+    (usage_error (unreadable_text also_unreadable)) (byte_unreadable (also_unreadable ∷ [])) ends in
     let digit : 101 ≡ 102 = first_byte 101 102 _ _ (ap (λ (o : Outcome). drop 20 o.report) same) in omega (arith, digit)
 
 pub words_are_given : WordsAreGiven

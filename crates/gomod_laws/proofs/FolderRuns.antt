@@ -46,12 +46,14 @@ abbrev pub Grows : (AnswersByName → Name → Type 0) → Type 0
 Grows needs = (one other : AnswersByName) → Keeps one other → (name : Name) → needs one name → needs other name
 
 -- each file that was asked for is needed by all answers
-pub needed_in_turn : (needs : AnswersByName → Name → Type 0) → Grows needs → {asked : Pairs} → AskedInTurn needs asked → (name : Name) → Contains (names_in asked) name
+pub needed_in_turn : (needs : AnswersByName → Name → Type 0) → Grows needs → {asked : Pairs} → AskedInTurn needs asked
+    → (name : Name) → Contains (names_in asked) name
     → needs (answer_in asked) name
 needed_in_turn needs grows graph.nothing one there = absurd (no_member one there)
 needed_in_turn needs grows (graph.more {pairs} {name} reply asks need unasked) one there =
     let longer : Pairs = pairs ++ (name, reply) ∷ [] in
-    let still : (n : Name) → needs (answer_in pairs) n → needs (answer_in longer) n = grows (answer_in pairs) (answer_in longer) (λ n r e. answer_stays pairs ((name, reply) ∷ []) n r e) in
+    let still : (n : Name) → needs (answer_in pairs) n → needs (answer_in longer) n =
+    grows (answer_in pairs) (answer_in longer) (λ n r e. answer_stays pairs ((name, reply) ∷ []) n r e) in
     elim (Contains-push_cases (names_in pairs) name one (subst (λ (names : List Name). Contains names one) (names_push pairs name reply) there)) [
       | inl before ↦ still one (needed_in_turn needs grows asks one before)
       | inr same ↦ subst (needs (answer_in longer)) same (still name need)
@@ -95,7 +97,8 @@ versions_grow path all one other keeps name (inr (versions, latest, same, is)) =
   },
 )
 
-module _ (path : List ℕ) (all : Bool) (told : AnswersByName) (outcome : Outcome) (prints : HasPrinted outcome) (ends : VersionsEnds path all told [] outcome) where
+module _ (path : List ℕ) (all : Bool) (told : AnswersByName) (outcome : Outcome) (prints : HasPrinted outcome)
+    (ends : VersionsEnds path all told [] outcome) where
   shown : List (List ℕ)
   shown = (shown_printed path all told outcome prints ends).0
 
@@ -132,18 +135,28 @@ module _ (path : List ℕ) (all : Bool) (told : AnswersByName) (outcome : Outcom
         same,
         record {
           some = is.some;
-          listed = record { fetchable = is.listed.fetchable; list = is.listed.list; answered = listed.answered ∙ ap Some (sym lists); listed = is.listed.listed };
+          listed = record {
+            fetchable = is.listed.fetchable;
+            list = is.listed.list;
+            answered =
+                listed.answered ∙ ap Some (sym lists);
+            listed = is.listed.listed;
+          };
           greatest = is.greatest;
         },
       )
 
 -- ---- queries
 
-module _ (file : List ℕ) (sums : Option (List ℕ)) (asked : Pairs) (main : Main) (table : Option Sums) (found : AreFound (run_over file sums asked) main table []) where
+module _ (file : List ℕ) (sums : Option (List ℕ)) (asked : Pairs) (main : Main) (table : Option Sums)
+    (found : AreFound (run_over file sums asked) main table []) where
   no_fault : (name : Name) (class : Class) → IsNeeded (run_of main table asked) name → FileSays (run_of main table asked) name (Err class) → ⊥
   no_fault name class (x, opens, is, askable) says =
       let fault : Fault = record { vertex = x; class = class } in
-      no_member fault ((found.faults_are.each fault).1 (opens, graph.faulty (subst (λ (n : Name). FileSays (run_of main table asked) n (Err class)) (sym is) says)))
+      no_member fault ((found.faults_are.each fault).1 (
+        opens,
+        graph.faulty (subst (λ (n : Name). FileSays (run_of main table asked) n (Err class)) (sym is) says),
+      ))
 
   -- what was asked for was read
   asked_is_file : (name : Name) (reply : Reply) → answer_in asked name ≡ Some reply → IsFile reply
@@ -161,7 +174,8 @@ module _ (file : List ℕ) (sums : Option (List ℕ)) (asked : Pairs) (main : Ma
 
 -- runs over answers that are alike ask for the same files
 names_into : (file : List ℕ) (sums : Option (List ℕ)) (asked told : Pairs) (main again : Main) (t u : Option Sums) → AnswerAlike asked told
-    → AreFound (run_over file sums asked) main t [] → AreFound (run_over file sums told) again u [] → (name : Name) → Contains (names_in asked) name → Contains (names_in told) name
+    → AreFound (run_over file sums asked) main t [] → AreFound (run_over file sums told) again u [] → (name : Name)
+    → Contains (names_in asked) name → Contains (names_in told) name
 names_into file sums asked told main again t u alike found also name there =
     let agrees =
     stores_agree (run_over file sums asked) (run_over file sums told) main again t u
@@ -174,24 +188,30 @@ names_into file sums asked told main again t u alike found also name there =
 pub same_outcome : (command : Command) (main : List ℕ) (sums : Option (List ℕ)) (asked told : Pairs) (a b : Outcome) → AnswerAlike asked told
     → Ends command main sums asked a → Ends command main sums told b → a ≡ b
 same_outcome command main sums asked told a b alike run again =
-    one_for_stores command (given_of main sums (answers_of asked [])) (given_of main sums (answers_of told [])) a b (record { file = refl; sums = refl; answers = alike; failed = refl }) run again
+    one_for_stores command (given_of main sums (answers_of asked [])) (given_of main sums (answers_of told [])) a b
+    (record { file = refl; sums = refl; answers = alike; failed = refl }) run again
 
-all_answered : (command : Command) (main : List ℕ) (sums : Option (List ℕ)) (asked : Pairs) (outcome : Outcome) → Ends command main sums asked outcome → HasPrinted outcome
+all_answered : (command : Command) (main : List ℕ) (sums : Option (List ℕ)) (asked : Pairs) (outcome : Outcome)
+    → Ends command main sums asked outcome → HasPrinted outcome
     → AnsweredAll (Needs command main sums) (answer_in asked)
 all_answered command main sums asked outcome run prints = done_answers command (given_of main sums (answers_of asked [])) outcome run prints
 
 module _ (main : List ℕ) (sums : Option (List ℕ)) where
   -- what a query asked for is what it needed, and was read
-  pub query_is_file : (command : Command) (asked : Pairs) (outcome : Outcome) → is_query command ≡ true → Ends command main sums asked outcome → HasPrinted outcome
+  pub query_is_file : (command : Command) (asked : Pairs) (outcome : Outcome) → is_query command ≡ true
+      → Ends command main sums asked outcome → HasPrinted outcome
       → (name : Name) (reply : Reply) → answer_in asked name ≡ Some reply → IsFile reply
   query_is_file command asked outcome query run prints name reply e =
       let (says, table, found) = valid_files command main sums asked outcome query run prints in
       asked_is_file main sums asked says table found name reply e
 
   -- a run that prints was answered with a file wherever it asked
-  pub each_is_file : (command : Command) (asked : Pairs) (outcome : Outcome) → Ends command main sums asked outcome → AskedInTurn (Needs command main sums) asked → HasPrinted outcome
+  pub each_is_file : (command : Command) (asked : Pairs) (outcome : Outcome) → Ends command main sums asked outcome
+      → AskedInTurn (Needs command main sums) asked → HasPrinted outcome
       → (name : Name) (reply : Reply) → answer_in asked name ≡ Some reply → IsFile reply
-  each_is_file Fmt asked outcome run turn prints name reply e = absurd (needed_in_turn (Needs Fmt main sums) (λ one other keeps n need. need) turn name (answered_name asked name reply e))
+  each_is_file Fmt asked outcome run turn prints name reply e =
+      absurd (needed_in_turn (Needs Fmt main sums) (λ one other keeps n need. need) turn name
+      (answered_name asked name reply e))
   each_is_file (Edit operations) asked outcome run turn prints name reply e =
       absurd (needed_in_turn (Needs (Edit operations) main sums) (λ one other keeps n need. need) turn name (answered_name asked name reply e))
   each_is_file (Versions path all) asked outcome run turn prints name reply e =
@@ -201,7 +221,8 @@ module _ (main : List ℕ) (sums : Option (List ℕ)) where
   each_is_file (Rows after limit) asked outcome run turn prints name reply e = query_is_file (Rows after limit) asked outcome refl run prints name reply e
   each_is_file (Chain path) asked outcome run turn prints name reply e = query_is_file (Chain path) asked outcome refl run prints name reply e
 
-  query_names : (command : Command) (asked told : Pairs) (a b : Outcome) → is_query command ≡ true → AnswerAlike asked told → Ends command main sums asked a → HasPrinted a
+  query_names : (command : Command) (asked told : Pairs) (a b : Outcome) → is_query command ≡ true
+      → AnswerAlike asked told → Ends command main sums asked a → HasPrinted a
       → Ends command main sums told b → HasPrinted b → (name : Name) → Contains (names_in asked) name → Contains (names_in told) name
   query_names command asked told a b query alike run prints again also name there =
       let (says, t, found) = valid_files command main sums asked a query run prints in
@@ -209,9 +230,11 @@ module _ (main : List ℕ) (sums : Option (List ℕ)) where
       names_into main sums asked told says tells t u alike found too name there
 
   -- a file that one run asked for is one that the other asked for
-  pub names_in_other : (command : Command) (asked told : Pairs) (a b : Outcome) → AnswerAlike asked told → AskedInTurn (Needs command main sums) asked → Ends command main sums asked a → HasPrinted a
+  pub names_in_other : (command : Command) (asked told : Pairs) (a b : Outcome) → AnswerAlike asked told
+      → AskedInTurn (Needs command main sums) asked → Ends command main sums asked a → HasPrinted a
       → Ends command main sums told b → HasPrinted b → (name : Name) → Contains (names_in asked) name → Contains (names_in told) name
-  names_in_other Fmt asked told a b alike turn run prints again also name there = absurd (needed_in_turn (Needs Fmt main sums) (λ one other keeps n need. need) turn name there)
+  names_in_other Fmt asked told a b alike turn run prints again also name there =
+      absurd (needed_in_turn (Needs Fmt main sums) (λ one other keeps n need. need) turn name there)
   names_in_other (Edit operations) asked told a b alike turn run prints again also name there =
       absurd (needed_in_turn (Needs (Edit operations) main sums) (λ one other keeps n need. need) turn name there)
   names_in_other (Versions path all) asked told a b alike turn run prints again also name there =
@@ -223,7 +246,8 @@ module _ (main : List ℕ) (sums : Option (List ℕ)) where
   names_in_other Graph asked told a b alike turn run prints again also name there = query_names Graph asked told a b refl alike run prints again also name there
   names_in_other (Rows after limit) asked told a b alike turn run prints again also name there =
       query_names (Rows after limit) asked told a b refl alike run prints again also name there
-  names_in_other (Chain path) asked told a b alike turn run prints again also name there = query_names (Chain path) asked told a b refl alike run prints again also name there
+  names_in_other (Chain path) asked told a b alike turn run prints again also name there =
+      query_names (Chain path) asked told a b refl alike run prints again also name there
 
 -- ---- one more folder
 
@@ -232,7 +256,9 @@ more_folders_change_nothing command main sums folders others marks more asked to
     let alike : AnswerAlike asked told =
     λ name a b e f.
     let (content, is) = each_is_file main sums command asked one run.ends.0 run.in_turn prints name a e in
-    let may : FolderMayAnswer folders marks name (Some (bytes content)) = subst (λ (reply : Reply). FolderMayAnswer folders marks name (Some reply)) is (run.answers name a (answered_in asked name a e)) in
+    let may : FolderMayAnswer folders marks name (Some (bytes content)) =
+    subst (λ (reply : Reply). FolderMayAnswer folders marks name (Some reply)) is
+    (run.answers name a (answered_in asked name a e)) in
     is ∙ sym (found_again folders others marks more grows name content b may (again.answers name b (answered_in told name b f))) in
     let back : AnswerAlike told asked = alike_back asked told alike in
     let same : other ≡ one = same_outcome command main sums told asked other one back again.ends.0 run.ends.0 in

@@ -22,7 +22,8 @@ unmarked absent e = cc e
 unmarked failed e = cc e
 
 -- a request that goes on after a folder goes on as before
-goes_again : (marks : List Mark) (mark : Mark) (k : ℕ) (seen : Seen) → step_of seen (slice_get marks k) ≡ Go → step_of seen (slice_get (marks ++ mark ∷ []) k) ≡ Go
+goes_again : (marks : List Mark) (mark : Mark) (k : ℕ) (seen : Seen) → step_of seen (slice_get marks k) ≡ Go
+    → step_of seen (slice_get (marks ++ mark ∷ []) k) ≡ Go
 goes_again [] mark k seen goes = absurd (unmarked seen goes)
 goes_again (first ∷ marks) mark zero seen goes = goes
 goes_again (first ∷ marks) mark (suc k) seen goes = goes_again marks mark k seen goes
@@ -43,7 +44,8 @@ found_takes content last mark is goes = let takes : Take ≡ Go = sym (ap (λ (s
 found_answers : (content : List ℕ) (last : Seen) (mark : Option Mark) → last ≡ found content → Some (bytes content) ≡ outcome_of last (step_of last mark)
 found_answers content last mark is = sym (ap (λ (s : Seen). outcome_of s (step_of s mark)) is)
 
-stops_again : (looks : List Seen) (marks : List Mark) (content : List ℕ) (failures : ℕ) (look : Seen) (mark : Mark) → StopsAt looks marks (Some (bytes content)) failures
+stops_again : (looks : List Seen) (marks : List Mark) (content : List ℕ) (failures : ℕ) (look : Seen) (mark : Mark)
+    → StopsAt looks marks (Some (bytes content)) failures
     → StopsAt (looks ++ look ∷ []) (marks ++ mark ∷ []) (Some (bytes content)) failures
 stops_again looks marks content failures look mark stop =
     let is = only_found content stop.last _ stop.answers in
@@ -58,7 +60,8 @@ stops_again looks marks content failures look mark stop =
       counted = stop.counted;
     }
 
-one_reply : (looks : List Seen) (marks : List Mark) (a b : Reply) (failures others : ℕ) → StopsAt looks marks (Some a) failures → StopsAt looks marks (Some b) others → b ≡ a
+one_reply : (looks : List Seen) (marks : List Mark) (a b : Reply) (failures others : ℕ)
+    → StopsAt looks marks (Some a) failures → StopsAt looks marks (Some b) others → b ≡ a
 one_reply looks marks a b failures others stop again = let same = (one_stop looks marks (Some a) (Some b) failures others stop again).0 in cc same
 
 -- ---- one more folder
@@ -86,7 +89,9 @@ module _ (folders others : FoldersInMemory) (marks more : List Mark) (one : HasO
       (subst (λ (shelf : MemoryFolder). StopsAt (result_at shelf name ∷ []) [] (Some reply) count) one.beside again)
 
   -- the one answer to the name of a file that was found is that file
-  pub found_again : (name : Name) (content : List ℕ) (reply : Reply) → FolderMayAnswer folders marks name (Some (bytes content)) → FolderMayAnswer others more name (Some reply) → reply ≡ bytes content
+  pub found_again : (name : Name) (content : List ℕ) (reply : Reply)
+      → FolderMayAnswer folders marks name (Some (bytes content)) → FolderMayAnswer others more name (Some reply)
+      → reply ≡ bytes content
   found_again (mod_file path version) content reply (failures, may) (count, could) =
       let name = mod_file path version in
       in_proxies name content reply failures count

@@ -35,7 +35,9 @@ filled_alone block (Open verb suffix ∷ lines) are = (are.0, filled_alone (Some
 filled_alone block (Close suffix ∷ lines) are = (are.0, filled_alone None lines are.1)
 filled_alone block (Entry words suffix ∷ lines) are = (are.0, filled_alone block lines are.1)
 
-said_filled : (block : Option Word) (lines : List (Line Word)) → filter_map (directive_said Strict) (with_blocks_from block (filled_lines lines)) ≡ filter_map (directive_said Strict) (with_blocks_from block lines)
+said_filled : (block : Option Word) (lines : List (Line Word))
+    → filter_map (directive_said Strict) (with_blocks_from block (filled_lines lines))
+    ≡ filter_map (directive_said Strict) (with_blocks_from block lines)
 unfolding filled_lines item_at
 said_filled block [] = refl
 said_filled block (Blank ∷ lines) = said_filled block lines
@@ -58,7 +60,8 @@ main_said ds = record {
 
 module _ (lines again : List (Line Word)) (same : filled_lines again ≡ filled_lines lines) where
   pub same_said : directives Strict again ≡ directives Strict lines
-  same_said = sym (said_filled None again) ∙ ap (λ (ls : List (Line Word)). filter_map (directive_said Strict) (with_blocks_from None ls)) same ∙ said_filled None lines
+  same_said = sym (said_filled None again) ∙ ap (λ (ls : List (Line Word)).
+      filter_map (directive_said Strict) (with_blocks_from None ls)) same ∙ said_filled None lines
 
   pub no_fault_again : fault_of Strict lines ≡ None → fault_of Strict again ≡ None
   no_fault_again none =

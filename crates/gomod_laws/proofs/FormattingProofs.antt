@@ -28,7 +28,9 @@ use Rattle.gomod_laws.proofs.LineOrderSame.{says_itself}
 -- ---- what a main file says
 
 -- a main file and its layout say the same
-pub layout_main : (file : List ℕ) (lines : List (Line Placed)) (main : Main) → IsParsedAs file (Ok lines) → IsUtf8 (layout (plain_lines lines)) → length (layout (plain_lines lines)) ≤ longest → IsMainFile file main → IsMainFile (layout (plain_lines lines)) main
+pub layout_main : (file : List ℕ) (lines : List (Line Placed)) (main : Main) → IsParsedAs file (Ok lines)
+    → IsUtf8 (layout (plain_lines lines)) → length (layout (plain_lines lines)) ≤ longest → IsMainFile file main
+    → IsMainFile (layout (plain_lines lines)) main
 layout_main file lines main parsed utf8 short (others, (read, sound), says) =
     let layout_is = parsed_layout file lines parsed utf8 short in
     let same : plain_lines others ≡ plain_lines lines = same_lines file others lines read parsed in
@@ -59,11 +61,13 @@ pub formatting_changes_no_build : FormattingChangesNoBuild
 formatting_changes_no_build command file text main sums asked answered before after query is formatted short alike one two =
     let found = fmt_printed file text formatted in
     let low : length (layout (plain_lines found.lines)) ≤ longest = subst (λ (t : List ℕ). length t ≤ longest) found.text_is short in
-    let also : IsMainFile text main = subst (λ (t : List ℕ). IsMainFile t main) (sym found.text_is) (layout_main file found.lines main found.parsed (subst IsUtf8 found.text_is formatted.1) low is) in
+    let also : IsMainFile text main = subst (λ (t : List ℕ). IsMainFile t main) (sym found.text_is)
+    (layout_main file found.lines main found.parsed (subst IsUtf8 found.text_is formatted.1) low is) in
     same_outcome command file text sums asked answered before after query (queries_move file text sums main main is also (says_itself main)) alike one.0 two.0
 
 -- the only outcome of `fmt` is the layout of the lines
-pub fmt_is : (file : List ℕ) (lines : List (Line Placed)) (outcome : Outcome) → IsParsedAs file (Ok lines) → Ends Fmt file None [] outcome → text_outcome (layout (plain_lines lines)) ≡ outcome
+pub fmt_is : (file : List ℕ) (lines : List (Line Placed)) (outcome : Outcome) → IsParsedAs file (Ok lines)
+    → Ends Fmt file None [] outcome → text_outcome (layout (plain_lines lines)) ≡ outcome
 fmt_is file lines outcome parsed has = fmt_once file (text_outcome (layout (plain_lines lines))) outcome (laid_out lines parsed refl) has
 
 pub layouts_are_formatted : LayoutsAreFormatted

@@ -50,7 +50,9 @@ layout_read lines document utf8 short =
     let stable = is_stable lines document in
     let doc : List (Line Placed) = placeless laid in
     let back : plain_lines doc ≡ laid = plain_placeless laid in
-    let reads : ReadsLines start (lines_of (layout lines)) (plain_lines doc) Whole = subst (λ (ls : List (Line Word)). ReadsLines start (lines_of (layout lines)) ls Whole) (sym back) stable.reads in
+    let reads : ReadsLines start (lines_of (layout lines)) (plain_lines doc) Whole =
+    subst (λ (ls : List (Line Word)). ReadsLines start (lines_of (layout lines)) ls Whole) (sym back)
+    stable.reads in
     record {
       doc = doc;
       parsed = reading_parsed (layout lines) (Ok doc) ((short, utf8), reading_of (layout lines) (plain_lines doc) Whole reads);
@@ -58,5 +60,6 @@ layout_read lines document utf8 short =
       same_layout = ap layout back ∙ stable.same_bytes;
     }
 
-pub parsed_layout : (file : List ℕ) (doc : List (Line Placed)) → IsParsedAs file (Ok doc) → IsUtf8 (layout (plain_lines doc)) → length (layout (plain_lines doc)) ≤ 16777216 → IsLayoutRead (plain_lines doc)
+pub parsed_layout : (file : List ℕ) (doc : List (Line Placed)) → IsParsedAs file (Ok doc)
+    → IsUtf8 (layout (plain_lines doc)) → length (layout (plain_lines doc)) ≤ 16777216 → IsLayoutRead (plain_lines doc)
 parsed_layout file doc is utf8 short = layout_read (plain_lines doc) (read_document file (plain_lines doc) is.1.reads) utf8 short

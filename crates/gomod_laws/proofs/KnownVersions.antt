@@ -175,7 +175,8 @@ one_one_is_latest = inl (record {
   greatest = λ other there counted. elim (member_cases one_zero other (one_one ∷ []) there) [
     | inl same ↦ subst (λ (v : List ℕ). is_gt (version_cmp v one_one) ≡ false) same (ap is_gt one_zero_is_below)
     | inr later ↦ elim (member_cases one_one other [] later) [
-      | inl same ↦ subst (λ (v : List ℕ). is_gt (version_cmp v one_one) ≡ false) same (not_above_itself (version_cmp one_one one_one) (version_total.antisymm one_one one_one))
+      | inl same ↦ subst (λ (v : List ℕ). is_gt (version_cmp v one_one) ≡ false) same
+          (not_above_itself (version_cmp one_one one_one) (version_total.antisymm one_one one_one))
       | inr none ↦ absurd (no_member other none)
     ]
   ];

@@ -21,19 +21,22 @@ use Rattle.gomod_laws.proofs.PrintedRuns.{Pairs}
 
 -- ---- a file stays
 
-file_stays : (asked later : Pairs) → OnlyAddsAnswers asked later → (name : Name) (a b : Reply) → IsFile a → answer_in asked name ≡ Some a → answer_in later name ≡ Some b → b ≡ a
+file_stays : (asked later : Pairs) → OnlyAddsAnswers asked later → (name : Name) (a b : Reply) → IsFile a
+    → answer_in asked name ≡ Some a → answer_in later name ≡ Some b → b ≡ a
 file_stays asked later adds name a b (content, is) e f = elim (adds name a b e f) [
   | inl same ↦ same
   | inr none ↦ (let isnt : bytes content ≡ absent = sym is ∙ none in cc isnt)
 ]
 
 -- where each answer was a file, no answer changed
-files_stay : (asked later : Pairs) → OnlyAddsAnswers asked later → ((name : Name) (reply : Reply) → answer_in asked name ≡ Some reply → IsFile reply) → AnswerAlike asked later
+files_stay : (asked later : Pairs) → OnlyAddsAnswers asked later
+    → ((name : Name) (reply : Reply) → answer_in asked name ≡ Some reply → IsFile reply) → AnswerAlike asked later
 files_stay asked later adds files name a b e f = sym (file_stays asked later adds name a b (files name a e) e f)
 
 -- ---- `versions`
 
-module _ (path : List ℕ) (all : Bool) (main : List ℕ) (sums : Option (List ℕ)) (asked later : Pairs) (one other : Outcome) (prints : HasPrinted one) (adds : OnlyAddsAnswers asked later)
+module _ (path : List ℕ) (all : Bool) (main : List ℕ) (sums : Option (List ℕ)) (asked later : Pairs)
+    (one other : Outcome) (prints : HasPrinted one) (adds : OnlyAddsAnswers asked later)
     (ends : VersionsEnds path all (answer_in asked) [] one) where
   abbrev both : AnswersByName
   both = both_of (answer_in asked) (answer_in later)
@@ -47,7 +50,8 @@ module _ (path : List ℕ) (all : Bool) (main : List ℕ) (sums : Option (List �
   later_kept : (name : Name) (reply : Reply) → VersionsNeed path all (answer_in later) name → answer_in later name ≡ Some reply → both name ≡ Some reply
   later_kept name reply need e =
       second_kept (answer_in asked name) (answer_in later name) reply
-      (λ before f. file_stays asked later adds name before reply (needed_is_file path all (answer_in asked) one prints ends name before (needed_before name need) f) f e) e
+      (λ before f. file_stays asked later adds name before reply
+      (needed_is_file path all (answer_in asked) one prints ends name before (needed_before name need) f) f e) e
 
   versions_again : VersionsEnds path all (answer_in later) [] other → other ≡ one
   versions_again also =

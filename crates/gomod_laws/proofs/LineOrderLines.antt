@@ -82,7 +82,8 @@ module _ {X : Type 0} (part : Directive → Option X) where
   some_part [] x there = absurd (no_member x there)
   some_part (d ∷ ds) x there = by_part (part d) refl there (some_part ds x)
     where
-      by_part : (o : Option X) → part d ≡ o → Contains (cons_option o (filter_map part ds)) x → (Contains (filter_map part ds) x → (e : Directive) × Contains ds e × (part e ≡ Some x))
+      by_part : (o : Option X) → part d ≡ o → Contains (cons_option o (filter_map part ds)) x
+          → (Contains (filter_map part ds) x → (e : Directive) × Contains ds e × (part e ≡ Some x))
           → (e : Directive) × Contains (d ∷ ds) e × (part e ≡ Some x)
       by_part None is inside rest = let (e, later, says) = rest inside in (e, member_tail d e ds later, says)
       by_part (Some y) is inside rest = elim (member_cases y x (filter_map part ds) inside) [
@@ -126,7 +127,8 @@ found_in : (test : Replacing → Bool) (rs : List Replacing) (r : Replacing) →
 found_in test [] r e = absurd cc
 found_in test (x ∷ rs) r e = by_test (test x) refl e (found_in test rs r)
   where
-    by_test : (b : Bool) → test x ≡ b → cond b (Some x) (find test rs) ≡ Some r → (find test rs ≡ Some r → Contains rs r × (test r ≡ true)) → Contains (x ∷ rs) r × (test r ≡ true)
+    by_test : (b : Bool) → test x ≡ b → cond b (Some x) (find test rs) ≡ Some r
+        → (find test rs ≡ Some r → Contains rs r × (test r ≡ true)) → Contains (x ∷ rs) r × (test r ≡ true)
     by_test true is f rest = let same : x ≡ r = cc in (subst (Contains (x ∷ rs)) same (member_head x rs), sym (ap test same) ∙ is)
     by_test false is f rest = let later = rest f in (member_tail x r rs later.0, later.1)
 
@@ -171,14 +173,16 @@ filter_from : (test : ModuleVersion → Bool) (xs : List ModuleVersion) (x : Mod
 filter_from test [] x there = absurd (no_member x there)
 filter_from test (y ∷ xs) x there = by_test (test y) refl there (filter_from test xs x)
   where
-    by_test : (b : Bool) → test y ≡ b → Contains (cond b (y ∷ filter test xs) (filter test xs)) x → (Contains (filter test xs) x → Contains xs x × (test x ≡ true)) → Contains (y ∷ xs) x × (test x ≡ true)
+    by_test : (b : Bool) → test y ≡ b → Contains (cond b (y ∷ filter test xs) (filter test xs)) x
+        → (Contains (filter test xs) x → Contains xs x × (test x ≡ true)) → Contains (y ∷ xs) x × (test x ≡ true)
     by_test true is inside rest = elim (member_cases y x (filter test xs) inside) [
       | inl same ↦ (subst (Contains (y ∷ xs)) same (member_head y xs), sym (ap test same) ∙ is)
       | inr later ↦ let more = rest later in (member_tail y x xs more.0, more.1)
     ]
     by_test false is inside rest = let more = rest inside in (member_tail y x xs more.0, more.1)
 
-filter_into : (test other : ModuleVersion → Bool) → ((x : ModuleVersion) → test x ≡ other x) → (xs ys : List ModuleVersion) → AreMembers xs ys → AreMembers (filter test xs) (filter other ys)
+filter_into : (test other : ModuleVersion → Bool) → ((x : ModuleVersion) → test x ≡ other x)
+    → (xs ys : List ModuleVersion) → AreMembers xs ys → AreMembers (filter test xs) (filter other ys)
 filter_into test other same xs ys into x there =
     let is = filter_from test xs x there in
     filter_in other ys x (into x is.0) (sym (same x) ∙ is.1)
@@ -198,17 +202,21 @@ module _ (ds : List Directive) (are : AreApart ds) where
   one_module p q here there =
       let (d, in_d, is_d) = some_part as_module ds p here in
       let (e, in_e, is_e) = some_part as_module ds q there in
-      let one : DeclaresModule p ≡ DeclaresModule q = one_of_two ds (DeclaresModule p) (DeclaresModule q) are (subst (Contains ds) (module_is d p is_d) in_d) (subst (Contains ds) (module_is e q is_e) in_e) refl in
+      let one : DeclaresModule p ≡ DeclaresModule q = one_of_two ds (DeclaresModule p) (DeclaresModule q) are
+      (subst (Contains ds) (module_is d p is_d) in_d) (subst (Contains ds) (module_is e q is_e) in_e) refl in
       cc
 
   one_go : (p q : List ℕ) → Contains (filter_map as_go ds) p → Contains (filter_map as_go ds) q → p ≡ q
   one_go p q here there =
       let (d, in_d, is_d) = some_part as_go ds p here in
       let (e, in_e, is_e) = some_part as_go ds q there in
-      let one : DeclaresGo p ≡ DeclaresGo q = one_of_two ds (DeclaresGo p) (DeclaresGo q) are (subst (Contains ds) (go_is d p is_d) in_d) (subst (Contains ds) (go_is e q is_e) in_e) refl in
+      let one : DeclaresGo p ≡ DeclaresGo q = one_of_two ds (DeclaresGo p) (DeclaresGo q) are
+      (subst (Contains ds) (go_is d p is_d) in_d) (subst (Contains ds) (go_is e q is_e) in_e) refl in
       cc
 
-  one_replaced : (left : Left) (r s : Replacing) → Contains (filter_map as_replacing ds) r → Contains (filter_map as_replacing ds) s → is_same_left left r.0 ≡ true → is_same_left left s.0 ≡ true → r.1 ≡ s.1
+  one_replaced : (left : Left) (r s : Replacing) → Contains (filter_map as_replacing ds) r
+      → Contains (filter_map as_replacing ds) s → is_same_left left r.0 ≡ true → is_same_left left s.0 ≡ true
+      → r.1 ≡ s.1
   one_replaced left r s here there is_r is_s =
       let (d, in_d, is_d) = some_part as_replacing ds r here in
       let (e, in_e, is_e) = some_part as_replacing ds s there in
@@ -229,20 +237,23 @@ module _ (ds : List Directive) (are : AreApart ds) where
 
 module _ (ds es : List Directive) (one : AreApart ds) (other : AreApart es) (into : AreMembers ds es) (back : AreMembers es ds) where
   modules : first (filter_map as_module ds) ≡ first (filter_map as_module es)
-  modules = one_first (filter_map as_module ds) (filter_map as_module es) (parts_into as_module ds es into) (parts_into as_module es ds back) (one_module es other)
+  modules = one_first (filter_map as_module ds) (filter_map as_module es) (parts_into as_module ds es into)
+      (parts_into as_module es ds back) (one_module es other)
 
   versions : first (filter_map as_go ds) ≡ first (filter_map as_go es)
   versions = one_first (filter_map as_go ds) (filter_map as_go es) (parts_into as_go ds es into) (parts_into as_go es ds back) (one_go es other)
 
   excluded : (x : ModuleVersion) → is_excluded (main_said ds) x ≡ is_excluded (main_said es) x
-  excluded x = same_any (λ (y : ModuleVersion). pair_eq y x) (filter_map as_exclusion ds) (filter_map as_exclusion es) (λ y. (parts_into as_exclusion ds es into y, parts_into as_exclusion es ds back y))
+  excluded x = same_any (λ (y : ModuleVersion). pair_eq y x) (filter_map as_exclusion ds) (filter_map as_exclusion es)
+      (λ y. (parts_into as_exclusion ds es into y, parts_into as_exclusion es ds back y))
 
   tests : (x : ModuleVersion) → not (is_excluded (main_said ds) x) ≡ not (is_excluded (main_said es) x)
   tests x = ap not (excluded x)
 
   rights : (left : Left) → right_for (filter_map as_replacing ds) left ≡ right_for (filter_map as_replacing es) left
   rights left =
-      one_right (λ (r : Replacing). is_same_left left r.0) (filter_map as_replacing ds) (filter_map as_replacing es) (parts_into as_replacing ds es into) (parts_into as_replacing es ds back)
+      one_right (λ (r : Replacing). is_same_left left r.0) (filter_map as_replacing ds) (filter_map as_replacing es)
+      (parts_into as_replacing ds es into) (parts_into as_replacing es ds back)
       (λ r s here there is_r is_s. one_replaced es other left r s here there is_r is_s)
 
   said_alike : SayTheSame (main_said ds) (main_said es)
@@ -250,15 +261,21 @@ module _ (ds es : List Directive) (one : AreApart ds) (other : AreApart es) (int
     path = ap (λ (o : Option (List ℕ)). unwrap_or o []) modules;
     pruned = ap (λ (o : Option (List ℕ)). is_pruned_by (unwrap_or (option_and_then (go_in Strict) o) (1, 16))) versions;
     required = λ x. (
-      filter_into (λ (y : ModuleVersion). not (is_excluded (main_said ds) y)) (λ (y : ModuleVersion). not (is_excluded (main_said es) y)) tests (filter_map as_requirement ds) (filter_map as_requirement es) (parts_into as_requirement ds es into) x,
-      filter_into (λ (y : ModuleVersion). not (is_excluded (main_said es) y)) (λ (y : ModuleVersion). not (is_excluded (main_said ds) y)) (λ y. sym (tests y)) (filter_map as_requirement es) (filter_map as_requirement ds) (parts_into as_requirement es ds back) x,
+      filter_into (λ (y : ModuleVersion). not (is_excluded (main_said ds) y))
+          (λ (y : ModuleVersion). not (is_excluded (main_said es) y)) tests (filter_map as_requirement ds)
+          (filter_map as_requirement es) (parts_into as_requirement ds es into) x,
+      filter_into (λ (y : ModuleVersion). not (is_excluded (main_said es) y))
+          (λ (y : ModuleVersion). not (is_excluded (main_said ds) y)) (λ y. sym (tests y))
+          (filter_map as_requirement es) (filter_map as_requirement ds) (parts_into as_requirement es ds back) x,
     );
     excluded = λ x. (parts_into as_exclusion ds es into x, parts_into as_exclusion es ds back x);
     replaced = λ x. ap₂ option_or (rights (left_with x.0 x.1)) (rights (left_without x.0));
   }
 
 -- valid lines that hold the same directives say the same
-say_the_same : (lines also : List (Line Placed)) → fault_of Strict (plain_lines lines) ≡ None → fault_of Strict (plain_lines also) ≡ None → HoldTheSame (plain_lines lines) (plain_lines also) → SayTheSame (main_of lines) (main_of also)
+say_the_same : (lines also : List (Line Placed)) → fault_of Strict (plain_lines lines) ≡ None
+    → fault_of Strict (plain_lines also) ≡ None → HoldTheSame (plain_lines lines) (plain_lines also)
+    → SayTheSame (main_of lines) (main_of also)
 say_the_same lines also none nothing hold =
     let one = faultless-apart (plain_lines lines) none in
     let other = faultless-apart (plain_lines also) nothing in
@@ -268,4 +285,5 @@ say_the_same lines also none nothing hold =
 pub lines_in_any_order : LinesInAnyOrder
 lines_in_any_order command file other lines also sums asked answered a b query is too hold alike one two =
     same_outcome command file other sums asked answered a b query
-    (queries_move file other sums (main_of lines) (main_of also) (lines, is, refl) (also, too, refl) (say_the_same lines also is.1 too.1 hold)) alike one.0 two.0
+    (queries_move file other sums (main_of lines) (main_of also) (lines, is, refl) (also, too, refl)
+    (say_the_same lines also is.1 too.1 hold)) alike one.0 two.0

@@ -14,9 +14,13 @@ use Rattle.gomod_laws.proofs.RunsAlike.{one_end}
 
 -- each outcome of a query over the one file is also one over the other
 abbrev pub QueriesMove : List ℕ → List ℕ → Option (List ℕ) → Type 0
-QueriesMove file other sums = (command : Command) (told : Answers) (outcome : Outcome) → QueryEnds (PrintsOf command) (given_of file sums told) outcome → QueryEnds (PrintsOf command) (given_of other sums told) outcome
+QueriesMove file other sums = (command : Command) (told : Answers) (outcome : Outcome)
+    → QueryEnds (PrintsOf command) (given_of file sums told) outcome
+    → QueryEnds (PrintsOf command) (given_of other sums told) outcome
 
-pub same_outcome : (command : Command) (file other : List ℕ) (sums : Option (List ℕ)) (asked answered : List (Name × Reply)) (a b : Outcome) → is_query command ≡ true → QueriesMove file other sums → AnswerAlike asked answered
+pub same_outcome : (command : Command) (file other : List ℕ) (sums : Option (List ℕ))
+    (asked answered : List (Name × Reply)) (a b : Outcome) → is_query command ≡ true → QueriesMove file other sums
+    → AnswerAlike asked answered
     → Ends command file sums asked a → Ends command other sums answered b → a ≡ b
 same_outcome command file other sums asked answered a b query moves alike one two =
     one_end command query (run_over other sums asked) (run_over other sums answered) a b (record { file = refl; sums = refl; answers = alike; failed = refl })

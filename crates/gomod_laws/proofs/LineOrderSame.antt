@@ -58,10 +58,12 @@ same_test true b into out = sym (into refl)
 same_test false true into out = out refl
 same_test false false into out = refl
 
-any_into : (test : ModuleVersion → Bool) (xs ys : List ModuleVersion) → ((x : ModuleVersion) → Contains xs x → Contains ys x) → list_any test xs ≡ true → list_any test ys ≡ true
+any_into : (test : ModuleVersion → Bool) (xs ys : List ModuleVersion)
+    → ((x : ModuleVersion) → Contains xs x → Contains ys x) → list_any test xs ≡ true → list_any test ys ≡ true
 any_into test xs ys into e = let (x, there, holds) = any_member test xs e in member_any test ys x (into x there) holds
 
-pub same_any : (test : ModuleVersion → Bool) (xs ys : List ModuleVersion) → ((x : ModuleVersion) → Contains xs x ↔ Contains ys x) → list_any test xs ≡ list_any test ys
+pub same_any : (test : ModuleVersion → Bool) (xs ys : List ModuleVersion)
+    → ((x : ModuleVersion) → Contains xs x ↔ Contains ys x) → list_any test xs ≡ list_any test ys
 same_any test xs ys same = same_test (list_any test xs) (list_any test ys) (any_into test xs ys (λ x. (same x).0)) (any_into test ys xs (λ x. (same x).1))
 
 -- ---- files and requirements
@@ -72,7 +74,8 @@ module _ (m n : Main) (same : SayTheSame m n) where
 
   pub without_same : (xs : List ModuleVersion) → without_excluded m xs ≡ without_excluded n xs
   without_same xs =
-      let tests : (λ (x : ModuleVersion). not (is_excluded m x)) ≡ (λ (x : ModuleVersion). not (is_excluded n x)) = fun_ext (λ (x : ModuleVersion). ap not (excluded_same x)) in
+      let tests : (λ (x : ModuleVersion). not (is_excluded m x)) ≡ (λ (x : ModuleVersion). not (is_excluded n x)) =
+      fun_ext (λ (x : ModuleVersion). ap not (excluded_same x)) in
       ap (λ (test : ModuleVersion → Bool). filter test xs) tests
 
   pub files_same : (x : ModuleVersion) → file_of m x ≡ file_of n x

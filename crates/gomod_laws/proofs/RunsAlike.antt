@@ -78,7 +78,8 @@ module _ (r s : Run) (alike : ReadAlike r s) where
     says_from : (said : Result Dependency Class) → Says s x said → Says r x said
     says_from said says =
         says_by s r x (sym (mains.replaced x))
-        (λ it is. name_from (file_of r.main x) file_needed it (subst (λ (name : Name). FileSays s name it) (sym (files_same r.main s.main mains x)) is)) said says
+        (λ it is. name_from (file_of r.main x) file_needed it
+        (subst (λ (name : Name). FileSays s name it) (sym (files_same r.main s.main mains x)) is)) said says
 
   requires_to : RequiresToo r s
   requires_to x y file is be says there =
@@ -172,7 +173,8 @@ module _ (r s : Run) (alike : ReadAlike r s) where
 
   -- ---- what is printed
 
-  same_text : (shown : List Entry) (outcome : Outcome) → outcome ≡ text_outcome (list_text r.main.path shown) → outcome ≡ text_outcome (list_text s.main.path shown)
+  same_text : (shown : List Entry) (outcome : Outcome) → outcome ≡ text_outcome (list_text r.main.path shown)
+      → outcome ≡ text_outcome (list_text s.main.path shown)
   same_text shown outcome says = subst (λ (path : List ℕ). outcome ≡ text_outcome (list_text path shown)) mains.path says
 
   rows_printed : (rows : List Entry) (after : Option (List ℕ)) (limit : Option ℕ) (outcome : Outcome)
@@ -183,7 +185,8 @@ module _ (r s : Run) (alike : ReadAlike r s) where
   rows_printed rows after limit outcome (path_unlisted path is (none, says)) =
       path_unlisted path is (subst (λ (own : List ℕ). HasEntryFor own rows path → ⊥) mains.path none, says)
 
-  chain_shown : (path : List ℕ) (rows : List Entry) (outcome : Outcome) → ShowsChain path r.main (IsEdge r) rows outcome → ShowsChain path s.main (IsEdge s) rows outcome
+  chain_shown : (path : List ℕ) (rows : List Entry) (outcome : Outcome) → ShowsChain path r.main (IsEdge r) rows outcome
+      → ShowsChain path s.main (IsEdge s) rows outcome
   chain_shown path rows outcome shows = subst (λ (own : List ℕ). ShowsChain path (with_path own s.main) (IsEdge s) rows outcome) mains.path (by shows)
     where
       by : ShowsChain path r.main (IsEdge r) rows outcome → ShowsChain path r.main (IsEdge s) rows outcome
@@ -192,7 +195,11 @@ module _ (r s : Run) (alike : ReadAlike r s) where
 
   -- what a query prints of the one run, it prints of the other
   pub prints_to : (command : Command) (outcome : Outcome) → PrintsOf command r outcome → PrintsOf command s outcome
-  prints_to Graph outcome (edges, are, says) = (edges, edges_to edges are, subst (λ (path : List ℕ). outcome ≡ text_outcome (graph_text path edges)) mains.path says)
+  prints_to Graph outcome (edges, are, says) = (
+    edges,
+    edges_to edges are,
+    subst (λ (path : List ℕ). outcome ≡ text_outcome (graph_text path edges)) mains.path says,
+  )
   prints_to (Rows after limit) outcome (rows, are, says) = (rows, rows_to rows are, rows_printed rows after limit outcome says)
   prints_to (Chain path) outcome (rows, are, shows) = (rows, rows_to rows are, chain_shown path rows outcome shows)
   prints_to Fmt outcome says = says

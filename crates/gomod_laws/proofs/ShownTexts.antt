@@ -29,7 +29,8 @@ at_is_no_blank : ◌≢◌ {A = ℕ} 64 32
 at_is_no_blank e = omega (arith, e)
 
 vertex_lacks : (x : ModuleVersion) → IsPath x.0 → IsVersion x.1 → Lacks 32 (vertex_text x)
-vertex_lacks x p v = both_lack 32 (x.0 ++ codes "@") x.1 (both_lack 32 x.0 (codes "@") (path_has_no_blank x.0 p) (at_is_no_blank, tt)) (version_has_no_blank x.1 v)
+vertex_lacks x p v = both_lack 32 (x.0 ++ codes "@") x.1
+    (both_lack 32 x.0 (codes "@") (path_has_no_blank x.0 p) (at_is_no_blank, tt)) (version_has_no_blank x.1 v)
 
 vertex_has_it : (x : ModuleVersion) → Lacks 64 (vertex_text x) → ⊥
 vertex_has_it x none = has_it 64 x.0 x.1 (subst (Lacks 64) (append_assoc x.0 (codes "@") x.1) none)
@@ -91,8 +92,10 @@ module _ (run : Given) (main : Main) where
     main_of_list more is none =
         let others : List Entry = map (entry_of main.replaces) shows.are.selected in
         let text : main.path ++ (10 ∷ list_text main.path others) ≡ path ++ (10 ∷ list_text path more) =
-        sym (first_row main.path others) ∙ ap (list_text main.path) (sym shows.are.entries_are) ∙ sym rows_text ∙ ap (list_text path) is ∙ first_row path more in
-        (cut_at 10 main.path path (list_text main.path others) (list_text path more) (path_has_no_feed main.path (own_path shows.table shows.found)) none text).0
+        sym (first_row main.path others) ∙ ap (list_text main.path) (sym shows.are.entries_are) ∙ sym rows_text
+        ∙ ap (list_text path) is ∙ first_row path more in
+        (cut_at 10 main.path path (list_text main.path others) (list_text path more)
+        (path_has_no_feed main.path (own_path shows.table shows.found)) none text).0
 
     pub rows_of_list : AreProperRows shown → main.path ≡ path → rows ≡ shown
     rows_of_list proper own =
@@ -106,10 +109,12 @@ module _ (run : Given) (main : Main) where
     graph_is : graph_text path shown ≡ graph_text main.path edges
     graph_is = same_text (graph_text path shown) (graph_text main.path edges) shows.prints
 
-    by_first : (es : List Edge) → edges ≡ es → (rest : List ℕ) → Lacks 32 path → Lacks 64 path → graph_text main.path es ≡ path ++ (32 ∷ rest) → main.path ≡ path
+    by_first : (es : List Edge) → edges ≡ es → (rest : List ℕ) → Lacks 32 path → Lacks 64 path
+        → graph_text main.path es ≡ path ++ (32 ∷ rest) → main.path ≡ path
     by_first [] is rest blank sign text = absurd (some_text path rest 32 text)
     by_first (one ∷ es) is rest blank sign text =
-        let proper = run_has_proper_edges run main shows.table edges shows.found.read shows.are one (subst (λ (all : List Edge). Contains all one) (sym is) (member_head one es)) in
+        let proper = run_has_proper_edges run main shows.table edges shows.found.read shows.are one
+        (subst (λ (all : List Edge). Contains all one) (sym is) (member_head one es)) in
         let cut = cut_at 32 (step_text main.path one.from) path (after_first main.path one.to es) rest
         (step_lacks main.path one.from (own_path shows.table shows.found) proper.0) blank (sym (first_edge main.path one.from one.to es) ∙ text) in
         step_is_main main.path path one.from sign cut.0
@@ -120,7 +125,8 @@ module _ (run : Given) (main : Main) where
 
     pub edges_of_graph : AreProperEdges shown → main.path ≡ path → edges ≡ shown
     edges_of_graph proper own =
-        text_says_edges main.path edges shown (own_path shows.table shows.found) (run_has_proper_edges run main shows.table edges shows.found.read shows.are) proper
+        text_says_edges main.path edges shown (own_path shows.table shows.found)
+        (run_has_proper_edges run main shows.table edges shows.found.read shows.are) proper
         (sym graph_is ∙ ap (λ (m : List ℕ). graph_text m shown) (sym own))
 
   -- ---- steps
@@ -135,9 +141,11 @@ module _ (run : Given) (main : Main) where
         let (rest, first) = chain_begins shows.are in
         let text : main.path ++ (10 ∷ chain_text main.path rest) ≡ path ++ (10 ∷ chain_text path more) =
         sym (first_step main.path rest) ∙ ap (chain_text main.path) (sym first) ∙ sym chain_is ∙ ap (chain_text path) is ∙ first_step path more in
-        (cut_at 10 main.path path (chain_text main.path rest) (chain_text path more) (path_has_no_feed main.path (own_path shows.table shows.found)) none text).0
+        (cut_at 10 main.path path (chain_text main.path rest) (chain_text path more)
+        (path_has_no_feed main.path (own_path shows.table shows.found)) none text).0
 
     pub steps_of_chain : AreProperSteps shown → main.path ≡ path → steps ≡ shown
     steps_of_chain proper own =
-        text_says_steps main.path steps shown (own_path shows.table shows.found) (run_has_proper_steps run main shows.table shows.last steps shows.found.read shows.are) proper
+        text_says_steps main.path steps shown (own_path shows.table shows.found)
+        (run_has_proper_steps run main shows.table shows.last steps shows.found.read shows.are) proper
         (sym chain_is ∙ ap (λ (m : List ℕ). chain_text m shown) (sym own))

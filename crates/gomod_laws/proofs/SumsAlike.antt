@@ -38,7 +38,8 @@ use Rattle.gomod_laws.proofs.SumsOutcomes.{QueryEndsOver, sum_table}
 abbrev HaveSame : List ℕ → List ℕ → List ℕ → List ℕ → Type 0
 HaveSame one other path version = (hash : List ℕ) → IsSum one path version hash ↔ IsSum other path version hash
 
-says_too : (one other path version hash : List ℕ) (sum : Sum) → HaveSame one other path version → SaysOfHash one path version hash sum → SaysOfHash other path version hash sum
+says_too : (one other path version hash : List ℕ) (sum : Sum) → HaveSame one other path version
+    → SaysOfHash one path version hash sum → SaysOfHash other path version hash sum
 says_too one other path version hash Unlisted same is = λ h there. is h ((same h).1 there)
 says_too one other path version hash Differs same is = (is.0, (same is.0).0 is.1, is.2)
 says_too one other path version hash Good same is = ((same hash).0 is.0, λ h there. is.1 h ((same h).1 there))
@@ -119,7 +120,8 @@ module _ (main one other : List ℕ) (asked others : List (Name × Reply)) (alik
 
     requires_too : RequiresToo one_run other_run
     requires_too x y file is be says there = (
-      says_by one_run other_run x refl (λ reading it. file_too (file_of said x) (λ ask. (x, is, refl, ask)) (λ ask. (x, be, refl, ask)) reading it) (Ok file) says,
+      says_by one_run other_run x refl (λ reading it. file_too (file_of said x) (λ ask. (x, is, refl, ask))
+          (λ ask. (x, be, refl, ask)) reading it) (Ok file) says,
       there,
     )
 
@@ -170,7 +172,8 @@ module _ (command : Command) (query : is_query command ≡ true) (main one other
   same_runs (faulty said None first more found says) = absurd found.read.sums
   same_runs (faulty said (Some t) first more found says) =
       let (u, tells) = table said found.read.main_file in
-      finish (faulty said (Some u) first more (found_too main one other asked others alike are said found.read.main_file t u found.read.sums tells (first ∷ more) found) says)
+      finish (faulty said (Some u) first more (found_too main one other asked others alike are said found.read.main_file
+      t u found.read.sums tells (first ∷ more) found) says)
   same_runs (no_fault said None found shows) = absurd found.read.sums
   same_runs (no_fault said (Some t) found shows) =
       let (u, tells) = table said found.read.main_file in
@@ -181,16 +184,19 @@ module _ (command : Command) (query : is_query command ≡ true) (main one other
 
 -- ---- the laws
 
-same_query : (command : Command) → is_query command ≡ true → (main one other : List ℕ) (asked others : List (Name × Reply)) (a b : Outcome) → AnswerAlike asked others
+same_query : (command : Command) → is_query command ≡ true
+    → (main one other : List ℕ) (asked others : List (Name × Reply)) (a b : Outcome) → AnswerAlike asked others
     → HaveSameSums main one other asked → Ends command main (Some one) asked a → Ends command main (Some other) others b → a ≡ b
 same_query command query main one other asked others a b alike are is be =
     same_runs command query main one other asked others a b alike are
     (query_ends (run_over main (Some other) others) b command query be)
     (query_ends (run_over main (Some one) asked) a command query is)
 
-same_sums_change_nothing : (command : Command) (main one other : List ℕ) (asked others : List (Name × Reply)) (a b : Outcome) → AnswerAlike asked others → HaveSameSums main one other asked
+same_sums_change_nothing : (command : Command) (main one other : List ℕ) (asked others : List (Name × Reply))
+    (a b : Outcome) → AnswerAlike asked others → HaveSameSums main one other asked
     → Ends command main (Some one) asked a → Ends command main (Some other) others b → a ≡ b
-same_sums_change_nothing Fmt main one other asked others a b alike are is be = same_unread Fmt main (Some one) (Some other) asked others a b alike (λ run. run) is be
+same_sums_change_nothing Fmt main one other asked others a b alike are is be =
+    same_unread Fmt main (Some one) (Some other) asked others a b alike (λ run. run) is be
 same_sums_change_nothing (Edit operations) main one other asked others a b alike are is be =
     same_unread (Edit operations) main (Some one) (Some other) asked others a b alike (λ run. run) is be
 same_sums_change_nothing (Versions path all) main one other asked others a b alike are is be =

@@ -52,7 +52,8 @@ module _ (path : List ℕ) (answers : AnswersByName) (list : List ℕ) (versions
   all_printed : is_fetchable path ≡ true → VersionsEnds path true answers [] outcome → outcome ≡ text_outcome (versions_line path versions)
   all_printed fetchable (device name need unanswered failed says) = absurd (cc failed)
   all_printed fetchable (no_list refused none) =
-      absurd (not_refused (answers (list_file path)) same (subst (λ (b : Bool). list_refusal path b (answers (list_file path)) ≡ Some outcome) fetchable refused))
+      absurd (not_refused (answers (list_file path)) same (subst
+      (λ (b : Bool). list_refusal path b (answers (list_file path)) ≡ Some outcome) fetchable refused))
   all_printed fetchable (bad_file others latest reply class says none told) = absurd (false≢true (sym says.is.some))
   all_printed fetchable (printed shown are none told) = told ∙ ap (λ (vs : List (List ℕ)). text_outcome (versions_line path vs)) (all_shown shown are)
 

@@ -41,7 +41,11 @@ module _ (run next : Given) (first second : Main) (table : Option Sums) (found :
   module _ (opens : OpensAsMuch) (sound : run.told.failed ≡ []) (prints : Prints) (outcome : Outcome) where
     not_many : (t : Option Sums) → AreSums run.sums t → AreTooMany (narrow t) → ⊥
     not_many t are (xs, long, opened) =
-        let few : length xs ≤ 65536 = found.settled.few xs (record { once = opened.once; each = λ x there. opens t (narrow_says t are) x (opened.each x there) }) in
+        let few : length xs ≤ 65536 = found.settled.few xs (record {
+          once = opened.once;
+          each =
+              λ x there. opens t (narrow_says t are) x (opened.each x there);
+        }) in
         omega (arith, long, few)
 
     not_faulty : (t : Option Sums) → AreSums run.sums t → (one : Fault) → IsFault (narrow t) one → ⊥
@@ -59,6 +63,7 @@ module _ (run next : Given) (first second : Main) (table : Option Sums) (found :
         absurd (not_many t are.sums (subst (λ (m : Main). AreTooMany (run_of m t run.told.asked)) (one_main run.file main first are.main_file says) many))
     prints_too (faulty main t one others is text) =
         let fault = (is.faults_are.each one).0 (member_head one others) in
-        absurd (not_faulty t is.read.sums one (subst (λ (m : Main). IsFault (run_of m t run.told.asked) one) (one_main run.file main first is.read.main_file says) fault))
+        absurd (not_faulty t is.read.sums one (subst (λ (m : Main). IsFault (run_of m t run.told.asked) one)
+        (one_main run.file main first is.read.main_file says) fault))
     prints_too (no_fault main t is shows) =
         subst (λ (m : Main). PrintsOver prints run m outcome) (one_main run.file main first is.read.main_file says) (t, is, shows)

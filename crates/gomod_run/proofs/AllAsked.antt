@@ -27,7 +27,8 @@ use Rattle.gm_store.specs.Taken.{SinkState}
 -- ---- each file that is needed is answered
 
 -- what the answers need by any reading of the two files, they need by this one
-graph_answered : (run : Given) (main : Main) (table : Option Sums) (faults : List Fault) → AreFound run main table faults → AnsweredAll (GraphNeeds run.file run.sums) (answer_in run.told.asked)
+graph_answered : (run : Given) (main : Main) (table : Option Sums) (faults : List Fault)
+    → AreFound run main table faults → AnsweredAll (GraphNeeds run.file run.sums) (answer_in run.told.asked)
 graph_answered run main table faults found name needs =
     let theirs : Run = run_of needs.main needs.table run.told.asked in
     let ours : Run = run_of main table run.told.asked in
@@ -37,15 +38,18 @@ graph_answered run main table faults found name needs =
 -- ---- what `versions` needs
 
 -- the list, if the path is fetchable, and the go.mod of the latest version, if that is needed
-shown_answered : (path : List ℕ) (all : Bool) (answers : AnswersByName) (shown : List (List ℕ)) → AreShown path all answers shown → AnsweredAll (VersionsNeed path all) answers
+shown_answered : (path : List ℕ) (all : Bool) (answers : AnswersByName) (shown : List (List ℕ))
+    → AreShown path all answers shown → AnsweredAll (VersionsNeed path all) answers
 shown_answered path all answers shown are name (inl (fetchable, same)) =
     let (versions, is) = shown_listed path all answers shown are in (bytes is.list, ap answers same ∙ is.answered)
-shown_answered path all answers shown (all_listed is every) name (inr (versions, latest, same, needed)) = absurd (none_needed path all answers shown versions latest is every needed)
+shown_answered path all answers shown (all_listed is every) name (inr (versions, latest, same, needed)) =
+    absurd (none_needed path all answers shown versions latest is every needed)
 shown_answered path all answers shown (not_retracted versions latest reply file intervals says retracted kept) name (inr (others, last, same, needed)) =
     (reply, ap answers (same ∙ ap (mod_file path) (one_latest path all answers others versions last latest needed says.is).1) ∙ says.answered)
 
 -- the report that there is no list has the status of a refusal
-pub refusal_status : (path : List ℕ) (fetchable : Bool) (answer : Option Reply) (outcome : Outcome) → list_refusal path fetchable answer ≡ Some outcome → outcome.status ≡ 1
+pub refusal_status : (path : List ℕ) (fetchable : Bool) (answer : Option Reply) (outcome : Outcome)
+    → list_refusal path fetchable answer ≡ Some outcome → outcome.status ≡ 1
 refusal_status path false answer outcome is = ap (λ (o : Outcome). o.status) (sym (same_Some _ outcome is))
 refusal_status path true (Some absent) outcome is = ap (λ (o : Outcome). o.status) (sym (same_Some _ outcome is))
 refusal_status path true (Some too_long) outcome is = ap (λ (o : Outcome). o.status) (sym (same_Some _ outcome is))
@@ -54,20 +58,25 @@ refusal_status path true None outcome is = absurd (cc is)
 
 -- ---- runs that are done
 
-query_done : (prints : Prints) (run : Given) (outcome : Outcome) → QueryEnds prints run outcome → outcome.status ≡ 0 → AnsweredAll (GraphNeeds run.file run.sums) (answer_in run.told.asked)
+query_done : (prints : Prints) (run : Given) (outcome : Outcome) → QueryEnds prints run outcome → outcome.status ≡ 0
+    → AnsweredAll (GraphNeeds run.file run.sums) (answer_in run.told.asked)
 query_done prints run outcome is done =
     let (main, table, found, says) = printed_run prints run outcome is done in graph_answered run main table [] found
 
-versions_done : (path : List ℕ) (all : Bool) (answers : AnswersByName) (failed : List Name) (outcome : Outcome) → VersionsEnds path all answers failed outcome → outcome.status ≡ 0
+versions_done : (path : List ℕ) (all : Bool) (answers : AnswersByName) (failed : List Name) (outcome : Outcome)
+    → VersionsEnds path all answers failed outcome → outcome.status ≡ 0
     → AnsweredAll (VersionsNeed path all) answers
-versions_done path all answers failed outcome (device name need unanswered some says) done = let code = ap (λ (o : Outcome). o.status) says in absurd (omega (arith, code, done))
+versions_done path all answers failed outcome (device name need unanswered some says) done = let code =
+    ap (λ (o : Outcome). o.status) says in absurd (omega (arith, code, done))
 versions_done path all answers failed outcome (no_list refused none) done =
     let code = refusal_status path (is_fetchable path) (answers (list_file path)) outcome refused in absurd (omega (arith, code, done))
-versions_done path all answers failed outcome (bad_file versions latest reply class says none told) done = let code = ap (λ (o : Outcome). o.status) told in absurd (omega (arith, code, done))
+versions_done path all answers failed outcome (bad_file versions latest reply class says none told) done = let code =
+    ap (λ (o : Outcome). o.status) told in absurd (omega (arith, code, done))
 versions_done path all answers failed outcome (printed shown are none told) done = shown_answered path all answers shown are
 
 -- a run of a command whose outcome has the status of a done run has all answers that it needs
-pub done_answers : (command : Command) (run : Given) (outcome : Outcome) → RunEnds command run outcome → outcome.status ≡ 0 → AnsweredAll (Needs command run.file run.sums) (answer_in run.told.asked)
+pub done_answers : (command : Command) (run : Given) (outcome : Outcome) → RunEnds command run outcome
+    → outcome.status ≡ 0 → AnsweredAll (Needs command run.file run.sums) (answer_in run.told.asked)
 done_answers Fmt run outcome is done = λ name need. absurd need
 done_answers (Edit operations) run outcome is done = λ name need. absurd need
 done_answers (Versions path all) run outcome is done = versions_done path all (answer_in run.told.asked) run.told.failed outcome is done
@@ -82,12 +91,15 @@ done_if_memory command run outcome (inl is) done = done_answers command run outc
 done_if_memory command run outcome (inr memory) done = let code = ap (λ (o : Outcome). o.status) memory in absurd (omega (arith, code, done))
 
 -- an outcome that was written with the status of a done run has that status
-pub written_done : (outcome : Outcome) (out out' report report' : SinkState) (status : ℕ) → IsWritten outcome out out' report report' status → status ≡ 0 → outcome.status ≡ 0
+pub written_done : (outcome : Outcome) (out out' report report' : SinkState) (status : ℕ)
+    → IsWritten outcome out out' report report' status → status ≡ 0 → outcome.status ≡ 0
 written_done outcome out out' report report' status (inl whole) done = sym whole.1 ∙ done
 written_done outcome out out' report report' status (inr part) done = absurd (omega (arith, part.1, done))
 
 -- what holds of an outcome holds of its writing
-pub held_written : (command : Command) (main : List ℕ) (sums : Option (List ℕ)) (before after : Name → Option Reply → Type 0) (old new : StoreState) (outcome : Outcome) (out out' report report' : SinkState) (status : ℕ)
+pub held_written : (command : Command) (main : List ℕ) (sums : Option (List ℕ))
+    (before after : Name → Option Reply → Type 0) (old new : StoreState) (outcome : Outcome)
+    (out out' report report' : SinkState) (status : ℕ)
     → IsWritten outcome out out' report report' status → HoldsAtAnyEnd command main sums before after old new outcome.status (λ reported. outcome ≡ reported)
     → HoldsAtAnyEnd command main sums before after old new status (λ reported. IsWritten reported out out' report report' status)
 held_written command main sums before after old new outcome out out' report report' status written holds = record {

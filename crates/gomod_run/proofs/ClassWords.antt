@@ -139,12 +139,15 @@ spread number kind =
 front_plain : Lacks 32 (codes "Malformed")
 front_plain = blank_lacked (codes "Malformed") refl
 
-says_malformed : (m n : ℕ) (one other : Misreading) → m ≤ 16777216 → n ≤ 16777216 → malformed_text m one ≡ malformed_text n other → Malformed m one ≡ Malformed n other
+says_malformed : (m n : ℕ) (one other : Misreading) → m ≤ 16777216 → n ≤ 16777216
+    → malformed_text m one ≡ malformed_text n other → Malformed m one ≡ Malformed n other
 says_malformed m n one other p q e =
-    let after = cut_at 32 (codes "Malformed") (codes "Malformed") (decimal m ++ 32 ∷ misreading_word one) (decimal n ++ 32 ∷ misreading_word other) front_plain front_plain
+    let after = cut_at 32 (codes "Malformed") (codes "Malformed") (decimal m ++ 32 ∷ misreading_word one)
+    (decimal n ++ 32 ∷ misreading_word other) front_plain front_plain
     (sym (spread m one) ∙ e ∙ spread n other) in
     let parts = cut_at 32 (decimal m) (decimal n) (misreading_word one) (misreading_word other) (number_lacks 32 m refl p) (number_lacks 32 n refl q) after.1 in
-    ap (λ (x : ℕ). Malformed x one) (decimal_injective m n (small m p) (small n q) parts.0) ∙ ap (λ (x : Misreading). Malformed n x) (says_misreading one other parts.1)
+    ap (λ (x : ℕ). Malformed x one) (decimal_injective m n (small m p) (small n q) parts.0)
+    ∙ ap (λ (x : Misreading). Malformed n x) (says_misreading one other parts.1)
 
 -- a text of such bytes is not that of a `Malformed`
 not_malformed : (word : List ℕ) (number : ℕ) (kind : Misreading) → list_all is_byte_of_word word ≡ true → word ≡ malformed_text number kind → ⊥

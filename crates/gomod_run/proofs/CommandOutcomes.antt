@@ -48,7 +48,8 @@ use Rattle.gomod_run.proofs.MainMisreading.{IsMalformed, main_refused}
 
 -- the case where the rows after a path are printed
 pub rest_printed : (main : Main) (rows others : List Entry) (path : List ℕ) (limit : Option ℕ) (outcome : Outcome) → IsRestAfter main.path rows path others
-    → OrNoMemory (λ outcome. outcome ≡ text_outcome (list_text main.path (up_to limit others))) outcome → OrNoMemory (PrintsRows main rows (Some path) limit) outcome
+    → OrNoMemory (λ outcome. outcome ≡ text_outcome (list_text main.path (up_to limit others))) outcome
+    → OrNoMemory (PrintsRows main rows (Some path) limit) outcome
 rest_printed main rows others path limit outcome is (inl says) = inl (path_listed path others refl is says)
 rest_printed main rows others path limit outcome is (inr none) = inr none
 
@@ -61,9 +62,11 @@ prints_for (Chain path) run asked loaded outcome is (inl (s, steps, entry, chain
     (loaded.rows, is.rows, inl (s, steps, entry, same_chain (among loaded.edges) (IsEdge run) (λ t y. is.edges.each (edge t y)) chain, says))
 prints_for (Chain path) run asked loaded outcome is (inr unlisted) = (loaded.rows, is.rows, inr unlisted)
 
-by_faults : (query : Query) (file : List ℕ) (sums : Option (List ℕ)) (main : Main) (table : Option Sums) (asked : List (Name × Reply)) (loaded : Loaded) (faults : List Fault) (outcome : Outcome)
+by_faults : (query : Query) (file : List ℕ) (sums : Option (List ℕ)) (main : Main) (table : Option Sums)
+    (asked : List (Name × Reply)) (loaded : Loaded) (faults : List Fault) (outcome : Outcome)
     → FilesReadAs file sums main table → IsLoaded (run_of main table asked) (names_in asked) loaded → faults ≡ loaded.faults
-    → ReportsFaultsOr faults (PrintsFound query main loaded outcome) outcome → QueryEnds (PrintsOf (command_of query)) (given_of file sums (answers_of asked [])) outcome
+    → ReportsFaultsOr faults (PrintsFound query main loaded outcome) outcome
+    → QueryEnds (PrintsOf (command_of query)) (given_of file sums (answers_of asked [])) outcome
 by_faults query file sums main table asked loaded [] outcome read is same told =
     no_fault main table
     (record { read = read; settled = is.settled; faults_are = subst (AreFaults (run_of main table asked)) (sym same) is.faults; none_failed = refl })
@@ -76,10 +79,12 @@ by_faults query file sums main table asked loaded (first ∷ others) outcome rea
 -- ---- what was read
 
 -- a main module's file that was not read refuses both
-pub main_told : (file : List ℕ) (sums : Option (List ℕ)) (fault : BytesFault) → IsBytesFault Strict file fault → OrNoMemory (IsRefusedRead file sums) (report_outcome (report_by_bytes fault))
+pub main_told : (file : List ℕ) (sums : Option (List ℕ)) (fault : BytesFault) → IsBytesFault Strict file fault
+    → OrNoMemory (IsRefusedRead file sums) (report_outcome (report_by_bytes fault))
 main_told file sums fault is = refused_main (main_refused file fault is)
   where
-    refused_main : OrNoMemory (IsMalformed file) (report_outcome (report_by_bytes fault)) → OrNoMemory (IsRefusedRead file sums) (report_outcome (report_by_bytes fault))
+    refused_main : OrNoMemory (IsMalformed file) (report_outcome (report_by_bytes fault))
+        → OrNoMemory (IsRefusedRead file sums) (report_outcome (report_by_bytes fault))
     refused_main (inl malformed) = inl (inl malformed)
     refused_main (inr none) = inr none
 
@@ -94,7 +99,8 @@ pub sums_ok : (sums : Option (List ℕ)) (r : Result (Option Sums) Report) (tabl
 sums_ok sums r table is match = subst (AreSumsRead sums) is match
 
 -- a go.sum that was not read refuses both, after a main module's file that was read
-pub sums_told : (file : List ℕ) (sums : Option (List ℕ)) (main : Main) (r : Result (Option Sums) Report) (told : Report) → IsMainFile file main → r ≡ Err told → AreSumsRead sums r
+pub sums_told : (file : List ℕ) (sums : Option (List ℕ)) (main : Main) (r : Result (Option Sums) Report) (told : Report)
+    → IsMainFile file main → r ≡ Err told → AreSumsRead sums r
     → OrNoMemory (IsRefusedRead file sums) (report_outcome told)
 sums_told file sums main r told is stops match = refused_sums (subst (AreSumsRead sums) stops match)
   where
@@ -110,7 +116,8 @@ abbrev pub IsBothRead : List ℕ → Option (List ℕ) → Result Read Report �
 IsBothRead file sums r =
     MatchResult r (λ both. FilesReadAs file sums (main_of both.main) both.table) (λ told. OrNoMemory (IsRefusedRead file sums) (report_outcome told))
 
-pub both_ok : (file : List ℕ) (sums : Option (List ℕ)) (r : Result Read Report) (x : Read) → r ≡ Ok x → IsBothRead file sums r → FilesReadAs file sums (main_of x.main) x.table
+pub both_ok : (file : List ℕ) (sums : Option (List ℕ)) (r : Result Read Report) (x : Read) → r ≡ Ok x
+    → IsBothRead file sums r → FilesReadAs file sums (main_of x.main) x.table
 both_ok file sums r x is match = subst (IsBothRead file sums) is match
 
 -- ---- what a run comes to
@@ -126,12 +133,14 @@ ReportsNoList command new outcome =
 
 module _ (command : Command) (file : List ℕ) (sums : Option (List ℕ)) (before after : Name → Option Reply → Type 0) (old new : StoreState) (outcome : Outcome)
     (in_turn : AskedInTurn (Needs command file sums) new.asked) (served : HasServed before after old new) (no_list : ReportsNoList command new outcome) where
-  comes : (failing : List Name) → new.refused ≡ old.refused ++ failing → OrNoMemory (RunEnds command (given_of file sums (answers_of new.asked failing))) outcome
+  comes : (failing : List Name) → new.refused ≡ old.refused ++ failing
+      → OrNoMemory (RunEnds command (given_of file sums (answers_of new.asked failing))) outcome
       → FailsInTurn (Needs command file sums) old new → ((name : Name) → failing ≡ name ∷ [] → outcome ≡ failure_outcome (device_line name))
       → ComesTo command file sums before after old new outcome
   comes failing grown ends fails reported =
       let ended : OrNoMemory (RunEnds command (run_between file sums old new)) outcome =
-      subst (λ (names : List Name). OrNoMemory (RunEnds command (given_of file sums (answers_of new.asked names))) outcome) (sym (failed_in old.refused new.refused failing grown)) ends in
+      subst (λ (names : List Name). OrNoMemory (RunEnds command (given_of file sums (answers_of new.asked names)))
+      outcome) (sym (failed_in old.refused new.refused failing grown)) ends in
       record {
         ends = ended;
         holds = record {
@@ -145,19 +154,24 @@ module _ (command : Command) (file : List ℕ) (sums : Option (List ℕ)) (befor
       }
 
   -- the device failed at no file
-  pub still_comes : new.refused ≡ old.refused → OrNoMemory (RunEnds command (given_of file sums (answers_of new.asked []))) outcome → ComesTo command file sums before after old new outcome
+  pub still_comes : new.refused ≡ old.refused → OrNoMemory
+      (RunEnds command (given_of file sums (answers_of new.asked []))) outcome
+      → ComesTo command file sums before after old new outcome
   still_comes still ends = comes [] (still ∙ sym (append-nil old.refused)) ends (inl still) (λ name same. cc same)
 
   -- it failed at a file that is needed
-  pub broken_comes : (name : Name) → new.refused ≡ old.refused ++ name ∷ [] → Needs command file sums (answer_in new.asked) name → answer_in new.asked name ≡ None
-      → RunEnds command (given_of file sums (answers_of new.asked (name ∷ []))) outcome → outcome ≡ failure_outcome (device_line name) → ComesTo command file sums before after old new outcome
+  pub broken_comes : (name : Name) → new.refused ≡ old.refused ++ name ∷ []
+      → Needs command file sums (answer_in new.asked) name → answer_in new.asked name ≡ None
+      → RunEnds command (given_of file sums (answers_of new.asked (name ∷ []))) outcome
+      → outcome ≡ failure_outcome (device_line name) → ComesTo command file sums before after old new outcome
   broken_comes name grown needed unanswered ends is =
       comes (name ∷ []) grown (inl ends) (inr (name, needed, unanswered, grown))
       (λ other tail. let same : name ≡ other = cc tail in is ∙ ap (λ (n : Name). failure_outcome (device_line n)) same)
 
 -- a run that asks for nothing
 pub unasked_comes : (command : Command) (file : List ℕ) (sums : Option (List ℕ)) (may : Name → Option Reply → Type 0) (state : StoreState) (outcome : Outcome)
-    → ((path : List ℕ) (all : Bool) → command ≡ Versions path all → ⊥) → state.asked ≡ [] → OrNoMemory (RunEnds command (given_of file sums (answers_of state.asked []))) outcome
+    → ((path : List ℕ) (all : Bool) → command ≡ Versions path all → ⊥) → state.asked ≡ []
+    → OrNoMemory (RunEnds command (given_of file sums (answers_of state.asked []))) outcome
     → ComesTo command file sums may may state state outcome
 unasked_comes command file sums may state outcome other none ends =
     still_comes command file sums may may state state outcome (none_in_turn (Needs command file sums) state.asked none) (nothing_served may state)
@@ -183,7 +197,8 @@ no_versions (Rows after limit) path all is = cc is
 no_versions (Chain named) path all is = cc is
 
 -- one of its files is invalid
-pub refused_read : (query : Query) (file : List ℕ) (sums : Option (List ℕ)) (may : Name → Option Reply → Type 0) (state : StoreState) (r : Result Read Report) (told : Report)
+pub refused_read : (query : Query) (file : List ℕ) (sums : Option (List ℕ)) (may : Name → Option Reply → Type 0)
+    (state : StoreState) (r : Result Read Report) (told : Report)
     → state.asked ≡ [] → r ≡ Err told → IsBothRead file sums r → ComesTo (command_of query) file sums may may state state (report_outcome told)
 refused_read query file sums may state r told none stops read =
     unasked_comes (command_of query) file sums may state (report_outcome told) (no_versions query) none (by (subst (IsBothRead file sums) stops read))
@@ -198,14 +213,18 @@ refused_read query file sums may state r told none stops read =
 
 -- both files are valid
 module _ (query : Query) (file : List ℕ) (sums : Option (List ℕ)) (main : Main) (table : Option Sums) (read : FilesReadAs file sums main table)
-    (before after : Name → Option Reply → Type 0) (old new : StoreState) (asks : AskedInTurn (LoadingNeeds main table) new.asked) (served : HasServed before after old new) where
+    (before after : Name → Option Reply → Type 0) (old new : StoreState)
+    (asks : AskedInTurn (LoadingNeeds main table) new.asked) (served : HasServed before after old new) where
   in_turn : AskedInTurn (Needs (command_of query) file sums) new.asked
-  in_turn = subst (λ (needs : AnswersByName → Name → Type 0). AskedInTurn needs new.asked) (sym (graph_needs query file sums)) (loading_in_turn file sums main table read asks)
+  in_turn = subst (λ (needs : AnswersByName → Name → Type 0). AskedInTurn needs new.asked)
+      (sym (graph_needs query file sums)) (loading_in_turn file sums main table read asks)
 
-  still : (outcome : Outcome) → new.refused ≡ old.refused ++ [] → OrNoMemory (QueryEnds (PrintsOf (command_of query)) (given_of file sums (answers_of new.asked []))) outcome
+  still : (outcome : Outcome) → new.refused ≡ old.refused ++ []
+      → OrNoMemory (QueryEnds (PrintsOf (command_of query)) (given_of file sums (answers_of new.asked []))) outcome
       → ComesTo (command_of query) file sums before after old new outcome
   still outcome same ends =
-      still_comes (command_of query) file sums before after old new outcome in_turn served (λ path all other is. absurd (no_versions query path all is)) (same ∙ append-nil old.refused) (by ends)
+      still_comes (command_of query) file sums before after old new outcome in_turn served
+      (λ path all other is. absurd (no_versions query path all is)) (same ∙ append-nil old.refused) (by ends)
     where
       by : OrNoMemory (QueryEnds (PrintsOf (command_of query)) (given_of file sums (answers_of new.asked []))) outcome
           → OrNoMemory (RunEnds (command_of query) (given_of file sums (answers_of new.asked []))) outcome
@@ -215,24 +234,34 @@ module _ (query : Query) (file : List ℕ) (sums : Option (List ℕ)) (main : Ma
   -- loading was refused
   pub not_loaded : (result : Result Loaded LoadFault) (fault : LoadFault) → result ≡ Err fault
       → (result ≡ Err load.TooMany → IsRead (run_of main table new.asked) × AreTooMany (run_of main table new.asked))
-      → ((name : FileName) → result ≡ Err (load.Device name) → IsDue (run_of main table new.asked) (name_of name)) → new.refused ≡ old.refused ++ refused_in result
+      → ((name : FileName) → result ≡ Err (load.Device name) → IsDue (run_of main table new.asked) (name_of name))
+      → new.refused ≡ old.refused ++ refused_in result
       → ComesTo (command_of query) file sums before after old new (report_outcome (report_by_load fault))
   not_loaded result fault is many due grown = by fault is (subst (λ r. new.refused ≡ old.refused ++ refused_in r) is grown)
     where
-      by : (fault : LoadFault) → result ≡ Err fault → new.refused ≡ old.refused ++ refused_names fault → ComesTo (command_of query) file sums before after old new (report_outcome (report_by_load fault))
+      by : (fault : LoadFault) → result ≡ Err fault → new.refused ≡ old.refused ++ refused_names fault
+          → ComesTo (command_of query) file sums before after old new (report_outcome (report_by_load fault))
       by load.NoMemory is same = still _ same (inr refl)
       by load.TooMany is same = still _ same (inl (let over = many is in too_many main table read over.0 over.1 refl refl))
       by (load.Device name) is one =
-          broken_comes (command_of query) file sums before after old new _ in_turn served (λ path all other is. absurd (no_versions query path all is)) (name_of name) one
-          (subst (λ (needs : AnswersByName → Name → Type 0). needs (answer_in new.asked) (name_of name)) (sym (graph_needs query file sums)) (loading_needs file sums main table read (answer_in new.asked) (name_of name) (due name is).calls))
-          (due name is).unasked (of_query query (given_of file sums (answers_of new.asked (name_of name ∷ []))) _ (device main table (name_of name) read (due name is) refl refl)) refl
+          broken_comes (command_of query) file sums before after old new _ in_turn served
+          (λ path all other is. absurd (no_versions query path all is)) (name_of name) one
+          (subst (λ (needs : AnswersByName → Name → Type 0). needs (answer_in new.asked) (name_of name))
+          (sym (graph_needs query file sums)) (loading_needs file sums main table read (answer_in new.asked)
+          (name_of name) (due name is).calls))
+          (due name is).unasked (of_query query (given_of file sums (answers_of new.asked (name_of name ∷ []))) _
+          (device main table (name_of name) read (due name is) refl refl)) refl
 
   -- loading found a graph
-  pub answered : (result : Result Loaded LoadFault) (loaded : Loaded) (outcome : Outcome) → result ≡ Ok loaded → IfOk result (IsLoaded (run_of main table new.asked) (names_in new.asked))
-      → new.refused ≡ old.refused ++ refused_in result → OrNoMemory (IsOutcomeOfFound query main loaded) outcome → ComesTo (command_of query) file sums before after old new outcome
+  pub answered : (result : Result Loaded LoadFault) (loaded : Loaded) (outcome : Outcome) → result ≡ Ok loaded
+      → IfOk result (IsLoaded (run_of main table new.asked) (names_in new.asked))
+      → new.refused ≡ old.refused ++ refused_in result → OrNoMemory (IsOutcomeOfFound query main loaded) outcome
+      → ComesTo (command_of query) file sums before after old new outcome
   answered result loaded outcome ok is grown told = still outcome (subst (λ r. new.refused ≡ old.refused ++ refused_in r) ok grown) (by told)
     where
-      by : OrNoMemory (IsOutcomeOfFound query main loaded) outcome → OrNoMemory (QueryEnds (PrintsOf (command_of query)) (given_of file sums (answers_of new.asked []))) outcome
+      by : OrNoMemory (IsOutcomeOfFound query main loaded) outcome
+          → OrNoMemory (QueryEnds (PrintsOf (command_of query)) (given_of file sums (answers_of new.asked []))) outcome
       by (inl told) =
-          inl (by_faults query file sums main table new.asked loaded loaded.faults outcome read (subst (λ r. IfOk r (IsLoaded (run_of main table new.asked) (names_in new.asked))) ok is) refl told)
+          inl (by_faults query file sums main table new.asked loaded loaded.faults outcome read
+          (subst (λ r. IfOk r (IsLoaded (run_of main table new.asked) (names_in new.asked))) ok is) refl told)
       by (inr memory) = inr memory

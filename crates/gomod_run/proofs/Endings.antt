@@ -26,9 +26,11 @@ ends_weaken one other out out' report report' status wider ends = record {
 }
 
 -- the end of the command that the words ask for is an end of these words
-pub words_end : (may_open : List ℕ → Opening → Type 0) (may_take : Opening → Type 0) (words : List (List ℕ)) (command : Command) (places : Places) (out out' report report' : SinkState) (status code : ℕ) → code ≡ status
+pub words_end : (may_open : List ℕ → Opening → Type 0) (may_take : Opening → Type 0) (words : List (List ℕ))
+    (command : Command) (places : Places) (out out' report report' : SinkState) (status code : ℕ) → code ≡ status
     → AskFor words command places
-    → EndsAsStated (IsServed may_open may_take command (string_bytes places.main) (option_map string_bytes places.sums) places.proxy) out out' report report' status
+    → EndsAsStated (IsServed may_open may_take command (string_bytes places.main) (option_map string_bytes places.sums)
+    places.proxy) out out' report report' status
     → EndsAsStated (IsWordsOutcome may_open may_take words) out out' report report' code
 words_end may_open may_take words command places out out' report report' status code same asked ends =
     let P : ℕ → Type 0 = λ n. EndsAsStated (IsWordsOutcome may_open may_take words) out out' report report' n in
@@ -36,10 +38,13 @@ words_end may_open may_take words command places out out' report report' status 
     (λ outcome stated. inr (command, places, asked, stated)) ends)
 
 -- an end that reports the words' usage error is an end of these words
-pub fault_ends : (may_open : List ℕ → Opening → Type 0) (may_take : Opening → Type 0) (words : List (List ℕ)) (fault : UsageFault) (out out' report report' : SinkState) (status : ℕ) → IsFaultOf words fault
-    → EndsAsStated (λ outcome. outcome ≡ usage_outcome fault) out out' report report' status → EndsAsStated (IsWordsOutcome may_open may_take words) out out' report report' status
+pub fault_ends : (may_open : List ℕ → Opening → Type 0) (may_take : Opening → Type 0) (words : List (List ℕ))
+    (fault : UsageFault) (out out' report report' : SinkState) (status : ℕ) → IsFaultOf words fault
+    → EndsAsStated (λ outcome. outcome ≡ usage_outcome fault) out out' report report' status
+    → EndsAsStated (IsWordsOutcome may_open may_take words) out out' report report' status
 fault_ends may_open may_take words fault out out' report report' status is ends =
-    ends_weaken (λ outcome. outcome ≡ usage_outcome fault) (IsWordsOutcome may_open may_take words) out out' report report' status (λ outcome same. inl (fault, is, same)) ends
+    ends_weaken (λ outcome. outcome ≡ usage_outcome fault) (IsWordsOutcome may_open may_take words) out out' report
+    report' status (λ outcome same. inl (fault, is, same)) ends
 
 -- texts are UTF-8, so their outcome is that of the words
 readable_outcome : (may_open : List ℕ → Opening → Type 0) (may_take : Opening → Type 0) (words : List (String Global)) (outcome : Outcome)
@@ -49,7 +54,9 @@ readable_outcome may_open may_take words outcome stated =
     subst (λ (unreadable : Option (List ℕ)). IsOutcomeUnless may_open may_take (map string_bytes words) unreadable outcome) (sym (all_readable words)) stated
 
 -- an end of the program's name and the given words, as a slice of texts, is an end of the program
-pub program_ends : (may_open : List ℕ → Opening → Type 0) (may_take : Opening → Type 0) (given : Option (List (List ℕ))) (texts slice : List (Bor (List ℕ))) (words lent : List (String Global)) (out out' report report' : SinkState) (status : ℕ)
+pub program_ends : (may_open : List ℕ → Opening → Type 0) (may_take : Opening → Type 0) (given : Option (List (List ℕ)))
+    (texts slice : List (Bor (List ℕ))) (words lent : List (String Global)) (out out' report report' : SinkState)
+    (status : ℕ)
     → AreGiven given (map string_bytes words) → map (λ text. text.now) texts ≡ codes "gomod" ∷ map string_bytes lent
     → EndsAsStated (IsWordsOutcome may_open may_take (map (λ text. text.now) slice)) out out' report report' status → lent ≡ words → slice ≡ texts
     → EndsAsStated (IsProgramOutcome may_open may_take given) out out' report report' status
@@ -64,9 +71,12 @@ program_ends may_open may_take given texts slice words lent out out' report repo
     )) ends
 
 -- an end that reports the first word which is not UTF-8 is an end of the program
-pub unreadable_ends : (may_open : List ℕ → Opening → Type 0) (may_take : Opening → Type 0) (given : Option (List (List ℕ))) (fault : UsageFault) (out out' report report' : SinkState) (status : ℕ) → IsUnreadableWords given fault
+pub unreadable_ends : (may_open : List ℕ → Opening → Type 0) (may_take : Opening → Type 0)
+    (given : Option (List (List ℕ))) (fault : UsageFault) (out out' report report' : SinkState) (status : ℕ)
+    → IsUnreadableWords given fault
     → IsWritten (usage_outcome fault) out out' report report' status → EndsAsStated (IsProgramOutcome may_open may_take given) out out' report report' status
-unreadable_ends may_open may_take given NoMemory out out' report report' status is written = record { outcome = out_of_memory; as_stated = inr refl; utf8 = IsUtf8-nil; written = written }
+unreadable_ends may_open may_take given NoMemory out out' report report' status is written =
+    record { outcome = out_of_memory; as_stated = inr refl; utf8 = IsUtf8-nil; written = written }
 unreadable_ends may_open may_take given (Line text) out out' report report' status (word, first, shown) written =
     let (words, are, unreadable) = first in
     let outcome : Outcome = usage_error (string_bytes text) in
@@ -82,7 +92,9 @@ unreadable_ends may_open may_take given (BadPath text) out out' report report' s
 unreadable_ends may_open may_take given (BadProxy text) out out' report report' status is written = absurd is
 
 -- the exit status is that of the program's end
-pub program_status : (may_open : List ℕ → Opening → Type 0) (may_take : Opening → Type 0) (given : Option (List (List ℕ))) (out out' report report' : SinkState) (status : ℕ) → EndsAsStated (IsProgramOutcome may_open may_take given) out out' report report' status
+pub program_status : (may_open : List ℕ → Opening → Type 0) (may_take : Opening → Type 0)
+    (given : Option (List (List ℕ))) (out out' report report' : SinkState) (status : ℕ)
+    → EndsAsStated (IsProgramOutcome may_open may_take given) out out' report report' status
     → IsProgramStatus may_open may_take given status
 program_status may_open may_take given out out' report report' status ends = elim ends.written [
   | inl whole ↦ elim ends.as_stated [

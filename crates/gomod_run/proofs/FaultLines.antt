@@ -64,4 +64,5 @@ text_says_faults faults others p q e =
 
 pub line_is_of_a_fault : LineIsOfAFault
 line_is_of_a_fault faults one p q there =
-    found_line fault_text IsProperFault says_fault faults one p q (subst (λ (ls : List (List ℕ)). Contains ls (fault_text one)) (report_has_lines faults p) there)
+    found_line fault_text IsProperFault says_fault faults one p q
+    (subst (λ (ls : List (List ℕ)). Contains ls (fault_text one)) (report_has_lines faults p) there)

@@ -26,7 +26,8 @@ in_or_out : (x : ModuleVersion) (all : List ModuleVersion) → Contains all x �
 in_or_out x [] = inr refl
 in_or_out x (first ∷ all) = by_test (pair_eq x first) refl (in_or_out x all)
   where
-    by_test : (b : Bool) → pair_eq x first ≡ b → Contains all x ⊎ (list_any (pair_eq x) all ≡ false) → Contains (first ∷ all) x ⊎ (list_any (pair_eq x) (first ∷ all) ≡ false)
+    by_test : (b : Bool) → pair_eq x first ≡ b → Contains all x ⊎ (list_any (pair_eq x) all ≡ false)
+        → Contains (first ∷ all) x ⊎ (list_any (pair_eq x) (first ∷ all) ≡ false)
     by_test true e rest = inl (subst (λ (z : ModuleVersion). Contains (z ∷ all) x) (pair-same x first e) (member_head x all))
     by_test false e (inl there) = inl (member_tail first x all there)
     by_test false e (inr out) = inr (ap (λ (b : Bool). b || list_any (pair_eq x) all) e ∙ out)
@@ -42,14 +43,17 @@ module _ (run : Run) (few : IsFew run) where
   abbrev AreAll : List ModuleVersion → Type 0
   AreAll all = (x : ModuleVersion) → IsOpened run x ↔ Contains all x
 
-  each_more : (all : List ModuleVersion) (x : ModuleVersion) → ((y : ModuleVersion) → Contains all y → IsOpened run y) → IsOpened run x → (y : ModuleVersion) → Contains (all ++ x ∷ []) y → IsOpened run y
+  each_more : (all : List ModuleVersion) (x : ModuleVersion) → ((y : ModuleVersion) → Contains all y → IsOpened run y)
+      → IsOpened run x → (y : ModuleVersion) → Contains (all ++ x ∷ []) y → IsOpened run y
   each_more all x each is y there = elim (Contains-push_cases all x y there) [ inl before ↦ each y before | inr same ↦ subst (IsOpened run) same is ]
 
-  in_full : (all : List ModuleVersion) (x : ModuleVersion) → (list_any (pair_eq x) all ≡ false → ⊥) → Contains all x ⊎ (list_any (pair_eq x) all ≡ false) → Contains all x
+  in_full : (all : List ModuleVersion) (x : ModuleVersion) → (list_any (pair_eq x) all ≡ false → ⊥)
+      → Contains all x ⊎ (list_any (pair_eq x) all ≡ false) → Contains all x
   in_full all x full (inl there) = there
   in_full all x full (inr out) = absurd (full out)
 
-  are_all : (all : List ModuleVersion) → ((y : ModuleVersion) → Contains all y → IsOpened run y) → ((x : ModuleVersion) → IsOpened run x → list_any (pair_eq x) all ≡ false → ⊥) → AreAll all
+  are_all : (all : List ModuleVersion) → ((y : ModuleVersion) → Contains all y → IsOpened run y)
+      → ((x : ModuleVersion) → IsOpened run x → list_any (pair_eq x) all ≡ false → ⊥) → AreAll all
   are_all all each full x = ((λ is. in_full all x (full x is) (in_or_out x all)), each x)
 
   pushed : (all : List ModuleVersion) (x : ModuleVersion) → IsDistinct pair_eq all → list_any (pair_eq x) all ≡ false → IsDistinct pair_eq (all ++ x ∷ [])
@@ -57,7 +61,9 @@ module _ (run : Run) (few : IsFew run) where
 
   -- Starting from a list of opened modules with room for `n` more: it can't be refuted that some list has exactly
   -- the opened modules.
-  opened_from : (n : ℕ) (all : List ModuleVersion) → IsDistinct pair_eq all → ((y : ModuleVersion) → Contains all y → IsOpened run y) → 65536 ≤ length all + n → ((whole : List ModuleVersion) → AreAll whole → ⊥) → ⊥
+  opened_from : (n : ℕ) (all : List ModuleVersion) → IsDistinct pair_eq all
+      → ((y : ModuleVersion) → Contains all y → IsOpened run y) → 65536 ≤ length all + n
+      → ((whole : List ModuleVersion) → AreAll whole → ⊥) → ⊥
   opened_from zero all distinct each long none =
       none all (are_all all each (λ x is out.
       let more = few (all ++ x ∷ []) (record { once = pushed all x distinct out; each = each_more all x each is }) in
@@ -74,7 +80,11 @@ module _ (run : Run) (few : IsFew run) where
 
   -- it can't be refuted that some list has what a module requires: if its file says something, that is one thing
   required_listed : (x : ModuleVersion) → ((ys : List ModuleVersion) → AreRequired x ys → ⊥) → ⊥
-  required_listed x none = none [] (λ y. ((λ (file, says, there). absurd (none (without_excluded run.main file.requirements) (of_file file says))), (λ there. absurd (no_member y there))))
+  required_listed x none = none [] (λ y. (
+    (λ (file, says, there).
+        absurd (none (without_excluded run.main file.requirements) (of_file file says))),
+    (λ there. absurd (no_member y there)),
+  ))
     where
       one_file : (file other : Dependency) → Says run x (Ok file) → Says run x (Ok other) → other ≡ file
       one_file file other says tells =
@@ -144,4 +154,7 @@ module _ (run : Run) (few : IsFew run) where
   -- so it can't be refuted that the edges are those of a list
   pub edges_listed : ((edges : List Edge) → AreSame (among edges) (IsEdge run) → ⊥) → ⊥
   edges_listed none = opened_from 65536 [] nothing_twice (λ y there. absurd (no_member y there)) (omega arith)
-      (λ all are. leaving all (λ edges same. none edges (λ s y. ((λ there. (leaves_edge all are s y).0 ((same s y).0 there)), (λ is. (same s y).1 ((leaves_edge all are s y).1 is))))))
+      (λ all are. leaving all (λ edges same. none edges (λ s y. (
+        (λ there. (leaves_edge all are s y).0 ((same s y).0 there)),
+        (λ is. (same s y).1 ((leaves_edge all are s y).1 is)),
+      ))))

@@ -36,7 +36,8 @@ version_lacks_at version is = lacks 64 is_byte_of_version refl version (version-
 
 pub says_vertex : (x y : ModuleVersion) → IsProperStep (Of x) → IsProperStep (Of y) → vertex_text x ≡ vertex_text y → x ≡ y
 says_vertex x y p q e =
-    let cut = cut_at 64 x.0 y.0 x.1 y.1 (path_lacks_at x.0 p.0) (path_lacks_at y.0 q.0) (sym (append_assoc x.0 (codes "@") x.1) ∙ e ∙ append_assoc y.0 (codes "@") y.1) in
+    let cut = cut_at 64 x.0 y.0 x.1 y.1 (path_lacks_at x.0 p.0) (path_lacks_at y.0 q.0)
+    (sym (append_assoc x.0 (codes "@") x.1) ∙ e ∙ append_assoc y.0 (codes "@") y.1) in
     ap (λ (path : List ℕ). (path, x.1)) cut.0 ∙ ap (λ (version : List ℕ). (y.0, version)) cut.1
 
 module _ (main : List ℕ) (is_path : IsPath main) where
@@ -69,7 +70,8 @@ module _ (main : List ℕ) (is_path : IsPath main) where
   says_edge one other p q e =
       let cut = cut_at 32 (step_text main one.from) (step_text main other.from) (vertex_text one.to) (vertex_text other.to)
       (step_lacks_blank one.from p.0) (step_lacks_blank other.from q.0)
-      (sym (append_assoc (step_text main one.from) (codes " ") (vertex_text one.to)) ∙ e ∙ append_assoc (step_text main other.from) (codes " ") (vertex_text other.to)) in
+      (sym (append_assoc (step_text main one.from) (codes " ") (vertex_text one.to)) ∙ e
+      ∙ append_assoc (step_text main other.from) (codes " ") (vertex_text other.to)) in
       let from : one.from ≡ other.from = says_step one.from other.from p.0 q.0 cut.0 in
       let to : one.to ≡ other.to = says_vertex one.to other.to p.1 q.1 cut.1 in
       ap (λ (s : Step). edge s one.to) from ∙ ap (λ (x : ModuleVersion). edge other.from x) to
@@ -82,11 +84,13 @@ line_says_edge main one other is p q e = says_edge main is one other p q e
 
 pub text_says_edges : TextSaysEdges
 text_says_edges main edges others is p q e =
-    same_are (edge_text main) IsProperEdge (says_edge main is) edges others p q (sym (graph_has_lines main edges is p) ∙ ap lines_of e ∙ graph_has_lines main others is q)
+    same_are (edge_text main) IsProperEdge (says_edge main is) edges others p q
+    (sym (graph_has_lines main edges is p) ∙ ap lines_of e ∙ graph_has_lines main others is q)
 
 pub line_is_of_an_edge : LineIsOfAnEdge
 line_is_of_an_edge main edges one is p q there =
-    found_line (edge_text main) IsProperEdge (says_edge main is) edges one p q (subst (λ (ls : List (List ℕ)). Contains ls (edge_text main one)) (graph_has_lines main edges is p) there)
+    found_line (edge_text main) IsProperEdge (says_edge main is) edges one p q
+    (subst (λ (ls : List (List ℕ)). Contains ls (edge_text main one)) (graph_has_lines main edges is p) there)
 
 pub chain_has_lines : ChainHasLines
 chain_has_lines main steps is proper = lines_are (step_text main) IsProperStep (step_has_no_feed main is) steps proper
@@ -96,8 +100,10 @@ line_says_step main one other is p q e = says_step main is one other p q e
 
 pub text_says_steps : TextSaysSteps
 text_says_steps main steps others is p q e =
-    same_are (step_text main) IsProperStep (says_step main is) steps others p q (sym (chain_has_lines main steps is p) ∙ ap lines_of e ∙ chain_has_lines main others is q)
+    same_are (step_text main) IsProperStep (says_step main is) steps others p q
+    (sym (chain_has_lines main steps is p) ∙ ap lines_of e ∙ chain_has_lines main others is q)
 
 pub line_is_of_a_step : LineIsOfAStep
 line_is_of_a_step main steps one is p q there =
-    found_line (step_text main) IsProperStep (says_step main is) steps one p q (subst (λ (ls : List (List ℕ)). Contains ls (step_text main one)) (chain_has_lines main steps is p) there)
+    found_line (step_text main) IsProperStep (says_step main is) steps one p q
+    (subst (λ (ls : List (List ℕ)). Contains ls (step_text main one)) (chain_has_lines main steps is p) there)

@@ -33,7 +33,8 @@ other_path x y below same = less_itself nat_list_cmp_total x.0 (subst (λ (path 
 -- a path occurs at most once in an ascending list
 one_member : (xs : List ModuleVersion) → IsAscending path_cmp xs → (x y : ModuleVersion) → Contains xs x → Contains xs y → x.0 ≡ y.0 → x ≡ y
 one_member [] up x y in_x in_y same = absurd (no_member x in_x)
-one_member (z ∷ xs) up x y in_x in_y same = by_places (member_cases z x xs in_x) (member_cases z y xs in_y) (λ a b. one_member xs (pairs_tail IsBelow z xs up) x y a b same)
+one_member (z ∷ xs) up x y in_x in_y same = by_places (member_cases z x xs in_x) (member_cases z y xs in_y)
+    (λ a b. one_member xs (pairs_tail IsBelow z xs up) x y a b same)
   where
     by_places : (z ≡ x) ⊎ Contains xs x → (z ≡ y) ⊎ Contains xs y → (Contains xs x → Contains xs y → x ≡ y) → x ≡ y
     by_places (inl a) (inl b) rest = sym a ∙ b
@@ -63,4 +64,8 @@ module _ (run : Run) (selected : List ModuleVersion) (are : AreGreatest run sele
 
 pub build_list_is_listed : BuildListIsListed
 build_list_is_listed run main table selected found greatest =
-    no_fault main table found (main_entry ∷ map (entry_of main.replaces) selected, as_build_list (run_of main table run.told.asked) selected greatest, no_path refl refl)
+    no_fault main table found (
+      main_entry ∷ map (entry_of main.replaces) selected,
+      as_build_list (run_of main table run.told.asked) selected greatest,
+      no_path refl refl,
+    )

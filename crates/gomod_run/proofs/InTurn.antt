@@ -11,7 +11,8 @@ abbrev Pairs : Type 0
 Pairs = List (Name × Reply)
 
 -- what is needed by one relation is needed by another
-wider_in_turn : (one other : AnswersByName → Name → Type 0) → ((answers : AnswersByName) (name : Name) → one answers name → other answers name) → {asked : Pairs}
+wider_in_turn : (one other : AnswersByName → Name → Type 0)
+    → ((answers : AnswersByName) (name : Name) → one answers name → other answers name) → {asked : Pairs}
     → AskedInTurn one asked → AskedInTurn other asked
 wider_in_turn one other wider nothing = nothing
 wider_in_turn one other wider (more {pairs} {name} reply asks needed unasked) =

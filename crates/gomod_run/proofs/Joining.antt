@@ -17,5 +17,6 @@ pub one_version_more : (path : List ℕ) (versions : List (Bor (List ℕ))) (i :
 one_version_more path versions i d less =
     let now = λ (version : Bor (List ℕ)). version.now in
     ap (λ (texts : List (List ℕ)). join_with_byte 32 (path ∷ texts))
-    (ap (λ (n : ℕ). map now (take n versions)) (add-one i) ∙ ap (map now) (take-suc versions i d less) ∙ map-append now (take i versions) (get_or versions i d ∷ []))
+    (ap (λ (n : ℕ). map now (take n versions)) (add-one i) ∙ ap (map now) (take-suc versions i d less)
+    ∙ map-append now (take i versions) (get_or versions i d ∷ []))
     ∙ join_with_byte-push 32 path (map now (take i versions)) (get_or versions i d).now

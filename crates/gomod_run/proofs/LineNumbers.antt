@@ -33,8 +33,10 @@ put_few b (line ∷ lines) = omega arith
 lines_few : (text : List ℕ) → length (lines_of text) ≤ length text
 lines_few [] = let none : length (lines_of []) ≡ 0 = ap (λ (ls : List (List ℕ)). length ls) lines_nil in omega (arith, none)
 lines_few (b ∷ text) = elim (cases_eq b 10) [
-  | inl feed ↦ let cut : length (lines_of (b ∷ text)) ≡ suc (length (lines_of text)) = ap (λ (ls : List (List ℕ)). length ls) (lines_cut b text feed) in omega (arith, cut, lines_few text)
-  | inr other ↦ let more : length (lines_of (b ∷ text)) ≡ length (put_first b (lines_of text)) = ap (λ (ls : List (List ℕ)). length ls) (lines_more b text other) in
+  | inl feed ↦ let cut : length (lines_of (b ∷ text)) ≡ suc (length (lines_of text)) =
+      ap (λ (ls : List (List ℕ)). length ls) (lines_cut b text feed) in omega (arith, cut, lines_few text)
+  | inr other ↦ let more : length (lines_of (b ∷ text)) ≡ length (put_first b (lines_of text)) =
+      ap (λ (ls : List (List ℕ)). length ls) (lines_more b text other) in
       omega (arith, more, put_few b (lines_of text), lines_few text)
 ]
 
@@ -45,14 +47,16 @@ read_few at (text ∷ texts) (line ∷ lines) finish (is, more) = let rest = rea
 
 -- ---- the line where reading stops
 
-next_number : (at : Place) (line : Line Word) → at.opened < at.number → ((after at line).number ≡ at.number + 1) × ((after at line).opened < (after at line).number)
+next_number : (at : Place) (line : Line Word) → at.opened < at.number
+    → ((after at line).number ≡ at.number + 1) × ((after at line).opened < (after at line).number)
 next_number at Blank below = (refl, omega (arith, below))
 next_number at (Comment text) below = (refl, omega (arith, below))
 next_number at (Open verb suffix) below = (refl, omega (arith, below))
 next_number at (Close suffix) below = (refl, omega (arith, below))
 next_number at (Entry words suffix) below = (refl, omega (arith, below))
 
-stops_below : (at : Place) (texts : List (List ℕ)) (lines : List (Line Word)) (number : ℕ) (kind : SyntaxKind) → at.opened < at.number → ReadsLines at texts lines (Faulty number kind)
+stops_below : (at : Place) (texts : List (List ℕ)) (lines : List (Line Word)) (number : ℕ) (kind : SyntaxKind)
+    → at.opened < at.number → ReadsLines at texts lines (Faulty number kind)
     → number < at.number + length texts
 stops_below at [] [] number kind below (inside, is, block) = omega (arith, below, is)
 stops_below at (text ∷ texts) [] number kind below (is, has) = omega (arith, is)
@@ -64,13 +68,15 @@ stops_below at (text ∷ texts) (line ∷ lines) number kind below (is, more) =
 
 -- ---- the line of a directive
 
-placed_few : (mode : Mode) (before seats : List (LineInBlock Word)) (one : Fault) → Contains (flat_map (faults_after mode) (with_before_from before seats)) one → one.0 ≤ length before + length seats
+placed_few : (mode : Mode) (before seats : List (LineInBlock Word)) (one : Fault)
+    → Contains (flat_map (faults_after mode) (with_before_from before seats)) one → one.0 ≤ length before + length seats
 placed_few mode before [] one there = absurd (no_member one there)
 placed_few mode before (seat ∷ seats) one there =
     let next = before ++ seat ∷ [] in
     let size : length next ≡ length before + 1 = length-append before (seat ∷ []) in
     elim (Contains-append_cases (faults_after mode (before, seat)) (flat_map (faults_after mode) (with_before_from next seats)) one there) [
-      | inl here ↦ (let (kind, inside, is) = from_mapped (λ (kind : DirectiveKind). (length before + 1, kind)) (item_kinds mode (filter_map (directive_said mode) before) (item_at seat)) one here in
+      | inl here ↦ (let (kind, inside, is) = from_mapped (λ (kind : DirectiveKind). (length before + 1, kind))
+          (item_kinds mode (filter_map (directive_said mode) before) (item_at seat)) one here in
           let number : length before + 1 ≡ one.0 = ap (λ (f : Fault). f.0) is in
           omega (arith, number))
       | inr later ↦ (let rest = placed_few mode next seats one later in omega (arith, size, rest))

@@ -100,7 +100,8 @@ module _ {X : Type 0} (text : X → List ℕ) (IsProper : X → Type 0) where
       ∙ ended_line (text x) behind (plain x (proper x (member_head x xs)))
       ∙ ap (λ (ls : List (List ℕ)). text x ∷ ls) (lines_are plain xs (λ y there. proper y (member_tail x y xs there)))
 
-  pub same_are : ((x y : X) → IsProper x → IsProper y → text x ≡ text y → x ≡ y) → (xs ys : List X) → AreProper xs → AreProper ys → map text xs ≡ map text ys → xs ≡ ys
+  pub same_are : ((x y : X) → IsProper x → IsProper y → text x ≡ text y → x ≡ y) → (xs ys : List X) → AreProper xs
+      → AreProper ys → map text xs ≡ map text ys → xs ≡ ys
   same_are says [] [] p q e = refl
   same_are says [] (y ∷ ys) p q e = absurd (cc e)
   same_are says (x ∷ xs) [] p q e = absurd (cc e)
@@ -110,7 +111,8 @@ module _ {X : Type 0} (text : X → List ℕ) (IsProper : X → Type 0) where
       ap (λ (z : X). z ∷ xs) (says x y (p x (member_head x xs)) (q y (member_head y ys)) first)
       ∙ ap (λ (zs : List X). y ∷ zs) (same_are says xs ys (λ z there. p z (member_tail x z xs there)) (λ z there. q z (member_tail y z ys there)) later)
 
-  pub found_line : ((x y : X) → IsProper x → IsProper y → text x ≡ text y → x ≡ y) → (xs : List X) (y : X) → AreProper xs → IsProper y → Contains (map text xs) (text y) → Contains xs y
+  pub found_line : ((x y : X) → IsProper x → IsProper y → text x ≡ text y → x ≡ y) → (xs : List X) (y : X)
+      → AreProper xs → IsProper y → Contains (map text xs) (text y) → Contains xs y
   found_line says xs y p q there =
       let (x, inside, same) = from_mapped text xs (text y) there in
       subst (λ (z : X). Contains xs z) (says x y (p x inside) q same) inside
@@ -154,7 +156,8 @@ says_right (Folder text) (Folder second) p q e = ap Folder e
 says_right (Folder text) (Module path version) p q e = absurd (folder_is_no_module text path version p.0 q.0 e)
 says_right (Module path version) (Folder text) p q e = absurd (folder_is_no_module text path version q.0 p.0 (sym e))
 says_right (Module path version) (Module second at) p q e =
-    let cut = cut_at 32 path second version at (path_has_no_blank path p.0) (path_has_no_blank second q.0) (sym (append_assoc path (codes " ") version) ∙ e ∙ append_assoc second (codes " ") at) in
+    let cut = cut_at 32 path second version at (path_has_no_blank path p.0) (path_has_no_blank second q.0)
+    (sym (append_assoc path (codes " ") version) ∙ e ∙ append_assoc second (codes " ") at) in
     ap (λ (x : List ℕ). Module x version) cut.0 ∙ ap (λ (x : List ℕ). Module second x) cut.1
 
 after_mark : (a b : List ℕ) → codes " => " ++ a ≡ codes " => " ++ b → a ≡ b
@@ -184,9 +187,11 @@ module _ (main : List ℕ) (is_path : IsPath main) where
   says_row (Of x, r) (Of y, s) p q e =
       let after = cut_at 32 x.0 y.0 (x.1 ++ replacement_suffix r) (y.1 ++ replacement_suffix s) (path_has_no_blank x.0 p.0) (path_has_no_blank y.0 q.0)
       (sym (spread x.0 x.1 (replacement_suffix r)) ∙ e ∙ spread y.0 y.1 (replacement_suffix s)) in
-      let ends = cut_end 32 x.1 y.1 (replacement_suffix r) (replacement_suffix s) (version_has_no_blank x.1 p.1) (version_has_no_blank y.1 q.1) (suffix_ends r) (suffix_ends s) after.1 in
+      let ends = cut_end 32 x.1 y.1 (replacement_suffix r) (replacement_suffix s) (version_has_no_blank x.1 p.1)
+      (version_has_no_blank y.1 q.1) (suffix_ends r) (suffix_ends s) after.1 in
       let right : r ≡ s = says_suffix r s p.2 q.2 ends.1 in
-      ap (λ (path : List ℕ). (Of (path, x.1), r)) after.0 ∙ ap (λ (version : List ℕ). (Of (y.0, version), r)) ends.0 ∙ ap (λ (o : Option Right). (Of y, o)) right
+      ap (λ (path : List ℕ). (Of (path, x.1), r)) after.0 ∙ ap (λ (version : List ℕ). (Of (y.0, version), r)) ends.0
+      ∙ ap (λ (o : Option Right). (Of y, o)) right
 
 pub list_has_lines : ListHasLines
 list_has_lines main rows is proper = lines_are (row_text main) IsProperRow (row_has_no_feed main is) rows proper
@@ -196,8 +201,10 @@ line_says_row main one other is p q e = says_row main is one other p q e
 
 pub text_says_rows : TextSaysRows
 text_says_rows main rows others is p q e =
-    same_are (row_text main) IsProperRow (says_row main is) rows others p q (sym (list_has_lines main rows is p) ∙ ap lines_of e ∙ list_has_lines main others is q)
+    same_are (row_text main) IsProperRow (says_row main is) rows others p q
+    (sym (list_has_lines main rows is p) ∙ ap lines_of e ∙ list_has_lines main others is q)
 
 pub line_is_of_a_row : LineIsOfARow
 line_is_of_a_row main rows one is p q there =
-    found_line (row_text main) IsProperRow (says_row main is) rows one p q (subst (λ (ls : List (List ℕ)). Contains ls (row_text main one)) (list_has_lines main rows is p) there)
+    found_line (row_text main) IsProperRow (says_row main is) rows one p q
+    (subst (λ (ls : List (List ℕ)). Contains ls (row_text main one)) (list_has_lines main rows is p) there)

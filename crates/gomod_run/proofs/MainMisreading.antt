@@ -12,6 +12,7 @@ use Rattle.gomod_run.specs.Reports.{FaultPlace, main_line}
 abbrev pub IsMalformed : List ℕ → Outcome → Type 0
 IsMalformed content outcome = (place : FaultPlace) × IsMisread Strict content place.0 place.1 × (outcome ≡ refusal_outcome (main_line place))
 
-pub main_refused : (content : List ℕ) (fault : BytesFault) → IsBytesFault Strict content fault → OrNoMemory (IsMalformed content) (report_outcome (report_by_bytes fault))
+pub main_refused : (content : List ℕ) (fault : BytesFault) → IsBytesFault Strict content fault
+    → OrNoMemory (IsMalformed content) (report_outcome (report_by_bytes fault))
 main_refused content bytes.NoMemory is = inr refl
 main_refused content (bytes.Misread number kind) is = inl ((number, kind), is, refl)

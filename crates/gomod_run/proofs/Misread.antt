@@ -17,6 +17,7 @@ fmt_broken bytes syntax.NotUtf8 parsed = bad_syntax syntax.NotUtf8 (0, misreadin
 fmt_broken bytes (syntax.Syntax number kind) parsed = bad_syntax (syntax.Syntax number kind) (number, misreading.Syntax kind) parsed refl refl
 
 -- the same, or that memory ran out
-pub fmt_misread : (bytes : List ℕ) (fault : SyntaxFault) → IsFaultOrNoMemory bytes fault → OrNoMemory (FmtEnds bytes) (report_outcome (report_by_bytes (fault_by_syntax fault)))
+pub fmt_misread : (bytes : List ℕ) (fault : SyntaxFault) → IsFaultOrNoMemory bytes fault
+    → OrNoMemory (FmtEnds bytes) (report_outcome (report_by_bytes (fault_by_syntax fault)))
 fmt_misread bytes fault (inl parsed) = inl (fmt_broken bytes fault parsed)
 fmt_misread bytes fault (inr none) = inr (ap (λ (f : SyntaxFault). report_outcome (report_by_bytes (fault_by_syntax f))) none)

@@ -29,7 +29,8 @@ one_graph after limit path run graph list chain is_graph is_list is_chain ends =
         build_list = same_build_list main.path main.replaces here (among edges) rows among_here listed;
         graph_is = says;
         list_is = shows;
-        chain_is = shown_by path main here (among edges) rows chain among_here (subst (λ (es : List Entry). ShowsChain path main here es chain) rows_same tells);
+        chain_is = shown_by path main here (among edges) rows chain among_here
+            (subst (λ (es : List Entry). ShowsChain path main here es chain) rows_same tells);
       },
     )
 

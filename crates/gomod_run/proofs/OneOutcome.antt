@@ -19,7 +19,8 @@ use Rattle.gomod_run.proofs.OneQueryStore.{alike_reversed, itself, read_as_well,
 
 -- ---- when both files are valid
 
-one_told : (faults : List Fault) (prints others : Outcome → Type 0) (a b : Outcome) → (prints a → others b → a ≡ b) → ReportsFaultsOr faults (prints a) a → ReportsFaultsOr faults (others b) b → a ≡ b
+one_told : (faults : List Fault) (prints others : Outcome → Type 0) (a b : Outcome) → (prints a → others b → a ≡ b)
+    → ReportsFaultsOr faults (prints a) a → ReportsFaultsOr faults (others b) b → a ≡ b
 one_told [] prints others a b once is other = once is other
 one_told (first ∷ faults) prints others a b once is other = is ∙ sym other
 
@@ -30,7 +31,8 @@ one_failure : (names : List Name) (n m : Name) → names ≡ n ∷ [] → names 
 one_failure names n m is other = let same : n ∷ [] ≡ m ∷ [] = sym is ∙ other in cc same
 
 -- too many modules are opened by the one run, so the other can't have found the faults of all
-not_many : (one other : Given) (main again : Main) (table next : Option Sums) (faults : List Fault) → AreAlike one other → FilesReadAs one.file one.sums main table
+not_many : (one other : Given) (main again : Main) (table next : Option Sums) (faults : List Fault) → AreAlike one other
+    → FilesReadAs one.file one.sums main table
     → AreTooMany (run_of main table one.told.asked) → AreFound other again next faults → ⊥
 not_many one other main again table next faults alike read many found =
     let r = run_of main table one.told.asked in
@@ -45,7 +47,8 @@ module _ (prints : Prints) (once : PrintsOnce prints) (one other : Given) (main 
   back = alike_reversed one other alike
 
   both_known : (faults others : List Fault) → AreFound one main table faults → AreFound other again next others
-      → ReportsFaultsOr faults (prints (run_of main table one.told.asked) a) a → ReportsFaultsOr others (prints (run_of again next other.told.asked) b) b → a ≡ b
+      → ReportsFaultsOr faults (prints (run_of main table one.told.asked) a) a
+      → ReportsFaultsOr others (prints (run_of again next other.told.asked) b) b → a ≡ b
   both_known faults others found finds says tells =
       let r = run_of main table one.told.asked in
       let s = run_of again next other.told.asked in
@@ -63,45 +66,57 @@ module _ (prints : Prints) (once : PrintsOnce prints) (one other : Given) (main 
   one_loading_end (is_broken name due some says) (is_many sees over none tells) = absurd (not_broken one.told.failed name some (alike.failed ∙ none))
   one_loading_end (is_broken name due some says) (is_broken late dues more tells) =
       says ∙ ap (λ (n : Name). failure_outcome (device_line n)) (one_failure one.told.failed name late some (alike.failed ∙ more)) ∙ sym tells
-  one_loading_end (is_broken name due some says) (is_known faults finds tells) = absurd (not_broken one.told.failed name some (alike.failed ∙ finds.none_failed))
+  one_loading_end (is_broken name due some says) (is_known faults finds tells) =
+      absurd (not_broken one.told.failed name some (alike.failed ∙ finds.none_failed))
   one_loading_end (is_known faults found says) (is_many sees over none tells) = absurd (not_many other one again main next table faults back reads over found)
-  one_loading_end (is_known faults found says) (is_broken name due some tells) = absurd (not_broken other.told.failed name some (sym alike.failed ∙ found.none_failed))
+  one_loading_end (is_known faults found says) (is_broken name due some tells) =
+      absurd (not_broken other.told.failed name some (sym alike.failed ∙ found.none_failed))
   one_loading_end (is_known faults found says) (is_known others finds tells) = both_known faults others found finds says tells
 
 -- ---- when a file is invalid
 
 one_refusal : (file : List ℕ) (sums : Option (List ℕ)) (a b : Outcome) → IsRefusedRead file sums a → IsRefusedRead file sums b → a ≡ b
-one_refusal file sums a b (inl (here, misread, says)) (inl (there, other, tells)) = says ∙ ap (λ (place : FaultPlace). refusal_outcome (main_line place)) (one_place file here there misread other) ∙ sym tells
+one_refusal file sums a b (inl (here, misread, says)) (inl (there, other, tells)) =
+    says ∙ ap (λ (place : FaultPlace). refusal_outcome (main_line place)) (one_place file here there misread other)
+    ∙ sym tells
 one_refusal file sums a b (inl (here, misread, says)) (inr (main, report, is, other, tells)) = absurd (misread_or_main file here main misread is)
 one_refusal file sums a b (inr (main, report, is, misread, says)) (inl (there, other, tells)) = absurd (misread_or_main file there main other is)
-one_refusal file sums a b (inr (main, report, is, misread, says)) (inr (again, line, be, other, tells)) = says ∙ ap refusal_outcome (one_misreport sums report line misread other) ∙ sym tells
+one_refusal file sums a b (inr (main, report, is, misread, says)) (inr (again, line, be, other, tells)) =
+    says ∙ ap refusal_outcome (one_misreport sums report line misread other) ∙ sym tells
 
-not_refused : (run : Given) (outcome : Outcome) (main : Main) (table : Option Sums) → IsRefusedRead run.file run.sums outcome → FilesReadAs run.file run.sums main table → ⊥
+not_refused : (run : Given) (outcome : Outcome) (main : Main) (table : Option Sums)
+    → IsRefusedRead run.file run.sums outcome → FilesReadAs run.file run.sums main table → ⊥
 not_refused run outcome main table (inl (place, misread, says)) are = misread_or_main run.file place main misread are.main_file
 not_refused run outcome main table (inr (other, report, is, misread, says)) are = misread_or_sums run.sums report table misread are.sums
 
-refused_alike : (one other : Given) (outcome : Outcome) → AreAlike one other → IsRefusedRead one.file one.sums outcome → IsRefusedRead other.file other.sums outcome
+refused_alike : (one other : Given) (outcome : Outcome) → AreAlike one other → IsRefusedRead one.file one.sums outcome
+    → IsRefusedRead other.file other.sums outcome
 refused_alike one other outcome alike is =
-    subst (λ (sums : Option (List ℕ)). IsRefusedRead other.file sums outcome) alike.sums (subst (λ (bytes : List ℕ). IsRefusedRead bytes one.sums outcome) alike.file is)
+    subst (λ (sums : Option (List ℕ)). IsRefusedRead other.file sums outcome) alike.sums
+    (subst (λ (bytes : List ℕ). IsRefusedRead bytes one.sums outcome) alike.file is)
 
 -- ---- a run
 
-pub one_end : (prints : Prints) → PrintsOnce prints → (one other : Given) (a b : Outcome) → AreAlike one other → QueryEnds prints one a → QueryEnds prints other b → a ≡ b
+pub one_end : (prints : Prints) → PrintsOnce prints → (one other : Given) (a b : Outcome) → AreAlike one other
+    → QueryEnds prints one a → QueryEnds prints other b → a ≡ b
 one_end prints once one other a b alike is be = by (parts prints one a is) (parts prints other b be)
   where
     by : Parts prints one a → Parts prints other b → a ≡ b
     by (unread is none) (unread be nothing) = one_refusal other.file other.sums a b (refused_alike one other a alike is) be
     by (unread is none) (are_read main table are over) = absurd (not_refused other a main table (refused_alike one other a alike is) are)
     by (are_read main table are over) (unread be nothing) = absurd (not_refused other b main table be (read_as_well one other main table alike are))
-    by (are_read main table are over) (are_read again next were beyond) = one_loading_end prints once one other main again table next a b alike are were over beyond
+    by (are_read main table are over) (are_read again next were beyond) =
+        one_loading_end prints once one other main again table next a b alike are were over beyond
 
 pub ends_once : (prints : Prints) → PrintsOnce prints → (run : Given) (a b : Outcome) → QueryEnds prints run a → QueryEnds prints run b → a ≡ b
 ends_once prints once run a b is be = one_end prints once run run a b (itself run) is be
 
 -- ---- what one command finds, the others find
 
-module _ (prints : Prints) (once : PrintsOnce prints) (run : Given) (main : Main) (table : Option Sums) (found : AreFound run main table []) (outcome : Outcome) where
-  also_loading_end : (again : Main) (next : Option Sums) → FilesReadAs run.file run.sums again next → LoadingEnd prints run again next outcome → prints (run_of main table run.told.asked) outcome
+module _ (prints : Prints) (once : PrintsOnce prints) (run : Given) (main : Main) (table : Option Sums)
+    (found : AreFound run main table []) (outcome : Outcome) where
+  also_loading_end : (again : Main) (next : Option Sums) → FilesReadAs run.file run.sums again next
+      → LoadingEnd prints run again next outcome → prints (run_of main table run.told.asked) outcome
   also_loading_end again next reads (is_many seen over none says) = absurd (not_many run run again main next table [] (itself run) reads over found)
   also_loading_end again next reads (is_broken name due some says) = absurd (not_broken run.told.failed name some found.none_failed)
   also_loading_end again next reads (is_known faults finds says) =

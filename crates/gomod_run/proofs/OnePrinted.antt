@@ -72,7 +72,8 @@ some_path after path none is = let same : None ≡ Some path = sym none ∙ is i
 
 module _ (main : Main) (rows : List Entry) (after : Option (List ℕ)) (limit : Option ℕ) (a b : Outcome) where
   -- a path that has a row has one list of rows after it
-  one_rest : (path other : List ℕ) (here there : List Entry) → path ≡ other → IsRestAfter main.path rows path here → IsRestAfter main.path rows other there → here ≡ there
+  one_rest : (path other : List ℕ) (here there : List Entry) → path ≡ other → IsRestAfter main.path rows path here
+      → IsRestAfter main.path rows other there → here ≡ there
   one_rest path other here there same is be = by_entries (subst (λ (p : List ℕ). IsRestAfter main.path rows p here) same is) be
     where
       by_entries : IsRestAfter main.path rows other here → IsRestAfter main.path rows other there → here ≡ there
@@ -89,13 +90,18 @@ module _ (main : Main) (rows : List Entry) (after : Option (List ℕ)) (limit : 
   one_text (no_path none says) (path_unlisted path is tells) = absurd (some_path after path none is)
   one_text (path_listed path others is at says) (no_path none tells) = absurd (some_path after path none is)
   one_text (path_listed path others is at says) (path_listed other more be begun tells) =
-      says ∙ ap (λ (es : List Entry). text_outcome (list_text main.path (up_to limit es))) (one_rest path other others more (one_path after path other is be) at begun) ∙ sym tells
-  one_text (path_listed path others is at says) (path_unlisted other be tells) = absurd (rest_listed path other others (one_path after path other is be) at tells.0)
+      says ∙ ap (λ (es : List Entry). text_outcome (list_text main.path (up_to limit es)))
+      (one_rest path other others more (one_path after path other is be) at begun) ∙ sym tells
+  one_text (path_listed path others is at says) (path_unlisted other be tells) =
+      absurd (rest_listed path other others (one_path after path other is be) at tells.0)
   one_text (path_unlisted path is says) (no_path none tells) = absurd (some_path after path none is)
-  one_text (path_unlisted path is says) (path_listed other more be begun tells) = absurd (rest_listed other path more (one_path after other path be is) begun says.0)
-  one_text (path_unlisted path is says) (path_unlisted other be tells) = says.1 ∙ ap (λ (p : List ℕ). refusal_outcome (not_listed_line p)) (one_path after path other is be) ∙ sym tells.1
+  one_text (path_unlisted path is says) (path_listed other more be begun tells) =
+      absurd (rest_listed other path more (one_path after other path be is) begun says.0)
+  one_text (path_unlisted path is says) (path_unlisted other be tells) =
+      says.1 ∙ ap (λ (p : List ℕ). refusal_outcome (not_listed_line p)) (one_path after path other is be) ∙ sym tells.1
 
-one_shown : (path : List ℕ) (run : Run) (rows : List Entry) (a b : Outcome) → IsFew run → ShowsChain path run.main (IsEdge run) rows a → ShowsChain path run.main (IsEdge run) rows b → a ≡ b
+one_shown : (path : List ℕ) (run : Run) (rows : List Entry) (a b : Outcome) → IsFew run
+    → ShowsChain path run.main (IsEdge run) rows a → ShowsChain path run.main (IsEdge run) rows b → a ≡ b
 one_shown path run rows a b few (inl (s, steps, entry, chain, says)) (inl (t, more, first, other, tells)) =
     let one : IsChain (IsEdge run) t steps = subst (λ (u : Step). IsChain (IsEdge run) u steps) (one_entry run.main.path rows path s t entry first) chain in
     says ∙ ap text_outcome (one_chain_text run few t steps more one other) ∙ sym tells
@@ -114,9 +120,11 @@ module _ (r s : Run) (main_is : r.main ≡ s.main) (same : AreSame (IsEdge r) (I
 
   rows_alike : (rows : List Entry) → AreRows r rows → AreRows s rows
   rows_alike rows are =
-      subst (λ (m : Main). IsBuildList m.path m.replaces (IsEdge s) rows) main_is (same_build_list r.main.path r.main.replaces (IsEdge r) (IsEdge s) rows same are)
+      subst (λ (m : Main). IsBuildList m.path m.replaces (IsEdge s) rows) main_is
+      (same_build_list r.main.path r.main.replaces (IsEdge r) (IsEdge s) rows same are)
 
-pub shown_by : (path : List ℕ) (main : Main) (E F : Edges) (rows : List Entry) (outcome : Outcome) → AreSame E F → ShowsChain path main E rows outcome → ShowsChain path main F rows outcome
+pub shown_by : (path : List ℕ) (main : Main) (E F : Edges) (rows : List Entry) (outcome : Outcome) → AreSame E F
+    → ShowsChain path main E rows outcome → ShowsChain path main F rows outcome
 shown_by path main E F rows outcome same (inl (s, steps, entry, chain, says)) = inl (s, steps, entry, same_chain E F same chain, says)
 shown_by path main E F rows outcome same (inr none) = inr none
 
@@ -143,7 +151,8 @@ list_once after limit = record { once = one; alike = other }
   where
     one : (run : Run) (a b : Outcome) → IsFew run → PrintsList after limit run a → PrintsList after limit run b → a ≡ b
     one run a b few (rows, are, says) (others, be, tells) =
-        one_text run.main others after limit a b (subst (λ (es : List Entry). PrintsRows run.main es after limit a) (one_rows run rows others are be) says) tells
+        one_text run.main others after limit a b (subst (λ (es : List Entry). PrintsRows run.main es after limit a)
+        (one_rows run rows others are be) says) tells
 
     other : (r s : Run) (a : Outcome) → r.main ≡ s.main → AreSame (IsEdge r) (IsEdge s) → PrintsList after limit r a → PrintsList after limit s a
     other r s a main_is same (rows, are, says) =
@@ -159,5 +168,9 @@ chain_once path = record { once = one; alike = other }
     other : (r s : Run) (a : Outcome) → r.main ≡ s.main → AreSame (IsEdge r) (IsEdge s) → PrintsChain path r a → PrintsChain path s a
     other r s a main_is same (rows, are, says) =
         let here : Edges = IsEdge r in
-        let there : Edges = IsEdge s in
-        (rows, rows_alike r s main_is same rows are, subst (λ (m : Main). ShowsChain path m there rows a) main_is (shown_by path r.main here there rows a same says))
+        let there : Edges = IsEdge s in (
+          rows,
+          rows_alike r s main_is same rows are,
+          subst (λ (m : Main). ShowsChain path m there rows a) main_is
+              (shown_by path r.main here there rows a same says),
+        )

@@ -26,7 +26,8 @@ alike_reversed one other alike = record {
 pub itself : (run : Given) → AreAlike run run
 itself run = record { file = refl; sums = refl; answers = λ name x y e f. let same : Some x ≡ Some y = sym e ∙ f in cc same; failed = refl }
 
-pub read_as_well : (one other : Given) (main : Main) (table : Option Sums) → AreAlike one other → FilesReadAs one.file one.sums main table → FilesReadAs other.file other.sums main table
+pub read_as_well : (one other : Given) (main : Main) (table : Option Sums) → AreAlike one other
+    → FilesReadAs one.file one.sums main table → FilesReadAs other.file other.sums main table
 read_as_well one other main table alike are = record {
   main_file = subst (λ (bytes : List ℕ). IsMainFile bytes main) alike.file are.main_file;
   sums = subst (λ (sums : Option (List ℕ)). AreSums sums table) alike.sums are.sums;
@@ -35,7 +36,8 @@ read_as_well one other main table alike are = record {
 -- If all that the second run needs was asked for, it says of what it opens what the first run says of that.
 pub stores_agree : (one other : Given) (main again : Main) (table next : Option Sums) → AreAlike one other
     → FilesReadAs one.file one.sums main table → FilesReadAs other.file other.sums again next
-    → IsSettled (run_of again next other.told.asked) (names_in other.told.asked) → Agrees (run_of main table one.told.asked) (run_of again next other.told.asked)
+    → IsSettled (run_of again next other.told.asked) (names_in other.told.asked)
+    → Agrees (run_of main table one.told.asked) (run_of again next other.told.asked)
 stores_agree one other main again table next alike read reads settled =
     let here = read_as_well one other main table alike read in
     agree (run_of main table one.told.asked) (run_of again next other.told.asked) (one_main other.file main again here.main_file reads.main_file)

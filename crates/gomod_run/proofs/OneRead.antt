@@ -57,7 +57,8 @@ place_of fault = (fault.0, misreading.Directive fault.1)
 
 -- the bytes are a document, and this is the first fault of its directives
 abbrev IsFaulty : List ℕ → FaultPlace → Type 0
-IsFaulty content place = (lines : List (Line Placed)) × (fault : Fault) × IsParsedAs content (Ok lines) × (fault_of Strict (plain_lines lines) ≡ Some fault) × (place ≡ place_of fault)
+IsFaulty content place = (lines : List (Line Placed)) × (fault : Fault) × IsParsedAs content (Ok lines)
+    × (fault_of Strict (plain_lines lines) ≡ Some fault) × (place ≡ place_of fault)
 
 misread_as : (content : List ℕ) (place : FaultPlace) → IsMisread Strict content place.0 place.1 → IsBroken content place ⊎ IsFaulty content place
 misread_as content (number, misreading.TooMany) is = inl is
@@ -75,7 +76,8 @@ broken_or_lines content (number, misreading.Directive kind) lines is other = is
 abbrev as_dependency : FaultPlace → Result Dependency Class
 as_dependency place = Err (Malformed place.0 place.1)
 
-broken_reading : (content : List ℕ) (place : FaultPlace) → length content ≤ 16777216 → IsBroken content place → IsFileReading None (folder_file []) (bytes content) (as_dependency place)
+broken_reading : (content : List ℕ) (place : FaultPlace) → length content ≤ 16777216 → IsBroken content place
+    → IsFileReading None (folder_file []) (bytes content) (as_dependency place)
 broken_reading content (number, misreading.TooMany) few is = absurd (omega (arith, few, is.1))
 broken_reading content (number, misreading.NotUtf8) few is = is
 broken_reading content (number, misreading.Syntax kind) few is = is
@@ -92,7 +94,8 @@ few_or_long content (number, misreading.Syntax kind) is = inl is.0.0
 few_or_long content (number, misreading.Directive kind) is = absurd is
 
 same_place : (here there : FaultPlace) → as_dependency here ≡ as_dependency there → here ≡ there
-same_place (number, kind) (other, sort) same = let numbers : number ≡ other = cc same in let kinds : kind ≡ sort = cc same in ap₂ (λ (n : ℕ) (k : Misreading). let place : FaultPlace = (n, k) in place) numbers kinds
+same_place (number, kind) (other, sort) same = let numbers : number ≡ other = cc same in let kinds : kind ≡ sort =
+    cc same in ap₂ (λ (n : ℕ) (k : Misreading). let place : FaultPlace = (n, k) in place) numbers kinds
 
 same_fault : (content : List ℕ) (here there : FaultPlace) → IsFaulty content here → IsFaulty content there → here ≡ there
 same_fault content here there (lines, fault, parsed, first, is) (others, next, other, second, at) =
@@ -100,13 +103,15 @@ same_fault content here there (lines, fault, parsed, first, is) (others, next, o
     let faults : fault ≡ next = cc found in
     is ∙ ap place_of faults ∙ sym at
 
-same_misreading : (content : List ℕ) (here there : FaultPlace) → IsBroken content here ⊎ IsFaulty content here → IsBroken content there ⊎ IsFaulty content there → here ≡ there
+same_misreading : (content : List ℕ) (here there : FaultPlace) → IsBroken content here ⊎ IsFaulty content here
+    → IsBroken content there ⊎ IsFaulty content there → here ≡ there
 same_misreading content here there (inl is) (inl other) = by_length (few_or_long content here is) (few_or_long content there other)
   where
     by_length : (length content ≤ 16777216) ⊎ IsLong content here → (length content ≤ 16777216) ⊎ IsLong content there → here ≡ there
     by_length (inl few) any =
         same_place here there
-        (one_reading None (folder_file []) (bytes content) (as_dependency here) (as_dependency there) (broken_reading content here few is) (broken_reading content there few other))
+        (one_reading None (folder_file []) (bytes content) (as_dependency here) (as_dependency there)
+        (broken_reading content here few is) (broken_reading content there few other))
     by_length (inr long) (inl few) = absurd (omega (arith, long.0, few))
     by_length (inr long) (inr too) = long.1 ∙ sym too.1
 same_misreading content here there (inl is) (inr other) = absurd (broken_or_lines content here other.0 is other.2)
@@ -117,12 +122,14 @@ same_misreading content here there (inr is) (inr other) = same_fault content her
 pub one_place : (content : List ℕ) (a b : FaultPlace) → IsMisread Strict content a.0 a.1 → IsMisread Strict content b.0 b.1 → a ≡ b
 one_place content a b is other = same_misreading content a b (misread_as content a is) (misread_as content b other)
 
-misread_or_read : (content : List ℕ) (place : FaultPlace) (others : List (Line Placed)) → IsBroken content place ⊎ IsFaulty content place → IsMainOf content others → ⊥
+misread_or_read : (content : List ℕ) (place : FaultPlace) (others : List (Line Placed))
+    → IsBroken content place ⊎ IsFaulty content place → IsMainOf content others → ⊥
 misread_or_read content place others (inl is) (parsed, sound) = broken_or_lines content place others is parsed
 misread_or_read content place others (inr (lines, fault, parsed, first, at)) (other, sound) =
     let found : Some fault ≡ None = sym first ∙ ap (fault_of Strict) (same_lines content lines others parsed other) ∙ sound in cc found
 
-pub misread_or_lines : (content : List ℕ) (place : FaultPlace) (lines : List (Line Placed)) → IsMisread Strict content place.0 place.1 → IsMainOf content lines → ⊥
+pub misread_or_lines : (content : List ℕ) (place : FaultPlace) (lines : List (Line Placed))
+    → IsMisread Strict content place.0 place.1 → IsMainOf content lines → ⊥
 misread_or_lines content place lines is other = misread_or_read content place lines (misread_as content place is) other
 
 pub misread_or_main : (content : List ℕ) (place : FaultPlace) (main : Main) → IsMisread Strict content place.0 place.1 → IsMainFile content main → ⊥
@@ -162,7 +169,8 @@ FindSame a b = (name : Name) (content : List ℕ) → sum_fault a name content �
 same_found : (text : List ℕ) (a b : Sums) → ReadsAs a text → ReadsAs b text → FindSame (Some a) (Some b)
 same_found text a b is other (mod_file path version) content =
     let hash = file_hash content in
-    ap class_of_sum (one_says text path version hash (check_in a path version hash) (check_in b path version hash) (is path version hash) (other path version hash))
+    ap class_of_sum (one_says text path version hash (check_in a path version hash) (check_in b path version hash)
+    (is path version hash) (other path version hash))
 same_found text a b is other (folder_file folder) content = refl
 same_found text a b is other (list_file path) content = refl
 
@@ -176,7 +184,8 @@ one_finding (Some text) (Some a) (Some b) is other = same_found text a b is.2 ot
 
 -- ---- what the files of modules say is the same with either of these tables
 
-pub read_alike : (a b : Option Sums) → FindSame a b → (name : Name) (reply : Reply) (said : Result Dependency Class) → IsFileReading a name reply said → IsFileReading b name reply said
+pub read_alike : (a b : Option Sums) → FindSame a b → (name : Name) (reply : Reply) (said : Result Dependency Class)
+    → IsFileReading a name reply said → IsFileReading b name reply said
 read_alike a b same name absent said is = is
 read_alike a b same name too_long said is = is
 read_alike a b same name (bytes content) said is = subst (λ (o : Option Class). IsReadUnless o content said) (same name content) is

@@ -42,19 +42,29 @@ second_kept None b reply same e = e
 -- ---- `versions` with more answers
 
 -- the report that there is no list is one by an answer that is kept
-refusal_kept : (path : List ℕ) (fetchable : Bool) (told kept : Option Reply) (outcome : Outcome) → ((reply : Reply) → fetchable ≡ true → told ≡ Some reply → kept ≡ Some reply)
+refusal_kept : (path : List ℕ) (fetchable : Bool) (told kept : Option Reply) (outcome : Outcome)
+    → ((reply : Reply) → fetchable ≡ true → told ≡ Some reply → kept ≡ Some reply)
     → list_refusal path fetchable told ≡ Some outcome → list_refusal path fetchable kept ≡ Some outcome
 refusal_kept path false told kept outcome keeps is = is
 refusal_kept path true (Some reply) kept outcome keeps is = ap (list_refusal path true) (keeps reply refl refl) ∙ is
 refusal_kept path true None kept outcome keeps is = absurd (cc is)
 
 -- An outcome of `versions` is one by all answers that keep those to the needed files.
-module _ (path : List ℕ) (all : Bool) (told kept : AnswersByName) (keeps : (name : Name) (reply : Reply) → VersionsNeed path all told name → told name ≡ Some reply → kept name ≡ Some reply) where
+module _ (path : List ℕ) (all : Bool) (told kept : AnswersByName)
+    (keeps : (name : Name) (reply : Reply) → VersionsNeed path all told name → told name ≡ Some reply
+    → kept name ≡ Some reply) where
   listed_kept : {versions : List (List ℕ)} → HasListed path told versions → HasListed path kept versions
   listed_kept is =
-      record { fetchable = is.fetchable; list = is.list; answered = keeps (list_file path) (bytes is.list) (inl (is.fetchable, refl)) is.answered; listed = is.listed }
+      record {
+        fetchable = is.fetchable;
+        list = is.list;
+        answered =
+            keeps (list_file path) (bytes is.list) (inl (is.fetchable, refl)) is.answered;
+        listed = is.listed;
+      }
 
-  says_kept : {versions : List (List ℕ)} {latest : List ℕ} {reply : Reply} {reading : Result Dependency Class} → LatestSays path all told versions latest reply reading
+  says_kept : {versions : List (List ℕ)} {latest : List ℕ} {reply : Reply} {reading : Result Dependency Class}
+      → LatestSays path all told versions latest reply reading
       → LatestSays path all kept versions latest reply reading
   says_kept {versions} {latest} {reply} says = record {
     is = record { some = says.is.some; listed = listed_kept says.is.listed; greatest = says.is.greatest };
@@ -64,12 +74,14 @@ module _ (path : List ℕ) (all : Bool) (told kept : AnswersByName) (keeps : (na
 
   shown_kept : (shown : List (List ℕ)) → AreShown path all told shown → AreShown path all kept shown
   shown_kept shown (all_listed is every) = all_listed (listed_kept is) every
-  shown_kept shown (not_retracted versions latest reply file intervals says retracted same) = not_retracted versions latest reply file intervals (says_kept says) retracted same
+  shown_kept shown (not_retracted versions latest reply file intervals says retracted same) =
+      not_retracted versions latest reply file intervals (says_kept says) retracted same
 
   pub kept_outcome : (outcome : Outcome) → VersionsEnds path all told [] outcome → VersionsEnds path all kept [] outcome
   kept_outcome outcome (device name need unanswered failed says) = absurd (cc failed)
   kept_outcome outcome (no_list refused none) =
-      no_list (refusal_kept path (is_fetchable path) (told (list_file path)) (kept (list_file path)) outcome (λ reply fetchable. keeps (list_file path) reply (inl (fetchable, refl))) refused) none
+      no_list (refusal_kept path (is_fetchable path) (told (list_file path)) (kept (list_file path)) outcome
+      (λ reply fetchable. keeps (list_file path) reply (inl (fetchable, refl))) refused) none
   kept_outcome outcome (bad_file versions latest reply class says none told) = bad_file versions latest reply class (says_kept says) none told
   kept_outcome outcome (printed shown are none told) = printed shown (shown_kept shown are) none told
 
@@ -84,7 +96,8 @@ by_failed : (path : List ℕ) (all : Bool) (answers : AnswersByName) (failed : L
     → EndsAtDevice failed outcome ⊎ ((failed ≡ []) × VersionsEnds path all answers [] outcome)
 by_failed path all answers failed outcome (device name need unanswered some says) = inl (name, some, says)
 by_failed path all answers failed outcome (no_list refused none) = inr (none, no_list refused refl)
-by_failed path all answers failed outcome (bad_file versions latest reply class says none told) = inr (none, bad_file versions latest reply class says refl told)
+by_failed path all answers failed outcome (bad_file versions latest reply class says none told) =
+    inr (none, bad_file versions latest reply class says refl told)
 by_failed path all answers failed outcome (printed shown are none told) = inr (none, printed shown are refl told)
 
 some_or_none : (names : List Name) (name : Name) → names ≡ name ∷ [] → names ≡ [] → ⊥
@@ -103,7 +116,8 @@ versions_alike path all told next a b alike failing is be = by (by_failed path a
     other : AnswersByName
     other = answer_in next.asked
 
-    by : EndsAtDevice told.failed a ⊎ ((told.failed ≡ []) × VersionsEnds path all one [] a) → EndsAtDevice next.failed b ⊎ ((next.failed ≡ []) × VersionsEnds path all other [] b) → a ≡ b
+    by : EndsAtDevice told.failed a ⊎ ((told.failed ≡ []) × VersionsEnds path all one [] a)
+        → EndsAtDevice next.failed b ⊎ ((next.failed ≡ []) × VersionsEnds path all other [] b) → a ≡ b
     by (inl (name, some, says)) (inl (last, more, tells)) =
         says ∙ ap (λ (n : Name). failure_outcome (device_line n)) (one_name told.failed name last some (failing ∙ more)) ∙ sym tells
     by (inl (name, some, says)) (inr (none, ends)) = absurd (some_or_none told.failed name some (failing ∙ none))
@@ -111,7 +125,8 @@ versions_alike path all told next a b alike failing is be = by (by_failed path a
     by (inr (none, ends)) (inr (nothing, also)) =
         versions_once path all (both_of one other) a b
         (kept_outcome path all one (both_of one other) (λ name reply need e. first_kept (one name) (other name) reply e) a ends)
-        (kept_outcome path all other (both_of one other) (λ name reply need e. second_kept (one name) (other name) reply (λ first f. sym (alike name first reply f e)) e) b also)
+        (kept_outcome path all other (both_of one other) (λ name reply need e.
+        second_kept (one name) (other name) reply (λ first f. sym (alike name first reply f e)) e) b also)
 
 -- ---- a command
 

@@ -23,7 +23,8 @@ use Rattle.gomod_run.specs.Private.Runs.{IsRefusedOperation}
 use Rattle.gomod_run.specs.Private.Refusals.{report_by_edit}
 
 -- an operation that has been parsed and is not applied
-pub not_applied : (number : ℕ) (text : List ℕ) (edit : Edit) (fault : EditFault) (told : Report) → edit_in text ≡ Some edit → (◌≡◌ {A = Result (Unit {0}) EditFault} (Err fault) (Err Misfit) → is_fit edit ≡ false)
+pub not_applied : (number : ℕ) (text : List ℕ) (edit : Edit) (fault : EditFault) (told : Report)
+    → edit_in text ≡ Some edit → (◌≡◌ {A = Result (Unit {0}) EditFault} (Err fault) (Err Misfit) → is_fit edit ≡ false)
     → told ≡ report_by_edit number fault → OrNoMemory (IsRefusedOperation number (edit_in text)) (report_outcome told)
 not_applied number text edit NoMemory told parsed misfit is = inr (ap report_outcome is)
 not_applied number text edit Misfit told parsed misfit is =
@@ -49,8 +50,10 @@ module _ (number : ℕ) (text : List ℕ) (edit : Edit) (parsed : edit_in text �
   op_applied old new (Err fault) (Ok u) ok is = let e : false ≡ true = ok in cc e
   op_applied old new (Ok v) (Ok u) ok is = is ∙ ap (λ (o : Option Edit). lines_after_all (cons_option o []) old) (sym parsed)
 
-  pub op_refused : (made : Result (Unit {0}) EditFault) (result : Result (Unit {0}) Report) → IfErr result (λ told. IsErrAnd made (λ fault. told ≡ report_by_edit number fault))
-      → (◌≡◌ {A = Result (Unit {0}) EditFault} made (Err Misfit) → is_fit edit ≡ false) → IfErr result (λ told. OrNoMemory (IsRefusedOperation number (edit_in text)) (report_outcome told))
+  pub op_refused : (made : Result (Unit {0}) EditFault) (result : Result (Unit {0}) Report)
+      → IfErr result (λ told. IsErrAnd made (λ fault. told ≡ report_by_edit number fault))
+      → (◌≡◌ {A = Result (Unit {0}) EditFault} made (Err Misfit) → is_fit edit ≡ false)
+      → IfErr result (λ told. OrNoMemory (IsRefusedOperation number (edit_in text)) (report_outcome told))
   op_refused made (Ok u) err unfit = tt
   op_refused (Ok v) (Err told) err unfit = absurd err
   op_refused (Err fault) (Err told) err unfit = not_applied number text edit fault told parsed unfit err
@@ -58,29 +61,36 @@ module _ (number : ℕ) (text : List ℕ) (edit : Edit) (parsed : edit_in text �
 -- ---- the operations in turn
 
 -- one that is accepted has no refusal
-pub next_refusals : (number : ℕ) (text : List ℕ) (later : List (List ℕ)) → refusal_of (edit_in text) ≡ None → refusals_from number (text ∷ later) ≡ refusals_from (number + 1) later
-next_refusals number text later none = ap (λ (o : Option (List ℕ)). option_to_list (option_map (λ kind. (number, kind)) o) ++ refusals_from (number + 1) later) none
+pub next_refusals : (number : ℕ) (text : List ℕ) (later : List (List ℕ)) → refusal_of (edit_in text) ≡ None
+    → refusals_from number (text ∷ later) ≡ refusals_from (number + 1) later
+next_refusals number text later none = ap (λ (o : Option (List ℕ)).
+    option_to_list (option_map (λ kind. (number, kind)) o) ++ refusals_from (number + 1) later) none
 
 -- those after it apply to what it left
 pub next_lines : (text : List ℕ) (later : List (List ℕ)) (lines : List (Line Placed)) → lines_after_all (filter_map edit_in (text ∷ later)) lines
     ≡ lines_after_all (filter_map edit_in later) (lines_after_all (filter_map edit_in (text ∷ [])) lines)
 next_lines text later lines = by_option (edit_in text)
   where
-    by_option : (o : Option Edit) → lines_after_all (cons_option o (filter_map edit_in later)) lines ≡ lines_after_all (filter_map edit_in later) (lines_after_all (cons_option o []) lines)
+    by_option : (o : Option Edit) → lines_after_all (cons_option o (filter_map edit_in later)) lines
+        ≡ lines_after_all (filter_map edit_in later) (lines_after_all (cons_option o []) lines)
     by_option None = refl
     by_option (Some edit) = refl
 
 -- ---- how `edit` ends
 
 -- the first fault of the file is reported
-pub bad_file : (texts : List (List ℕ)) (file : List ℕ) (outcome : Outcome) → OrNoMemory (λ outcome. (place : FaultPlace) × IsMisread Strict file place.0 place.1 × (outcome ≡ refusal_outcome (main_line place))) outcome
+pub bad_file : (texts : List (List ℕ)) (file : List ℕ) (outcome : Outcome)
+    → OrNoMemory (λ outcome. (place : FaultPlace) × IsMisread Strict file place.0 place.1
+    × (outcome ≡ refusal_outcome (main_line place))) outcome
     → OrNoMemory (EditEnds texts file) outcome
 bad_file texts file outcome (inl (place, misread, says)) = inl (bad_main place misread says)
 bad_file texts file outcome (inr memory) = inr memory
 
 -- the first operation that is refused is reported
-pub one_refused : (texts : List (List ℕ)) (file : List ℕ) (lines : List (Line Placed)) (number : ℕ) (text : List ℕ) (later : List (List ℕ)) (outcome : Outcome) → IsMainOf file lines
-    → refusals_from 1 texts ≡ refusals_from number (text ∷ later) → OrNoMemory (IsRefusedOperation number (edit_in text)) outcome → OrNoMemory (EditEnds texts file) outcome
+pub one_refused : (texts : List (List ℕ)) (file : List ℕ) (lines : List (Line Placed)) (number : ℕ) (text : List ℕ)
+    (later : List (List ℕ)) (outcome : Outcome) → IsMainOf file lines
+    → refusals_from 1 texts ≡ refusals_from number (text ∷ later)
+    → OrNoMemory (IsRefusedOperation number (edit_in text)) outcome → OrNoMemory (EditEnds texts file) outcome
 one_refused texts file lines number text later outcome main same (inl (kind, is, says)) =
     let first = ap (λ (o : Option (List ℕ)). option_to_list (option_map (λ kind. (number, kind)) o) ++ refusals_from (number + 1) later) is in
     inl (applied lines main (says ∙ sym (ap (λ (rs : List (ℕ × List ℕ)). edits_outcome rs (lines_after_all (filter_map edit_in texts) lines)) (same ∙ first))))

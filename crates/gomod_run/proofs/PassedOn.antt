@@ -9,7 +9,8 @@ use Rattle.gomod_run.specs.declared.reports.report.Report.{Report}
 use Rattle.gomod_run.specs.declared.reports.report.Report.TheVariants as report
 
 -- what holds of a report holds of what is passed on
-pub passed : (Is : Outcome → Type 0) (told : Report) (result : Result (String Global) Report) → IsErrAnd result (λ passed. passed ≡ told) → Is (report_outcome told)
+pub passed : (Is : Outcome → Type 0) (told : Report) (result : Result (String Global) Report)
+    → IsErrAnd result (λ passed. passed ≡ told) → Is (report_outcome told)
     → Is (outcome_view result)
 passed Is told (Err other) same is = subst (λ (told : Report). Is (report_outcome told)) (sym same) is
 passed Is told (Ok text) same is = absurd same

@@ -46,7 +46,8 @@ printed_run prints run outcome (faulty main table first others found says) is = 
 printed_run prints run outcome (no_fault main table found says) is = (main, table, found, says)
 
 -- without a path all rows are printed
-pub all_rows : (main : Main) (rows : List Entry) (limit : Option ℕ) (outcome : Outcome) → PrintsRows main rows None limit outcome → outcome ≡ text_outcome (list_text main.path (up_to limit rows))
+pub all_rows : (main : Main) (rows : List Entry) (limit : Option ℕ) (outcome : Outcome)
+    → PrintsRows main rows None limit outcome → outcome ≡ text_outcome (list_text main.path (up_to limit rows))
 all_rows main rows limit outcome (no_path none says) = says
 all_rows main rows limit outcome (path_listed path others is at says) = absurd (cc is)
 all_rows main rows limit outcome (path_unlisted path is says) = absurd (cc is)
@@ -54,11 +55,13 @@ all_rows main rows limit outcome (path_unlisted path is says) = absurd (cc is)
 -- ---- the build list of edges that are given as a relation
 
 module _ (run : Run) (few : IsFew run) (rows : List Entry) (list : AreRows run rows) where
-  with_path : (path : List ℕ) (xs : List ModuleVersion) → ((x : ModuleVersion) × Contains xs x × (x.0 ≡ path)) ⊎ ((x : ModuleVersion) → Contains xs x → x.0 ≢ path)
+  with_path : (path : List ℕ) (xs : List ModuleVersion) → ((x : ModuleVersion) × Contains xs x × (x.0 ≡ path))
+      ⊎ ((x : ModuleVersion) → Contains xs x → x.0 ≢ path)
   with_path path [] = inr (λ x there. absurd (no_member x there))
   with_path path (first ∷ xs) = by_test (bytes_eq first.0 path) refl (with_path path xs)
     where
-      by_test : (b : Bool) → bytes_eq first.0 path ≡ b → ((x : ModuleVersion) × Contains xs x × (x.0 ≡ path)) ⊎ ((x : ModuleVersion) → Contains xs x → x.0 ≢ path)
+      by_test : (b : Bool) → bytes_eq first.0 path ≡ b → ((x : ModuleVersion) × Contains xs x × (x.0 ≡ path))
+          ⊎ ((x : ModuleVersion) → Contains xs x → x.0 ≢ path)
           → ((x : ModuleVersion) × Contains (first ∷ xs) x × (x.0 ≡ path)) ⊎ ((x : ModuleVersion) → Contains (first ∷ xs) x → x.0 ≢ path)
       by_test true e rest = inl (first, member_head first xs, texts_same first.0 path e)
       by_test false e (inl (x, there, is)) = inl (x, member_tail first x xs there, is)
@@ -144,18 +147,22 @@ pub texts_join : (main : List ℕ) (pages : List (List Entry)) → list_text mai
 texts_join main [] = refl
 texts_join main (page ∷ pages) = flat_map-append _ page (entries_of_pages pages) ∙ ap (λ (t : List ℕ). list_text main page ++ t) (texts_join main pages)
 
-module _ (run : Given) (main : Main) (table : Option Sums) (found : AreFound run main table []) (rows : List Entry) (list : AreRows (run_of main table run.told.asked) rows) (n : ℕ) where
+module _ (run : Given) (main : Main) (table : Option Sums) (found : AreFound run main table []) (rows : List Entry)
+    (list : AreRows (run_of main table run.told.asked) rows) (n : ℕ) where
   -- the rows that remain after a path, or all rows
   abbrev AreLeft : Option (List ℕ) → List Entry → Type 0
   AreLeft None left = left ≡ rows
   AreLeft (Some path) left = IsRestAfter main.path rows path left
 
-  page_printed : (after : Option (List ℕ)) (left : List Entry) → AreLeft after left → ListEnds after (Some n) run (text_outcome (list_text main.path (take n left)))
+  page_printed : (after : Option (List ℕ)) (left : List Entry) → AreLeft after left
+      → ListEnds after (Some n) run (text_outcome (list_text main.path (take n left)))
   page_printed None left is = no_fault main table found (rows, list, no_path refl (ap (λ (es : List Entry). text_outcome (list_text main.path (take n es))) is))
   page_printed (Some path) left is = no_fault main table found (rows, list, path_listed path left refl is refl)
 
-  paged : {left : List Entry} {pages : List (List Entry)} (after : Option (List ℕ)) → AreLeft after left → AreRowPages main.path rows n left pages → ArePrintedPages run main.path n after pages
-  paged after is no_more = no_row (subst (λ (es : List Entry). ListEnds after (Some n) run (text_outcome (list_text main.path es))) (take_none n) (page_printed after [] is))
+  paged : {left : List Entry} {pages : List (List Entry)} (after : Option (List ℕ)) → AreLeft after left
+      → AreRowPages main.path rows n left pages → ArePrintedPages run main.path n after pages
+  paged after is no_more = no_row (subst (λ (es : List Entry).
+      ListEnds after (Some n) run (text_outcome (list_text main.path es))) (take_none n) (page_printed after [] is))
   paged after is (one_more {left} {rest} {pages} front last page behind more) =
       subst (λ (es : List Entry). ArePrintedPages run main.path n after (es ∷ pages)) (sym page)
       (one_page front last

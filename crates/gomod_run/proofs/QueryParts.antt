@@ -18,14 +18,19 @@ use Rattle.gomod_words.specs.declared.usage.Command.TheVariants.{Fmt, Edit, Vers
 
 -- loading finds too many modules, or its store's device fails, or all needed files are answered
 pub data LoadingEnd (prints : Prints) (run : Given) (main : Main) (table : Option Sums) (outcome : Outcome) : Type 0 where
-  is_many : IsRead (run_of main table run.told.asked) → AreTooMany (run_of main table run.told.asked) → run.told.failed ≡ [] → outcome ≡ refusal_outcome too_many_line → LoadingEnd prints run main table outcome
-  is_broken : (name : Name) → IsDue (run_of main table run.told.asked) name → run.told.failed ≡ name ∷ [] → outcome ≡ failure_outcome (device_line name) → LoadingEnd prints run main table outcome
-  is_known : (faults : List Fault) → AreFound run main table faults → ReportsFaultsOr faults (prints (run_of main table run.told.asked) outcome) outcome → LoadingEnd prints run main table outcome
+  is_many : IsRead (run_of main table run.told.asked) → AreTooMany (run_of main table run.told.asked)
+      → run.told.failed ≡ [] → outcome ≡ refusal_outcome too_many_line → LoadingEnd prints run main table outcome
+  is_broken : (name : Name) → IsDue (run_of main table run.told.asked) name → run.told.failed ≡ name ∷ []
+      → outcome ≡ failure_outcome (device_line name) → LoadingEnd prints run main table outcome
+  is_known : (faults : List Fault) → AreFound run main table faults
+      → ReportsFaultsOr faults (prints (run_of main table run.told.asked) outcome) outcome
+      → LoadingEnd prints run main table outcome
 
 -- one of the two files is invalid, or both are valid, and loading ends
 pub data Parts (prints : Prints) (run : Given) (outcome : Outcome) : Type 0 where
   unread : IsRefusedRead run.file run.sums outcome → IsUnasked run.told → Parts prints run outcome
-  are_read : (main : Main) (table : Option Sums) → FilesReadAs run.file run.sums main table → LoadingEnd prints run main table outcome → Parts prints run outcome
+  are_read : (main : Main) (table : Option Sums) → FilesReadAs run.file run.sums main table
+      → LoadingEnd prints run main table outcome → Parts prints run outcome
 
 module _ (prints : Prints) (run : Given) (outcome : Outcome) where
   pub parts : QueryEnds prints run outcome → Parts prints run outcome

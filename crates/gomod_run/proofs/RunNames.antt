@@ -83,7 +83,8 @@ content_proper content (Err NoSum) is = tt
 content_proper content (Err SumDiffers) is = tt
 content_proper content (Err WrongPath) is = tt
 
-unless_proper : (o : Option Class) (content : List ℕ) (said : Result Dependency Class) → ((class : Class) → o ≡ Some class → IsProperClass class) → IsReadUnless o content said → IsProper said
+unless_proper : (o : Option Class) (content : List ℕ) (said : Result Dependency Class)
+    → ((class : Class) → o ≡ Some class → IsProperClass class) → IsReadUnless o content said → IsProper said
 unless_proper (Some class) content said proper is = proper_fault said class (proper class refl) is
 unless_proper None content said proper is = content_proper content said is
 
@@ -115,7 +116,8 @@ main_names file main (lines, (parsed, none), is) x there =
 right_proper : (file : List ℕ) (main : Main) → IsMainFile file main → (x : ModuleVersion) → IsProperRight (replacement_of main.replaces x)
 right_proper file main (lines, (parsed, none), is) x = by_right (replacement_of main.replaces x) refl
   where
-    said : (right : Right) → replacement_of main.replaces x ≡ Some right → (r : Replacing) × Contains (directives Strict (plain_lines lines)) (Replaces r) × (r.1 ≡ right)
+    said : (right : Right) → replacement_of main.replaces x ≡ Some right
+        → (r : Replacing) × Contains (directives Strict (plain_lines lines)) (Replaces r) × (r.1 ≡ right)
     said right e =
         let (r, there, same) = replacement_said main.replaces x right e in
         (r, replaces_said (plain_lines lines) r (subst (λ (m : Main). Contains m.replaces r) (sym is) there), same)
@@ -123,7 +125,8 @@ right_proper file main (lines, (parsed, none), is) x = by_right (replacement_of 
     by_right : (o : Option Right) → replacement_of main.replaces x ≡ o → IsProperRight o
     by_right None e = tt
     by_right (Some (Folder text)) e = let (r, there, same) = said (Folder text) e in is_folder file lines parsed r text there same
-    by_right (Some (Module path version)) e = let (r, there, same) = said (Module path version) e in replaced_module (plain_lines lines) none r path version there same
+    by_right (Some (Module path version)) e = let (r, there, same) = said (Module path version) e in
+        replaced_module (plain_lines lines) none r path version there same
 
 -- ---- the run
 

@@ -55,11 +55,13 @@ fmt_once file one other (bad_syntax fault place parsed named says) (bad_syntax n
 -- ---- edit
 
 -- the result of operations doesn't depend on where the tokens were
-pub in_turn_same : (edits : List Change) (one other : List (Line Placed)) → plain_lines one ≡ plain_lines other → plain_lines (lines_after_all edits one) ≡ plain_lines (lines_after_all edits other)
+pub in_turn_same : (edits : List Change) (one other : List (Line Placed)) → plain_lines one ≡ plain_lines other
+    → plain_lines (lines_after_all edits one) ≡ plain_lines (lines_after_all edits other)
 in_turn_same [] one other same = same
 in_turn_same (edit ∷ edits) one other same = in_turn_same edits (lines_after edit one) (lines_after edit other) (edited-same edit one other same)
 
-printed_same : (refusals : List (ℕ × List ℕ)) (one other : List (Line Placed)) → plain_lines one ≡ plain_lines other → edits_outcome refusals one ≡ edits_outcome refusals other
+printed_same : (refusals : List (ℕ × List ℕ)) (one other : List (Line Placed)) → plain_lines one ≡ plain_lines other
+    → edits_outcome refusals one ≡ edits_outcome refusals other
 printed_same [] one other same = ap (λ (ls : List (Line Word)). text_outcome (layout ls)) same
 printed_same (refusal ∷ later) one other same = refl
 

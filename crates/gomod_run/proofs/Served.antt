@@ -15,7 +15,7 @@ use Rattle.gomod_run.specs.Outcomes.{longest}
 use Rattle.gomod_run.specs.Outcome.{OrNoMemory, Outcome, code_of, report_outcome}
 use Rattle.gomod_run.specs.declared.reports.report.Report.{Report}
 use Rattle.gomod_run.specs.declared.reports.status.Status.{Status}
-use Rattle.gomod_run.specs.Program.{AreToldBy, IsInput, bytes_of, held_for, sums_input}
+use Rattle.gomod_run.specs.Program.{AreToldBy, IsInput, bytes_read, held_for, sums_input}
 use Rattle.gomod_run.specs.Runs.{RunEnds, is_query, run_between, told_between}
 use Rattle.gomod_run.specs.Written.{EndsAsStated, IsWritten}
 use Rattle.gomod_run.specs.Private.Written.{EndsOrStops}
@@ -23,7 +23,8 @@ use Rattle.gomod_run.specs.Private.Written.{EndsOrStops}
 -- ---- what was read
 
 -- a command that is no query reads no go.sum
-pub no_sums_read : (may_give : List ℕ → Opening → Type 0) (command : Command) (name : Option (List ℕ)) (read : Option (Vec ℕ)) → IsInput may_give (sums_input command name) read
+pub no_sums_read : (may_give : List ℕ → Opening → Type 0) (command : Command) (name : Option (List ℕ))
+    (read : Option (Vec ℕ)) → IsInput may_give (sums_input command name) read
     → is_query command ≡ false → option_map (λ sums. sums.items) read ≡ None
 no_sums_read may_give command name read is isnt = by read (subst (λ (query : Bool). IsInput may_give (if query then name else None) read) isnt is)
   where
@@ -32,11 +33,12 @@ no_sums_read may_give command name read is isnt = by read (subst (λ (query : Bo
     by (Some sums) is = absurd is
 
 -- a run over slices of what was read is one over what was read
-pub same_run : (command : Command) (file table : Option (Vec ℕ)) (main : List ℕ) (sums : Option (List ℕ)) (old new : StoreState) (outcome : Outcome) → main ≡ bytes_of file
+pub same_run : (command : Command) (file table : Option (Vec ℕ)) (main : List ℕ) (sums : Option (List ℕ))
+    (old new : StoreState) (outcome : Outcome) → main ≡ bytes_read file
     → sums ≡ option_map (λ sums. sums.items) table → RunEnds command (run_between main sums old new) outcome
-    → RunEnds command (run_between (bytes_of file) (option_map (λ sums. sums.items) table) old new) outcome
+    → RunEnds command (run_between (bytes_read file) (option_map (λ sums. sums.items) table) old new) outcome
 same_run command file table main sums old new outcome same_main same_sums runs =
-    subst (λ (sums : Option (List ℕ)). RunEnds command (run_between (bytes_of file) sums old new) outcome) same_sums
+    subst (λ (sums : Option (List ℕ)). RunEnds command (run_between (bytes_read file) sums old new) outcome) same_sums
     (subst (λ (main : List ℕ). RunEnds command (run_between main sums old new) outcome) same_main runs)
 
 -- ---- what a store answered

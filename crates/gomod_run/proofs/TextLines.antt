@@ -32,11 +32,15 @@ entry_more main None old rest entry text new whole goes_on steps pushed known =
     ∙ ap (λ (es : List Entry). text ++ list_text main es) (sym steps) ∙ known
 entry_more main (Some zero) old rest entry text new whole goes_on steps pushed known = absurd (false≢true (sym goes_on))
 entry_more main (Some (suc n)) old rest entry text new whole goes_on steps pushed known =
-    ap (λ k. new ++ list_text main (take k rest)) (omega arith) ∙ ap (λ (t : List ℕ). t ++ list_text main (take n rest)) pushed ∙ append_assoc text (entry_line main entry) (list_text main (take n rest))
+    ap (λ k. new ++ list_text main (take k rest)) (omega arith)
+    ∙ ap (λ (t : List ℕ). t ++ list_text main (take n rest)) pushed
+    ∙ append_assoc text (entry_line main entry) (list_text main (take n rest))
     ∙ ap (λ (es : List Entry). text ++ list_text main (take (suc n) es)) (sym steps) ∙ known
 
 -- no entry is left
-pub ended : (main : List ℕ) (left : Option ℕ) (rest : List Entry) (text whole : List ℕ) → rest ≡ [] → text ++ list_text main (up_to left rest) ≡ whole → text ≡ whole
+pub ended : (main : List ℕ) (left : Option ℕ) (rest : List Entry) (text whole : List ℕ) → rest ≡ []
+    → text ++ list_text main (up_to left rest) ≡ whole → text ≡ whole
 ended main None rest text whole empty known = sym (append-nil text) ∙ ap (λ (es : List Entry). text ++ list_text main es) (sym empty) ∙ known
 ended main (Some zero) rest text whole empty known = sym (append-nil text) ∙ known
-ended main (Some (suc n)) rest text whole empty known = sym (append-nil text) ∙ ap (λ (es : List Entry). text ++ list_text main (take (suc n) es)) (sym empty) ∙ known
+ended main (Some (suc n)) rest text whole empty known =
+    sym (append-nil text) ∙ ap (λ (es : List Entry). text ++ list_text main (take (suc n) es)) (sym empty) ∙ known

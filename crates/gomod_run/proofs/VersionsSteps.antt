@@ -31,24 +31,30 @@ Pairs = List (Name × Reply)
 
 module _ (path : List ℕ) (all : Bool) (old new : StoreState) (outcome : Outcome) where
   -- there is no list to read
-  refused_run : new.refused ≡ old.refused → AskedInTurn (VersionsNeed path all) new.asked → IsRefusedList path (answer_in new.asked) outcome → IsVersionsRun path all old new outcome
+  refused_run : new.refused ≡ old.refused → AskedInTurn (VersionsNeed path all) new.asked
+      → IsRefusedList path (answer_in new.asked) outcome → IsVersionsRun path all old new outcome
   refused_run still in_turn refused =
       still_run still in_turn (λ other also. one_refusal path (answer_in new.asked) outcome other refused also) (inl (no_list refused refl))
 
   -- memory ran out
-  memory_run : new.refused ≡ old.refused → AskedInTurn (VersionsNeed path all) new.asked → ((other : Outcome) → ¬ (IsRefusedList path (answer_in new.asked) other)) → outcome ≡ out_of_memory
+  memory_run : new.refused ≡ old.refused → AskedInTurn (VersionsNeed path all) new.asked
+      → ((other : Outcome) → ¬ (IsRefusedList path (answer_in new.asked) other)) → outcome ≡ out_of_memory
       → IsVersionsRun path all old new outcome
   memory_run still in_turn none memory = still_run still in_turn (λ other refused. absurd (none other refused)) (inr memory)
 
 -- what it comes to
-pub versions_come : (path : List ℕ) (all : Bool) (before after : Name → Option Reply → Type 0) (old new : StoreState) (outcome : Outcome) → IsVersionsRun path all old new outcome
+pub versions_come : (path : List ℕ) (all : Bool) (before after : Name → Option Reply → Type 0) (old new : StoreState)
+    (outcome : Outcome) → IsVersionsRun path all old new outcome
     → HasServed before after old new → (main : List ℕ) (sums : Option (List ℕ)) → ComesTo (Versions path all) main sums before after old new outcome
 versions_come path all before after old new outcome (still_run still in_turn refusal ends) served main sums =
     still_comes (Versions path all) main sums before after old new outcome in_turn served
-    (λ named every other same refused. let path_same : named ≡ path = cc same in refusal other (subst (λ (p : List ℕ). IsRefusedList p (answer_in new.asked) other) path_same refused)) still ends
+    (λ named every other same refused. let path_same : named ≡ path = cc same in
+    refusal other (subst (λ (p : List ℕ). IsRefusedList p (answer_in new.asked) other) path_same refused)) still
+    ends
 versions_come path all before after old new outcome (broken_run name grown in_turn needed unanswered none told) served main sums =
     broken_comes (Versions path all) main sums before after old new outcome in_turn served
-    (λ named every other same refused. let path_same : named ≡ path = cc same in absurd (none other (subst (λ (p : List ℕ). IsRefusedList p (answer_in new.asked) other) path_same refused)))
+    (λ named every other same refused. let path_same : named ≡ path = cc same in
+    absurd (none other (subst (λ (p : List ℕ). IsRefusedList p (answer_in new.asked) other) path_same refused)))
     name grown needed unanswered (device name needed unanswered refl told) told
 
 -- ---- the list is asked for
@@ -77,23 +83,27 @@ module _ (path : List ℕ) (all : Bool) (old new : StoreState) (outcome : Outcom
         memory_run path all old new outcome still (none_in_turn (VersionsNeed path all) new.asked none) (none_refused none) is
 
 -- it was asked for first
-list_in_turn : (path : List ℕ) (all : Bool) (asked : Pairs) (reply : Reply) → is_fetchable path ≡ true → asked ≡ (list_file path, reply) ∷ [] → AskedInTurn (VersionsNeed path all) asked
+list_in_turn : (path : List ℕ) (all : Bool) (asked : Pairs) (reply : Reply) → is_fetchable path ≡ true
+    → asked ≡ (list_file path, reply) ∷ [] → AskedInTurn (VersionsNeed path all) asked
 list_in_turn path all asked reply fetchable is =
     subst (AskedInTurn (VersionsNeed path all)) (sym is) (more {pairs = []} {name = list_file path} reply nothing (inl (fetchable, refl)) refl)
 
 -- only it was asked for
-pub list_alone : (path : List ℕ) (old new : StoreState) (reply : Reply) → old.asked ≡ [] → IsAnsweredAsk (list_file path) old new reply → new.asked ≡ (list_file path, reply) ∷ []
+pub list_alone : (path : List ℕ) (old new : StoreState) (reply : Reply) → old.asked ≡ []
+    → IsAnsweredAsk (list_file path) old new reply → new.asked ≡ (list_file path, reply) ∷ []
 list_alone path old new reply first heard = heard.0 ∙ ap (λ (a : Pairs). a ++ (list_file path, reply) ∷ []) first
 
 -- the answer is no list
-pub no_list_run : (path : List ℕ) (all : Bool) (old new : StoreState) (outcome : Outcome) (reply : Reply) → old.asked ≡ [] → is_fetchable path ≡ true → IsAnsweredAsk (list_file path) old new reply
+pub no_list_run : (path : List ℕ) (all : Bool) (old new : StoreState) (outcome : Outcome) (reply : Reply)
+    → old.asked ≡ [] → is_fetchable path ≡ true → IsAnsweredAsk (list_file path) old new reply
     → list_refusal path true (Some reply) ≡ Some outcome → IsVersionsRun path all old new outcome
 no_list_run path all old new outcome reply first fetchable heard refused =
     let alone = list_alone path old new reply first heard in
     refused_run path all old new outcome heard.1 (list_in_turn path all new.asked reply fetchable alone)
     (ap₂ (list_refusal path) fetchable (ap (λ (a : Pairs). answer_in a (list_file path)) alone ∙ list_answer path reply []) ∙ refused)
 
-pub list_known : (path : List ℕ) (old new : StoreState) (list : List ℕ) (reply : Reply) → old.asked ≡ [] → is_fetchable path ≡ true → IsAnsweredAsk (list_file path) old new reply → reply ≡ bytes list
+pub list_known : (path : List ℕ) (old new : StoreState) (list : List ℕ) (reply : Reply) → old.asked ≡ []
+    → is_fetchable path ≡ true → IsAnsweredAsk (list_file path) old new reply → reply ≡ bytes list
     → IsListAnswered path old new list
 list_known path old new list reply first fetchable heard is = record {
   fetchable = fetchable;
@@ -103,15 +113,18 @@ list_known path old new list reply first fetchable heard is = record {
 
 -- ---- the list was answered
 
-pub file_unasked : (path : List ℕ) (old new : StoreState) (list : List ℕ) → IsListAnswered path old new list → (latest : List ℕ) → answer_in new.asked (mod_file path latest) ≡ None
+pub file_unasked : (path : List ℕ) (old new : StoreState) (list : List ℕ) → IsListAnswered path old new list
+    → (latest : List ℕ) → answer_in new.asked (mod_file path latest) ≡ None
 file_unasked path old new list is latest = ap (λ (a : Pairs). answer_in a (mod_file path latest)) is.alone
 
 -- memory ran out before more was asked
-pub listed_memory : (path : List ℕ) (all : Bool) (old new : StoreState) (list : List ℕ) (outcome : Outcome) → IsListAnswered path old new list → outcome ≡ out_of_memory
+pub listed_memory : (path : List ℕ) (all : Bool) (old new : StoreState) (list : List ℕ) (outcome : Outcome)
+    → IsListAnswered path old new list → outcome ≡ out_of_memory
     → IsVersionsRun path all old new outcome
 listed_memory path all old new list outcome is memory =
     memory_run path all old new outcome is.still (list_in_turn path all new.asked (bytes list) is.fetchable is.alone)
-    (λ other. unrefused path list (answer_in new.asked) other is.fetchable (ap (λ (a : Pairs). answer_in a (list_file path)) is.alone ∙ list_answer path (bytes list) [])) memory
+    (λ other. unrefused path list (answer_in new.asked) other is.fetchable
+    (ap (λ (a : Pairs). answer_in a (list_file path)) is.alone ∙ list_answer path (bytes list) [])) memory
 
 module _ (path : List ℕ) (all : Bool) (first mid : StoreState) (versions : List (List ℕ)) (is : AreVersionsAnswered path first mid versions) where
   list_first : (asked rest : Pairs) → asked ≡ (list_file path, bytes is.list) ∷ rest → answer_in asked (list_file path) ≡ Some (bytes is.list)
@@ -130,7 +143,8 @@ module _ (path : List ℕ) (all : Bool) (first mid : StoreState) (versions : Lis
 
 -- ---- the go.mod of the latest version is asked for
 
-module _ (path : List ℕ) (first mid new : StoreState) (versions : List (List ℕ)) (latest : List ℕ) (is : AreVersionsAnswered path first mid versions) (greatest : IsLatest versions latest) where
+module _ (path : List ℕ) (first mid new : StoreState) (versions : List (List ℕ)) (latest : List ℕ)
+    (is : AreVersionsAnswered path first mid versions) (greatest : IsLatest versions latest) where
   needed_after : (asked rest : Pairs) → asked ≡ (list_file path, bytes is.list) ∷ rest → IsLatestListed path false (answer_in asked) versions latest
   needed_after asked rest begins = record { some = refl; listed = listed_first path false first mid versions is asked rest begins; greatest = greatest }
 
@@ -138,11 +152,14 @@ module _ (path : List ℕ) (first mid new : StoreState) (versions : List (List �
   turn_before = list_in_turn path false mid.asked (bytes is.list) is.answered.fetchable is.answered.alone
 
   -- it was not answered
-  pub file_unanswered : (outcome : Outcome) → IsRefusedAt (mod_file path latest) mid new outcome ⊎ IsUnanswered mid new outcome → IsVersionsRun path false first new outcome
+  pub file_unanswered : (outcome : Outcome) → IsRefusedAt (mod_file path latest) mid new outcome
+      ⊎ IsUnanswered mid new outcome → IsVersionsRun path false first new outcome
   file_unanswered outcome (inl (told, same, grown)) =
       let alone : new.asked ≡ (list_file path, bytes is.list) ∷ [] = same ∙ is.answered.alone in
       broken_run (mod_file path latest) (grown ∙ ap (λ (names : List Name). names ++ mod_file path latest ∷ []) is.answered.still)
-      (subst (AskedInTurn (VersionsNeed path false)) (sym same) turn_before) (inr (versions, latest, refl, needed_after new.asked [] alone)) (ap (λ (a : Pairs). answer_in a (mod_file path latest)) alone)
+      (subst (AskedInTurn (VersionsNeed path false)) (sym same) turn_before)
+      (inr (versions, latest, refl, needed_after new.asked [] alone))
+      (ap (λ (a : Pairs). answer_in a (mod_file path latest)) alone)
       (λ other. unrefused path is.list (answer_in new.asked) other is.answered.fetchable (list_first path false first mid versions is new.asked [] alone)) told
   file_unanswered outcome (inr (memory, same, still)) =
       listed_memory path false first new is.list outcome
@@ -167,9 +184,11 @@ module _ (path : List ℕ) (first mid new : StoreState) (versions : List (List �
 
     none : (other : Outcome) → ¬ (IsRefusedList path (answer_in new.asked) other)
     none other =
-        unrefused path is.list (answer_in new.asked) other is.answered.fetchable (list_first path false first mid versions is new.asked ((mod_file path latest, reply) ∷ []) both)
+        unrefused path is.list (answer_in new.asked) other is.answered.fetchable
+        (list_first path false first mid versions is new.asked ((mod_file path latest, reply) ∷ []) both)
 
-    says_after : (reading : Result Dependency Class) → IsFileReading None (mod_file path latest) reply reading → LatestSays path false (answer_in new.asked) versions latest reply reading
+    says_after : (reading : Result Dependency Class) → IsFileReading None (mod_file path latest) reply reading
+        → LatestSays path false (answer_in new.asked) versions latest reply reading
     says_after reading says = record {
       is = needed;
       answered = ap (λ (a : Pairs). answer_in a (mod_file path latest)) both ∙ file_answer path latest (bytes is.list) reply [];
@@ -179,13 +198,15 @@ module _ (path : List ℕ) (first mid new : StoreState) (versions : List (List �
     pub file_memory : (outcome : Outcome) → outcome ≡ out_of_memory → IsVersionsRun path false first new outcome
     file_memory outcome memory = memory_run path false first new outcome still in_turn none memory
 
-    pub file_faulty : (class : Class) (outcome : Outcome) → IsFileReading None (mod_file path latest) reply (Err class) → outcome ≡ refusal_outcome (fault_line (path, latest) class)
+    pub file_faulty : (class : Class) (outcome : Outcome) → IsFileReading None (mod_file path latest) reply (Err class)
+        → outcome ≡ refusal_outcome (fault_line (path, latest) class)
         → IsVersionsRun path false first new outcome
     file_faulty class outcome says told =
         still_run still in_turn (λ other refused. absurd (none other refused))
         (inl (bad_file versions latest reply class (says_after (Err class) says) refl told))
 
-    pub file_valid : (file : Dependency) (intervals : List VersionInterval) → IsFileReading None (mod_file path latest) reply (Ok file) → AreRetractedBy reply intervals
+    pub file_valid : (file : Dependency) (intervals : List VersionInterval)
+        → IsFileReading None (mod_file path latest) reply (Ok file) → AreRetractedBy reply intervals
         → AreToBeShown path false first new (shown_of intervals versions)
     file_valid file intervals says retracted = record {
       in_turn = in_turn;
@@ -221,6 +242,7 @@ answer_says name reply content (Err e) is says = tt
 answer_says name reply content (Ok read) is says = subst (λ (r : Reply). IsWithinLimit r → IsFileReading None name r (reading_of read)) (sym is) says
 
 -- by the retractions of its bytes
-pub answer_retracts : {E : Type 0} (reply : Reply) (content : List ℕ) (result : Result FileReading E) → reply ≡ bytes content → IfOk result (RetractsBy (bytes content))
+pub answer_retracts : {E : Type 0} (reply : Reply) (content : List ℕ) (result : Result FileReading E)
+    → reply ≡ bytes content → IfOk result (RetractsBy (bytes content))
     → IfOk result (RetractsBy reply)
 answer_retracts reply content result is retracts = subst (λ (r : Reply). IfOk result (RetractsBy r)) (sym is) retracts

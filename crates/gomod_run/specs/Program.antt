@@ -87,9 +87,9 @@ IsUnread may_give (Some name) outcome =
     MayRead (may_give name) (Err Device) × (outcome ≡ failure_outcome (cannot_read_line name))
 
 -- the bytes that were read, if any
-abbrev pub bytes_of : Option (Vec ℕ) → List ℕ
-bytes_of None = []
-bytes_of (Some content) = content.items
+abbrev pub bytes_read : Option (Vec ℕ) → List ℕ
+bytes_read None = []
+bytes_read (Some content) = content.items
 
 -- ---- what its store may answer
 
@@ -140,7 +140,7 @@ pub data IsServed (may_open : List ℕ → Opening → Type 0) (may_take : Openi
       → IsInput (FileGives may_open may_take) (sums_input command sums) table
       → IsInput (FileGives may_open may_take) (list_input command proxy) list
       → MayBeTold may_open (versions_path command) main list proxy told
-      → RunEnds command (given_of (bytes_of file) (option_map (λ content. content.items) table) told) outcome
+      → RunEnds command (given_of (bytes_read file) (option_map (λ content. content.items) table) told) outcome
       → IsServed may_open may_take command main sums proxy outcome
 
 -- the outcome for these words: their usage error, or the outcome of their command over the files that they name, or

@@ -7,7 +7,7 @@ ghost use Rattle.std.specs.String.{string_bytes};
 ghost use Rattle.gm_store.specs.Openings.{MayRead};
 ghost use Rattle.gm_store.specs.declared.fallback.proxy_list.ProxyList.{ProxyList};
 ghost use Rattle.gomod_run.specs.Outcome.{OrNoMemory, report_outcome};
-ghost use Rattle.gomod_run.specs.Program.{FileGives, IsInput, IsServed, IsUnread, bytes_of, main_input, sums_input, versions_path};
+ghost use Rattle.gomod_run.specs.Program.{FileGives, IsInput, IsServed, IsUnread, bytes_read, main_input, sums_input, versions_path};
 ghost use Rattle.gomod_run.specs.Runs.{is_query};
 
 use crate::reports::report::Report;
@@ -31,7 +31,7 @@ pub(crate) struct Inputs {
 impl Inputs {
     /// The bytes of the main file; none if the command reads none.
     pub(crate) fn main(&self) -> &[u8]
-        ensures { result.now ≡ bytes_of self.now.main }
+        ensures { result.now ≡ bytes_read self.now.main }
     {
         match &self.main {
             Some(main) => main.as_slice(),

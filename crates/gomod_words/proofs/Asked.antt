@@ -33,7 +33,8 @@ only_kind kind one kinds is among = elim (subst (IsAmong kind) is among) [
 ]
 
 -- words at which the parser finds something wrong ask for no command
-no_command : (words : List Text) (kind : ErrorKind) → fault_of gomod_app words ≡ kind ∷ [] → (command : Command) (places : Places) → AskFor words command places → ⊥
+no_command : (words : List Text) (kind : ErrorKind) → fault_of gomod_app words ≡ kind ∷ []
+    → (command : Command) (places : Places) → AskFor words command places → ⊥
 no_command words kind is command places asked = let none : [] ≡ kind ∷ [] = sym asked.taken ∙ is in cc none
 
 version_only : (words : List Text) → fault_of gomod_app words ≡ DisplayVersion ∷ [] → (fault : UsageFault) → IsReadFault words fault → IsVersionLine fault
@@ -51,7 +52,8 @@ error_only words is NoMemory known = refl
 error_only words is (Help text) known =
     let same : DisplayHelp ≡ DisplayHelpOnMissingArgumentOrSubcommand = only_kind DisplayHelp DisplayHelpOnMissingArgumentOrSubcommand _ is known.0 in cc same
 error_only words is (Version text) known =
-    let same : DisplayVersion ≡ DisplayHelpOnMissingArgumentOrSubcommand = only_kind DisplayVersion DisplayHelpOnMissingArgumentOrSubcommand _ is known.0 in cc same
+    let same : DisplayVersion ≡ DisplayHelpOnMissingArgumentOrSubcommand =
+    only_kind DisplayVersion DisplayHelpOnMissingArgumentOrSubcommand _ is known.0 in cc same
 error_only words is (Line text) known = refl
 error_only words is (BadPath text) known = let none : [] ≡ DisplayHelpOnMissingArgumentOrSubcommand ∷ [] = sym known.0 ∙ is in cc none
 error_only words is (BadProxy text) known = let none : [] ≡ DisplayHelpOnMissingArgumentOrSubcommand ∷ [] = sym known.0 ∙ is in cc none

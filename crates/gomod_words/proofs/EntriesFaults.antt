@@ -9,7 +9,8 @@ use Rattle.gomod_words.specs.declared.usage.UsageFault.{UsageFault}
 use Rattle.gomod_words.specs.declared.usage.UsageFault.TheVariants.{NoMemory, Help, Version, Line, BadPath, BadProxy}
 
 -- a result that passes a fault on says of it what is known of the fault
-pub passed : {T : Type 0} (result : Result T UsageFault) (fault : UsageFault) (P : UsageFault → Type 0) → IsErrAnd result (λ f. f ≡ fault) → P fault → IfErr result P
+pub passed : {T : Type 0} (result : Result T UsageFault) (fault : UsageFault) (P : UsageFault → Type 0)
+    → IsErrAnd result (λ f. f ≡ fault) → P fault → IfErr result P
 passed (Ok value) fault P is known = tt
 passed (Err f) fault P is known = subst P (sym is) known
 

@@ -49,18 +49,21 @@ entries_result words entered (Ok value) taken same known = tt
 entries_result words entered (Err fault) taken same known = entries_fault words entered fault taken same known
 
 -- the words ask for what the entries mean
-pub entries_read : (words : List Text) (entered : Option (Text × List Row)) (result : Result (Command × Places) UsageFault) → dashed_in words ≡ None → AreAccepted words
+pub entries_read : (words : List Text) (entered : Option (Text × List Row))
+    (result : Result (Command × Places) UsageFault) → dashed_in words ≡ None → AreAccepted words
     → entered ≡ subcommand_of gomod_app words → IfOk result (λ read. IsMeant entered read.0 read.1) → IfOk result (λ read. AskFor words read.0 read.1)
 entries_read words entered (Ok read) undashed taken same known =
     let P : Option (Text × List Row) → Type 0 = λ o. IsMeant o read.0 read.1 in record { undashed = undashed; taken = taken; meant = subst P same known }
 entries_read words entered (Err fault) undashed taken same known = tt
 
-some_asked : (words : List Text) (result : Result (Command × Places) UsageFault) → IfOk result (λ read. AskFor words read.0 read.1) → IsOk result → AskForSomething words
+some_asked : (words : List Text) (result : Result (Command × Places) UsageFault)
+    → IfOk result (λ read. AskFor words read.0 read.1) → IsOk result → AskForSomething words
 some_asked words (Ok read) asked ok = (read.0, read.1, asked)
 some_asked words (Err fault) asked ok = cc ok
 
 -- words that are found to be read ask for a command
-pub read_asks : {E : Type 0} (words : List Text) (result : Result (Command × Places) UsageFault) (is : Result Bool E) → IfOk result (λ read. AskFor words read.0 read.1)
+pub read_asks : {E : Type 0} (words : List Text) (result : Result (Command × Places) UsageFault) (is : Result Bool E)
+    → IfOk result (λ read. AskFor words read.0 read.1)
     → IfOk is (λ b. b ≡ true → IsOk result) → IfOk is (λ b. b ≡ true → AskForSomething words)
 read_asks words result (Ok b) asked known = λ yes. some_asked words result asked (known yes)
 read_asks words result (Err e) asked known = tt

@@ -31,7 +31,8 @@ shows_word word (BadPath text) bad known = absurd known
 shows_word word (BadProxy text) bad known = absurd known
 
 -- and that is the word with a number, if its bytes were
-pub shows_number : (given : Option (List (List ℕ))) (number : ℕ) (word : List ℕ) (fault : UsageFault) → IsWordAt given number (Some word) → IsUnreadable word fault
+pub shows_number : (given : Option (List (List ℕ))) (number : ℕ) (word : List ℕ) (fault : UsageFault)
+    → IsWordAt given number (Some word) → IsUnreadable word fault
     → IsUnreadableWord given number fault
 shows_number given number word NoMemory at is = tt
 shows_number given number word (Line text) at is =
@@ -79,14 +80,16 @@ past all number none = elim (slice_get_cases all number).1 [
 ]
 
 -- if there is no word with that number, these are all
-pub all_before : (given : Option (List (List ℕ))) (number : ℕ) (words : List (String Global)) (found : Option (String Global)) → AreBefore given number words → found ≡ None
+pub all_before : (given : Option (List (List ℕ))) (number : ℕ) (words : List (String Global))
+    (found : Option (String Global)) → AreBefore given number words → found ≡ None
     → IsWordAt given number (option_map string_bytes found) → AreGiven given (map string_bytes words)
 all_before None number words found before none is = tt
 all_before (Some all) number words found before none is =
     before ∙ take_all number all (past all number (subst (λ (f : Option (String Global)). option_map string_bytes f ≡ slice_get all number) none is))
 
 -- with the word of that number, these are those before the next
-pub one_more : (given : Option (List (List ℕ))) (number : ℕ) (words new : List (String Global)) (found : Option (String Global)) (word : String Global) → AreBefore given number words
+pub one_more : (given : Option (List (List ℕ))) (number : ℕ) (words new : List (String Global))
+    (found : Option (String Global)) (word : String Global) → AreBefore given number words
     → found ≡ Some word → IsWordAt given number (option_map string_bytes found) → new ≡ words ++ word ∷ [] → AreBefore given (number + 1) new
 one_more None number words new found word before some is same = tt
 one_more (Some all) number words new found word before some is same =

@@ -42,7 +42,8 @@ has_some : (text : List ℕ) → true ≡ nat_lt 0 (digits_value 10 text) → 0 
 has_some [] e = cc e
 has_some (c ∷ text) e = omega arith
 
-pub limit_read : {E : Type 0} (text : List ℕ) (n : ℕ) → list_all is_ascii_digit text ≡ true → (r : Result ℕ E) → r ≡ Ok n → ParsesUnsigned 32 10 text r → 0 < n → Some n ≡ limit_of text
+pub limit_read : {E : Type 0} (text : List ℕ) (n : ℕ) → list_all is_ascii_digit text ≡ true → (r : Result ℕ E)
+    → r ≡ Ok n → ParsesUnsigned 32 10 text r → 0 < n → Some n ≡ limit_of text
 limit_read {E} text n all r is parsed some =
     let known = rw is at (parse_plain digits 32 text r parsed (unsigned text all)) in
     let same : n ≡ digits_value 10 text = known.1 in
@@ -52,7 +53,8 @@ limit_read {E} text n all r is parsed some =
     let second : nat_lt (digits_value 10 text) (2 ^ 32) ≡ true = grind (arith, nat_tests) in
     ap Some same ∙ sym (limit_by text (nat_lt 0 (digits_value 10 text)) (nat_lt (digits_value 10 text) (2 ^ 32)) all refl refl (and_from _ _ first second))
 
-pub limit_zero : {E : Type 0} (text : List ℕ) (n : ℕ) → list_all is_ascii_digit text ≡ true → (r : Result ℕ E) → r ≡ Ok n → ParsesUnsigned 32 10 text r → n ≤ 0 → None ≡ limit_of text
+pub limit_zero : {E : Type 0} (text : List ℕ) (n : ℕ) → list_all is_ascii_digit text ≡ true → (r : Result ℕ E)
+    → r ≡ Ok n → ParsesUnsigned 32 10 text r → n ≤ 0 → None ≡ limit_of text
 limit_zero {E} text n all r is parsed none =
     let known = rw is at (parse_plain digits 32 text r parsed (unsigned text all)) in
     let same : n ≡ digits_value 10 text = known.1 in
@@ -60,7 +62,8 @@ limit_zero {E} text n all r is parsed none =
     let first : nat_lt 0 (digits_value 10 text) ≡ false = grind (arith, nat_tests) in
     sym (none_by text (nat_lt 0 (digits_value 10 text)) (nat_lt (digits_value 10 text) (2 ^ 32)) all refl refl (and_left _ _ first))
 
-unread_by : (text : List ℕ) (a b : Bool) → list_all is_ascii_digit text ≡ true → a ≡ nat_lt 0 (digits_value 10 text) → b ≡ nat_lt (digits_value 10 text) (2 ^ 32)
+unread_by : (text : List ℕ) (a b : Bool) → list_all is_ascii_digit text ≡ true → a ≡ nat_lt 0 (digits_value 10 text)
+    → b ≡ nat_lt (digits_value 10 text) (2 ^ 32)
     → ¬ ((list_all is_ascii_digit text ≡ true) × (0 < length text) × (digits_value 10 text < 2 ^ 32)) → limit_of text ≡ None
 unread_by text true true all some below none =
     let fits : digits_value 10 text < 2 ^ 32 = grind (arith, nat_tests) in

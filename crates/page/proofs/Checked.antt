@@ -98,11 +98,13 @@ is_readable absent = true
 is_readable too_long = true
 is_readable (bytes content) = can_be_told (said_in content)
 
-unless_so : (fault : Option Class) (content : List ℕ) → can_be_told (said_in content) ≡ true → (said : Result Dependency Class) × IsReadUnless fault content said
+unless_so : (fault : Option Class) (content : List ℕ) → can_be_told (said_in content) ≡ true
+    → (said : Result Dependency Class) × IsReadUnless fault content said
 unless_so (Some class) content h = (Err class, refl)
 unless_so None content h = (as_class (said_in content), content_so content (said_in content) refl h)
 
-reply_so : (sums : Option Sums) (reply : Reply) → is_readable reply ≡ true → (name : Name) → (said : Result Dependency Class) × IsFileReading sums name reply said
+reply_so : (sums : Option Sums) (reply : Reply) → is_readable reply ≡ true → (name : Name)
+    → (said : Result Dependency Class) × IsFileReading sums name reply said
 reply_so sums absent h name = (Err Missing, refl)
 reply_so sums too_long h name = (Err TooLong, refl)
 reply_so sums (bytes content) h name = unless_so (sum_fault sums name content) content h
@@ -215,11 +217,13 @@ abbrev printed : Option (List ℕ) → Option ℕ → List ℕ → List Entry �
 printed None limit main rows = text_outcome (list_text main (up_to limit rows))
 printed (Some path) limit main rows = rest_printed main path limit (rest_of main path rows)
 
-printed_so : (after : Option (List ℕ)) (limit : Option ℕ) (main : Main) (rows : List Entry) → PrintsRows main rows after limit (printed after limit main.path rows)
+printed_so : (after : Option (List ℕ)) (limit : Option ℕ) (main : Main) (rows : List Entry)
+    → PrintsRows main rows after limit (printed after limit main.path rows)
 printed_so None limit main rows = no_path refl refl
 printed_so (Some path) limit main rows = by_rest (rest_of main.path path rows) refl
   where
-    by_rest : (found : Option (List Entry)) → rest_of main.path path rows ≡ found → PrintsRows main rows (Some path) limit (rest_printed main.path path limit found)
+    by_rest : (found : Option (List Entry)) → rest_of main.path path rows ≡ found
+        → PrintsRows main rows (Some path) limit (rest_printed main.path path limit found)
     by_rest (Some rest) e = path_listed path rest refl (rest_so main.path path rows rest e) refl
     by_rest None e = path_unlisted path refl (none_so main.path path rows e, refl)
 
@@ -287,7 +291,8 @@ module _ (main : Main) (sums : Option Sums) (asked : List (Name × Reply)) where
   abbrev Tells : Row → Type 0
   Tells row = Says run row.0 row.1
 
-  told_all : IsRead run → (xs : List ModuleVersion) (more : List Row) → are_told xs ≡ true → AllByRecursion Tells more → AllByRecursion Tells (rows_of xs ++ more)
+  told_all : IsRead run → (xs : List ModuleVersion) (more : List Row) → are_told xs ≡ true → AllByRecursion Tells more
+      → AllByRecursion Tells (rows_of xs ++ more)
   told_all read [] more h rest = rest
   told_all read (x ∷ xs) more h rest =
       let parts = and_parts (is_told (said_of main sums asked x)) (are_told xs) h in
@@ -446,17 +451,20 @@ module _ (content : List ℕ) (text : Option (List ℕ)) (main : Main) (sums : O
   abbrev Said : ModuleVersion → Class → Type 0
   Said x class = said_of main sums asked x ≡ Some (Err class)
 
-  fault_there : (xs : List ModuleVersion) (x : ModuleVersion) (class : Class) → Contains xs x → Said x class → Contains (faults_among main sums asked xs) (fault_with x class)
+  fault_there : (xs : List ModuleVersion) (x : ModuleVersion) (class : Class) → Contains xs x → Said x class
+      → Contains (faults_among main sums asked xs) (fault_with x class)
   fault_there [] x class there is = absurd (no_member x there)
   fault_there (y ∷ ys) x class there is = by_said (said_of main sums asked y) refl (member_cases y x ys there) (λ later. fault_there ys x class later is)
     where
       by_said : (said : Option (Result Dependency Class)) → said_of main sums asked y ≡ said → (y ≡ x) ⊎ Contains ys x
-          → (Contains ys x → Contains (faults_among main sums asked ys) (fault_with x class)) → Contains (fault_row y said (faults_among main sums asked ys)) (fault_with x class)
+          → (Contains ys x → Contains (faults_among main sums asked ys) (fault_with x class))
+          → Contains (fault_row y said (faults_among main sums asked ys)) (fault_with x class)
       by_said (Some (Err own)) e (inl same) rest =
           let both : Some (Err own) ≡ Some (Err class) = sym e ∙ subst (λ (z : ModuleVersion). Said z class) (sym same) is in
           let one : own ≡ class = cc both in
           subst (λ (z : ModuleVersion). Contains (fault_with y own ∷ faults_among main sums asked ys) (fault_with z class)) same
-          (subst (λ (c : Class). Contains (fault_with y own ∷ faults_among main sums asked ys) (fault_with y c)) one (member_head (fault_with y own) (faults_among main sums asked ys)))
+          (subst (λ (c : Class). Contains (fault_with y own ∷ faults_among main sums asked ys) (fault_with y c)) one
+          (member_head (fault_with y own) (faults_among main sums asked ys)))
       by_said (Some (Ok file)) e (inl same) rest =
           absurd (let both : Some (Ok file) ≡ Some (Err class) = sym e ∙ subst (λ (z : ModuleVersion). Said z class) (sym same) is in cc both)
       by_said None e (inl same) rest =
@@ -492,19 +500,24 @@ module _ (content : List ℕ) (text : Option (List ℕ)) (main : Main) (sums : O
   is_reported x (Some (Ok file)) e is there = tt
   is_reported x (Some (Err class)) e is there = fault_there (opened main sums asked) x class there e
 
-  reported_rows : (xs : List ModuleVersion) (more : List Row) → are_told main sums asked xs ≡ true → ((x : ModuleVersion) → Contains xs x → Contains (opened main sums asked) x)
+  reported_rows : (xs : List ModuleVersion) (more : List Row) → are_told main sums asked xs ≡ true
+      → ((x : ModuleVersion) → Contains xs x → Contains (opened main sums asked) x)
       → AllByRecursion (IsReported all_faults) more → AllByRecursion (IsReported all_faults) (rows_of main sums asked xs ++ more)
   reported_rows [] more is within rest = rest
   reported_rows (x ∷ xs) more is within rest =
-      let parts = and_parts (is_told (said_of main sums asked x)) (are_told main sums asked xs) is in
-      (is_reported x (said_of main sums asked x) refl parts.0 (within x (member_head x xs)), reported_rows xs more parts.1 (λ y there. within y (member_tail x y xs there)) rest)
+      let parts = and_parts (is_told (said_of main sums asked x)) (are_told main sums asked xs) is in (
+        is_reported x (said_of main sums asked x) refl parts.0 (within x (member_head x xs)),
+        reported_rows xs more parts.1 (λ y there. within y (member_tail x y xs there)) rest,
+      )
 
   reported_deep : (xs : List ModuleVersion) → are_told main sums asked xs ≡ true → ((x : ModuleVersion) → Contains xs x → Contains (opened main sums asked) x)
       → AllByRecursion (IsReported all_faults) (rows_of main sums asked xs)
   reported_deep [] is within = tt
   reported_deep (x ∷ xs) is within =
-      let parts = and_parts (is_told (said_of main sums asked x)) (are_told main sums asked xs) is in
-      (is_reported x (said_of main sums asked x) refl parts.0 (within x (member_head x xs)), reported_deep xs parts.1 (λ y there. within y (member_tail x y xs there)))
+      let parts = and_parts (is_told (said_of main sums asked x)) (are_told main sums asked xs) is in (
+        is_reported x (said_of main sums asked x) refl parts.0 (within x (member_head x xs)),
+        reported_deep xs parts.1 (λ y there. within y (member_tail x y xs there)),
+      )
 
   row_in : (xs : List ModuleVersion) (x : ModuleVersion) → Contains xs x → Contains (rows_of main sums asked xs) (row_of main sums asked x)
   row_in [] x there = absurd (no_member x there)
@@ -531,7 +544,8 @@ module _ (content : List ℕ) (text : Option (List ℕ)) (main : Main) (sums : O
 
   rowed : (one : Fault) → IsFrom (opened main sums asked) one → IsRowed one
   rowed one (there, is) =
-      subst (λ (said : Option (Result Dependency Class)). Contains (rows main sums asked) (one.vertex, told said)) is (row_there one.vertex (from_opened one.vertex there))
+      subst (λ (said : Option (Result Dependency Class)). Contains (rows main sums asked) (one.vertex, told said)) is
+      (row_there one.vertex (from_opened one.vertex there))
 
   all_members : (P : Fault → Type 0) (xs : List Fault) → ((x : Fault) → Contains xs x → P x) → AllByRecursion P xs
   all_members P [] f = tt

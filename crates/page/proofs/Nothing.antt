@@ -82,7 +82,8 @@ module _ (content : List ℕ) (main : Main) (asked : List (Name × Reply)) (fail
 
 -- ---- worlds
 
-alone_is_bare : (asked : List (Name × Reply)) (x : ModuleVersion) → IsTop (run_of alone_file None asked) x → (y : ModuleVersion) → Requires (run_of alone_file None asked) x y → ⊥
+alone_is_bare : (asked : List (Name × Reply)) (x : ModuleVersion) → IsTop (run_of alone_file None asked) x
+    → (y : ModuleVersion) → Requires (run_of alone_file None asked) x y → ⊥
 alone_is_bare asked x top y requires = no_member x top
 
 nothing_failed : (asked : List (Name × Reply)) (main : Main) (name : Name) → ◌≡◌ {A = List Name} [] (name ∷ []) → IsDue (run_of main None asked) name → ⊥

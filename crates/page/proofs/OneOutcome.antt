@@ -156,7 +156,8 @@ abbrev Tells : Option (List ℕ) → Option ℕ → Run → List Fault → Outco
 Tells after limit run [] outcome = PrintsList after limit run outcome
 Tells after limit run (first ∷ others) outcome = outcome ≡ refusal_outcome (faults_text (first ∷ others))
 
-one_told : (after : Option (List ℕ)) (limit : Option ℕ) (run : Run) (faults : List Fault) (a b : Outcome) → Tells after limit run faults a → Tells after limit run faults b → a ≡ b
+one_told : (after : Option (List ℕ)) (limit : Option ℕ) (run : Run) (faults : List Fault) (a b : Outcome)
+    → Tells after limit run faults a → Tells after limit run faults b → a ≡ b
 one_told after limit run [] a b (rows, are, says) (others, be, tells) =
     one_text run.main others after limit a b (subst (λ (es : List Entry). PrintsRows run.main es after limit a) (one_rows run rows others are be) says) tells
 one_told after limit run (first ∷ others) a b is be = is ∙ sym be
@@ -164,14 +165,18 @@ one_told after limit run (first ∷ others) a b is be = is ∙ sym be
 -- how it ends if its files are valid
 data Ends (after : Option (List ℕ)) (limit : Option ℕ) (run : Given) (main : Main) (table : Option Sums) (outcome : Outcome) : Type 0 where
   broken : (name : Name) → run.told.failed ≡ name ∷ [] → outcome ≡ failure_outcome (device_line name) → Ends after limit run main table outcome
-  many : AreTooMany (run_of main table run.told.asked) → run.told.failed ≡ [] → outcome ≡ refusal_outcome too_many_line → Ends after limit run main table outcome
-  known : (faults : List Fault) → AreFound run main table faults → Tells after limit (run_of main table run.told.asked) faults outcome → Ends after limit run main table outcome
+  many : AreTooMany (run_of main table run.told.asked) → run.told.failed ≡ [] → outcome ≡ refusal_outcome too_many_line
+      → Ends after limit run main table outcome
+  known : (faults : List Fault) → AreFound run main table faults
+      → Tells after limit (run_of main table run.told.asked) faults outcome → Ends after limit run main table outcome
 
 -- its files are invalid, or it ends otherwise
 data Reads (after : Option (List ℕ)) (limit : Option ℕ) (run : Given) (outcome : Outcome) : Type 0 where
   no_main : (place : FaultPlace) → IsMisread Strict run.file place.0 place.1 → outcome ≡ refusal_outcome (main_line place) → Reads after limit run outcome
-  no_sums : (main : Main) (report : List ℕ) → IsMainFile run.file main → AreInvalidSums run.sums report → outcome ≡ refusal_outcome report → Reads after limit run outcome
-  valid : (main : Main) (table : Option Sums) → FilesReadAs run.file run.sums main table → Ends after limit run main table outcome → Reads after limit run outcome
+  no_sums : (main : Main) (report : List ℕ) → IsMainFile run.file main → AreInvalidSums run.sums report
+      → outcome ≡ refusal_outcome report → Reads after limit run outcome
+  valid : (main : Main) (table : Option Sums) → FilesReadAs run.file run.sums main table
+      → Ends after limit run main table outcome → Reads after limit run outcome
 
 reads : (after : Option (List ℕ)) (limit : Option ℕ) (run : Given) (outcome : Outcome) → ListEnds after limit run outcome → Reads after limit run outcome
 reads after limit run outcome (bad_main place misread unasked is) = no_main place misread is
@@ -203,7 +208,8 @@ module _ (after : Option (List ℕ)) (limit : Option ℕ) (run : Given) where
   one_end main table a b (known faults found is) (many over none be) = absurd (not_many main table faults found over)
   one_end main table a b (known faults found is) (known others finds be) =
       let r = run_of main table run.told.asked in
-      one_told after limit r others a b (subst (λ (fs : List Fault). Tells after limit r fs a) (one_faults r faults others found.faults_are finds.faults_are) is) be
+      one_told after limit r others a b (subst (λ (fs : List Fault). Tells after limit r fs a)
+      (one_faults r faults others found.faults_are finds.faults_are) is) be
 
   by_reads : (a b : Outcome) → Reads after limit run a → Reads after limit run b → a ≡ b
   by_reads a b (no_main place bad is) (no_main other worse be) =
@@ -211,7 +217,8 @@ module _ (after : Option (List ℕ)) (limit : Option ℕ) (run : Given) where
   by_reads a b (no_main place bad is) (no_sums main report read worse be) = absurd (not_both main place (sym read ∙ bad))
   by_reads a b (no_main place bad is) (valid main table read be) = absurd (not_both main place (sym read.main_file ∙ bad))
   by_reads a b (no_sums main report read bad is) (no_main place worse be) = absurd (not_both main place (sym read ∙ worse))
-  by_reads a b (no_sums main report read bad is) (no_sums again other also worse be) = is ∙ ap refusal_outcome (one_report run.sums report other bad worse) ∙ sym be
+  by_reads a b (no_sums main report read bad is) (no_sums again other also worse be) =
+      is ∙ ap refusal_outcome (one_report run.sums report other bad worse) ∙ sym be
   by_reads a b (no_sums main report read bad is) (valid again table also be) = absurd (not_invalid run.sums table report also.sums bad)
   by_reads a b (valid main table read is) (no_main place bad be) = absurd (not_both main place (sym read.main_file ∙ bad))
   by_reads a b (valid main table read is) (no_sums again report also bad be) = absurd (not_invalid run.sums table report read.sums bad)

@@ -71,7 +71,8 @@ a_says = refl
 
 not_unpruned : (file : Dependency) → Says (run_of one_file None unopened_answers) (first_of (codes "a")) (Ok file) → is_pruned_by file.go ≡ false → ⊥
 not_unpruned file tells unpruned =
-    false≢true (sym (subst (λ (f : Dependency). is_pruned_by f.go ≡ false) (sym (file_is one_file None unopened_answers (first_of (codes "a")) a_file a_says file tells)) unpruned))
+    false≢true (sym (subst (λ (f : Dependency). is_pruned_by f.go ≡ false)
+    (sym (file_is one_file None unopened_answers (first_of (codes "a")) a_file a_says file tells)) unpruned))
 
 not_deep : (x : ModuleVersion) → IsDeep (run_of one_file None unopened_answers) x → ⊥
 not_deep x (from_main unpruned top) = false≢true (sym unpruned)

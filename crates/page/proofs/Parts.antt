@@ -40,8 +40,11 @@ a_text = going (codes "a") (codes "1.17") (codes "c") (codes "v1.0.0")
 
 b_is_opened : IsOpened (run_of three_file None malformed_answers) (first_of (codes "b"))
 unfolding is_fetchable
-b_is_opened = inr (from_deep (from_main refl (0, omega arith, refl))
-    (file_requiring (codes "a") (1, 16) (codes "b") (codes "v1.0.0"), sound (answered (bytes (requiring (codes "a") (codes "b") (codes "v1.0.0"))) refl refl refl) refl, (0, omega arith, refl)))
+b_is_opened = inr (from_deep (from_main refl (0, omega arith, refl)) (
+  file_requiring (codes "a") (1, 16) (codes "b") (codes "v1.0.0"),
+  sound (answered (bytes (requiring (codes "a") (codes "b") (codes "v1.0.0"))) refl refl refl) refl,
+  (0, omega arith, refl),
+))
 
 greatest_version : (y : ModuleVersion) → IsEdgeEnd two_versions y → y.0 ≡ mid_ten.0 → is_gt (version_cmp y.1 mid_ten.1) ≡ false
 greatest_version y (step, inl e) same = subst (λ (z : ModuleVersion). is_gt (version_cmp z.1 mid_ten.1) ≡ false) (sym e) refl

@@ -188,7 +188,8 @@ IsReported faults (x, Ok file) = Unit {0}
 IsReported faults (x, Err class) = Contains faults (fault_with x class)
 
 -- what the rows at the top and the deep rows say is all that is opened
-pub record IsTable (content : List ℕ) (text : Option (List ℕ)) (main : Main) (sums : Option Sums) (asked : List (Name × Reply)) (tops deep : List Row) : Type 0 where
+pub record IsTable (content : List ℕ) (text : Option (List ℕ)) (main : Main) (sums : Option Sums)
+    (asked : List (Name × Reply)) (tops deep : List Row) : Type 0 where
   pub is_main : main_in content ≡ Ok main
   pub are_sums : AreSums text sums
   pub tops_are : firsts tops ≡ without_excluded main main.requirements
@@ -242,7 +243,8 @@ module _ (content : List ℕ) (text : Option (List ℕ)) (main : Main) (sums : O
       → is_pruned_by file.go ≡ false → Contains (without_excluded main file.requirements) y → Contains (firsts deep) y
   leads_deep x (Ok own) tells h file y also unpruned there = elim (or_cases (is_pruned_by own.go) (are_in (kept main (Ok own)) (firsts deep)) h) [
     | inl pruned ↦
-        absurd (false≢true (sym unpruned ∙ ap (λ (f : Dependency). is_pruned_by f.go) (sym (file_is main sums asked x own (says main sums asked x (Ok own) tells) file also)) ∙ pruned))
+        absurd (false≢true (sym unpruned ∙ ap (λ (f : Dependency). is_pruned_by f.go)
+        (sym (file_is main sums asked x own (says main sums asked x (Ok own) tells) file also)) ∙ pruned))
     | inr within ↦ are_members (kept main (Ok own)) (firsts deep) within y (requires_in x (Ok own) tells y (file, also, there))
   ]
   leads_deep x (Err class) tells h file y also unpruned there =
@@ -311,7 +313,8 @@ module _ (content : List ℕ) (text : Option (List ℕ)) (main : Main) (sums : O
   led : (found : List Row) (y : ModuleVersion) → AllByRecursion IsDeepRow found → is_led main tops found y ≡ true → IsDeep run y
   led found y are h = elim (or_cases (not (is_pruned_by main.go) && has (firsts tops) y) _ h) [
     | inl own ↦ (let parts = and_parts (not (is_pruned_by main.go)) (has (firsts tops) y) own in
-        from_main (not-true (is_pruned_by main.go) parts.0) (subst (λ (xs : List ModuleVersion). Contains xs y) table.tops_are (has_member (firsts tops) y parts.1)))
+        from_main (not-true (is_pruned_by main.go) parts.0)
+        (subst (λ (xs : List ModuleVersion). Contains xs y) table.tops_are (has_member (firsts tops) y parts.1)))
     | inr other ↦ elim (or_cases (some (λ (row : Row). not (is_shallow row.1) && has (kept main row.1) y) tops) _ other) [
       | inl top ↦ by_top y (some_one _ tops top)
       | inr row ↦ by_deep found y are (some_one _ found row)

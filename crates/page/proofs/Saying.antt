@@ -41,11 +41,13 @@ content_reads content (Err NoSum) is = absurd is
 content_reads content (Err SumDiffers) is = absurd is
 content_reads content (Err WrongPath) is = absurd is
 
-unless_reads : (fault : Option Class) (content : List ℕ) (said : Result Dependency Class) → IsReadUnless fault content said → unless fault (as_class (said_in content)) ≡ said
+unless_reads : (fault : Option Class) (content : List ℕ) (said : Result Dependency Class)
+    → IsReadUnless fault content said → unless fault (as_class (said_in content)) ≡ said
 unless_reads (Some class) content said is = sym is
 unless_reads None content said is = content_reads content said is
 
-pub reads : (sums : Option Sums) (name : Name) (reply : Reply) (said : Result Dependency Class) → IsFileReading sums name reply said → reading_of sums name reply ≡ said
+pub reads : (sums : Option Sums) (name : Name) (reply : Reply) (said : Result Dependency Class)
+    → IsFileReading sums name reply said → reading_of sums name reply ≡ said
 reads sums name absent said is = sym is
 reads sums name too_long said is = sym is
 reads sums name (bytes content) said is = unless_reads (sum_fault sums name content) content said is

@@ -27,8 +27,8 @@ abbrev pub sources_from : ℕ → List (Option ℕ) → List Source
 sources_from number [] = []
 sources_from number (place ∷ places) = source_at number place ++ sources_from (suc number) places
 
-abbrev pub sources_of : List (Option ℕ) → List Source
-sources_of places = record { from = None; list = 0 } ∷ sources_from 0 places
+abbrev pub gathered_sources : List (Option ℕ) → List Source
+gathered_sources places = record { from = None; list = 0 } ∷ sources_from 0 places
 
 -- ---- the lists: that of the main file, and that of each file, which is empty if no vertex has the file
 
@@ -58,7 +58,7 @@ spans_of first files used = record { start = 0; end = first } ∷ spans_from use
 -- the edges that leave each source
 abbrev pub steps_by : CacheParts → List (Option ℕ) → List StepEdges
 steps_by parts places = by_step (lists_at parts.numbers.items (spans_of parts.first parts.files.items (has_file places)))
-    (sources_of places)
+    (gathered_sources places)
 
 -- The numbers at which there is a place are those of modules, and the places are those of files.
 abbrev pub AreFilePlaces : CacheParts → List (Option ℕ) → Type 0

@@ -36,14 +36,14 @@ span_found (Some (Valid summary)) = summary.kept
 span_found (Some (Faulty class)) = nowhere
 
 -- The lists of files lie between these two places, and each begins at or after the end of the one before.
-abbrev pub AreInOrder : ℕ → List Kept → ℕ → Type 0
-AreInOrder from [] to = from ≤ to
-AreInOrder from (Valid summary ∷ files) to =
-    (from ≤ summary.kept.start) × (summary.kept.start ≤ summary.kept.end) × AreInOrder summary.kept.end files to
-AreInOrder from (Faulty class ∷ files) to = AreInOrder from files to
+abbrev pub AreListsInOrder : ℕ → List Kept → ℕ → Type 0
+AreListsInOrder from [] to = from ≤ to
+AreListsInOrder from (Valid summary ∷ files) to =
+    (from ≤ summary.kept.start) × (summary.kept.start ≤ summary.kept.end) × AreListsInOrder summary.kept.end files to
+AreListsInOrder from (Faulty class ∷ files) to = AreListsInOrder from files to
 
 -- This is a fact: it has one proof at most.
-pub order_is_fact : (from : ℕ) (files : List Kept) (to : ℕ) → IsProp (AreInOrder from files to)
+pub order_is_fact : (from : ℕ) (files : List Kept) (to : ℕ) → IsProp (AreListsInOrder from files to)
 order_is_fact from [] to = le_prop
 order_is_fact from (Valid summary ∷ files) to = λ a b. λ i. (
   le_prop a.0 b.0 i,

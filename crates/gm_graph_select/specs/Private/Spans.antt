@@ -5,7 +5,7 @@ use Rattle.gm_graph_select.specs.Private.Adjacency.{IsByRanks}
 use Rattle.gm_graph_select.specs.Spans.{part_at}
 
 -- The span is that of a part of a list of this length.
-pub record IsPart (count : ℕ) (span : Span) : Type 0 where
+pub record IsSpanWithin (count : ℕ) (span : Span) : Type 0 where
   pub order : span.start ≤ span.end
   pub within : span.end ≤ count
 

@@ -11,13 +11,18 @@ loop-n-init c = tail-begin c.args.own c.args.lines.now c.len-n.result (document-
 pub loop-n-preserved : goal.loop-n-preserved
 loop-n-preserved c =
     let more = c.loop-n-test.true in
-    tail-more c.args.own c.args.lines.now c.loop-n.n (c.loop-n.n - 1) c.requires.known (document-sound c.args.lines.now c.requires.document c.requires.sound) (omega (arith, more))
+    tail-more c.args.own c.args.lines.now c.loop-n.n (c.loop-n.n - 1) c.requires.known
+    (document-sound c.args.lines.now c.requires.document c.requires.sound) (omega (arith, more))
     (sym (c.changes_block.ensures ∙ ap changes_block c.key.ensures) ∙ c.if-not-changes_block.true)
-    (sym (c.is_entry_in.ensures c.requires.known ∙ ap (λ k. verb_eq c.args.own (entry_verb None k)) c.key-in-loop-n.ensures) ∙ c.if-is_entry_in.false) c.loop-n.invariant
+    (sym (c.is_entry_in.ensures c.requires.known ∙ ap (λ k. verb_eq c.args.own (entry_verb None k))
+    c.key-in-loop-n.ensures) ∙ c.if-is_entry_in.false) c.loop-n.invariant
 
 pub returns-then-is_entry_in : goal.returns-then-is_entry_in
 returns-then-is_entry_in c =
     let more = c.loop-n-test.true in
-    place-is c.args.own c.args.lines.now (record { before = c.loop-n.n; inside = false }) (tail-found c.args.own c.args.lines.now c.loop-n.n (c.loop-n.n - 1) c.requires.known (document-sound c.args.lines.now c.requires.document c.requires.sound) (omega (arith, more))
+    place-is c.args.own c.args.lines.now (record { before = c.loop-n.n; inside = false })
+    (tail-found c.args.own c.args.lines.now c.loop-n.n (c.loop-n.n - 1) c.requires.known
+    (document-sound c.args.lines.now c.requires.document c.requires.sound) (omega (arith, more))
     (sym (c.changes_block.ensures ∙ ap changes_block c.key.ensures) ∙ c.if-not-changes_block.true)
-    (sym (c.is_entry_in.ensures c.requires.known ∙ ap (λ k. verb_eq c.args.own (entry_verb None k)) c.key-in-loop-n.ensures) ∙ c.if-is_entry_in.true) c.loop-n.invariant)
+    (sym (c.is_entry_in.ensures c.requires.known ∙ ap (λ k. verb_eq c.args.own (entry_verb None k))
+    c.key-in-loop-n.ensures) ∙ c.if-is_entry_in.true) c.loop-n.invariant)

@@ -21,7 +21,9 @@ unfolding with_change
 returns-in_ok-key-in-Set-clause-ok c =
     let lines = c.args.lines.now in
     let marks = c.requires.marked ∙ ap (λ (x : Change). marks_from (about (edit_of x)) None lines) c.in-Set.is in
-    c.renew.ensures ∙ renew-is (Set (setting_of c.in-Set.setting)) lines _ c.args.marks.items _ c.args.first (line_of c.in_ok-line-in-Set.line) marks c.requires.first c.requires.in_range c.in_ok-line-in-Set.ensures refl refl
+    c.renew.ensures ∙ renew-is (Set (setting_of c.in-Set.setting)) lines _ c.args.marks.items _ c.args.first
+    (line_of c.in_ok-line-in-Set.line) marks c.requires.first c.requires.in_range c.in_ok-line-in-Set.ensures refl
+    refl
     ∙ ap (λ (x : Change). with_change (edit_of x) lines) (sym c.in-Set.is)
 
 pub returns-in-Drop-clause-ok : goal.returns-in-Drop-clause-ok

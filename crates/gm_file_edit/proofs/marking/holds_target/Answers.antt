@@ -11,4 +11,6 @@ use Rattle.gm_file_edit.proofs.marking.holds_target.Goals as goal
 pub unreachable-requires : goal.unreachable-requires
 unreachable-requires c =
     no-fault c.args.block (line_of c.args.line.now) c.in-Err-Kind.field-0-0 c.requires
-    (subst (λ (r : Result (Option declared.Directive) LineFault). IsLineRead Strict (item_at (option_map (λ t. t.now.word) c.args.block, plain (line_of c.args.line.now))) r) (c.in-Err-Kind.is ∙ ap Err c.in-Err-Kind.field-0-is) c.read_line.ensures)
+    (subst (λ (r : Result (Option declared.Directive) LineFault).
+    IsLineRead Strict (item_at (option_map (λ t. t.now.word) c.args.block, plain (line_of c.args.line.now))) r)
+    (c.in-Err-Kind.is ∙ ap Err c.in-Err-Kind.field-0-is) c.read_line.ensures)

@@ -7,12 +7,14 @@ use Rattle.gm_file_edit.proofs.marking.may_hold_target.Goals.{then-is_entry_in, 
 
 pub returns-then-may_have_bits : goal.returns-then-may_have_bits
 returns-then-may_have_bits c = λ edit block verb texts bits inner key hit.
-    c.may_have_texts.ensures (subst (λ (t : Option (List ℕ) × Option (List ℕ)). HasTexts t (line_of c.args.line.now)) (sym texts) (never-passed edit block (line_of c.args.line.now) hit).texts)
+    c.may_have_texts.ensures (subst (λ (t : Option (List ℕ) × Option (List ℕ)). HasTexts t (line_of c.args.line.now))
+    (sym texts) (never-passed edit block (line_of c.args.line.now) hit).texts)
 
 pub returns-else-may_have_bits : goal.returns-else-may_have_bits
 returns-else-may_have_bits c = λ edit block verb texts bits inner key hit.
     let may = never-passed edit block (line_of c.args.line.now) hit in
-    let entry = verb-passes edit block (line_of c.args.line.now) c.args.target.verb c.args.verb c.args.key c.is_entry_in.result c.is_entry_in.ensures verb inner key may in
+    let entry = verb-passes edit block (line_of c.args.line.now) c.args.target.verb c.args.verb c.args.key
+    c.is_entry_in.result c.is_entry_in.ensures verb inner key may in
     elim c.if-is_entry_in.branch [
       | then-is_entry_in w ↦ w.value-is ∙ w.may_have_bits.ensures (rw (key, bits) may.bits)
       | else-is_entry_in w ↦ absurd (let other = w.if-is_entry_in.false in cc)

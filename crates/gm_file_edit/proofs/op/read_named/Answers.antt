@@ -16,4 +16,15 @@ unfolding edit_named
 returns-in_default c =
     let other = c.in_default in
     let name = c.args.name.now in
-    rw (other-text name (codes "module") other.not-module, other-text name (codes "go") other.not-go, other-text name (codes "require") other.not-require, other-text name (codes "droprequire") other.not-droprequire, other-text name (codes "exclude") other.not-exclude, other-text name (codes "dropexclude") other.not-dropexclude, other-text name (codes "replace") other.not-replace, other-text name (codes "dropreplace") other.not-dropreplace, other-text name (codes "retract") other.not-retract, other-text name (codes "dropretract") other.not-dropretract) refl
+    rw (
+      other-text name (codes "module") other.not-module,
+      other-text name (codes "go") other.not-go,
+      other-text name (codes "require") other.not-require,
+      other-text name (codes "droprequire") other.not-droprequire,
+      other-text name (codes "exclude") other.not-exclude,
+      other-text name (codes "dropexclude") other.not-dropexclude,
+      other-text name (codes "replace") other.not-replace,
+      other-text name (codes "dropreplace") other.not-dropreplace,
+      other-text name (codes "retract") other.not-retract,
+      other-text name (codes "dropretract") other.not-dropretract,
+    ) refl

@@ -11,8 +11,10 @@ loop-n-preserved c =
     let inside = c.loop-n-test.true in
     let len = c.len-n-end.ensures in
     elim c.if-marks-n.branch [
-      | then-marks-n w ↦ rw w.lost-is (sym (look-marked marks lines n c.loop-n.lost c.requires (omega (arith, inside, len)) w.if-marks-n.true) ∙ c.loop-n.invariant)
+      | then-marks-n w ↦ rw w.lost-is (sym (look-marked marks lines n c.loop-n.lost c.requires
+          (omega (arith, inside, len)) w.if-marks-n.true) ∙ c.loop-n.invariant)
       | else-marks-n+else-not-is_blank_at w ↦
           rw w.lost-is
-          (sym (look-blank marks lines n c.loop-n.lost c.requires (omega (arith, inside, len)) w.if-marks-n.false (sym w.is_blank_at.ensures ∙ w.if-not-is_blank_at.false)) ∙ c.loop-n.invariant)
+          (sym (look-blank marks lines n c.loop-n.lost c.requires (omega (arith, inside, len)) w.if-marks-n.false
+          (sym w.is_blank_at.ensures ∙ w.if-not-is_blank_at.false)) ∙ c.loop-n.invariant)
     ]

@@ -5,7 +5,9 @@ use Rattle.gm_file_edit.proofs.packing.pack.Goals as goal
 
 pub returns-then-not-has_mark : goal.returns-then-not-has_mark
 returns-then-not-has_mark c =
-    all-kept c.args.marks.items c.args.lines.now c.requires (ap (λ (ms : List Bool). list_any (λ mark. mark) ms) (sym c.as_slice.ensures.value) ∙ sym c.has_mark.ensures ∙ c.if-not-has_mark.true)
+    all-kept c.args.marks.items c.args.lines.now c.requires
+    (ap (λ (ms : List Bool). list_any (λ mark. mark) ms) (sym c.as_slice.ensures.value) ∙ sym c.has_mark.ensures
+    ∙ c.if-not-has_mark.true)
 
 pub returns : goal.returns
 returns c =

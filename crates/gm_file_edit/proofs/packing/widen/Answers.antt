@@ -18,9 +18,11 @@ loop-n-preserved c =
       | then-not-index w ↦
           let after = w.after_line-goes.result in
           rw (w.marks-is, w.place-is)
-          (widen-line lines old n block (block_at after.1) behind (is_behind_gone after.1) c.index.result.now after.0 c.loop-n.marks.items w.as_slice.result.now c.requires (omega (arith, inside, len))
+          (widen-line lines old n block (block_at after.1) behind (is_behind_gone after.1) c.index.result.now after.0
+          c.loop-n.marks.items w.as_slice.result.now c.requires (omega (arith, inside, len))
           c.index.ensures w.if-not-index.true w.as_slice.ensures.value w.after_line-goes.ensures c.loop-n.invariant)
       | else-not-index w ↦
           rw (w.marks-is, w.place-is)
-          (widen-marked lines old n block behind c.index.result.now c.loop-n.marks.items c.requires (omega (arith, inside, len)) c.index.ensures w.if-not-index.false c.loop-n.invariant)
+          (widen-marked lines old n block behind c.index.result.now c.loop-n.marks.items c.requires
+          (omega (arith, inside, len)) c.index.ensures w.if-not-index.false c.loop-n.invariant)
     ]

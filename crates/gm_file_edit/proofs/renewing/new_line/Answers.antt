@@ -11,4 +11,5 @@ pub returns : goal.returns
 returns c =
     let e = Set (setting_of c.args.setting.now) in
     let line = c.in_ok-line.ensures ∙ c.line.ensures.line in
-    c.in_ok-rewrite.ensures ∙ ap (λ (b : Option Placed). made_new e b (line_of c.in_ok-line.line)) c.open_before.ensures ∙ ap (made_new e (block_after_lines None (take c.args.at c.args.lines.now))) line
+    c.in_ok-rewrite.ensures ∙ ap (λ (b : Option Placed). made_new e b (line_of c.in_ok-line.line)) c.open_before.ensures
+    ∙ ap (made_new e (block_after_lines None (take c.args.at c.args.lines.now))) line

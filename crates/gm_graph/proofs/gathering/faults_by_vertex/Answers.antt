@@ -26,7 +26,8 @@ loop-one-preserved c =
     ∙ get_or_read modules _ c.index-modules-one.result (c.requires k _ within) c.index-modules-one.is ([], [])
     ∙ ap (λ (f : NumberedFault). module_at modules f.number) (get_or_default faults k _ (numbered 0 Missing) within) in
     let puts = λ (q : ModuleVersion). c.in_ok-insert.ensures.updates.0 q
-    ∙ ap (λ (f : NumberedFault). cond (is_eq (pair_cmp v q)) (Some f.class) (tree.get pair_cmp old q)) (get_or_default faults k _ (numbered 0 Missing) within) in
+    ∙ ap (λ (f : NumberedFault). cond (is_eq (pair_cmp v q)) (Some f.class) (tree.get pair_cmp old q))
+    (get_or_default faults k _ (numbered 0 Missing) within) in
     let more = take_more faults k (numbered 0 Missing) within in
     record {
       only = only_more modules old c.insert.new.self v one at puts (take k faults) _ more c.loop-one.invariant.only;

@@ -1,7 +1,7 @@
 use Rattle.std.proofs.Common.{◌≡◌, ◌↔◌, ◌⊎◌, Contains, List, ap, subst, sym}
 use Rattle.std.specs.Prelude.{IfOk}
 use Rattle.gm_name.specs.ModuleVersion.{ModuleVersion}
-use Rattle.gm_graph.specs.Private.Gathering.{has_file, sources_of as file_sources, spans_of, steps_by}
+use Rattle.gm_graph.specs.Private.Gathering.{has_file, gathered_sources as file_sources, spans_of, steps_by}
 use Rattle.gm_graph_select.specs.declared.adjacency.Source.{Source}
 use Rattle.gm_graph_select.specs.declared.number_lists.Span.{Span}
 use Rattle.gm_graph_select.specs.declared.step.Step.TheVariants.{Of}
@@ -18,7 +18,8 @@ new-requires c =
     let lists = c.in_ok-lists.ensures in
     let spans = spans_of parts.first parts.files.items (has_file places) in
     let is : IsInput c.into_lists-modules.result.0.items c.into_lists-modules.result.1.items c.in_ok-lists.lists.spans.items c.in_ok-lists.lists.sources.items =
-    subst (λ (os : List Source). IsInput c.into_lists-modules.result.0.items c.into_lists-modules.result.1.items c.in_ok-lists.lists.spans.items os) (sym lists.sources)
+    subst (λ (os : List Source). IsInput c.into_lists-modules.result.0.items c.into_lists-modules.result.1.items
+    c.in_ok-lists.lists.spans.items os) (sym lists.sources)
     (subst (λ (ss : List Span). IsInput c.into_lists-modules.result.0.items c.into_lists-modules.result.1.items ss (file_sources places)) (sym lists.spans)
     (subst (λ ns. IsInput c.into_lists-modules.result.0.items ns.items spans (file_sources places)) (sym c.into_lists-modules.ensures.numbers)
     (subst (λ ms. IsInput ms.items parts.numbers.items spans (file_sources places)) (sym c.into_lists-modules.ensures.modules)

@@ -2,7 +2,7 @@ use Rattle.std.proofs.Common.{◌∙◌, ◌∷◌, Bool, List, Option, ℕ, ap,
 use Rattle.std.specs.Prelude.{slice_index_or}
 use Rattle.gm_graph.specs.declared.cache.summary.Kept.{Kept}
 use Rattle.gm_graph.specs.Private.Gathering.{has_file, spans_of}
-use Rattle.gm_graph.specs.Private.Summaries.{AreInOrder}
+use Rattle.gm_graph.specs.Private.Summaries.{AreListsInOrder}
 use Rattle.gm_graph_select.specs.declared.number_lists.Span.{Span}
 use Rattle.gm_graph.proofs.Gathered.{spans_same}
 use Rattle.gm_graph.proofs.Ordered.{order_longer}
@@ -11,7 +11,7 @@ use Rattle.gm_graph.proofs.gathering.lists_of.Goals as goal
 pub span_list-requires-clause-order : goal.span_list-requires-clause-order
 span_list-requires-clause-order c =
     let parts = c.args.parts.now in
-    subst (λ (files : List Kept). AreInOrder parts.first files 4294967295) (sym c.deref-2.ensures.value)
+    subst (λ (files : List Kept). AreListsInOrder parts.first files 4294967295) (sym c.deref-2.ensures.value)
     (order_longer parts.first parts.files.items (length parts.numbers.items) 4294967295 (omega arith) parts.in_order)
 
 pub returns-clause-spans : goal.returns-clause-spans

@@ -23,7 +23,8 @@ returns-in_err-worklist-clause-asks g c = none_in_turn (LoadingNeeds (main_of c.
 pub returns-in_err-worklist-clause-refused : goal.returns-in_err-worklist-clause-refused
 returns-in_err-worklist-clause-refused g c =
     let refused = (g.F.Asks.state c.args.files.now).refused in
-    let same = refused_same c.from_residual-in_err-worklist.result c.in_err-worklist.field-0.0 (λ f e. rw e at c.from_residual-in_err-worklist.ensures.1) c.from_residual-in_err-worklist.ensures.0 in
+    let same = refused_same c.from_residual-in_err-worklist.result c.in_err-worklist.field-0.0
+    (λ f e. rw e at c.from_residual-in_err-worklist.ensures.1) c.from_residual-in_err-worklist.ensures.0 in
     sym (append-nil refused) ∙ ap (λ (ns : List Name). refused ++ ns) (sym (same ∙ c.in_err-worklist.ensures.not_refused))
 
 pub returns-in_err-cache-clause-asks : goal.returns-in_err-cache-clause-asks

@@ -11,4 +11,5 @@ returns c = λ ends.
     let edges = among c.args.graph.now.edges in
     subst (λ (entries : List Entry). IsBuildList main.path main.replaces edges entries) (sym c.in_ok-rows.ensures)
     (listed main.path main.replaces edges c.selected-selected.result
-    (subst (λ (path : List ℕ). AreSelected path edges c.selected-selected.result) c.module.ensures.path (c.selected-selected.ensures c.args.graph.now.edges ends)))
+    (subst (λ (path : List ℕ). AreSelected path edges c.selected-selected.result) c.module.ensures.path
+    (c.selected-selected.ensures c.args.graph.now.edges ends)))

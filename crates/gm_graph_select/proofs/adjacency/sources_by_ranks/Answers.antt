@@ -12,7 +12,9 @@ returns c =
     let new = c.rank_sources.new.sources in
     record {
       permutation = subst (λ (xs : List Source). IsPermutation xs c.sort_unstable_by_key.new.self.items)
-          (take_at new _ c.args.sources.len (omega (arith, c.rank_sources.auto.sources, c.deref_mut.ensures.len)) ∙ c.rank_sources.ensures ∙ ap (λ (xs : List Source). map (λ (one : Source). source_by_ranks ranks one) xs) c.deref_mut.ensures.value)
+          (take_at new _ c.args.sources.len (omega (arith, c.rank_sources.auto.sources, c.deref_mut.ensures.len))
+          ∙ c.rank_sources.ensures ∙ ap (λ (xs : List Source). map (λ (one : Source). source_by_ranks ranks one) xs)
+          c.deref_mut.ensures.value)
           c.sort_unstable_by_key.ensures.permutation;
       sorted = c.sort_unstable_by_key.ensures.sorted (λ (one : Source). one.from) (always_returns_same _ _ _ (λ a r f k. search (rules, of_calls)));
     }

@@ -9,10 +9,13 @@ use Rattle.gm_graph_select.proofs.chaining.walk_back.Goals as goal
 
 pub back-init : goal.back-init
 back-init c =
-    let first : c.push_step.new.steps.items ≡ Of (module_at c.args.graph.now.vertices c.args.goal) ∷ [] = c.in_ok-push_step.ensures ∙ ap (λ (l : List Step). l ++ Of c.vertex.result.now ∷ []) c.new-steps.ensures.items ∙ ap (λ (x : ModuleVersion). Of x ∷ []) c.vertex.ensures in
+    let first : c.push_step.new.steps.items ≡ Of (module_at c.args.graph.now.vertices c.args.goal) ∷ [] =
+    c.in_ok-push_step.ensures ∙ ap (λ (l : List Step). l ++ Of c.vertex.result.now ∷ []) c.new-steps.ensures.items
+    ∙ ap (λ (x : ModuleVersion). Of x ∷ []) c.vertex.ensures in
     record {
       inside = let some = c.requires.traced.some in omega (arith, some);
-      chain = back_begins (graph_edges c.args.graph.now) (steps_of c.args.graph.now) c.args.visits.now (module_at c.args.graph.now.vertices c.args.goal) _ c.push_step.new.steps.items first c.requires.traced.last;
+      chain = back_begins (graph_edges c.args.graph.now) (steps_of c.args.graph.now) c.args.visits.now
+          (module_at c.args.graph.now.vertices c.args.goal) _ c.push_step.new.steps.items first c.requires.traced.last;
     }
 
 pub back-preserved : goal.back-preserved
@@ -25,7 +28,9 @@ back-preserved c =
     let more : c.push_step-in-Some.new.steps.items ≡ c.back.steps.items ++ Of c.in-Some.vertex.now ∷ [] = c.in_ok-push_step-2.ensures in
     record {
       inside = let room = c.back.invariant.inside in omega (arith, below, room);
-      chain = λ l h. back_longer E steps visits (module_at c.args.graph.now.vertices c.args.goal) (visited_step steps visits k) (Of c.in-Some.vertex.now) c.back.steps.items c.push_step-in-Some.new.steps.items more l (c.back.invariant.chain (l ++ Of c.in-Some.vertex.now ∷ []) (chain l h));
+      chain = λ l h. back_longer E steps visits (module_at c.args.graph.now.vertices c.args.goal)
+          (visited_step steps visits k) (Of c.in-Some.vertex.now) c.back.steps.items c.push_step-in-Some.new.steps.items
+          more l (c.back.invariant.chain (l ++ Of c.in-Some.vertex.now ∷ []) (chain l h));
     }
 
 pub returns : goal.returns
@@ -34,4 +39,5 @@ returns c =
     let steps = steps_of c.args.graph.now in
     let visits = c.args.visits.now in
     let all : c.reverse.new.self.items ≡ reverse (c.back.steps.items ++ Main ∷ []) = c.reverse.ensures.items ∙ ap reverse c.in_ok-push.ensures.items in
-    back_done E steps visits (module_at c.args.graph.now.vertices c.args.goal) (visited_step steps visits c.back.place) c.back.steps.items c.reverse.new.self.items c.in_default.ensures.none all c.back.invariant.chain
+    back_done E steps visits (module_at c.args.graph.now.vertices c.args.goal) (visited_step steps visits c.back.place)
+    c.back.steps.items c.reverse.new.self.items c.in_default.ensures.none all c.back.invariant.chain

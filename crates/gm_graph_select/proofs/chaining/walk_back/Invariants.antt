@@ -11,7 +11,8 @@ use Rattle.gm_graph_select.proofs.chaining.walk_back.Given as goal
 abbrev pub invariant-back : goal.invariant-back
 invariant-back l = record {
   inside : l.place < length l.visits;
-  chain : (c : List Step) → IsChain (graph_edges l.graph) (visited_step (steps_of l.graph) l.visits l.place) c → IsChain (graph_edges l.graph) (Of (module_at l.graph.vertices l.goal)) (c ++ reverse l.steps.items);
+  chain : (c : List Step) → IsChain (graph_edges l.graph) (visited_step (steps_of l.graph) l.visits l.place) c
+      → IsChain (graph_edges l.graph) (Of (module_at l.graph.vertices l.goal)) (c ++ reverse l.steps.items);
 }
 
 abbrev pub decreases-back : goal.decreases-back

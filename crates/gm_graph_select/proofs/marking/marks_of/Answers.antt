@@ -12,8 +12,12 @@ returns-clause-marks c = λ number.
     let size : length first ≡ c.in_ok-marks.marks.len = omega (arith, c.mark_sources.ensures.count, c.deref_mut.ensures.len) in
     let size_last : length last ≡ c.in_ok-marks.marks.len = omega (arith, c.mark_lists.ensures.count, c.deref_mut-2.ensures.len) in
     let none : blank ≡ replicate c.args.count false = search (rules, of_calls) in
-    let left : AreMarked blank (numbers_left c.args.sources.now) first = subst (λ (bs : List Bool). AreMarked bs (numbers_left c.args.sources.now) first) c.deref_mut.ensures.value c.mark_sources.ensures in
-    let listed : AreMarked first (numbers_listed c.args.lists.now) last = subst (λ (bs : List Bool). AreMarked bs (numbers_listed c.args.lists.now) last) (c.deref_mut-2.ensures.value ∙ take_at first _ c.in_ok-marks.marks.len size) c.mark_lists.ensures in
+    let left : AreMarked blank (numbers_left c.args.sources.now) first =
+    subst (λ (bs : List Bool). AreMarked bs (numbers_left c.args.sources.now) first) c.deref_mut.ensures.value
+    c.mark_sources.ensures in
+    let listed : AreMarked first (numbers_listed c.args.lists.now) last =
+    subst (λ (bs : List Bool). AreMarked bs (numbers_listed c.args.lists.now) last)
+    (c.deref_mut-2.ensures.value ∙ take_at first _ c.in_ok-marks.marks.len size) c.mark_lists.ensures in
     let both = both_marked blank first last (numbers_left c.args.sources.now) (numbers_listed c.args.lists.now) left listed in
     let whole = take_at last _ c.in_ok-marks.marks.len size_last in (
       (λ h. elim ((both.each number).0 (subst (λ (bs : List Bool). HasMark bs number) whole h)) [

@@ -24,7 +24,8 @@ rank_part-requires-clause-numbered c =
     let inside : at.span-index < length spans = omega (arith, at.invariant.count) in
     let here = get_or-map (part_at old) spans at.span-index one (part_at old one) inside in
     subst (λ (xs : List ℕ). IsNumberedList (length c.args.ranks.now) xs)
-    (here ∙ sym (part_is c.args.ranks.now old spans at.numbers at.spans at.span-index at.invariant one inside (get_or_default at.spans at.span-index none one (omega arith))))
+    (here ∙ sym (part_is c.args.ranks.now old spans at.numbers at.spans at.span-index at.invariant one inside
+    (get_or_default at.spans at.span-index none one (omega arith))))
     (c.requires.numbered at.span-index (part_at old one) (omega (arith, inside, length-map spans (part_at old))))
 
 pub loop-span-preserved : goal.loop-span-preserved
@@ -33,7 +34,8 @@ loop-span-preserved c =
     let none : Span = record { start = 0; end = 0 } in
     let one = get_or at.spans at.span-index none in
     one_ranked c.args.ranks.now c.args.numbers.now c.args.spans.now at.numbers at.spans at.span-index at.invariant one
-    (omega (arith, at.invariant.count)) (get_or_default at.spans at.span-index none one (omega arith)) c.rank_part.new.numbers c.rank_part.result c.rank_part.ensures
+    (omega (arith, at.invariant.count)) (get_or_default at.spans at.span-index none one (omega arith))
+    c.rank_part.new.numbers c.rank_part.result c.rank_part.ensures
 
 pub returns-clause-apart : goal.returns-clause-apart
 returns-clause-apart c =

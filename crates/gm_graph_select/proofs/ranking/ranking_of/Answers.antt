@@ -24,7 +24,8 @@ loop-next-preserved c =
     let before = c.in-Some.ensures.steps.0 in
     let vertices = c.loop-next.vertices.items in
     let ranks = c.loop-next.ranks.items in
-    let rest_from : (x : Numbered) → Contains (next ∷ rest) x → Contains all x = λ x h. so.rest x (subst (λ (xs : List Numbered). Contains xs x) (sym before) h) in
+    let rest_from : (x : Numbered) → Contains (next ∷ rest) x → Contains all x =
+    λ x h. so.rest x (subst (λ (xs : List Numbered). Contains xs x) (sym before) h) in
     let in_all : Contains all next = rest_from next (member_head next rest) in
     let low : next.number < c.args.modules = All-contains (λ (one : Numbered). one.number < c.args.modules) all next c.requires.within in_all in
     let inside : next.number < length ranks = omega (arith, low, so.count) in
@@ -36,7 +37,13 @@ loop-next-preserved c =
       count = length-set ranks next.number c.len-in-loop-next.result ∙ so.count;
       rest = λ x h. rest_from x (member_tail next x rest h);
       each = λ x there.
-          let kept = next_ranked all vertices ranks next rest c.requires.once in_all inside x there (elim (so.each x there) [ inl ranked ↦ inl ranked | inr left ↦ inr (subst (λ (xs : List Numbered). Contains xs x) before left) ]) in
-          subst (λ (xs : List ModuleVersion). IsRanked xs (set ranks next.number c.len-in-loop-next.result) x ⊎ Contains rest x) (sym c.in_ok-push.ensures.items)
+          let kept = next_ranked all vertices ranks next rest c.requires.once in_all inside x there
+          (elim (so.each x there) [
+            | inl ranked ↦ inl ranked
+            | inr left ↦ inr
+                (subst (λ (xs : List Numbered). Contains xs x) before left)
+          ]) in
+          subst (λ (xs : List ModuleVersion). IsRanked xs (set ranks next.number c.len-in-loop-next.result) x
+          ⊎ Contains rest x) (sym c.in_ok-push.ensures.items)
           (subst (λ (rs : List ℕ). IsRanked (vertices ++ next.vertex ∷ []) rs x ⊎ Contains rest x) (sym made) kept);
     }

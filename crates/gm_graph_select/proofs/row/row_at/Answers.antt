@@ -12,7 +12,8 @@ rows-init c = record {
 
 pub returns-then-eq-clause-some : goal.returns-then-eq-clause-some
 returns-then-eq-clause-some c =
-    at_found c.args.main.now (entries_of_rows c.args.rows.now) c.args.path.now (entry_of_row c.in-Some.row.now) (entries_of_rows c.rows.rest) (entries_of_rows c.next.new.self)
+    at_found c.args.main.now (entries_of_rows c.args.rows.now) c.args.path.now (entry_of_row c.in-Some.row.now)
+    (entries_of_rows c.rows.rest) (entries_of_rows c.next.new.self)
     (ap entries_of_rows c.in-Some.ensures.steps)
     (sym c.path_of.ensures ∙ texts_same _ _ (sym c.eq.ensures ∙ c.if-eq.true))
     c.rows.invariant.behind
@@ -21,7 +22,8 @@ pub rows-preserved : goal.rows-preserved
 rows-preserved c = record {
   can = tt;
   finite = tt;
-  behind = behind_more c.args.main.now (entries_of_rows c.args.rows.now) c.args.path.now (entry_of_row c.in-Some.row.now) (entries_of_rows c.rows.rest) (entries_of_rows c.next.new.self)
+  behind = behind_more c.args.main.now (entries_of_rows c.args.rows.now) c.args.path.now
+      (entry_of_row c.in-Some.row.now) (entries_of_rows c.rows.rest) (entries_of_rows c.next.new.self)
       (ap entries_of_rows c.in-Some.ensures.steps)
       (λ is. texts_differ c.path_of.result.now c.args.path.now (sym c.eq.ensures ∙ c.if-eq.false) (c.path_of.ensures ∙ is))
       c.rows.invariant.behind;

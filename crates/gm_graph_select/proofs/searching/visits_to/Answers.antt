@@ -11,15 +11,20 @@ levels-init c =
     let graph = c.args.graph.now in
     let goal = module_at graph.vertices c.args.goal in
     let due = c.in_ok-due.due.items in
-    let (lists, is) = c.in_ok-search.ensures in
-    (0, subst (λ (state : State). IsSearchedTo graph goal 0 state due) (sym is) (first_level graph goal lists due c.requires.graph (omega arith) refl c.in_ok-due.ensures.items))
+    let (lists, is) = c.in_ok-search.ensures in (
+      0,
+      subst (λ (state : State). IsSearchedTo graph goal 0 state due) (sym is)
+          (first_level graph goal lists due c.requires.graph (omega arith) refl c.in_ok-due.ensures.items),
+    )
 
 pub levels-smaller : goal.levels-smaller
 levels-smaller c =
     let graph = c.args.graph.now in
     let goal = module_at graph.vertices c.args.goal in
     let (level, h) = c.levels.invariant in
-    let (tried, all, f) = c.in_ok-visit_level.ensures.missed c.if-branch.false level (subst (λ (due : List Visit). IsSearchedTo graph goal level (state_of c.levels.search) due) (sym c.deref.ensures.value) h) in
+    let (tried, all, f) = c.in_ok-visit_level.ensures.missed c.if-branch.false level
+    (subst (λ (due : List Visit). IsSearchedTo graph goal level (state_of c.levels.search) due)
+    (sym c.deref.ensures.value) h) in
     let some = eqb-false (vec_len c.levels.due) 0 (sym c.is_empty.ensures ∙ c.levels-test.true) in
     let long = c.levels.due.ok.0 in
     let kept = ap (λ (state : State). count_left state.found) c.take_level-due.ensures.state in
@@ -31,12 +36,15 @@ levels-preserved c =
     let graph = c.args.graph.now in
     let goal = module_at graph.vertices c.args.goal in
     let (level, h) = c.levels.invariant in
-    let (tried, all, f) = c.in_ok-visit_level.ensures.missed c.if-branch.false level (subst (λ (due : List Visit). IsSearchedTo graph goal level (state_of c.levels.search) due) (sym c.deref.ensures.value) h) in
+    let (tried, all, f) = c.in_ok-visit_level.ensures.missed c.if-branch.false level
+    (subst (λ (due : List Visit). IsSearchedTo graph goal level (state_of c.levels.search) due)
+    (sym c.deref.ensures.value) h) in
     let tries : AreTried graph c.levels.due.items tried = subst (λ (due : List Visit). AreTried graph due tried) c.deref.ensures.value all in
     let next = c.take_level-due in (
       suc level,
       subst (λ (state : State). IsSearchedTo graph goal (suc level) state next.result.items) (sym next.ensures.state)
-          (level_more graph goal level (state_of c.levels.search) c.levels.due.items c.requires.graph h tried (state_of c.visit_level.new.self) tries f next.result.items next.ensures.members next.ensures.ascending),
+          (level_more graph goal level (state_of c.levels.search) c.levels.due.items c.requires.graph h tried
+          (state_of c.visit_level.new.self) tries f next.result.items next.ensures.members next.ensures.ascending),
     )
 
 pub returns-clause-none : goal.returns-clause-none

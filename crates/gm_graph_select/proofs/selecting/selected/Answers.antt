@@ -7,4 +7,5 @@ use Rattle.gm_graph_select.proofs.selecting.selected.Goals as goal
 
 pub returns : goal.returns
 returns c = λ edges ends.
-    subst (λ (xs : List ModuleVersion). AreSelected c.args.main.now (among edges) xs) (sym c.among.ensures) (are_selected c.args.main.now c.args.ends.now c.requires (among edges) ends)
+    subst (λ (xs : List ModuleVersion). AreSelected c.args.main.now (among edges) xs) (sym c.among.ensures)
+    (are_selected c.args.main.now c.args.ends.now c.requires (among edges) ends)

@@ -11,11 +11,13 @@ loop-place-preserved c =
     let at = c.loop-place in
     let inside : at.place < length old = omega (arith, at.invariant.size) in
     elim c.if-count-eq0.branch [
-      | then-count-eq0 w ↦ rw (w.numbers-is, w.count-is) (one_moved old at.numbers at.place at.count at.invariant inside c.requires (λ some same. elim w.then-count-eq0.branch [
-        | then-count-eq0-via-then-count-eq0 v ↦ absurd (omega arith)
-        | then-count-eq0-via-else-count-eq0+then-numbers-count v ↦ absurd (v.if-numbers-count.true same)
-      ]))
-      | else-count-eq0+else-numbers-count w ↦ rw (w.numbers-is, w.count-is) (one_again old at.numbers at.place at.count at.invariant inside (omega arith) w.if-numbers-count.false)
+      | then-count-eq0 w ↦ rw (w.numbers-is, w.count-is) (one_moved old at.numbers at.place at.count at.invariant inside
+          c.requires (λ some same. elim w.then-count-eq0.branch [
+            | then-count-eq0-via-then-count-eq0 v ↦ absurd (omega arith)
+            | then-count-eq0-via-else-count-eq0+then-numbers-count v ↦ absurd (v.if-numbers-count.true same)
+          ]))
+      | else-count-eq0+else-numbers-count w ↦ rw (w.numbers-is, w.count-is)
+          (one_again old at.numbers at.place at.count at.invariant inside (omega arith) w.if-numbers-count.false)
     ]
 
 pub returns-clause-members : goal.returns-clause-members

@@ -7,7 +7,8 @@ returns-in-Ok-clause-accepted c =
 
 pub returns-in-Ok-clause-applied : goal.returns-in-Ok-clause-applied
 returns-in-Ok-clause-applied c =
-    op_applied c.args.number c.args.text.now c.in-Ok.op c.in-Ok.ensures.ok c.args.editor.now c.apply.new.self c.apply.result c.reported.result c.reported.ensures.ok c.apply.ensures.ok
+    op_applied c.args.number c.args.text.now c.in-Ok.op c.in-Ok.ensures.ok c.args.editor.now c.apply.new.self
+    c.apply.result c.reported.result c.reported.ensures.ok c.apply.ensures.ok
 
 pub returns-in-Ok-clause-refused : goal.returns-in-Ok-clause-refused
 returns-in-Ok-clause-refused c =

@@ -13,7 +13,8 @@ use Rattle.gomod_run.proofs.edit.edit_outcome.Goals as goal
 
 pub returns-in_err-editor : goal.returns-in_err-editor
 returns-in_err-editor c =
-    passed (OrNoMemory (EditEnds (map string_bytes c.args.operations.now) c.args.file.now)) c.in_err-editor.field-0.0 c.from_residual.result c.from_residual.ensures.1
+    passed (OrNoMemory (EditEnds (map string_bytes c.args.operations.now) c.args.file.now)) c.in_err-editor.field-0.0
+    c.from_residual.result c.from_residual.ensures.1
     (bad_file (map string_bytes c.args.operations.now) c.args.file.now (report_outcome c.in_err-editor.field-0.0) c.in_err-editor.ensures)
 
 pub loop-n-init : goal.loop-n-init
@@ -28,7 +29,8 @@ loop-n-preserved c =
     let texts : map string_bytes (drop n all) ≡ c.as_str.result.now ∷ later = ap (λ (rest : List (String Global)). map string_bytes rest) here
     ∙ ap (λ (text : List ℕ). text ∷ later) (sym c.as_str.ensures.value) in
     record {
-      refusals = c.loop-n.invariant.refusals ∙ ap (refusals_from (n + 1)) texts ∙ next_refusals (n + 1) c.as_str.result.now later c.in_ok-apply_text.ensures.accepted;
+      refusals = c.loop-n.invariant.refusals ∙ ap (refusals_from (n + 1)) texts
+          ∙ next_refusals (n + 1) c.as_str.result.now later c.in_ok-apply_text.ensures.accepted;
       lines = c.loop-n.invariant.lines ∙ ap (λ (rest : List (List ℕ)). lines_after_all (filter_map edit_in rest) c.loop-n.editor) texts
           ∙ next_lines c.as_str.result.now later c.loop-n.editor ∙ ap (lines_after_all (filter_map edit_in later)) (sym c.in_ok-apply_text.ensures.applied);
     }
@@ -40,7 +42,8 @@ returns-in_err-apply_text c =
     let here = drop-next all n c.index-operations-n.result c.loop-n-test.true c.index-operations-n.is in
     let same = c.loop-n.invariant.refusals ∙ ap (λ (rest : List (String Global)). refusals_from (n + 1) (map string_bytes rest)) here
     ∙ ap (λ (text : List ℕ). refusals_from (n + 1) (text ∷ map string_bytes (drop (n + 1) all))) (sym c.as_str.ensures.value) in
-    passed (OrNoMemory (EditEnds (map string_bytes all) c.args.file.now)) c.in_err-apply_text.field-0.0 c.from_residual-in_err-apply_text.result c.from_residual-in_err-apply_text.ensures.1
+    passed (OrNoMemory (EditEnds (map string_bytes all) c.args.file.now)) c.in_err-apply_text.field-0.0
+    c.from_residual-in_err-apply_text.result c.from_residual-in_err-apply_text.ensures.1
     (one_refused (map string_bytes all) c.args.file.now c.in_ok-editor.editor (n + 1) c.as_str.result.now (map string_bytes (drop (n + 1) all))
     (report_outcome c.in_err-apply_text.field-0.0) c.in_ok-editor.ensures same c.in_err-apply_text.ensures.refused)
 

@@ -11,6 +11,7 @@ returns-in-Ok g c =
 
 pub returns-in-Err : goal.returns-in-Err
 returns-in-Err g c =
-    fault_ends (g.S.FileSystem.may_open c.args.rt.now) (g.S.StandardInput.may_take c.args.rt.now) (map (λ word. word.now) c.args.words.now) c.in-Err.fault _ _ _ _ _
+    fault_ends (g.S.FileSystem.may_open c.args.rt.now) (g.S.StandardInput.may_take c.args.rt.now)
+    (map (λ word. word.now) c.args.words.now) c.in-Err.fault _ _ _ _ _
     c.in-Err.ensures.fault
     (usage_ends c.in-Err.fault _ _ _ _ _ c.tell.ensures)

@@ -12,17 +12,22 @@ use Rattle.gomod_run.proofs.serving.over_folders.Goals as goal
 
 pub returns-in_err-read : goal.returns-in_err-read
 returns-in_err-read g c =
-    stopped (IsServed (g.S.FileSystem.may_open c.args.rt.now) (g.S.StandardInput.may_take c.args.rt.now) c.args.command.now (string_bytes c.args.places.now.main) (option_map string_bytes c.args.places.now.sums) (Some c.args.folders))
+    stopped (IsServed (g.S.FileSystem.may_open c.args.rt.now) (g.S.StandardInput.may_take c.args.rt.now)
+    c.args.command.now (string_bytes c.args.places.now.main) (option_map string_bytes c.args.places.now.sums)
+    (Some c.args.folders))
     _ _ c.in_err-read.field-0.0 c.from_residual.result c.from_residual.ensures.1 (c.in_err-read.ensures.unread (Some c.args.folders))
 
 pub returns-in_err-folder : goal.returns-in_err-folder
 returns-in_err-folder g c =
-    stopped (IsServed (g.S.FileSystem.may_open c.args.rt.now) (g.S.StandardInput.may_take c.args.rt.now) c.args.command.now (string_bytes c.args.places.now.main) (option_map string_bytes c.args.places.now.sums) (Some c.args.folders))
+    stopped (IsServed (g.S.FileSystem.may_open c.args.rt.now) (g.S.StandardInput.may_take c.args.rt.now)
+    c.args.command.now (string_bytes c.args.places.now.main) (option_map string_bytes c.args.places.now.sums)
+    (Some c.args.folders))
     _ _ NoMemory c.from_residual-in_err-folder.result c.from_residual-in_err-folder.ensures.1 (inr refl)
 
 pub run-requires-clause-no_sums : goal.run-requires-clause-no_sums
 run-requires-clause-no_sums g c = λ isnt.
-    c.sums.ensures ∙ no_sums_read (FileGives (g.S.FileSystem.may_open c.args.rt.now) (g.S.StandardInput.may_take c.args.rt.now)) c.args.command.now (option_map string_bytes c.args.places.now.sums)
+    c.sums.ensures ∙ no_sums_read (FileGives (g.S.FileSystem.may_open c.args.rt.now)
+    (g.S.StandardInput.may_take c.args.rt.now)) c.args.command.now (option_map string_bytes c.args.places.now.sums)
     c.in_ok-read.read.sums c.in_ok-read.ensures.sums isnt
 
 pub returns : goal.returns
@@ -37,7 +42,8 @@ returns g c =
     let told : MayBeTold may_open (versions_path command) (string_bytes c.args.places.now.main) None (Some c.args.folders) (told_between old new) = (
       folder,
       is,
-      told_by (MayAnswer may_open folder (folders_in c.args.folders) (marks_in c.args.folders)) _ _ old new c.folders_of-files.ensures.asked c.folders_of-files.ensures.refused c.run.ensures.holds.served
+      told_by (MayAnswer may_open folder (folders_in c.args.folders) (marks_in c.args.folders)) _ _ old new
+          c.folders_of-files.ensures.asked c.folders_of-files.ensures.refused c.run.ensures.holds.served
           c.folders_of-files.ensures.answers,
     ) in
     ends_weaken _ _ _ _ _ _ _ (λ outcome ran. runs read.main read.sums None (told_between old new) c.in_ok-read.ensures.main c.in_ok-read.ensures.sums tt told

@@ -12,13 +12,16 @@ use Rattle.gomod_run.proofs.serving.over_memory.Goals as goal
 
 pub returns-in_err-read : goal.returns-in_err-read
 returns-in_err-read g c =
-    stopped (IsServed (g.S.FileSystem.may_open c.args.rt.now) (g.S.StandardInput.may_take c.args.rt.now) c.args.command.now (string_bytes c.args.places.now.main) (option_map string_bytes c.args.places.now.sums) None)
+    stopped (IsServed (g.S.FileSystem.may_open c.args.rt.now) (g.S.StandardInput.may_take c.args.rt.now)
+    c.args.command.now (string_bytes c.args.places.now.main) (option_map string_bytes c.args.places.now.sums) None)
     _ _ c.in_err-read.field-0.0 c.from_residual.result c.from_residual.ensures.1 (c.in_err-read.ensures.unread None)
 
 pub returns-in_err-files : goal.returns-in_err-files
 returns-in_err-files g c =
     let told = c.in_err-files.field-0.0 in
-    let Is = IsServed (g.S.FileSystem.may_open c.args.rt.now) (g.S.StandardInput.may_take c.args.rt.now) c.args.command.now (string_bytes c.args.places.now.main) (option_map string_bytes c.args.places.now.sums) None in
+    let Is = IsServed (g.S.FileSystem.may_open c.args.rt.now) (g.S.StandardInput.may_take c.args.rt.now)
+    c.args.command.now (string_bytes c.args.places.now.main) (option_map string_bytes c.args.places.now.sums)
+    None in
     let or_no_memory : OrNoMemory Is (report_outcome told) = elim c.in_err-files.ensures.unread [
       | inl unread ↦ inl (no_list unread)
       | inr memory ↦ inr memory
@@ -27,7 +30,8 @@ returns-in_err-files g c =
 
 pub run-requires-clause-no_sums : goal.run-requires-clause-no_sums
 run-requires-clause-no_sums g c = λ isnt.
-    c.sums.ensures ∙ no_sums_read (FileGives (g.S.FileSystem.may_open c.args.rt.now) (g.S.StandardInput.may_take c.args.rt.now)) c.args.command.now (option_map string_bytes c.args.places.now.sums)
+    c.sums.ensures ∙ no_sums_read (FileGives (g.S.FileSystem.may_open c.args.rt.now)
+    (g.S.StandardInput.may_take c.args.rt.now)) c.args.command.now (option_map string_bytes c.args.places.now.sums)
     c.in_ok-read.read.sums c.in_ok-read.ensures.sums isnt
 
 pub returns : goal.returns
@@ -37,7 +41,8 @@ returns g c =
     let (list, is, holds) = c.in_ok-files.ensures.held in
     let old = memory_files_state c.in_ok-files.files in
     let new = memory_files_state c.run.new.files in
-    let told = told_by (λ name answer. answer ≡ Some (reply_for longest (held_for (versions_path command) list name))) _ _ old new c.in_ok-files.ensures.asked refl c.run.ensures.holds.served
+    let told = told_by (λ name answer. answer ≡ Some (reply_for longest (held_for (versions_path command) list name))) _
+    _ old new c.in_ok-files.ensures.asked refl c.run.ensures.holds.served
     (held_allowed (versions_path command) list c.in_ok-files.files holds) in
     ends_weaken _ _ _ _ _ _ _ (λ outcome ran. runs read.main read.sums list (told_between old new) c.in_ok-read.ensures.main c.in_ok-read.ensures.sums is told
     (same_run command read.main read.sums c.main.result.now (option_map (λ sums. sums.now) c.sums.result) old new outcome c.main.ensures c.sums.ensures ran))

@@ -47,7 +47,8 @@ returns-in-Valid-clause-run g c = λ first versions is greatest.
     let reply = reply_of c.last.result.now in
     let heard = subst (IsAnsweredAsk (mod_file path c.args.latest) old new) (sym (c.last.ensures.value old.asked (_, asked.0) named.0)) named in
     file_valid path first old new versions c.args.latest is greatest reply heard c.in-Valid.file.dependency c.in-Valid.file.retracts
-    (subst (IsFileReading None (mod_file path c.args.latest) reply) (ap reading_of c.in-Valid.is) (c.in_ok-file.ensures.reading (mod_file path c.args.latest) c.last.ensures.within_limit))
+    (subst (IsFileReading None (mod_file path c.args.latest) reply) (ap reading_of c.in-Valid.is)
+    (c.in_ok-file.ensures.reading (mod_file path c.args.latest) c.last.ensures.within_limit))
     (rw c.in-Valid.is at c.in_ok-file.ensures.retracts)
 
 pub returns-clause-run : goal.returns-clause-run
@@ -60,4 +61,5 @@ returns-clause-run g c = λ first versions is greatest.
     let reply = reply_of c.last.result.now in
     let heard = subst (IsAnsweredAsk (mod_file path c.args.latest) old new) (sym (c.last.ensures.value old.asked (_, asked.0) named.0)) named in
     file_faulty path first old new versions c.args.latest is greatest reply heard c.in-Faulty.class _
-    (subst (IsFileReading None (mod_file path c.args.latest) reply) (ap reading_of c.in-Faulty.is) (c.in_ok-file.ensures.reading (mod_file path c.args.latest) c.last.ensures.within_limit)) refl
+    (subst (IsFileReading None (mod_file path c.args.latest) reply) (ap reading_of c.in-Faulty.is)
+    (c.in_ok-file.ensures.reading (mod_file path c.args.latest) c.last.ensures.within_limit)) refl

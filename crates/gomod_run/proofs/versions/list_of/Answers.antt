@@ -51,7 +51,8 @@ returns-in_err-from_slice-clause-run g c = λ all.
     let heard = subst (λ (p : List ℕ). IsAnsweredAsk (list_file p) old new asked.0) c.in_ok-copy.ensures asked.1 in
     let last = c.last.ensures.value old.asked (_, asked.0) heard.0 in
     rw (p.1, p.2) (listed_memory c.args.path.now all old new c.in_ok-list.list.now _
-    (list_known c.args.path.now old new c.in_ok-list.list.now asked.0 c.requires (sym c.is_fetchable.ensures ∙ c.if-not-is_fetchable.false) heard (sym last ∙ c.in_ok-list.ensures)) refl)
+    (list_known c.args.path.now old new c.in_ok-list.list.now asked.0 c.requires
+    (sym c.is_fetchable.ensures ∙ c.if-not-is_fetchable.false) heard (sym last ∙ c.in_ok-list.ensures)) refl)
 
 pub returns-clause-run : goal.returns-clause-run
 returns-clause-run g c = λ all.

@@ -17,4 +17,5 @@ returns-in-Some-clause-run g c = λ first is.
 
 pub returns-in-None-clause-run : goal.returns-in-None-clause-run
 returns-in-None-clause-run g c = λ first is.
-    all_shown c.args.path.now c.args.all first (g.F.Asks.state c.args.files.now) c.args.versions.now is (rw c.in-None.is at c.in_ok-latest.ensures) (none_hidden c.args.versions.now)
+    all_shown c.args.path.now c.args.all first (g.F.Asks.state c.args.files.now) c.args.versions.now is
+    (rw c.in-None.is at c.in_ok-latest.ensures) (none_hidden c.args.versions.now)

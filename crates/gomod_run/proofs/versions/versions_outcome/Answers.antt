@@ -48,8 +48,15 @@ returns-in_err-file-clause-run g c =
     let old = g.F.Asks.state c.args.files.now in
     let mid = g.F.Asks.state c.list_of.new.files in
     let versions = c.in_ok-versions.versions.items in
-    let are : AreVersionsAnswered path old mid versions = record { list = c.in_ok-list.list.items; answered = c.in_ok-list.ensures.run all; listed = rw c.as_slice.ensures.value at c.in_ok-versions.ensures } in
-    passed (IsVersionsRun path all old (g.F.Asks.state c.retracting_file.new.files)) c.in_err-file.field-0.0 c.from_residual-in_err-file.result c.from_residual-in_err-file.ensures.1
+    let are : AreVersionsAnswered path old mid versions =
+    record {
+      list = c.in_ok-list.list.items;
+      answered = c.in_ok-list.ensures.run all;
+      listed =
+          rw c.as_slice.ensures.value at c.in_ok-versions.ensures;
+    } in
+    passed (IsVersionsRun path all old (g.F.Asks.state c.retracting_file.new.files)) c.in_err-file.field-0.0
+    c.from_residual-in_err-file.result c.from_residual-in_err-file.ensures.1
     (c.in_err-file.ensures.run old (rw c.as_slice-2.ensures.value are))
 
 pub returns-in_err-file-clause-served : goal.returns-in_err-file-clause-served
@@ -67,8 +74,16 @@ returns-in_err-line-clause-run g c =
     let old = g.F.Asks.state c.args.files.now in
     let mid = g.F.Asks.state c.list_of.new.files in
     let versions = c.in_ok-versions.versions.items in
-    let are : AreVersionsAnswered path old mid versions = record { list = c.in_ok-list.list.items; answered = c.in_ok-list.ensures.run all; listed = rw c.as_slice.ensures.value at c.in_ok-versions.ensures } in
-    shown_run path all old (g.F.Asks.state c.retracting_file.new.files) _ (outcome_view c.from_residual-in_err-line.result) (c.in_ok-file.ensures.run old (rw c.as_slice-2.ensures.value are))
+    let are : AreVersionsAnswered path old mid versions =
+    record {
+      list = c.in_ok-list.list.items;
+      answered = c.in_ok-list.ensures.run all;
+      listed =
+          rw c.as_slice.ensures.value at c.in_ok-versions.ensures;
+    } in
+    shown_run path all old (g.F.Asks.state c.retracting_file.new.files) _
+    (outcome_view c.from_residual-in_err-line.result) (c.in_ok-file.ensures.run old
+    (rw c.as_slice-2.ensures.value are))
     (inr (no_memory c.from_residual-in_err-line.result c.from_residual-in_err-line.ensures.1))
 
 pub returns-in_err-line-clause-served : goal.returns-in_err-line-clause-served
@@ -86,10 +101,19 @@ returns-clause-run g c =
     let old = g.F.Asks.state c.args.files.now in
     let mid = g.F.Asks.state c.list_of.new.files in
     let versions = c.in_ok-versions.versions.items in
-    let are : AreVersionsAnswered path old mid versions = record { list = c.in_ok-list.list.items; answered = c.in_ok-list.ensures.run all; listed = rw c.as_slice.ensures.value at c.in_ok-versions.ensures } in
+    let are : AreVersionsAnswered path old mid versions =
+    record {
+      list = c.in_ok-list.list.items;
+      answered = c.in_ok-list.ensures.run all;
+      listed =
+          rw c.as_slice.ensures.value at c.in_ok-versions.ensures;
+    } in
     let shown = ap (λ (rs : List VersionInterval). versions_line path (shown_of rs c.as_slice-2.result.now)) c.retracts_in.ensures in
-    let line = c.in_ok-line.ensures ∙ ap (λ (vs : List (List ℕ)). versions_line path (shown_of (interval_views c.retracts_in.result.now) vs)) (c.as_slice-3.ensures.value ∙ sym c.as_slice-2.ensures.value) ∙ shown in
-    shown_run path all old (g.F.Asks.state c.retracting_file.new.files) _ _ (c.in_ok-file.ensures.run old (rw c.as_slice-2.ensures.value are)) (inl (ap text_outcome line))
+    let line = c.in_ok-line.ensures ∙ ap (λ (vs : List (List ℕ)).
+    versions_line path (shown_of (interval_views c.retracts_in.result.now) vs))
+    (c.as_slice-3.ensures.value ∙ sym c.as_slice-2.ensures.value) ∙ shown in
+    shown_run path all old (g.F.Asks.state c.retracting_file.new.files) _ _
+    (c.in_ok-file.ensures.run old (rw c.as_slice-2.ensures.value are)) (inl (ap text_outcome line))
 
 pub returns-clause-served : goal.returns-clause-served
 returns-clause-served g c =

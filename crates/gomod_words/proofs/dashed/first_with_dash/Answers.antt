@@ -11,7 +11,8 @@ use Rattle.gomod_words.proofs.dashed.first_with_dash.Goals as goal
 -- whether the first word begins with a dash decides in both lists alike
 by_first : (word : Bor (List ℕ)) (words : List (Bor (List ℕ))) (dash : Bool)
     → option_map (λ w. w.now) (find (λ w. begins_with_dash w.now) words) ≡ find begins_with_dash (map (λ w. w.now) words)
-    → option_map (λ w. w.now) (cond dash (Some word) (find (λ w. begins_with_dash w.now) words)) ≡ cond dash (Some word.now) (find begins_with_dash (map (λ w. w.now) words))
+    → option_map (λ w. w.now) (cond dash (Some word) (find (λ w. begins_with_dash w.now) words))
+    ≡ cond dash (Some word.now) (find begins_with_dash (map (λ w. w.now) words))
 by_first word words true rest = refl
 by_first word words false rest = rest
 

@@ -9,7 +9,8 @@ loop-number-init g c =
 
 pub returns-in_err-word-clause-fault : goal.returns-in_err-word-clause-fault
 returns-in_err-word-clause-fault g c =
-    let first = shows_first (g.S.Words.given c.args.rt.now) c.loop-number.number c.loop-number.words.items c.in_err-word.field-0.0 c.loop-number.invariant c.in_err-word.ensures.fault in
+    let first = shows_first (g.S.Words.given c.args.rt.now) c.loop-number.number c.loop-number.words.items
+    c.in_err-word.field-0.0 c.loop-number.invariant c.in_err-word.ensures.fault in
     search (rules, first)
 
 pub returns-in_default-clause-words : goal.returns-in_default-clause-words

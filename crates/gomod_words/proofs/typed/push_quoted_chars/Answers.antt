@@ -8,7 +8,8 @@ use Rattle.gomod_words.proofs.typed.push_quoted_chars.Goals as goal
 
 pub returns : goal.returns
 returns c =
-    let end = YieldsList-end (YieldsList-from_chars c.args.word.now c.utf8.word cc) c.loop-c.yielded _ c.loop-c.yielded_by _ _ c.in-None.is c.next.ensures.steps in
+    let end = YieldsList-end (YieldsList-from_chars c.args.word.now c.utf8.word cc) c.loop-c.yielded _
+    c.loop-c.yielded_by _ _ c.in-None.is c.next.ensures.steps in
     c.loop-c.invariant ∙ ap (λ (cs : List ℕ). string_bytes c.args.text.now ++ flat_map quoted_char cs) (sym (map-id c.loop-c.yielded) ∙ end.0)
 
 pub loop-c-preserved : goal.loop-c-preserved

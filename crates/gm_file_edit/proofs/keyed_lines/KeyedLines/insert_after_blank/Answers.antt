@@ -7,16 +7,22 @@ use Rattle.gm_file_edit.proofs.keyed_lines.KeyedLines.insert_after_blank.Goals a
 
 pub invariant_of-self-2 : goal.invariant_of-self-2
 invariant_of-self-2 c =
-    (after-blank c.self.inside.lines.items c.insert_keyed.new.lines.items c.insert_keyed-2.new.lines.items c.self.inside.keys.items c.insert_keyed.new.keys.items c.insert_keyed-2.new.keys.items c.args.self.now c.args.at c.args.line
+    (after-blank c.self.inside.lines.items c.insert_keyed.new.lines.items c.insert_keyed-2.new.lines.items
+    c.self.inside.keys.items c.insert_keyed.new.keys.items c.insert_keyed-2.new.keys.items c.args.self.now c.args.at
+    c.args.line
     c.self.view_is c.self.invariant
     (c.insert_keyed.ensures.lines ∙ ap (λ (ls : List declared.Line). insert ls c.args.at c.args.line) c.make_room.ensures.lines)
-    (c.insert_keyed.ensures.keys ∙ ap (λ (ks : List Key). insert ks c.args.at c.in_ok-key.key) c.make_room.ensures.keys ∙ ap (insert c.self.inside.keys.items c.args.at) c.in_ok-key.ensures)
+    (c.insert_keyed.ensures.keys ∙ ap (λ (ks : List Key). insert ks c.args.at c.in_ok-key.key) c.make_room.ensures.keys
+    ∙ ap (insert c.self.inside.keys.items c.args.at) c.in_ok-key.ensures)
     c.insert_keyed-2.ensures.lines c.insert_keyed-2.ensures.keys c.requires).numbers
 
 pub returns-clause-ok : goal.returns-clause-ok
 returns-clause-ok c =
-    (after-blank c.self.inside.lines.items c.insert_keyed.new.lines.items c.insert_keyed-2.new.lines.items c.self.inside.keys.items c.insert_keyed.new.keys.items c.insert_keyed-2.new.keys.items c.args.self.now c.args.at c.args.line
+    (after-blank c.self.inside.lines.items c.insert_keyed.new.lines.items c.insert_keyed-2.new.lines.items
+    c.self.inside.keys.items c.insert_keyed.new.keys.items c.insert_keyed-2.new.keys.items c.args.self.now c.args.at
+    c.args.line
     c.self.view_is c.self.invariant
     (c.insert_keyed.ensures.lines ∙ ap (λ (ls : List declared.Line). insert ls c.args.at c.args.line) c.make_room.ensures.lines)
-    (c.insert_keyed.ensures.keys ∙ ap (λ (ks : List Key). insert ks c.args.at c.in_ok-key.key) c.make_room.ensures.keys ∙ ap (insert c.self.inside.keys.items c.args.at) c.in_ok-key.ensures)
+    (c.insert_keyed.ensures.keys ∙ ap (λ (ks : List Key). insert ks c.args.at c.in_ok-key.key) c.make_room.ensures.keys
+    ∙ ap (insert c.self.inside.keys.items c.args.at) c.in_ok-key.ensures)
     c.insert_keyed-2.ensures.lines c.insert_keyed-2.ensures.keys c.requires).view

@@ -3,10 +3,12 @@ use Rattle.gm_file_edit.proofs.keyed_lines.KeyedLines.remove.Goals as goal
 
 pub invariant_of-self : goal.invariant_of-self
 invariant_of-self c =
-    (removed c.self.inside.lines.items c.remove.new.self.items c.self.inside.keys.items c.remove-key.new.self.items c.args.self.now c.args.at c.self.view_is c.self.invariant
+    (removed c.self.inside.lines.items c.remove.new.self.items c.self.inside.keys.items c.remove-key.new.self.items
+    c.args.self.now c.args.at c.self.view_is c.self.invariant
     c.remove.ensures.by_index.2 c.remove-key.ensures.by_index.2).numbers
 
 pub returns : goal.returns
 returns c =
-    (removed c.self.inside.lines.items c.remove.new.self.items c.self.inside.keys.items c.remove-key.new.self.items c.args.self.now c.args.at c.self.view_is c.self.invariant
+    (removed c.self.inside.lines.items c.remove.new.self.items c.self.inside.keys.items c.remove-key.new.self.items
+    c.args.self.now c.args.at c.self.view_is c.self.invariant
     c.remove.ensures.by_index.2 c.remove-key.ensures.by_index.2).view

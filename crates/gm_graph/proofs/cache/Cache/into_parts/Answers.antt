@@ -1,5 +1,5 @@
 use Rattle.std.proofs.Common.{ℕ, List, length, refl, subst, sym}
-use Rattle.gm_graph.specs.Private.Summaries.{AreInOrder}
+use Rattle.gm_graph.specs.Private.Summaries.{AreListsInOrder}
 use Rattle.gm_graph.proofs.cache.Cache.into_parts.Goals as goal
 
 pub invariant_of-result : goal.invariant_of-result
@@ -9,8 +9,9 @@ invariant_of-result c =
       distinct = c.into_parts-modules.ensures.distinct;
       few = c.into_parts-modules.ensures.few;
       below = c.into_parts-modules.ensures.below;
-      in_order = subst (λ files. AreInOrder cache.first files.items (length c.into_parts-modules.result.1.items)) (sym c.into_files.ensures)
-          (subst (λ (numbers : List ℕ). AreInOrder cache.first cache.files.files.items (length numbers)) (sym c.into_parts-modules.ensures.numbers) cache.in_order);
+      in_order = subst (λ files. AreListsInOrder cache.first files.items (length c.into_parts-modules.result.1.items)) (sym c.into_files.ensures)
+          (subst (λ (numbers : List ℕ). AreListsInOrder cache.first cache.files.files.items (length numbers))
+          (sym c.into_parts-modules.ensures.numbers) cache.in_order);
     }
 
 pub returns : goal.returns

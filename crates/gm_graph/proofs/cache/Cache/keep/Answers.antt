@@ -37,7 +37,9 @@ invariant_of-self-clause-notes c =
 
 pub returns-clause-err : goal.returns-clause-err
 returns-clause-err c =
-    on_err_weaker c.add.result (λ keeps. holds_listed c.args.self.now _ refl refl keeps (begins_added c.args.self.now.files.files.items c.add.new.self.files.items c.args.kept c.add.ensures.files) refl) c.add.ensures.err
+    on_err_weaker c.add.result (λ keeps. holds_listed c.args.self.now _ refl refl keeps
+    (begins_added c.args.self.now.files.files.items c.add.new.self.files.items c.args.kept c.add.ensures.files)
+    refl) c.add.ensures.err
 
 pub returns-clause-place : goal.returns-clause-place
 returns-clause-place c =

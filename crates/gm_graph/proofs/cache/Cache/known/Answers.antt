@@ -16,7 +16,8 @@ use Rattle.gm_graph.proofs.cache.Cache.known.Given.{Over}
 use Rattle.gm_graph.proofs.cache.Cache.known.Goals as goal
 
 pub known_at-requires-clause-knows : goal.known_at-requires-clause-knows
-known_at-requires-clause-knows g c = knows_still c.args.self.now c.number.new.self (g.F.Asks.state c.args.files.now).asked c.number.ensures.holds c.requires.knows
+known_at-requires-clause-knows g c = knows_still c.args.self.now c.number.new.self
+    (g.F.Asks.state c.args.files.now).asked c.number.ensures.holds c.requires.knows
 
 pub returns-in-Err-clause-lent : goal.returns-in-Err-clause-lent
 returns-in-Err-clause-lent g c =
@@ -61,11 +62,13 @@ returns-in-Err-clause-refused g c = (asked g c).refused
 
 pub returns-in_err-number-clause-stays : goal.returns-in_err-number-clause-stays
 returns-in_err-number-clause-stays g c =
-    says_still c.args.self.now c.number.new.self (g.F.Asks.state c.args.files.now) (g.F.Asks.state c.args.files.now) c.args.vertex.now c.number.ensures.lent (inl refl)
+    says_still c.args.self.now c.number.new.self (g.F.Asks.state c.args.files.now) (g.F.Asks.state c.args.files.now)
+    c.args.vertex.now c.number.ensures.lent (inl refl)
 
 pub returns-in_err-name-clause-stays : goal.returns-in_err-name-clause-stays
 returns-in_err-name-clause-stays g c =
-    says_still c.args.self.now c.number.new.self (g.F.Asks.state c.args.files.now) (g.F.Asks.state c.args.files.now) c.args.vertex.now c.number.ensures.lent (inl refl)
+    says_still c.args.self.now c.number.new.self (g.F.Asks.state c.args.files.now) (g.F.Asks.state c.args.files.now)
+    c.args.vertex.now c.number.ensures.lent (inl refl)
 
 pub returns-in-Ok-clause-stays : goal.returns-in-Ok-clause-stays
 returns-in-Ok-clause-stays g c =
@@ -102,7 +105,8 @@ known_by-requires-clause-name g c =
     let new = c.known_at.new.self in
     let number = c.in_ok-number.number in
     c.in_ok-name.ensures
-    ∙ ap (file_of (main_in c.number.new.self)) (sym (number_stays (table_in c.number.new.self) (table_in new) number c.in-Ok.ensures.known.numbered c.in_ok-number.ensures.number
+    ∙ ap (file_of (main_in c.number.new.self)) (sym (number_stays (table_in c.number.new.self) (table_in new) number
+    c.in-Ok.ensures.known.numbered c.in_ok-number.ensures.number
     ∙ c.in_ok-number.ensures.module))
     ∙ ap (λ m. file_of (main_of m) (module_numbered new number)) (sym c.known_at.ensures.lent.main)
 
@@ -113,7 +117,8 @@ known_by-requires-clause-vertex g c =
 pub known_by-requires-clause-place : goal.known_by-requires-clause-place
 known_by-requires-clause-place g c =
     subst (λ (v : ModuleVersion). IsPlaceFor c.known_at.new.self v c.in-Ok.place)
-    (sym (number_stays (table_in c.number.new.self) (table_in c.known_at.new.self) c.in_ok-number.number c.in-Ok.ensures.known.numbered c.in_ok-number.ensures.number))
+    (sym (number_stays (table_in c.number.new.self) (table_in c.known_at.new.self) c.in_ok-number.number
+    c.in-Ok.ensures.known.numbered c.in_ok-number.ensures.number))
     c.in-Ok.ensures.known.place_is
 
 pub returns-in-Err-clause-not_too_many : goal.returns-in-Err-clause-not_too_many

@@ -19,7 +19,9 @@ use Rattle.gm_graph.proofs.cache.Cache.known_at.Goals as goal
 
 pub read_file-requires-clause-fresh : goal.read_file-requires-clause-fresh
 read_file-requires-clause-fresh g c =
-    not_asked c.args.self.now (g.F.Asks.state c.args.files.now).asked (name_of c.in_ok-name.name) c.requires.knows (nothing_kept c.args.self.now c.args.number (name_of c.in_ok-name.name) c.module.result.now c.module.ensures.distinct c.requires.vertex
+    not_asked c.args.self.now (g.F.Asks.state c.args.files.now).asked (name_of c.in_ok-name.name) c.requires.knows
+    (nothing_kept c.args.self.now c.args.number (name_of c.in_ok-name.name) c.module.result.now
+    c.module.ensures.distinct c.requires.vertex
     c.in_ok-name.ensures c.module.ensures.module (sym c.in_default.ensures) (sym c.in_default-replacing_place.ensures))
 
 pub keep-requires-clause-new : goal.keep-requires-clause-new
@@ -43,7 +45,8 @@ keep-requires-clause-reading g c =
     let read = c.in-Ok.ensures.reading in
     let mid = c.read_file.new.self in (
       read.0,
-      subst (λ (s : Option Sums). IsFileReading s (name_of c.in_ok-name.name) read.0 (summary_reading (modules_of mid.modules) c.in-Ok.kept)) (sym c.read_file.ensures.lent.sums) read.2,
+      subst (λ (s : Option Sums). IsFileReading s (name_of c.in_ok-name.name) read.0
+          (summary_reading (modules_of mid.modules) c.in-Ok.kept)) (sym c.read_file.ensures.lent.sums) read.2,
     )
 
 pub keep-requires-clause-kept : goal.keep-requires-clause-kept
@@ -66,7 +69,8 @@ returns-in_err-keep-in-Ok-clause-lent g c = lent_after c.args.self.now c.read_fi
 
 pub returns-in_err-keep-in-Ok-clause-err : goal.returns-in_err-keep-in-Ok-clause-err
 returns-in_err-keep-in-Ok-clause-err g c =
-    any_err c.from_residual-in_err-keep-in-Ok.result (holds_after c.args.self.now c.read_file.new.self c.keep.new.self c.read_file.ensures.holds c.in_err-keep-in-Ok.ensures.err)
+    any_err c.from_residual-in_err-keep-in-Ok.result (holds_after c.args.self.now c.read_file.new.self c.keep.new.self
+    c.read_file.ensures.holds c.in_err-keep-in-Ok.ensures.err)
 
 -- ---- the file is one of a replacement
 
@@ -129,7 +133,8 @@ returns-in_ok-keep-in-Ok-clause-known g c =
     c.in_ok-name.ensures c.module.ensures.module (sym c.in_default.ensures) (sym c.in_default-replacing_place.ensures) in
     record {
       knows = knows_read old mid new earlier pairs name read.0 c.in-Ok.kept
-          c.requires.knows c.read_file.ensures.holds c.keep.ensures.lent c.keep.ensures.modules none c.in_ok-keep-in-Ok.ensures.adds read.1 read.2 c.in-Ok.ensures.kept;
+          c.requires.knows c.read_file.ensures.holds c.keep.ensures.lent c.keep.ensures.modules none
+          c.in_ok-keep-in-Ok.ensures.adds read.1 read.2 c.in-Ok.ensures.kept;
       place_is = subst (λ (v : ModuleVersion). HasFileAt new v c.in_ok-keep-in-Ok.field-0)
           (number_stays (table_in old) (table_in mid) c.args.number begins c.requires.vertex) c.in_ok-keep-in-Ok.ensures.place;
       numbered = (begins.0, ap (λ (list : NumberedList). list.modules) c.keep.ensures.modules ∙ begins.1);

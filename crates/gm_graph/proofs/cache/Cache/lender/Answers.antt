@@ -26,7 +26,8 @@ returns-in-Some c = λ pairs knows.
     let x = c.args.vertex.now in
     let number = c.in-Some.number in
     let name = name_of c.in_ok-name.name.now in
-    let named = name_here (λ (n : Bor FileName). name_of n.now) (run_in cache pairs) x c.args.name c.in_ok-name.name c.in_ok-name.was (c.requires pairs knows) in
+    let named = name_here (λ (n : Bor FileName). name_of n.now) (run_in cache pairs) x c.args.name c.in_ok-name.name
+    c.in_ok-name.was (c.requires pairs knows) in
     let there : slice_get (table_in cache) number ≡ Some x = (c.find.ensures number).0 c.in-Some.is in
     let is : module_numbered cache number ≡ x = get_or_from_slice_get (table_in cache) number x ([], []) there in
     lender_named cache pairs x name knows named c.place_of.result
@@ -39,7 +40,8 @@ returns-in-None c = λ pairs knows.
     let cache = c.args.self.now in
     let x = c.args.vertex.now in
     let name = name_of c.in_ok-name.name.now in
-    let named = name_here (λ (n : Bor FileName). name_of n.now) (run_in cache pairs) x c.args.name c.in_ok-name.name c.in_ok-name.was (c.requires pairs knows) in
+    let named = name_here (λ (n : Bor FileName). name_of n.now) (run_in cache pairs) x c.args.name c.in_ok-name.name
+    c.in_ok-name.was (c.requires pairs knows) in
     lender_named cache pairs x name knows named c.replacing_place.result
     (place_found cache.files name c.replacing_place.result
     (place_by_absent (main_in cache) (table_in cache) cache.files cache.notes x name

@@ -4,7 +4,7 @@ use Rattle.gm_name_table.specs.Listed.{modules_of}
 use Rattle.gm_file.specs.Main.{main_of}
 use Rattle.gm_graph.specs.declared.cache.summary.Kept.{Kept}
 use Rattle.gm_graph.specs.Summaries.{summary_reading}
-use Rattle.gm_graph.specs.Private.Summaries.{AreInOrder}
+use Rattle.gm_graph.specs.Private.Summaries.{AreListsInOrder}
 use Rattle.gm_graph.proofs.HeldFiles.{none_some}
 use Rattle.gm_graph.proofs.cache.Cache.new.Goals as goal
 
@@ -18,7 +18,7 @@ invariant_of-result-clause-notes c = c.in_ok-files.ensures.notes c.in_ok-modules
 pub invariant_of-result-clause-in_order : goal.invariant_of-result-clause-in_order
 invariant_of-result-clause-in_order c =
     let count = length c.in_ok-modules.modules.numbers in
-    subst (λ (files : List Kept). AreInOrder c.len-first.result files count) (sym c.in_ok-files.ensures.files)
+    subst (λ (files : List Kept). AreListsInOrder c.len-first.result files count) (sym c.in_ok-files.ensures.files)
     (omega (arith, c.len-first.ensures.len))
 
 pub returns-clause-knows : goal.returns-clause-knows

@@ -6,7 +6,7 @@ use Rattle.gm_graph.specs.Cached.{main_in, sums_in, table_in}
 use Rattle.gm_graph.specs.Private.Cached.{module_numbered}
 use Rattle.gm_graph.specs.Places.{place_among}
 use Rattle.gm_graph.specs.Reading.{file_of}
-use Rattle.gm_graph.specs.Private.Summaries.{AreInOrder}
+use Rattle.gm_graph.specs.Private.Summaries.{AreListsInOrder}
 use Rattle.gm_graph.proofs.HeldFiles.{kept_some}
 use Rattle.gm_graph.proofs.Keeping.{holds_listed}
 use Rattle.gm_graph.proofs.OwnFiles.{has_placed, noted_again, replacing_at}
@@ -26,14 +26,18 @@ invariant_of-self-clause-places_within c =
 pub invariant_of-self-clause-in_order : goal.invariant_of-self-clause-in_order
 invariant_of-self-clause-in_order c =
     let cache = c.args.self.now in
-    subst (λ (files : Vec Kept Global). AreInOrder cache.first files.items (length cache.modules.numbers))
+    subst (λ (files : Vec Kept Global). AreListsInOrder cache.first files.items (length cache.modules.numbers))
     (sym c.note.ensures.others.files) cache.in_order
 
 pub invariant_of-self-clause-notes : goal.invariant_of-self-clause-notes
 invariant_of-self-clause-notes c =
     let cache = c.args.self.now in
     noted_again cache c.note.new.self c.args.number c.args.place c.note.result
-    (record { placed = replacing_at cache (file_of (main_in cache) (module_numbered cache c.args.number)) c.args.place c.requires.place; askable = c.requires.askable })
+    (record {
+      placed = replacing_at cache (file_of (main_in cache) (module_numbered cache c.args.number)) c.args.place
+          c.requires.place;
+      askable = c.requires.askable;
+    })
     c.note.ensures.others c.note.ensures.notes c.note.ensures.err
 
 pub invariant_of-self-clause-holds_some : goal.invariant_of-self-clause-holds_some

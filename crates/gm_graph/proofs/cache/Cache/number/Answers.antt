@@ -7,13 +7,13 @@ use Rattle.gm_graph.specs.Cached.{main_in, sums_in, table_in}
 use Rattle.gm_graph.proofs.HeldFiles.{grown_some, numbered_more}
 use Rattle.gm_graph.proofs.Keeping.{holds_grown}
 use Rattle.gm_graph.proofs.PuttingPlaces.{notes_if_more}
-use Rattle.gm_graph.specs.Private.Summaries.{AreInOrder}
+use Rattle.gm_graph.specs.Private.Summaries.{AreListsInOrder}
 use Rattle.gm_graph.proofs.cache.Cache.number.Goals as goal
 
 pub invariant_of-self-clause-in_order : goal.invariant_of-self-clause-in_order
 invariant_of-self-clause-in_order c =
     let old = c.args.self.now in
-    subst (λ (numbers : List ℕ). AreInOrder old.first old.files.files.items (length numbers)) (sym c.number.ensures.numbers) old.in_order
+    subst (λ (numbers : List ℕ). AreListsInOrder old.first old.files.files.items (length numbers)) (sym c.number.ensures.numbers) old.in_order
 
 pub returns-clause-module : goal.returns-clause-module
 returns-clause-module c =

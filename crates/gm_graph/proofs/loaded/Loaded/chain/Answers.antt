@@ -14,5 +14,6 @@ returns-clause-not_listed c = λ err listed.
     let path = c.args.path.now in
     let edges = c.self.inside.graph.edges in
     reached_entry main edges (entries_of_rows c.self.inside.rows.items) path c.self.invariant
-    (subst (λ (rs : List Row). ¬ ((s : Step) × IsEntryOf main (entries_of_rows rs) path s × IsReached (among edges) s)) c.deref.ensures.value (c.chain.ensures.not_listed err))
+    (subst (λ (rs : List Row). ¬ ((s : Step) × IsEntryOf main (entries_of_rows rs) path s × IsReached (among edges) s))
+    c.deref.ensures.value (c.chain.ensures.not_listed err))
     (subst (λ (o : LoadedGraph). HasEntryFor o.main o.rows path) (sym c.self.view_is) listed)

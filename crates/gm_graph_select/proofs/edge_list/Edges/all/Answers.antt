@@ -8,7 +8,9 @@ use Rattle.gm_graph_select.proofs.edge_list.Edges.all.Goals as goal
 pub invariant_of-result : goal.invariant_of-result
 invariant_of-result c =
     let count = length c.args.vertices.now in
-    subst (λ (pairs : List NumberedEdge). All (AreEndsBelow count) pairs) (sym c.all.ensures) (pairs_below count (by_step c.args.lists.now c.args.sources.now) c.requires)
+    subst (λ (pairs : List NumberedEdge). All (AreEndsBelow count) pairs) (sym c.all.ensures)
+    (pairs_below count (by_step c.args.lists.now c.args.sources.now) c.requires)
 
 pub returns : goal.returns
-returns c = ap (λ (pairs : List NumberedEdge). map (edge_with c.args.vertices.now) pairs) c.all.ensures ∙ edges_of-numbered c.args.vertices.now (by_step c.args.lists.now c.args.sources.now)
+returns c = ap (λ (pairs : List NumberedEdge). map (edge_with c.args.vertices.now) pairs) c.all.ensures
+    ∙ edges_of-numbered c.args.vertices.now (by_step c.args.lists.now c.args.sources.now)

@@ -28,5 +28,10 @@ returns-in-Err-clause-none c =
     let i = c.in-Err.field-0 in
     let below = subst (λ (g : GraphView). number < length (steps_of g)) (sym c.self.view_is) c.requires in
     let says = c.in-Err.ensures.position (λ (o : Source). number_left o) (always_returns_same _ _ _ (λ a r f k. search (rules, of_calls))) in
-    let says_all = subst (λ (xs : List Source). IsNonDecreasingBy (λ (y : Source). ordering_index (nat_cmp (number_left y) number)) xs → IsPartitionPoint (λ (y : Source). nat_cmp (number_left y) number ≡ Less) (λ (y : Source). nat_cmp (number_left y) number ≡ Greater) xs i) c.deref.ensures.value says in
-    subst (λ (g : GraphView). AreLeaving g number []) c.self.view_is (source_not_found c.self.inside.vertices.items c.self.inside.lists c.self.inside.sources.items c.self.invariant number i says_all below)
+    let says_all = subst (λ (xs : List Source). IsNonDecreasingBy
+    (λ (y : Source). ordering_index (nat_cmp (number_left y) number)) xs
+    → IsPartitionPoint (λ (y : Source). nat_cmp (number_left y) number ≡ Less)
+    (λ (y : Source). nat_cmp (number_left y) number ≡ Greater) xs i) c.deref.ensures.value says in
+    subst (λ (g : GraphView). AreLeaving g number []) c.self.view_is
+    (source_not_found c.self.inside.vertices.items c.self.inside.lists c.self.inside.sources.items c.self.invariant
+    number i says_all below)

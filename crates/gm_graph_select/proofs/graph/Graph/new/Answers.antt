@@ -13,14 +13,16 @@ marks_of-requires-clause-sources c =
     let lists = lists_at c.args.numbers.items c.args.spans.items in
     let count : length c.args.modules.items ≡ c.len.result = omega (arith, c.len.ensures, c.args.modules.ok) in
     subst (λ (sources : List Source). All (λ (one : Source). IsBelow c.len.result one.from) sources) (sym c.deref.ensures.value)
-    (subst (λ (n : ℕ). All (λ (one : Source). IsBelow n one.from) c.args.sources.items) count (sources_below lists c.args.sources.items (length c.args.modules.items) c.requires.numbered))
+    (subst (λ (n : ℕ). All (λ (one : Source). IsBelow n one.from) c.args.sources.items) count
+    (sources_below lists c.args.sources.items (length c.args.modules.items) c.requires.numbered))
 
 pub marks_of-requires-clause-lists : goal.marks_of-requires-clause-lists
 marks_of-requires-clause-lists c =
     let lists = lists_at c.args.numbers.items c.args.spans.items in
     let count : length c.args.modules.items ≡ c.len.result = omega (arith, c.len.ensures, c.args.modules.ok) in
     subst (λ (ls : List (List ℕ)). All (IsNumberedList c.len.result) ls) (sym c.new-lists.ensures)
-    (subst (λ (n : ℕ). All (IsNumberedList n) lists) count (lists_below lists c.args.sources.items (length c.args.modules.items) c.requires.numbered c.requires.used))
+    (subst (λ (n : ℕ). All (IsNumberedList n) lists) count
+    (lists_below lists c.args.sources.items (length c.args.modules.items) c.requires.numbered c.requires.used))
 
 pub by_ranks-lists-requires : goal.by_ranks-lists-requires
 by_ranks-lists-requires c =
@@ -32,41 +34,58 @@ by_ranks-lists-requires c =
 pub sources_by_ranks-sources-requires : goal.sources_by_ranks-sources-requires
 sources_by_ranks-sources-requires c =
     let lists = lists_at c.args.numbers.items c.args.spans.items in
-    subst (λ (n : ℕ). All (λ (one : Source). IsBelow n one.from) c.args.sources.items) (sym (ap length c.deref-4.ensures.value ∙ c.in_ok-ranking.ensures.ranks.count))
+    subst (λ (n : ℕ). All (λ (one : Source). IsBelow n one.from) c.args.sources.items)
+    (sym (ap length c.deref-4.ensures.value ∙ c.in_ok-ranking.ensures.ranks.count))
     (sources_below lists c.args.sources.items (length c.args.modules.items) c.requires.numbered)
 
 pub invariant_of-result : goal.invariant_of-result
 invariant_of-result c =
-    let made = is_graph_of c.args.modules.items c.in_ok-is_vertex.is_vertex.items c.deref-2.result.now c.in_ok-ranking.ranking.vertices.items c.in_ok-ranking.ranking.ranks.items c.deref-3.result.now c.deref-4.result.now
-    (lists_at c.args.numbers.items c.args.spans.items) c.new-lists.result c.by_ranks-lists.result c.args.sources.items c.deref.result.now c.sources_by_ranks-sources.result.items
+    let made = is_graph_of c.args.modules.items c.in_ok-is_vertex.is_vertex.items c.deref-2.result.now
+    c.in_ok-ranking.ranking.vertices.items c.in_ok-ranking.ranking.ranks.items c.deref-3.result.now
+    c.deref-4.result.now
+    (lists_at c.args.numbers.items c.args.spans.items) c.new-lists.result c.by_ranks-lists.result c.args.sources.items
+    c.deref.result.now c.sources_by_ranks-sources.result.items
     c.new-lists.ensures c.deref.ensures.value c.deref-2.ensures.value c.deref-3.ensures.value c.deref-4.ensures.value c.requires.used
     (omega (arith, c.in_ok-is_vertex.ensures.count, c.len.ensures, c.args.modules.ok)) c.in_ok-is_vertex.ensures.marks
-    c.in_ok-ranking.ensures.vertices c.in_ok-ranking.ensures.ascending c.in_ok-ranking.ensures.ranks c.by_ranks-lists.ensures c.sources_by_ranks-sources.ensures c.requires.once in
+    c.in_ok-ranking.ensures.vertices c.in_ok-ranking.ensures.ascending c.in_ok-ranking.ensures.ranks
+    c.by_ranks-lists.ensures c.sources_by_ranks-sources.ensures c.requires.once in
     made.ranked
 
 pub returns-clause-vertices : goal.returns-clause-vertices
 returns-clause-vertices c =
-    let made = is_graph_of c.args.modules.items c.in_ok-is_vertex.is_vertex.items c.deref-2.result.now c.in_ok-ranking.ranking.vertices.items c.in_ok-ranking.ranking.ranks.items c.deref-3.result.now c.deref-4.result.now
-    (lists_at c.args.numbers.items c.args.spans.items) c.new-lists.result c.by_ranks-lists.result c.args.sources.items c.deref.result.now c.sources_by_ranks-sources.result.items
+    let made = is_graph_of c.args.modules.items c.in_ok-is_vertex.is_vertex.items c.deref-2.result.now
+    c.in_ok-ranking.ranking.vertices.items c.in_ok-ranking.ranking.ranks.items c.deref-3.result.now
+    c.deref-4.result.now
+    (lists_at c.args.numbers.items c.args.spans.items) c.new-lists.result c.by_ranks-lists.result c.args.sources.items
+    c.deref.result.now c.sources_by_ranks-sources.result.items
     c.new-lists.ensures c.deref.ensures.value c.deref-2.ensures.value c.deref-3.ensures.value c.deref-4.ensures.value c.requires.used
     (omega (arith, c.in_ok-is_vertex.ensures.count, c.len.ensures, c.args.modules.ok)) c.in_ok-is_vertex.ensures.marks
-    c.in_ok-ranking.ensures.vertices c.in_ok-ranking.ensures.ascending c.in_ok-ranking.ensures.ranks c.by_ranks-lists.ensures c.sources_by_ranks-sources.ensures c.requires.once in
+    c.in_ok-ranking.ensures.vertices c.in_ok-ranking.ensures.ascending c.in_ok-ranking.ensures.ranks
+    c.by_ranks-lists.ensures c.sources_by_ranks-sources.ensures c.requires.once in
     made.vertices_are
 
 pub returns-clause-edges : goal.returns-clause-edges
 returns-clause-edges c =
-    let made = is_graph_of c.args.modules.items c.in_ok-is_vertex.is_vertex.items c.deref-2.result.now c.in_ok-ranking.ranking.vertices.items c.in_ok-ranking.ranking.ranks.items c.deref-3.result.now c.deref-4.result.now
-    (lists_at c.args.numbers.items c.args.spans.items) c.new-lists.result c.by_ranks-lists.result c.args.sources.items c.deref.result.now c.sources_by_ranks-sources.result.items
+    let made = is_graph_of c.args.modules.items c.in_ok-is_vertex.is_vertex.items c.deref-2.result.now
+    c.in_ok-ranking.ranking.vertices.items c.in_ok-ranking.ranking.ranks.items c.deref-3.result.now
+    c.deref-4.result.now
+    (lists_at c.args.numbers.items c.args.spans.items) c.new-lists.result c.by_ranks-lists.result c.args.sources.items
+    c.deref.result.now c.sources_by_ranks-sources.result.items
     c.new-lists.ensures c.deref.ensures.value c.deref-2.ensures.value c.deref-3.ensures.value c.deref-4.ensures.value c.requires.used
     (omega (arith, c.in_ok-is_vertex.ensures.count, c.len.ensures, c.args.modules.ok)) c.in_ok-is_vertex.ensures.marks
-    c.in_ok-ranking.ensures.vertices c.in_ok-ranking.ensures.ascending c.in_ok-ranking.ensures.ranks c.by_ranks-lists.ensures c.sources_by_ranks-sources.ensures c.requires.once in
+    c.in_ok-ranking.ensures.vertices c.in_ok-ranking.ensures.ascending c.in_ok-ranking.ensures.ranks
+    c.by_ranks-lists.ensures c.sources_by_ranks-sources.ensures c.requires.once in
     made.edges_are
 
 pub returns-clause-ascending : goal.returns-clause-ascending
 returns-clause-ascending c =
-    let made = is_graph_of c.args.modules.items c.in_ok-is_vertex.is_vertex.items c.deref-2.result.now c.in_ok-ranking.ranking.vertices.items c.in_ok-ranking.ranking.ranks.items c.deref-3.result.now c.deref-4.result.now
-    (lists_at c.args.numbers.items c.args.spans.items) c.new-lists.result c.by_ranks-lists.result c.args.sources.items c.deref.result.now c.sources_by_ranks-sources.result.items
+    let made = is_graph_of c.args.modules.items c.in_ok-is_vertex.is_vertex.items c.deref-2.result.now
+    c.in_ok-ranking.ranking.vertices.items c.in_ok-ranking.ranking.ranks.items c.deref-3.result.now
+    c.deref-4.result.now
+    (lists_at c.args.numbers.items c.args.spans.items) c.new-lists.result c.by_ranks-lists.result c.args.sources.items
+    c.deref.result.now c.sources_by_ranks-sources.result.items
     c.new-lists.ensures c.deref.ensures.value c.deref-2.ensures.value c.deref-3.ensures.value c.deref-4.ensures.value c.requires.used
     (omega (arith, c.in_ok-is_vertex.ensures.count, c.len.ensures, c.args.modules.ok)) c.in_ok-is_vertex.ensures.marks
-    c.in_ok-ranking.ensures.vertices c.in_ok-ranking.ensures.ascending c.in_ok-ranking.ensures.ranks c.by_ranks-lists.ensures c.sources_by_ranks-sources.ensures c.requires.once in
+    c.in_ok-ranking.ensures.vertices c.in_ok-ranking.ensures.ascending c.in_ok-ranking.ensures.ranks
+    c.by_ranks-lists.ensures c.sources_by_ranks-sources.ensures c.requires.once in
     ranked_edges_ascend c.in_ok-ranking.ranking.vertices.items (by_step c.by_ranks-lists.result c.sources_by_ranks-sources.result.items) made.ranked

@@ -18,5 +18,6 @@ returns-clause-followed c = λ graph goal level found tried e are next f.
     let items = c.args.self.now.is_found.items in
     let number = c.args.number in
     let none : get_or items number false ≡ false = get_or_default items number false c.index.result.now c.requires ∙ sym c.index.ensures ∙ c.if-index.false in
-    subst (λ (visits : List Visit). IsFollowed graph goal level found (tried ++ e ∷ []) (record state { found = set items number true; next = visits })) (sym c.in_ok-push.ensures.items)
+    subst (λ (visits : List Visit). IsFollowed graph goal level found (tried ++ e ∷ [])
+    (record state { found = set items number true; next = visits })) (sym c.in_ok-push.ensures.items)
     (new_end graph goal level found tried state c.args.before number e are next f c.requires none)

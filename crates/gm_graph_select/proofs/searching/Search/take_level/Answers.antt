@@ -7,13 +7,16 @@ use Rattle.gm_graph_select.proofs.Sorts.{numbers_ascend}
 use Rattle.gm_graph_select.proofs.searching.Search.take_level.Goals as goal
 
 pub returns-clause-state : goal.returns-clause-state
-returns-clause-state c = ap (λ (visits : List Visit). record (state_of c.args.self.now) { next = visits }) (ap (λ v. v.items) c.replace.ensures.after ∙ c.new.ensures.items)
+returns-clause-state c = ap (λ (visits : List Visit). record (state_of c.args.self.now) { next = visits })
+    (ap (λ v. v.items) c.replace.ensures.after ∙ c.new.ensures.items)
 
 pub returns-clause-members : goal.returns-clause-members
-returns-clause-members c = subst (λ (next : List Visit). HaveSame next c.sorted.result.items) (ap (λ v. v.items) c.replace.ensures.value) c.sorted.ensures.members
+returns-clause-members c = subst (λ (next : List Visit). HaveSame next c.sorted.result.items)
+    (ap (λ v. v.items) c.replace.ensures.value) c.sorted.ensures.members
 
 pub returns-clause-fewer : goal.returns-clause-fewer
 returns-clause-fewer c = omega (arith, c.sorted.ensures.fewer, ap (λ v. length v.items) c.replace.ensures.value)
 
 pub returns-clause-ascending : goal.returns-clause-ascending
-returns-clause-ascending c = numbers_ascend (λ (v : Visit). v.number) (λ (v w : Visit). nat_cmp v.before w.before) c.sorted.result.items c.sorted.ensures.ascending
+returns-clause-ascending c = numbers_ascend (λ (v : Visit). v.number) (λ (v w : Visit). nat_cmp v.before w.before)
+    c.sorted.result.items c.sorted.ensures.ascending

@@ -31,7 +31,8 @@ returns-then-has_passed-clause-missed c = λ e level found tried due.
     let ranks = c.ranks_in-ranks.result.now in
     let leaving = c.ranks_in-ranks.ensures number c.requires.inside c.in-Some.ensures.some in (
       edges_leaving graph number ranks,
-      with_passed graph goal level found tried (record (state_of old) { visits = c.push.new.self.items }) number list ranks c.requires.inside c.in-Some.ensures.some leaving (sym c.has_passed.ensures ∙ c.if-has_passed.true)
+      with_passed graph goal level found tried (record (state_of old) { visits = c.push.new.self.items }) number list
+          ranks c.requires.inside c.in-Some.ensures.some leaving (sym c.has_passed.ensures ∙ c.if-has_passed.true)
           (visited_now graph goal level found tried (state_of old) c.push.new.self.items c.args.visit c.requires.inside c.in_ok-push.ensures.items due),
       one_tried graph c.args.visit (edges_leaving graph number ranks) leaving.all,
     )
@@ -59,8 +60,11 @@ returns-then-rank-goal-clause-found c = λ e level found tried due.
     let leaving = c.ranks_in-ranks.ensures number c.requires.inside c.in-Some.ensures.some in
     let there = leaving.only k 0 (omega arith) in
     let same : module_at graph.vertices rank ≡ goal = ap (λ (n : ℕ). module_at graph.vertices n) c.if-rank-goal.true in
-    found_here graph goal level found (tried ++ edges_leaving graph number (take k ranks)) (state_of c.loop-rank.self) c.args.self.now.visits.items c.args.visit c.loop-rank.invariant.visits (subst (λ (y : ModuleVersion). graph_edges graph (step_at (steps_of graph) number) y) same there)
-    (turn_later graph goal level found tried (edges_leaving graph number (take k ranks)) (step_at (steps_of graph) number) due.turn) due.far (c.loop-rank.invariant.followed level found tried due)
+    found_here graph goal level found (tried ++ edges_leaving graph number (take k ranks)) (state_of c.loop-rank.self)
+    c.args.self.now.visits.items c.args.visit c.loop-rank.invariant.visits
+    (subst (λ (y : ModuleVersion). graph_edges graph (step_at (steps_of graph) number) y) same there)
+    (turn_later graph goal level found tried (edges_leaving graph number (take k ranks))
+    (step_at (steps_of graph) number) due.turn) due.far (c.loop-rank.invariant.followed level found tried due)
 
 pub follow-requires : goal.follow-requires
 follow-requires c =
@@ -85,9 +89,14 @@ loop-rank-preserved c = record {
       let leaving = c.ranks_in-ranks.ensures number c.requires.inside c.in-Some.ensures.some in
       let there = leaving.only k 0 (omega arith) in
       let inside = leaving.within k 0 (omega arith) in
-      let miss : module_at graph.vertices rank ≢ goal = λ same. c.if-rank-goal.false (same_rank graph.vertices c.requires.graph.ascending rank c.args.goal inside c.requires.goal same) in
-      let (here, room) = last_visit (steps_of graph) c.args.self.now.visits.items c.args.visit c.loop-rank.self.visits.items c.len-before.result c.loop-rank.invariant.visits (let long = c.args.self.now.visits.ok.0 in let is = c.len-before.ensures in omega (arith, long, is)) in
-      subst (λ (es : List Edge). IsFollowed graph goal level found es (state_of c.follow.new.self)) (one_more graph number tried ranks k rank (omega arith) refl)
+      let miss : module_at graph.vertices rank ≢ goal = λ same.
+      c.if-rank-goal.false (same_rank graph.vertices c.requires.graph.ascending rank c.args.goal inside
+      c.requires.goal same) in
+      let (here, room) = last_visit (steps_of graph) c.args.self.now.visits.items c.args.visit
+      c.loop-rank.self.visits.items c.len-before.result c.loop-rank.invariant.visits
+      (let long = c.args.self.now.visits.ok.0 in let is = c.len-before.ensures in omega (arith, long, is)) in
+      subst (λ (es : List Edge). IsFollowed graph goal level found es (state_of c.follow.new.self))
+      (one_more graph number tried ranks k rank (omega arith) refl)
       (c.in_ok-follow.ensures.followed graph goal level found done (edge_leaving graph number rank) c.requires.graph (record {
         there = there;
         turn = turn_later graph goal level found tried (edges_leaving graph number (take k ranks)) (step_at (steps_of graph) number) due.turn;
@@ -115,7 +124,8 @@ returns-clause-missed c = λ e level found tried due.
     let leaving = c.ranks_in-ranks.ensures number c.requires.inside c.in-Some.ensures.some in
     let old = c.loop-rank.self in
     let whole : take c.loop-rank.rank-index ranks ≡ ranks = grind (arith, common_steps) in
-    let done = subst (λ (rs : List ℕ). IsFollowed graph goal level found (tried ++ edges_leaving graph number rs) (state_of old)) whole (c.loop-rank.invariant.followed level found tried due) in (
+    let done = subst (λ (rs : List ℕ). IsFollowed graph goal level found (tried ++ edges_leaving graph number rs)
+    (state_of old)) whole (c.loop-rank.invariant.followed level found tried due) in (
       edges_leaving graph number ranks,
       subst (λ (state : State). IsFollowed graph goal level found (tried ++ edges_leaving graph number ranks) state) (sym c.pass.ensures)
           (list_passed graph goal level found tried (state_of old) number list ranks c.ranks_in-ranks.ensures done),

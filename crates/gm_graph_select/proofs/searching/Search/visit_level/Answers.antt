@@ -16,13 +16,20 @@ loop-visit-init c =
     record {
       size = h.size;
       traced = λ v there. (h.each v there).traced;
-      followed = λ level h. ([], (λ v there. absurd (no_member v there)), level_begins c.args.graph.now (module_at c.args.graph.now.vertices c.args.goal) level (state_of c.args.self.now) c.args.due.now c.requires.graph h);
+      followed = λ level h. (
+        [],
+        (λ v there. absurd (no_member v there)),
+        level_begins c.args.graph.now (module_at c.args.graph.now.vertices c.args.goal) level
+            (state_of c.args.self.now) c.args.due.now c.requires.graph h,
+      );
     }
 
 pub visit-requires-clause-inside : goal.visit-requires-clause-inside
 visit-requires-clause-inside c =
     let (level, h) = c.requires.searched in
-    (h.each (visit_at c.args.due.now c.loop-visit.visit-index) (Contains-get_or c.args.due.now c.loop-visit.visit-index (record { number = 0; before = 0 }) (omega arith))).inside
+    (h.each (visit_at c.args.due.now c.loop-visit.visit-index)
+    (Contains-get_or c.args.due.now c.loop-visit.visit-index (record { number = 0; before = 0 })
+    (omega arith))).inside
 
 pub returns-then-branch-clause-found : goal.returns-then-branch-clause-found
 returns-then-branch-clause-found c = λ e.
@@ -33,14 +40,17 @@ returns-then-branch-clause-found c = λ e.
     let v = visit_at due i in
     let member : Contains due v = Contains-get_or due i (record { number = 0; before = 0 }) (omega arith) in
     c.in_ok-visit.ensures.found c.if-branch.true level c.args.self.now.is_found.items tried
-    (due_next c.args.graph.now (module_at c.args.graph.now.vertices c.args.goal) level (state_of c.args.self.now) due c.requires.graph h (state_of c.loop-visit.self) tried i v (omega arith)
+    (due_next c.args.graph.now (module_at c.args.graph.now.vertices c.args.goal) level (state_of c.args.self.now) due
+    c.requires.graph h (state_of c.loop-visit.self) tried i v (omega arith)
     (get_or_default due i (record { number = 0; before = 0 }) v (omega arith)) all (c.loop-visit.invariant.traced v member) f)
 
 pub loop-visit-preserved : goal.loop-visit-preserved
 loop-visit-preserved c = record {
   size = c.visit.ensures.size;
-  traced = λ w h. subst (λ (vs : List Visit). IsTraced (graph_edges c.args.graph.now) (steps_of c.args.graph.now) vs (length vs) w) (sym c.in_ok-visit.ensures.visits)
-      (traced_more (graph_edges c.args.graph.now) (steps_of c.args.graph.now) c.loop-visit.self.visits.items (visit_at c.args.due.now c.loop-visit.visit-index) w (c.loop-visit.invariant.traced w h));
+  traced = λ w h. subst (λ (vs : List Visit). IsTraced (graph_edges c.args.graph.now) (steps_of c.args.graph.now) vs
+      (length vs) w) (sym c.in_ok-visit.ensures.visits)
+      (traced_more (graph_edges c.args.graph.now) (steps_of c.args.graph.now) c.loop-visit.self.visits.items
+      (visit_at c.args.due.now c.loop-visit.visit-index) w (c.loop-visit.invariant.traced w h));
   followed = λ level h.
       let (tried, all, f) = c.loop-visit.invariant.followed level h in
       let due = c.args.due.now in
@@ -49,7 +59,9 @@ loop-visit-preserved c = record {
       let is : v ≡ get_or due i v = get_or_default due i (record { number = 0; before = 0 }) v (omega arith) in
       let member : Contains due v = Contains-get_or due i (record { number = 0; before = 0 }) (omega arith) in
       let (more, g, new) = c.in_ok-visit.ensures.missed c.if-branch.false level c.args.self.now.is_found.items tried
-      (due_next c.args.graph.now (module_at c.args.graph.now.vertices c.args.goal) level (state_of c.args.self.now) due c.requires.graph h (state_of c.loop-visit.self) tried i v (omega arith) is all (c.loop-visit.invariant.traced v member) f) in
+      (due_next c.args.graph.now (module_at c.args.graph.now.vertices c.args.goal) level (state_of c.args.self.now) due
+      c.requires.graph h (state_of c.loop-visit.self) tried i v (omega arith) is all
+      (c.loop-visit.invariant.traced v member) f) in
       (tried ++ more, tried_more c.args.graph.now due i v tried more (omega arith) is all new, g);
 }
 

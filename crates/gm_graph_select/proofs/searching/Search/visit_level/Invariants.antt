@@ -10,5 +10,7 @@ abbrev pub invariant-loop-visit : goal.invariant-loop-visit
 invariant-loop-visit l = record {
   size : length l.self.is_found.items ≡ length (steps_of l.graph);
   traced : (v : Visit) → Contains l.due v → IsTraced (graph_edges l.graph) (steps_of l.graph) l.self.visits.items (length l.self.visits.items) v;
-  followed : (level : ℕ) → IsSearchedTo l.graph (module_at l.graph.vertices l.goal) level (state_of l.fn.self) l.due → (tried : List Edge) × AreTried l.graph (take l.visit-index l.due) tried × IsFollowed l.graph (module_at l.graph.vertices l.goal) level l.fn.self.is_found.items tried (state_of l.self);
+  followed : (level : ℕ) → IsSearchedTo l.graph (module_at l.graph.vertices l.goal) level (state_of l.fn.self) l.due
+      → (tried : List Edge) × AreTried l.graph (take l.visit-index l.due) tried
+      × IsFollowed l.graph (module_at l.graph.vertices l.goal) level l.fn.self.is_found.items tried (state_of l.self);
 }

@@ -25,7 +25,8 @@ returns-in_err-loaded g c =
     let both = both_ok file sums c.read_files.result read c.in_ok-read.was c.read_files.ensures in
     passed (ComesTo (command_of c.args.query) file sums _ _ old new) (report_by_load c.in_err-loaded.field-0.0) c.from_residual-in_err-loaded.result
     c.from_residual-in_err-loaded.ensures.1
-    (not_loaded c.args.query file sums (main_of read.main) read.table both _ _ old new load.asks load.served c.load.result c.in_err-loaded.field-0.0 c.in_err-loaded.was load.too_many load.device load.refused)
+    (not_loaded c.args.query file sums (main_of read.main) read.table both _ _ old new load.asks load.served
+    c.load.result c.in_err-loaded.field-0.0 c.in_err-loaded.was load.too_many load.device load.refused)
 
 pub returns : goal.returns
 returns g c =
@@ -36,5 +37,6 @@ returns g c =
     let new = g.F.Asks.state c.load.new.files in
     let load = rw c.as_ref.ensures.value at c.load.ensures in
     let both = both_ok file sums c.read_files.result read c.in_ok-read.was c.read_files.ensures in
-    answered c.args.query file sums (main_of read.main) read.table both _ _ old new load.asks load.served c.load.result c.in_ok-loaded.loaded (outcome_view c.tell.result) c.in_ok-loaded.was
+    answered c.args.query file sums (main_of read.main) read.table both _ _ old new load.asks load.served c.load.result
+    c.in_ok-loaded.loaded (outcome_view c.tell.result) c.in_ok-loaded.was
     load.loaded load.refused c.tell.ensures

@@ -14,7 +14,9 @@ pub returns-in_err-table : goal.returns-in_err-table
 returns-in_err-table c =
     let p = err_from_is_err_and c.from_residual-in_err-table.result c.from_residual-in_err-table.ensures.1 in
     rw (p.1, p.2)
-    (sums_told c.args.file.now (option_copied c.args.sums) (main_of c.in_ok-main.main) c.sum_table.result c.in_err-table.field-0.0 (c.in_ok-main.main, c.in_ok-main.ensures.ok, refl) c.in_err-table.was c.sum_table.ensures)
+    (sums_told c.args.file.now (option_copied c.args.sums) (main_of c.in_ok-main.main) c.sum_table.result
+    c.in_err-table.field-0.0 (c.in_ok-main.main, c.in_ok-main.ensures.ok, refl) c.in_err-table.was
+    c.sum_table.ensures)
 
 pub returns : goal.returns
 returns c =

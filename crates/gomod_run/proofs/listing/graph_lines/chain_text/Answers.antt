@@ -5,5 +5,6 @@ use Rattle.gomod_run.proofs.listing.graph_lines.chain_text.Goals as goal
 
 pub steps-preserved : goal.steps-preserved
 steps-preserved c =
-    lines_more (step_line c.args.main.now) c.args.steps.now c.steps.step-index c.step-item.result (string_bytes c.steps.text) (string_bytes c.push_step_line.new.out)
+    lines_more (step_line c.args.main.now) c.args.steps.now c.steps.step-index c.step-item.result
+    (string_bytes c.steps.text) (string_bytes c.push_step_line.new.out)
     c.steps-test.true c.step-item.is c.steps.invariant c.in_ok-push_step_line.ensures

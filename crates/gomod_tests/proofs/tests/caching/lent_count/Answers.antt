@@ -7,5 +7,6 @@ use Rattle.gomod_tests.proofs.tests.caching.lent_count.Goals as goal
 
 pub returns : goal.returns
 returns g c =
-    lender_still c.lend.result c.args.cache.now c.lend.follows.lender-at-none (turn c.args.vertex.now Deep) c.args.vertex.now (option_map (λ n. name_of n.now) c.args.name)
+    lender_still c.lend.result c.args.cache.now c.lend.follows.lender-at-none (turn c.args.vertex.now Deep)
+    c.args.vertex.now (option_map (λ n. name_of n.now) c.args.name)
     c.lend.follows.holds-at-none c.requires

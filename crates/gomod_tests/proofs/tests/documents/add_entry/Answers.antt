@@ -24,5 +24,7 @@ insert_line-requires-clause-document c =
       closes_nothing = new_word_no_mark 41 c.args.value.now w new;
     } in
     let document : IsDocument (plain_lines c.args.doc.now) = c.lines.ensures.document in
-    let put = level_line_goes_in_at (plain_lines c.args.doc.now) last (plain (entry_of (w ∷ []))) false document refl (entry_stands false (words_of (w ∷ [])) None entry) in
-    subst IsDocument (sym (ap (λ (l : List Placed). plain_lines (insert c.args.doc.now last (entry_of l))) items ∙ map-insert plain c.args.doc.now last (entry_of (w ∷ [])))) put
+    let put = level_line_goes_in_at (plain_lines c.args.doc.now) last (plain (entry_of (w ∷ []))) false document refl
+    (entry_stands false (words_of (w ∷ [])) None entry) in
+    subst IsDocument (sym (ap (λ (l : List Placed). plain_lines (insert c.args.doc.now last (entry_of l))) items
+    ∙ map-insert plain c.args.doc.now last (entry_of (w ∷ [])))) put

@@ -24,12 +24,17 @@ invariant_of-self-clause-within c =
     let count = length c.put_replacing.new.self.files.items in
     let same : c.put_replacing.new.self.files.items ≡ old.files.items =
     ap (λ (files : Vec Kept Global). files.items) (c.put_replacing.ensures.files ∙ c.note.ensures.others.files) in
-    subst (λ (entries : List (Name × OptionalPlace)). AreWithin count entries) (sym (names_are _ c.with-self.ensures (c.put_replacing.ensures.names ∙ c.note.ensures.others.names)))
+    subst (λ (entries : List (Name × OptionalPlace)). AreWithin count entries)
+    (sym (names_are _ c.with-self.ensures (c.put_replacing.ensures.names ∙ c.note.ensures.others.names)))
     (within_put count old.names.items (name_of c.args.name.now) c.args.place c.some-noted.result c.some-noted.ensures
     (omega (arith, c.requires, ap length same)) (λ name place e. let below = old.within name place e in omega (arith, below, ap length same)))
 
 pub returns-clause-names : goal.returns-clause-names
-returns-clause-names c = (c.some-noted.result, c.some-noted.ensures, names_are _ c.with-self.ensures (c.put_replacing.ensures.names ∙ c.note.ensures.others.names))
+returns-clause-names c = (
+  c.some-noted.result,
+  c.some-noted.ensures,
+  names_are _ c.with-self.ensures (c.put_replacing.ensures.names ∙ c.note.ensures.others.names),
+)
 
 pub returns-clause-notes : goal.returns-clause-notes
 returns-clause-notes c = λ main modules is.

@@ -31,7 +31,8 @@ pieces-preserved g c =
     gives_more (g.R.Sink.state c.args.sink.now) (g.R.Sink.state c.pieces.sink) (g.R.Sink.state c.give.new.sink)
     c.args.self.now c.pieces.self c.give.new.self front c.as_bytes.result.now (flat_map (λ piece. piece.now) (take (at + 1) pieces))
     (Ok c.in_ok-give.field-0)
-    (one_more (λ piece. piece.now) pieces at (record { ref_ptr = (0, 0); now = [] }) c.pieces-test.true ∙ ap (λ (t : List ℕ). front ++ t) (sym c.as_bytes.ensures.value))
+    (one_more (λ piece. piece.now) pieces at (record { ref_ptr = (0, 0); now = [] }) c.pieces-test.true
+    ∙ ap (λ (t : List ℕ). front ++ t) (sym c.as_bytes.ensures.value))
     c.pieces.invariant c.in_ok-give.ensures
 
 pub returns : goal.returns
