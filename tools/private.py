@@ -17,15 +17,6 @@ import script
 CRATES = pathlib.Path("crates")
 # its definitions are copies of others, which each contract of the crate reaches
 PAGE = "page"
-# crates whose private definitions don't stand apart yet
-NOT_MOVED = set("""
-
-""".split())
-
-# names of two or more files of specs/ that are to have one meaning or another name
-SHARED = set("""
-""".split())
-
 DECLARATION = re.compile(r"(?:(?:abbrev|unfoldable|pub) )*(?:(?:data|record) )?([^\s:(){}]+)(?= :| \(| \{|$)")
 MEMBER = re.compile(r"(?m)^  (?:pub )?(\S+) : ")
 USE = re.compile(r"(?ms)^ *((?:unfoldable |pub |ghost )*)use (Rattle\.[\w.]+?)(?:\.\{(.*?)\}| as (\S+?))?;?$")
@@ -36,6 +27,13 @@ KINDS = "ghost|fn|struct|enum|trait|impl|type|const|static|mod|use"
 ITEM = rf"(?m)^{{}}(?:(pub(?:\([^)]*\))?) )?(?:unsafe |default )?({KINDS})\b"
 HEAD_END = r"(?m)^{}(?! )[^\n]*(?:\{{|\{{\}}|;)$"
 CLAUSE = re.compile(r"(?m)^ +(?:requires|ensures)\b")
+# forms that the rest of this file doesn't follow, which nothing uses
+UNREAD = {
+    "a `use` of all names": r"^ *(?:pub |ghost )*use [^;\n]*[.:]\*",
+    "a `pub use` of names below several modules": r"^ *pub use [^;\n]*\{[^}\n]*::",
+    "a public module without a file": r"^ *pub mod \w+ \{",
+    "a definition by its whole path": r"^(?! *(?:pub |ghost )*use )[^\n]*\bRattle\.\w+\.specs\.",
+}
 
 
 def names_in(group):
@@ -330,7 +328,6 @@ class Program:
         if any("ghost Value" in it.text for _, it in models):
             return
         for item in source.named(place[2]):
-            self.note_text("".join(re.findall(r"(?s)ghost \w+: \{.*?\},?$", item.text)), source.scope, reason)
             for found in re.finditer(r"[A-Z]\w*", item.text if item.kind in ("struct", "enum") else ""):
                 of = self.resolve(source, (found[0],))
                 if of and of != place:
@@ -369,7 +366,7 @@ class Program:
         for module in self.modules.values():
             for it in module.definitions:
                 is_reached = self.is_reached(module, it)
-                if module.crate not in NOT_MOVED | {PAGE} and is_reached == module.is_private:
+                if module.crate != PAGE and is_reached == module.is_private:
                     yield f"{module.file}:{it.first + 1}: {it.name}: " + (
                         "a public contract reaches it" if is_reached else "no public contract reaches it")
 
@@ -381,6 +378,14 @@ class Program:
                 for name in {it.name for it in module.definitions if it.is_public}:
                     files[name].append(str(module.file))
         return {name: it for name, it in sorted(files.items()) if len(it) > 1}
+
+    def unread(self):
+        """The lines whose form isn't followed here."""
+        texts = [(it.file, it.text) for it in self.sources.values()]
+        texts += [(it.file, plain(it.file.read_text(encoding="utf-8"))) for it in self.modules.values()]
+        for file, text in texts:
+            for form, found in ((form, it) for form, rule in UNREAD.items() for it in re.finditer(f"(?m){rule}", text)):
+                yield f"{file}:{text.count(chr(10), 0, found.start()) + 1}: {form}"
 
     def why(self, name):
         """How a public contract reaches the definitions of this name, a line for each step."""
@@ -405,12 +410,13 @@ def main(*words):
         print(*lines or [f"no public contract reaches {words[1]}"], sep="\n")
         sys.exit(0 if lines else 1)
     misplaced, shared = list(program.misplaced()), program.shared()
-    new = [f"{name} stands in {' and '.join(files)}" for name, files in shared.items() if name not in SHARED]
-    for line in [*misplaced, *new]:
+    new = [f"{name} stands in {' and '.join(files)}" for name, files in shared.items()]
+    unread = list(program.unread())
+    for line in [*misplaced, *new, *unread]:
         print(line)
     count = sum(len(it.definitions) for it in program.modules.values())
     print(f"{count} definitions, {len(misplaced)} in the wrong folder; {len(shared)} names stand in two files")
-    sys.exit(1 if misplaced or new else 0)
+    sys.exit(1 if misplaced or new or unread else 0)
 
 
 if __name__ == "__main__":

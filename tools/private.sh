@@ -11,7 +11,8 @@
 # Public contracts are those of the functions, traits and types that a crate offers, from its root or a public module,
 # the laws among them. The model of such a type counts, and what it implements, unless the trait is private; and so do
 # types that a signature names but that the crate doesn't offer by name. A contract reaches the definitions that it
-# names, what these name, and, if a type of the code has no value of its own, the types of its fields.
+# names, what these name, and, if a type of the code has no value of its own, the types of its fields. What a ghost
+# field demands of the others doesn't count.
 #
 # A name counts if the file imports or declares it, even if a variable has it where it stands. So a definition may count
 # as reached that isn't: give the variable another name. crates/page is left out, whose definitions are copies. It needs
