@@ -98,8 +98,8 @@ abbrev pub held_for : Option (List ℕ) → Option (Vec ℕ) → Name → Option
 held_for (Some path) (Some list) name = if same_name name (list_file path) then Some list.items else None
 held_for _ _ name = None
 
--- the folder that proxy folders are relative to: that of the main file with this name; or the current one, if the
--- versions of a module are listed, since there is no main file then
+-- the folder that a store on disk takes local folders from: that of the main file with this name; or the current one,
+-- if the versions of a module are listed, since there is no main file then
 abbrev pub IsFolderFor : Option (List ℕ) → List ℕ → List ℕ → Type 0
 IsFolderFor (Some path) main folder = folder ≡ codes "."
 IsFolderFor None main folder = IsFolderOf main folder

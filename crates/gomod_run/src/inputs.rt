@@ -16,7 +16,7 @@ use gm_store::{FileSystem, ReadFault, StandardInput, read_file, read_input};
 use gomod_words::{Command, Places};
 use std::alloc::Global;
 
-/// The name of standard input, where a file is named.
+/// The name of standard input as a FILE.
 pub(crate) const STANDARD_INPUT: &str = "-";
 
 /// The bytes of the files that a command works on, besides those that it asks its store for.
