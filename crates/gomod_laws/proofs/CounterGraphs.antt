@@ -27,8 +27,8 @@ use Rattle.gomod_run.proofs.RunNames.{end_name, run_has_names, run_has_proper_ed
 use Rattle.gomod_run.proofs.ShortestChain.{chain_walk}
 use Rattle.gomod_laws.specs.Counterexamples.{a_one, graph_of_a}
 use Rattle.gomod_laws.specs.CounterListings.{ChainBeginsElsewhere, ChainEndsElsewhere, ChainIsOfAnotherGraph, ChainIsTooLong, IsRequiredBy, ListIsOfAnotherGraph}
-use Rattle.gomod_laws.proofs.Contradicted.{a_is_path, b_is_path, edge_proper, edge_to, other_name}
-use Rattle.gomod_laws.proofs.CounterLists.{a_is_not_b, b_one, each_of, m_lacks, rows_are}
+use Rattle.gomod_laws.proofs.Contradicted.{a_is_path, b_is_path, edge_proper, edge_to, m_has_no_feed, other_name}
+use Rattle.gomod_laws.proofs.CounterLists.{a_is_not_b, b_one, each_of, rows_are}
 use Rattle.gomod_laws.proofs.FormattingProofs.{not_printed}
 use Rattle.gomod_laws.proofs.KnownVersions.{one_zero, one_zero_is}
 use Rattle.gomod_laws.proofs.ShownTexts.{same_text}
@@ -86,7 +86,7 @@ module _ (run : Given) (main : Main) (table : Option Sums) (found : AreFound run
       let text : main.path ++ (10 ∷ chain_text main.path rest) ≡ codes "m" ++ (10 ∷ chain_text (codes "m") known) =
       sym (append_assoc main.path (codes "\n") (chain_text main.path rest)) ∙ ap (chain_text main.path) (sym begins) ∙ e in
       let own = (cut_at 10 main.path (codes "m") (chain_text main.path rest) (chain_text (codes "m") known)
-      (path_has_no_feed main.path (run_has_names run main table found.read).0) m_lacks text).0 in
+      (path_has_no_feed main.path (run_has_names run main table found.read).0) m_has_no_feed text).0 in
       (own, known_steps (FromMain ∷ known) proper (e ∙ ap (λ (m : List ℕ). chain_text m (FromMain ∷ known)) (sym own)))
 
 abbrev to_a : List Step

@@ -31,7 +31,7 @@ use Rattle.gomod_run.proofs.RunNames.{run_has_names, run_has_proper_rows}
 use Rattle.gomod_words.specs.declared.usage.Command.TheVariants.{List as Rows}
 use Rattle.gomod_laws.specs.Counterexamples.{a_one, list_of_a}
 use Rattle.gomod_laws.specs.CounterListings.{IsRequiredBy, MainIsMissing, PageHasAnotherRow, PageIsMissing, PartHasAnotherRow, PartIsTheWhole, PartIsTooLong, PathIsTwice, RequiredHasNoRow, RowIsNotRequired, RowIsTooLow, RowsAreUnordered, a_two}
-use Rattle.gomod_laws.proofs.Contradicted.{a_is_path, b_is_path, main_is_no_of, of_name, other_name}
+use Rattle.gomod_laws.proofs.Contradicted.{a_is_path, b_is_path, m_has_no_feed, main_is_no_of, of_name, other_name}
 use Rattle.gomod_laws.proofs.FormattingProofs.{not_printed}
 use Rattle.gomod_laws.proofs.KnownVersions.{one_one_is, one_one_is_above, one_zero_is}
 use Rattle.gomod_laws.proofs.PrintedRow.{limited_member, printed_rows, spread_main}
@@ -85,12 +85,9 @@ b_is_no_row there = elim (member_cases main_entry (row_at b_one) (row_at a_one �
 
 -- ---- the rows of a text
 
-pub m_lacks : Lacks 10 (codes "m")
-m_lacks = ((λ e. omega (arith, e)), tt)
-
 -- the first line is that of the main module
 own_path : (main rest text : List ℕ) → IsPath main → ((main ++ []) ++ codes "\n") ++ rest ≡ codes "m" ++ (10 ∷ text) → main ≡ codes "m"
-own_path main rest text is e = (cut_at 10 main (codes "m") rest text (path_has_no_feed main is) m_lacks (sym (spread_main main rest) ∙ e)).0
+own_path main rest text is e = (cut_at 10 main (codes "m") rest text (path_has_no_feed main is) m_has_no_feed (sym (spread_main main rest) ∙ e)).0
 
 module _ (run : Given) (main : Main) (table : Option Sums) (rows : List Entry) (found : AreFound run main table [])
     (are : AreRows (run_of main table run.told.asked) rows) where

@@ -57,7 +57,8 @@ undone_is_formatted operations put file edited_to formatted are fit targets one 
           (same_lines file lines targets.lines main.0 targets.is_main.0) ∙ targets.none in
           let undo_fits = subst (λ (o : Option Operation). IfSome o (λ undo. is_fit undo ≡ true)) are.undoes (drop_fits put) in
           let states : edited_to ≡ text_outcome (layout (plain_lines lines)) =
-          says ∙ taken_turn 1 are.first (are.second ∷ []) lines put are.puts fit ∙ taken_turn 2 are.second [] (lines_after put lines) are.undo are.drops undo_fits
+          says ∙ taken_turn 1 are.first (are.second ∷ []) lines put are.puts fit
+          ∙ taken_turn 2 are.second [] (lines_after put lines) are.undo are.drops undo_fits
           ∙ ap text_outcome (drop-undoes-layout put are.undo lines ((are.first, are.puts), fit, sound.0, sound.1) are.undoes absent) in
           (states ∙ fmt_is file lines formatted main.0 other.0, layout (plain_lines lines), states)
     ]
