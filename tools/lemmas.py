@@ -10,6 +10,8 @@ import sys
 import script
 
 MOST_SHARED = 20
+# how many statements are proved twice or more often, a number that only falls; crates/page has copies
+TWICE, PAGE = 40, "page"
 DECLARED = re.compile(r"(?:pub )?([^\s:(){}]+) : (.+)")
 NAME = re.compile(r"[^\s(){}\[\],;.]+")
 # variables that a type binds: `(x y : T)`, `{x y : T}`, `λ (x : T).`, `λ x y.`
@@ -44,39 +46,55 @@ def plain(statement):
     return re.sub(r"[\s(){}]+", " ", words).strip()
 
 
+def standard_lemmas(kit):
+    """The lemmas of the standard library: by what they say, the name and the page of each."""
+    known = {}
+    pages = pathlib.Path(kit, "rattle", "std", "lemmas")
+    for path in sorted(pages.rglob("*.md")):
+        for name, statement in lemmas_of(path):
+            known.setdefault(plain(statement), f"{name} ({path.relative_to(pages)})")
+    return known
+
+
+def own_lemmas(chosen):
+    """The lemmas of the chosen crates, or of all if none is chosen: crate, file, name and what each says."""
+    for path in sorted(pathlib.Path("crates").glob("*/proofs/*.antt")):
+        crate = path.parts[1]
+        if not chosen or crate in chosen:
+            for name, statement in lemmas_of(path):
+                yield crate, path.stem, name, plain(statement)
+
+
 def main(kit, *words):
-    """Compares the lemmas of crates with those of the standard library, or lists them, as the words say."""
+    """Counts, and lists or checks, as the words say."""
     is_checked = "--check" in words
     is_listed = is_checked or "--list" in words
     chosen = [word for word in words if word not in ("--check", "--list")]
     for word in chosen:
         if not pathlib.Path("crates", word).is_dir():
             sys.exit(f"lemmas: there is no crate {word}")
-    known = {}
-    pages = pathlib.Path(kit, "rattle", "std", "lemmas")
-    for path in sorted(pages.rglob("*.md")):
-        for name, statement in lemmas_of(path):
-            known.setdefault(plain(statement), f"{name} ({path.relative_to(pages)})")
-    restated, meanings = [], collections.defaultdict(set)
-    for path in sorted(pathlib.Path("crates").glob("*/proofs/*.antt")):
-        crate = path.parts[1]
-        if chosen and crate not in chosen:
-            continue
-        for name, statement in lemmas_of(path):
-            said = plain(statement)
-            meanings[name].add(said)
-            if said in known:
-                restated.append((crate, path.stem, name, known[said]))
+    known = standard_lemmas(kit)
+    restated, meanings, places = [], collections.defaultdict(set), collections.defaultdict(list)
+    for crate, file, name, said in own_lemmas(chosen):
+        meanings[name].add(said)
+        if crate != PAGE:
+            places[said].append(f"{crate}/proofs/{file}: {name}")
+        if said in known:
+            restated.append(f"{crate}/proofs/{file}: {name} restates {known[said]}")
+    twice = sorted(it for it in places.values() if len(it) > 1)
     shared = sorted((-len(said), name) for name, said in meanings.items() if len(said) >= 3)
     if is_listed:
-        for crate, file, name, of in restated:
-            print(f"{crate}/proofs/{file}: {name} restates {of}")
-        for many, name in shared:
-            print(f"{name}: {-many} different lemmas")
+        print(*restated, *(f"{name}: {-many} different lemmas" for many, name in shared), sep="\n")
+    if is_listed and (not is_checked or len(twice) != TWICE):
+        print(*(f"one statement: {', '.join(it)}" for it in twice), sep="\n")
     print(f"{len(restated)} lemmas restate one of the standard library")
     print(f"{len(shared)} names have three or more lemmas that differ")
-    if is_checked and (restated or len(shared) > MOST_SHARED):
-        sys.exit(f"lemmas: cite the standard library's lemmas, and let at most {MOST_SHARED} names be shared")
+    print(f"{len(twice)} statements are proved twice or more often")
+    if is_checked and (restated or len(shared) > MOST_SHARED or len(twice) > TWICE):
+        sys.exit(f"lemmas: cite the lemmas of the standard library and of lower crates, and let at most {MOST_SHARED} "
+                 f"names be shared and {TWICE} statements be proved twice")
+    if is_checked and len(twice) < TWICE:
+        sys.exit(f"lemmas: fewer statements are proved twice: let TWICE of tools/lemmas.py be {len(twice)}")
 
 
 if __name__ == "__main__":
