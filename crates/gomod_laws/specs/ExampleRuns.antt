@@ -82,7 +82,8 @@ NumbersOrderVersions = version_cmp (codes "v1.10.0") (codes "v1.9.0") ≡ Greate
 -- a run with the file of top.org over a main file that requires these modules, and excludes low.org at v1.1.0
 abbrev pub with_top : List ModuleVersion → Run
 with_top requirements =
-    run_of (record { path = codes "m"; go = (1, 16); requirements = requirements; excludes = low_two ∷ []; replaces = [] })
+    run_of
+    (record { path = codes "m"; go = (1, 16); requirements = requirements; excludes = low_two ∷ []; replaces = [] })
     None ((top_name, bytes top_text) ∷ [])
 
 -- the edges of the main module first, in the order of paths
@@ -125,7 +126,8 @@ pub record BadSumIsRefused : Type 0 where
 
 -- given these answers, `list` on the two lines has no outcome
 abbrev pub HasNoOutcome : List (Name × Reply) → List Name → Type 0
-HasNoOutcome asked refusals = (outcome : Outcome) → ¬ (ListEnds None None (run_without_sums requiring asked refusals) outcome)
+HasNoOutcome asked refusals =
+    (outcome : Outcome) → ¬ (ListEnds None None (run_without_sums requiring asked refusals) outcome)
 
 -- If the required file is missing, that is reported; if the device failed on it, that is. If it was not asked for,
 -- there is no outcome.
