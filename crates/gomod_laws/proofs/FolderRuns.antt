@@ -99,7 +99,7 @@ versions_grow path all one other keeps name (inr (versions, latest, same, is)) =
 
 module _ (path : List ℕ) (all : Bool) (told : AnswersByName) (outcome : Outcome) (prints : HasPrinted outcome)
     (ends : VersionsEnds path all told [] outcome) where
-  shown : List (List ℕ)
+  abbrev shown : List (List ℕ)
   shown = (shown_printed path all told outcome prints ends).0
 
   are : AreShown path all told shown
@@ -114,9 +114,9 @@ module _ (path : List ℕ) (all : Bool) (told : AnswersByName) (outcome : Outcom
   needed_is_file name reply (inl (fetchable, same)) answered = list_is_file reply (subst (λ (n : Name). told n ≡ Some reply) same answered)
   needed_is_file name reply (inr (versions, latest, same, is)) answered = by shown are
     where
-      by : (shown : List (List ℕ)) → AreShown path all told shown → IsFile reply
-      by shown (all_listed listed every) = absurd (none_needed path all told shown versions latest listed every is)
-      by shown (not_retracted others last other file intervals says retracted hidden) =
+      by : (these : List (List ℕ)) → AreShown path all told these → IsFile reply
+      by these (all_listed listed every) = absurd (none_needed path all told these versions latest listed every is)
+      by these (not_retracted others last other file intervals says retracted hidden) =
           let latest_same = (one_latest path all told versions others latest last is says.is).1 in
           let again : told (mod_file path last) ≡ Some reply = subst (λ (n : Name). told n ≡ Some reply) (same ∙ ap (mod_file path) latest_same) answered in
           let (content, content_is) = read_is_file None (mod_file path last) other file says.says in

@@ -1,5 +1,5 @@
 -- What `versions` prints, with and without the retracted versions.
-use Rattle.std.proofs.Common.{◌≡◌, ◌∙◌, ℕ, Bool, List, Option, Some, None, ap, arith, inl, inr, refl, subst, sym, true, false}
+use Rattle.std.proofs.Common.{◌≡◌, ◌∙◌, [], ℕ, Bool, List, Option, Some, None, ap, arith, inl, inr, refl, subst, sym, true, false}
 use Rattle.std.proofs.lemmas.Bool.{false≢true}
 use Rattle.gm_name.specs.Path.{is_fetchable}
 use Rattle.gm_store.specs.Asked.{Name, Reply, answer_in, bytes, bytes_in, list_file}
