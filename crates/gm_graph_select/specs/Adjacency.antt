@@ -31,7 +31,8 @@ by_step lists sources = map (step_edges lists) sources
 
 -- Each list that isn't empty is that of a source.
 abbrev pub AreUsed : List (List ℕ) → List Source → Type 0
-AreUsed lists sources = (place : ℕ) → list_at lists place ≢ [] → (one : Source) × Contains sources one × (one.list ≡ place)
+AreUsed lists sources =
+    (place : ℕ) → list_at lists place ≢ [] → (one : Source) × Contains sources one × (one.list ≡ place)
 
 -- the step with a number: the main module has none
 abbrev pub step_with : List ModuleVersion → Option ℕ → Step

@@ -16,9 +16,10 @@ use Rattle.gm_graph.specs.Turns.{turn}
 use Rattle.gm_graph.specs.Private.VisitedTurns.{Visits}
 use Rattle.gm_graph.specs.Private.Worklists.{IsWorklist, turn_of, turns_of}
 
--- The numbers in the worklist are those of a cache's modules, what a file that is marked as followed requires has turns,
--- and what was found is so.
-pub record IsReady (cache : Cache) (run : Run) (worklist : Worklist) (marks : Followed) (findings : Findings) : Type 0 where
+-- The numbers in the worklist are those of a cache's modules, what a file that is marked as followed requires has
+-- turns, and each finding is what the run found.
+pub record IsReady (cache : Cache) (run : Run) (worklist : Worklist) (marks : Followed) (findings : Findings)
+    : Type 0 where
   pub worklist_is : IsWorklist (table_in cache) worklist
   pub followed : AreFollowedIn cache run (turns_of (table_in cache) worklist) marks
   pub found : AreFindings cache run findings

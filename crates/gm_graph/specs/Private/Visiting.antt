@@ -35,7 +35,7 @@ pub record HasListAt (cache : Cache) (run : Run) (x : ModuleVersion) (place : �
   pub list : at_span (modules_of cache.modules) (span_at cache (Some place)) ≡ without_excluded run.main file.requirements
 
 -- The whole worklist was visited, and the cache's list of turns is the worklist's. The turns are those of the opened
--- vertices, and those are the vertices of which something was found, which is so.
+-- vertices; those are the vertices of which something was found, and each finding is what the run found.
 pub record IsOpenedIn (run : Run) (cache : Cache) (worklist : Worklist) (findings : Findings) : Type 0 where
   pub main_is : main_in cache ≡ run.main
   pub read : IsRead run

@@ -132,8 +132,8 @@ pub record IsTurn (graph : GraphView) (level : ℕ) (before : List Bool) (tried 
   pub full : (i : ℕ) → i < length (steps_of graph)
       → IsWithin (graph_edges graph) level (step_at (steps_of graph) i) → HasMark before i
 
--- The edge leaves the step that was visited at a place, whose turn it is. It leads to the step with a number, which isn't
--- the goal.
+-- The edge leaves the step that was visited at a place, whose turn it is. It leads to the step with a number, which
+-- isn't the goal.
 pub record IsNextEdge (graph : GraphView) (goal : ModuleVersion) (level : ℕ) (before : List Bool) (tried : List Edge)
     (visits : List Visit) (place number : ℕ) (e : Edge) : Type 0 where
   pub there : Contains graph.edges e

@@ -9,7 +9,8 @@ pub record IsSpanWithin (count : ℕ) (span : Span) : Type 0 where
   pub order : span.start ≤ span.end
   pub within : span.end ≤ count
 
--- The numbers at the new span are the ranks of those at the old one, which has the new one in it, and no others changed.
+-- The numbers at the new span are the ranks of those at the old one, which has the new one in it, and no others
+-- changed.
 pub record IsPartByRanks (ranks old : List ℕ) (span : Span) (new : List ℕ) (left : Span) : Type 0 where
   pub start : left.start ≡ span.start
   pub order : left.start ≤ left.end

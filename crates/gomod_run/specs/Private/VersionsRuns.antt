@@ -13,8 +13,9 @@ use Rattle.gomod_run.specs.Outcome.{OrNoMemory, Outcome, failure_outcome, report
 use Rattle.gomod_run.specs.Reports.{device_line}
 use Rattle.gomod_run.specs.Versions.{AreShown, IsRefusedList, VersionsEnds, VersionsNeed}
 
--- What holds of a run of `versions` over a store that had not been asked before, whatever this one answers: each file is
--- asked for once, when the answers need it; and that there is no list to read, or that the device failed, is reported.
+-- What holds of a run of `versions` over a store that had not been asked before, whatever this one answers: each file
+-- is asked for once, when the answers need it; and that there is no list to read, or that the device failed, is
+-- reported.
 pub data IsVersionsRun (path : List ℕ) (all : Bool) (old new : StoreState) (outcome : Outcome) : Type 0 where
   -- the device failed at no file
   still_run : new.refused ≡ old.refused → AskedInTurn (VersionsNeed path all) new.asked
