@@ -58,7 +58,8 @@ spans_of first files used = record { start = 0; end = first } ∷ spans_from use
 -- the edges that leave each source
 abbrev pub steps_by : CacheParts → List (Option ℕ) → List StepEdges
 steps_by parts places =
-    by_step (lists_at parts.numbers.items (spans_of parts.first parts.files.items (has_file places))) (gathered_sources places)
+    by_step (lists_at parts.numbers.items (spans_of parts.first parts.files.items (has_file places)))
+    (gathered_sources places)
 
 -- The numbers at which there is a place are those of modules, and the places are those of files.
 abbrev pub AreFilePlaces : CacheParts → List (Option ℕ) → Type 0

@@ -32,7 +32,8 @@ pub record HasListAt (cache : Cache) (run : Run) (x : ModuleVersion) (place : �
   pub within : place < file_count cache
   pub file : Dependency
   pub says : Says run x (Ok file)
-  pub list : at_span (modules_of cache.modules) (span_at cache (Some place)) ≡ without_excluded run.main file.requirements
+  pub list :
+      at_span (modules_of cache.modules) (span_at cache (Some place)) ≡ without_excluded run.main file.requirements
 
 -- The whole worklist was visited, and the cache's list of turns is the worklist's. The turns are those of the opened
 -- vertices; those are the vertices of which something was found, and each finding is what the run found.
