@@ -112,18 +112,18 @@ gm_graph_select/src/searching.rt visits_to: one visit
   let mut due = vec![in alloc; main]? where main is Visit { number: 0, before: 0, }
 gm_name/src/escaping.rt escape: at least as long as the text
   let mut name = String::with_capacity(alloc, text.len())?
-gm_name/src/kept_names.rt keep_new: one more
+gm_name_table/src/kept_names.rt keep_new: one more
   self.names.reserve(1)?
-gm_name/src/tag_index.rt empty_buckets: as many as it is told
+gm_name_table/src/tag_index.rt empty_buckets: as many as it is told
   Ok(vec![in alloc; Bucket::new(); many]?)
-gm_name/src/tag_index.rt doubled: twice as many as there are
+gm_name_table/src/tag_index.rt doubled: twice as many as there are
   let mut doubled = Vec::with_capacity(alloc, many)? where many is buckets.len() * 2
-gm_name/src/tag_index.rt make_room: 64 at first
+gm_name_table/src/tag_index.rt make_room: 64 at first
   if many == 0 { self.buckets = empty_buckets(self.alloc, FIRST)? where empty_buckets is { Ok(vec![in alloc;
   Bucket::new(); many]?) } where FIRST is 64
-gm_name/src/tag_marks.rt no_marks: as many as it is told
+gm_name_table/src/tag_marks.rt no_marks: as many as it is told
   Ok(vec![in alloc; false; many]?)
-gm_name/src/tag_marks.rt make: 1,024
+gm_name_table/src/tag_marks.rt make: 1,024
   if self.marks.len() != MANY { self.marks = no_marks(self.alloc, MANY)? where no_marks is { Ok(vec![in alloc; false;
   many]?) } where MANY is 1024
 gm_name_table/src/module_table.rt number: one more

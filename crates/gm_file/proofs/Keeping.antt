@@ -1,6 +1,6 @@
 -- Known names that two readers keep, one after the other.
 use Rattle.std.proofs.Common.{arith}
-use Rattle.gm_name.specs.Kept.{KeptCounts}
+use Rattle.gm_name_table.specs.Kept.{KeptCounts}
 use Rattle.gm_file.specs.Private.Reading.{KeepsNames}
 
 pub keeps_both : {old middle new : KeptCounts} → KeepsNames old middle → KeepsNames middle new → KeepsNames old new

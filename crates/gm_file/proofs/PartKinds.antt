@@ -6,8 +6,8 @@ use Rattle.gm_file.specs.Faults.{pair_kinds, path_kinds, unless, version_kinds}
 use Rattle.gm_file.specs.Directives.{pair as pair_from}
 use Rattle.gm_file.specs.Private.Reading.{IsPartRead}
 use Rattle.gm_file.specs.Views.{of_pair_fault, of_path_fault, of_version_fault}
-use Rattle.gm_name.specs.declared.known_names.PairFault.{PairFault}
-use Rattle.gm_name.specs.declared.known_names.PairFault.TheVariants as pair
+use Rattle.gm_name_table.specs.declared.known_names.PairFault.{PairFault}
+use Rattle.gm_name_table.specs.declared.known_names.PairFault.TheVariants as pair
 use Rattle.gm_name.specs.declared.path.PathFault.{PathFault}
 use Rattle.gm_name.specs.declared.path.PathFault.TheVariants as path
 use Rattle.gm_name.specs.declared.version.VersionFault.{VersionFault}
@@ -18,7 +18,8 @@ use Rattle.gm_name.proofs.NameTests.{fit-tested, path-tested, version-tested}
 use Rattle.gm_name.specs.Fit.{Fits}
 use Rattle.gm_name.specs.Names.{does_fit, is_path, is_version}
 use Rattle.gm_name.specs.Path.{IsPath}
-use Rattle.gm_name.specs.Readings.{PairReading, PathReading, VersionReading}
+use Rattle.gm_name.specs.Readings.{PathReading, VersionReading}
+use Rattle.gm_name_table.specs.Pairs.{PairReading}
 use Rattle.gm_name.specs.Version.{IsVersion}
 
 not-tested : (b : Bool) (P : Type 0) → (b ≡ true ↔ P) → ¬ P → b ≡ false

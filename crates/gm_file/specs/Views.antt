@@ -12,8 +12,8 @@ use Rattle.gm_file.specs.declared.fault.LineFault.TheVariants as line
 use Rattle.gm_file.specs.declared.fault.FileFault.{FileFault}
 use Rattle.gm_file.specs.declared.fault.FileFault.TheVariants as fault
 use Rattle.gm_file.specs.declared.fault.DirectiveKind.TheVariants.{BadPath, BadVersion, Misfit}
-use Rattle.gm_name.specs.declared.known_names.PairFault.{PairFault}
-use Rattle.gm_name.specs.declared.known_names.PairFault.TheVariants as pair
+use Rattle.gm_name_table.specs.declared.known_names.PairFault.{PairFault}
+use Rattle.gm_name_table.specs.declared.known_names.PairFault.TheVariants as pair
 use Rattle.gm_name.specs.declared.path.PathFault.{PathFault}
 use Rattle.gm_name.specs.declared.path.PathFault.TheVariants as path
 use Rattle.gm_name.specs.declared.version.VersionFault.{VersionFault}

@@ -21,7 +21,7 @@ use crate::fields::Fields;
 use crate::misreading::BytesFault;
 use crate::required::Required;
 use crate::verb::Mode;
-use gm_name::KnownNames;
+use gm_name_table::KnownNames;
 use gm_syntax::{Line, LineReader, SimpleLine, Token};
 use std::alloc::{AllocError, Global};
 

@@ -15,7 +15,8 @@ use crate::part::{borrowed_one, is_empty_block, one_value, read_interval, read_p
 use crate::replace::{Interval, Replace};
 use crate::sides::read_replace;
 use crate::verb::{Mode, Verb, verb_in};
-use gm_name::{KnownNames, ModPath, ModVer};
+use gm_name::{ModPath, ModVer};
+use gm_name_table::KnownNames;
 use gm_syntax::{Line, Token};
 use std::alloc::Global;
 

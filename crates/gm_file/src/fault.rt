@@ -6,7 +6,8 @@ ghost use Rattle.gm_file.specs.Private.Reading.{file_fault_at};
 ghost use Rattle.gm_file.specs.declared.fault.FileFault.TheVariants as file;
 ghost use Rattle.gm_file.specs.declared.fault.LineFault.TheVariants as line;
 
-use gm_name::{PairFault, PathFault, VersionFault};
+use gm_name::{PathFault, VersionFault};
+use gm_name_table::PairFault;
 use std::alloc::{AllocError, AllocFailed};
 use thiserror::Error;
 

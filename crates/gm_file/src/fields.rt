@@ -23,7 +23,8 @@ use crate::replace::Interval;
 use crate::replacements::Replacements;
 use crate::required::Required;
 use crate::verb::Mode;
-use gm_name::{KnownNames, ModPath};
+use gm_name::ModPath;
+use gm_name_table::KnownNames;
 use gm_syntax::{Line, Token};
 use std::alloc::Global;
 

@@ -15,7 +15,8 @@ ghost use Rattle.gm_file.specs.Views.{interval_view};
 
 use crate::fault::{DirectiveKind, LineFault};
 use crate::replace::Interval;
-use gm_name::{KnownNames, ModPath, ModVer, ModVersion};
+use gm_name::{ModPath, ModVer, ModVersion};
+use gm_name_table::KnownNames;
 use gm_syntax::{Kind, Token};
 use std::alloc::Global;
 use std::borrow::CowStr;

@@ -1,7 +1,7 @@
 //! The requirements of a file while it is read: a list of their own, or the end of a list of modules.
 
 ghost use Rattle.std.specs.Prelude.{◌≡◌, ◌++◌, ◌∷◌, [], None, Ok, Some, IfOk, OnOk, false, true};
-ghost use Rattle.gm_name.specs.Readings.{PairReading};
+ghost use Rattle.gm_name_table.specs.Pairs.{PairReading};
 ghost use Rattle.gm_name_table.specs.Listed.{Appends, NumberedList};
 ghost use Rattle.gm_file.specs.Faults.{pair_kinds};
 ghost use Rattle.gm_file.specs.Private.Reading.{KeepsNames, IsPartRead};
@@ -9,8 +9,8 @@ ghost use Rattle.gm_file.specs.Private.Reading.{KeepsNames, IsPartRead};
 use crate::fault::{DirectiveKind, LineFault};
 use crate::list_before::ListBefore;
 use crate::part::pair_of_texts;
-use gm_name::{KnownNames, ModVer, NoMemory};
-use gm_name_table::ModuleList;
+use gm_name::{ModVer, NoMemory};
+use gm_name_table::{KnownNames, ModuleList};
 use std::marker::Model;
 use std::mem;
 

@@ -21,7 +21,7 @@ use crate::fault::LineFault;
 use crate::misreading::BytesFault;
 use crate::part::{is_empty_block, read_interval};
 use crate::replace::Interval;
-use gm_name::KnownNames;
+use gm_name_table::KnownNames;
 use gm_syntax::{Line, LineReader, Token};
 use std::alloc::{AllocError, Global};
 

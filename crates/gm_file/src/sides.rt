@@ -17,7 +17,8 @@ use crate::fault::{DirectiveKind, LineFault};
 use crate::part::{argument, read_path, read_version};
 use crate::replace::{Replace, Right};
 use crate::verb::{is_arrow, is_folder};
-use gm_name::{KnownNames, ModPath, ModVersion, fits};
+use gm_name::{ModPath, ModVersion, fits};
+use gm_name_table::KnownNames;
 use gm_syntax::Token;
 use std::alloc::Global;
 

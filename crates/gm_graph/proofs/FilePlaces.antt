@@ -4,8 +4,8 @@ use Rattle.std.specs.Option.{IsSome, option_and_then, option_or}
 use Rattle.std.specs.Prelude.{slice_get}
 use Rattle.std.proofs.lemmas.Option.{slice_get-get_or}
 use Rattle.gm_name.specs.ModuleVersion.{ModuleVersion, module_at}
-use Rattle.gm_name.specs.OptionalPlaces.{place_in}
-use Rattle.gm_name.specs.declared.place.OptionalPlace.{OptionalPlace}
+use Rattle.gm_name_table.specs.OptionalPlaces.{place_in}
+use Rattle.gm_name_table.specs.declared.place.OptionalPlace.{OptionalPlace}
 use Rattle.gm_name_table.specs.Private.Lists.{IsAbsent}
 use Rattle.gm_file.specs.Directives.{Right}
 use Rattle.gm_file.specs.Main.{Main, replacement_in}

@@ -5,8 +5,8 @@ use Rattle.std.specs.Option.{option_and_then, option_or}
 use Rattle.std.proofs.lemmas.Option.{slice_get_within}
 use Rattle.std.specs.List.{IsDistinct}
 use Rattle.gm_name.specs.ModuleVersion.{ModuleVersion, pair_eq}
-use Rattle.gm_name.specs.OptionalPlaces.{place_in}
-use Rattle.gm_name.specs.declared.place.OptionalPlace.{OptionalPlace}
+use Rattle.gm_name_table.specs.OptionalPlaces.{place_in}
+use Rattle.gm_name_table.specs.declared.place.OptionalPlace.{OptionalPlace}
 use Rattle.gm_store.proofs.NameOrder.{name_itself}
 use Rattle.gm_store.specs.Asked.{Name}
 use Rattle.gm_graph.specs.declared.cache.file_table.FileTable.{FileTable}

@@ -7,8 +7,8 @@ use Rattle.std.specs.Prelude.{slice_get}
 use Rattle.std.proofs.lemmas.Bool.Decides.{Decides-eqb}
 use Rattle.std.proofs.lemmas.Option.{same_Some}
 use Rattle.gm_name.specs.ModuleVersion.{ModuleVersion, module_at}
-use Rattle.gm_name.specs.OptionalPlaces.{no_place, place_in}
-use Rattle.gm_name.specs.declared.place.OptionalPlace.{OptionalPlace}
+use Rattle.gm_name_table.specs.OptionalPlaces.{no_place, place_in}
+use Rattle.gm_name_table.specs.declared.place.OptionalPlace.{OptionalPlace}
 use Rattle.gm_name_table.specs.Listed.{BeginsWith}
 use Rattle.gm_store.proofs.NameOrder.{names_equal, same_from_equal, same_name_from_cmp}
 use Rattle.gm_store.specs.Asked.{Name, name_of, same_name}

@@ -20,7 +20,8 @@ use crate::cache::summary::Kept;
 use crate::fault::Fault;
 use crate::findings::NumberedFault;
 use gm_graph_select::{Graph, Source, Span};
-use gm_name::{MOST_PLACES, ModVer};
+use gm_name::ModVer;
+use gm_name_table::MOST_PLACES;
 use std::alloc::{AllocError, Global};
 use std::collections::BTreeMap;
 

@@ -11,7 +11,6 @@ pub mod NameTests
 pub mod Precedence
 pub mod Bytes
 pub mod Escapes
-pub mod Readings
 pub mod Refusals
 pub mod BaseVersions
 pub mod PseudoTexts
@@ -19,9 +18,5 @@ pub mod Fronts
 pub mod Words
 pub mod PreReleases
 pub mod FieldLemmas
-pub mod Buckets
-pub mod KeptPlaces
-pub mod Places
-pub mod Slots
 pub mod Empty
 pub mod Logic

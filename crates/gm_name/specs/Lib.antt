@@ -3,14 +3,11 @@ pub mod Element
 pub mod Escape
 pub mod Fingerprint
 pub mod Fit
-pub mod Kept
 pub mod Laws
 pub mod Lines
 pub mod NameText
 pub mod Names
-pub mod OptionalPlaces
 pub mod Number
-pub mod PairFaults
 pub mod Path
 pub mod Precedence
 pub mod Private
@@ -21,8 +18,3 @@ pub mod Tail
 pub mod Version
 pub mod VersionOrder
 pub mod ModuleVersion
-pub mod Buckets
-pub mod KeptNames
-pub mod Overflow
-pub mod Slots
-pub mod TagIndex

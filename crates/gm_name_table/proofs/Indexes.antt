@@ -5,11 +5,11 @@ use Rattle.std.specs.BTreeMap as map
 use Rattle.std.specs.BTreeMap.{BTreeMap}
 use Rattle.std.specs.Ordering.{is_eq}
 use Rattle.std.proofs.lemmas.Bool.{eq-eqb, eqb-true}
-use Rattle.gm_name.specs.Buckets.{PutsIn}
+use Rattle.gm_name_table.specs.Buckets.{PutsIn}
 use Rattle.gm_name.specs.ModuleVersion.{ModuleVersion, pair_cmp}
 use Rattle.gm_name.specs.Private.ModuleVersion.{pair-tie}
-use Rattle.gm_name.specs.TagIndex.{place_under}
-use Rattle.gm_name.specs.declared.tag_index.TagIndex.{TagIndex}
+use Rattle.gm_name_table.specs.TagIndex.{place_under}
+use Rattle.gm_name_table.specs.declared.tag_index.TagIndex.{TagIndex}
 use Rattle.gm_name_table.specs.Index.{IsIndexOf, pair_tag}
 use Rattle.gm_name_table.specs.Private.Lists.{IsAbsent}
 use Rattle.gm_name_table.proofs.Lists.{kept, last, old-or-last, still-distinct}

@@ -4,7 +4,7 @@ use Rattle.std.specs.BTreeMap as map
 use Rattle.std.specs.List.{IsDistinct}
 use Rattle.gm_name.specs.Fingerprint.{fingerprint, tag_of}
 use Rattle.gm_name.specs.ModuleVersion.{ModuleVersion, pair_cmp, pair_eq}
-use Rattle.gm_name.specs.TagIndex.{place_under}
+use Rattle.gm_name_table.specs.TagIndex.{place_under}
 use Rattle.gm_name_table.specs.declared.index.Index.{Index}
 
 -- the tag of a module: that of its fingerprint

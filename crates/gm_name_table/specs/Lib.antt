@@ -2,3 +2,11 @@ pub mod Index
 pub mod Listed
 pub mod Lists
 pub mod Private
+pub mod Buckets
+pub mod Kept
+pub mod KeptNames
+pub mod OptionalPlaces
+pub mod Overflow
+pub mod Pairs
+pub mod Slots
+pub mod TagIndex

@@ -1,11 +1,12 @@
 //! The index of a list of modules: where each of them stands.
 
 ghost use Rattle.std.specs.Prelude.{◌≡◌, ◌<◌, ◌↔◌, ◌++◌, ◌∷◌, [], IfSome, IsTrue, None, OnErr, OnOk, Some, length, slice_get};
-ghost use Rattle.gm_name.specs.TagIndex.{place_under};
+ghost use Rattle.gm_name_table.specs.TagIndex.{place_under};
 ghost use Rattle.gm_name_table.specs.Index.{IsIndexOf, pair_tag};
 ghost use Rattle.gm_name_table.specs.Private.Lists.{IsAbsent};
 
-use gm_name::{ModVer, NoMemory, TagIndex, fingerprint, tag_of};
+use crate::tag_index::TagIndex;
+use gm_name::{ModVer, NoMemory, fingerprint, tag_of};
 use std::alloc::Global;
 use std::collections::BTreeMap;
 

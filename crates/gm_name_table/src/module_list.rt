@@ -4,7 +4,7 @@ ghost use Rattle.std.specs.Prelude.{ℕ, ◌≡◌, ◌≤◌, ◌<◌, ◌↔�
 ghost use Rattle.std.specs.Iterator.{YieldsFirstRef, item_count};
 ghost use Rattle.std.specs.List.{IsDistinct};
 ghost use Rattle.gm_name.specs.ModuleVersion.{module_at, pair_eq};
-ghost use Rattle.gm_name.specs.Readings.{PairReading};
+ghost use Rattle.gm_name_table.specs.Pairs.{PairReading};
 ghost use Rattle.gm_name_table.specs.Listed.{Appends, AreModuleNumbers, modules_of, modules_at, part};
 ghost use Rattle.gm_name_table.specs.Lists.{IsOneMoreAtMost};
 

@@ -3,12 +3,13 @@
 ghost use Rattle.std.specs.Prelude.{ℕ, ◌≡◌, ◌<◌, ◌≤◌, ◌↔◌, [], IfOk, IfSome, IsTrue, Ok, OnErr, Some, length, slice_get};
 ghost use Rattle.std.specs.List.{IsDistinct};
 ghost use Rattle.gm_name.specs.ModuleVersion.{pair_eq};
-ghost use Rattle.gm_name.specs.Readings.{PairReading};
+ghost use Rattle.gm_name_table.specs.Pairs.{PairReading};
 ghost use Rattle.gm_name_table.specs.Index.{pair_tag};
 ghost use Rattle.gm_name_table.specs.Lists.{IsOneMoreAtMost};
 
 use crate::index::{Index, pair_tag, texts_tag};
-use gm_name::{MOST_PLACES, ModVer, NoMemory};
+use crate::place::MOST_PLACES;
+use gm_name::{ModVer, NoMemory};
 use std::alloc::{AllocError, Global};
 use std::marker::Model;
 

@@ -20,7 +20,8 @@ use crate::asking::ask_for;
 use crate::reports::report::Report;
 use gm_file::{DepFile, Interval, shown_versions};
 use gm_graph::{Class, FileReading};
-use gm_name::{BorrowedVersion, KnownNames, ModPath, ModVersion, NoMemory};
+use gm_name::{BorrowedVersion, ModPath, ModVersion, NoMemory};
+use gm_name_table::KnownNames;
 use gm_store::{Answer, Asks, FileName, latest, versions_of};
 use std::alloc::Global;
 

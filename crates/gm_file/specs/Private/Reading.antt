@@ -1,5 +1,5 @@
 -- Parts of a line while they are read, and the faults of texts.
-use Rattle.gm_name.specs.Kept.{IsWithinRoom, KeepsAll, KeptCounts}
+use Rattle.gm_name_table.specs.Kept.{IsWithinRoom, KeepsAll, KeptCounts}
 use Rattle.std.specs.Prelude.{◌≡◌, List, [], ◌∷◌, Option, Some, None, Result, Ok, Err, ⊤, ℕ, string_bytes}
 use Rattle.gm_file.specs.declared.fault.DirectiveKind.{DirectiveKind}
 use Rattle.gm_file.specs.declared.fault.LineFault.{LineFault}

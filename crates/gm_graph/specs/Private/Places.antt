@@ -1,6 +1,6 @@
 -- Places below the length of a list.
 use Rattle.std.specs.Prelude.{◌≡◌, ◌<◌, ℕ, List, Some}
-use Rattle.gm_name.specs.declared.place.OptionalPlace.{OptionalPlace}
+use Rattle.gm_name_table.specs.declared.place.OptionalPlace.{OptionalPlace}
 use Rattle.gm_store.specs.Asked.{Name}
 use Rattle.gm_graph.specs.Places.{place_among}
 

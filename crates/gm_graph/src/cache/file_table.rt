@@ -10,7 +10,8 @@ use crate::cache::naming::right_name;
 use crate::cache::place_history::PlaceHistory;
 use crate::cache::summary::{Kept, ListSpan};
 use gm_file::MainFile;
-use gm_name::{NoMemory, OptionalPlace};
+use gm_name::NoMemory;
+use gm_name_table::OptionalPlace;
 use gm_store::FileName;
 use std::alloc::Global;
 use std::collections::BTreeMap;
@@ -38,8 +39,8 @@ impl FileTable {
     ghost use Rattle.gm_graph.specs.Private.FileTable.{PutsFile, IsFileOf, IsNewFile, IsPlaceOf, KeepsFiles, KeepsNoted, KeepsOthers, NotesFiles, NotesFor, PutsReplacing, ReachesAtMost, noted_for, replacing_place};
     ghost use Rattle.gm_file.specs.Main.{Main, main_of};
     ghost use Rattle.gm_name.specs.ModuleVersion.{ModuleVersion};
-    ghost use Rattle.gm_name.specs.OptionalPlaces.{place_in};
-    ghost use Rattle.gm_name.specs.declared.place.OptionalPlace.{OptionalPlace};
+    ghost use Rattle.gm_name_table.specs.OptionalPlaces.{place_in};
+    ghost use Rattle.gm_name_table.specs.declared.place.OptionalPlace.{OptionalPlace};
     ghost use Rattle.gm_graph.specs.Private.Summaries.{span_found};
 
     /// No files, for a main file with these replacements. The only refusal is `NoMemory`.

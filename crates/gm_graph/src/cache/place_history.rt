@@ -2,10 +2,10 @@
 
 ghost use Rattle.std.specs.Prelude.{◌≡◌, List, [], ◌∷◌};
 ghost use Rattle.std.specs.Borrow.{ftrue};
-ghost use Rattle.gm_name.specs.declared.place.OptionalPlace.{OptionalPlace};
+ghost use Rattle.gm_name_table.specs.declared.place.OptionalPlace.{OptionalPlace};
 ghost use Rattle.gm_store.specs.Asked.{Name, name_of};
 
-use gm_name::OptionalPlace;
+use gm_name_table::OptionalPlace;
 use gm_store::FileName;
 use std::marker::Model;
 

@@ -1,7 +1,7 @@
 //! From a store's answer to the contents of a dependency's file.
 
 ghost use Rattle.std.specs.Prelude.{◌≡◌, ◌≤◌, ◌<◌, ℕ, List, drop, length, Err, IfOk};
-ghost use Rattle.gm_name.specs.Kept.{IsWithinRoom, KeepsAll};
+ghost use Rattle.gm_name_table.specs.Kept.{IsWithinRoom, KeepsAll};
 ghost use Rattle.gm_name_table.specs.Listed.{modules_of};
 ghost use Rattle.gm_file.specs.Directives.{Lax};
 ghost use Rattle.gm_file.specs.Misreading.{IsBytesFault};
@@ -13,8 +13,8 @@ ghost use Rattle.gm_graph.specs.Private.Summaries.{Grows, listed_reading};
 
 use crate::cache::class::Class;
 use gm_file::{BytesFault, DepFile, ListedFile, Misreading};
-use gm_name::{KnownNames, NoMemory};
-use gm_name_table::ModuleList;
+use gm_name::NoMemory;
+use gm_name_table::{KnownNames, ModuleList};
 use gm_store::{Answer, FileName};
 use gm_store_sums::{Sum, SumTable};
 use std::alloc::{AllocError, Global};

@@ -1,6 +1,6 @@
 use Rattle.std.proofs.Common.{◌∙◌, Option, None, Some, sym, ap, refl, subst}
 use Rattle.gm_name.specs.ModuleVersion.{ModuleVersion}
-use Rattle.gm_name.specs.OptionalPlaces.{place_in}
+use Rattle.gm_name_table.specs.OptionalPlaces.{place_in}
 use Rattle.gm_name_table.specs.Listed.{NumberedList, modules_of}
 use Rattle.gm_file.specs.Main.{Main, main_of}
 use Rattle.gm_store.specs.Asked.{Name, name_of}

@@ -1,5 +1,5 @@
 use Rattle.std.proofs.Common.{◌∙◌, [], Global, List, Vec, ap, append-nil, length, refl, subst, sym}
-use Rattle.gm_name.specs.declared.place.OptionalPlace.{OptionalPlace}
+use Rattle.gm_name_table.specs.declared.place.OptionalPlace.{OptionalPlace}
 use Rattle.gm_store.specs.Asked.{Name}
 use Rattle.gm_graph.specs.declared.cache.summary.Kept.{Kept}
 use Rattle.gm_graph.specs.Cached.{main_in, sums_in, table_in}

@@ -1,9 +1,9 @@
 use Rattle.std.proofs.Common.{◌≡◌, ◌∙◌, ℕ, cond, length, None, Some, ap, subst, sym}
 use Rattle.std.specs.BTreeMap as map
 use Rattle.std.specs.Ordering.{is_eq}
-use Rattle.gm_name.specs.Buckets.{PutsIn}
+use Rattle.gm_name_table.specs.Buckets.{PutsIn}
 use Rattle.gm_name.specs.ModuleVersion.{ModuleVersion, pair_cmp}
-use Rattle.gm_name.specs.TagIndex.{place_under}
+use Rattle.gm_name_table.specs.TagIndex.{place_under}
 use Rattle.gm_name_table.specs.Index.{pair_tag}
 use Rattle.gm_name_table.proofs.Indexes.{added-first, added-other, has-place}
 use Rattle.gm_name_table.proofs.index.Index.add.Goals as goal

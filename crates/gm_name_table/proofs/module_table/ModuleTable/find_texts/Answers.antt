@@ -2,7 +2,7 @@ use Rattle.std.proofs.Common.{◌∙◌, List, Ok, Some, ap, length, refl, subst
 use Rattle.std.proofs.lemmas.Option.{slice_get_read}
 use Rattle.std.specs.Prelude.{slice_get}
 use Rattle.gm_name.specs.ModuleVersion.{ModuleVersion}
-use Rattle.gm_name.specs.Readings.{PairReading}
+use Rattle.gm_name_table.specs.Pairs.{PairReading}
 use Rattle.gm_name_table.proofs.module_table.ModuleTable.find_texts.Goals as goal
 
 pub returns-then-is_pair_of-clause-read : goal.returns-then-is_pair_of-clause-read

@@ -8,8 +8,8 @@ use Rattle.std.proofs.lemmas.List.{take_all}
 use Rattle.std.proofs.lemmas.Map.Views.{All-values-insert_entry}
 use Rattle.gm_store.specs.contracts.files.FileNameOrd.TheImpl.{cmp-value}
 use Rattle.gm_file.specs.Main.{main_of}
-use Rattle.gm_name.specs.OptionalPlaces.{no_place, place_in}
-use Rattle.gm_name.specs.declared.place.OptionalPlace.{OptionalPlace}
+use Rattle.gm_name_table.specs.OptionalPlaces.{no_place, place_in}
+use Rattle.gm_name_table.specs.declared.place.OptionalPlace.{OptionalPlace}
 use Rattle.gm_store.specs.Asked.{Name, name_of, same_name}
 use Rattle.gm_graph.specs.Places.{place_among}
 use Rattle.gm_graph.proofs.Replacements.{has_replacing, one_more_line}

@@ -2,7 +2,7 @@ use Rattle.std.proofs.Common.{◌≡◌, take}
 use Rattle.std.specs.BTreeMap.{values}
 use Rattle.std.specs.List.{All}
 use Rattle.gm_graph.proofs.Replacements.{HasLine}
-use Rattle.gm_name.specs.OptionalPlaces.{no_place}
+use Rattle.gm_name_table.specs.OptionalPlaces.{no_place}
 use Rattle.gm_graph.proofs.cache.file_table.FileTable.new.Given as goal
 
 abbrev pub invariant-loop-replace : goal.invariant-loop-replace

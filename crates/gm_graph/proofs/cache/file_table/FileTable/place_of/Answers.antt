@@ -1,6 +1,6 @@
 use Rattle.std.proofs.Common.{◌∙◌, ℕ, Option, Some, ap, sym}
 use Rattle.std.specs.Option.{option_and_then, option_or}
-use Rattle.gm_name.specs.OptionalPlaces.{place_in}
+use Rattle.gm_name_table.specs.OptionalPlaces.{place_in}
 use Rattle.gm_store.specs.Asked.{name_of}
 use Rattle.gm_graph.specs.Private.FileTable.{replacing_place}
 use Rattle.gm_graph.proofs.FilePlaces.{place_by, place_found}

@@ -9,8 +9,8 @@ use Rattle.gm_graph.proofs.PuttingPlaces.{notes_kept, notes_put, within_put}
 use Rattle.gm_graph.specs.Private.Places.{AreWithin}
 use Rattle.gm_graph.specs.declared.cache.summary.Kept.{Kept}
 use Rattle.gm_graph.specs.Private.FileTable.{replacing_place}
-use Rattle.gm_name.specs.OptionalPlaces.{no_place, place_in}
-use Rattle.gm_name.specs.declared.place.OptionalPlace.{OptionalPlace}
+use Rattle.gm_name_table.specs.OptionalPlaces.{no_place, place_in}
+use Rattle.gm_name_table.specs.declared.place.OptionalPlace.{OptionalPlace}
 use Rattle.gm_graph.proofs.cache.file_table.FileTable.put.Goals as goal
 
 -- ---- the place is noted

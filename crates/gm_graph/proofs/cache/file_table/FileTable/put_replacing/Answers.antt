@@ -1,6 +1,6 @@
 use Rattle.std.proofs.Common.{◌∙◌, List, ap, sym}
 use Rattle.std.specs.Map.{lookup}
-use Rattle.gm_name.specs.declared.place.OptionalPlace.{OptionalPlace}
+use Rattle.gm_name_table.specs.declared.place.OptionalPlace.{OptionalPlace}
 use Rattle.gm_store.proofs.NameOrder.{found_by}
 use Rattle.gm_store.specs.Asked.{name_of, same_name}
 use Rattle.gm_store.specs.declared.files.FileName.{FileName}

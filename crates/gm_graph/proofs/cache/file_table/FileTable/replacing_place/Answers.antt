@@ -1,6 +1,6 @@
 use Rattle.std.proofs.Common.{◌∙◌, ap}
 use Rattle.std.specs.Option.{option_and_then}
-use Rattle.gm_name.specs.OptionalPlaces.{place_in}
+use Rattle.gm_name_table.specs.OptionalPlaces.{place_in}
 use Rattle.gm_store.proofs.NameOrder.{found_by}
 use Rattle.gm_graph.proofs.cache.file_table.FileTable.replacing_place.Goals as goal
 
