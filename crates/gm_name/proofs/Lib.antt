@@ -20,3 +20,4 @@ pub mod PreReleases
 pub mod FieldLemmas
 pub mod Empty
 pub mod Logic
+pub mod Texts

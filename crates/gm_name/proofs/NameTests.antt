@@ -304,7 +304,7 @@ pub fit-tested : (path version : List ℕ) → does_fit path version ≡ true �
 unfolding does_fit
 fit-tested path version = fit-by path version (major_in path) (major-cases path)
 
-same-bool : (a b : Bool) → (a ≡ true → b ≡ true) → (b ≡ true → a ≡ true) → a ≡ b
+pub same-bool : (a b : Bool) → (a ≡ true → b ≡ true) → (b ≡ true → a ≡ true) → a ≡ b
 same-bool true b f g = sym (f refl)
 same-bool false true f g = g refl
 same-bool false false f g = refl

@@ -71,7 +71,7 @@ less-list C R pass less self xs ys p q lower = elim lower.1 [
 
 -- ---- numbers and texts
 
-number-less : (a b : ℕ) → nat_cmp a b ≡ Less → a < b
+pub number-less : (a b : ℕ) → nat_cmp a b ≡ Less → a < b
 number-less a b e = ranked a b Less (sym e)
 
 all-true : (xs : List ℕ) → list_all (λ (x : ℕ). true) xs ≡ true
