@@ -7,7 +7,7 @@ use Rattle.std.proofs.lemmas.List.Folds.{find-append, list_any-append}
 use Rattle.std.proofs.lemmas.List.{map-append}
 use Rattle.std.specs.BTreeMap as map
 use Rattle.std.specs.Map.{lookup}
-use Rattle.std.specs.Cmp.Lexicographic.{nat_list_eq_equiv, same_text, slice_cmp}
+use Rattle.std.specs.Cmp.Lexicographic.{same_text, slice_cmp}
 use Rattle.std.specs.List.{list_any}
 use Rattle.std.specs.Ordering.{is_eq, nat_cmp}
 use Rattle.std.specs.Str.{bytes_eq}
@@ -25,33 +25,31 @@ use Rattle.gm_file.specs.Indexes.{IndexLines, differs, right_at}
 use Rattle.gm_file.specs.Private.Indexes.{IsInserted, IsNoted, ReportsConflict}
 use Rattle.gm_file.specs.Views.{replace_view, replace_views, right_view}
 use Rattle.gm_name.proofs.Logic.{and-false, and-true, or-false}
+use Rattle.gm_name.proofs.Texts.{bytes_eq-self}
 
-text-self : (a : List ℕ) → bytes_eq a a ≡ true
-text-self a = nat_list_eq_equiv.refl a
-
-same-version : (a b : Option (List ℕ)) → is_same_version a b ≡ true → a ≡ b
+pub same-version : (a b : Option (List ℕ)) → is_same_version a b ≡ true → a ≡ b
 same-version None None e = refl
 same-version None (Some w) e = absurd cc
 same-version (Some v) None e = absurd cc
 same-version (Some v) (Some w) e = ap Some (same_text v w (sym e))
 
-version-self : (a : Option (List ℕ)) → is_same_version a a ≡ true
+pub version-self : (a : Option (List ℕ)) → is_same_version a a ≡ true
 version-self None = refl
-version-self (Some v) = text-self v
+version-self (Some v) = bytes_eq-self v
 
 abbrev left_by : List ℕ → Option (List ℕ) → Left
 left_by path version = record { path = path; version = version }
 
-same-left : (a b : Left) → is_same_left a b ≡ true → a ≡ b
+pub same-left : (a b : Left) → is_same_left a b ≡ true → a ≡ b
 same-left a b e =
     let p = and_both (bytes_eq a.path b.path) (is_same_version a.version b.version) e in
     ap (λ (x : List ℕ). left_by x a.version) (same_text a.path b.path (sym p.0))
     ∙ ap (λ (x : Option (List ℕ)). left_by b.path x) (same-version a.version b.version p.1)
 
-left-self : (a : Left) → is_same_left a a ≡ true
-left-self a = rw (text-self a.path, version-self a.version) refl
+pub left-self : (a : Left) → is_same_left a a ≡ true
+left-self a = rw (bytes_eq-self a.path, version-self a.version) refl
 
-same-right : (a b : Right) → is_same_right a b ≡ true → a ≡ b
+pub same-right : (a b : Right) → is_same_right a b ≡ true → a ≡ b
 same-right (Folder a) (Folder b) e = ap Folder (same_text a b (sym e))
 same-right (Folder a) (Module q w) e = absurd cc
 same-right (Module p v) (Folder b) e = absurd cc

@@ -22,7 +22,7 @@ use Rattle.gm_name.specs.Readings.{PathReading, VersionReading}
 use Rattle.gm_name_table.specs.Pairs.{PairReading}
 use Rattle.gm_name.specs.Version.{IsVersion}
 
-not-tested : (b : Bool) (P : Type 0) → (b ≡ true ↔ P) → ¬ P → b ≡ false
+pub not-tested : (b : Bool) (P : Type 0) → (b ≡ true ↔ P) → ¬ P → b ≡ false
 not-tested true P is none = absurd (none (is.0 refl))
 not-tested false P is none = refl
 

@@ -30,7 +30,7 @@ is_above x (Some held) = is_gt (version_cmp x.1 held.1)
 abbrev pub ending : List ModuleVersion → Edges
 ending ends s y = Contains ends y
 
-not_above_itself : (r : Ordering) → r ≡ ordering_reverse r → is_gt r ≡ false
+pub not_above_itself : (r : Ordering) → r ≡ ordering_reverse r → is_gt r ≡ false
 not_above_itself Less e = refl
 not_above_itself Equal e = refl
 not_above_itself Greater e = cc

@@ -3,17 +3,17 @@ use Rattle.std.proofs.Common.{◌≡◌, ◌≢◌, ◌⊎◌, ◌&&◌, ℕ, ze
 use Rattle.std.specs.Prelude.{if◌then◌else◌, not}
 use Rattle.std.specs.declared.cmp.Ordering.{Ordering}
 use Rattle.std.specs.declared.cmp.Ordering.TheVariants.{Less, Equal, Greater}
-use Rattle.std.specs.Ordering.{is_eq, is_gt, nat_cmp, ordering_reverse, ordering_then}
+use Rattle.std.specs.Ordering.{is_gt, nat_cmp, ordering_reverse, ordering_then}
 use Rattle.std.specs.Cmp.Lexicographic.{slice_cmp}
 use Rattle.std.specs.Str.{bytes_eq}
 use Rattle.std.proofs.lemmas.Bool.{false≢true}
 use Rattle.std.proofs.lemmas.Cmp.{nat_list_cmp_total}
 use Rattle.std.proofs.lemmas.List.{get_or_default}
-use Rattle.std.proofs.lemmas.Map.Text.{is_eq-slice_cmp}
 use Rattle.std.proofs.lemmas.Slice.Eq.{bytes_eq-Decides}
 use Rattle.gm_name.specs.Version.{version_cmp}
 use Rattle.gm_name.specs.VersionOrder.{version_total}
 use Rattle.gm_name.specs.ModuleVersion.{ModuleVersion, pair_cmp}
+use Rattle.gm_name.proofs.Texts.{bytes_eq-differ, slice_cmp-same}
 use Rattle.gm_file.specs.Directives.{Replacing}
 use Rattle.gm_graph_select.specs.BuildList.{AreSelected, IsBuildList, entry_of, main_entry, path_cmp}
 use Rattle.gm_graph_select.specs.Graph.{AreEnds, Edges}
@@ -21,15 +21,11 @@ use Rattle.gm_graph_select.specs.Greatest.{first_has_path, greatest_of, is_selec
 use Rattle.gm_graph_select.specs.Order.{IsAscending}
 use Rattle.gm_graph_select.proofs.Ascending.{less_itself, member_cases, member_head, member_tail, no_member, pairs_head, pairs_tail}
 use Rattle.gm_graph_select.proofs.Greatest.{equal_itself}
-use Rattle.gm_graph_select.proofs.RestRows.{texts_differ}
 
 abbrev Below : ModuleVersion → ModuleVersion → Type 0
 Below x y = pair_cmp x y ≡ Less
 
 -- ---- two vertices, one less than the other
-
-same_paths : (a b : List ℕ) → slice_cmp nat_cmp a b ≡ Equal → a ≡ b
-same_paths a b e = (bytes_eq-Decides a b).0 (sym (is_eq-slice_cmp a b) ∙ ap is_eq e)
 
 -- It has a lesser path, or a lower version of the same path.
 below_parts : (x y : ModuleVersion) → Below x y → (path_cmp x y ≡ Less) ⊎ ((x.0 ≡ y.0) × (version_cmp x.1 y.1 ≡ Less))
@@ -38,7 +34,7 @@ below_parts x y h = go (slice_cmp nat_cmp x.0 y.0) refl h
     go : (r : Ordering) → slice_cmp nat_cmp x.0 y.0 ≡ r → ordering_then r (version_cmp x.1 y.1) ≡ Less
         → (path_cmp x y ≡ Less) ⊎ ((x.0 ≡ y.0) × (version_cmp x.1 y.1 ≡ Less))
     go Less e h = inl e
-    go Equal e h = inr (same_paths x.0 y.0 e, h)
+    go Equal e h = inr (slice_cmp-same x.0 y.0 e, h)
     go Greater e h = cc
 
 no_lower_path : (x y : ModuleVersion) → x.0 ≡ y.0 → path_cmp x y ≡ Less → ⊥
@@ -67,7 +63,7 @@ other_paths z (next ∷ zs) up e y h same = elim (member_cases next y zs h) [
 ]
   where
     apart : next.0 ≢ z.0
-    apart = texts_differ next.0 z.0 e
+    apart = bytes_eq-differ next.0 z.0 e
 
     above : path_cmp z next ≡ Less
     above = lower_path z next (pairs_head Below z next (next ∷ zs) up (member_head next zs)) apart
@@ -104,7 +100,7 @@ selected_first : (main : List ℕ) (z : ModuleVersion) (zs : List ModuleVersion)
     → is_selected main z zs ≡ true → IsGreatestOf main (z ∷ zs) z
 selected_first main z zs up e =
     let two = not_and_parts (bytes_eq z.0 main) (first_has_path z.0 zs) e in (
-      texts_differ z.0 main two.0,
+      bytes_eq-differ z.0 main two.0,
       member_head z zs,
       (λ y there same. elim (member_cases z y zs there) [
         | inl is ↦ subst (λ (v : ModuleVersion). is_gt (version_cmp v.1 z.1) ≡ false) is (equal_itself z.1)

@@ -166,7 +166,7 @@ entries_are_reached main replaces edges entries path s list rooted entry = reach
 
 -- ---- chains
 
-shortest : (E : Edges) (s : Step) (steps : List Step) → IsChain E s steps → (n : ℕ) × (length steps ≡ suc n) × IsLevel E s n
+pub shortest : (E : Edges) (s : Step) (steps : List Step) → IsChain E s steps → (n : ℕ) × (length steps ≡ suc n) × IsLevel E s n
 shortest E _ _ begins = (0, refl, record { leads = at_main; least = λ m h. omega arith })
 shortest E _ _ (goes_on {s} {y} {steps} chain before) =
     let (n, long, level) = shortest E s steps chain in

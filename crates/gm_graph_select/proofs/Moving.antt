@@ -1,21 +1,15 @@
 -- Numbers in ascending order that are moved to the front, each once.
 use Rattle.std.proofs.Common.{◌≡◌, ◌≢◌, ◌+◌, ◌-◌, ◌<◌, ◌≤◌, ◌∙◌, ℕ, zero, suc, List, [], ◌∷◌, ◌++◌, Contains, ap, arith, drop, get_or, inl, inr, length, refl, set, subst, sym, take}
-use Rattle.std.specs.Cmp.{nat_cmp_is}
 use Rattle.std.specs.declared.cmp.Ordering.TheVariants.{Less}
 use Rattle.std.specs.List.Sorted.{IsNonDecreasing}
 use Rattle.std.specs.Ordering.{nat_cmp}
 use Rattle.std.proofs.lemmas.Bool.{cases_lt}
-use Rattle.std.proofs.lemmas.Cmp.{ranked}
 use Rattle.std.proofs.lemmas.List.{drop-drop, drop-set-lt, drop_more, get_or-take, get_or_default, length-set, length-take-le, take_more, take_more_set}
 use Rattle.std.proofs.lemmas.List.Elements.{Contains-append_left, Contains-get_or, Contains-push_cases}
 use Rattle.gm_graph_select.specs.Order.{HaveSame, IsAscending}
 use Rattle.gm_graph_select.proofs.Ascending.{pairs_append, same_append}
-
-lower_cmp : (a b : ℕ) → a < b → nat_cmp a b ≡ Less
-lower_cmp a b lt = sym (nat_cmp_is a b Less lt)
-
-pub lower_number : (a b : ℕ) → nat_cmp a b ≡ Less → a < b
-lower_number a b e = ranked a b Less (sym e)
+use Rattle.gm_name.proofs.NumericIdentifiers.{cmp-lt}
+use Rattle.gm_name.proofs.Precedence.{number-less}
 
 -- ---- lists that are the same from a place on
 
@@ -129,7 +123,7 @@ module _ (old now : List ℕ) (place count : ℕ) (are : AreMoved old now place 
           let same = get_or-take count now (count - 1) x (omega (arith, some)) in
           let default = get_or_default now (count - 1) x 0 (omega (arith, some, are.few, are.size, inside)) in
           elim (cases_lt k (count - 1)) [
-            | inl lt ↦ (let up = lower_number (get_or (take count now) k x) (get_or (take count now) (count - 1) x)
+            | inl lt ↦ (let up = number-less (get_or (take count now) k x) (get_or (take count now) (count - 1) x)
                 (are.ascending k (count - 1) x lt (omega (arith, some, front_size))) in
                 omega (arith, up, is, same, default, top))
             | inr ge ↦ (let at : k ≡ count - 1 = omega (arith, ge, below, front_size) in
@@ -138,5 +132,5 @@ module _ (old now : List ℕ) (place count : ℕ) (are : AreMoved old now place 
           ]
 
       between : (x y : ℕ) → Contains (take count now) x → Contains (number ∷ []) y → nat_cmp x y ≡ Less
-      between x y h (zero, below, is) = subst (λ (n : ℕ). nat_cmp x n ≡ Less) is (lower_cmp x number (below_number x h))
+      between x y h (zero, below, is) = subst (λ (n : ℕ). nat_cmp x n ≡ Less) is (cmp-lt x number (below_number x h))
       between x y h (suc k, below, is) = absurd (omega (arith, below))

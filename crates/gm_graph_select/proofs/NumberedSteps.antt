@@ -15,6 +15,7 @@ use Rattle.std.proofs.lemmas.List.Elements.{All-contains, Contains-get_or}
 use Rattle.std.proofs.lemmas.List.Kept.{AllPairs-cons}
 use Rattle.std.proofs.lemmas.List.Sorted.{searchable_from_sorted}
 use Rattle.gm_name.specs.ModuleVersion.{ModuleVersion, module_at, pair_cmp, pair_total}
+use Rattle.gm_name.proofs.Precedence.{number-less}
 use Rattle.gm_graph_select.specs.declared.adjacency.Source.{Source}
 use Rattle.gm_graph_select.specs.declared.step.Edge.{Edge}
 use Rattle.gm_graph_select.specs.declared.step.Step.{Step}
@@ -25,7 +26,6 @@ use Rattle.gm_graph_select.specs.Private.Numbering.{AreInList, AreLeaving, HasLi
 use Rattle.gm_graph_select.specs.Order.{IsAscending}
 use Rattle.gm_graph_select.specs.StepOrder.{step_total}
 use Rattle.gm_graph_select.proofs.Ascending.{less_itself}
-use Rattle.gm_graph_select.proofs.Moving.{lower_number}
 use Rattle.gm_graph_select.proofs.Ranges.{lt_less}
 use Rattle.gm_graph_select.proofs.RankedLists.{edges_each, edges_only, from_mapped, in_mapped}
 
@@ -158,7 +158,7 @@ module _ (vertices : List ModuleVersion) (all : List StepEdges) (sources : List 
   lower_with None None e = absurd (cc e)
   lower_with None (Some b) e = omega arith
   lower_with (Some a) None e = absurd (cc e)
-  lower_with (Some a) (Some b) e = let low = lower_number a b e in omega (arith, low)
+  lower_with (Some a) (Some b) e = let low = number-less a b e in omega (arith, low)
 
   -- Two lists that leave one step are the same.
   one_list : (a b : StepEdges) → Contains all a → Contains all b → left_number a ≡ left_number b → a ≡ b

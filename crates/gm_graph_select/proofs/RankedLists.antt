@@ -3,7 +3,7 @@ use Rattle.std.proofs.Common.{◌≡◌, ◌+◌, ◌<◌, ℕ, zero, suc, Bool,
 use Rattle.std.specs.Prelude.{⊤, All, AllPairs}
 use Rattle.std.specs.declared.cmp.Ordering.{Ordering}
 use Rattle.std.specs.declared.cmp.Ordering.TheVariants.{Less, Equal, Greater}
-use Rattle.std.specs.Cmp.{IsTotalOrder, nat_cmp_total, on_total}
+use Rattle.std.specs.Cmp.{IsTotalOrder, nat_cmp_total, on_total, Equal-is}
 use Rattle.std.specs.Cmp.Lexicographic.{options_total}
 use Rattle.std.specs.FinMap.{nat_cmp-IsAntisymmetric}
 use Rattle.std.specs.List.{AllZip, IsDistinct}
@@ -16,6 +16,7 @@ use Rattle.std.proofs.lemmas.List.Elements.{All-cons, All-contains, All-head, Al
 use Rattle.std.proofs.lemmas.List.Sorted.{All-permutation, Contains-permutation, IsPermutation-map, IsPermutation-sym}
 use Rattle.std.proofs.lemmas.Map.Keys.{IsDistinct-IsPermutation, IsDistinct-from_apart, apart_from_distinct}
 use Rattle.gm_name.specs.ModuleVersion.{ModuleVersion, module_at, pair_cmp}
+use Rattle.gm_name.proofs.Precedence.{number-less}
 use Rattle.gm_graph_select.specs.declared.adjacency.Source.{Source}
 use Rattle.gm_graph_select.specs.declared.step.Edge.{Edge}
 use Rattle.gm_graph_select.specs.declared.step.Step.{Step}
@@ -28,7 +29,6 @@ use Rattle.gm_graph_select.specs.Order.{HaveSame, IsAscending}
 use Rattle.gm_graph_select.specs.Private.Ranking.{AreRanks}
 use Rattle.gm_graph_select.specs.StepOrder.{step_eq, step_equiv}
 use Rattle.gm_graph_select.proofs.Ascending.{pairs_append, pairs_head, pairs_tail, same_append}
-use Rattle.gm_graph_select.proofs.Moving.{lower_number}
 use Rattle.gm_graph_select.proofs.Ranges.{step_itself}
 use Rattle.gm_graph_select.proofs.Sorts.{from_adjacent}
 
@@ -85,13 +85,13 @@ module _ (vertices : List ModuleVersion) (up : IsAscending pair_cmp vertices) wh
       let b = get_or to j 0 in
       ap₂ edge_cmp (get_or-map lead to i 0 d (omega arith)) (get_or-map lead to j 0 d inside)
       ∙ ap (λ (o : Ordering). ordering_then o (pair_cmp (module_at vertices a) (module_at vertices b))) (step_itself s)
-      ∙ up a b ([], []) (lower_number a b (ranks i j 0 lt inside)) (within j 0 inside)
+      ∙ up a b ([], []) (number-less a b (ranks i j 0 lt inside)) (within j 0 inside)
 
   lower_step : (a b : Option ℕ) → IsBelow (length vertices) b → option_cmp nat_cmp a b ≡ Less → step_cmp (step_with vertices a) (step_with vertices b) ≡ Less
   lower_step None None within e = absurd (cc e)
   lower_step None (Some b) within e = refl
   lower_step (Some a) None within e = absurd (cc e)
-  lower_step (Some a) (Some b) within e = up a b ([], []) (lower_number a b e) within
+  lower_step (Some a) (Some b) within e = up a b ([], []) (number-less a b e) within
 
   edges_ascend : (all : List StepEdges) → HaveNumbers (length vertices) all → AllPairs LeavesLower all
       → All (λ (one : StepEdges). IsAscending nat_cmp one.to) all → IsAscending edge_cmp (edges_of vertices all)
@@ -152,16 +152,11 @@ eq_flips Greater = refl
 from_flips : (a b : StepEdges) → same_from a b ≡ same_from b a
 from_flips a b = ap is_eq (options.antisymm a.from b.from) ∙ eq_flips (option_cmp nat_cmp b.from a.from)
 
-tie : (r : Ordering) → is_eq r ≡ true → r ≡ Equal
-tie Less e = absurd (cc e)
-tie Equal e = refl
-tie Greater e = absurd (cc e)
-
 same_options : (p q : Option ℕ) → is_eq (option_cmp nat_cmp p q) ≡ true → p ≡ q
 same_options None None e = refl
 same_options None (Some b) e = absurd (cc e)
 same_options (Some a) None e = absurd (cc e)
-same_options (Some a) (Some b) e = ap Some (nat_cmp-IsAntisymmetric a b (tie (nat_cmp a b) e))
+same_options (Some a) (Some b) e = ap Some (nat_cmp-IsAntisymmetric a b ((Equal-is (nat_cmp a b)).0 e))
 
 -- ---- the edges of each step, from sources and lists
 

@@ -1,10 +1,6 @@
 -- What follows the rows that were skipped.
-use Rattle.std.proofs.Common.{◌≡◌, ◌≢◌, ℕ, List, [], ◌∷◌, ◌++◌, Contains, ap, ◌∙◌, sym, refl, subst, inl, inr, append_assoc, append-nil, arith, true, false}
+use Rattle.std.proofs.Common.{◌≡◌, ◌≢◌, ℕ, List, [], ◌∷◌, ◌++◌, Contains, ap, ◌∙◌, sym, refl, subst, inl, inr, append_assoc, append-nil, arith}
 use Rattle.std.proofs.lemmas.List.Elements.{Contains-append_right, Contains-push_cases}
-use Rattle.std.proofs.lemmas.Bool.{false≢true}
-use Rattle.std.proofs.lemmas.Cmp.{nat_list_eq_equiv}
-use Rattle.std.specs.Str.{bytes_eq}
-use Rattle.std.proofs.lemmas.Slice.Eq.{bytes_eq-Decides}
 use Rattle.gm_graph_select.specs.BuildList.{Entry, IsAt, IsEntryOf, HasEntryFor, path_of}
 use Rattle.gm_graph_select.specs.declared.step.Step.{Step}
 
@@ -73,11 +69,5 @@ pub not_found : (main : List ℕ) (entries : List Entry) (path : List ℕ) (left
 not_found main entries path left e (before, parts, none) (entry, there, is) =
     none entry (subst (λ (t : List Entry). Contains t entry) (parts ∙ ap (λ (t : List Entry). before ++ t) e ∙ append-nil before) there) is
 
-pub texts_differ : (a b : List ℕ) → bytes_eq a b ≡ false → a ≢ b
-texts_differ a b e is = false≢true (sym e ∙ subst (λ (t : List ℕ). bytes_eq a t ≡ true) is (nat_list_eq_equiv.refl a))
-
 pub behind_from : (main : List ℕ) (entries left : List Entry) (path : List ℕ) → entries ≡ left → IsRemainder main entries path left
 behind_from main entries left path e = ([], e, λ other h. absurd (omega (arith, h.1)))
-
-pub texts_same : (a b : List ℕ) → bytes_eq a b ≡ true → a ≡ b
-texts_same a b e = (bytes_eq-Decides a b).0 e

@@ -1,19 +1,16 @@
 -- Collecting the versions that may be listed from a list of words.
-use Rattle.std.proofs.Common.{◌≡◌, zero, suc, ℕ, List, [], ◌∷◌, ◌++◌, map, nat_eq, sym, subst, refl, ◌∙◌, ap, true, arith, Bor, Option, Some, None}
+use Rattle.std.proofs.Common.{◌≡◌, zero, suc, ℕ, List, [], ◌∷◌, ◌++◌, map, nat_eq, sym, subst, refl, ◌∙◌, ap, arith, Bor, Option, Some, None}
 use Rattle.std.specs.Prelude.{Contains}
-use Rattle.std.specs.Cmp.Lexicographic.{nat_list_eq_equiv, pointwise}
+use Rattle.std.specs.Cmp.Lexicographic.{nat_list_eq_equiv, pointwise, same_text}
 use Rattle.std.specs.List.{dedup}
 use Rattle.std.specs.Option.{IfNone, IfSome}
-use Rattle.std.specs.Ordering.{is_eq}
-use Rattle.std.specs.declared.cmp.Ordering.{Ordering}
-use Rattle.std.specs.declared.cmp.Ordering.TheVariants.{Less, Equal, Greater}
 use Rattle.std.specs.List.Sorted.{IsPermutation, IsSorted}
 use Rattle.std.proofs.lemmas.List.{map-append}
 use Rattle.std.proofs.lemmas.List.Elements.{Contains-append_cases, Contains-append_left, Contains-append_right}
 use Rattle.std.proofs.lemmas.List.Kept.{Contains-dedup, Contains-from_dedup, IsStrictlySortedBy-dedup}
 use Rattle.std.proofs.lemmas.List.Sorted.{Contains-permutation, IsPermutation-sym}
 use Rattle.gm_name.specs.Version.{version_cmp}
-use Rattle.gm_name.specs.VersionOrder.{version_ties, version_total, version-anti}
+use Rattle.gm_name.specs.VersionOrder.{version_ties, version_total}
 use Rattle.gm_name.specs.Lines.{first_word, lines}
 use Rattle.gm_store.specs.Listed.{AreListed, IsListable}
 use Rattle.gm_store.specs.Private.Versions.{HoldsListable}
@@ -48,14 +45,6 @@ holds_same path words versions word holds refused = λ v. (
       (λ new. absurd (refused (subst (IsListable path) (sym (Contains-only word v new)) h.1))),
 )
 
-equal_from : (r : Ordering) → is_eq r ≡ true → r ≡ Equal
-equal_from Less e = cc e
-equal_from Equal e = refl
-equal_from Greater e = cc e
-
-texts_same : (x y : List ℕ) → pointwise nat_eq x y ≡ true → x ≡ y
-texts_same x y e = version-anti x y (equal_from (version_cmp x y) (sym (version_ties x y) ∙ e))
-
 -- after sorting and removing duplicates, the list is that of the listed versions
 pub listed_from : (path text : List ℕ) (found sorted : List (List ℕ))
     → HoldsListable path (map first_word (lines text)) found → IsPermutation found sorted → IsSorted version_cmp sorted
@@ -65,7 +54,7 @@ listed_from path text found sorted holds moved ordered = record {
   members = λ v. (
     λ h. let both = (holds v).0 (Contains-permutation _ _ v (IsPermutation-sym _ _ moved)
         (Contains-from_dedup _ sorted v h)) in record { named = both.0; listable = both.1 },
-    λ h. Contains-dedup nat_list_eq_equiv texts_same sorted v (Contains-permutation _ _ v moved ((holds v).1 (h.named, h.listable))),
+    λ h. Contains-dedup nat_list_eq_equiv (λ x y e. same_text x y (sym e)) sorted v (Contains-permutation _ _ v moved ((holds v).1 (h.named, h.listable))),
   );
 }
 

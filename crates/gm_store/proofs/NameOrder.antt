@@ -8,10 +8,10 @@ use Rattle.std.specs.Cmp.Lexicographic.{slice_cmp}
 use Rattle.std.specs.Str.{bytes_eq}
 use Rattle.gm_name.specs.Version.{version_cmp}
 use Rattle.gm_name.specs.VersionOrder.{version_ties}
+use Rattle.gm_name.proofs.Texts.{bytes_eq-same, bytes_eq-self}
 use Rattle.std.specs.String.{string_bytes}
 use Rattle.std.specs.Map.{lookup}
 use Rattle.std.proofs.lemmas.Map.Text.{is_eq-slice_cmp}
-use Rattle.std.proofs.lemmas.Slice.Eq.{bytes_eq-Decides}
 use Rattle.gm_store.specs.declared.files.FileName.{FileName}
 use Rattle.gm_store.specs.declared.files.FileName.TheVariants.{Mod, Folder, List as Listing}
 use Rattle.gm_store.specs.contracts.files.FileNameOrd.TheImpl.{cmp-value}
@@ -60,12 +60,6 @@ reply_for_long limit xs h = grind arith
 
 -- ---- equal names, and the contents of a map after an insertion
 
-pub bytes_same : (xs ys : List ℕ) → bytes_eq xs ys ≡ true → xs ≡ ys
-bytes_same xs ys e = (bytes_eq-Decides xs ys).0 e
-
-pub bytes_itself : (xs : List ℕ) → bytes_eq xs xs ≡ true
-bytes_itself xs = (bytes_eq-Decides xs xs).1 refl
-
 equal_step : {T : Type 0} (a b : Bool) (x y r : T) → a ≡ b → cond a y r ≡ cond b y (cond a x r)
 equal_step true true x y r e = refl
 equal_step true false x y r e = cc e
@@ -80,9 +74,9 @@ greater_step false false x y r never = refl
 
 pub names_equal : (m n : Name) → same_name m n ≡ true → m ≡ n
 names_equal (mod_file p v) (mod_file q w) e = let both = and_parts (bytes_eq p q) (bytes_eq v w) e in
-    ap (λ p. mod_file p v) (bytes_same p q both.0) ∙ ap (mod_file q) (bytes_same v w both.1)
-names_equal (folder_file t) (folder_file u) e = ap folder_file (bytes_same t u e)
-names_equal (list_file p) (list_file q) e = ap list_file (bytes_same p q e)
+    ap (λ p. mod_file p v) (bytes_eq-same p q both.0) ∙ ap (mod_file q) (bytes_eq-same v w both.1)
+names_equal (folder_file t) (folder_file u) e = ap folder_file (bytes_eq-same t u e)
+names_equal (list_file p) (list_file q) e = ap list_file (bytes_eq-same p q e)
 names_equal (mod_file p v) (folder_file u) e = cc e
 names_equal (mod_file p v) (list_file q) e = cc e
 names_equal (folder_file t) (mod_file q w) e = cc e
@@ -91,9 +85,9 @@ names_equal (list_file p) (mod_file q w) e = cc e
 names_equal (list_file p) (folder_file u) e = cc e
 
 pub name_itself : (n : Name) → same_name n n ≡ true
-name_itself (mod_file p v) = and_from (bytes_eq p p) (bytes_eq v v) (bytes_itself p) (bytes_itself v)
-name_itself (folder_file t) = bytes_itself t
-name_itself (list_file p) = bytes_itself p
+name_itself (mod_file p v) = and_from (bytes_eq p p) (bytes_eq v v) (bytes_eq-self p) (bytes_eq-self v)
+name_itself (folder_file t) = bytes_eq-self t
+name_itself (list_file p) = bytes_eq-self p
 
 pub same_from_equal : (m n : Name) → m ≡ n → same_name m n ≡ true
 same_from_equal m n e = subst (λ n. same_name m n ≡ true) e (name_itself m)

@@ -86,7 +86,7 @@ stop_here look looks marks stops = (
   },
 )
 
-unmarked : (look : Seen) → step_of look None ≢ Go
+pub unmarked : (look : Seen) → step_of look None ≢ Go
 unmarked (found content) e = cc e
 unmarked too_long e = cc e
 unmarked absent e = cc e

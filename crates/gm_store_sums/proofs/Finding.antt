@@ -5,11 +5,11 @@ use Rattle.std.proofs.lemmas.Cmp.{nat_list_cmp_total, on_total, then_total, tied
 use Rattle.std.proofs.lemmas.List.{get_or_default}
 use Rattle.std.proofs.lemmas.List.Sorted.{sorted_far, ranks_by, searchable_from_sorted}
 use Rattle.std.proofs.lemmas.Slice.Eq.{bytes_eq-Decides}
-use Rattle.std.specs.Cmp.{IsTotalOrder, first_so, second_so, unsigned_ties}
-use Rattle.std.specs.Cmp.Lexicographic.{lists_ties, slice_cmp}
+use Rattle.std.specs.Cmp.{IsTotalOrder, first_so, second_so}
+use Rattle.std.specs.Cmp.Lexicographic.{slice_cmp}
 use Rattle.std.specs.List.{list_any}
 use Rattle.std.specs.List.Sorted.{IsNonDecreasingBy, IsPartitionPoint, IsPartitionedBy, IsSortedBy}
-use Rattle.std.specs.Ordering.{is_eq, is_gt, is_le, is_lt, nat_cmp, ordering_index, ordering_reverse, ordering_then}
+use Rattle.std.specs.Ordering.{is_gt, is_le, is_lt, nat_cmp, ordering_index, ordering_reverse, ordering_then}
 use Rattle.std.specs.Prelude.{Contains, if◌then◌else◌}
 use Rattle.std.specs.Str.{bytes_eq}
 use Rattle.std.specs.declared.cmp.Ordering.{Ordering}
@@ -21,6 +21,7 @@ use Rattle.gm_store_sums.specs.declared.sum_table.Sum.TheVariants.{Good, Unliste
 use Rattle.gm_store_sums.specs.declared.sum_table.SumLine.{SumLine}
 use Rattle.gm_store_sums.proofs.Summing.{Triple, any_map, any_found, any_none, line_for, other_apart}
 use Rattle.gm_name.proofs.Fitting.{then_first}
+use Rattle.gm_name.proofs.Texts.{slice_cmp-same}
 
 abbrev Place : Type 0
 Place = List ℕ × List ℕ
@@ -86,9 +87,6 @@ parted_up_to lines path version order = λ i j d le within. up_to_down _ _ (risi
 
 -- ---- which lines are for a path and version
 
-same_texts : (x y : List ℕ) → slice_cmp nat_cmp x y ≡ Equal → x ≡ y
-same_texts x y e = (bytes_eq-Decides x y).0 (lists_ties nat_cmp unsigned_ties x y ∙ ap is_eq e)
-
 then_second : (a b : Ordering) → ordering_then a b ≡ Equal → b ≡ Equal
 then_second a b e = ap (λ o. ordering_then o b) (sym (then_first a b e)) ∙ e
 
@@ -102,8 +100,8 @@ is_at : (path version : List ℕ) (t : Triple) → is_lt (key_cmp t (path, versi
     → is_le (key_cmp t (path, version)) ≡ true → is_line_for path version t ≡ true
 is_at path version t low high =
     let even = between (key_cmp t (path, version)) low high in
-    and_from _ _ ((bytes_eq-Decides t.0 path).1 (same_texts t.0 path (then_first _ (slice_cmp nat_cmp t.1 version) even)))
-    ((bytes_eq-Decides t.1 version).1 (same_texts t.1 version (then_second (slice_cmp nat_cmp t.0 path) _ even)))
+    and_from _ _ ((bytes_eq-Decides t.0 path).1 (slice_cmp-same t.0 path (then_first _ (slice_cmp nat_cmp t.1 version) even)))
+    ((bytes_eq-Decides t.1 version).1 (slice_cmp-same t.1 version (then_second (slice_cmp nat_cmp t.0 path) _ even)))
 
 even_at : (path version : List ℕ) (t : Triple) → is_line_for path version t ≡ true → key_cmp t (path, version) ≡ Equal
 even_at path version t e =
@@ -287,6 +285,6 @@ module _ (lines : List SumLine) (path version hash : List ℕ) (start end : ℕ)
       let hash_even : slice_cmp nat_cmp y.0.hash.now hash ≡ Equal =
       then_second (slice_cmp nat_cmp y.0.version.now version) _
       (then_second (slice_cmp nat_cmp y.0.path.now path) _ even) in
-      other_apart path version hash (triple y.0) y.2 (same_texts y.0.hash.now hash hash_even)) in
+      other_apart path version hash (triple y.0) y.2 (slice_cmp-same y.0.hash.now hash hash_even)) in
       sym (ap (λ b. if not b then Unlisted else (if list_any (is_other_hash path version hash) (map triple lines)
       then Differs else Good)) (listed first is_first some) ∙ ap (λ b. if b then Differs else Good) none)

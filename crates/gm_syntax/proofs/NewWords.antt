@@ -91,7 +91,7 @@ new_value value plain =
 pub new_word_stands : (value : List ℕ) (t : Placed) → HasNoLineFeed value → IsNewWord value t → IsWord t.word × HasValue t.word value
 new_word_stands value t plain h = subst (λ (p : Placed). IsWord p.word × HasValue p.word value) (sym (new_word_is value t h)) (new_value value plain)
 
-no_mark : (b : ℕ) (value : List ℕ) → is_mark b (new_word value) ≡ false
+pub no_mark : (b : ℕ) (value : List ℕ) → is_mark b (new_word value) ≡ false
 no_mark b value = elim (cases_Bool (can_be_bare value)) [ inl e ↦ rw e refl | inr e ↦ rw e refl ]
 
 -- a new word is not punctuation

@@ -3,6 +3,7 @@ use Rattle.std.proofs.Common.{◌≡◌, ◌≢◌, ◌∙◌, ◌↔◌, ℕ, B
 use Rattle.std.specs.Cmp.{IsTotalOrder, on_total}
 use Rattle.std.specs.Str.{bytes_eq}
 use Rattle.gm_name.specs.ModuleVersion.{pair_cmp, pair_total}
+use Rattle.gm_name.proofs.Texts.{bytes_eq-differ, bytes_eq-same}
 use Rattle.gm_file.specs.Main.{Main}
 use Rattle.gm_graph_select.specs.declared.step.Step.{Step}
 use Rattle.gm_graph_select.specs.declared.step.Edge.{Edge}
@@ -12,7 +13,7 @@ use Rattle.gm_graph_select.specs.Graph.{Edges, among}
 use Rattle.gm_graph_select.specs.Private.StepOrder.{edge_total}
 use Rattle.gm_graph_select.proofs.Ascending.{same_lists}
 use Rattle.gm_graph_select.proofs.Lawful.{one_chain, same_build_lists}
-use Rattle.gm_graph_select.proofs.RestRows.{entry_listed, one_at, one_entry, texts_differ, texts_same}
+use Rattle.gm_graph_select.proofs.RestRows.{entry_listed, one_at, one_entry}
 use Rattle.gm_graph_select.proofs.Same.{AreSame, same_back, same_build_list, same_chain}
 use Rattle.gm_graph.specs.declared.fault.Fault.{Fault}
 use Rattle.gm_graph.specs.Run.{AreEdges, AreFaults, AreRows, IsEdge, Run}
@@ -46,8 +47,8 @@ same_texts : (a b : List ℕ) → ((a ≢ b) → ⊥) → a ≡ b
 same_texts a b is = by_test (bytes_eq a b) refl
   where
     by_test : (r : Bool) → bytes_eq a b ≡ r → a ≡ b
-    by_test true e = texts_same a b e
-    by_test false e = absurd (is (texts_differ a b e))
+    by_test true e = bytes_eq-same a b e
+    by_test false e = absurd (is (bytes_eq-differ a b e))
 
 -- If few modules are opened, the edges are those of a list, and for a list this is known.
 one_chain_text : (run : Run) → IsFew run → (s : Step) (steps others : List Step) → IsChain (IsEdge run) s steps → IsChain (IsEdge run) s others

@@ -1,7 +1,8 @@
 use Rattle.std.proofs.Common.{◌∙◌, ap, sym}
 use Rattle.gm_graph_select.specs.BuildList.{entries_of_rows, entry_of_row}
-use Rattle.gm_graph_select.proofs.RestRows.{behind_from, behind_more, at_found, not_found, texts_differ, texts_same}
+use Rattle.gm_graph_select.proofs.RestRows.{behind_from, behind_more, at_found, not_found}
 use Rattle.gm_graph_select.proofs.row.row_at.Goals as goal
+use Rattle.gm_name.proofs.Texts.{bytes_eq-differ, bytes_eq-same}
 
 pub rows-init : goal.rows-init
 rows-init c = record {
@@ -15,7 +16,7 @@ returns-then-eq-clause-some c =
     at_found c.args.main.now (entries_of_rows c.args.rows.now) c.args.path.now (entry_of_row c.in-Some.row.now)
     (entries_of_rows c.rows.rest) (entries_of_rows c.next.new.self)
     (ap entries_of_rows c.in-Some.ensures.steps)
-    (sym c.path_of.ensures ∙ texts_same _ _ (sym c.eq.ensures ∙ c.if-eq.true))
+    (sym c.path_of.ensures ∙ bytes_eq-same _ _ (sym c.eq.ensures ∙ c.if-eq.true))
     c.rows.invariant.behind
 
 pub rows-preserved : goal.rows-preserved
@@ -25,7 +26,7 @@ rows-preserved c = record {
   behind = behind_more c.args.main.now (entries_of_rows c.args.rows.now) c.args.path.now
       (entry_of_row c.in-Some.row.now) (entries_of_rows c.rows.rest) (entries_of_rows c.next.new.self)
       (ap entries_of_rows c.in-Some.ensures.steps)
-      (λ is. texts_differ c.path_of.result.now c.args.path.now (sym c.eq.ensures ∙ c.if-eq.false) (c.path_of.ensures ∙ is))
+      (λ is. bytes_eq-differ c.path_of.result.now c.args.path.now (sym c.eq.ensures ∙ c.if-eq.false) (c.path_of.ensures ∙ is))
       c.rows.invariant.behind;
 }
 
