@@ -7,14 +7,15 @@ use Rattle.std.specs.List.{after_first, before_first, position_or_len}
 use Rattle.std.specs.Str.{bytes_eq}
 use Rattle.std.proofs.lemmas.Bool.{cases_Bool}
 use Rattle.std.proofs.lemmas.Nat.Bits.{bit_at-zero, bit_at_or, same_from_bits}
-use Rattle.std.proofs.lemmas.Slice.Eq.{bytes_eq-Decides}
 use Rattle.gm_name.specs.ModuleVersion.{ModuleVersion}
 use Rattle.gm_name.proofs.NameTests.{and_both}
+use Rattle.gm_name.proofs.Texts.{bytes_eq-same}
 use Rattle.gm_syntax.specs.Words.{Word}
 use Rattle.gm_syntax.specs.Document.{is_mark}
 use Rattle.gm_file.specs.Directives.{Directive, Requires, Excludes, Replaces, Retracts, Left, Replacing, Right, VersionInterval, directive_of, ends_of, is_arrow, left_of, left_with, left_without, pair, pair_of, replacing, replacing_of, right_of}
 use Rattle.gm_file.specs.Faults.{is_same_left, is_same_version}
 use Rattle.gm_file.specs.Values.{argument}
+use Rattle.gm_file.proofs.Indexed.{same-version}
 use Rattle.gm_file_edit.specs.About.{about, excludes_pair, is_covered_by, is_replaced_by, replaces_left, requires_path, retracts_ends}
 use Rattle.gm_file_edit.specs.Edits.{Edit, Set, ModuleIs, GoIs, RequireAt, Drop, AnyRequire, Add, Exclude, AnyExclude, ReplaceWith, AnyReplace, Retract, AnyRetract}
 use Rattle.gm_file_edit.specs.Private.Keys.{AreAmong, IsValueIn, bits_with, optional_bits, target_texts, target_verb, texts_bits}
@@ -111,25 +112,16 @@ replaced-named words r is =
 
 -- ---- the texts that an operation targets
 
-same-text : (a b : List ℕ) → bytes_eq a b ≡ true → a ≡ b
-same-text a b e = (bytes_eq-Decides a b).0 e
-
-same-version : (a b : Option (List ℕ)) → is_same_version a b ≡ true → a ≡ b
-same-version None None same = refl
-same-version None (Some w) same = absurd cc
-same-version (Some v) None same = absurd cc
-same-version (Some v) (Some w) same = ap Some (same-text v w same)
-
 same-pair : (a b : List ℕ × List ℕ) → (bytes_eq a.0 b.0 && bytes_eq a.1 b.1) ≡ true → a ≡ b
 same-pair a b e =
     let parts = and_both (bytes_eq a.0 b.0) (bytes_eq a.1 b.1) e in
-    ap (λ (t : List ℕ). (t, a.1)) (same-text a.0 b.0 parts.0) ∙ ap (λ (t : List ℕ). (b.0, t)) (same-text a.1 b.1 parts.1)
+    ap (λ (t : List ℕ). (t, a.1)) (bytes_eq-same a.0 b.0 parts.0) ∙ ap (λ (t : List ℕ). (b.0, t)) (bytes_eq-same a.1 b.1 parts.1)
 
 requirement-has : (path : List ℕ) (words : List Word) (d : Directive) → option_map Requires (pair_of words) ≡ Some d
     → requires_path path d ≡ true → AreValuesIn (Some path, None) words
 requirement-has path words d is hit =
     let made = map-some Requires (pair_of words) d is in
-    let same : made.0.0 ≡ path = same-text made.0.0 path (ap (requires_path path) made.2 ∙ hit) in
+    let same : made.0.0 ≡ path = bytes_eq-same made.0.0 path (ap (requires_path path) made.2 ∙ hit) in
     (subst (λ (t : List ℕ). IsValueIn (Some t) words) same (pair-named words made.0 made.1).0, tt)
 
 exclusion-has : (p : ModuleVersion) (words : List Word) (d : Directive) → option_map Excludes (pair_of words) ≡ Some d
@@ -153,14 +145,14 @@ same-left : (words : List Word) (one : Left) (path : List ℕ) (version : Option
     → AreValuesIn (Some one.path, one.version) words → AreValuesIn (Some path, version) words
 same-left words one path version same are =
     let parts = and_both (bytes_eq one.path path) (is_same_version one.version version) same in (
-      subst (λ (t : List ℕ). IsValueIn (Some t) words) (same-text one.path path parts.0) are.0,
+      subst (λ (t : List ℕ). IsValueIn (Some t) words) (bytes_eq-same one.path path parts.0) are.0,
       subst (λ (v : Option (List ℕ)). IsValueIn v words) (same-version one.version version parts.1) are.1,
     )
 
 covered-left : (words : List Word) (own one : Left) (version : Option (List ℕ)) → own.version ≡ version
     → is_covered_by own version one ≡ true → AreValuesIn (Some one.path, one.version) words
     → AreValuesIn (Some own.path, version) words
-covered-left words own one None is hit are = (subst (λ (t : List ℕ). IsValueIn (Some t) words) (same-text one.path own.path hit) are.0, tt)
+covered-left words own one None is hit are = (subst (λ (t : List ℕ). IsValueIn (Some t) words) (bytes_eq-same one.path own.path hit) are.0, tt)
 covered-left words own one (Some version) is hit are =
     same-left words one own.path (Some version) (ap (λ (v : Option (List ℕ)). is_same_left one (record { path = own.path; version = v })) (sym is) ∙ hit) are
 

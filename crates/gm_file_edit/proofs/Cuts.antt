@@ -3,7 +3,7 @@ use Rattle.std.specs.Borrow.{Bor}
 use Rattle.std.specs.Prelude.{MatchOption, slice_index}
 use Rattle.gm_file_edit.specs.Private.Sound.{split_view}
 use Rattle.gm_name.proofs.NameTests.{and_both, path-tested, version-tested}
-use Rattle.std.proofs.Common.{◌≡◌, ℕ, ◌-◌, ◌==◌, ◌&&◌, ◌<◌, nat_lt, true, false, List, [], ◌∷◌, length, get_or, Option, Some, None, inl, inr, refl, ◌∙◌, arith, ◌↔◌, Bool}
+use Rattle.std.proofs.Common.{◌≡◌, ℕ, ◌-◌, ◌==◌, ◌&&◌, ◌<◌, nat_lt, true, false, List, [], ◌∷◌, length, get_or, Option, Some, None, inl, inr, refl, ◌∙◌, arith}
 use Rattle.std.proofs.lemmas.Bool.{cases_Bool}
 use Rattle.std.proofs.lemmas.Bool.Decides.{nat_tests}
 use Rattle.std.proofs.lemmas.Str.{IsCharBoundary-after_ascii}
@@ -13,6 +13,7 @@ use Rattle.gm_file_edit.specs.Edits.{split_at_byte, has_byte, is_bracketed, path
 use Rattle.gm_name.specs.Path.{IsPath}
 use Rattle.gm_name.specs.Version.{IsVersion}
 use Rattle.gm_name.specs.Names.{is_path, is_version}
+use Rattle.gm_file.proofs.PartKinds.{not-tested}
 
 -- a list contains an element if and only if the position of the first one is in range
 any-position : (b : ℕ) (xs : List ℕ) → has_byte b xs ≡ nat_lt (position_or_len (λ c. c == b) xs) (length xs)
@@ -53,10 +54,6 @@ open-boundary text utf8 e =
     IsCharBoundary-after_ascii text 0 utf8 (omega (arith, long)) small
 
 -- ---- paths and versions, by the facts proved in gm_name
-
-not-tested : (b : Bool) (P : Type 0) → (b ≡ true ↔ P) → ¬ P → b ≡ false
-not-tested true P is none = absurd (none (is.0 refl))
-not-tested false P is none = refl
 
 pub path-there : (text : List ℕ) → IsPath text → path_in text ≡ Some text
 path-there text holds = rw ((path-tested text).1 holds) refl

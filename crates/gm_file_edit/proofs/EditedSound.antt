@@ -11,7 +11,7 @@ use Rattle.gm_syntax.specs.Lines.{HasNoLineFeed}
 use Rattle.gm_syntax.specs.Tokens.{Placed, words_of}
 use Rattle.gm_syntax.specs.Document.{Line, Entry, IsValidLine, IsDocument}
 use Rattle.gm_syntax.specs.LineViews.{plain, plain_lines}
-use Rattle.gm_syntax.proofs.NewWords.{mark_stands}
+use Rattle.gm_syntax.proofs.NewWords.{mark_stands, no_mark}
 use Rattle.gm_syntax.proofs.Changes.{entry_stands}
 use Rattle.gm_name.specs.ModuleVersion.{ModuleVersion}
 use Rattle.gm_file.specs.declared.verb.Verb.TheVariants.{Module as ForModule, Require as ForRequire, Exclude as ForExclude, Retract as ForRetract}
@@ -30,7 +30,7 @@ use Rattle.gm_file_edit.proofs.Insertions.{IsAddition, IsNewTo, into-sound, by-p
 use Rattle.gm_file_edit.proofs.Filters.{fewer-any}
 use Rattle.gm_file_edit.proofs.Drops.{dropped-sound, renewed-sound}
 use Rattle.gm_file_edit.proofs.Feeds.{byte-feed, go-feed, path-feed, version-feed}
-use Rattle.gm_file_edit.proofs.Made.{AreArguments, begins-path, made-no-mark, made-stands, made-value, one-are, open-behind}
+use Rattle.gm_file_edit.proofs.Made.{AreArguments, begins-path, made-stands, made-value, one-are, open-behind}
 use Rattle.gm_file_edit.proofs.Renewals.{go-says, put_by, renewal, replace-are, replace-says, wanted}
 use Rattle.gm_file_edit.proofs.Pairs.{IsSound, document-sound, held_from, sound-document}
 use Rattle.gm_file_edit.specs.Private.Keys.{target_verb}
@@ -54,7 +54,7 @@ entry-alone text arguments plain_text are = entry_stands false (new_word text �
   is_suffix = tt;
   filled = omega arith;
   opens_nothing = open-behind (new_word text) (words_of arguments) are.filled ∙ are.opens_nothing;
-  closes_nothing = made-no-mark 41 text;
+  closes_nothing = no_mark 41 text;
 })
 
 addition : (verb : List ℕ) (arguments : List Placed) (new : Directive) → has_byte 10 verb ≡ false
@@ -72,7 +72,7 @@ addition verb arguments new feed written are says =
 
 pair-are : (p : ModuleVersion) → IsPairOfNames p → AreArguments (pair_words p)
 pair-are p names = begins-path p.0 _ (path-feed p.0 names.0) (made-stands p.1 (version-feed p.1 names.1), tt)
-    (made-no-mark 40 p.1) (rw (made-no-mark 40 p.0) refl)
+    (no_mark 40 p.1) (rw (no_mark 40 p.0) refl)
 
 require-says : (p : ModuleVersion) → IsPairOfNames p → directive_of ForRequire (words_of (pair_words p)) ≡ Some (Requires p)
 unfolding directive_of

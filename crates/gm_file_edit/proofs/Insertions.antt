@@ -15,13 +15,14 @@ use Rattle.gm_file_edit.specs.Edits.{Edit, Target, Set, ModuleIs, GoIs, RequireA
 use Rattle.gm_file_edit.specs.Holding.{directive_at, passes, is_there, item_of}
 use Rattle.gm_file_edit.specs.Laws.{directives_of}
 use Rattle.gm_file_edit.specs.NewWords.{entry_at, made_word, single}
-use Rattle.gm_file_edit.proofs.Pairs.{block-append, file-held, held_from, no-block, IsSound, held_in, put-line}
+use Rattle.gm_file_edit.proofs.Pairs.{block-append, file-held, held_from, IsSound, held_in, put-line}
 use Rattle.gm_syntax.specs.Bare.{new_word}
 use Rattle.gm_syntax.specs.LineViews.{plain}
 use Rattle.gm_syntax.proofs.Changes.{blank_stands}
 use Rattle.gm_file.specs.declared.verb.Verb.{Verb}
 use Rattle.gm_file.specs.Pairwise.{do_clash}
 use Rattle.gm_file.proofs.Pairwise.{IsClear}
+use Rattle.gm_file.proofs.SimpleLines.{none-open}
 
 -- ---- lines that hold a directive
 
@@ -243,7 +244,7 @@ behind-first test more block (line ∷ lines) = elim (cases_Bool (passes test (d
       was = refl;
       is = refl;
       outside =
-          λ closed. passing-level test block line hit ∙ no-block block outside;
+          λ closed. passing-level test block line hit ∙ none-open block outside;
     })
   ])
   | inr miss ↦ rw miss (behind-line more block line lines _ (behind-first test more (block_after_line block line) lines))

@@ -15,7 +15,7 @@ use Rattle.gm_syntax.specs.Tokens.{Placed, IsNewWord, words_of}
 use Rattle.gm_syntax.specs.Document.{Line, Blank, Comment, Open, Close, Entry, IsValidLine, IsEntry, begins_close, ends_open, is_mark, is_mark_byte}
 use Rattle.gm_syntax.specs.LineViews.{plain}
 use Rattle.gm_syntax.proofs.Spelled.{is_bare_word, bare_word_is}
-use Rattle.gm_syntax.proofs.NewWords.{new_word_no_mark, new_word_stands, value_is}
+use Rattle.gm_syntax.proofs.NewWords.{new_word_stands, value_is, no_mark}
 use Rattle.gm_syntax.proofs.Changes.{entry_stands, standing_entry}
 use Rattle.gm_file.specs.Values.{argument, argument_of_kind}
 use Rattle.gm_file.specs.Directives.{Strict, pair, Directive, Saying, directive_in, directive_of, is_empty_block, item_at, main_verb, one_of, pair_of}
@@ -72,9 +72,6 @@ made-value value plain =
       | inl e ↦ rw e refl
       | inr e ↦ let quoted : string_value (in_quotes value) ≡ value = rw e at is in rw e (ap Some quoted)
     ]
-
-pub made-no-mark : (b : ℕ) (value : List ℕ) → is_mark b (new_word value) ≡ false
-made-no-mark b value = new_word_no_mark b value (made_word value) (is-new value)
 
 kind-no-mark : (b : ℕ) (kind : Kind) (text value : List ℕ) → argument_of_kind kind text ≡ Some value → is_mark_byte b kind text ≡ false
 kind-no-mark b Bare text value e = refl
@@ -222,8 +219,8 @@ pub one-are : (value : List ℕ) → HasNoLineFeed value → AreArguments (made_
 one-are value plain = record {
   words = (made-stands value plain, tt);
   filled = omega arith;
-  opens_nothing = made-no-mark 40 value;
-  closes_nothing = made-no-mark 41 value;
+  opens_nothing = no_mark 40 value;
+  closes_nothing = no_mark 41 value;
   no_block = refl;
 }
 
@@ -232,7 +229,7 @@ pub two-are : (a : Placed) (path value : List ℕ) → IsWord a.word → argumen
 two-are a path value word is plain = record {
   words = (word, (made-stands value plain, tt));
   filled = omega arith;
-  opens_nothing = made-no-mark 40 value;
+  opens_nothing = no_mark 40 value;
   closes_nothing = no-mark 41 a.word path is;
   no_block = rw (no-mark 40 a.word path is) refl;
 }
@@ -242,4 +239,4 @@ pub begins-path : (path : List ℕ) (more : List Placed) → HasNoLineFeed path 
     → ends_open (words_of (made_word path ∷ more)) ≡ false
     → is_empty_block (words_of (made_word path ∷ more)) ≡ false → AreArguments (made_word path ∷ more)
 begins-path path more plain words opens filled =
-    record { words = (made-stands path plain, words); filled = omega arith; opens_nothing = opens; closes_nothing = made-no-mark 41 path; no_block = filled }
+    record { words = (made-stands path plain, words); filled = omega arith; opens_nothing = opens; closes_nothing = no_mark 41 path; no_block = filled }

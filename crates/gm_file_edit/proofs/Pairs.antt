@@ -14,6 +14,7 @@ use Rattle.gm_file.specs.Faults.{fault_of, is_module, item_kinds}
 use Rattle.gm_file.specs.Pairwise.{IsRightAlone}
 use Rattle.gm_file.proofs.Pairwise.{AreApart, AreRightApart, IsClear, apart-faultless, apart-with, faultless-apart}
 use Rattle.gm_file.proofs.Snoc.{with_blocks-snoc}
+use Rattle.gm_file.proofs.SimpleLines.{none-open}
 use Rattle.gm_file_edit.specs.Holding.{directive_at, item_of}
 
 abbrev pub word_of : Placed → Word
@@ -76,10 +77,6 @@ inside-plain inside block (Open verb suffix) e = refl
 inside-plain inside block (Close suffix) e = refl
 inside-plain inside block (Entry words suffix) e = e
 
-pub no-block : (block : Option Placed) → is_some block ≡ false → block ≡ None
-no-block None e = refl
-no-block (Some t) e = absurd cc
-
 abbrev AreAlone : Option Word → List (Line Word) → Type 0
 AreAlone block lines = AllByRecursion IsRightAlone (with_blocks_from block lines)
 
@@ -99,7 +96,7 @@ file-held lines = plain-held None lines
 right-lines : (inside : Bool) (block : Option Placed) (lines : List (Line Placed)) → inside ≡ is_some block
     → AreValidFrom inside (plain_lines lines) → inside_after_all inside (plain_lines lines) ≡ false
     → AreAlone (option_map word_of block) (plain_lines lines) → AreRightFrom block lines × (block_after_lines block lines ≡ None)
-right-lines inside block [] at stand ends alone = (tt, no-block block (sym at ∙ ends))
+right-lines inside block [] at stand ends alone = (tt, none-open block (sym at ∙ ends))
 right-lines inside block (line ∷ lines) at stand ends alone =
     let rest = right-lines (inside_after inside (plain line)) (block_after_line block line) lines (inside-plain inside block line at) stand.1 ends
     (subst (λ (b : Option Word). AreAlone b (plain_lines lines)) (block-plain block line) alone.1) in

@@ -14,10 +14,11 @@ use Rattle.gm_syntax.specs.Spelling.{IsWord}
 use Rattle.gm_syntax.specs.Tokens.{Placed, words_of}
 use Rattle.gm_syntax.specs.Document.{Line, Entry, IsValidLine}
 use Rattle.gm_syntax.specs.LineViews.{plain}
-use Rattle.gm_syntax.proofs.NewWords.{mark_stands}
+use Rattle.gm_syntax.proofs.NewWords.{mark_stands, no_mark}
 use Rattle.gm_syntax.proofs.Changes.{standing_entry}
 use Rattle.gm_name.specs.Names.{does_fit, is_path}
 use Rattle.gm_name.specs.ModuleVersion.{ModuleVersion}
+use Rattle.gm_name.proofs.Texts.{bytes_eq-self}
 use Rattle.gm_file.specs.Values.{argument, both}
 use Rattle.gm_file.specs.GoVersions.{strict_go}
 use Rattle.gm_file.specs.declared.verb.Verb.{Verb}
@@ -31,13 +32,14 @@ use Rattle.gm_file_edit.specs.Renewing.{made_new, with_arguments, with_last}
 use Rattle.gm_file_edit.specs.Sound.{AreVersions, IsPairOfNames, IsSoundEdit, IsSoundLeft, IsSoundRight, IsSoundVersion}
 use Rattle.gm_file_edit.proofs.Feeds.{byte-feed, go-feed, path-feed, version-feed, map-some}
 use Rattle.gm_file_edit.proofs.Folders.{path-no-folder}
-use Rattle.gm_file_edit.proofs.Made.{AreArguments, IsFront, all-arguments, begins-path, entry-made, held-by, made-no-mark, made-stands, made-value, one-are, one-argument, last-replaced, two-are, two-arguments, IsMadeNew, IsRenewal, IsWanted, Makes}
+use Rattle.gm_file_edit.proofs.Made.{AreArguments, IsFront, all-arguments, begins-path, entry-made, held-by, made-stands, made-value, one-are, one-argument, last-replaced, two-are, two-arguments, IsMadeNew, IsRenewal, IsWanted, Makes}
 use Rattle.gm_file_edit.proofs.Targets.{about-module, about-verb}
 use Rattle.gm_file_edit.specs.Edits.{Edit, Set, Setting, ModuleIs, GoIs, RequireAt, ReplaceWith, Add, Exclude, Retract, Drop}
 use Rattle.gm_file_edit.specs.Kinds.{directive_added, directive_set, is_fit}
 use Rattle.gm_file.specs.Pairwise.{do_clash}
 use Rattle.gm_file.proofs.DirectiveVerbs.{directive-verb}
 use Rattle.gm_file.proofs.Pairwise.{both-nil, same-left}
+use Rattle.gm_file.proofs.Indexed.{left-self}
 
 -- ---- the module and the go version
 
@@ -138,10 +140,6 @@ require-made p names fit block line d held e stands = absurd cc
 
 -- ---- a replace
 
-pub version-itself : (v : Option (List ℕ)) → is_same_version v v ≡ true
-version-itself None = refl
-version-itself (Some v) = (bytes_eq-Decides v v).1 refl
-
 not-covered : (left other : Left) (v : Option (List ℕ)) → is_covered_by left v other ≡ false → is_same_left other left ≡ false
 not-covered left other None e = and_left (bytes_eq other.path left.path) (is_same_version other.version left.version) e
 not-covered left other (Some version) e = e
@@ -209,23 +207,23 @@ replace-says r left right = replace-says-of r.0.path r.0.version r.1 left.0 left
 replace-are-of : (path : List ℕ) (version : Option (List ℕ)) (right : Right) → is_path path ≡ true → IsSoundVersion version → IsSoundRight right
     → AreArguments (left_words path version ++ made_mark Arrow ∷ right_words right)
 replace-are-of path None (Folder text) p v r = begins-path path _ (path-feed path p)
-    (mark_stands Arrow, (made-stands text (byte-feed text r.1), tt)) (made-no-mark 40 text) refl
+    (mark_stands Arrow, (made-stands text (byte-feed text r.1), tt)) (no_mark 40 text) refl
 replace-are-of path None (Module q w) p v r =
     begins-path path _ (path-feed path p) (
       mark_stands Arrow,
       (made-stands q (path-feed q r.0), (made-stands w (version-feed w r.1), tt)),
-    ) (made-no-mark 40 w) refl
+    ) (no_mark 40 w) refl
 replace-are-of path (Some version) (Folder text) p v r =
     begins-path path _ (path-feed path p) (
       made-stands version (version-feed version v),
       (mark_stands Arrow, (made-stands text (byte-feed text r.1), tt)),
-    ) (made-no-mark 40 text) refl
+    ) (no_mark 40 text) refl
 replace-are-of path (Some version) (Module q w) p v r =
     begins-path path _ (path-feed path p) (
       made-stands version (version-feed version v),
       (mark_stands Arrow, (made-stands q (path-feed q r.0), (made-stands w (version-feed w r.1), tt))),
     )
-    (made-no-mark 40 w) refl
+    (no_mark 40 w) refl
 
 pub replace-are : (r : Replacing) → IsSoundLeft r.0 → IsSoundRight r.1 → AreArguments (replace_words r)
 replace-are r left right = replace-are-of r.0.path r.0.version r.1 left.0 left.1 right
@@ -259,23 +257,17 @@ ends-kinds : (ends : VersionInterval) → AreVersions ends → directive_kinds S
 unfolding directive_kinds
 ends-kinds ends are = rw (are.0, are.1) refl
 
-pub text-itself : (text : List ℕ) → bytes_eq text text ≡ true
-text-itself text = (bytes_eq-Decides text text).1 refl
-
 pub pair-itself : (p : List ℕ × List ℕ) → (bytes_eq p.0 p.0 && bytes_eq p.1 p.1) ≡ true
-pair-itself p = and_from (bytes_eq p.0 p.0) (bytes_eq p.1 p.1) (text-itself p.0) (text-itself p.1)
-
-pub left-itself : (left : Left) → is_same_left left left ≡ true
-left-itself left = and_from (bytes_eq left.path left.path) (is_same_version left.version left.version) (text-itself left.path) (version-itself left.version)
+pair-itself p = and_from (bytes_eq p.0 p.0) (bytes_eq p.1 p.1) (bytes_eq-self p.0) (bytes_eq-self p.1)
 
 left-covered : (left : Left) (version : Option (List ℕ)) → is_covered_by left version left ≡ true
-left-covered left None = text-itself left.path
-left-covered left (Some version) = left-itself left
+left-covered left None = bytes_eq-self left.path
+left-covered left (Some version) = left-self left
 
 puts-wanted : (edit : Edit) → IsSoundEdit edit → is_fit edit ≡ true → IfSome (put_by edit) (IsWanted (about edit))
 puts-wanted (Set (ModuleIs path)) good fit = record { kinds = module-kinds path good; mild = λ d f. f; own = refl }
 puts-wanted (Set (GoIs text)) good fit = record { kinds = go-kinds text good; mild = λ d f. f; own = refl }
-puts-wanted (Set (RequireAt p)) good fit = record { kinds = require-kinds p good fit; mild = λ d f. refl; own = text-itself p.0 }
+puts-wanted (Set (RequireAt p)) good fit = record { kinds = require-kinds p good fit; mild = λ d f. refl; own = bytes_eq-self p.0 }
 puts-wanted (Set (ReplaceWith r)) good fit = record { kinds = replace-kinds r good.0 good.1 fit; mild = replace-mild r; own = left-covered r.0 r.0.version }
 puts-wanted (Add (Exclude p)) good fit = record { kinds = exclude-kinds p good fit; mild = λ d f. refl; own = pair-itself p }
 puts-wanted (Add (Retract ends)) good fit = record { kinds = ends-kinds ends good; mild = λ d f. refl; own = pair-itself ends }

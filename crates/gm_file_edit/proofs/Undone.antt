@@ -11,6 +11,7 @@ use Rattle.gm_syntax.specs.Words.{Word}
 use Rattle.gm_syntax.specs.Document.{Line, Blank, Comment, Open, Close, Entry}
 use Rattle.gm_file.specs.Directives.{Left, Directive, Replaces, block_after_line, block_after_lines, item_at}
 use Rattle.gm_file.specs.Faults.{is_same_left}
+use Rattle.gm_file.proofs.Indexed.{left-self}
 use Rattle.gm_file_edit.specs.Edits.{Edit, Set, ModuleIs, GoIs, RequireAt, ReplaceWith, Add, Exclude, Retract, Drop}
 use Rattle.gm_file_edit.specs.Kinds.{is_drop}
 use Rattle.gm_file_edit.specs.About.{about, excludes_pair, is_covered_by, is_replaced_by, replaces_left, requires_path, retracts_ends}
@@ -24,11 +25,12 @@ use Rattle.gm_file_edit.proofs.Additions.{edited-added}
 use Rattle.gm_file_edit.proofs.Insertions.{Fits, IsAddition, entry-fits, added-after-last, added-at-end, entry_put, last-one, passing-level, passing-verb, there-append, there-said}
 use Rattle.gm_file_edit.proofs.EditedSound.{says}
 use Rattle.gm_file_edit.proofs.Filters.{fewer-any}
-use Rattle.gm_file_edit.proofs.Renewals.{left-itself, pair-itself, put_by, text-itself}
+use Rattle.gm_file_edit.proofs.Renewals.{pair-itself, put_by}
 use Rattle.gm_file_edit.proofs.SaidAfter.{sound-of}
 use Rattle.gm_file_edit.proofs.Pairs.{IsSound, block-append}
 use Rattle.gm_file_edit.proofs.Untouched.{all-lines-left, all_stay, edited-drop, none-dropped-from, stay-before, staying}
 use Rattle.std.proofs.lemmas.Option.{same_Some}
+use Rattle.gm_name.proofs.Texts.{bytes_eq-self}
 
 -- ---- the fates of the lines
 
@@ -166,7 +168,7 @@ drop-of (Set (RequireAt p)) = record {
   entry = _;
   adds = refl;
   own =
-      λ new put. ap (requires_path p.0) (sym (same_Some _ _ put)) ∙ text-itself p.0;
+      λ new put. ap (requires_path p.0) (sym (same_Some _ _ put)) ∙ bytes_eq-self p.0;
   fewer = λ d f. f;
 }
 drop-of (Set (ReplaceWith r)) = record {
@@ -174,7 +176,7 @@ drop-of (Set (ReplaceWith r)) = record {
   entry = _;
   adds = refl;
   own =
-      λ new put. ap (replaces_left r.0) (sym (same_Some _ _ put)) ∙ left-itself r.0;
+      λ new put. ap (replaces_left r.0) (sym (same_Some _ _ put)) ∙ left-self r.0;
   fewer = replaced-left r.0;
 }
 drop-of (Add (Exclude p)) = record {

@@ -16,7 +16,7 @@ use Rattle.gm_file.specs.Pairwise.{do_clash}
 use Rattle.gm_file.proofs.Pairwise.{AreApart, clash-mutual, faultless-apart}
 use Rattle.gm_file.specs.Fields.{as_exclusion, as_go, as_module, as_replacing, as_requirement, first, right_for}
 use Rattle.gm_file.specs.Main.{is_excluded, is_pruned_by, main_of}
-use Rattle.gm_file_edit.proofs.Renewals.{left-itself}
+use Rattle.gm_file.proofs.Indexed.{left-self}
 use Rattle.gm_graph_select.proofs.Ascending.{member_cases, member_head, member_tail, no_member}
 use Rattle.gomod_laws.specs.LineOrderLaws.{HoldTheSame, LinesInAnyOrder}
 use Rattle.gomod_laws.proofs.FormattingBlanks.{main_said}
@@ -226,7 +226,7 @@ module _ (ds : List Directive) (are : AreApart ds) where
       elim (cases_Bool (is_same_right r.1 s.1)) [
         | inl same ↦ same_right r.1 s.1 same
         | inr apart ↦
-            let same : is_same_left r.0 s.0 ≡ true = subst (λ (x : Left). is_same_left r.0 x ≡ true) lefts (left-itself r.0) in
+            let same : is_same_left r.0 s.0 ≡ true = subst (λ (x : Left). is_same_left r.0 x ≡ true) lefts (left-self r.0) in
             let clash : do_clash (Replaces r) (Replaces s) ≡ true = rw (same, apart) refl in
             let one : Replaces r ≡ Replaces s = one_of_two ds (Replaces r) (Replaces s) are first_in second_in clash in
             let both : r ≡ s = cc in
