@@ -1,11 +1,8 @@
 -- Exactly the needed names were asked for, and at most 65,536 vertices are opened.
-use Rattle.std.proofs.Common.{◌≡◌, ◌∙◌, ◌≤◌, ◌||◌, Bool, true, false, cond, List, [], ◌∷◌, ◌++◌, length, Option, Some, None, IsSome, Contains, ap, ap₂, sym, refl, subst, inl, inr, arith, suc, Result}
+use Rattle.std.proofs.Common.{◌≡◌, ◌∙◌, ◌≤◌, ◌||◌, Bool, true, false, cond, List, [], ◌∷◌, ◌++◌, length, Option, Some, None, IsSome, Contains, ap, sym, refl, subst, inl, inr, arith, suc, Result}
 use Rattle.std.specs.List.{IsDistinct, list_any}
 use Rattle.std.specs.Cmp.{IsEquivalence}
-use Rattle.std.specs.Cmp.Derive.{both_true}
-use Rattle.std.specs.Str.{bytes_eq}
 use Rattle.std.proofs.lemmas.Bool.{cases_Bool, false≢true}
-use Rattle.std.proofs.lemmas.Cmp.{nat_list_eq_equiv}
 use Rattle.std.proofs.lemmas.Map.Keys.{IsDistinct-push}
 use Rattle.std.proofs.lemmas.Map.Made.{length-le_from_is_member, is_member-Decides}
 use Rattle.std.proofs.lemmas.List.Elements.{Contains-push_cases}
@@ -13,7 +10,8 @@ use Rattle.gm_name.specs.ModuleVersion.{ModuleVersion}
 use Rattle.gm_name.specs.Private.ModuleVersion.{pair_eq-Decides, pairs-equivalence}
 use Rattle.gm_file.specs.Fields.{Dependency}
 use Rattle.gm_file.specs.Main.{Main, is_pruned_by}
-use Rattle.gm_store.specs.Asked.{Name, Reply, answer_in, names_in, same_name, mod_file, folder_file, list_file}
+use Rattle.gm_store.specs.Asked.{Name, Reply, answer_in, names_in, same_name}
+use Rattle.gm_store.proofs.NameOrder.{names_equal, name_itself}
 use Rattle.gm_store_sums.specs.Sums.{Sums}
 use Rattle.gm_graph.specs.declared.cache.class.Class.{Class}
 use Rattle.gm_graph.specs.declared.cache.depth.Turn.{Turn}
@@ -24,27 +22,11 @@ use Rattle.gm_graph.specs.Run.{AreOpened, AreTurns, AskedInTurn, FileSays, IsNee
 use Rattle.gm_graph.specs.Turns.{turn}
 use Rattle.gm_graph.specs.Private.Turns.{AreTurnsOf}
 use Rattle.gm_graph.proofs.Deepening.{opened_kept}
-use Rattle.gm_graph.proofs.Sameness.{same_bytes, first_true, second_true, equivalence_from_exact}
+use Rattle.gm_graph.proofs.Sameness.{equivalence_from_exact}
 use Rattle.gm_graph.proofs.Sayings.{says_more}
 
-same_name-refl : (n : Name) → same_name n n ≡ true
-same_name-refl (mod_file p v) = both_true (nat_list_eq_equiv.refl p) (nat_list_eq_equiv.refl v)
-same_name-refl (folder_file t) = nat_list_eq_equiv.refl t
-same_name-refl (list_file p) = nat_list_eq_equiv.refl p
-
-exact_name : (a b : Name) → same_name a b ≡ true → a ≡ b
-exact_name (mod_file p v) (mod_file q w) h = ap₂ mod_file (same_bytes _ _ (first_true _ _ h)) (same_bytes _ _ (second_true (bytes_eq p q) _ h))
-exact_name (mod_file p v) (folder_file u) h = cc
-exact_name (mod_file p v) (list_file q) h = cc
-exact_name (folder_file t) (mod_file q w) h = cc
-exact_name (folder_file t) (folder_file u) h = ap folder_file (same_bytes _ _ h)
-exact_name (folder_file t) (list_file q) h = cc
-exact_name (list_file p) (mod_file q w) h = cc
-exact_name (list_file p) (folder_file u) h = cc
-exact_name (list_file p) (list_file q) h = ap list_file (same_bytes _ _ h)
-
 names_equivalence : IsEquivalence same_name
-names_equivalence = equivalence_from_exact same_name same_name-refl exact_name
+names_equivalence = equivalence_from_exact same_name name_itself names_equal
 
 pub names_push : (pairs : List (Name × Reply)) (n : Name) (r : Reply) → names_in (pairs ++ (n, r) ∷ []) ≡ names_in pairs ++ n ∷ []
 names_push [] n r = refl
@@ -61,7 +43,7 @@ none_named (pair ∷ pairs) n h =
 
 named_if : (b : Bool) (pair : Name × Reply) (ns : List Name) (n : Name) (o : Option Reply) → same_name n pair.0 ≡ b
     → IsSome (cond b (Some pair.1) o) → (IsSome o → Contains ns n) → Contains (pair.0 ∷ ns) n
-named_if true pair ns n o e s there = (0, omega arith, sym (exact_name n pair.0 e))
+named_if true pair ns n o e s there = (0, omega arith, sym (names_equal n pair.0 e))
 named_if false pair ns n o e s there = let (k, below, at) = there s in (suc k, omega (arith, below), at)
 
 -- A name with an answer is among the names.

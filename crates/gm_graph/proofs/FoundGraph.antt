@@ -32,9 +32,9 @@ use Rattle.gm_graph_select.specs.declared.step.Step.{Step}
 use Rattle.gm_graph_select.specs.declared.step.Step.TheVariants.{Main as FromMain, Of}
 use Rattle.gm_graph_select.specs.Adjacency.{StepEdges, edges_from, edges_of, left_by, list_at, sources_of as steps_left, step_edges, step_with}
 use Rattle.gm_graph_select.specs.Graph.{edge}
+use Rattle.gm_graph_select.proofs.RankedLists.{from_mapped, in_mapped}
 use Rattle.gm_graph.proofs.Gathered.{faulty_list, file_source, lists_by, noted_has, source_is, source_there, used_list}
 use Rattle.gm_graph.proofs.Keeping.{file_there}
-use Rattle.gm_graph.proofs.Mapped.{from_mapped, in_mapped}
 use Rattle.gm_graph.proofs.Sayings.{file_same, not_both, one_said}
 
 -- ---- the edges of steps

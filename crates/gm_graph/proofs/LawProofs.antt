@@ -60,7 +60,7 @@ unpruned_is_plain run unpruned x = (
 both : {A B C : Type 0} → A ↔ B → C ↔ B → A ↔ C
 both f g = ((λ a. g.1 (f.0 a)), (λ c. f.1 (g.0 c)))
 
-faults_total : IsTotalOrder (λ (a b : Fault). pair_cmp a.vertex b.vertex)
+pub faults_total : IsTotalOrder (λ (a b : Fault). pair_cmp a.vertex b.vertex)
 faults_total = on_total (λ (f : Fault). f.vertex) pair_total
 
 pub one_answer : OneAnswer

@@ -1,5 +1,5 @@
 -- Mapped lists, and the list of a map's entries.
-use Rattle.std.proofs.Common.{◌≡◌, ◌↔◌, ◌++◌, ◌<◌, Bool, true, false, cond, ℕ, zero, suc, List, [], ◌∷◌, length, get_or, map, All, None, Option, Some, Contains, ap, ap₂, ◌∙◌, sym, refl, subst, arith}
+use Rattle.std.proofs.Common.{◌≡◌, ◌↔◌, ◌++◌, ◌<◌, Bool, true, false, cond, ℕ, List, [], ◌∷◌, length, get_or, map, All, None, Option, Some, Contains, ap, ap₂, ◌∙◌, sym, refl, subst, arith}
 use Rattle.std.specs.Prelude.{AllPairs, IsSome}
 use Rattle.std.specs.BTreeMap as tree
 use Rattle.std.specs.declared.cmp.Ordering.TheVariants.{Less}
@@ -17,14 +17,7 @@ use Rattle.gm_graph.specs.declared.fault.Fault.{Fault}
 use Rattle.gm_graph.specs.declared.findings.NumberedFault.{NumberedFault}
 use Rattle.gm_graph.specs.Private.Findings.{numbered}
 use Rattle.gm_graph.specs.Private.Gathering.{AreFaultsOf, HasFaultOf, fault}
-
-pub in_mapped : {X Y : Type 0} (f : X → Y) (xs : List X) (x : X) → Contains xs x → Contains (map f xs) (f x)
-in_mapped f xs x (k, below, is) = (k, rw length-map below, get_or-map f xs k x (f x) below ∙ ap f is)
-
-pub from_mapped : {X Y : Type 0} (f : X → Y) (xs : List X) (y : Y) → Contains (map f xs) y → (x : X) × Contains xs x × (f x ≡ y)
-from_mapped f [] y h = absurd (omega (arith, h.1))
-from_mapped f (x ∷ xs) y (zero, below, is) = (x, (0, omega arith, refl), is)
-from_mapped f (x ∷ xs) y (suc k, below, is) = let (z, (j, under, at), e) = from_mapped f xs y (k, omega arith, is) in (z, (suc j, omega arith, at), e)
+use Rattle.gm_graph_select.proofs.RankedLists.{from_mapped, in_mapped}
 
 abbrev entry_fault : ModuleVersion × Class → Fault
 entry_fault e = fault e.0 e.1

@@ -1,6 +1,6 @@
 -- Turns that are all done.
-use Rattle.std.proofs.Common.{◌≡◌, ◌+◌, ◌≤◌, Bool, true, false, List, [], ◌++◌, length, Contains, map, ap, ◌∙◌, sym, refl, subst, inl, inr, arith, length-append, ◌↔◌, Result}
-use Rattle.std.proofs.lemmas.List.{length-map, get_or-map}
+use Rattle.std.proofs.Common.{◌≡◌, ◌+◌, ◌≤◌, Bool, true, false, List, [], ◌++◌, length, Contains, map, ◌∙◌, sym, refl, subst, inl, inr, arith, length-append, ◌↔◌, Result}
+use Rattle.std.proofs.lemmas.List.{length-map}
 use Rattle.std.proofs.lemmas.Bool.{cases_Bool, false≢true}
 use Rattle.std.specs.Bool.{Decides}
 use Rattle.std.proofs.lemmas.Map.Made.{length-le_from_is_member, is_member-Decides}
@@ -19,6 +19,7 @@ use Rattle.gm_graph.specs.Private.VisitedTurns.{AllValidTurns, AreFirstTurns, Is
 use Rattle.gm_name_table.specs.Listed.{BeginsWith}
 use Rattle.gm_graph.proofs.Sameness.{turns_equivalence, exact_turn}
 use Rattle.gm_graph.proofs.Deepening.{IsDeep-among}
+use Rattle.gm_graph_select.proofs.RankedLists.{in_mapped}
 
 -- The first turns and more, each one that its vertex takes, and each of them done.
 pub record AreVisited (run : Run) (turns : List Turn) : Type 0 where
@@ -30,9 +31,6 @@ pub record AreVisited (run : Run) (turns : List Turn) : Type 0 where
 same_turn-Decides : (a b : Turn) → Decides (same_turn a b) (a ≡ b)
 same_turn-Decides a b = (exact_turn a b, λ e. subst (λ (t : Turn). same_turn a t ≡ true) e (turns_equivalence.refl a))
 
-Contains-map : {X Y : Type 0} (f : X → Y) (xs : List X) (x : X) → Contains xs x → Contains (map f xs) (f x)
-Contains-map f xs x (k, below, at) = (k, rw length-map below, get_or-map f xs k x (f x) below ∙ ap f at)
-
 -- both turns of each vertex
 both_turns : List ModuleVersion → List Turn
 both_turns vertices = map (λ x. turn x Top) vertices ++ map (λ x. turn x Deep) vertices
@@ -40,9 +38,9 @@ both_turns vertices = map (λ x. turn x Top) vertices ++ map (λ x. turn x Deep)
 among_both : (vertices : List ModuleVersion) (x : ModuleVersion) (d : Depth) → Contains vertices x → Contains (both_turns vertices) (turn x d)
 unfolding both_turns
 among_both vertices x Top h = Contains-append_left (map (λ y. turn y Top) vertices) (map (λ y. turn y Deep) vertices)
-    (turn x Top) (Contains-map (λ y. turn y Top) vertices x h)
+    (turn x Top) (in_mapped (λ y. turn y Top) vertices x h)
 among_both vertices x Deep h = Contains-append_right (map (λ y. turn y Top) vertices) (map (λ y. turn y Deep) vertices)
-    (turn x Deep) (Contains-map (λ y. turn y Deep) vertices x h)
+    (turn x Deep) (in_mapped (λ y. turn y Deep) vertices x h)
 
 length-both_turns : (vertices : List ModuleVersion) → length (both_turns vertices) ≡ length vertices + length vertices
 unfolding both_turns

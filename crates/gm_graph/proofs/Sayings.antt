@@ -23,7 +23,7 @@ one_file {run} {name} {a} {b} (answered reply ask is reads) (answered other may 
     one_reading run.sums name reply a b reads
     (subst (λ (r : Reply). IsFileReading run.sums name r b) (same_Some other reply (sym at ∙ is)) says)
 
-same_file : (f g : Dependency) → ◌≡◌ {A = Result Dependency Class} (Ok f) (Ok g) → f ≡ g
+pub same_file : (f g : Dependency) → ◌≡◌ {A = Result Dependency Class} (Ok f) (Ok g) → f ≡ g
 same_file f g e = cc e
 
 -- one file has one declared path, right or wrong

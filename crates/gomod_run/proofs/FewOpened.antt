@@ -13,10 +13,10 @@ use Rattle.gm_graph_select.specs.declared.step.Step.TheVariants.{Main as FromMai
 use Rattle.gm_graph_select.specs.Graph.{among, edge}
 use Rattle.gm_graph_select.proofs.Ascending.{member_cases, member_head, member_tail, no_member}
 use Rattle.gm_graph_select.proofs.Same.{AreSame}
+use Rattle.gm_graph_select.proofs.RankedLists.{from_mapped, in_mapped}
 use Rattle.gm_graph.specs.declared.cache.class.Class.{Class}
 use Rattle.gm_graph.specs.Run.{AreOpened, IsEdge, IsOpened, IsTop, Requires, Run, Says}
 use Rattle.gm_graph.proofs.LawProofs.{modules_say_one_thing}
-use Rattle.gm_graph.proofs.Mapped.{from_mapped, in_mapped}
 
 -- at most 65,536 modules are opened
 abbrev pub IsFew : Run → Type 0

@@ -14,7 +14,7 @@ use Rattle.gm_file.specs.Values.{is_folder_path}
 use Rattle.gm_graph_select.specs.declared.step.Step.TheVariants.{Main, Of}
 use Rattle.gm_graph_select.specs.BuildList.{Entry}
 use Rattle.gm_graph_select.proofs.Ascending.{member_head, member_tail}
-use Rattle.gm_graph.proofs.Mapped.{from_mapped}
+use Rattle.gm_graph_select.proofs.RankedLists.{from_mapped}
 use Rattle.gomod_run.specs.ListingTexts.{replacement_suffix, replacement_text, row_text}
 use Rattle.gomod_run.specs.ReportTexts.{line}
 use Rattle.gomod_run.specs.PrintedLines.{IsProperRight, IsProperRow, LineIsOfARow, LineSaysRow, ListHasLines, TextSaysRows}
@@ -50,10 +50,10 @@ version_has_no_feed text is = lacks 10 is_byte_of_version refl text (version-byt
 
 -- ---- where a text is cut
 
-heads : (a b : ℕ) (x y : List ℕ) → a ∷ x ≡ b ∷ y → a ≡ b
+pub heads : (a b : ℕ) (x y : List ℕ) → a ∷ x ≡ b ∷ y → a ≡ b
 heads a b x y e = cc e
 
-tails : (a b : ℕ) (x y : List ℕ) → a ∷ x ≡ b ∷ y → x ≡ y
+pub tails : (a b : ℕ) (x y : List ℕ) → a ∷ x ≡ b ∷ y → x ≡ y
 tails a b x y e = cc e
 
 -- what precedes the first such byte, and what follows it
