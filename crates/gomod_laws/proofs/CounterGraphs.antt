@@ -20,7 +20,7 @@ use Rattle.gomod_run.specs.PrintedLines.{AreProperRows, AreProperSteps, IsProper
 use Rattle.gomod_run.specs.Reports.{not_listed_line}
 use Rattle.gomod_run.specs.ListingTexts.{chain_text, graph_text, list_text}
 use Rattle.gomod_run.proofs.GraphLines.{text_says_edges, text_says_steps}
-use Rattle.gomod_run.proofs.ListLines.{cut_at, path_has_no_feed}
+use Rattle.gomod_run.proofs.ListLines.{cut_at}
 use Rattle.gomod_run.proofs.OneRead.{one_main}
 use Rattle.gomod_run.proofs.PrintedList.{all_rows}
 use Rattle.gomod_run.proofs.RunNames.{end_name, run_has_names, run_has_proper_edges}
@@ -32,6 +32,7 @@ use Rattle.gomod_laws.proofs.CounterLists.{a_is_not_b, b_one, each_of, rows_are}
 use Rattle.gomod_laws.proofs.FormattingProofs.{not_printed}
 use Rattle.gomod_laws.proofs.KnownVersions.{one_zero, one_zero_is}
 use Rattle.gomod_laws.proofs.ShownTexts.{same_text}
+use Rattle.gm_file_edit.proofs.Feeds.{path-plain}
 
 -- ---- walks
 
@@ -86,7 +87,7 @@ module _ (run : Given) (main : Main) (table : Option Sums) (found : AreFound run
       let text : main.path ++ (10 ∷ chain_text main.path rest) ≡ codes "m" ++ (10 ∷ chain_text (codes "m") known) =
       sym (append_assoc main.path (codes "\n") (chain_text main.path rest)) ∙ ap (chain_text main.path) (sym begins) ∙ e in
       let own = (cut_at 10 main.path (codes "m") (chain_text main.path rest) (chain_text (codes "m") known)
-      (path_has_no_feed main.path (run_has_names run main table found.read).0) m_has_no_feed text).0 in
+      (path-plain main.path (run_has_names run main table found.read).0) m_has_no_feed text).0 in
       (own, known_steps (FromMain ∷ known) proper (e ∙ ap (λ (m : List ℕ). chain_text m (FromMain ∷ known)) (sym own)))
 
 abbrev to_a : List Step

@@ -23,7 +23,7 @@ use Rattle.gomod_run.specs.PrintedLines.{AreProperRows, IsProperRow}
 use Rattle.gomod_run.specs.Reports.{not_listed_line}
 use Rattle.gomod_run.specs.ListingTexts.{up_to, list_text}
 use Rattle.gomod_run.proofs.GreatestRows.{as_build_list}
-use Rattle.gomod_run.proofs.ListLines.{Lacks, cut_at, lacks, path_has_no_blank, path_has_no_feed, text_says_rows}
+use Rattle.gomod_run.proofs.ListLines.{Lacks, cut_at, lacks, path_has_no_blank, text_says_rows}
 use Rattle.gomod_run.proofs.OneRead.{one_main}
 use Rattle.gomod_run.proofs.OneStore.{one_outcome}
 use Rattle.gomod_run.proofs.PrintedList.{all_rows, texts_join}
@@ -36,6 +36,7 @@ use Rattle.gomod_laws.proofs.FormattingProofs.{not_printed}
 use Rattle.gomod_laws.proofs.KnownVersions.{one_one_is, one_one_is_above, one_zero_is}
 use Rattle.gomod_laws.proofs.PrintedRow.{limited_member, printed_rows, spread_main}
 use Rattle.gomod_laws.proofs.ShownTexts.{same_text}
+use Rattle.gm_file_edit.proofs.Feeds.{path-plain}
 
 -- ---- lists of rows
 
@@ -87,7 +88,7 @@ b_is_no_row there = elim (member_cases main_entry (row_at b_one) (row_at a_one �
 
 -- the first line is that of the main module
 own_path : (main rest text : List ℕ) → IsPath main → ((main ++ []) ++ codes "\n") ++ rest ≡ codes "m" ++ (10 ∷ text) → main ≡ codes "m"
-own_path main rest text is e = (cut_at 10 main (codes "m") rest text (path_has_no_feed main is) m_has_no_feed (sym (spread_main main rest) ∙ e)).0
+own_path main rest text is e = (cut_at 10 main (codes "m") rest text (path-plain main is) m_has_no_feed (sym (spread_main main rest) ∙ e)).0
 
 module _ (run : Given) (main : Main) (table : Option Sums) (rows : List Entry) (found : AreFound run main table [])
     (are : AreRows (run_of main table run.told.asked) rows) where
@@ -193,7 +194,7 @@ main_is_missing run (main, table, selected, found, greatest, says) =
     let rest = list_text main.path (map (entry_of main.replaces) selected) in
     let text : codes "a.b v1.0.0" ++ (10 ∷ []) ≡ main.path ++ (10 ∷ rest) =
     same_text (codes "a.b v1.0.0\n") (list_text main.path rows) says ∙ spread_main main.path rest in
-    let own = (cut_at 10 (codes "a.b v1.0.0") main.path [] rest first_lacks (path_has_no_feed main.path is) text).0 in
+    let own = (cut_at 10 (codes "a.b v1.0.0") main.path [] rest first_lacks (path-plain main.path is) text).0 in
     let plain : Lacks 32 (codes "a.b v1.0.0") = subst (Lacks 32) (sym own) (path_has_no_blank main.path is) in
     plain.1.1.1.0 refl
 

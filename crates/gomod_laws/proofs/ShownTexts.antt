@@ -18,10 +18,11 @@ use Rattle.gomod_run.specs.PrintedLines.{AreProperEdges, AreProperRows, ArePrope
 use Rattle.gomod_run.specs.ListingTexts.{chain_text, graph_text, list_text, step_text}
 use Rattle.gomod_run.specs.ReportTexts.{vertex_text}
 use Rattle.gomod_run.proofs.GraphLines.{text_says_edges, text_says_steps}
-use Rattle.gomod_run.proofs.ListLines.{Lacks, both_lack, cut_at, has_it, path_has_no_blank, path_has_no_feed, text_says_rows, version_has_no_blank}
+use Rattle.gomod_run.proofs.ListLines.{Lacks, both_lack, cut_at, has_it, path_has_no_blank, text_says_rows, version_has_no_blank}
 use Rattle.gomod_run.proofs.RunNames.{run_has_names, run_has_proper_edges, run_has_proper_rows, run_has_proper_steps}
 use Rattle.gomod_run.proofs.PrintedList.{all_rows}
 use Rattle.gomod_laws.specs.Shown.{ShowsEdges, ShowsRows, ShowsSteps}
+use Rattle.gm_file_edit.proofs.Feeds.{path-plain}
 
 -- ---- texts
 
@@ -95,7 +96,7 @@ module _ (run : Given) (main : Main) where
         sym (first_row main.path others) ∙ ap (list_text main.path) (sym shows.are.entries_are) ∙ sym rows_text
         ∙ ap (list_text path) is ∙ first_row path more in
         (cut_at 10 main.path path (list_text main.path others) (list_text path more)
-        (path_has_no_feed main.path (own_path shows.table shows.found)) none text).0
+        (path-plain main.path (own_path shows.table shows.found)) none text).0
 
     pub rows_of_list : AreProperRows shown → main.path ≡ path → rows ≡ shown
     rows_of_list proper own =
@@ -142,7 +143,7 @@ module _ (run : Given) (main : Main) where
         let text : main.path ++ (10 ∷ chain_text main.path rest) ≡ path ++ (10 ∷ chain_text path more) =
         sym (first_step main.path rest) ∙ ap (chain_text main.path) (sym first) ∙ sym chain_is ∙ ap (chain_text path) is ∙ first_step path more in
         (cut_at 10 main.path path (chain_text main.path rest) (chain_text path more)
-        (path_has_no_feed main.path (own_path shows.table shows.found)) none text).0
+        (path-plain main.path (own_path shows.table shows.found)) none text).0
 
     pub steps_of_chain : AreProperSteps shown → main.path ≡ path → steps ≡ shown
     steps_of_chain proper own =

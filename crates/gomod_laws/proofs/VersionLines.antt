@@ -4,11 +4,12 @@ use Rattle.std.specs.List.{join_with_byte}
 use Rattle.std.proofs.lemmas.List.{append_cancel_left}
 use Rattle.gm_name.specs.Version.{IsVersion}
 use Rattle.gm_graph_select.proofs.Ascending.{member_head, member_tail}
-use Rattle.gomod_run.proofs.ListLines.{version_has_no_blank, version_has_no_feed}
+use Rattle.gomod_run.proofs.ListLines.{version_has_no_blank}
 use Rattle.gomod_run.specs.Versions.{versions_line}
 use Rattle.gomod_laws.specs.VersionLaws.{LineSaysVersions}
 use Rattle.gomod_laws.proofs.KnownVersions.{first_byte}
 use Rattle.gomod_laws.proofs.PrintedRow.{IsStop, IsWhole, cut_whole, tails}
+use Rattle.gm_file_edit.proofs.Feeds.{version-plain}
 
 -- the versions, each after a blank
 abbrev spaced : List (List ℕ) → List ℕ
@@ -31,7 +32,7 @@ stops [] = (10, [], refl, inr refl)
 stops (version ∷ versions) = (32, (version ++ spaced versions) ++ (10 ∷ []), refl, inl refl)
 
 whole : (version : List ℕ) → IsVersion version → IsWhole version
-whole version is = (version_has_no_blank version is, version_has_no_feed version is)
+whole version is = (version_has_no_blank version is, version-plain version is)
 
 abbrev AreVersions : List (List ℕ) → Type 0
 AreVersions versions = (version : List ℕ) → Contains versions version → IsVersion version

@@ -109,7 +109,7 @@ blank_lacked text all = lacks 32 is_byte_of_word refl text all
 begins_plain : Lacks 10 (codes "Malformed ")
 begins_plain = lacks 10 (λ b. nat_lt 10 b) refl (codes "Malformed ") refl
 
-blank_plain : Lacks 10 (codes " ")
+pub blank_plain : Lacks 10 (codes " ")
 blank_plain = lacks 10 (λ b. nat_lt 10 b) refl (codes " ") refl
 
 malformed_plain : (number : ℕ) (kind : Misreading) → number ≤ 16777216 → Lacks 10 (malformed_text number kind)

@@ -13,7 +13,8 @@ use Rattle.gomod_run.specs.Reports.{class_text}
 use Rattle.gomod_run.specs.ReportTexts.{vertex_text}
 use Rattle.gomod_run.proofs.ClassWords.{class_has_no_feed, says_class}
 use Rattle.gomod_run.proofs.GraphLines.{at_is_no_feed, says_vertex, vertex_lacks}
-use Rattle.gomod_run.proofs.ListLines.{Lacks, both_lack, cut_at, found_line, lacks, lines_are, same_are, path_has_no_feed, version_has_no_feed}
+use Rattle.gomod_run.proofs.ListLines.{Lacks, both_lack, cut_at, found_line, lacks, lines_are, same_are}
+use Rattle.gm_file_edit.proofs.Feeds.{path-plain, version-plain}
 
 path_lacks_colon : (path : List ℕ) → IsPath path → Lacks 58 path
 path_lacks_colon path is = lacks 58 is_byte_of_path refl path (path-bytes path is)
@@ -34,7 +35,7 @@ fault_has_no_feed : (one : Fault) → IsProperFault one → HasNoLineFeed (fault
 fault_has_no_feed one proper =
     both_lack 10 (vertex_text one.vertex ++ codes ": ") (class_text one.class)
     (both_lack 10 (vertex_text one.vertex) (codes ": ")
-    (vertex_lacks 10 at_is_no_feed one.vertex (path_has_no_feed one.vertex.0 proper.0) (version_has_no_feed one.vertex.1 proper.1)) colon_lacks_feed)
+    (vertex_lacks 10 at_is_no_feed one.vertex (path-plain one.vertex.0 proper.0) (version-plain one.vertex.1 proper.1)) colon_lacks_feed)
     (class_has_no_feed one.class proper.2)
 
 spread : (x : ModuleVersion) (class : Class) → (vertex_text x ++ codes ": ") ++ class_text class ≡ vertex_text x ++ 58 ∷ (32 ∷ class_text class)

@@ -12,21 +12,20 @@ use Rattle.gm_graph_select.specs.Graph.{edge}
 use Rattle.gomod_run.specs.ListingTexts.{edge_text, step_text}
 use Rattle.gomod_run.specs.ReportTexts.{vertex_text}
 use Rattle.gomod_run.specs.PrintedLines.{ChainHasLines, GraphHasLines, IsProperEdge, IsProperStep, LineIsOfAStep, LineIsOfAnEdge, LineSaysEdge, LineSaysStep, TextSaysEdges, TextSaysSteps}
-use Rattle.gomod_run.proofs.ListLines.{Lacks, both_lack, cut_at, found_line, has_it, lacks, lines_are, same_are, path_has_no_blank, path_has_no_feed, version_has_no_blank, version_has_no_feed}
+use Rattle.gomod_run.proofs.ListLines.{Lacks, both_lack, cut_at, found_line, has_it, lacks, lines_are, same_are, path_has_no_blank, version_has_no_blank}
+use Rattle.gomod_run.proofs.ClassWords.{blank_plain}
+use Rattle.gm_file_edit.proofs.Feeds.{path-plain, version-plain}
 
 -- ---- steps
 
 pub vertex_lacks : (c : ℕ) → 64 ≢ c → (x : ModuleVersion) → Lacks c x.0 → Lacks c x.1 → Lacks c (vertex_text x)
 vertex_lacks c other x p v = both_lack c (x.0 ++ codes "@") x.1 (both_lack c x.0 (codes "@") p (other, tt)) v
 
-at_is_no_blank : ◌≢◌ {A = ℕ} 64 32
+pub at_is_no_blank : ◌≢◌ {A = ℕ} 64 32
 at_is_no_blank e = omega (arith, e)
 
 pub at_is_no_feed : ◌≢◌ {A = ℕ} 64 10
 at_is_no_feed e = omega (arith, e)
-
-blank_lacks_feed : Lacks 10 (codes " ")
-blank_lacks_feed = ((λ e. omega (arith, e)), tt)
 
 path_lacks_at : (path : List ℕ) → IsPath path → Lacks 64 path
 path_lacks_at path is = lacks 64 is_byte_of_path refl path (path-bytes path is)
@@ -47,9 +46,9 @@ module _ (main : List ℕ) (is_path : IsPath main) where
       vertex_lacks 32 at_is_no_blank x (path_has_no_blank x.0 proper.0) (version_has_no_blank x.1 proper.1)
 
   step_has_no_feed : (step : Step) → IsProperStep step → HasNoLineFeed (step_text main step)
-  step_has_no_feed Main proper = path_has_no_feed main is_path
+  step_has_no_feed Main proper = path-plain main is_path
   step_has_no_feed (Of x) proper =
-      vertex_lacks 10 at_is_no_feed x (path_has_no_feed x.0 proper.0) (version_has_no_feed x.1 proper.1)
+      vertex_lacks 10 at_is_no_feed x (path-plain x.0 proper.0) (version-plain x.1 proper.1)
 
   main_is_no_vertex : (x : ModuleVersion) → main ≡ vertex_text x → ⊥
   main_is_no_vertex x e = has_it 64 x.0 x.1 (subst (Lacks 64) (e ∙ append_assoc x.0 (codes "@") x.1) (path_lacks_at main is_path))
@@ -63,7 +62,7 @@ module _ (main : List ℕ) (is_path : IsPath main) where
   edge_has_no_feed : (one : Edge) → IsProperEdge one → HasNoLineFeed (edge_text main one)
   edge_has_no_feed one proper =
       both_lack 10 (step_text main one.from ++ codes " ") (vertex_text one.to)
-      (both_lack 10 (step_text main one.from) (codes " ") (step_has_no_feed one.from proper.0) blank_lacks_feed)
+      (both_lack 10 (step_text main one.from) (codes " ") (step_has_no_feed one.from proper.0) blank_plain)
       (step_has_no_feed (Of one.to) proper.1)
 
   says_edge : (one other : Edge) → IsProperEdge one → IsProperEdge other → edge_text main one ≡ edge_text main other → one ≡ other

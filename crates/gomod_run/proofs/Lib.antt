@@ -36,7 +36,6 @@ pub mod GraphLines
 pub mod FileNames
 pub mod FolderNames
 pub mod RunNames
-pub mod PathStarts
 pub mod ClassWords
 pub mod FaultLines
 pub mod LineNumbers

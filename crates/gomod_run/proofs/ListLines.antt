@@ -18,7 +18,8 @@ use Rattle.gm_graph_select.proofs.RankedLists.{from_mapped}
 use Rattle.gomod_run.specs.ListingTexts.{replacement_suffix, replacement_text, row_text}
 use Rattle.gomod_run.specs.ReportTexts.{line}
 use Rattle.gomod_run.specs.PrintedLines.{IsProperRight, IsProperRow, LineIsOfARow, LineSaysRow, ListHasLines, TextSaysRows}
-use Rattle.gomod_run.proofs.PathStarts.{begins_no_folder}
+use Rattle.gm_file_edit.proofs.Feeds.{path-plain, version-plain}
+use Rattle.gm_file_edit.proofs.Folders.{begins-no-folder}
 
 -- ---- texts without a byte
 
@@ -39,14 +40,8 @@ both_lack c (x ∷ a) b p q = (p.0, both_lack c a b p.1 q)
 pub path_has_no_blank : (text : List ℕ) → IsPath text → Lacks 32 text
 path_has_no_blank text is = lacks 32 is_byte_of_path refl text (path-bytes text is)
 
-pub path_has_no_feed : (text : List ℕ) → IsPath text → HasNoLineFeed text
-path_has_no_feed text is = lacks 10 is_byte_of_path refl text (path-bytes text is)
-
 pub version_has_no_blank : (text : List ℕ) → IsVersion text → Lacks 32 text
 version_has_no_blank text is = lacks 32 is_byte_of_version refl text (version-bytes text is)
-
-pub version_has_no_feed : (text : List ℕ) → IsVersion text → HasNoLineFeed text
-version_has_no_feed text is = lacks 10 is_byte_of_version refl text (version-bytes text is)
 
 -- ---- where a text is cut
 
@@ -131,7 +126,7 @@ blank_has_no_feed = ((λ e. cc e), tt)
 
 name_has_no_feed : (path version : List ℕ) → IsPath path → IsVersion version → HasNoLineFeed ((path ++ codes " ") ++ version)
 name_has_no_feed path version p v =
-    plain_append (path ++ codes " ") version (plain_append path (codes " ") (path_has_no_feed path p) blank_has_no_feed) (version_has_no_feed version v)
+    plain_append (path ++ codes " ") version (plain_append path (codes " ") (path-plain path p) blank_has_no_feed) (version-plain version v)
 
 suffix_has_no_feed : (right : Option Right) → IsProperRight right → HasNoLineFeed (replacement_suffix right)
 suffix_has_no_feed None proper = tt
@@ -140,7 +135,7 @@ suffix_has_no_feed (Some (Module path version)) proper =
     plain_append (codes " => ") ((path ++ codes " ") ++ version) mark_has_no_feed (name_has_no_feed path version proper.0 proper.1)
 
 row_has_no_feed : (main : List ℕ) → IsPath main → (row : Entry) → IsProperRow row → HasNoLineFeed (row_text main row)
-row_has_no_feed main is (Main, right) proper = rw proper (plain_append main [] (path_has_no_feed main is) tt)
+row_has_no_feed main is (Main, right) proper = rw proper (plain_append main [] (path-plain main is) tt)
 row_has_no_feed main is (Of x, right) proper =
     plain_append ((x.0 ++ codes " ") ++ x.1) (replacement_suffix right) (name_has_no_feed x.0 x.1 proper.0 proper.1) (suffix_has_no_feed right proper.2)
 
@@ -149,7 +144,7 @@ row_has_no_feed main is (Of x, right) proper =
 folder_is_no_module : (text path version : List ℕ) → is_folder_path text ≡ true → IsPath path → text ≡ (path ++ codes " ") ++ version → ⊥
 folder_is_no_module text path version folder is e =
     let whole : text ≡ path ++ (32 ∷ version) = e ∙ append_assoc path (codes " ") version in
-    true≢false (sym folder ∙ ap is_folder_path whole ∙ begins_no_folder path (32 ∷ version) is)
+    true≢false (sym folder ∙ ap is_folder_path whole ∙ begins-no-folder path (32 ∷ version) is)
 
 says_right : (one other : Right) → IsProperRight (Some one) → IsProperRight (Some other) → replacement_text one ≡ replacement_text other → one ≡ other
 says_right (Folder text) (Folder second) p q e = ap Folder e

@@ -24,10 +24,10 @@ one_told : (faults : List Fault) (prints others : Outcome → Type 0) (a b : Out
 one_told [] prints others a b once is other = once is other
 one_told (first ∷ faults) prints others a b once is other = is ∙ sym other
 
-not_broken : (names : List Name) (name : Name) → names ≡ name ∷ [] → names ≡ [] → ⊥
+pub not_broken : (names : List Name) (name : Name) → names ≡ name ∷ [] → names ≡ [] → ⊥
 not_broken names name some none = let same : name ∷ [] ≡ [] = sym some ∙ none in cc same
 
-one_failure : (names : List Name) (n m : Name) → names ≡ n ∷ [] → names ≡ m ∷ [] → n ≡ m
+pub one_failure : (names : List Name) (n m : Name) → names ≡ n ∷ [] → names ≡ m ∷ [] → n ≡ m
 one_failure names n m is other = let same : n ∷ [] ≡ m ∷ [] = sym is ∙ other in cc same
 
 -- too many modules are opened by the one run, so the other can't have found the faults of all

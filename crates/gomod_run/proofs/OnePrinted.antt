@@ -1,8 +1,6 @@
 -- A command prints one thing, and the same of runs with the same edges.
 use Rattle.std.proofs.Common.{◌≡◌, ◌≢◌, ◌∙◌, ◌↔◌, ℕ, Bool, true, false, List, Option, Some, None, sym, ap, refl, subst, inl, inr}
-use Rattle.std.specs.Cmp.{IsTotalOrder, on_total}
 use Rattle.std.specs.Str.{bytes_eq}
-use Rattle.gm_name.specs.ModuleVersion.{pair_cmp, pair_total}
 use Rattle.gm_name.proofs.Texts.{bytes_eq-differ, bytes_eq-same}
 use Rattle.gm_file.specs.Main.{Main}
 use Rattle.gm_graph_select.specs.declared.step.Step.{Step}
@@ -18,6 +16,7 @@ use Rattle.gm_graph_select.proofs.Same.{AreSame, same_back, same_build_list, sam
 use Rattle.gm_graph.specs.declared.fault.Fault.{Fault}
 use Rattle.gm_graph.specs.Run.{AreEdges, AreFaults, AreRows, IsEdge, Run}
 use Rattle.gm_graph.proofs.RunLemmas.{Agrees, fault}
+use Rattle.gm_graph.proofs.LawProofs.{faults_total}
 use Rattle.gomod_run.specs.ListingTexts.{chain_text, graph_text, up_to, list_text}
 use Rattle.gomod_run.specs.Outcomes.{Prints, PrintsChain, PrintsGraph, PrintsList, PrintsRows, ShowsChain, no_path, path_listed, path_unlisted}
 use Rattle.gomod_run.specs.Outcome.{Outcome, text_outcome, refusal_outcome}
@@ -28,9 +27,6 @@ use Rattle.gomod_run.proofs.FewOpened.{IsFew, edges_listed}
 
 both : {A B C D : Type 0} → A ↔ B → C ↔ D → B ↔ D → A ↔ C
 both f g h = ((λ a. g.1 (h.0 (f.0 a))), (λ c. f.1 (h.1 (g.0 c))))
-
-faults_total : IsTotalOrder (λ (a b : Fault). pair_cmp a.vertex b.vertex)
-faults_total = on_total (λ (f : Fault). f.vertex) pair_total
 
 pub one_faults : (r s : Run) (faults others : List Fault) → Agrees r s → Agrees s r → AreFaults r faults → AreFaults s others → faults ≡ others
 one_faults r s faults others into back is other =

@@ -13,7 +13,7 @@ use Rattle.gomod_run.specs.Reports.{device_line}
 use Rattle.gomod_run.specs.Laws.{OneForStores, OneOutcome}
 use Rattle.gomod_run.specs.Runs.{FmtEnds}
 use Rattle.gomod_run.specs.Versions.{AreShown, HasListed, LatestSays, VersionsEnds, VersionsNeed, all_listed, bad_file, device, list_refusal, no_list, not_retracted, printed}
-use Rattle.gomod_run.proofs.OneOutcome.{one_end}
+use Rattle.gomod_run.proofs.OneOutcome.{one_end, not_broken, one_failure}
 use Rattle.gomod_run.proofs.OneQueryStore.{itself}
 use Rattle.gomod_run.proofs.OnePrinted.{chain_once, graph_once, list_once}
 use Rattle.gomod_run.proofs.OneVersions.{versions_once}
@@ -100,12 +100,6 @@ by_failed path all answers failed outcome (bad_file versions latest reply class 
     inr (none, bad_file versions latest reply class says refl told)
 by_failed path all answers failed outcome (printed shown are none told) = inr (none, printed shown are refl told)
 
-some_or_none : (names : List Name) (name : Name) → names ≡ name ∷ [] → names ≡ [] → ⊥
-some_or_none names name some none = let same : name ∷ [] ≡ [] = sym some ∙ none in cc same
-
-one_name : (names : List Name) (one other : Name) → names ≡ one ∷ [] → names ≡ other ∷ [] → one ≡ other
-one_name names one other is be = let same : one ∷ [] ≡ other ∷ [] = sym is ∙ be in cc same
-
 versions_alike : (path : List ℕ) (all : Bool) (told next : Answers) (a b : Outcome) → AnswerAlike told.asked next.asked → told.failed ≡ next.failed
     → VersionsEnds path all (answer_in told.asked) told.failed a → VersionsEnds path all (answer_in next.asked) next.failed b → a ≡ b
 versions_alike path all told next a b alike failing is be = by (by_failed path all one told.failed a is) (by_failed path all other next.failed b be)
@@ -119,9 +113,9 @@ versions_alike path all told next a b alike failing is be = by (by_failed path a
     by : EndsAtDevice told.failed a ⊎ ((told.failed ≡ []) × VersionsEnds path all one [] a)
         → EndsAtDevice next.failed b ⊎ ((next.failed ≡ []) × VersionsEnds path all other [] b) → a ≡ b
     by (inl (name, some, says)) (inl (last, more, tells)) =
-        says ∙ ap (λ (n : Name). failure_outcome (device_line n)) (one_name told.failed name last some (failing ∙ more)) ∙ sym tells
-    by (inl (name, some, says)) (inr (none, ends)) = absurd (some_or_none told.failed name some (failing ∙ none))
-    by (inr (none, ends)) (inl (name, some, says)) = absurd (some_or_none next.failed name some (sym failing ∙ none))
+        says ∙ ap (λ (n : Name). failure_outcome (device_line n)) (one_failure told.failed name last some (failing ∙ more)) ∙ sym tells
+    by (inl (name, some, says)) (inr (none, ends)) = absurd (not_broken told.failed name some (failing ∙ none))
+    by (inr (none, ends)) (inl (name, some, says)) = absurd (not_broken next.failed name some (sym failing ∙ none))
     by (inr (none, ends)) (inr (nothing, also)) =
         versions_once path all (both_of one other) a b
         (kept_outcome path all one (both_of one other) (λ name reply need e. first_kept (one name) (other name) reply e) a ends)

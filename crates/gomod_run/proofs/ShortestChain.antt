@@ -2,8 +2,9 @@
 use Rattle.std.proofs.Common.{◌≡◌, ◌∙◌, ◌≤◌, ℕ, suc, List, [], ◌∷◌, length, refl, arith, inl, inr, length-append}
 use Rattle.gm_graph_select.specs.declared.step.Step.{Step}
 use Rattle.gm_graph_select.specs.declared.step.Step.TheVariants.{Of}
-use Rattle.gm_graph_select.specs.Chains.{IsChain, IsLevel, Leads, along, at_main, begins, goes_on}
+use Rattle.gm_graph_select.specs.Chains.{IsChain, Leads, along, at_main, begins, goes_on}
 use Rattle.gm_graph_select.specs.Graph.{Edges}
+use Rattle.gm_graph_select.proofs.Lawful.{shortest}
 use Rattle.gm_graph.specs.Run.{IsEdge, run_of}
 use Rattle.gomod_run.specs.ListingLaws.{PrintedChainIsShortest, IsWalk, further, here}
 use Rattle.gomod_run.specs.Outcomes.{PrintsChain}
@@ -20,18 +21,9 @@ walk_edges E (further {s} {y} {steps} walk edge) =
     let (n, long, leads) = walk_edges E walk in
     (suc n, length-append steps (Of y ∷ []) ∙ omega (arith, long), along leads edge)
 
--- a chain has as many edges as the level of its last step
-chain_edges : (E : Edges) {s : Step} {steps : List Step} → IsChain E s steps → (n : ℕ) × (length steps ≡ suc n) × IsLevel E s n
-chain_edges E begins = (0, refl, record { leads = at_main; least = λ m leads. omega arith })
-chain_edges E (goes_on {s} {y} {steps} chain before) =
-    let (n, long, level) = chain_edges E chain in
-    let low = level.least before.level before.nearer.leads in
-    let high = before.nearer.least n level.leads in
-    (suc before.level, length-append steps (Of y ∷ []) ∙ omega (arith, long, low, high), before.further)
-
 no_shorter : (E : Edges) (s : Step) (steps others : List Step) → IsChain E s steps → IsWalk E s others → length steps ≤ length others
 no_shorter E s steps others chain walk =
-    let (n, long, level) = chain_edges E chain in
+    let (n, long, level) = shortest E s steps chain in
     let (m, far, leads) = walk_edges E walk in
     let least = level.least m leads in
     omega (arith, long, far, least)
