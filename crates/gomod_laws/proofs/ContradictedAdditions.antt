@@ -14,11 +14,12 @@ use Rattle.gm_graph_select.proofs.Ascending.{member_cases, member_head, no_membe
 use Rattle.gomod_run.specs.Outcomes.{Given}
 use Rattle.gomod_run.specs.Outcome.{Outcome, text_outcome}
 use Rattle.gomod_run.specs.ListingTexts.{edge_text}
+use Rattle.gomod_run.proofs.ListLines.{heads}
 use Rattle.gomod_laws.specs.CounterAdditions.{ChainIsByNoLine, ChainIsToAnother, LineIsLost, RowIsLower, ShowA, UnlistedIsShown, chain_by_b, chain_to_b}
 use Rattle.gomod_laws.specs.Counterexamples.{a_one}
 use Rattle.gomod_laws.specs.RowLaws.{IsExplained, AreChained, further, here, text_of}
 use Rattle.gomod_laws.proofs.Contradicted.{edge_to, edges_are, list_main, only_row, row_there}
-use Rattle.gomod_laws.proofs.KnownVersions.{first_byte, one_one, one_one_is, one_one_is_above, one_zero, one_zero_is, versions_differ}
+use Rattle.gomod_laws.proofs.KnownVersions.{one_one, one_one_is, one_one_is_above, one_zero, one_zero_is, versions_differ}
 use Rattle.gomod_laws.proofs.ShownTexts.{same_text}
 
 -- ---- additions
@@ -68,7 +69,7 @@ ends_in_digit front e =
     let parts = length-append front (codes "m") in
     let size : length front ≡ 11 = omega (arith, whole, parts) in
     let behind : drop 11 the_line ≡ codes "m" = ap (drop 11) e ∙ drop_at front (codes "m") 11 size in
-    let digit : 48 ≡ 109 = first_byte 48 109 _ _ behind in omega (arith, digit)
+    let digit : 48 ≡ 109 = heads 48 109 _ _ behind in omega (arith, digit)
 
 -- no line leads to m
 way_to_m : (last : List ℕ) (lines : List (List ℕ)) → Ways last lines → last ≡ codes "m" → lines ≡ codes "m" ∷ []
@@ -80,7 +81,7 @@ way_to_m last lines (further {last = before} {lines = others} next leads there) 
 
 -- and one to a.b v1.0.0
 way_to_a : (last : List ℕ) (lines : List (List ℕ)) → Ways last lines → last ≡ codes "a.b@v1.0.0" → lines ≡ codes "m" ∷ codes "a.b@v1.0.0" ∷ []
-way_to_a last lines here is = let first : 109 ≡ 97 = first_byte 109 97 _ _ is in absurd (omega (arith, first))
+way_to_a last lines here is = let first : 109 ≡ 97 = heads 109 97 _ _ is in absurd (omega (arith, first))
 way_to_a last lines (further {last = before} {lines = others} next leads there) is =
     let text : codes "m" ++ codes " a.b@v1.0.0" ≡ before ++ codes " a.b@v1.0.0" =
     line_only ((before ++ codes " ") ++ next) there ∙ ap (λ (t : List ℕ). (before ++ codes " ") ++ t) is
@@ -107,13 +108,13 @@ module _ (rows : List Entry) (edges : List Edge) (main : Main) (list_run graph_r
 
   no_row_of_b : (row : Entry) → Contains rows row → path_of main.path row.0 ≡ codes "b.c" → ⊥
   no_row_of_b (FromMain, right) there is =
-      let letter : 109 ≡ 98 = first_byte 109 98 _ _ (sym (list_main list_run main one_zero rows show.in_list) ∙ is) in omega (arith, letter)
+      let letter : 109 ≡ 98 = heads 109 98 _ _ (sym (list_main list_run main one_zero rows show.in_list) ∙ is) in omega (arith, letter)
   no_row_of_b (Of x, right) there is =
       let own : x ≡ (codes "a.b", one_zero) = only_row list_run main one_zero one_zero_is rows show.in_list x right there in
-      let letter : 97 ≡ 98 = first_byte 97 98 _ _ (sym (ap (λ (y : ModuleVersion). y.0) own) ∙ is) in omega (arith, letter)
+      let letter : 97 ≡ 98 = heads 97 98 _ _ (sym (ap (λ (y : ModuleVersion). y.0) own) ∙ is) in omega (arith, letter)
 
 letters_differ : (rest more : List ℕ) → codes "m\nb.c" ++ rest ≡ codes "m\na.b" ++ more → ⊥
-letters_differ rest more e = let letter : 98 ≡ 97 = first_byte 98 97 _ _ (ap (drop 2) e) in omega (arith, letter)
+letters_differ rest more e = let letter : 98 ≡ 97 = heads 98 97 _ _ (ap (drop 2) e) in omega (arith, letter)
 
 pub chain_is_by_no_line : ChainIsByNoLine
 chain_is_by_no_line rows edges main list_run graph_run show law =

@@ -1,8 +1,8 @@
 -- What the laws of `edit` conclude is false of outputs that contradict them.
 use Rattle.std.proofs.Common.{◌≡◌, ap, arith, codes, drop, inl, inr, refl, sym}
 use Rattle.gomod_run.specs.Outcome.{Outcome}
+use Rattle.gomod_run.proofs.ListLines.{heads}
 use Rattle.gomod_laws.specs.CounterOthers.{FormatsAnother, NeitherFormats, TwiceIsRefused, TwicePrintsAnother, file_of_m, file_of_n}
-use Rattle.gomod_laws.proofs.KnownVersions.{first_byte}
 use Rattle.gomod_laws.proofs.ShownTexts.{same_text}
 
 codes_differ : (a b : Outcome) → a.status ≡ 0 → b.status ≡ 1 → a ≡ b → ⊥
@@ -11,7 +11,7 @@ codes_differ a b p q e = let codes_are : a.status ≡ b.status = ap (λ (o : Out
 files_differ : file_of_m ≡ file_of_n → ⊥
 files_differ e =
     let text = same_text (codes "module m\n") (codes "module n\n") e in
-    let letter : 109 ≡ 110 = first_byte 109 110 _ _ (ap (drop 7) text) in omega (arith, letter)
+    let letter : 109 ≡ 110 = heads 109 110 _ _ (ap (drop 7) text) in omega (arith, letter)
 
 pub twice_prints_another : TwicePrintsAnother
 twice_prints_another number (inl same) = files_differ same

@@ -15,6 +15,7 @@ use Rattle.gm_graph.specs.declared.cache.class.Class.{Class}
 use Rattle.gm_graph.specs.Reading.{file_of}
 use Rattle.gm_graph.specs.Run.{AreEdges, FileSays, IsEdge, IsOpened, IsTop, Requires, Run, Says, answered, faulty, from_deep, from_main, from_top, sound, unaskable, wrong_path}
 use Rattle.gm_graph.proofs.LawProofs.{modules_say_one_thing}
+use Rattle.gm_graph.proofs.Sayings.{same_file}
 use Rattle.gm_graph_select.specs.declared.step.Edge.{Edge}
 use Rattle.gm_graph_select.specs.declared.step.Step.{Step}
 use Rattle.gm_graph_select.specs.declared.step.Step.TheVariants.{Main as FromMain, Of}
@@ -40,9 +41,6 @@ pairs_of R [] h = λ i j d lt below. absurd (omega (arith, below))
 pairs_of R (x ∷ xs) h = AllPairs-cons R x xs (all_of (R x) xs h.0) (pairs_of R xs h.1)
 
 -- ---- what the module of the answered file requires, and no other
-
-same_file : (a b : Dependency) → ◌≡◌ {A = Result Dependency Class} (Ok a) (Ok b) → a ≡ b
-same_file a b e = cc e
 
 -- the path and the version of a module's own file
 abbrev own : Name → ModuleVersion

@@ -29,12 +29,12 @@ use Rattle.gomod_run.specs.Outcomes.{AreFound, FilesReadAs, ListEnds, bad_main, 
 use Rattle.gomod_run.specs.Outcome.{text_outcome, refusal_outcome}
 use Rattle.gomod_run.proofs.OneRead.{misread_or_main, one_main}
 use Rattle.gomod_run.proofs.OneStore.{one_outcome}
+use Rattle.gomod_run.proofs.ListLines.{heads}
 use Rattle.gomod_words.specs.declared.usage.Command.TheVariants.{List as Rows}
 use Rattle.gomod_laws.specs.ExampleRuns.{BadSumIsRefused, EmptyIsRefused, HasNoOutcome, IsListedAlone, RequiredIsAsked, alone, low_name, main_requiring, requiring, run_with_bad_sum, top_name, top_one}
 use Rattle.gomod_laws.specs.ExampleRuns as example
 use Rattle.gomod_laws.proofs.ExampleEdges.{none_opened, pairs_of}
 use Rattle.gomod_laws.proofs.ExampleFiles.{empty_is_malformed, files_are_read}
-use Rattle.gomod_laws.proofs.KnownVersions.{first_byte}
 
 nothing_twice : IsDistinct same_name []
 unfolding IsDistinct
@@ -225,7 +225,7 @@ path_in (list_file path) = []
 
 names_differ : top_name ≡ low_name → ⊥
 unfolding path_in
-names_differ e = let letter : 116 ≡ 108 = first_byte 116 108 _ _ (ap path_in e) in omega (arith, letter)
+names_differ e = let letter : 116 ≡ 108 = heads 116 108 _ _ (ap path_in e) in omega (arith, letter)
 
 one_of : (one other : Name) → one ∷ [] ≡ other ∷ [] → one ≡ other
 one_of one other e = cc e

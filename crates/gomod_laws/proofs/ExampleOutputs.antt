@@ -14,8 +14,8 @@ use Rattle.gomod_run.specs.Program.{IsOutcomeUnless, IsUnread, any_input, anythi
 use Rattle.gomod_words.specs.Given.{first_unreadable}
 use Rattle.gomod_words.specs.Usage.{unreadable_text, version_line}
 use Rattle.gomod_run.specs.Written.{EndsAsStated, IsWritten}
+use Rattle.gomod_run.proofs.ListLines.{heads}
 use Rattle.gomod_laws.proofs.ExampleLines.{ascii_utf8}
-use Rattle.gomod_laws.proofs.KnownVersions.{first_byte}
 use Rattle.gomod_laws.specs.ExampleOutputs.{EndIsStated, EndsBy, FileIsRead, InputIsHeld, InputIsUnread, PrintsText, WithInput, WordsAreGiven, also_unreadable, empty, version_flag, other, path, text, unreadable, with_bad_line, with_no_memory, with_other, with_text}
 
 -- ---- a run ends
@@ -170,7 +170,7 @@ unfolding lib.Utf8.encode
 not_last ends =
     let same = shown_status (unreadable ∷ also_unreadable ∷ []) unreadable
     (usage_error (unreadable_text also_unreadable)) (byte_unreadable (also_unreadable ∷ [])) ends in
-    let digit : 101 ≡ 102 = first_byte 101 102 _ _ (ap (λ (o : Outcome). drop 20 o.report) same) in omega (arith, digit)
+    let digit : 101 ≡ 102 = heads 101 102 _ _ (ap (λ (o : Outcome). drop 20 o.report) same) in omega (arith, digit)
 
 pub words_are_given : WordsAreGiven
 words_are_given = record {

@@ -7,8 +7,8 @@ use Rattle.gm_store_sums.specs.declared.sum_table.Sum.{Sum}
 use Rattle.gm_store_sums.specs.declared.sum_table.Sum.TheVariants.{Good, Unlisted, Differs}
 use Rattle.gm_graph_select.proofs.Ascending.{member_cases, no_member}
 use Rattle.gomod_run.proofs.OneRead.{one_says}
+use Rattle.gomod_run.proofs.ListLines.{heads}
 use Rattle.gomod_laws.specs.ExampleSums.{SaysOnly, SumsSay, one_sum, two_sums}
-use Rattle.gomod_laws.proofs.KnownVersions.{first_byte}
 
 -- ---- a go.sum says one thing of a hash
 
@@ -56,13 +56,13 @@ no_other : (other : List ℕ) → IsSum one_sum (codes "a.b") (codes "v1.0.0") o
 no_other other is = sym (ap third (row_is (codes "v1.0.0/go.mod") (codes "h1:A") (codes "v1.0.0/go.mod") other is.line))
 
 letters_differ : codes "h1:A" ≡ codes "h1:B" → ⊥
-letters_differ e = let letter : 65 ≡ 66 = first_byte 65 66 _ _ (ap (drop 3) e) in omega (arith, letter)
+letters_differ e = let letter : 65 ≡ 66 = heads 65 66 _ _ (ap (drop 3) e) in omega (arith, letter)
 
 no_later : (other : List ℕ) → IsSum one_sum (codes "a.b") (codes "v1.1.0") other → ⊥
 no_later other is =
     let name : codes "v1.0.0/go.mod" ≡ codes "v1.1.0/go.mod" =
     ap second (row_is (codes "v1.0.0/go.mod") (codes "h1:A") (codes "v1.1.0/go.mod") other is.line) in
-    let digit : 48 ≡ 49 = first_byte 48 49 _ _ (ap (drop 3) name) in omega (arith, digit)
+    let digit : 48 ≡ 49 = heads 48 49 _ _ (ap (drop 3) name) in omega (arith, digit)
 
 -- ---- two lines, and lines that are passed over
 

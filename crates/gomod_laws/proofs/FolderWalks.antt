@@ -10,16 +10,10 @@ use Rattle.gm_store.specs.declared.fallback.proxy_list.Mark.TheVariants.{Bar, Co
 use Rattle.gm_store.specs.Asked.{Name, Reply, bytes, folder_file, list_file, mod_file}
 use Rattle.gm_store.specs.FoldersInMemory.{result_at}
 use Rattle.gm_store.specs.Steps.{Seen, StopsAt, absent, failed, found, outcome_of, step_of, too_long}
-use Rattle.gm_store.proofs.Stops.{held_stop, one_stop}
+use Rattle.gm_store.proofs.Stops.{held_stop, one_stop, unmarked}
 use Rattle.gomod_laws.specs.FolderLaws.{HasOneMore, FolderMayAnswer}
 
 -- ---- one more result and one more mark
-
-unmarked : (seen : Seen) → step_of seen None ≢ Go
-unmarked (found content) e = cc e
-unmarked too_long e = cc e
-unmarked absent e = cc e
-unmarked failed e = cc e
 
 -- a request that goes on after a folder goes on as before
 goes_again : (marks : List Mark) (mark : Mark) (k : ℕ) (seen : Seen) → step_of seen (slice_get marks k) ≡ Go

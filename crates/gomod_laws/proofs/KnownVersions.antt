@@ -3,7 +3,7 @@
 use Rattle.std.proofs.Common.{◌≡◌, ◌∙◌, ◌∷◌, ◌++◌, ◌+◌, ◌<◌, ◌==◌, ℕ, true, false, List, [], ap, ap₂, arith, codes, drop, inl, inr, length, length-append, lit<, refl, subst, sym}
 use Rattle.std.specs.Cmp.Lexicographic.{slice_cmp}
 use Rattle.std.specs.Fmt.{decimal}
-use Rattle.std.specs.Ordering.{is_gt, nat_cmp, ordering_reverse, ordering_then}
+use Rattle.std.specs.Ordering.{is_gt, nat_cmp, ordering_then}
 use Rattle.std.specs.declared.cmp.Ordering.{Ordering}
 use Rattle.std.specs.declared.cmp.Ordering.TheVariants.{Less, Equal, Greater}
 use Rattle.std.proofs.lemmas.Fmt.{decimal_digit, decimal_step}
@@ -16,6 +16,8 @@ use Rattle.gm_name.specs.VersionOrder.{version_total}
 use Rattle.gm_store.specs.Latest.{IsLatest, counts}
 use Rattle.gm_store.specs.Listed.{IsListable, IsListed, IsPseudoVersion}
 use Rattle.gm_graph_select.proofs.Ascending.{member_cases, member_head, member_tail, no_member}
+use Rattle.gm_graph_select.proofs.Greatest.{not_above_itself}
+use Rattle.gomod_run.proofs.ListLines.{heads}
 
 -- what a version says
 abbrev pub Parts : Type 0
@@ -107,26 +109,18 @@ one_ten_is_above = above one_ten one_nine (decided one_ten one_nine (1, 10, 0, [
 pub same_precedence : precedence (parts_in one_zero) (parts_in one_zero) ≡ Equal
 same_precedence = decided one_zero one_zero (1, 0, 0, [], []) (1, 0, 0, [], []) one_zero_parts one_zero_parts ∙ refl
 
-pub first_byte : (a b : ℕ) (x y : List ℕ) → a ∷ x ≡ b ∷ y → a ≡ b
-first_byte a b x y e = cc e
-
 pub versions_differ : one_zero ≡ one_one → ⊥
-versions_differ e = let digit : 48 ≡ 49 = first_byte 48 49 _ _ (ap (drop 3) e) in omega (arith, digit)
-
-not_above_itself : (o : Ordering) → o ≡ ordering_reverse o → is_gt o ≡ false
-not_above_itself Less e = refl
-not_above_itself Equal e = refl
-not_above_itself Greater e = cc e
+versions_differ e = let digit : 48 ≡ 49 = heads 48 49 _ _ (ap (drop 3) e) in omega (arith, digit)
 
 -- ---- what fits the path a.b
 
 not_gopkg : IsUnderGopkg (codes "a.b") → ⊥
-not_gopkg (rest, is) = let wrong : 97 ≡ 103 = first_byte 97 103 _ _ is in omega (arith, wrong)
+not_gopkg (rest, is) = let wrong : 97 ≡ 103 = heads 97 103 _ _ is in omega (arith, wrong)
 
 no_slash : (x z : List ℕ) → codes "a.b" ≡ (x ++ codes "/v") ++ z → ⊥
-no_slash [] z e = let wrong : 97 ≡ 47 = first_byte 97 47 _ _ e in omega (arith, wrong)
-no_slash (_ ∷ []) z e = let wrong : 46 ≡ 47 = first_byte 46 47 _ _ (ap (drop 1) e) in omega (arith, wrong)
-no_slash (_ ∷ _ ∷ []) z e = let wrong : 98 ≡ 47 = first_byte 98 47 _ _ (ap (drop 2) e) in omega (arith, wrong)
+no_slash [] z e = let wrong : 97 ≡ 47 = heads 97 47 _ _ e in omega (arith, wrong)
+no_slash (_ ∷ []) z e = let wrong : 46 ≡ 47 = heads 46 47 _ _ (ap (drop 1) e) in omega (arith, wrong)
+no_slash (_ ∷ _ ∷ []) z e = let wrong : 98 ≡ 47 = heads 98 47 _ _ (ap (drop 2) e) in omega (arith, wrong)
 no_slash (_ ∷ _ ∷ _ ∷ x) z e =
     let size : 0 ≡ length ((x ++ codes "/v") ++ z) = ap (λ (t : List ℕ). length t) (ap (drop 3) e) in
     let inner : length (x ++ codes "/v") ≡ length x + 2 = length-append x (codes "/v") in

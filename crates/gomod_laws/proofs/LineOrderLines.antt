@@ -1,22 +1,20 @@
 -- Valid main files that hold the same directives say the same.
 use Rattle.std.proofs.Common.{◌≡◌, ◌∙◌, ◌⊎◌, ℕ, Bool, true, false, cond, not, List, [], ◌∷◌, filter, Option, Some, None, Contains, sym, ap, ap₂, refl, subst, inl, inr}
 use Rattle.std.specs.Prelude.{find, option_and_then, unwrap_or}
-use Rattle.std.specs.Cmp.Lexicographic.{same_text}
 use Rattle.std.specs.List.{cons_option, filter_map, list_any}
 use Rattle.std.specs.Option.{option_map, option_or}
-use Rattle.std.specs.Str.{bytes_eq}
-use Rattle.std.proofs.lemmas.Bool.{and_parts as and_both, cases_Bool, false≢true, or_left, or_right}
+use Rattle.std.proofs.lemmas.Bool.{cases_Bool, false≢true, or_left, or_right}
 use Rattle.gm_name.specs.ModuleVersion.{ModuleVersion, pair_eq}
 use Rattle.gm_syntax.specs.Document.{Line}
 use Rattle.gm_syntax.specs.LineViews.{plain_lines}
 use Rattle.gm_syntax.specs.Tokens.{Placed}
-use Rattle.gm_file.specs.Directives.{Strict, Directive, DeclaresModule, DeclaresGo, Replaces, Folder, Left, Module, Replacing, Right, directives, left_with, left_without}
-use Rattle.gm_file.specs.Faults.{fault_of, go_in, is_same_left, is_same_right, is_same_version}
+use Rattle.gm_file.specs.Directives.{Strict, Directive, DeclaresModule, DeclaresGo, Replaces, Left, Replacing, Right, directives, left_with, left_without}
+use Rattle.gm_file.specs.Faults.{fault_of, go_in, is_same_left, is_same_right}
 use Rattle.gm_file.specs.Pairwise.{do_clash}
 use Rattle.gm_file.proofs.Pairwise.{AreApart, clash-mutual, faultless-apart}
 use Rattle.gm_file.specs.Fields.{as_exclusion, as_go, as_module, as_replacing, as_requirement, first, right_for}
 use Rattle.gm_file.specs.Main.{is_excluded, is_pruned_by, main_of}
-use Rattle.gm_file.proofs.Indexed.{left-self}
+use Rattle.gm_file.proofs.Indexed.{left-self, same-left, same-right}
 use Rattle.gm_graph_select.proofs.Ascending.{member_cases, member_head, member_tail, no_member}
 use Rattle.gomod_laws.specs.LineOrderLaws.{HoldTheSame, LinesInAnyOrder}
 use Rattle.gomod_laws.proofs.FormattingBlanks.{main_said}
@@ -50,27 +48,8 @@ one_of_two (x ∷ ds) d e apart here there clash = by_places (member_cases x d d
 
 -- ---- texts and sides
 
-same_version : (a b : Option (List ℕ)) → is_same_version a b ≡ true → a ≡ b
-same_version None None e = refl
-same_version None (Some w) e = absurd cc
-same_version (Some v) None e = absurd cc
-same_version (Some v) (Some w) e = ap Some (same_text v w (sym e))
-
 abbrev left_by : List ℕ → Option (List ℕ) → Left
 left_by path version = record { path = path; version = version }
-
-same_left : (a b : Left) → is_same_left a b ≡ true → a ≡ b
-same_left a b e =
-    let p = and_both (bytes_eq a.path b.path) (is_same_version a.version b.version) e in
-    ap₂ left_by (same_text a.path b.path (sym p.0)) (same_version a.version b.version p.1)
-
-same_right : (a b : Right) → is_same_right a b ≡ true → a ≡ b
-same_right (Folder a) (Folder b) e = ap Folder (same_text a b (sym e))
-same_right (Folder a) (Module q w) e = absurd cc
-same_right (Module p v) (Folder b) e = absurd cc
-same_right (Module p v) (Module q w) e =
-    let s = and_both (bytes_eq p q) (bytes_eq v w) e in
-    ap₂ Module (same_text p q (sym s.0)) (same_text v w (sym s.1))
 
 -- ---- lists with the same members
 
@@ -222,9 +201,9 @@ module _ (ds : List Directive) (are : AreApart ds) where
       let (e, in_e, is_e) = some_part as_replacing ds s there in
       let first_in : Contains ds (Replaces r) = subst (Contains ds) (replaces_is d r is_d) in_d in
       let second_in : Contains ds (Replaces s) = subst (Contains ds) (replaces_is e s is_e) in_e in
-      let lefts : r.0 ≡ s.0 = sym (same_left left r.0 is_r) ∙ same_left left s.0 is_s in
+      let lefts : r.0 ≡ s.0 = sym (same-left left r.0 is_r) ∙ same-left left s.0 is_s in
       elim (cases_Bool (is_same_right r.1 s.1)) [
-        | inl same ↦ same_right r.1 s.1 same
+        | inl same ↦ same-right r.1 s.1 same
         | inr apart ↦
             let same : is_same_left r.0 s.0 ≡ true = subst (λ (x : Left). is_same_left r.0 x ≡ true) lefts (left-self r.0) in
             let clash : do_clash (Replaces r) (Replaces s) ≡ true = rw (same, apart) refl in

@@ -1,10 +1,11 @@
 -- Main files that say the same name the same files, and leave the same requirements.
-use Rattle.std.proofs.Common.{◌≡◌, ◌↔◌, ◌∙◌, ◌⊎◌, Bool, true, false, not, List, [], ◌∷◌, filter, Contains, sym, ap, refl, inl, inr}
+use Rattle.std.proofs.Common.{◌≡◌, ◌↔◌, ◌∙◌, ◌⊎◌, Bool, true, false, not, List, [], ◌∷◌, filter, Contains, ap, refl, inl, inr}
 use Rattle.std.proofs.lemmas.Bool.{or_cases}
 use mathlib.Core.Path.{fun_ext}
 use Rattle.std.specs.List.{list_any}
 use Rattle.std.specs.Prelude.{◌||◌}
 use Rattle.gm_name.specs.ModuleVersion.{ModuleVersion, pair_eq}
+use Rattle.gm_name.proofs.NameTests.{same-bool}
 use Rattle.gm_file.specs.Main.{Main, is_excluded, is_pruned_by, replacement_in, without_excluded}
 use Rattle.gm_graph.specs.Reading.{file_named, file_of}
 use Rattle.gm_graph_select.proofs.Ascending.{member_cases, member_head, member_tail, no_member}
@@ -53,18 +54,13 @@ member_any test (y ∷ xs) x there holds = elim (member_cases y x xs there) [
   | inr later ↦ or_true (test y) (list_any test xs) (inr (member_any test xs x later holds))
 ]
 
-same_test : (a b : Bool) → (a ≡ true → b ≡ true) → (b ≡ true → a ≡ true) → a ≡ b
-same_test true b into out = sym (into refl)
-same_test false true into out = out refl
-same_test false false into out = refl
-
 any_into : (test : ModuleVersion → Bool) (xs ys : List ModuleVersion)
     → ((x : ModuleVersion) → Contains xs x → Contains ys x) → list_any test xs ≡ true → list_any test ys ≡ true
 any_into test xs ys into e = let (x, there, holds) = any_member test xs e in member_any test ys x (into x there) holds
 
 pub same_any : (test : ModuleVersion → Bool) (xs ys : List ModuleVersion)
     → ((x : ModuleVersion) → Contains xs x ↔ Contains ys x) → list_any test xs ≡ list_any test ys
-same_any test xs ys same = same_test (list_any test xs) (list_any test ys) (any_into test xs ys (λ x. (same x).0)) (any_into test ys xs (λ x. (same x).1))
+same_any test xs ys same = same-bool (list_any test xs) (list_any test ys) (any_into test xs ys (λ x. (same x).0)) (any_into test ys xs (λ x. (same x).1))
 
 -- ---- files and requirements
 

@@ -4,11 +4,10 @@ use Rattle.std.specs.List.{join_with_byte}
 use Rattle.std.proofs.lemmas.List.{append_cancel_left}
 use Rattle.gm_name.specs.Version.{IsVersion}
 use Rattle.gm_graph_select.proofs.Ascending.{member_head, member_tail}
-use Rattle.gomod_run.proofs.ListLines.{version_has_no_blank}
+use Rattle.gomod_run.proofs.ListLines.{version_has_no_blank, heads, tails}
 use Rattle.gomod_run.specs.Versions.{versions_line}
 use Rattle.gomod_laws.specs.VersionLaws.{LineSaysVersions}
-use Rattle.gomod_laws.proofs.KnownVersions.{first_byte}
-use Rattle.gomod_laws.proofs.PrintedRow.{IsStop, IsWhole, cut_whole, tails}
+use Rattle.gomod_laws.proofs.PrintedRow.{IsStop, IsWhole, cut_whole}
 use Rattle.gm_file_edit.proofs.Feeds.{version-plain}
 
 -- the versions, each after a blank
@@ -39,8 +38,8 @@ AreVersions versions = (version : List ℕ) → Contains versions version → Is
 
 same_versions : (versions others : List (List ℕ)) → AreVersions versions → AreVersions others → ended versions ≡ ended others → versions ≡ others
 same_versions [] [] p q e = refl
-same_versions [] (other ∷ others) p q e = let wrong : 10 ≡ 32 = first_byte 10 32 _ _ e in absurd (omega (arith, wrong))
-same_versions (version ∷ versions) [] p q e = let wrong : 32 ≡ 10 = first_byte 32 10 _ _ e in absurd (omega (arith, wrong))
+same_versions [] (other ∷ others) p q e = let wrong : 10 ≡ 32 = heads 10 32 _ _ e in absurd (omega (arith, wrong))
+same_versions (version ∷ versions) [] p q e = let wrong : 32 ≡ 10 = heads 32 10 _ _ e in absurd (omega (arith, wrong))
 same_versions (version ∷ versions) (other ∷ others) p q e =
     let inner : version ++ ended versions ≡ other ++ ended others =
     sym (append_assoc version (spaced versions) (10 ∷ [])) ∙ tails 32 32 _ _ e ∙ append_assoc other (spaced others) (10 ∷ []) in
