@@ -51,15 +51,6 @@ pub pair-misfit : (path version : List ℕ) → path_kinds path ≡ [] → versi
     → first (pair_kinds (path, version)) ≡ Some Misfit
 pair-misfit path version p v none = rw (p, v, fit-bad path version none) refl
 
--- a valid path and a valid version, which fit or don't
-pub pair-read : (path version p v : List ℕ) (q : ModuleVersion) → Some path ≡ Some p → path_kinds p ≡ []
-    → Some version ≡ Some v → version_kinds v ≡ [] → q ≡ (p, v) → Fits p v
-    → (Some (pair_from path version) ≡ Some q) × (pair_kinds q ≡ [])
-pair-read path version p v q is-p sound-p is-v sound-v is-q fit =
-    let e : path ≡ p = cc in
-    let f : version ≡ v = cc in
-    (cc (ap (λ (x : List ℕ). Some (pair_from x version)) e, ap (λ (x : List ℕ). Some (pair_from p x)) f), rw is-q (pair-sound p v sound-p sound-v fit))
-
 -- two texts of which one is invalid
 pub pair-bad-path : (path version : List ℕ) → ¬ (IsPath path) → first (pair_kinds (path, version)) ≡ Some BadPath
 pair-bad-path path version fails = rw (path-bad path fails) refl

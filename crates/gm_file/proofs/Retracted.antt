@@ -139,17 +139,3 @@ pub ends-read : (part : Option VersionInterval) (interval : Interval)
     → Some (interval_view interval) ≡ option_and_then valid_ends part
 ends-read part interval read =
     sym (ap (option_and_then valid_ends) read.0 ∙ ap (λ (ks : List DirectiveKind). if length ks == 0 then Some (interval_view interval) else None) read.1)
-
--- an interval that was refused
-pub ends-refused : (part : Option VersionInterval) (kind : DirectiveKind)
-    → IsPartRead {Y = Interval} interval_view WrongArguments ends_kinds part (Err (line.Kind kind))
-    → None ≡ option_and_then valid_ends part
-ends-refused None kind read = refl
-ends-refused (Some ends) kind read = by (ends_kinds ends) read
-  where
-    by : (ks : List DirectiveKind) → first ks ≡ Some kind → None ≡ (if length ks == 0 then Some ends else None)
-    by [] e = absurd cc
-    by (k ∷ ks) e = elim (cases_Bool (length (k ∷ ks) == 0)) [
-      | inl none ↦ absurd (let is = (Decides-eqb (length (k ∷ ks)) 0).0 none in omega (arith, is))
-      | inr some ↦ rw some refl
-    ]

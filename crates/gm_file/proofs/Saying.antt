@@ -40,10 +40,6 @@ first-new : {X : Type 0} (xs : List X) (x : X) → first xs ≡ None → first (
 first-new [] x e = refl
 first-new (y ∷ xs) x e = cc e
 
-first-old : {X : Type 0} (xs : List X) (x y : X) → first xs ≡ Some y → first (xs ++ x ∷ []) ≡ Some y
-first-old [] x y e = cc e
-first-old (z ∷ xs) x y e = e
-
 none-by : {X : Type 0} (o : Option X) (b rest : Bool) (xs : List X) → b ≡ is_some o → (b || rest) ≡ false
     → (rest ≡ false → first xs ≡ None) → first (cons_option o xs) ≡ None
 none-by None true rest xs s e later = absurd (cc s)

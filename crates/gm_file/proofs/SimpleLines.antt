@@ -98,12 +98,6 @@ module _ (lines : List (Line Word)) (path version : List ℕ) (words : List Word
       dep-fault lines (Entry words suffix) (word_of old.block) old new fault so refl
       (subst (λ (i : Item). IsLineAdded Lax old.fields new i (Err fault)) (sym item) told)
 
-  pub entry-next : (fields : Fields) (result : Result (Unit {0}) LineFault) → OnOk result (HaveIndexes fields)
-      → IsLineAdded Lax old.fields fields (require_item path version) result
-      → IsNextLineOf lines (Entry words suffix) (record old { fields = fields }) result
-  entry-next fields (Ok u) found added = requires-more fields found added
-  entry-next fields (Err fault) found told = requires-fault fields fault told
-
   -- a requirement is added, or refused
   pub required-next : (now : Requirements) (result : Result (Unit {0}) LineFault) → HaveIndexes old.fields
       → OnOk result (now.items ≡ old.fields.requirements.items ++ (path, version) ∷ [])

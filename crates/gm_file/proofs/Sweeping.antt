@@ -13,10 +13,6 @@ use Rattle.gm_file.specs.Private.Swept.{AreAllSwept, AreSorted, AreSwept, Ascend
 use Rattle.gm_file.proofs.Ascending.{upto_less, upto_trans}
 use Rattle.gm_name.proofs.Logic.{or-false}
 
--- the start of a sweep
-pub swept_none : (ps : List VersionInterval) (v : List ℕ) → AreSwept ps v 0 None
-swept_none ps v = record { within = omega arith; begun = refl; reached = λ w. refl }
-
 taken_more : (ps : List VersionInterval) (n : ℕ) (d : VersionInterval) → n < length ps → take (n + 1) ps ≡ take n ps ++ slice_index_or ps n d ∷ []
 taken_more ps n d within = ap (λ i. take i ps) (add-one n) ∙ take-suc ps n d within
 

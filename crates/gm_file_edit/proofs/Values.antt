@@ -21,14 +21,8 @@ use Rattle.gm_file_edit.proofs.Walking.{drop-next}
 
 -- ---- one word
 
-pub bare-argument : (w : Word) → w.kind ≡ kind.Bare → argument w ≡ Some w.spelling
-bare-argument w is = ap (λ k. argument_of_kind k w.spelling) is
-
 pub text-argument : (w : Word) (value : List ℕ) → w.kind ≡ kind.Text → HasValue w value → argument w ≡ Some value
 text-argument w value is has = rw is (ap Some (rw is at (value_is w value has)))
-
-pub mark-argument : (w : Word) → w.kind ≡ kind.Mark → argument w ≡ None
-mark-argument w is = ap (λ k. argument_of_kind k w.spelling) is
 
 -- ---- the words from an index on
 

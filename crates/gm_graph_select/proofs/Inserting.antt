@@ -105,12 +105,6 @@ in_order_same (e ∷ xs) x =
       ]),
     )
 
--- An ascending list with the members of another is the other in order.
-pub in_order_only : (xs ys : List ModuleVersion) → IsAscending pair_cmp ys → HaveSame xs ys → ys ≡ in_order pair_cmp xs
-in_order_only xs ys up same =
-    same_lists pair_total ys (in_order pair_cmp xs) up (in_order_ascends xs)
-    (λ x. ((λ h. (in_order_same xs x).0 ((same x).1 h)), (λ h. (same x).0 ((in_order_same xs x).1 h))))
-
 pub some_build_list : (main : List ℕ) (replaces : List Replacing) (edges : List Edge) → (entries : List Entry) × IsBuildList main replaces (among edges) entries
 some_build_list main replaces edges =
     let to = map (λ (e : Edge). e.to) edges in

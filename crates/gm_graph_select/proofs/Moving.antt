@@ -39,15 +39,6 @@ pub record AreMoved (old now : List ℕ) (place count : ℕ) : Type 0 where
   pub members : HaveSame (take place old) (take count now)
   pub rest : drop place now ≡ drop place old
 
-pub none_moved : (old : List ℕ) → AreMoved old old 0 0
-none_moved old = record {
-  few = omega arith;
-  size = refl;
-  ascending = λ i j d lt below. absurd (omega (arith, below));
-  members = λ x. ((λ h. h), (λ h. h));
-  rest = refl;
-}
-
 module _ (old now : List ℕ) (place count : ℕ) (are : AreMoved old now place count) (inside : place < length old) where
   abbrev number : ℕ
   number = get_or now place 0

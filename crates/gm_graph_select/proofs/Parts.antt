@@ -65,18 +65,6 @@ pub record AreRankedTo (ranks old : List ℕ) (spans : List Span) (now : List �
   pub rest : drop end now ≡ drop end old
   pub zip : AllZip (IsByRanks ranks) (lists_at old (take place spans)) (lists_at now (take place left))
 
-pub none_ranked : (ranks old : List ℕ) (spans : List Span) → AreSpansApart 0 spans (length old) → AreRankedTo ranks old spans old spans 0
-none_ranked ranks old spans apart = record {
-  size = refl;
-  count = refl;
-  to_come = refl;
-  end = 0;
-  done = omega arith;
-  ahead = apart;
-  rest = refl;
-  zip = tt;
-}
-
 module _ (ranks old : List ℕ) (spans : List Span) (now : List ℕ) (left : List Span) (place : ℕ) (are : AreRankedTo ranks old spans now left place) where
   module _ (one : Span) (inside : place < length spans) (is : one ≡ get_or left place one) where
     here : one ≡ get_or spans place one

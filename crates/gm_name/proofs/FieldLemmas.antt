@@ -47,9 +47,6 @@ drop_before : (x : ℕ) (xs : List ℕ) → is_blank_byte x ≡ false
     → drop (position_or_len is_blank_byte (x ∷ xs)) (x ∷ xs) ≡ drop (position_or_len is_blank_byte xs) xs
 drop_before x xs e = rw e (grind (arith, common_steps))
 
-some_length : (n : ℕ) → nat_lt 0 (n + 1) ≡ true
-some_length n = grind (arith, nat_tests)
-
 long_word : (x : ℕ) (word : List ℕ) (others : List (List ℕ))
     → filter (λ word. nat_lt 0 (length word)) ((x ∷ word) ∷ others) ≡ (x ∷ word)
     ∷ filter (λ word. nat_lt 0 (length word)) others

@@ -37,13 +37,6 @@ put_again {V} values value index tag place are is t = by (nat_eq tag t) refl (pl
         elsewhere values place p value
         (λ same. absurd (cc (e, eq-eqb tag t (are.apart tag t place is (at ∙ ap (λ (m : ℕ). Some m) (sym same))))))
 
--- An index without places has none that are not below a number.
-pub no_places : (index : TagIndex) (many : ℕ) → ((t : ℕ) → place_under index t ≡ None) → ArePlacesBelow index many
-no_places index many none = record {
-  below = λ t p is. absurd (cc (none t, is));
-  apart = λ t u p is also. absurd (cc (none t, is));
-}
-
 -- With one more place, past the others, they are below the next number.
 pub one_more_place : (old new : TagIndex) (many tag : ℕ) → ArePlacesBelow old many → PutsIn place_under old new tag many → ArePlacesBelow new (many + 1)
 one_more_place old new many tag are puts = record {

@@ -20,12 +20,6 @@ appends_more (Some a) None new xs ys zs e g h = absurd g
 appends_more (Some a) (Some b) None xs ys zs e g h = absurd h
 appends_more (Some a) (Some b) (Some c) xs ys zs e g h = h ∙ ap (λ (t : List ℕ). t ++ ys) g ∙ append_assoc a xs ys ∙ ap (λ (t : List ℕ). a ++ t) (sym e)
 
-pub appends_kept : (old mid new : Option (List ℕ)) (xs : List ℕ) → Appends old mid xs → Keeps mid new → Appends old new xs
-appends_kept None mid new xs g h = tt
-appends_kept (Some a) None new xs g h = absurd g
-appends_kept (Some a) (Some b) None xs g h = absurd h
-appends_kept (Some a) (Some b) (Some c) xs g h = h ∙ g
-
 whole_rest : (piece : List ℕ) (at : ℕ) → take (length piece - at) (drop at piece) ≡ drop at piece
 whole_rest piece at = grind (arith, common_steps)
 

@@ -20,9 +20,6 @@ Contains-only : (x y : List ℕ) → Contains (x ∷ []) y → x ≡ y
 Contains-only x y (zero, within, is) = is
 Contains-only x y (suc k, within, is) = absurd (omega arith)
 
-Contains-itself : (x : List ℕ) → Contains (x ∷ []) x
-Contains-itself x = (0, omega arith, refl)
-
 -- one more word, and it may be listed
 pub holds_more : (path : List ℕ) (words versions : List (List ℕ)) (word : List ℕ) → HoldsListable path words versions
     → IsListable path word → HoldsListable path (words ++ word ∷ []) (versions ++ word ∷ [])

@@ -154,10 +154,6 @@ module _ (asked : List (Name × Reply)) (silent : IsSilent (run_with asked)) whe
   need_is : (name : Name) → IsNeeded run name → top_name ≡ name
   need_is name (x, opens, is, askable) = ap (file_of main) (sym (opened_is x opens)) ∙ is
 
-top_askable : is_askable (file_of main top_one) ≡ true
-unfolding is_fetchable
-top_askable = refl
-
 top_needed : (asked : List (Name × Reply)) → IsNeeded (run_with asked) top_name
 unfolding is_fetchable
 top_needed asked = (top_one, inl (member_head top_one []), refl, refl)
