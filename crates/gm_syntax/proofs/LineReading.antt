@@ -23,20 +23,6 @@ use Rattle.gm_syntax.proofs.Texts.{text_start, text_line, text_fault, text_end, 
 abbrev pub unread : List ℕ → List ℕ → Place → Unread
 unread source rest at = record { source = source; rest = rest; at = at }
 
--- before the first line
-pub read_start : (source : List ℕ) → IsText source → HasRead (unread source source start) []
-read_start source is =
-    let zero_left : 0 ≡ length source - length source = omega arith in record {
-      is_text = is;
-      progress = text_start source;
-      fits = omega arith;
-      suffix = ap (λ (n : ℕ). drop n source) zero_left;
-      counted = refl;
-      placed = omega arith;
-      numbered = tt;
-      filled = λ more f. subst (λ (n : ℕ). FillLines n (lines_of source) more) (sym zero_left) f;
-    }
-
 module _ {left : Unread} {lines : List (Line Placed)} (so : HasRead left lines) where
   -- after one more line
   pub read_more : (front next : List ℕ) (l : Line Placed) (at : Place) → at ≡ after left.at (plain l)
