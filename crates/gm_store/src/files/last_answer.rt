@@ -1,7 +1,7 @@
 //! The last answer of a store alone.
 
-ghost use Rattle.gm_store.specs.Asked.{reply_of};
-ghost use Rattle.gm_store.specs.Private.History.{IsLastOf};
+ghost use Rattle.gm_store.specs.Asked.{IsLast, IsWithinLimit, reply_of};
+ghost use Rattle.gm_store.specs.History.{asked_in};
 
 use crate::files::history::History;
 use crate::files::keeping::Keeps;
@@ -16,8 +16,8 @@ pub struct LastAnswer {
     last: Answer,
     /// The answered requests, with their answers.
     history: History,
-    // The last answer is that of the history.
-    ghost is_last: { IsLastOf history (reply_of last) },
+    // The last answer is that of the history, and has at most 16 MiB.
+    ghost is_last: { IsWithinLimit (reply_of last) × IsLast (asked_in history) (reply_of last) },
 }
 
 impl Keeps for LastAnswer {
