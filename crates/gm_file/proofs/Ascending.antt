@@ -13,7 +13,7 @@ use Rattle.gm_name.specs.Version.{parts_in, precedence, version_cmp}
 use Rattle.gm_name.specs.VersionOrder.{precedence_total, version_total}
 use Rattle.gm_file.specs.Directives.{VersionInterval}
 use Rattle.gm_file.specs.Shown.{holds_version, is_at_most}
-use Rattle.gm_file.specs.Private.Swept.{AreSorted, Ascend, ends_view, ends_views}
+use Rattle.gm_file.specs.Private.Swept.{AreSorted, Ascend, ends_view}
 use Rattle.gm_file.specs.declared.sweep.Ends.{Ends}
 
 by_parts : IsTotalOrder (on parts_in precedence)
@@ -74,12 +74,12 @@ ascend_from (x ∷ xs) above = (
 )
 
 -- the result of sorting ends
-pub sorted_from : (intervals : List VersionInterval) (found sorted : List Ends) → ends_views found ≡ intervals → IsPermutation found sorted
-    → IsSorted ends_cmp sorted → AreSorted (ends_views sorted) intervals
+pub sorted_from : (intervals : List VersionInterval) (found sorted : List Ends) → map ends_view found ≡ intervals → IsPermutation found sorted
+    → IsSorted ends_cmp sorted → AreSorted (map ends_view sorted) intervals
 sorted_from intervals found sorted same moved ordered = record {
   ascend = ascend_from sorted (λ i j d order within. not_below (slice_index_or sorted i d) (slice_index_or sorted j d)
       (sorted_far (λ x y. is_lt (ends_cmp x y)) (ranks_by ends_total (λ (e : Ends). e)) sorted ordered i j d order within));
-  same = λ version. sym (subst (λ ps. list_any (holds_version version) ps ≡ list_any (holds_version version) (ends_views sorted)) same
+  same = λ version. sym (subst (λ ps. list_any (holds_version version) ps ≡ list_any (holds_version version) (map ends_view sorted)) same
       (list_any-IsPermutation (holds_version version) _ _ (IsPermutation-map ends_view found sorted moved)));
 }
 

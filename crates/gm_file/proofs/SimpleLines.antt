@@ -20,11 +20,15 @@ use Rattle.gm_file.specs.Faults.{directive_kinds, item_kinds, opening_kinds, pai
 use Rattle.gm_file.specs.Fields.{first}
 use Rattle.gm_file.specs.Private.Holding.{HaveIndexes, Holds, IsLineAdded}
 use Rattle.gm_file.specs.Private.Reading.{IsPartRead}
-use Rattle.gm_file.specs.Private.SimpleLines.{AreReadSofar, IsLineSaid, TakesSimple, require_item, single_item}
+use Rattle.gm_file.specs.Private.SimpleLines.{AreReadSofar, IsLineSaid, TakesSimple, single_item}
 use Rattle.gm_file.specs.Private.Requirements.{Requirements}
 use Rattle.gm_file.proofs.Arrows.{first-append}
 use Rattle.gm_file.proofs.DepReading.{dep-fault, dep-more, level-more, word_of}
 use Rattle.gm_file.proofs.Saying.{say-requirement}
+
+-- the content of a line of these two bare words in a block of `require`
+abbrev require_item : List ℕ → List ℕ → Item
+require_item path version = Saying (codes "require") (bare_word path ∷ bare_word version ∷ [])
 
 -- ---- what such a line says
 

@@ -1,13 +1,13 @@
 //! The parts of an entry: values, paths, versions and intervals. Each reader turns words or their values into a checked
 //! type, and every refusal into the kind of fault of the line.
 
-ghost use Rattle.std.specs.Prelude.{◌≡◌, IfErr, IfOk, Some};
+ghost use Rattle.std.specs.Prelude.{◌≡◌, [], IfErr, IfOk, Some};
 ghost use Rattle.std.specs.Option.{option_map};
 ghost use Rattle.std.specs.Cow.{cow_str_bytes};
 ghost use Rattle.std.specs.String.{string_bytes};
 ghost use Rattle.gm_syntax.specs.Tokens.{words_of};
 ghost use Rattle.gm_syntax.specs.Values.{value_of};
-ghost use Rattle.gm_file.specs.Private.Reading.{KeepsNames, IsPartRead, no_kinds};
+ghost use Rattle.gm_file.specs.Private.Reading.{KeepsNames, IsPartRead};
 ghost use Rattle.gm_file.specs.Values.{argument, both};
 ghost use Rattle.gm_file.specs.Directives.{ends_of, is_empty_block, one_of, pair, pair_of};
 ghost use Rattle.gm_file.specs.Faults.{ends_kinds, pair_kinds, path_kinds, version_kinds};
@@ -32,7 +32,7 @@ fn borrowed_value<'w>(alloc: Global, word: &'w Token) -> Result<CowStr<'w>, Line
 /// The value of an argument, borrowed if it has no escapes. Punctuation is not an argument and is refused with
 /// `WrongArguments`.
 fn borrowed_argument<'w>(alloc: Global, word: &'w Token) -> Result<CowStr<'w>, LineFault>
-    ensures { IsPartRead cow_str_bytes DirectiveKind.WrongArguments no_kinds (argument word.now.word) result }
+    ensures { IsPartRead cow_str_bytes DirectiveKind.WrongArguments (λ _. []) (argument word.now.word) result }
 {
     match word.kind() {
         Kind::Bare => borrowed_value(alloc, word),
@@ -43,7 +43,7 @@ fn borrowed_argument<'w>(alloc: Global, word: &'w Token) -> Result<CowStr<'w>, L
 
 /// A copy of the value of an argument. Punctuation is refused with `WrongArguments`.
 pub(crate) fn argument(alloc: Global, word: &Token) -> Result<String, LineFault>
-    ensures { IsPartRead string_bytes DirectiveKind.WrongArguments no_kinds (argument word.now.word) result }
+    ensures { IsPartRead string_bytes DirectiveKind.WrongArguments (λ _. []) (argument word.now.word) result }
 {
     Ok(borrowed_argument(alloc, word)?.into_owned(alloc)?)
 }
@@ -51,7 +51,7 @@ pub(crate) fn argument(alloc: Global, word: &Token) -> Result<String, LineFault>
 /// The value of the only argument, borrowed if it has no escapes. Any other number of words is refused with
 /// `WrongArguments`.
 pub(crate) fn borrowed_one<'w>(alloc: Global, words: &'w [Token]) -> Result<CowStr<'w>, LineFault>
-    ensures { IsPartRead cow_str_bytes DirectiveKind.WrongArguments no_kinds (one_of (words_of words.now)) result }
+    ensures { IsPartRead cow_str_bytes DirectiveKind.WrongArguments (λ _. []) (one_of (words_of words.now)) result }
 {
     match words {
         [word] => borrowed_argument(alloc, word),
@@ -61,7 +61,7 @@ pub(crate) fn borrowed_one<'w>(alloc: Global, words: &'w [Token]) -> Result<CowS
 
 /// A copy of the value of the only argument.
 pub(crate) fn one_value(alloc: Global, words: &[Token]) -> Result<String, LineFault>
-    ensures { IsPartRead string_bytes DirectiveKind.WrongArguments no_kinds (one_of (words_of words.now)) result }
+    ensures { IsPartRead string_bytes DirectiveKind.WrongArguments (λ _. []) (one_of (words_of words.now)) result }
 {
     Ok(borrowed_one(alloc, words)?.into_owned(alloc)?)
 }

@@ -7,7 +7,7 @@ ghost use Rattle.std.specs.List.{after_first, before_first};
 ghost use Rattle.std.specs.String.{string_bytes};
 ghost use Rattle.gm_syntax.specs.Tokens.{words_of};
 ghost use Rattle.gm_file.specs.Directives.{folder_right, is_arrow, left_of, left_with, left_without, module_right, pair, replacing, replacing_of, right_of, Folder, Module};
-ghost use Rattle.gm_file.specs.Private.Reading.{KeepsNames, IsPartRead, no_kinds, left_text_view, right_text_view};
+ghost use Rattle.gm_file.specs.Private.Reading.{KeepsNames, IsPartRead, left_text_view, right_text_view};
 ghost use Rattle.gm_file.specs.Values.{argument, both};
 ghost use Rattle.gm_file.specs.Faults.{does_left_fit, left_version_kinds};
 ghost use Rattle.gm_file.specs.Reading.{replacing_kinds};
@@ -61,7 +61,7 @@ fn split_at_arrow<'w, 'a>(words: &'w [Token<'a>]) -> Option<(&'w [Token<'a>], &'
 
 /// The text of a left side without a version.
 fn left_path(alloc: Global, path: &Token) -> Result<LeftText, LineFault>
-    ensures { IsPartRead left_text_view DirectiveKind.WrongArguments no_kinds
+    ensures { IsPartRead left_text_view DirectiveKind.WrongArguments (λ _. [])
         (option_map left_without (argument path.now.word)) result }
 {
     let path = argument(alloc, path)?;
@@ -77,7 +77,7 @@ fn left_path_and_version(
     path: &Token,
     version: &Token,
 ) -> Result<LeftText, LineFault>
-    ensures { IsPartRead left_text_view DirectiveKind.WrongArguments no_kinds
+    ensures { IsPartRead left_text_view DirectiveKind.WrongArguments (λ _. [])
         (both left_with (argument path.now.word) (argument version.now.word)) result }
 {
     let path = argument(alloc, path)?;
@@ -90,7 +90,7 @@ fn left_path_and_version(
 
 /// The texts of the left side: a path, or a path and a version. Other words are refused with `WrongArguments`.
 fn left_text(alloc: Global, words: &[Token]) -> Result<LeftText, LineFault>
-    ensures { IsPartRead left_text_view DirectiveKind.WrongArguments no_kinds (left_of (words_of words.now)) result }
+    ensures { IsPartRead left_text_view DirectiveKind.WrongArguments (λ _. []) (left_of (words_of words.now)) result }
 {
     match words {
         [path] => left_path(alloc, path),
@@ -101,7 +101,7 @@ fn left_text(alloc: Global, words: &[Token]) -> Result<LeftText, LineFault>
 
 /// The text of a right side that is a folder. A module path without a version is refused with `WrongArguments`.
 fn right_folder(alloc: Global, folder: &Token) -> Result<RightText, LineFault>
-    ensures { IsPartRead right_text_view DirectiveKind.WrongArguments no_kinds
+    ensures { IsPartRead right_text_view DirectiveKind.WrongArguments (λ _. [])
         (option_and_then folder_right (argument folder.now.word)) result }
 {
     let text = argument(alloc, folder)?;
@@ -113,7 +113,7 @@ fn right_folder(alloc: Global, folder: &Token) -> Result<RightText, LineFault>
 
 /// The texts of a right side that is a module. A folder with a version is refused with `WrongArguments`.
 fn right_module(alloc: Global, path: &Token, version: &Token) -> Result<RightText, LineFault>
-    ensures { IsPartRead right_text_view DirectiveKind.WrongArguments no_kinds
+    ensures { IsPartRead right_text_view DirectiveKind.WrongArguments (λ _. [])
         (option_and_then (λ p. module_right p.0 p.1) (both pair (argument path.now.word) (argument version.now.word)))
         result }
 {
@@ -128,7 +128,7 @@ fn right_module(alloc: Global, path: &Token, version: &Token) -> Result<RightTex
 /// The texts of the right side: a folder alone, or a module path with a version. Other words are refused with
 /// `WrongArguments`.
 fn right_text(alloc: Global, words: &[Token]) -> Result<RightText, LineFault>
-    ensures { IsPartRead right_text_view DirectiveKind.WrongArguments no_kinds (right_of (words_of words.now)) result }
+    ensures { IsPartRead right_text_view DirectiveKind.WrongArguments (λ _. []) (right_of (words_of words.now)) result }
 {
     match words {
         [folder] => right_folder(alloc, folder),

@@ -2,10 +2,10 @@
 //! of the intervals that begin at it or before: some interval contains the version exactly if that end is not below
 //! it.
 
-ghost use Rattle.std.specs.Prelude.{◌≡◌, ◌||◌, ℕ, List, IfOk, option_map};
+ghost use Rattle.std.specs.Prelude.{◌≡◌, ◌||◌, ℕ, List, IfOk, option_map, map};
 ghost use Rattle.gm_file.specs.Views.{interval_views};
 ghost use Rattle.gm_file.specs.Shown.{is_at_most};
-ghost use Rattle.gm_file.specs.Private.Swept.{AreAllSwept, AreSorted, AreSwept, is_reached, ends_views};
+ghost use Rattle.gm_file.specs.Private.Swept.{AreAllSwept, AreSorted, AreSwept, is_reached, ends_view};
 
 use crate::replace::Interval;
 use gm_name::{BorrowedVersion, ModVersion, NoMemory};
@@ -69,7 +69,7 @@ pub(crate) fn sorted_ends<'a>(
     alloc: Global,
     intervals: &'a [Interval],
 ) -> Result<Vec<Ends<'a>>, NoMemory>
-    ensures { IfOk result (λ ends. AreSorted (ends_views ends.items) (interval_views intervals.entry.now)) }
+    ensures { IfOk result (λ ends. AreSorted (map ends_view ends.items) (interval_views intervals.entry.now)) }
 {
     let mut ends = Vec::new(alloc);
     for interval in intervals {
@@ -87,8 +87,8 @@ pub(crate) fn advance<'a>(
     from: Sweep<'a>,
     version: &BorrowedVersion<'_>,
 ) -> Sweep<'a>
-    requires { AreSwept (ends_views ends.now) version.now from.next (option_map (λ reach. reach.now) from.reach) }
-    ensures { AreAllSwept (ends_views ends.now) version.now result.next (option_map (λ reach. reach.now) result.reach) }
+    requires { AreSwept (map ends_view ends.now) version.now from.next (option_map (λ reach. reach.now) from.reach) }
+    ensures { AreAllSwept (map ends_view ends.now) version.now result.next (option_map (λ reach. reach.now) result.reach) }
 {
     let mut next = from.next;
     let mut reach = from.reach;

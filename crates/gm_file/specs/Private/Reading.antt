@@ -32,10 +32,6 @@ IsPartRead view wrong kinds part (Ok y) = (part ≡ Some (view y)) × (kinds (vi
 IsPartRead view wrong kinds part (Err line.NoMemory) = ⊤
 IsPartRead view wrong kinds part (Err (line.Kind kind)) = first (part_kinds wrong kinds part) ≡ Some kind
 
--- a part that is there has no fault
-abbrev pub no_kinds : {X : Type 0} → X → List DirectiveKind
-no_kinds x = []
-
 -- the texts of the sides of a replace
 abbrev pub left_text_view : LeftText → Left
 left_text_view left = record { path = string_bytes left.path; version = option_map string_bytes left.version }

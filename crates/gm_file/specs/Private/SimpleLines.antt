@@ -14,10 +14,6 @@ use Rattle.gm_file.specs.Directives.{Item, Saying}
 abbrev pub TakesSimple : DepLines → Type 0
 TakesSimple said = IfSome said.block (λ verb. verb.word.spelling ≡ codes "require")
 
--- the content of a line of these two bare words in a block of `require`
-abbrev pub require_item : List ℕ → List ℕ → Item
-require_item path version = Saying (codes "require") (bare_word path ∷ bare_word version ∷ [])
-
 -- the content of a line of these two bare words outside blocks
 abbrev pub single_item : List ℕ → List ℕ → Item
 single_item verb value = Saying verb (bare_word value ∷ [])

@@ -1,5 +1,5 @@
 -- The state of a sweep over ascending versions and over intervals that are sorted by their low ends.
-use Rattle.std.specs.Prelude.{◌≡◌, ◌≤◌, ◌<◌, ℕ, Bool, true, false, List, [], ◌∷◌, length, map, take, slice_index_or, Option, Some, None}
+use Rattle.std.specs.Prelude.{◌≡◌, ◌≤◌, ◌<◌, ℕ, Bool, true, false, List, [], ◌∷◌, length, take, slice_index_or, Option, Some, None}
 use Rattle.std.specs.List.{AllByRecursion, list_all, list_any}
 use Rattle.gm_file.specs.Directives.{VersionInterval}
 use Rattle.gm_file.specs.Shown.{is_retracted, is_at_most}
@@ -8,9 +8,6 @@ use Rattle.gm_file.specs.declared.sweep.Ends.{Ends}
 -- the ends of an interval as texts
 abbrev pub ends_view : Ends → VersionInterval
 ends_view ends = (ends.low.now, ends.high.now)
-
-abbrev pub ends_views : List Ends → List VersionInterval
-ends_views = map ends_view
 
 -- each low end precedes those after it, or has the same precedence
 abbrev pub Ascend : List VersionInterval → Type 0

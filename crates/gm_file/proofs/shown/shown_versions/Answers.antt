@@ -1,7 +1,7 @@
-use Rattle.std.proofs.Common.{◌∙◌, ◌++◌, ◌∷◌, [], Bor, List, ap, option_map, sym, ℕ}
+use Rattle.std.proofs.Common.{◌∙◌, ◌++◌, ◌∷◌, [], Bor, List, ap, option_map, sym, ℕ, map}
 use Rattle.std.proofs.lemmas.List.{map-append}
 use Rattle.gm_file.specs.Views.{interval_views}
-use Rattle.gm_file.specs.Private.Swept.{AreAllSwept, ends_views}
+use Rattle.gm_file.specs.Private.Swept.{AreAllSwept, ends_view}
 use Rattle.gm_file.proofs.Sweeping.{ready_here, ready_rest, shown_more, shown_same, sorted_rest}
 use Rattle.gm_file.proofs.shown.shown_versions.Goals as goal
 use Rattle.gm_file.proofs.shown.shown_versions.Goals.{then-not-is_reached+in_ok-push, else-not-is_reached}
@@ -9,12 +9,12 @@ use Rattle.gm_file.proofs.shown.shown_versions.Goals.{then-not-is_reached+in_ok-
 pub advance-sweep-requires : goal.advance-sweep-requires
 advance-sweep-requires c =
     rw c.as_slice.ensures.value
-    (ready_here (ends_views c.in_ok-ends.ends.items) c.args.versions.now c.loop-version.version-index c.version-item.result c.loop-version.sweep.next _
+    (ready_here (map ends_view c.in_ok-ends.ends.items) c.args.versions.now c.loop-version.version-index c.version-item.result c.loop-version.sweep.next _
     c.loop-version-test.true c.version-item.is c.loop-version.invariant.ready)
 
 pub loop-version-preserved : goal.loop-version-preserved
 loop-version-preserved c =
-    let ps = ends_views c.in_ok-ends.ends.items in
+    let ps = map ends_view c.in_ok-ends.ends.items in
     let is = interval_views c.args.intervals.now in
     let vs = c.args.versions.now in
     let i = c.loop-version.version-index in
