@@ -1,7 +1,7 @@
 -- How contracts view the marks of lines. No public contract cites it.
 use Rattle.std.specs.Prelude.{◌≡◌, ◌≤◌, ℕ, Bool, true, false, List, [], ◌∷◌, length, insert, Option, Some, None, is_none, slice_index_or}
 use Rattle.gm_syntax.specs.Tokens.{Placed}
-use Rattle.gm_syntax.specs.Document.{Line, Blank, Comment, Open, Close, Entry}
+use Rattle.gm_syntax.specs.Document.{Line, Blank, Open, Close}
 use Rattle.gm_file.specs.declared.verb.Verb.{Verb}
 use Rattle.gm_file.specs.Directives.{Directive, block_after_line, main_verb}
 use Rattle.gm_file_edit.specs.declared.adding.Spot.{Spot}
@@ -23,19 +23,13 @@ is_blank_source_line _ = false
 
 -- whether a line is a closing without a comment
 abbrev pub closes_bare : Line Placed → Bool
-closes_bare Blank = false
-closes_bare (Comment text) = false
-closes_bare (Open verb suffix) = false
 closes_bare (Close suffix) = is_none suffix
-closes_bare (Entry words suffix) = false
+closes_bare _ = false
 
 -- whether a line is an opening without a comment
 abbrev pub opens_bare : Line Placed → Bool
-opens_bare Blank = false
-opens_bare (Comment text) = false
 opens_bare (Open verb suffix) = is_none suffix
-opens_bare (Close suffix) = false
-opens_bare (Entry words suffix) = false
+opens_bare _ = false
 
 -- whether each line holds a directive that passes the test, given the verb of the open block, if any
 abbrev pub marks_from : (Directive → Bool) → Option Placed → List (Line Placed) → List Bool
