@@ -8,7 +8,7 @@ use Rattle.std.proofs.lemmas.List.{append-nil, append_cancel_left}
 use Rattle.gm_syntax.specs.Words.{Word}
 use Rattle.gm_syntax.specs.Document.{Line, Blank, inside_after}
 use Rattle.gm_syntax.specs.Layout.{line_text, is_open, is_close, is_blank_line, state_after, layout_from, layout, initial_state, filled_lines, lines_text, begins_blank, ends_blank, gap_between, AreLaidOut, IsLayout, LayoutState}
-use Rattle.gm_syntax.specs.Private.Layout.{gap_lines, layout_lines}
+use Rattle.gm_syntax.proofs.LayoutLines.{gap_lines, layout_lines}
 use Rattle.gm_syntax.proofs.Laying.{layout_from_blank, layout_from_other, layout_from_none}
 use Rattle.gm_syntax.proofs.Stable.{and_both, layout_lines_blank, layout_lines_other, layout_lines_none, filled_blank, filled_other, filled_gap, filled_again}
 

@@ -1,5 +1,4 @@
 -- What only the code's own contracts and proofs say: no public contract reaches it.
-pub mod Layout
 pub mod Reader
 pub mod Scan
 pub mod SimpleLines

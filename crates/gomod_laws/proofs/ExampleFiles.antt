@@ -9,7 +9,7 @@ use Rattle.gm_name.specs.Version.{parts_in}
 use Rattle.gm_name.proofs.NameTests.{path-tested, version-tested}
 use Rattle.gm_syntax.specs.Document.{Line, ReadsLines, Whole, start}
 use Rattle.gm_syntax.specs.Layout.{layout_from}
-use Rattle.gm_syntax.specs.Private.Layout.{layout_lines}
+use Rattle.gm_syntax.proofs.LayoutLines.{layout_lines}
 use Rattle.gm_syntax.specs.LineViews.{plain_lines}
 use Rattle.gm_syntax.specs.Lines.{lines_of}
 use Rattle.gm_syntax.specs.Parsed.{IsParsedAs}

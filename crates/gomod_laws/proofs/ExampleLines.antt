@@ -12,7 +12,7 @@ use Rattle.gm_syntax.specs.declared.word.Kind.TheVariants.{Bare}
 use Rattle.gm_syntax.specs.Bytes.{is_bad, is_blank, is_bracket_or_comma, is_quote, is_word_byte}
 use Rattle.gm_syntax.specs.Document.{AreLines, Entry, IsValidLine, Line, Place, ReadsLines, Whole, after, begins_close, ends_open, start}
 use Rattle.gm_syntax.specs.Layout.{initial_state, layout}
-use Rattle.gm_syntax.specs.Private.Layout.{layout_lines}
+use Rattle.gm_syntax.proofs.LayoutLines.{layout_lines}
 use Rattle.gm_syntax.specs.LineViews.{plain_lines}
 use Rattle.gm_syntax.specs.Lines.{lines_of}
 use Rattle.gm_syntax.specs.Parsed.{IsParsedAs}

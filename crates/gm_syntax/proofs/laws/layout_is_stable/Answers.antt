@@ -1,6 +1,6 @@
 use Rattle.gm_syntax.proofs.Stable.{is_stable}
 use Rattle.gm_syntax.specs.Layout.{initial_state}
-use Rattle.gm_syntax.specs.Private.Layout.{layout_lines}
+use Rattle.gm_syntax.proofs.LayoutLines.{layout_lines}
 use Rattle.gm_syntax.proofs.laws.layout_is_stable.Goals as goal
 
 pub returns : goal.returns
