@@ -18,7 +18,7 @@ use Rattle.gm_syntax.specs.LineReading.{Unread, TextProgress, HasRead, IsReadDoc
 use Rattle.gm_syntax.proofs.Places.{suffix_of_suffix, line_stands, lines_numbered_push, stand_widen}
 use Rattle.gm_syntax.proofs.Filling.{lines_fill_more, lines_fill_end}
 use Rattle.gm_syntax.proofs.Counting.{document_counted}
-use Rattle.gm_syntax.proofs.Texts.{text_start, text_line, text_fault, text_end, text_open, number_after}
+use Rattle.gm_syntax.proofs.Texts.{text_line, text_fault, text_end, text_open, number_after}
 
 abbrev pub unread : List ℕ → List ℕ → Place → Unread
 unread source rest at = record { source = source; rest = rest; at = at }
