@@ -1,8 +1,6 @@
 -- The retractions of a dependency's file.
-use Rattle.std.proofs.Common.{◌≡◌, ℕ, ◌||◌, Bool, true, false, List, [], ◌∷◌, ◌++◌, length, codes, Option, Some, None, Ok, Err, refl, sym, ap, subst, ◌∙◌, arith, inl, inr}
+use Rattle.std.proofs.Common.{◌≡◌, ℕ, ◌||◌, Bool, true, false, List, [], ◌∷◌, ◌++◌, length, codes, Option, Some, None, Ok, refl, sym, ap, subst, ◌∙◌}
 use Rattle.std.specs.Prelude.{◌==◌, if◌then◌else◌, option_and_then}
-use Rattle.std.proofs.lemmas.Bool.{cases_Bool}
-use Rattle.std.proofs.lemmas.Bool.Decides.{Decides-eqb}
 use Rattle.std.specs.Option.{option_map, option_to_list}
 use Rattle.std.proofs.lemmas.List.Elements.{filter_map-append}
 use Rattle.std.specs.Cmp.Lexicographic.{same_text}
@@ -21,7 +19,7 @@ use Rattle.gm_file.specs.declared.fault.DirectiveKind.{DirectiveKind}
 use Rattle.gm_file.specs.declared.fault.DirectiveKind.TheVariants.{WrongArguments}
 use Rattle.gm_file.specs.declared.fault.LineFault.TheVariants as line
 use Rattle.gm_file.specs.Faults.{ends_kinds}
-use Rattle.gm_file.specs.Fields.{first, lax_retracts_of, valid_ends, valid_interval}
+use Rattle.gm_file.specs.Fields.{lax_retracts_of, valid_ends, valid_interval}
 use Rattle.gm_file.specs.Private.Reading.{IsPartRead}
 use Rattle.gm_file.specs.Private.Retracting.{AreRetracted, AreRetractionsOf, retraction_at, retraction_in}
 use Rattle.gm_file.specs.declared.retractions.Retractions.{Retractions}

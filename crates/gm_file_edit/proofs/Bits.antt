@@ -1,5 +1,5 @@
 -- The words of an entry have the texts that an operation targets, and their bits.
-use Rattle.std.proofs.Common.{◌≡◌, ℕ, zero, suc, ◌+◌, ◌≤◌, ◌&&◌, max, Bool, true, false, List, [], ◌∷◌, take, Option, Some, None, refl, sym, ap, subst, ◌∙◌, arith, inl, inr}
+use Rattle.std.proofs.Common.{◌≡◌, ℕ, zero, suc, ◌+◌, ◌≤◌, ◌&&◌, true, List, [], ◌∷◌, take, Option, Some, None, refl, sym, ap, subst, ◌∙◌, arith, inl, inr}
 use Rattle.std.specs.Prelude.{⊤, bit_or}
 use Rattle.std.specs.Int.{bit_at}
 use Rattle.std.specs.Option.{option_map}
@@ -12,7 +12,7 @@ use Rattle.gm_name.proofs.NameTests.{and_both}
 use Rattle.gm_name.proofs.Texts.{bytes_eq-same}
 use Rattle.gm_syntax.specs.Words.{Word}
 use Rattle.gm_syntax.specs.Document.{is_mark}
-use Rattle.gm_file.specs.Directives.{Directive, Requires, Excludes, Replaces, Retracts, Left, Replacing, Right, VersionInterval, directive_of, ends_of, is_arrow, left_of, left_with, left_without, pair, pair_of, replacing, replacing_of, right_of}
+use Rattle.gm_file.specs.Directives.{Directive, Requires, Excludes, Replaces, Retracts, Left, Replacing, VersionInterval, directive_of, ends_of, is_arrow, left_of, left_with, left_without, pair, pair_of, replacing, replacing_of, right_of}
 use Rattle.gm_file.specs.Faults.{is_same_left, is_same_version}
 use Rattle.gm_file.specs.Values.{argument}
 use Rattle.gm_file.proofs.Indexed.{same-version}

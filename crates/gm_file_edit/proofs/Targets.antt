@@ -1,6 +1,5 @@
 -- Lines that hold no directive that an operation targets, by their verb, and the entries of a verb.
-use Rattle.std.proofs.Common.{◌≡◌, Bool, true, false, List, [], Option, Some, None, refl, sym, ap, ◌∙◌, inl, inr}
-use Rattle.std.proofs.lemmas.Bool.{cases_Bool}
+use Rattle.std.proofs.Common.{◌≡◌, Bool, true, false, List, [], Option, Some, None, refl, sym, ap, ◌∙◌}
 use Rattle.gm_syntax.specs.Words.{Word}
 use Rattle.gm_syntax.specs.Tokens.{Placed}
 use Rattle.gm_syntax.specs.Document.{Line}
@@ -8,7 +7,7 @@ use Rattle.gm_file.specs.declared.verb.Verb.{Verb}
 use Rattle.gm_file.specs.declared.verb.Verb.TheVariants.{Module as ForModule, Go as ForGo}
 use Rattle.gm_file.specs.Directives.{Strict, Directive, Requires, Excludes, Replaces, Retracts, Item, Silent, Opening, Saying, directive_in, directive_of, is_of_verb, main_verb, verb_eq, verb_of_directive}
 use Rattle.gm_file.specs.Faults.{entry_kinds, is_module, item_kinds}
-use Rattle.gm_file.proofs.DirectiveVerbs.{directive-verb, same-verb, verb-itself}
+use Rattle.gm_file.proofs.DirectiveVerbs.{directive-verb, same-verb}
 use Rattle.gm_file_edit.specs.About.{about}
 use Rattle.gm_file_edit.specs.Edits.{Edit, Set, ModuleIs, GoIs, RequireAt, Drop, AnyRequire, Add, Exclude, AnyExclude, ReplaceWith, AnyReplace, Retract, AnyRetract}
 use Rattle.gm_file_edit.specs.Holding.{directive_at, item_of, passes}

@@ -1,5 +1,5 @@
 -- What the code reads: the values of words, and valid lines.
-use Rattle.std.proofs.Common.{◌≡◌, ℕ, ◌+◌, ◌<◌, ◌≤◌, Bool, true, false, List, [], ◌∷◌, length, get_or, drop, Option, Some, None, refl, sym, ap, subst, ◌∙◌, inl, inr}
+use Rattle.std.proofs.Common.{◌≡◌, ℕ, ◌+◌, ◌<◌, ◌≤◌, Bool, true, false, List, [], ◌∷◌, length, get_or, drop, Option, Some, None, sym, ap, subst, ◌∙◌, inl, inr}
 use Rattle.std.specs.Prelude.{bit_or}
 use Rattle.std.specs.Borrow.{Bor}
 use Rattle.std.specs.Option.{option_map}
@@ -14,7 +14,7 @@ use Rattle.gm_file.specs.declared.fault.DirectiveKind.{DirectiveKind}
 use Rattle.gm_file.specs.Directives.{Directive, Strict, item_at}
 use Rattle.gm_file.specs.Faults.{item_kinds}
 use Rattle.gm_file.specs.Fields.{first}
-use Rattle.gm_file.specs.Values.{argument, argument_of_kind}
+use Rattle.gm_file.specs.Values.{argument}
 use Rattle.gm_file_edit.specs.Private.Holding.{IsValidAt}
 use Rattle.gm_file_edit.specs.Private.Keys.{IsValueIn, bits_with, optional_bits}
 use Rattle.gm_file_edit.proofs.Walking.{drop-next}

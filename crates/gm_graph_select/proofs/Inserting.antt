@@ -16,7 +16,7 @@ use Rattle.gm_graph_select.specs.Graph.{among}
 use Rattle.gm_graph_select.specs.Greatest.{greatest_of}
 use Rattle.gm_graph_select.specs.Order.{HaveSame, IsAscending}
 use Rattle.gm_graph_select.specs.Private.StepOrder.{in_order}
-use Rattle.gm_graph_select.proofs.Ascending.{member_cases, member_head, member_tail, no_member, pairs_head, pairs_tail, same_lists}
+use Rattle.gm_graph_select.proofs.Ascending.{member_cases, member_head, member_tail, no_member, pairs_head, pairs_tail}
 use Rattle.gm_graph_select.proofs.LastVersions.{are_selected, listed}
 use Rattle.gm_graph_select.proofs.Same.{ends_of, ends_same}
 

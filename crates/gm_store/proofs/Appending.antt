@@ -1,7 +1,7 @@
 -- Bytes that are appended piece by piece.
 use Rattle.std.proofs.Common.{◌≡◌, min, ◌+◌, ◌-◌, ◌≤◌, ℕ, List, [], ◌++◌, length, take, drop, Option, Some, None, Ok, ap, ◌∙◌, sym, arith, append_assoc, append-nil, take-add}
 use Rattle.std.proofs.lemmas.Grind.{common_steps}
-use Rattle.std.specs.Io.KnownBytes.{Appends, Keeps}
+use Rattle.std.specs.Io.KnownBytes.{Appends}
 use Rattle.gm_store.specs.Taken.{TakesWhatFits}
 use Rattle.gm_store.specs.declared.sinks.WriteFault.{WriteFault}
 

@@ -1,5 +1,5 @@
 -- Collecting the versions that may be listed from a list of words.
-use Rattle.std.proofs.Common.{◌≡◌, zero, suc, ℕ, List, [], ◌∷◌, ◌++◌, map, nat_eq, sym, subst, refl, ◌∙◌, ap, arith, Bor, Option, Some, None}
+use Rattle.std.proofs.Common.{◌≡◌, zero, suc, ℕ, List, [], ◌∷◌, ◌++◌, map, nat_eq, sym, subst, ◌∙◌, ap, arith, Bor, Option, Some, None}
 use Rattle.std.specs.Prelude.{Contains}
 use Rattle.std.specs.Cmp.Lexicographic.{nat_list_eq_equiv, pointwise, same_text}
 use Rattle.std.specs.List.{dedup}

@@ -9,10 +9,10 @@ use Rattle.gm_syntax.specs.declared.line.Line as declared
 use Rattle.gm_syntax.specs.Words.{Word}
 use Rattle.gm_syntax.specs.Lines.{lines_of, HasNoLineFeed}
 use Rattle.gm_syntax.specs.Tokens.{Placed, AreSlicesBetween, AreNumbered}
-use Rattle.gm_syntax.specs.Document.{Line, start, after, Place}
+use Rattle.gm_syntax.specs.Document.{Line, after, Place}
 use Rattle.gm_syntax.specs.LineViews.{line_of, plain, plain_lines, tokens_of, all_tokens}
-use Rattle.gm_syntax.specs.Placing.{FillsLine, FillLines}
-use Rattle.gm_syntax.specs.Parsed.{IsText, IsParsedAs, IsFaultOrNoMemory}
+use Rattle.gm_syntax.specs.Placing.{FillsLine}
+use Rattle.gm_syntax.specs.Parsed.{IsParsedAs, IsFaultOrNoMemory}
 use Rattle.gm_syntax.specs.Private.Reader.{IsOnlyLine, IsLineReadAs, fault_at}
 use Rattle.gm_syntax.specs.LineReading.{Unread, TextProgress, HasRead, IsReadDocument, IsNextRead}
 use Rattle.gm_syntax.proofs.Places.{suffix_of_suffix, line_stands, lines_numbered_push, stand_widen}

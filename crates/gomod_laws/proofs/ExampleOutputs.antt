@@ -16,7 +16,7 @@ use Rattle.gomod_words.specs.Usage.{unreadable_text, version_line}
 use Rattle.gomod_run.specs.Written.{EndsAsStated, IsWritten}
 use Rattle.gomod_run.proofs.ListLines.{heads}
 use Rattle.gomod_laws.proofs.ExampleLines.{ascii_utf8}
-use Rattle.gomod_laws.specs.ExampleOutputs.{EndIsStated, EndsBy, FileIsRead, InputIsHeld, InputIsUnread, PrintsText, WithInput, WordsAreGiven, also_unreadable, empty, version_flag, other, path, text, unreadable, with_bad_line, with_no_memory, with_other, with_text}
+use Rattle.gomod_laws.specs.ExampleOutputs.{EndIsStated, EndsBy, FileIsRead, InputIsHeld, InputIsUnread, PrintsText, WithInput, WordsAreGiven, also_unreadable, empty, version_flag, other, text, unreadable, with_bad_line, with_no_memory, with_other, with_text}
 
 -- ---- a run ends
 

@@ -1,5 +1,5 @@
 -- Runs over folders in memory, with one more folder and without it.
-use Rattle.std.proofs.Common.{◌≡◌, ◌∙◌, ◌++◌, ◌∷◌, ℕ, Bool, List, [], Option, Some, None, Result, Ok, Err, Contains, ap, false, inl, inr, refl, subst, sym, true}
+use Rattle.std.proofs.Common.{◌≡◌, ◌∙◌, ◌++◌, ◌∷◌, ℕ, Bool, List, [], Option, Some, None, Result, Ok, Err, Contains, ap, inl, inr, refl, subst, sym, true}
 use Rattle.std.proofs.lemmas.List.{get_or-map, length-map}
 use Rattle.std.proofs.lemmas.List.Elements.{Contains-push_cases}
 use Rattle.gm_file.specs.Fields.{Dependency}
@@ -23,7 +23,7 @@ use Rattle.gomod_run.proofs.OneQueryStore.{alike_back, stores_agree}
 use Rattle.gomod_words.specs.declared.usage.Command.{Command}
 use Rattle.gomod_words.specs.declared.usage.Command.TheVariants.{Fmt, Edit, Versions, Graph, List as Rows, Chain}
 use Rattle.gomod_run.specs.Runs.{Needs, is_query}
-use Rattle.gomod_run.specs.Versions.{AreShown, VersionsEnds, VersionsNeed, all_listed, not_retracted}
+use Rattle.gomod_run.specs.Versions.{AreShown, IsLatestListed, VersionsEnds, VersionsNeed, all_listed, not_retracted}
 use Rattle.gomod_run.proofs.AllAsked.{done_answers}
 use Rattle.gomod_run.proofs.Answering.{answered_in}
 use Rattle.gomod_run.proofs.OneStore.{one_for_stores}
@@ -79,9 +79,15 @@ read_is_file sums name (bytes content) file is = (content, refl)
 
 -- ---- `versions`
 
-pub versions_grow : (path : List ℕ) (all : Bool) → Grows (VersionsNeed path all)
-versions_grow path all one other keeps name (inl list) = inl list
-versions_grow path all one other keeps name (inr (versions, latest, same, is)) = inr (
+-- the go.mod of a latest version, which is needed over one store's answers, and over others that have the same list
+abbrev NeedsLatest : List ℕ → Bool → AnswersByName → Name → Type 0
+NeedsLatest path all answers name =
+    (versions : List (List ℕ)) × (latest : List ℕ) × (name ≡ mod_file path latest) × IsLatestListed path all answers versions latest
+
+latest_again : (path : List ℕ) (all : Bool) (one other : AnswersByName) (name : Name)
+    → ((list : List ℕ) → one (list_file path) ≡ Some (bytes list) → other (list_file path) ≡ Some (bytes list))
+    → NeedsLatest path all one name → NeedsLatest path all other name
+latest_again path all one other name moved (versions, latest, same, is) = (
   versions,
   latest,
   same,
@@ -90,12 +96,16 @@ versions_grow path all one other keeps name (inr (versions, latest, same, is)) =
     listed = record {
       fetchable = is.listed.fetchable;
       list = is.listed.list;
-      answered = keeps (list_file path) (bytes is.listed.list) is.listed.answered;
+      answered = moved is.listed.list is.listed.answered;
       listed = is.listed.listed;
     };
     greatest = is.greatest;
   },
 )
+
+pub versions_grow : (path : List ℕ) (all : Bool) → Grows (VersionsNeed path all)
+versions_grow path all one other keeps name (inl list) = inl list
+versions_grow path all one other keeps name (inr need) = inr (latest_again path all one other name (λ list. keeps (list_file path) (bytes list)) need)
 
 module _ (path : List ℕ) (all : Bool) (told : AnswersByName) (outcome : Outcome) (prints : HasPrinted outcome)
     (ends : VersionsEnds path all told [] outcome) where
@@ -126,25 +136,10 @@ module _ (path : List ℕ) (all : Bool) (told : AnswersByName) (outcome : Outcom
   pub needed_again : (other : AnswersByName) (name : Name) → ((a b : Reply) → other (list_file path) ≡ Some a → told (list_file path) ≡ Some b → a ≡ b)
       → VersionsNeed path all other name → VersionsNeed path all told name
   needed_again other name alike (inl list) = inl list
-  needed_again other name alike (inr (versions, latest, same, is)) =
+  needed_again other name alike (inr need) =
       let (others, listed) = shown_listed path all told shown are in
-      let lists : bytes is.listed.list ≡ bytes listed.list = alike (bytes is.listed.list) (bytes listed.list) is.listed.answered listed.answered in
-      inr (
-        versions,
-        latest,
-        same,
-        record {
-          some = is.some;
-          listed = record {
-            fetchable = is.listed.fetchable;
-            list = is.listed.list;
-            answered =
-                listed.answered ∙ ap Some (sym lists);
-            listed = is.listed.listed;
-          };
-          greatest = is.greatest;
-        },
-      )
+      inr (latest_again path all other told name (λ list answered.
+      listed.answered ∙ ap Some (sym (alike (bytes list) (bytes listed.list) answered listed.answered))) need)
 
 -- ---- queries
 

@@ -12,7 +12,6 @@ use Rattle.gm_file.specs.declared.verb.Verb.{Verb}
 use Rattle.gm_file.specs.declared.verb.Verb.TheVariants as verb
 use Rattle.gm_file_edit.specs.declared.keys.Key.{Key}
 use Rattle.gm_file_edit.specs.declared.keys.Key.TheVariants as key
-use Rattle.gm_file_edit.specs.declared.keys.EntryKey.{EntryKey}
 use Rattle.gm_file_edit.specs.declared.targeting.TargetEntry.{TargetEntry}
 use Rattle.gm_file_edit.specs.Edits.{Edit, Set, ModuleIs, GoIs, RequireAt, Drop, AnyRequire, Add, Exclude, AnyExclude, ReplaceWith, AnyReplace, Retract, AnyRetract}
 

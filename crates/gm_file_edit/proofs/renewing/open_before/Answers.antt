@@ -1,7 +1,5 @@
 use Rattle.std.proofs.Common.{Option, ap, arith, sym, ◌∙◌}
-use Rattle.gm_syntax.specs.LineViews.{line_of}
 use Rattle.gm_syntax.specs.Tokens.{Placed}
-use Rattle.gm_syntax.specs.Document.{Line}
 use Rattle.gm_file.specs.Directives.{block_after_line}
 use Rattle.gm_file_edit.specs.Private.Marks.{line_at}
 use Rattle.gm_file_edit.proofs.Walking.{block-next}

@@ -38,9 +38,12 @@ sources_by_ranks-sources-requires c =
     (sym (ap length c.deref-4.ensures.value ∙ c.in_ok-ranking.ensures.ranks.count))
     (sources_below lists c.args.sources.items (length c.args.modules.items) c.requires.numbered)
 
-pub invariant_of-result : goal.invariant_of-result
-invariant_of-result c =
-    let made = is_graph_of c.args.modules.items c.in_ok-is_vertex.is_vertex.items c.deref-2.result.now
+-- what was made is the graph of the edges by their numbers
+made : (c : goal.After-sources_by_ranks-sources)
+    → IsGraphOf c.args.modules.items (by_step (lists_at c.args.numbers.items c.args.spans.items) c.args.sources.items)
+    c.in_ok-ranking.ranking.vertices.items (by_step c.by_ranks-lists.result c.sources_by_ranks-sources.result.items)
+made c =
+    is_graph_of c.args.modules.items c.in_ok-is_vertex.is_vertex.items c.deref-2.result.now
     c.in_ok-ranking.ranking.vertices.items c.in_ok-ranking.ranking.ranks.items c.deref-3.result.now
     c.deref-4.result.now
     (lists_at c.args.numbers.items c.args.spans.items) c.new-lists.result c.by_ranks-lists.result c.args.sources.items
@@ -48,44 +51,17 @@ invariant_of-result c =
     c.new-lists.ensures c.deref.ensures.value c.deref-2.ensures.value c.deref-3.ensures.value c.deref-4.ensures.value c.requires.used
     (omega (arith, c.in_ok-is_vertex.ensures.count, c.len.ensures, c.args.modules.ok)) c.in_ok-is_vertex.ensures.marks
     c.in_ok-ranking.ensures.vertices c.in_ok-ranking.ensures.ascending c.in_ok-ranking.ensures.ranks
-    c.by_ranks-lists.ensures c.sources_by_ranks-sources.ensures c.requires.once in
-    made.ranked
+    c.by_ranks-lists.ensures c.sources_by_ranks-sources.ensures c.requires.once
+
+pub invariant_of-result : goal.invariant_of-result
+invariant_of-result c = (made c).ranked
 
 pub returns-clause-vertices : goal.returns-clause-vertices
-returns-clause-vertices c =
-    let made = is_graph_of c.args.modules.items c.in_ok-is_vertex.is_vertex.items c.deref-2.result.now
-    c.in_ok-ranking.ranking.vertices.items c.in_ok-ranking.ranking.ranks.items c.deref-3.result.now
-    c.deref-4.result.now
-    (lists_at c.args.numbers.items c.args.spans.items) c.new-lists.result c.by_ranks-lists.result c.args.sources.items
-    c.deref.result.now c.sources_by_ranks-sources.result.items
-    c.new-lists.ensures c.deref.ensures.value c.deref-2.ensures.value c.deref-3.ensures.value c.deref-4.ensures.value c.requires.used
-    (omega (arith, c.in_ok-is_vertex.ensures.count, c.len.ensures, c.args.modules.ok)) c.in_ok-is_vertex.ensures.marks
-    c.in_ok-ranking.ensures.vertices c.in_ok-ranking.ensures.ascending c.in_ok-ranking.ensures.ranks
-    c.by_ranks-lists.ensures c.sources_by_ranks-sources.ensures c.requires.once in
-    made.vertices_are
+returns-clause-vertices c = (made c).vertices_are
 
 pub returns-clause-edges : goal.returns-clause-edges
-returns-clause-edges c =
-    let made = is_graph_of c.args.modules.items c.in_ok-is_vertex.is_vertex.items c.deref-2.result.now
-    c.in_ok-ranking.ranking.vertices.items c.in_ok-ranking.ranking.ranks.items c.deref-3.result.now
-    c.deref-4.result.now
-    (lists_at c.args.numbers.items c.args.spans.items) c.new-lists.result c.by_ranks-lists.result c.args.sources.items
-    c.deref.result.now c.sources_by_ranks-sources.result.items
-    c.new-lists.ensures c.deref.ensures.value c.deref-2.ensures.value c.deref-3.ensures.value c.deref-4.ensures.value c.requires.used
-    (omega (arith, c.in_ok-is_vertex.ensures.count, c.len.ensures, c.args.modules.ok)) c.in_ok-is_vertex.ensures.marks
-    c.in_ok-ranking.ensures.vertices c.in_ok-ranking.ensures.ascending c.in_ok-ranking.ensures.ranks
-    c.by_ranks-lists.ensures c.sources_by_ranks-sources.ensures c.requires.once in
-    made.edges_are
+returns-clause-edges c = (made c).edges_are
 
 pub returns-clause-ascending : goal.returns-clause-ascending
 returns-clause-ascending c =
-    let made = is_graph_of c.args.modules.items c.in_ok-is_vertex.is_vertex.items c.deref-2.result.now
-    c.in_ok-ranking.ranking.vertices.items c.in_ok-ranking.ranking.ranks.items c.deref-3.result.now
-    c.deref-4.result.now
-    (lists_at c.args.numbers.items c.args.spans.items) c.new-lists.result c.by_ranks-lists.result c.args.sources.items
-    c.deref.result.now c.sources_by_ranks-sources.result.items
-    c.new-lists.ensures c.deref.ensures.value c.deref-2.ensures.value c.deref-3.ensures.value c.deref-4.ensures.value c.requires.used
-    (omega (arith, c.in_ok-is_vertex.ensures.count, c.len.ensures, c.args.modules.ok)) c.in_ok-is_vertex.ensures.marks
-    c.in_ok-ranking.ensures.vertices c.in_ok-ranking.ensures.ascending c.in_ok-ranking.ensures.ranks
-    c.by_ranks-lists.ensures c.sources_by_ranks-sources.ensures c.requires.once in
-    ranked_edges_ascend c.in_ok-ranking.ranking.vertices.items (by_step c.by_ranks-lists.result c.sources_by_ranks-sources.result.items) made.ranked
+    ranked_edges_ascend c.in_ok-ranking.ranking.vertices.items (by_step c.by_ranks-lists.result c.sources_by_ranks-sources.result.items) (made c).ranked
