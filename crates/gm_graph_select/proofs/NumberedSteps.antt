@@ -235,6 +235,7 @@ module _ (vertices : List ModuleVersion) (lists : List (List ℕ)) (sources : Li
       (omega (arith, below, count))) in
       less_number_cmp (number_left (get_or sources i d)) (number_left (get_or sources j d))
       (omega (arith, low, ap (λ (o : StepEdges). number_with o.from) first, ap (λ (o : StepEdges). number_with o.from) second))
+
   -- A binary search found the source with that number.
   pub source_found : (number place : ℕ) (one : Source) → place < length sources → one ≡ get_or sources place one
       → nat_cmp (number_left one) number ≡ Equal → HasList its_graph number one.list
