@@ -1,15 +1,15 @@
 -- The arguments of a parsed operation are valid.
-use Rattle.std.proofs.Common.{◌≡◌, ℕ, Bool, true, false, List, Option, Some, None, is_some, subst, inl, inr}
-use Rattle.std.specs.Prelude.{codes, if◌then◌else◌}
-use Rattle.std.specs.Option.{option_map}
-use Rattle.std.specs.Str.{bytes_eq}
+use Rattle.std.proofs.Common.{◌≡◌, ℕ, Bool, true, List, Some, None, is_some, subst, inl, inr}
+use Rattle.std.specs.Prelude.{if◌then◌else◌}
 use Rattle.std.proofs.lemmas.Bool.{cases_Bool}
 use Rattle.gm_name.specs.Names.{is_path, is_version}
 use Rattle.gm_name.specs.ModuleVersion.{ModuleVersion}
 use Rattle.gm_file.specs.Values.{both, is_folder_path}
 use Rattle.gm_file.specs.GoVersions.{strict_go}
 use Rattle.gm_file.specs.Directives.{VersionInterval, pair, Left, left_with, left_without, Right, Folder, Module, Replacing, replacing}
-use Rattle.gm_file_edit.specs.Edits.{Edit, Set, ModuleIs, GoIs, RequireAt, Drop, AnyRequire, Add, Exclude, AnyExclude, ReplaceWith, AnyReplace, Retract, AnyRetract, split_at_byte, edit_in, go_text_in, has_byte, inside_brackets, interval_in, is_bracketed, left_in, edit_named, pair_in, path_in, replacing_in, right_in, trim, version_in}
+use Rattle.gm_file_edit.specs.Edits.{Edit, Set, ModuleIs, GoIs, RequireAt, Drop, AnyRequire, Add, Exclude, AnyExclude, ReplaceWith, AnyReplace, Retract, AnyRetract, split_at_byte, edit_as, edit_in, go_text_in, has_byte, inside_brackets, interval_in, is_bracketed, left_in, edit_named, operation_named, pair_in, path_in, replacing_in, right_in, trim, version_in}
+use Rattle.gm_file_edit.specs.declared.op.OperationKind.{OperationKind}
+use Rattle.gm_file_edit.specs.declared.op.OperationKind.TheVariants as op
 use Rattle.gm_file_edit.specs.Sound.{AreVersions, IsPairOfNames, IsSoundEdit, IsSoundLeft, IsSoundRight}
 use Rattle.std.proofs.lemmas.Option.{same_Some}
 use Rattle.gm_file_edit.proofs.Feeds.{if-some, if-other, both-are, map-some, then-some}
@@ -80,27 +80,33 @@ ends-sound text ends e = elim (cases_Bool (is_bracketed text)) [
       subst AreVersions m.2 (v, v)
 ]
 
--- an operation with this name or one of the other names
-one-named : {X : Type 0} (P : Edit → Type 0) (named_so : Bool) (make : X → Edit) (part : Option X) (rest : Option Edit)
-    (edit : Edit) → ((x : X) → part ≡ Some x → P (make x)) → (rest ≡ Some edit → P edit)
-    → (if named_so then option_map make part else rest) ≡ Some edit → P edit
-one-named P true make part rest edit here other e = let m = map-some make part edit e in subst P m.2 (here m.0 m.1)
-one-named P false make part rest edit here other e = other e
+-- an operation of a kind has valid arguments
+as-sound : (kind : OperationKind) (text : List ℕ) (edit : Edit) → edit_as kind text ≡ Some edit → IsSoundEdit edit
+as-sound op.Module text edit e =
+    let m = map-some (λ (path : List ℕ). Set (ModuleIs path)) (path_in text) edit e in subst IsSoundEdit m.2 (path-sound text m.0 m.1)
+as-sound op.Go text edit e =
+    let m = map-some (λ (version : List ℕ). Set (GoIs version)) (go_text_in text) edit e in subst IsSoundEdit m.2 (go-sound text m.0 m.1)
+as-sound op.Require text edit e =
+    let m = map-some (λ (p : ModuleVersion). Set (RequireAt p)) (pair_in text) edit e in subst IsSoundEdit m.2 (pair-sound text m.0 m.1)
+as-sound op.DropRequire text edit e =
+    let m = map-some (λ (path : List ℕ). Drop (AnyRequire path)) (path_in text) edit e in subst IsSoundEdit m.2 tt
+as-sound op.Exclude text edit e =
+    let m = map-some (λ (p : ModuleVersion). Add (Exclude p)) (pair_in text) edit e in subst IsSoundEdit m.2 (pair-sound text m.0 m.1)
+as-sound op.DropExclude text edit e =
+    let m = map-some (λ (p : ModuleVersion). Drop (AnyExclude p)) (pair_in text) edit e in subst IsSoundEdit m.2 tt
+as-sound op.Replace text edit e =
+    let m = map-some (λ (r : Replacing). Set (ReplaceWith r)) (replacing_in text) edit e in subst IsSoundEdit m.2 (replacing-sound text m.0 m.1)
+as-sound op.DropReplace text edit e =
+    let m = map-some (λ (left : Left). Drop (AnyReplace left)) (left_in text) edit e in subst IsSoundEdit m.2 tt
+as-sound op.Retract text edit e =
+    let m = map-some (λ (ends : VersionInterval). Add (Retract ends)) (interval_in text) edit e in subst IsSoundEdit m.2 (ends-sound text m.0 m.1)
+as-sound op.DropRetract text edit e =
+    let m = map-some (λ (ends : VersionInterval). Drop (AnyRetract ends)) (interval_in text) edit e in subst IsSoundEdit m.2 tt
 
 pub named-sound : (name text : List ℕ) (edit : Edit) → edit_named name text ≡ Some edit → IsSoundEdit edit
 unfolding edit_named
-named-sound name text edit =
-    one-named IsSoundEdit (bytes_eq name (codes "module")) (λ path. Set (ModuleIs path)) (path_in text) _ edit (path-sound text)
-    (one-named IsSoundEdit (bytes_eq name (codes "go")) (λ version. Set (GoIs version)) (go_text_in text) _ edit (go-sound text)
-    (one-named IsSoundEdit (bytes_eq name (codes "require")) (λ p. Set (RequireAt p)) (pair_in text) _ edit (pair-sound text)
-    (one-named IsSoundEdit (bytes_eq name (codes "droprequire")) (λ path. Drop (AnyRequire path)) (path_in text) _ edit (λ path is. tt)
-    (one-named IsSoundEdit (bytes_eq name (codes "exclude")) (λ p. Add (Exclude p)) (pair_in text) _ edit (pair-sound text)
-    (one-named IsSoundEdit (bytes_eq name (codes "dropexclude")) (λ p. Drop (AnyExclude p)) (pair_in text) _ edit (λ p is. tt)
-    (one-named IsSoundEdit (bytes_eq name (codes "replace")) (λ r. Set (ReplaceWith r)) (replacing_in text) _ edit (replacing-sound text)
-    (one-named IsSoundEdit (bytes_eq name (codes "dropreplace")) (λ left. Drop (AnyReplace left)) (left_in text) _ edit (λ left is. tt)
-    (one-named IsSoundEdit (bytes_eq name (codes "retract")) (λ ends. Add (Retract ends)) (interval_in text) _ edit (ends-sound text)
-    (one-named IsSoundEdit (bytes_eq name (codes "dropretract")) (λ ends. Drop (AnyRetract ends)) (interval_in text) _
-    edit (λ ends is. tt) (λ e. absurd cc))))))))))
+named-sound name text edit e =
+    let named = then-some (λ (kind : OperationKind). edit_as kind text) (operation_named name) edit e in as-sound named.0 text edit named.2
 
 -- an operation that some text spells has valid arguments
 pub written-sound : (text : List ℕ) (edit : Edit) → edit_in text ≡ Some edit → IsSoundEdit edit

@@ -1,13 +1,15 @@
 -- Operations on the go.mod file of a main module, and how they are spelled (go help mod edit).
-use Rattle.std.specs.Prelude.{ℕ, ◌-◌, ◌==◌, ◌&&◌, ◌||◌, nat_lt, if◌then◌else◌, Bool, List, length, take, drop, slice_index, codes, Option, Some, None, is_some, take_while, option_and_then}
+use Rattle.std.specs.Prelude.{ℕ, ◌-◌, ◌==◌, ◌&&◌, ◌||◌, ◌∷◌, nat_lt, if◌then◌else◌, Bool, List, [], length, take, drop, slice_index, codes, Option, Some, None, is_some, take_while, option_and_then}
 use Rattle.std.specs.Option.{option_map}
-use Rattle.std.specs.List.{after_first, before_first, list_any, suffix_len}
+use Rattle.std.specs.List.{after_first, before_first, find, list_any, suffix_len}
 use Rattle.std.specs.Str.{bytes_eq}
 use Rattle.gm_name.specs.Names.{is_path, is_version}
 use Rattle.gm_name.specs.ModuleVersion.{ModuleVersion}
 use Rattle.gm_file.specs.Values.{both, is_folder_path}
 use Rattle.gm_file.specs.GoVersions.{strict_go}
 use Rattle.gm_file.specs.Directives.{VersionInterval, pair, Left, left_with, left_without, Right, Folder, Module, Replacing, replacing}
+use Rattle.gm_file_edit.specs.declared.op.OperationKind.{OperationKind}
+use Rattle.gm_file_edit.specs.declared.op.OperationKind.TheVariants as op
 
 -- a directive that an operation sets: there is then one of its kind, and it says this
 pub data Setting : Type 0 where
@@ -119,20 +121,35 @@ two_versions_in text =
 unfoldable pub interval_in : List ℕ → Option VersionInterval
 interval_in text = if is_bracketed text then two_versions_in (inside_brackets text) else one_version_in text
 
+-- the names of operations, and the kind of each
+abbrev pub operation_names : List (List ℕ × OperationKind)
+operation_names =
+    (codes "module", op.Module) ∷ (codes "go", op.Go)
+    ∷ (codes "require", op.Require) ∷ (codes "droprequire", op.DropRequire)
+    ∷ (codes "exclude", op.Exclude) ∷ (codes "dropexclude", op.DropExclude)
+    ∷ (codes "replace", op.Replace) ∷ (codes "dropreplace", op.DropReplace)
+    ∷ (codes "retract", op.Retract) ∷ (codes "dropretract", op.DropRetract) ∷ []
+
+-- the kind of the operation with this name
+unfoldable pub operation_named : List ℕ → Option OperationKind
+operation_named name = option_map (λ row. row.1) (find (λ row. bytes_eq name row.0) operation_names)
+
+-- the operation of this kind with this argument
+abbrev pub edit_as : OperationKind → List ℕ → Option Edit
+edit_as op.Module text = option_map (λ path. Set (ModuleIs path)) (path_in text)
+edit_as op.Go text = option_map (λ version. Set (GoIs version)) (go_text_in text)
+edit_as op.Require text = option_map (λ p. Set (RequireAt p)) (pair_in text)
+edit_as op.DropRequire text = option_map (λ path. Drop (AnyRequire path)) (path_in text)
+edit_as op.Exclude text = option_map (λ p. Add (Exclude p)) (pair_in text)
+edit_as op.DropExclude text = option_map (λ p. Drop (AnyExclude p)) (pair_in text)
+edit_as op.Replace text = option_map (λ r. Set (ReplaceWith r)) (replacing_in text)
+edit_as op.DropReplace text = option_map (λ left. Drop (AnyReplace left)) (left_in text)
+edit_as op.Retract text = option_map (λ ends. Add (Retract ends)) (interval_in text)
+edit_as op.DropRetract text = option_map (λ ends. Drop (AnyRetract ends)) (interval_in text)
+
 -- the operation with this name and this argument
 unfoldable pub edit_named : List ℕ → List ℕ → Option Edit
-edit_named name text =
-    if bytes_eq name (codes "module") then option_map (λ path. Set (ModuleIs path)) (path_in text)
-    else (if bytes_eq name (codes "go") then option_map (λ version. Set (GoIs version)) (go_text_in text)
-    else (if bytes_eq name (codes "require") then option_map (λ p. Set (RequireAt p)) (pair_in text)
-    else (if bytes_eq name (codes "droprequire") then option_map (λ path. Drop (AnyRequire path)) (path_in text)
-    else (if bytes_eq name (codes "exclude") then option_map (λ p. Add (Exclude p)) (pair_in text)
-    else (if bytes_eq name (codes "dropexclude") then option_map (λ p. Drop (AnyExclude p)) (pair_in text)
-    else (if bytes_eq name (codes "replace") then option_map (λ r. Set (ReplaceWith r)) (replacing_in text)
-    else (if bytes_eq name (codes "dropreplace") then option_map (λ left. Drop (AnyReplace left)) (left_in text)
-    else (if bytes_eq name (codes "retract") then option_map (λ ends. Add (Retract ends)) (interval_in text)
-    else (if bytes_eq name (codes "dropretract") then option_map (λ ends. Drop (AnyRetract ends)) (interval_in text)
-    else None)))))))))
+edit_named name text = option_and_then (λ kind. edit_as kind text) (operation_named name)
 
 -- the operation that a text spells
 unfoldable pub edit_in : List ℕ → Option Edit

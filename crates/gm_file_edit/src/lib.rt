@@ -29,4 +29,4 @@ mod targeting;
 pub use crate::apply::Apply;
 pub use crate::editor::Editor;
 pub use crate::fault::{EditFault, OpFault};
-pub use crate::op::Op;
+pub use crate::op::{Op, OperationKind};

@@ -3,7 +3,7 @@
 //! Parsing needs no file, so whether a text is an operation never depends on what a file says.
 
 ghost use Rattle.std.specs.Prelude.{◌≡◌, IfOk, IsErrOf, None, Some};
-ghost use Rattle.gm_file_edit.specs.Edits.{edit_in, edit_named};
+ghost use Rattle.gm_file_edit.specs.Edits.{edit_as, edit_in, edit_named, operation_named};
 ghost use Rattle.gm_file_edit.specs.Sound.{edit_of};
 ghost use Rattle.gm_file_edit.specs.Private.Sound.{IsParsedPart};
 
@@ -82,23 +82,81 @@ impl Model for Op {
     ghost invariant = { λ o. IsSoundEdit (edit_of o.change) };
 }
 
+/// What the name of an operation says.
+#[derive(Clone, Copy, Debug, PartialEq, Eq)]
+pub enum OperationKind {
+    /// `module`: set the module path.
+    Module,
+    /// `go`: set the go version.
+    Go,
+    /// `require`: set the required version of a path.
+    Require,
+    /// `droprequire`: drop the requirements of a path.
+    DropRequire,
+    /// `exclude`: add an exclusion.
+    Exclude,
+    /// `dropexclude`: drop the exclusions of a version of a path.
+    DropExclude,
+    /// `replace`: set a replacement.
+    Replace,
+    /// `dropreplace`: drop the replacements with a left side.
+    DropReplace,
+    /// `retract`: add a retraction.
+    Retract,
+    /// `dropretract`: drop the retractions of an interval.
+    DropRetract,
+}
+
+impl OperationKind {
+    /// The kind of the operation with this name, or `None` if no operation has it.
+    #[tactic(auto, unfolding(crate::specs::Edits::operation_named))]
+    pub fn named(name: &str) -> Option<OperationKind>
+        ensures { result ≡ operation_named name.now }
+    {
+        match name {
+            "module" => Some(OperationKind::Module),
+            "go" => Some(OperationKind::Go),
+            "require" => Some(OperationKind::Require),
+            "droprequire" => Some(OperationKind::DropRequire),
+            "exclude" => Some(OperationKind::Exclude),
+            "dropexclude" => Some(OperationKind::DropExclude),
+            "replace" => Some(OperationKind::Replace),
+            "dropreplace" => Some(OperationKind::DropReplace),
+            "retract" => Some(OperationKind::Retract),
+            "dropretract" => Some(OperationKind::DropRetract),
+            _ => None,
+        }
+    }
+}
+
+/// Parses the argument of an operation of this kind.
+fn read_as(alloc: Global, kind: OperationKind, text: &str) -> Result<Change, OpFault>
+    ensures { IsParsedPart edit_of (edit_as kind text.now) result }
+{
+    match kind {
+        OperationKind::Module => Ok(Change::Set(Setting::Module(read_path(alloc, text)?))),
+        OperationKind::Go => Ok(Change::Set(Setting::Go(read_go(alloc, text)?))),
+        OperationKind::Require => Ok(Change::Set(Setting::Require(read_pair(alloc, text)?))),
+        OperationKind::DropRequire => Ok(Change::Drop(Target::Require(read_path(alloc, text)?))),
+        OperationKind::Exclude => Ok(Change::Add(Addition::Exclude(read_pair(alloc, text)?))),
+        OperationKind::DropExclude => Ok(Change::Drop(Target::Exclude(read_pair(alloc, text)?))),
+        OperationKind::Replace => Ok(Change::Set(Setting::Replace(read_replace(alloc, text)?))),
+        OperationKind::DropReplace => Ok(Change::Drop(Target::Replace(read_left(alloc, text)?))),
+        OperationKind::Retract => Ok(Change::Add(Addition::Retract(read_interval(alloc, text)?))),
+        OperationKind::DropRetract => Ok(Change::Drop(Target::Retract(read_interval(
+            alloc, text,
+        )?))),
+    }
+}
+
 /// Parses the argument of the operation with this name. Any other name is refused with `Spelling`.
 #[tactic(auto, unfolding(crate::specs::Edits::edit_named))]
 fn read_named(alloc: Global, name: &str, text: &str) -> Result<Change, OpFault>
     ensures { IsParsedPart edit_of (edit_named name.now text.now) result }
 {
-    match name {
-        "module" => Ok(Change::Set(Setting::Module(read_path(alloc, text)?))),
-        "go" => Ok(Change::Set(Setting::Go(read_go(alloc, text)?))),
-        "require" => Ok(Change::Set(Setting::Require(read_pair(alloc, text)?))),
-        "droprequire" => Ok(Change::Drop(Target::Require(read_path(alloc, text)?))),
-        "exclude" => Ok(Change::Add(Addition::Exclude(read_pair(alloc, text)?))),
-        "dropexclude" => Ok(Change::Drop(Target::Exclude(read_pair(alloc, text)?))),
-        "replace" => Ok(Change::Set(Setting::Replace(read_replace(alloc, text)?))),
-        "dropreplace" => Ok(Change::Drop(Target::Replace(read_left(alloc, text)?))),
-        "retract" => Ok(Change::Add(Addition::Retract(read_interval(alloc, text)?))),
-        "dropretract" => Ok(Change::Drop(Target::Retract(read_interval(alloc, text)?))),
-        _ => Err(OpFault::Spelling),
+    match OperationKind::named(name) {
+        Some(kind) => read_as(alloc, kind, text),
+        None => Err(OpFault::Spelling),
     }
 }
 
