@@ -7,7 +7,8 @@ use Rattle.clap.specs.declared.error.kind.ErrorKind.{ErrorKind}
 use Rattle.clap.specs.declared.error.kind.ErrorKind.TheVariants.{DisplayHelp, DisplayHelpOnMissingArgumentOrSubcommand, DisplayVersion}
 use Rattle.clap.proofs.OnLiterals.{clap_on_literals}
 use Rattle.gomod_words.specs.Laws.{AreUsageError, AskForVersion}
-use Rattle.gomod_words.specs.Usage.{AskFor, IsReadFault, IsVersionLine, gomod_app, is_line_or_memory}
+use Rattle.gomod_words.specs.Table.{gomod_app}
+use Rattle.gomod_words.specs.Usage.{AskFor, IsReadFault, IsVersionLine, is_line_or_memory}
 use Rattle.gomod_words.specs.declared.usage.Command.{Command}
 use Rattle.gomod_words.specs.declared.usage.Places.{Places}
 use Rattle.gomod_words.specs.declared.usage.UsageFault.{UsageFault}

@@ -7,12 +7,10 @@ use Rattle.clap.specs.Walk.{Rule, Text, is_empty, rule_of}
 use Rattle.clap.specs.declared.builder.arg.Arg.{Arg}
 use Rattle.clap.specs.declared.builder.command.Command.{Command}
 use Rattle.clap.specs.declared.builder.command.Command.TheViews.{out-Command}
-use Rattle.gomod_words.specs.Private.Made.{app_in, arguments_in, name_in, rule_for, with_rules_for, with_commands}
-use Rattle.gomod_words.specs.Usage.{bare_gomod, gomod_app}
+use Rattle.gomod_words.specs.Table.{app_in, arguments_in, name_in, rule_for, with_rules_for, with_commands}
 use Rattle.gomod_words.specs.declared.table.Argument.{Argument}
 use Rattle.gomod_words.specs.declared.table.Argument.TheVariants as a
 use Rattle.gomod_words.specs.declared.table.CommandName.{CommandName}
-use Rattle.gomod_words.specs.declared.table.CommandName.TheVariants as n
 
 third_unset : (a b c d : Bool) → (a && (b && (not c && d))) ≡ true → c ≡ false
 third_unset true true false d holds = refl
@@ -89,13 +87,6 @@ commands_add old new (command ∷ commands) (row ∷ rows) same adds =
     let local = local_if_plain command (ap (λ (app : App). app.top.is_plain) first ∙ plain_with _ (arguments_in row)) in
     let added = adds.1.shape local ∙ ap (λ (app : App). with_subcommand (app_of old) app.top) first in
     commands_add adds.0 new commands rows rest adds.2 ∙ ap (λ (app : App). with_commands app rows) added
-
--- every command of the program, in the order of help
-abbrev pub all_names : List CommandName
-all_names = n.Fmt ∷ n.Edit ∷ n.Graph ∷ n.List ∷ n.Chain ∷ n.Versions ∷ []
-
-pub all_commands : with_commands bare_gomod all_names ≡ gomod_app
-all_commands = refl
 
 -- one command more
 pub command_more : (made new : List Command) (names : List CommandName) (i : ℕ) (d : CommandName) (command : Command) (text : Text) (arguments : List Argument)

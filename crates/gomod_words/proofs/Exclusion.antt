@@ -8,7 +8,8 @@ use Rattle.clap.specs.declared.error.kind.ErrorKind.{ErrorKind}
 use Rattle.clap.specs.declared.error.kind.ErrorKind.TheVariants.{DisplayHelp, DisplayVersion}
 use Rattle.gm_name.specs.Path.{IsPath}
 use Rattle.gm_store.specs.declared.fallback.proxy_list.ProxyList.{ProxyList}
-use Rattle.gomod_words.specs.Usage.{AskFor, HasBadPath, HasBadProxy, IsFaultBy, IsFaultOf, IsMeant, IsPathText, IsProxy, IsReadFault, IsValidBeforeProxy, Means, gomod_app, is_proxy}
+use Rattle.gomod_words.specs.Table.{gomod_app}
+use Rattle.gomod_words.specs.Usage.{AskFor, HasBadPath, HasBadProxy, IsFaultBy, IsFaultOf, IsMeant, IsPathText, IsProxy, IsReadFault, IsValidBeforeProxy, Means, is_proxy}
 use Rattle.gomod_words.specs.declared.usage.Command.{Command}
 use Rattle.gomod_words.specs.declared.usage.Command.TheVariants.{Versions, Fmt, Edit, Graph, List as Rows, Chain}
 use Rattle.gomod_words.specs.declared.usage.Places.{Places}

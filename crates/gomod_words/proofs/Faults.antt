@@ -11,7 +11,8 @@ use Rattle.clap.specs.declared.parser.matches.ArgMatches.{ArgMatches}
 use Rattle.clap.specs.declared.error.kind.ErrorKind.{ErrorKind}
 use Rattle.clap.specs.declared.error.kind.ErrorKind.TheVariants.{DisplayHelp, DisplayVersion, OutOfMemory}
 use Rattle.gomod_words.specs.Dashed.{dashed_in}
-use Rattle.gomod_words.specs.Usage.{AreRecognized, AreAccepted, AskFor, HasBadPath, HasBadProxy, IsFaultBy, IsFaultOf, IsMeant, IsReadFault, ShowsLine, ShowsUsage, gomod_app, usage_of}
+use Rattle.gomod_words.specs.Table.{gomod_app}
+use Rattle.gomod_words.specs.Usage.{AreRecognized, AreAccepted, AskFor, HasBadPath, HasBadProxy, IsFaultBy, IsFaultOf, IsMeant, IsReadFault, ShowsLine, ShowsUsage, usage_of}
 use Rattle.gomod_words.specs.Private.Usage.{AskForSomething, IsEntriesFault, IsParserFault}
 use Rattle.gomod_words.specs.declared.usage.Command.{Command}
 use Rattle.gomod_words.specs.declared.usage.Places.{Places}

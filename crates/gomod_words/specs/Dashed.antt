@@ -1,10 +1,13 @@
 -- Operations of `edit` that are written with a dash in front, as after `go mod edit`, and what to type instead.
-use Rattle.std.specs.Prelude.{◌&&◌, ◌||◌, ◌==◌, ◌∷◌, ◌++◌, not, if◌then◌else◌, Bool, false, nat_eq, List, [], Option, Some, None, codes, is_some, unwrap_or}
-use Rattle.std.specs.List.{find, flat_map, list_any, starts_with}
+use Rattle.std.specs.Prelude.{◌&&◌, ◌||◌, ◌==◌, ◌∷◌, ◌++◌, not, if◌then◌else◌, Bool, false, List, [], Option, Some, None, codes, is_some, unwrap_or}
+use Rattle.std.specs.List.{find, flat_map}
 use Rattle.std.specs.Option.{option_and_then, option_map_or}
 use Rattle.std.specs.Str.{bytes_eq}
 use Rattle.clap.specs.Lexer.{without_minus}
 use Rattle.clap.specs.Walk.{Text}
+use Rattle.gm_file_edit.specs.Edits.{operation_named, split_at_byte}
+use Rattle.gomod_words.specs.Table.{has_value, name_in, option_named}
+use Rattle.gomod_words.specs.declared.table.CommandName.TheVariants.{Edit}
 
 -- the word begins with a dash (45) and is more than that
 abbrev pub begins_with_dash : Text → Bool
@@ -15,15 +18,13 @@ begins_with_dash _ = false
 abbrev pub without_dashes : Text → Text
 without_dashes word = without_minus (without_minus word)
 
--- the names of operations, each with `=`
-abbrev pub operation_names : List Text
-operation_names =
-    codes "module=" ∷ codes "go=" ∷ codes "require=" ∷ codes "replace=" ∷ codes "exclude=" ∷ codes "retract="
-    ∷ codes "droprequire=" ∷ codes "dropexclude=" ∷ codes "dropreplace=" ∷ codes "dropretract=" ∷ []
+-- the name of an operation
+abbrev pub names_operation : Text → Bool
+names_operation name = is_some (operation_named name)
 
--- the text begins with the name of an operation and `=`
+-- the text is the name of an operation, `=` (61) and what follows
 abbrev pub is_operation : Text → Bool
-is_operation text = list_any (starts_with nat_eq text) operation_names
+is_operation text = option_map_or (λ parts. names_operation parts.0) (split_at_byte 61 text) false
 
 -- the operation that a word is, with one dash or two in front or with none
 abbrev pub operation_in : Text → Option Text
@@ -36,13 +37,12 @@ dashed_among words = option_and_then operation_in (find begins_with_dash words)
 -- The operation with a dash in front that the words of a command line have, if any. The first word is the program's
 -- name.
 abbrev pub dashed_in : List Text → Option Text
-dashed_in (program ∷ name ∷ words) = if bytes_eq name (codes "edit") then dashed_among words else None
+dashed_in (program ∷ name ∷ words) = if bytes_eq name (name_in Edit) then dashed_among words else None
 dashed_in _ = None
 
 -- the name of an option that takes a value
 abbrev pub names_value : Text → Bool
-names_value name = bytes_eq name (codes "proxy") || (bytes_eq name (codes "mod") || (bytes_eq name (codes "sum")
-    || (bytes_eq name (codes "after") || bytes_eq name (codes "limit"))))
+names_value name = option_map_or has_value (option_named name) false
 
 -- an option, with one dash or two, that takes the next word as its value
 abbrev pub takes_value : Text → Bool
@@ -82,14 +82,6 @@ left_from is_value has_file (word ∷ words) =
 -- the words that are left out of what to type after `edit`
 abbrev pub omitted_words : List Text → List Text
 omitted_words words = left_from false false words
-
--- the name of an operation
-abbrev pub names_operation : Text → Bool
-names_operation name =
-    bytes_eq name (codes "module") || (bytes_eq name (codes "go") || (bytes_eq name (codes "require")
-    || (bytes_eq name (codes "replace") || (bytes_eq name (codes "exclude") || (bytes_eq name (codes "retract")
-    || (bytes_eq name (codes "droprequire") || (bytes_eq name (codes "dropexclude")
-    || (bytes_eq name (codes "dropreplace") || bytes_eq name (codes "dropretract")))))))))
 
 -- the name of an operation, with one dash or two, so that the next word is its value
 abbrev pub is_operation_name : Text → Bool

@@ -1,5 +1,5 @@
--- What the words of a command line mean: the table of commands that the parser is given, the command that its
--- entries stand for, and the faults of words that have no meaning.
+-- What the words of a command line mean: the command that the parser's entries stand for, and the faults of words that
+-- have no meaning.
 use Rattle.std.specs.Prelude.{◌≡◌, ◌≢◌, ◌⊎◌, ◌&&◌, ◌||◌, ◌∷◌, ◌++◌, not, ℕ, Bool, IfSome, List, [], Option, Some, None, true, false, codes, encode_utf8_all, flat_map, is_some, map, option_map, unwrap_or, if◌then◌else◌, String}
 use Rattle.std.specs.Char.Escape.{escape_ascii}
 use Rattle.std.specs.List.{list_all}
@@ -7,13 +7,11 @@ use Rattle.std.specs.Option.{option_map_or}
 use Rattle.std.specs.Str.{bytes_eq}
 use Rattle.std.specs.Global.{Global, Vec}
 use Rattle.std.specs.String.{string_bytes}
-use Rattle.clap.specs.Lexer.{usize_max}
-use Rattle.clap.specs.Walk.{Row, Rule, Text, all_of, first_of}
-use Rattle.clap.specs.Simple.{App, new_app, new_rule, subcommand_of, with_rule, with_subcommand}
+use Rattle.clap.specs.Walk.{Row, Text, all_of, first_of}
+use Rattle.clap.specs.Simple.{subcommand_of}
 use Rattle.clap.specs.Faults.{fault_of}
 use Rattle.clap.specs.Kinds.{IsAmong}
 use Rattle.clap.specs.Takes.{takes}
-use Rattle.clap.specs.declared.builder.action.ArgAction.TheVariants.{SetTrue}
 use Rattle.clap.specs.declared.error.kind.ErrorKind.{ErrorKind}
 use Rattle.clap.specs.declared.error.kind.ErrorKind.TheVariants.{DisplayHelp, DisplayVersion}
 use Rattle.gm_name.specs.Path.{IsPath}
@@ -21,92 +19,24 @@ use Rattle.gm_store.specs.Proxies.{folders_in, folders_of, is_folder, marks_in, 
 use Rattle.gm_store.specs.declared.fallback.proxy_list.ProxyList.{ProxyList}
 use Rattle.gomod_words.specs.Dashed.{dashed_in, edit_words, joined_words, omitted_words}
 use Rattle.gomod_words.specs.Limits.{limit_of}
+use Rattle.gomod_words.specs.Table.{command_named, gomod_app, name_in, option_text, usage_for}
 use Rattle.gomod_words.specs.Typed.{left_text, typed_words}
+use Rattle.gomod_words.specs.declared.table.CommandName.TheVariants as n
+use Rattle.gomod_words.specs.declared.table.OptionName.{OptionName}
+use Rattle.gomod_words.specs.declared.table.OptionName.TheVariants.{Proxy, Mod, Sum, After, Limit, Retracted}
 use Rattle.gomod_words.specs.declared.usage.Command.{Command}
 use Rattle.gomod_words.specs.declared.usage.Command.TheVariants.{Versions, Fmt, Edit, Graph, List as Rows, Chain}
 use Rattle.gomod_words.specs.declared.usage.Places.{Places}
 use Rattle.gomod_words.specs.declared.usage.UsageFault.{UsageFault}
 use Rattle.gomod_words.specs.declared.usage.UsageFault.TheVariants.{NoMemory, Help, Version, Line, BadPath, BadProxy}
 
--- a positional argument of this name, which must be given
-abbrev pub positional_rule : Text → Rule
-positional_rule name = record (new_rule name) { required = true; value_names = 1 }
-
--- `fmt FILE`
-abbrev pub fmt_app : App
-fmt_app = with_rule (new_app (codes "fmt")) (positional_rule (codes "file"))
-
--- a positional argument of this name, which must be given once or more
-abbrev pub repeated_positional_rule : Text → Rule
-repeated_positional_rule name =
-    record (positional_rule name) { range = Some (record { start_inclusive = 1; end_inclusive = usize_max }) }
-
--- `edit FILE OP..`
-abbrev pub edit_app : App
-edit_app =
-    with_rule (with_rule (new_app (codes "edit")) (positional_rule (codes "file")))
-    (repeated_positional_rule (codes "op"))
-
--- an option `--NAME VALUE`, which may be left out
-abbrev pub option_rule : Text → Rule
-option_rule name = record (new_rule name) { long = Some name; value_names = 1 }
-
--- an option `--NAME VALUE`, which has this value if it is left out
-abbrev pub default_option_rule : Text → Text → Rule
-default_option_rule name value = record (option_rule name) { defaults = value ∷ [] }
-
--- a flag `--NAME`
-abbrev pub flag_rule : Text → Rule
-flag_rule name = record (new_rule name) { long = Some name; action = Some SetTrue }
-
--- `versions PATH --proxy DIR --retracted`
-abbrev pub versions_app : App
-versions_app =
-    with_rule (with_rule (with_rule (new_app (codes "versions")) (positional_rule (codes "path")))
-    (option_rule (codes "proxy"))) (flag_rule (codes "retracted"))
-
--- an option `--NAME VALUE`, which must be given
-abbrev pub required_option_rule : Text → Rule
-required_option_rule name = record (new_rule name) { long = Some name; required = true; value_names = 1 }
-
--- a command over a module graph, which takes `--proxy DIR --mod FILE --sum FILE`
-abbrev pub over_graph : App → App
-over_graph app =
-    with_rule (with_rule (with_rule app (required_option_rule (codes "proxy")))
-    (default_option_rule (codes "mod") (codes "go.mod"))) (option_rule (codes "sum"))
-
--- `graph`
-abbrev pub graph_app : App
-graph_app = over_graph (new_app (codes "graph"))
-
--- `list --after PATH --limit N`
-abbrev pub list_app : App
-list_app =
-    with_rule (with_rule (over_graph (new_app (codes "list"))) (option_rule (codes "after")))
-    (option_rule (codes "limit"))
-
--- `chain PATH`
-abbrev pub chain_app : App
-chain_app = with_rule (over_graph (new_app (codes "chain"))) (positional_rule (codes "path"))
-
--- `gomod`, before its commands are added: it has a version, requires a command, and shows its help without words
-abbrev pub bare_gomod : App
-bare_gomod =
-    let app = new_app (codes "gomod") in
-    record app {
-      top = record app.top { has_version = true; subcommand_required = true; arg_required_else_help = true };
-    }
-
--- `gomod` with its commands
-abbrev pub gomod_app : App
-gomod_app =
-    with_subcommand (with_subcommand (with_subcommand (with_subcommand
-    (with_subcommand (with_subcommand bare_gomod fmt_app.top) edit_app.top)
-    graph_app.top) list_app.top) chain_app.top) versions_app.top
+-- the first value of an option, or `None` if it is not given
+abbrev pub given : OptionName → List Row → Option Text
+given option rows = first_of (option_text option) rows
 
 -- whether a flag is given
-abbrev pub is_given : Text → List Row → Bool
-is_given flag rows = option_map_or (λ value. bytes_eq value (codes "true")) (first_of flag rows) false
+abbrev pub is_given : OptionName → List Row → Bool
+is_given flag rows = option_map_or (λ value. bytes_eq value (codes "true")) (given flag rows) false
 
 -- the text is a valid list of proxy folders
 abbrev pub is_proxy : Text → Bool
@@ -126,16 +56,16 @@ is_input value = option_map_or (λ name. bytes_eq name (codes "-")) value false
 
 -- whether standard input is both the main file and the go.sum
 abbrev pub is_input_twice : List Row → Bool
-is_input_twice rows = is_input (first_of (codes "mod") rows) && is_input (first_of (codes "sum") rows)
+is_input_twice rows = is_input (given Mod rows) && is_input (given Sum rows)
 
 -- The places of a command over a module graph: the proxy folders, which must be given; the main file, which
 -- is `go.mod` if `--mod` is not given; and the go.sum, which is `None` if `--sum` is not given. Standard input is at
 -- most one of the two files.
 abbrev pub ArePlaces : List Row → Places → Type 0
 ArePlaces rows places =
-    IsProxy (first_of (codes "proxy") rows) places.proxy × (is_some places.proxy ≡ true)
-    × (string_bytes places.main ≡ unwrap_or (first_of (codes "mod") rows) (codes "go.mod"))
-    × (option_map string_bytes places.sums ≡ first_of (codes "sum") rows)
+    IsProxy (given Proxy rows) places.proxy × (is_some places.proxy ≡ true)
+    × (string_bytes places.main ≡ unwrap_or (given Mod rows) (codes "go.mod"))
+    × (option_map string_bytes places.sums ≡ given Sum rows)
     × (is_input_twice rows ≡ false)
 
 -- the number of rows that the value of `--limit` stands for, or `None` if it is not given
@@ -156,22 +86,22 @@ texts_in texts = map string_bytes texts.items
 -- The type doesn't say so here: in a definition a `ModPath` is its text.
 abbrev pub Means : Text → List Row → Command → Places → Type 0
 Means name rows (Versions path all) places =
-    (name ≡ codes "versions") × (first_of (codes "path") rows ≡ Some path) × IsPath path
-    × IsProxy (first_of (codes "proxy") rows) places.proxy
-    × (all ≡ (is_given (codes "retracted") rows || not (is_some places.proxy)))
+    (name ≡ name_in n.Versions) × (first_of (codes "path") rows ≡ Some path) × IsPath path
+    × IsProxy (given Proxy rows) places.proxy
+    × (all ≡ (is_given Retracted rows || not (is_some places.proxy)))
     × (string_bytes places.main ≡ codes "go.mod") × (places.sums ≡ None)
 Means name rows Fmt places =
-    (name ≡ codes "fmt") × (first_of (codes "file") rows ≡ Some (string_bytes places.main))
+    (name ≡ name_in n.Fmt) × (first_of (codes "file") rows ≡ Some (string_bytes places.main))
     × (places.proxy ≡ None) × (places.sums ≡ None)
 Means name rows (Edit operations) places =
-    (name ≡ codes "edit") × (first_of (codes "file") rows ≡ Some (string_bytes places.main))
+    (name ≡ name_in n.Edit) × (first_of (codes "file") rows ≡ Some (string_bytes places.main))
     × (all_of (codes "op") rows ≡ Some (texts_in operations)) × (places.proxy ≡ None) × (places.sums ≡ None)
-Means name rows Graph places = (name ≡ codes "graph") × ArePlaces rows places
+Means name rows Graph places = (name ≡ name_in n.Graph) × ArePlaces rows places
 Means name rows (Rows after limit) places =
-    (name ≡ codes "list") × (first_of (codes "after") rows ≡ after) × IfSome after IsPath
-    × IsLimit (first_of (codes "limit") rows) limit × ArePlaces rows places
+    (name ≡ name_in n.List) × (given After rows ≡ after) × IfSome after IsPath
+    × IsLimit (given Limit rows) limit × ArePlaces rows places
 Means name rows (Chain path) places =
-    (name ≡ codes "chain") × (first_of (codes "path") rows ≡ Some path) × IsPath path × ArePlaces rows places
+    (name ≡ name_in n.Chain) × (first_of (codes "path") rows ≡ Some path) × IsPath path × ArePlaces rows places
 
 -- what the parser's entries stand for, if there is a command
 abbrev pub IsMeant : Option (Text × List Row) → Command → Places → Type 0
@@ -204,17 +134,17 @@ pub record AskFor (words : List Text) (command : Command) (places : Places) : Ty
 -- of `list`, whose `--limit` is checked first.
 abbrev pub IsPathText : Text → List Row → Text → Type 0
 IsPathText name rows text =
-    (((name ≡ codes "versions") ⊎ (name ≡ codes "chain")) × (first_of (codes "path") rows ≡ Some text))
-    ⊎ ((name ≡ codes "list") × (has_limit (first_of (codes "limit") rows) ≡ true)
-    × (first_of (codes "after") rows ≡ Some text))
+    (((name ≡ name_in n.Versions) ⊎ (name ≡ name_in n.Chain)) × (first_of (codes "path") rows ≡ Some text))
+    ⊎ ((name ≡ name_in n.List) × (has_limit (given Limit rows) ≡ true)
+    × (given After rows ≡ Some text))
 
 -- everything that is checked before the value of `--proxy` is valid
 abbrev pub IsValidBeforeProxy : Text → List Row → Type 0
 IsValidBeforeProxy name rows =
     ((path : Text) × IsPathText name rows path × IsPath path)
-    ⊎ (name ≡ codes "graph")
-    ⊎ ((name ≡ codes "list") × (has_limit (first_of (codes "limit") rows) ≡ true)
-    × (first_of (codes "after") rows ≡ None))
+    ⊎ (name ≡ name_in n.Graph)
+    ⊎ ((name ≡ name_in n.List) × (has_limit (given Limit rows) ≡ true)
+    × (given After rows ≡ None))
 
 -- the text in a position that requires a path is not a path
 abbrev pub HasBadPath : Option (Text × List Row) → Text → Type 0
@@ -225,7 +155,7 @@ HasBadPath (Some entered) text = IsPathText entered.0 entered.1 text × ¬ (IsPa
 abbrev pub HasBadProxy : Option (Text × List Row) → Text → Type 0
 HasBadProxy None text = ⊥
 HasBadProxy (Some entered) text = IsValidBeforeProxy entered.0 entered.1
-    × (first_of (codes "proxy") entered.1 ≡ Some text) × (is_proxy text ≡ false)
+    × (given Proxy entered.1 ≡ Some text) × (is_proxy text ≡ false)
 
 -- The entries stand for a command and its places, or they have an invalid path or an invalid value of
 -- `--proxy`.
@@ -249,14 +179,7 @@ IsReadFault words (BadProxy text) = AreAccepted words × HasBadProxy (subcommand
 
 -- the usage line of the command with this name, or that of the program if there is no such command
 abbrev pub usage_line : Text → List ℕ
-usage_line name =
-    if bytes_eq name (codes "fmt") then codes "gomod fmt <FILE>"
-    else (if bytes_eq name (codes "edit") then codes "gomod edit <FILE> <OP>..."
-    else (if bytes_eq name (codes "graph") then codes "gomod graph [OPTIONS] --proxy <DIR>[,DIR|DIR..]"
-    else (if bytes_eq name (codes "list") then codes "gomod list [OPTIONS] --proxy <DIR>[,DIR|DIR..]"
-    else (if bytes_eq name (codes "chain") then codes "gomod chain [OPTIONS] --proxy <DIR>[,DIR|DIR..] <PATH>"
-    else (if bytes_eq name (codes "versions") then codes "gomod versions [OPTIONS] <PATH>"
-    else codes "gomod <COMMAND>")))))
+usage_line name = option_map_or usage_for (command_named name) (codes "gomod <COMMAND>")
 
 -- The usage line of the words of a command line: that of the command that they name, first or after `help`. The first
 -- word is the program's name.

@@ -5,7 +5,7 @@
 ghost use Rattle.std.specs.Prelude.{◌≡◌, ◌++◌, IfOk, IfSome, Some, map, option_map, true};
 ghost use Rattle.std.specs.String.{string_bytes};
 ghost use Rattle.gomod_words.specs.Private.Items.{words_in};
-ghost use Rattle.gomod_words.specs.Private.Made.{name_in};
+ghost use Rattle.gomod_words.specs.Table.{name_in};
 ghost use Rattle.gomod_words.specs.Private.Rows.{is_over_file};
 ghost use Rattle.gomod_words.specs.Private.Tips.{IsShown, IsTipOf, is_mod, is_versions, is_word, without_name, without_versions};
 ghost use Rattle.gomod_words.specs.Typed.{left_text, typed_words};

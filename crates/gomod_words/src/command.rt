@@ -3,12 +3,12 @@
 ghost use Rattle.std.specs.Prelude.{◌≡◌, IfOk, map};
 ghost use Rattle.clap.specs.Simple.{app_of, new_app};
 ghost use Rattle.clap.specs.Words.{rule_of};
-ghost use Rattle.gomod_words.specs.Private.Made.{IsMade, app_in, rule_for, rule_in, with_rules_for};
-ghost use Rattle.gomod_words.specs.Usage.{bare_gomod, gomod_app};
+ghost use Rattle.gomod_words.specs.Private.Made.{IsMade, rule_in};
+ghost use Rattle.gomod_words.specs.Table.{app_in, bare_gomod, gomod_app, rule_for, with_rules_for};
 
 use crate::help;
 use crate::table::{
-    Argument, ArgumentRow, CommandName, CommandRow, Form, argument_row, command_row,
+    Argument, ArgumentRow, COMMANDS, CommandName, CommandRow, Form, argument_row, command_row,
 };
 use clap::{Arg, ArgAction, Command};
 use std::alloc::{AllocError, Global};
@@ -86,14 +86,6 @@ fn bare_gomod<'a>(alloc: Global) -> Command<'a>
 pub(crate) fn gomod_command<'a>(alloc: Global) -> Result<Command<'a>, AllocError>
     ensures { IsMade gomod_app result }
 {
-    let names = [
-        CommandName::Fmt,
-        CommandName::Edit,
-        CommandName::Graph,
-        CommandName::List,
-        CommandName::Chain,
-        CommandName::Versions,
-    ];
-    let commands = commands(alloc, &names)?;
+    let commands = commands(alloc, &COMMANDS)?;
     bare_gomod(alloc).subcommands(commands)
 }

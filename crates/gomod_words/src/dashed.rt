@@ -1,20 +1,24 @@
 //! Operations of `edit` that are written with a dash in front, as after `go mod edit`, and what to type instead. The
 //! parser would take such a word for an option that is unknown.
 
-ghost use Rattle.std.specs.Prelude.{◌≡◌, ◌∷◌, ◌++◌, ℕ, IfOk, IfSome, List, OnOk, codes, false, is_some, map, nat_eq, unwrap_or};
-ghost use Rattle.std.specs.List.{find, flat_map, list_any, starts_with};
+ghost use Rattle.std.specs.Prelude.{◌≡◌, ◌∷◌, ◌++◌, ℕ, IfOk, IfSome, List, OnOk, codes, false, is_some, map, unwrap_or};
+ghost use Rattle.std.specs.List.{find, flat_map};
 ghost use Rattle.std.specs.Option.{option_copied};
 ghost use Rattle.std.specs.String.{string_bytes};
 ghost use Rattle.clap.specs.Lexer.{strip_byte, without_minus};
 ghost use Rattle.gomod_words.specs.Typed.{typed_words};
 ghost use Rattle.gomod_words.specs.Usage.{IsLineOf, dashed_message, dashed_text, edit_message, words_after};
 ghost use Rattle.gomod_words.specs.Private.Items.{waiting};
+ghost use Rattle.gm_file_edit.specs.Edits.{has_byte};
 ghost use Rattle.gomod_words.specs.Dashed.{begins_with_dash, dashed_in, edit_words, free_from, is_file, is_free, is_operation, is_operation_name, joined_from, joined_words, left_from, omitted_words, names_operation, names_value, operation_in, operations_in, takes_value, without_dashes};
 
 use crate::help::usage_of;
+use crate::items::name_before;
 use crate::lines::push_texts;
+use crate::table::{EDIT, has_value, option_named};
 use crate::typed::{followed, push_left};
 use crate::usage::{UsageFault, line};
+use gm_file_edit::OperationKind;
 use std::alloc::{AllocError, Global};
 
 /// Whether a word begins with a dash and is more than that.
@@ -48,32 +52,25 @@ pub(crate) fn without_dashes(word: &str) -> &str
     without_dash(without_dash(word))
 }
 
-/// Whether a text begins with one of these names.
-fn begins_with_any(text: &[u8], names: &[&str]) -> bool
-    ensures { result ≡ list_any (λ name. starts_with nat_eq text.now name.now) names.now }
+/// Whether this is the name of an operation.
+pub(crate) fn names_operation(name: &str) -> bool
+    ensures { result ≡ names_operation name.now }
 {
-    names.iter().any(|name| text.starts_with(name.as_bytes()))
+    OperationKind::named(name).is_some()
+}
+
+/// Whether a text contains `=`.
+fn has_equals(text: &[u8]) -> bool
+    ensures { result ≡ has_byte 61 text.now }
+{
+    text.iter().any(|b| *b == b'=')
 }
 
 /// Whether a text begins with the name of an operation and `=`.
-fn is_operation(text: &[u8]) -> bool
+fn is_operation(text: &str) -> bool
     ensures { result ≡ is_operation text.now }
 {
-    begins_with_any(
-        text,
-        &[
-            "module=",
-            "go=",
-            "require=",
-            "replace=",
-            "exclude=",
-            "retract=",
-            "droprequire=",
-            "dropexclude=",
-            "dropreplace=",
-            "dropretract=",
-        ],
-    )
+    has_equals(text.as_bytes()) && names_operation(name_before(text))
 }
 
 /// The operation that a word is, with one dash or two in front or with none.
@@ -81,11 +78,7 @@ pub(crate) fn operation_in(word: &str) -> Option<&str>
     ensures { option_copied result ≡ operation_in word.now }
 {
     let text = without_dashes(word);
-    if is_operation(text.as_bytes()) {
-        Some(text)
-    } else {
-        None
-    }
+    if is_operation(text) { Some(text) } else { None }
 }
 
 /// The first word that begins with a dash and is more than that.
@@ -103,17 +96,20 @@ pub(crate) fn dashed_in<'a>(words: &[&'a str]) -> Option<&'a str>
     let [_, name, rest @ ..] = words else {
         return None;
     };
-    if *name != "edit" {
+    if *name != EDIT {
         return None;
     }
     operation_in(first_with_dash(rest)?)
 }
 
 /// Whether this is the name of an option that takes a value.
-fn names_value(name: &str) -> bool
+pub(crate) fn names_value(name: &str) -> bool
     ensures { result ≡ names_value name.now }
 {
-    matches!(name, "proxy" | "mod" | "sum" | "after" | "limit")
+    match option_named(name) {
+        Some(option) => has_value(option),
+        None => false,
+    }
 }
 
 /// Whether a word is an option, with one dash or two, that takes the next word as its value.
@@ -199,17 +195,6 @@ pub(crate) fn words_after<'w, 'a>(words: &'w [&'a str]) -> &'w [&'a str]
     match words {
         [_, _, rest @ ..] => rest,
         _ => &[],
-    }
-}
-
-/// Whether this is the name of an operation.
-pub(crate) fn names_operation(name: &str) -> bool
-    ensures { result ≡ names_operation name.now }
-{
-    match name {
-        "module" | "go" | "require" | "replace" | "exclude" | "retract" => true,
-        "droprequire" | "dropexclude" | "dropreplace" | "dropretract" => true,
-        _ => false,
     }
 }
 

@@ -6,6 +6,8 @@
 ghost use Rattle.std.specs.Prelude.{◌≡◌, map};
 ghost use Rattle.gomod_words.specs.Usage.{usage_line, usage_of};
 
+use crate::table::{command_named, command_row};
+
 /// The version of the program, and the kit that it is proved with.
 pub(crate) const VERSION: &str = "1.1.0 (Rattle, logic dac8208d650f15bf)";
 
@@ -49,14 +51,9 @@ pub(crate) fn usage_of(words: &[&str]) -> &'static str
 fn usage_line(name: &str) -> &'static str
     ensures { result.now ≡ usage_line name.now }
 {
-    match name {
-        "fmt" => FMT_USAGE,
-        "edit" => EDIT_USAGE,
-        "graph" => GRAPH_USAGE,
-        "list" => LIST_USAGE,
-        "chain" => CHAIN_USAGE,
-        "versions" => VERSIONS_USAGE,
-        _ => GOMOD_USAGE,
+    match command_named(name) {
+        Some(command) => command_row(command).usage,
+        None => GOMOD_USAGE,
     }
 }
 

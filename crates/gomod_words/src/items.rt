@@ -5,7 +5,7 @@ ghost use Rattle.std.specs.List.{before_first};
 ghost use Rattle.std.specs.Option.{option_copied};
 ghost use Rattle.gomod_words.specs.Private.Items.{is_equals, not_empty, option_in, option_name, option_value, value_after, waiting, words_in, item_words};
 
-use crate::dashed::{begins_with_dash, names_operation, without_dashes};
+use crate::dashed::{self, begins_with_dash, names_operation, without_dashes};
 use std::alloc::{AllocError, Global};
 
 /// An option with its value, or another word.
@@ -37,7 +37,7 @@ fn option_in(word: &str) -> Option<&str>
 }
 
 /// The name of an option that is written without its dashes.
-fn name_before(option: &str) -> &str
+pub(crate) fn name_before(option: &str) -> &str
     ensures { result.now ≡ before_first is_equals option.now }
 {
     match option.split_once('=') {
@@ -163,9 +163,8 @@ fn takes_value(word: &str) -> bool {
 /// Whether this is the name of an option that takes a value.
 fn names_value(name: &str) -> bool {
     match name {
-        "proxy" | "mod" | "modfile" | "sum" | "after" | "limit" => true,
-        "C" | "color" | "f" | "format" | "o" | "output" | "reuse" | "tags" => true,
-        _ => names_operation(name) || names_operation_of_go(name),
+        "C" | "color" | "f" | "format" | "modfile" | "o" | "output" | "reuse" | "tags" => true,
+        _ => dashed::names_value(name) || names_operation(name) || names_operation_of_go(name),
     }
 }
 

@@ -10,6 +10,7 @@ ghost use Rattle.gomod_words.specs.declared.placed.Group.TheVariants.{Folders, L
 
 use crate::dashed::without_dashes;
 use crate::placed::{Group, Placed, grouped, has_json, push_operations};
+use crate::table::{OptionName, typed_option};
 use crate::typed::{followed, push_left};
 use crate::usage::is_command;
 use std::alloc::{AllocError, Global};
@@ -62,7 +63,7 @@ fn push_list(alloc: Global, texts: &mut Vec<String>, lists: &[&str]) -> Result<(
         ≡ map string_bytes texts.old.items ++ proxy_words (map (λ list. list.now) lists.now)) }
 {
     if let [first, rest @ ..] = lists {
-        texts.push(String::from_str(alloc, "--proxy")?)?;
+        texts.push(String::from_str(alloc, typed_option(OptionName::Proxy))?)?;
         texts.push(list_text(alloc, first, rest)?)?;
     }
     Ok(())

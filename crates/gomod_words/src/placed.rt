@@ -4,14 +4,14 @@
 ghost use Rattle.std.specs.Prelude.{◌≡◌, ◌∷◌, ◌++◌, All, IfOk, [], OnOk, codes, map};
 ghost use Rattle.std.specs.List.{list_any};
 ghost use Rattle.std.specs.String.{string_bytes};
-ghost use Rattle.gomod_words.specs.Private.Made.{name_in};
+ghost use Rattle.gomod_words.specs.Table.{name_in};
 ghost use Rattle.gomod_words.specs.Private.Placed.{asks_for_json, grouped, is_of, omitted_by, operation_text, operations_by, placed_operations, option_words, part_words, release_words, undashed, words_by};
 ghost use Rattle.gomod_words.specs.Private.Rows.{Becomes, is_over_file};
 
 use crate::dashed::{operation_in, without_dashes};
 use crate::items::{Item, push_words};
 use crate::rows::{CACHE, Row, Slot, row_of};
-use crate::table::CommandName;
+use crate::table::{CommandName, OptionName, typed_option};
 use std::alloc::{AllocError, Global};
 
 /// An item with what becomes of it.
@@ -207,11 +207,11 @@ fn push_option<'a>(words: &mut Vec<&'a str>, slot: Slot, text: &'a str) -> Resul
         ≡ map (λ word. word.now) words.old.items ++ option_words slot text.now) }
 {
     match slot {
-        Slot::Main => push_pair(words, "--mod", text),
-        Slot::Sums => push_pair(words, "--sum", text),
-        Slot::After => push_pair(words, "--after", text),
-        Slot::Limit => push_pair(words, "--limit", text),
-        Slot::Retracted => push_word(words, "--retracted"),
+        Slot::Main => push_pair(words, typed_option(OptionName::Mod), text),
+        Slot::Sums => push_pair(words, typed_option(OptionName::Sum), text),
+        Slot::After => push_pair(words, typed_option(OptionName::After), text),
+        Slot::Limit => push_pair(words, typed_option(OptionName::Limit), text),
+        Slot::Retracted => push_word(words, typed_option(OptionName::Retracted)),
         _ => Ok(()),
     }
 }

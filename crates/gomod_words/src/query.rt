@@ -4,13 +4,16 @@
 ghost use Rattle.std.specs.Prelude.{◌≡◌, ℕ, IfErr, IfOk, IfSome, List, Some, codes, option_map, true, unwrap_or};
 ghost use Rattle.std.specs.Option.{option_copied};
 ghost use Rattle.std.specs.String.{string_bytes};
-ghost use Rattle.clap.specs.Words.{first_of, found_of, rows_of};
+ghost use Rattle.clap.specs.Words.{found_of, rows_of};
 ghost use Rattle.gm_name.specs.Path.{IsPath};
 ghost use Rattle.gomod_words.specs.Limits.{limit_of};
-ghost use Rattle.gomod_words.specs.Usage.{ArePlaces, IsLimit, IsProxy, Means, ShowsLine, is_input, is_input_twice, is_line_or_memory};
+ghost use Rattle.gomod_words.specs.Usage.{ArePlaces, IsLimit, IsProxy, Means, ShowsLine, given, is_input, is_input_twice, is_line_or_memory};
 ghost use Rattle.gomod_words.specs.Private.Usage.{IsAfterFault, IsEntriesFault, IsLimitFault, IsPlacesFault};
 
-use crate::usage::{Command, Places, UsageFault, line, read_path, read_proxy, value_of};
+use crate::table::OptionName;
+use crate::usage::{
+    Command, Places, UsageFault, line, option_value, read_path, read_proxy, value_of,
+};
 use clap::ArgMatches;
 use gm_name::{ModPath, has_only_digits};
 use gm_store::ProxyList;
@@ -55,11 +58,11 @@ fn limit_given<'a>(
     found: &ArgMatches<'a>,
     usage: &str,
 ) -> Result<Option<u32>, UsageFault>
-    ensures limit { IfOk result (IsLimit (first_of (codes "limit") (rows_of (found_of found.now)))) }
-    ensures fault { IfErr result (IsLimitFault (first_of (codes "limit") (rows_of (found_of found.now)))) }
+    ensures limit { IfOk result (IsLimit (given OptionName.Limit (rows_of (found_of found.now)))) }
+    ensures fault { IfErr result (IsLimitFault (given OptionName.Limit (rows_of (found_of found.now)))) }
     ensures usage { IfErr result (ShowsLine usage.now) }
 {
-    let Some(text) = value_of(found, "limit") else {
+    let Some(text) = option_value(found, OptionName::Limit) else {
         return Ok(None);
     };
     match limit_in(text) {
@@ -71,12 +74,12 @@ fn limit_given<'a>(
 /// The path that `--after` names, or `None` if the option is not given. An invalid path is refused with
 /// `BadPath`.
 fn after_given<'a>(alloc: Global, found: &ArgMatches<'a>) -> Result<Option<ModPath>, UsageFault>
-    ensures after { IfOk result (λ after. (first_of (codes "after") (rows_of (found_of found.now)) ≡ after)
+    ensures after { IfOk result (λ after. (given OptionName.After (rows_of (found_of found.now)) ≡ after)
         × IfSome after IsPath) }
-    ensures fault { IfErr result (IsAfterFault (first_of (codes "after") (rows_of (found_of found.now)))) }
+    ensures fault { IfErr result (IsAfterFault (given OptionName.After (rows_of (found_of found.now)))) }
     ensures usage { (usage : List ℕ) → IfErr result (ShowsLine usage) }
 {
-    match value_of(found, "after") {
+    match option_value(found, OptionName::After) {
         Some(text) => Ok(Some(read_path(alloc, text)?)),
         None => Ok(None),
     }
@@ -90,11 +93,11 @@ fn proxy_given<'a>(
     usage: &str,
 ) -> Result<ProxyList, UsageFault>
     ensures proxy { IfOk result (λ list.
-        IsProxy (first_of (codes "proxy") (rows_of (found_of found.now))) (Some list)) }
+        IsProxy (given OptionName.Proxy (rows_of (found_of found.now))) (Some list)) }
     ensures fault { IfErr result (IsPlacesFault (rows_of (found_of found.now))) }
     ensures usage { IfErr result (ShowsLine usage.now) }
 {
-    match value_of(found, "proxy") {
+    match option_value(found, OptionName::Proxy) {
         Some(value) => read_proxy(alloc, value),
         None => Err(line(alloc, "error: no DIR given", usage)),
     }
@@ -103,9 +106,9 @@ fn proxy_given<'a>(
 /// The name of the main file: that of `--mod`, or `go.mod`.
 fn main_given<'a>(alloc: Global, found: &ArgMatches<'a>) -> Result<String, AllocError>
     ensures { IfOk result (λ main. string_bytes main
-        ≡ unwrap_or (first_of (codes "mod") (rows_of (found_of found.now))) (codes "go.mod")) }
+        ≡ unwrap_or (given OptionName.Mod (rows_of (found_of found.now))) (codes "go.mod")) }
 {
-    match value_of(found, "mod") {
+    match option_value(found, OptionName::Mod) {
         Some(name) => String::from_str(alloc, name),
         None => String::from_str(alloc, "go.mod"),
     }
@@ -114,9 +117,9 @@ fn main_given<'a>(alloc: Global, found: &ArgMatches<'a>) -> Result<String, Alloc
 /// The name of the go.sum, or `None` if `--sum` is not given.
 fn sums_given<'a>(alloc: Global, found: &ArgMatches<'a>) -> Result<Option<String>, AllocError>
     ensures { IfOk result (λ sums. option_map string_bytes sums
-        ≡ first_of (codes "sum") (rows_of (found_of found.now))) }
+        ≡ given OptionName.Sum (rows_of (found_of found.now))) }
 {
-    match value_of(found, "sum") {
+    match option_value(found, OptionName::Sum) {
         Some(name) => Ok(Some(String::from_str(alloc, name)?)),
         None => Ok(None),
     }
@@ -136,7 +139,7 @@ fn is_input(name: Option<&str>) -> bool
 fn is_input_twice<'a>(found: &ArgMatches<'a>) -> bool
     ensures { result ≡ is_input_twice (rows_of (found_of found.now)) }
 {
-    is_input(value_of(found, "mod")) && is_input(value_of(found, "sum"))
+    is_input(option_value(found, OptionName::Mod)) && is_input(option_value(found, OptionName::Sum))
 }
 
 /// The files and folders of a command over a module graph with this usage line. That standard input is both files is

@@ -2,14 +2,15 @@
 
 ghost use Rattle.std.specs.Prelude.{◌≡◌, ◌++◌, IfSome, Some, false, true};
 ghost use Rattle.std.specs.Option.{option_copied};
-ghost use Rattle.gomod_words.specs.Private.Made.{name_in};
-ghost use Rattle.gomod_words.specs.Private.Rows.{Becomes, by_value, fits, is_operation_item, is_over_file, json_in, only_word, part_text, slot_named, slot_of};
+ghost use Rattle.gomod_words.specs.Table.{name_in};
+ghost use Rattle.gomod_words.specs.Private.Placed.{part_option, typed_option};
+ghost use Rattle.gomod_words.specs.Private.Rows.{Becomes, by_value, fits, is_operation_item, is_over_file, json_in, only_word, option_slot, other_slot, part_text, slot_named, slot_of};
 ghost use Rattle.gomod_words.specs.declared.rows.Slot.TheVariants.{Operand};
 
 use crate::dashed::{begins_with_dash, is_operation_name, operation_in};
 use crate::items::{Item, name_in, names_operation_of_go, value_in};
 use crate::query::limit_in;
-use crate::table::CommandName;
+use crate::table::{CommandName, OptionName, command_named, option_named};
 
 /// What a word in the place of a command asks for.
 #[derive(Clone, Copy)]
@@ -32,13 +33,19 @@ pub(crate) enum Target {
 
 /// What a word in the place of a command asks for, in small letters.
 pub(crate) fn target_of(name: &str) -> Target {
+    match command_named(name) {
+        Some(command) => Target::Ours(command),
+        None => target_like(name),
+    }
+}
+
+/// What a word that names no command of gomod asks for.
+fn target_like(name: &str) -> Target {
     match name {
-        "fmt" | "format" => Target::Ours(CommandName::Fmt),
-        "edit" => Target::Ours(CommandName::Edit),
-        "graph" | "tree" => Target::Ours(CommandName::Graph),
-        "list" | "ls" | "all" | "-m" => Target::Ours(CommandName::List),
-        "chain" | "why" => Target::Ours(CommandName::Chain),
-        "versions" => Target::Ours(CommandName::Versions),
+        "format" => Target::Ours(CommandName::Fmt),
+        "tree" => Target::Ours(CommandName::Graph),
+        "ls" | "all" | "-m" => Target::Ours(CommandName::List),
+        "why" => Target::Ours(CommandName::Chain),
         "get" | "add" => Target::Get,
         "version" | "-version" | "-v" => Target::Version,
         "help" | "mod" | "" | "--" => Target::Help,
@@ -193,17 +200,37 @@ fn slot_in(item: Item<'_>) -> Option<Slot>
 }
 
 /// The part of a command line that an option with this name is.
-#[tactic(auto, unfolding(crate::specs::Private::Rows::slot_named))]
 fn slot_named(name: &str) -> Option<Slot>
     ensures { result ≡ slot_named name.now }
 {
+    match option_named(name) {
+        Some(option) => Some(option_slot(option)),
+        None => other_slot(name),
+    }
+}
+
+/// The part of a command line that an option of gomod is. A tip has it as that option.
+fn option_slot(option: OptionName) -> Slot
+    ensures slot { result ≡ option_slot option }
+    ensures typed { part_option result ≡ Some (typed_option option) }
+{
+    match option {
+        OptionName::Proxy => Slot::Proxy,
+        OptionName::Mod => Slot::Main,
+        OptionName::Sum => Slot::Sums,
+        OptionName::After => Slot::After,
+        OptionName::Limit => Slot::Limit,
+        OptionName::Retracted => Slot::Retracted,
+    }
+}
+
+/// The part of a command line that an option of another program is, by its name.
+#[tactic(auto, unfolding(crate::specs::Private::Rows::other_slot))]
+fn other_slot(name: &str) -> Option<Slot>
+    ensures { result ≡ other_slot name.now }
+{
     match name {
-        "proxy" => Some(Slot::Proxy),
-        "mod" | "modfile" => Some(Slot::Main),
-        "sum" => Some(Slot::Sums),
-        "after" => Some(Slot::After),
-        "limit" => Some(Slot::Limit),
-        "retracted" => Some(Slot::Retracted),
+        "modfile" => Some(Slot::Main),
         "C" => Some(Slot::Folder),
         "w" | "write" | "i" | "in-place" => Some(Slot::Output),
         "d" | "diff" | "l" | "check" => Some(Slot::Output),
@@ -388,8 +415,11 @@ fn is_valid(slot: Slot, item: Item<'_>, text: &str) -> bool {
 /// Whether this is a value of go's `-mod`, which says what may be changed.
 fn is_mode(item: Item<'_>, text: &str) -> bool {
     match name_in(item) {
-        Some("mod") => matches!(text, "mod" | "readonly" | "vendor"),
-        _ => false,
+        Some(name) => {
+            matches!(option_named(name), Some(OptionName::Mod))
+                && matches!(text, "mod" | "readonly" | "vendor")
+        }
+        None => false,
     }
 }
 
@@ -404,9 +434,9 @@ fn is_known(item: Item<'_>) -> bool {
 /// Whether this is the name of an option of gomod or of go.
 fn names_known(name: &str) -> bool {
     match name {
-        "proxy" | "mod" | "modfile" | "sum" | "after" | "limit" | "retracted" => true,
-        "json" | "m" | "versions" | "u" | "f" | "v" | "x" | "vendor" | "deps" | "test" => true,
-        _ => false,
+        "modfile" | "json" | "m" | "versions" | "u" | "f" => true,
+        "v" | "x" | "vendor" | "deps" | "test" => true,
+        _ => option_named(name).is_some(),
     }
 }
 

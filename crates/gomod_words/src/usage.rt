@@ -8,7 +8,7 @@ ghost use Rattle.std.specs.Option.{option_copied, option_map};
 ghost use Rattle.clap.specs.Words.{all_of, first_of, found_of, rows_of, subcommand_rows_of};
 ghost use Rattle.std.specs.Char.Escape.{escape_ascii};
 ghost use Rattle.std.specs.String.{string_bytes};
-ghost use Rattle.gomod_words.specs.Usage.{AskFor, IsFaultOf, IsLineOf, IsMeant, IsProxy, IsVersionLine, Means, ShowsLine, ShowsUsage, is_given, is_line_or_memory, shown_bytes, texts_in, unreadable_text, usage_text};
+ghost use Rattle.gomod_words.specs.Usage.{AskFor, IsFaultOf, IsLineOf, IsMeant, IsProxy, IsVersionLine, Means, ShowsLine, ShowsUsage, given, is_given, is_line_or_memory, shown_bytes, texts_in, unreadable_text, usage_text};
 ghost use Rattle.gomod_words.specs.Private.Usage.{AskForSomething, IsEntriesFault, IsParserFault, IsPathFault, IsProxyFault};
 ghost use Rattle.gm_name.specs.Path.{IsPath};
 ghost use Rattle.gomod_words.specs.declared.usage.UsageFault.TheVariants.{NoMemory};
@@ -18,6 +18,7 @@ use crate::command::gomod_command;
 use crate::dashed::{dashed, dashed_in};
 use crate::help::{GOMOD_USAGE, TRY_HELP, VERSION, usage_of};
 use crate::query::{read_chain, read_graph, read_list};
+use crate::table::{CHAIN, EDIT, FMT, GRAPH, LIST, OptionName, VERSIONS, option_text};
 use clap::ArgMatches;
 use clap::error::ErrorKind;
 use gm_name::{ModPath, PathFault};
@@ -246,12 +247,12 @@ fn read_command<'a>(
     ensures usage { IfErr result (ShowsLine usage.now) }
 {
     match name {
-        "fmt" => read_fmt(alloc, found, usage),
-        "edit" => read_edit(alloc, found, usage),
-        "versions" => read_versions(alloc, found, usage),
-        "graph" => read_graph(alloc, found, usage),
-        "list" => read_list(alloc, found, usage),
-        "chain" => read_chain(alloc, found, usage),
+        FMT => read_fmt(alloc, found, usage),
+        EDIT => read_edit(alloc, found, usage),
+        VERSIONS => read_versions(alloc, found, usage),
+        GRAPH => read_graph(alloc, found, usage),
+        LIST => read_list(alloc, found, usage),
+        CHAIN => read_chain(alloc, found, usage),
         _ => Err(no_command(alloc, usage)),
     }
 }
@@ -263,6 +264,13 @@ pub(crate) fn value_of<'a>(found: &ArgMatches<'a>, id: &str) -> Option<&'a str>
     found.get_str(id)
 }
 
+/// The value of an option, or `None` if the option is not given.
+pub(crate) fn option_value<'a>(found: &ArgMatches<'a>, option: OptionName) -> Option<&'a str>
+    ensures { option_copied result ≡ given option (rows_of (found_of found.now)) }
+{
+    value_of(found, option_text(option))
+}
+
 /// All values of an argument, or `None` if the argument is not given.
 fn values_of<'a, 'f>(found: &'f ArgMatches<'a>, id: &str) -> Option<&'f [&'a str]>
     ensures { option_map (λ words. map (λ word. word.now) words.now) result
@@ -272,10 +280,10 @@ fn values_of<'a, 'f>(found: &'f ArgMatches<'a>, id: &str) -> Option<&'f [&'a str
 }
 
 /// Whether a flag is given. The parser represents a flag by the value `true` or `false`.
-fn is_given<'a>(found: &ArgMatches<'a>, flag: &str) -> bool
-    ensures { result ≡ is_given flag.now (rows_of (found_of found.now)) }
+fn is_given<'a>(found: &ArgMatches<'a>, flag: OptionName) -> bool
+    ensures { result ≡ is_given flag (rows_of (found_of found.now)) }
 {
-    match value_of(found, flag) {
+    match option_value(found, flag) {
         Some(value) => value == "true",
         None => false,
     }
@@ -310,11 +318,11 @@ pub(crate) fn read_proxy(alloc: Global, value: &str) -> Result<ProxyList, UsageF
 /// The proxy folders that `--proxy` names, or `None` if the option is not given. An invalid value is refused
 /// with `BadProxy`.
 fn proxy_of<'a>(alloc: Global, found: &ArgMatches<'a>) -> Result<Option<ProxyList>, UsageFault>
-    ensures proxy { IfOk result (IsProxy (first_of (codes "proxy") (rows_of (found_of found.now)))) }
-    ensures fault { IfErr result (IsProxyFault (first_of (codes "proxy") (rows_of (found_of found.now)))) }
+    ensures proxy { IfOk result (IsProxy (given OptionName.Proxy (rows_of (found_of found.now)))) }
+    ensures fault { IfErr result (IsProxyFault (given OptionName.Proxy (rows_of (found_of found.now)))) }
     ensures usage { (usage : List ℕ) → IfErr result (ShowsLine usage) }
 {
-    match value_of(found, "proxy") {
+    match option_value(found, OptionName::Proxy) {
         Some(value) => Ok(Some(read_proxy(alloc, value)?)),
         None => Ok(None),
     }
@@ -394,7 +402,7 @@ fn read_versions<'a>(
     };
     let path = read_path(alloc, text)?;
     let proxy = proxy_of(alloc, found)?;
-    let all = is_given(found, "retracted") || proxy.is_none();
+    let all = is_given(found, OptionName::Retracted) || proxy.is_none();
     let places = Places {
         main: String::from_str(alloc, "go.mod")?,
         proxy,

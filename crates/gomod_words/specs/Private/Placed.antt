@@ -1,10 +1,11 @@
 -- The command lines that are made of what becomes of each item of another one.
-use Rattle.std.specs.Prelude.{◌||◌, ◌∷◌, ◌++◌, if◌then◌else◌, ℕ, Bool, List, [], codes, false, flat_map, true, unwrap_or}
+use Rattle.std.specs.Prelude.{◌||◌, ◌∷◌, ◌++◌, if◌then◌else◌, ℕ, Bool, List, [], Option, Some, codes, false, flat_map, slice_get, true, unwrap_or}
 use Rattle.std.specs.List.{list_any}
 use Rattle.std.specs.Str.{bytes_eq}
 use Rattle.clap.specs.Walk.{Text}
 use Rattle.gomod_words.specs.Dashed.{operation_in, without_dashes}
 use Rattle.gomod_words.specs.Private.Items.{item_words}
+use Rattle.gomod_words.specs.Table.{option_text}
 use Rattle.gomod_words.specs.Typed.{typed_words}
 use Rattle.gomod_words.specs.declared.items.Item.{Item}
 use Rattle.gomod_words.specs.declared.items.Item.TheVariants.{Word, Pair}
@@ -15,15 +16,26 @@ use Rattle.gomod_words.specs.declared.rows.Row.{Row}
 use Rattle.gomod_words.specs.declared.rows.Row.TheVariants.{Part, Release, Operation, LeftOut, Unknown}
 use Rattle.gomod_words.specs.declared.rows.Slot.{Slot}
 use Rattle.gomod_words.specs.declared.rows.Slot.TheVariants.{Operand, Main, Sums, After, Limit, Retracted, Folder, Output, Json, Format, Proxy, Cache}
+use Rattle.gomod_words.specs.declared.table.OptionName.{OptionName}
+use Rattle.gomod_words.specs.declared.table.OptionName.TheVariants as o
+
+-- an option as it is typed
+abbrev pub typed_option : OptionName → Text
+typed_option option = codes "--" ++ option_text option
 
 -- a part that is an option, with its text
 abbrev pub option_words : Slot → Text → List Text
-option_words Main text = codes "--mod" ∷ text ∷ []
-option_words Sums text = codes "--sum" ∷ text ∷ []
-option_words After text = codes "--after" ∷ text ∷ []
-option_words Limit text = codes "--limit" ∷ text ∷ []
-option_words Retracted text = codes "--retracted" ∷ []
+option_words Main text = typed_option o.Mod ∷ text ∷ []
+option_words Sums text = typed_option o.Sum ∷ text ∷ []
+option_words After text = typed_option o.After ∷ text ∷ []
+option_words Limit text = typed_option o.Limit ∷ text ∷ []
+option_words Retracted text = typed_option o.Retracted ∷ []
 option_words _ text = []
+
+-- the option that a part is typed as, if it is one
+abbrev pub part_option : Slot → Option Text
+part_option Proxy = Some (typed_option o.Proxy)
+part_option slot = slice_get (option_words slot []) 0
 
 -- a part of this slot is a word of this group
 abbrev pub is_of : Group → Slot → Bool
@@ -115,7 +127,7 @@ or_else others (text ∷ texts) = text ∷ texts
 -- `--proxy` with the lists of folders in one
 abbrev pub proxy_words : List Text → List Text
 proxy_words [] = []
-proxy_words (first ∷ lists) = codes "--proxy" ∷ (first ++ flat_map (λ list. codes "," ++ list) lists) ∷ []
+proxy_words (first ∷ lists) = typed_option o.Proxy ∷ (first ++ flat_map (λ list. codes "," ++ list) lists) ∷ []
 
 -- The words of a command line of gomod: the name of a command, FILE or PATH, `--proxy`, the other options and the
 -- operations. If no item is FILE or PATH, or a list of proxy folders, others stand there.

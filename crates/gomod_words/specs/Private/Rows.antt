@@ -1,27 +1,34 @@
 -- What may become of an item of a command line that is meant for another one.
 use Rattle.std.specs.Prelude.{◌≡◌, ◌||◌, ◌∷◌, ◌++◌, if◌then◌else◌, Bool, List, [], Option, None, Some, codes, find, is_some, true, unwrap_or}
-use Rattle.std.specs.Option.{option_and_then, option_map}
+use Rattle.std.specs.Option.{option_and_then, option_map, option_or}
 use Rattle.std.specs.List.{list_any}
 use Rattle.std.specs.Str.{bytes_eq}
 use Rattle.clap.specs.Walk.{Text}
 use Rattle.gomod_words.specs.Dashed.{is_operation_name, operation_in}
 use Rattle.gomod_words.specs.Private.Items.{option_name, option_value}
+use Rattle.gomod_words.specs.Table.{option_named}
 use Rattle.gomod_words.specs.declared.items.Item.{Item}
 use Rattle.gomod_words.specs.declared.items.Item.TheVariants.{Word, Pair}
 use Rattle.gomod_words.specs.declared.rows.Row.{Row}
 use Rattle.gomod_words.specs.declared.rows.Row.TheVariants.{Part, Release, Operation, LeftOut, Unknown}
 use Rattle.gomod_words.specs.declared.rows.Slot.{Slot}
 use Rattle.gomod_words.specs.declared.rows.Slot.TheVariants.{Operand, Main, Sums, After, Limit, Retracted, Folder, Output, Print, Json, Format, Proxy, Cache}
+use Rattle.gomod_words.specs.declared.table.OptionName.{OptionName}
+use Rattle.gomod_words.specs.declared.table.OptionName.TheVariants as o
 
--- the names of options, and the part of a command line that each is
-abbrev pub slot_names : List (List Text × Slot)
-slot_names =
-    (codes "proxy" ∷ [], Proxy)
-    ∷ (codes "mod" ∷ codes "modfile" ∷ [], Main)
-    ∷ (codes "sum" ∷ [], Sums)
-    ∷ (codes "after" ∷ [], After)
-    ∷ (codes "limit" ∷ [], Limit)
-    ∷ (codes "retracted" ∷ [], Retracted)
+-- the part of a command line that an option of gomod is
+abbrev pub option_slot : OptionName → Slot
+option_slot o.Proxy = Proxy
+option_slot o.Mod = Main
+option_slot o.Sum = Sums
+option_slot o.After = After
+option_slot o.Limit = Limit
+option_slot o.Retracted = Retracted
+
+-- the names of options of other programs, and the part of a command line that each is
+abbrev pub other_slots : List (List Text × Slot)
+other_slots =
+    (codes "modfile" ∷ [], Main)
     ∷ (codes "C" ∷ [], Folder)
     ∷ (codes "w" ∷ codes "write" ∷ codes "i" ∷ codes "in-place" ∷ [], Output)
     ∷ (codes "d" ∷ codes "diff" ∷ codes "l" ∷ codes "check" ∷ [], Output)
@@ -29,9 +36,13 @@ slot_names =
     ∷ (codes "json" ∷ [], Json)
     ∷ (codes "format" ∷ codes "output" ∷ codes "o" ∷ [], Format) ∷ []
 
+-- the part of a command line that an option of another program is, by its name
+unfoldable pub other_slot : Text → Option Slot
+other_slot name = option_map (λ row. row.1) (find (λ row. list_any (bytes_eq name) row.0) other_slots)
+
 -- the part of a command line that an option with this name is
-unfoldable pub slot_named : Text → Option Slot
-slot_named name = option_map (λ row. row.1) (find (λ row. list_any (bytes_eq name) row.0) slot_names)
+abbrev pub slot_named : Text → Option Slot
+slot_named name = option_or (option_map option_slot (option_named name)) (other_slot name)
 
 -- the part that an option with this value is: without one, `--proxy` is the module cache of the go command
 abbrev pub by_value : Option Text → Slot → Slot

@@ -1,16 +1,17 @@
 -- Which fault each part of a command line has while it is read.
-use Rattle.std.specs.Prelude.{◌≡◌, ◌≢◌, ◌⊎◌, List, Option, Some, None, true, false, codes}
+use Rattle.std.specs.Prelude.{◌≡◌, ◌≢◌, ◌⊎◌, List, Option, Some, None, true, false}
 use Rattle.std.specs.String.{string_bytes}
-use Rattle.clap.specs.Walk.{Row, Text, first_of}
+use Rattle.clap.specs.Walk.{Row, Text}
 use Rattle.clap.specs.declared.error.Error.{Error}
 use Rattle.clap.specs.Values.{kind_of}
 use Rattle.clap.specs.declared.error.kind.ErrorKind.TheVariants.{DisplayHelp, DisplayVersion, OutOfMemory}
 use Rattle.gm_name.specs.Path.{IsPath}
+use Rattle.gomod_words.specs.declared.table.OptionName.TheVariants.{Proxy}
 use Rattle.gomod_words.specs.declared.usage.Command.{Command}
 use Rattle.gomod_words.specs.declared.usage.Places.{Places}
 use Rattle.gomod_words.specs.declared.usage.UsageFault.{UsageFault}
 use Rattle.gomod_words.specs.declared.usage.UsageFault.TheVariants.{NoMemory, Help, Version, Line, BadPath, BadProxy}
-use Rattle.gomod_words.specs.Usage.{AreRecognized, AskFor, HasBadPath, HasBadProxy, has_limit, is_input_twice, is_proxy, version_line}
+use Rattle.gomod_words.specs.Usage.{AreRecognized, AskFor, HasBadPath, HasBadProxy, given, has_limit, is_input_twice, is_proxy, version_line}
 
 -- what a fault says about the entries
 abbrev pub IsEntriesFault : Option (Text × List Row) → UsageFault → Type 0
@@ -49,15 +50,15 @@ IsProxyFault value _ = ⊥
 
 -- the folders of `--proxy` are valid
 abbrev pub HasProxy : List Row → Type 0
-HasProxy rows = (value : Text) × (first_of (codes "proxy") rows ≡ Some value) × (is_proxy value ≡ true)
+HasProxy rows = (value : Text) × (given Proxy rows ≡ Some value) × (is_proxy value ≡ true)
 
 -- `--proxy` is missing although it must be given, or its value is not a valid list of folders; or it is valid, and
 -- standard input is both the main file and the go.sum; or memory ran out
 abbrev pub IsPlacesFault : List Row → UsageFault → Type 0
 IsPlacesFault rows NoMemory = Unit {0}
 IsPlacesFault rows (Line text) =
-    (first_of (codes "proxy") rows ≡ None) ⊎ (HasProxy rows × (is_input_twice rows ≡ true))
-IsPlacesFault rows (BadProxy text) = (first_of (codes "proxy") rows ≡ Some (string_bytes text))
+    (given Proxy rows ≡ None) ⊎ (HasProxy rows × (is_input_twice rows ≡ true))
+IsPlacesFault rows (BadProxy text) = (given Proxy rows ≡ Some (string_bytes text))
     × (is_proxy (string_bytes text) ≡ false)
 IsPlacesFault rows _ = ⊥
 

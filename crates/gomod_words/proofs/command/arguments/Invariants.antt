@@ -1,6 +1,6 @@
 use Rattle.std.proofs.Common.{◌≡◌, map, take}
 use Rattle.clap.specs.Walk.{rule_of}
-use Rattle.gomod_words.specs.Private.Made.{rule_for}
+use Rattle.gomod_words.specs.Table.{rule_for}
 use Rattle.gomod_words.proofs.command.arguments.Given as goal
 
 -- the arguments so far

@@ -3,7 +3,7 @@ use Rattle.std.proofs.lemmas.Result.{IfOk-weaker}
 use Rattle.clap.specs.Built.{AddsArg, AddsInTurn}
 use Rattle.clap.specs.Simple.{App, app_of, new_app}
 use Rattle.gomod_words.proofs.Commands.{arguments_add}
-use Rattle.gomod_words.specs.Private.Made.{with_rules_for}
+use Rattle.gomod_words.specs.Table.{with_rules_for}
 use Rattle.gomod_words.proofs.command.command.Goals as goal
 
 pub returns : goal.returns

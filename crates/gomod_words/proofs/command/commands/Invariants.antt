@@ -1,6 +1,6 @@
 use Rattle.std.proofs.Common.{◌≡◌, map, take}
 use Rattle.clap.specs.Simple.{app_of}
-use Rattle.gomod_words.specs.Private.Made.{app_in}
+use Rattle.gomod_words.specs.Table.{app_in}
 use Rattle.gomod_words.proofs.command.commands.Given as goal
 
 -- the commands so far

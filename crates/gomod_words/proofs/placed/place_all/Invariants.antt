@@ -1,5 +1,5 @@
 use Rattle.std.proofs.Common.{◌≡◌, All, map, take}
-use Rattle.gomod_words.specs.Private.Made.{name_in}
+use Rattle.gomod_words.specs.Table.{name_in}
 use Rattle.gomod_words.specs.Private.Rows.{Becomes, is_over_file}
 use Rattle.gomod_words.proofs.placed.place_all.Given as goal
 
