@@ -1,0 +1,127 @@
+"""Finds where options and operations are named, for tools/names.sh, which says what is wrong.
+
+    names.py           prints what is wrong
+    names.py --list    prints each name and its files, too
+
+It runs in the root of a repository. The status is 1 if something is wrong.
+"""
+import collections
+import pathlib
+import re
+
+import script
+
+CRATES = pathlib.Path("crates")
+# each kind of names, the files with its tables, and what a row of each looks like
+TABLES = {
+    "option": (
+        ("gomod_words/src/table.rt", r'^const \w+: &str = "([\w-]+)";'),
+        ("gomod_words/specs/Table.antt", r'^option_text \w+ = codes "([\w-]+)"'),
+    ),
+    "operation": (
+        ("gm_file_edit/src/op.rt", r'^ +"(\w+)" => Some\(OperationKind::'),
+        ("gm_file_edit/specs/Edits.antt", r'\(codes "(\w+)", op\.'),
+    ),
+}
+HELP = "gomod_words/src/help.rt"
+# crates that no program or library of users is made of
+ASIDE = "gomod_case_* gomod_laws gomod_tests library_example page run_cases".split()
+DIRECTIVES = "module go require replace exclude retract"
+# files in which these words are something else, and what
+OTHERWISE = {
+    "gm_file/src/*": (DIRECTIVES, "directives of a go.mod file"),
+    "gm_file/specs/**/*": (DIRECTIVES, "directives of a go.mod file"),
+    "gm_file_edit/src/a*.rt": (DIRECTIVES, "directives that an operation writes"),
+    "gm_file_edit/specs/Edited.antt": (DIRECTIVES, "directives that an operation writes"),
+    "gomod_words/src/advice.rt": ("mod", "the command `go mod`"),
+    "gomod_words/src/rows.rt": ("mod", "the command `go mod`, and a value of go's -mod"),
+    "gomod_words/specs/Private/Tips.antt": ("mod", "the command `go mod`"),
+}
+
+
+def is_like(path, patterns):
+    """Whether a path below crates/ is like one of the patterns."""
+    return any(path.match(it) for it in patterns)
+
+
+def strings(path):
+    """The strings of a source, without those of its comments."""
+    mark = r"//" if path.suffix == ".rt" else r"(?<!\S)--(?!\S)"
+    found = re.findall(rf'{mark}[^\n]*|"((?:\\.|[^"\\])*)"', path.read_text(encoding="utf-8"))
+    return [it for it in found if it]
+
+
+def places_of(names):
+    """The files of src/ and of specs/ in which each name stands: how often, by the folder and the file."""
+    places = {name: {"src": collections.Counter(), "specs": collections.Counter()} for name in names}
+    unused = set(OTHERWISE)
+    for path in sorted(CRATES.glob("*/*/**/*")):
+        below = path.relative_to(CRATES)
+        folder = below.parts[1]
+        if folder not in ("src", "specs") or path.suffix not in (".rt", ".antt"):
+            continue
+        if is_like(pathlib.Path(below.parts[0]), ASIDE):
+            continue
+        found = [it for it in (re.sub(r"^--?|=$", "", it) for it in strings(path)) if it in places]
+        for pattern, (words, _) in OTHERWISE.items():
+            if below.match(pattern) or below.match(pattern.replace("**/", "")):
+                unused -= {pattern} if set(found) & set(words.split()) else set()
+                found = [it for it in found if it not in words.split()]
+        for name in found:
+            places[name][folder][str(below)] += 1
+    return places, sorted(unused)
+
+
+def rows_of(file, row):
+    """The names in a table."""
+    return re.findall(rf"(?m){row}", (CRATES / file).read_text(encoding="utf-8"))
+
+
+def wrong_places(kind, name, places):
+    """What is wrong with the files of a name."""
+    for folder, (table, row) in zip(("src", "specs"), TABLES[kind]):
+        found = places[name][folder]
+        if name not in rows_of(table, row):
+            yield f"{table}: {kind} '{name}' isn't in the table"
+        for file in sorted(set(found) - {table}):
+            yield f"{file}: {kind} '{name}' is named here, too, and not in {table} alone"
+
+
+def wrong_rows(kind):
+    """Names that stand twice in a table, and tables without a name."""
+    for table, row in TABLES[kind]:
+        counts = collections.Counter(rows_of(table, row))
+        if not counts:
+            yield f"{table}: no {kind} found"
+        for name in sorted(it for it in counts if counts[it] > 1):
+            yield f"{table}: {kind} '{name}' has {counts[name]} rows"
+
+
+def wrong_help(operations):
+    """Operations that help's list lacks or has beyond those."""
+    text = (CRATES / HELP).read_text(encoding="utf-8")
+    listed = set(re.findall(r"(?m)^  (\w+)=", text[text.index("The operations are"):].split('"')[0]))
+    for name in sorted(operations ^ listed):
+        yield f"{HELP}: the list of operations {'lacks' if name in operations else 'has'} '{name}'"
+
+
+def main(*words):
+    """Looks at all names."""
+    kinds = {name: kind for kind, tables in TABLES.items() for table in tables for name in rows_of(*table)}
+    places, unused = places_of(kinds)
+    wrong = [line for kind in TABLES for line in wrong_rows(kind)]
+    wrong += [line for name, kind in kinds.items() for line in wrong_places(kind, name, places)]
+    wrong += wrong_help({name for name, kind in kinds.items() if kind == "operation"})
+    wrong += [f"tools/names.py: {it} has no such word" for it in unused]
+    if words:
+        for name, kind in kinds.items():
+            print(f"{kind} {name}: {', '.join(sorted({**places[name]['src'], **places[name]['specs']}))}")
+    for line in wrong:
+        print(line)
+    counts = collections.Counter(kinds.values())
+    print(f"{counts['option']} options and {counts['operation']} operations, {len(wrong)} wrong")
+    return 1 if wrong else 0
+
+
+if __name__ == "__main__":
+    script.run(main)
