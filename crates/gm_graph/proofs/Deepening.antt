@@ -1,6 +1,6 @@
 -- Opened vertices as the answers grow, and turns that are all done.
-use Rattle.std.proofs.Common.{◌≡◌, ◌∙◌, not, true, false, List, [], Option, Result, Ok, Err, Contains, ap, sym, refl, subst, inl, inr, append-nil}
-use Rattle.std.proofs.lemmas.Bool.{cases_Bool, false≢true, not-true}
+use Rattle.std.proofs.Common.{◌≡◌, ◌∙◌, not, Bool, true, false, List, [], Option, Result, Ok, Err, Contains, ap, sym, refl, subst, inl, inr, append-nil}
+use Rattle.std.proofs.lemmas.Bool.{false≢true, not-true}
 use Rattle.gm_name.specs.ModuleVersion.{ModuleVersion}
 use Rattle.gm_file.specs.Fields.{Dependency}
 use Rattle.gm_file.specs.Main.{Main, is_pruned_by, without_excluded}
@@ -10,26 +10,27 @@ use Rattle.gm_graph.specs.declared.cache.class.Class.{Class}
 use Rattle.gm_graph.specs.declared.cache.depth.Turn.{Turn}
 use Rattle.gm_graph.specs.declared.cache.depth.Depth.{Depth}
 use Rattle.gm_graph.specs.declared.cache.depth.Depth.TheVariants.{Top, Deep}
-use Rattle.gm_graph.specs.Private.Turns.{leads_on, AddsAll}
+use Rattle.gm_graph.specs.Private.Turns.{AddsAll, depth_by, leads_on}
 use Rattle.gm_graph.specs.Run.{IsDeep, IsOpened, IsTop, KeepsSayings, Requires, Run, Says, TakesTurn, from_deep, from_main, from_top, run_of}
 use Rattle.gm_graph.specs.Turns.{turn}
-use Rattle.gm_graph.specs.Private.VisitedTurns.{IsDone, LeadsTo, Visits}
+use Rattle.gm_graph.specs.Private.VisitedTurns.{HasFirstTurns, IsDone, LeadsTo, Visits}
 use Rattle.gm_graph.proofs.Sayings.{file_same, not_both}
 
--- If each turn is done, and they begin as the main file says, they have every vertex that is opened at full depth.
-pub IsDeep-among : (run : Run) (turns : List Turn)
-    → (is_pruned_by run.main.go ≡ true → (x : ModuleVersion) → IsTop run x → Contains turns (turn x Top))
-    → (is_pruned_by run.main.go ≡ false → (x : ModuleVersion) → IsTop run x → Contains turns (turn x Deep))
-    → ((one : Turn) → Contains turns one → IsDone run turns one)
+-- At whatever depth the first turns are, a file that is not pruned leads on.
+leads_first : (file : Dependency) (pruned : Bool) → is_pruned_by file.go ≡ false → leads_on file (depth_by pruned) ≡ true
+leads_first file true e = ap not e
+leads_first file false e = refl
+
+-- If each turn is done, every vertex that is opened at full depth has one at full depth.
+pub deep_among : (run : Run) (turns : List Turn) → HasFirstTurns run turns → ((one : Turn) → Contains turns one → IsDone run turns one)
     → {x : ModuleVersion} → IsDeep run x → Contains turns (turn x Deep)
-IsDeep-among run turns tops deeps done (from_main p t) = deeps p _ t
-IsDeep-among run turns tops deeps done (from_top {x} {y} file t says u c) = elim (cases_Bool (is_pruned_by run.main.go)) [
-  | inl pruned ↦ (done (turn x Top) (tops pruned x t)).followed y (record { file = file; says = says; leads = ap not u; requires = c })
-  | inr unpruned ↦ (done (turn x Deep) (deeps unpruned x t)).followed y (record { file = file; says = says; leads = refl; requires = c })
-]
-IsDeep-among run turns tops deeps done (from_deep {x} {y} d r) =
-    (done (turn x Deep) (IsDeep-among run turns tops deeps done d)).followed y
-    (record { file = r.0; says = r.1; leads = refl; requires = r.2 })
+deep_among run turns first done (from_main {x} p t) = subst (λ (pruned : Bool). Contains turns (turn x (depth_by pruned))) p (first.tops x t)
+deep_among run turns first done (from_top {x} {y} file t says u c) =
+    let pruned = is_pruned_by run.main.go in
+    (done (turn x (depth_by pruned)) (first.tops x t)).followed y
+    (record { file = file; says = says; leads = leads_first file pruned u; requires = c })
+deep_among run turns first done (from_deep {x} {y} d r) =
+    (done (turn x Deep) (deep_among run turns first done d)).followed y (record { file = r.0; says = r.1; leads = refl; requires = r.2 })
 
 -- What a turn leads to was added.
 pub follows_adds : (run : Run) (old new : List Turn) (x : ModuleVersion) (d : Depth) (file : Dependency) → Says run x (Ok file)

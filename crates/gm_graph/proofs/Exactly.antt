@@ -2,7 +2,7 @@
 use Rattle.std.proofs.Common.{◌≡◌, ◌∙◌, ◌≤◌, ◌||◌, Bool, true, false, cond, List, [], ◌∷◌, ◌++◌, length, Option, Some, None, IsSome, Contains, ap, sym, refl, subst, inl, inr, arith, suc, Result}
 use Rattle.std.specs.List.{IsDistinct, list_any}
 use Rattle.std.specs.Cmp.{IsEquivalence}
-use Rattle.std.proofs.lemmas.Bool.{cases_Bool, false≢true}
+use Rattle.std.proofs.lemmas.Bool.{false≢true}
 use Rattle.std.proofs.lemmas.Map.Keys.{IsDistinct-push}
 use Rattle.std.proofs.lemmas.Map.Made.{length-le_from_is_member, is_member-Decides}
 use Rattle.std.proofs.lemmas.List.Elements.{Contains-push_cases}
@@ -11,18 +11,18 @@ use Rattle.gm_name.specs.Private.ModuleVersion.{pair_eq-Decides, pairs-equivalen
 use Rattle.gm_file.specs.Fields.{Dependency}
 use Rattle.gm_file.specs.Main.{Main, is_pruned_by}
 use Rattle.gm_store.specs.Asked.{Name, Reply, answer_in, names_in, same_name}
-use Rattle.gm_store.proofs.NameOrder.{names_equal, name_itself}
+use Rattle.gm_store.proofs.NameOrder.{name_itself, names_equal}
 use Rattle.gm_store_sums.specs.Sums.{Sums}
 use Rattle.gm_graph.specs.declared.cache.class.Class.{Class}
 use Rattle.gm_graph.specs.declared.cache.depth.Turn.{Turn}
-use Rattle.gm_graph.specs.declared.cache.depth.Depth.{Depth}
-use Rattle.gm_graph.specs.declared.cache.depth.Depth.TheVariants.{Top, Deep}
+use Rattle.gm_graph.specs.declared.cache.depth.Depth.TheVariants.{Deep}
 use Rattle.gm_graph.specs.Reading.{file_of, is_askable}
-use Rattle.gm_graph.specs.Run.{AreOpened, AreTurns, AskedInTurn, FileSays, IsNeeded, IsOpened, IsRead, IsSettled, LoadingNeeds, Run, Says, answered, faulty, from_main, more, nothing, run_of, sound, unaskable, wrong_path}
+use Rattle.gm_graph.specs.Run.{AreOpened, AreTurns, AskedInTurn, FileSays, IsNeeded, IsOpened, IsRead, IsSettled, LoadingNeeds, Run, Says, answered, faulty, more, nothing, run_of, sound, unaskable, wrong_path}
 use Rattle.gm_graph.specs.Turns.{turn}
-use Rattle.gm_graph.specs.Private.Turns.{AreTurnsOf}
+use Rattle.gm_graph.specs.Private.Turns.{AreTurnsOf, depth_by}
 use Rattle.gm_graph.proofs.Deepening.{opened_kept}
 use Rattle.gm_graph.proofs.Sameness.{equivalence_from_exact}
+use Rattle.gm_graph.proofs.Rounds.{takes_first}
 use Rattle.gm_graph.proofs.Sayings.{says_more}
 
 names_equivalence : IsEquivalence same_name
@@ -105,15 +105,11 @@ module _ (main : Main) (sums : Option Sums) (pairs : List (Name × Reply)) (asks
   }
 
 module _ (run : Run) (vertices : List ModuleVersion) (turns : List Turn) (are : AreTurnsOf vertices turns) (exact : AreTurns run turns) where
-  opened_turn : (x : ModuleVersion) → IsOpened run x → (d : Depth) × Contains turns (turn x d)
-  opened_turn x (inl top) = elim (cases_Bool (is_pruned_by run.main.go)) [
-    | inl pruned ↦ (Top, (exact.each x Top).1 (pruned, top))
-    | inr unpruned ↦ (Deep, (exact.each x Deep).1 (from_main unpruned top))
-  ]
-  opened_turn x (inr deep) = (Deep, (exact.each x Deep).1 deep)
-
   opened_there : (x : ModuleVersion) → IsOpened run x → Contains vertices x
-  opened_there x h = let one = opened_turn x h in are.has_vertex (turn x one.0) one.1
+  opened_there x (inl top) =
+      let first = depth_by (is_pruned_by run.main.go) in
+      are.has_vertex (turn x first) ((exact.each x first).1 (takes_first run x top))
+  opened_there x (inr deep) = are.has_vertex (turn x Deep) ((exact.each x Deep).1 deep)
 
   pub few_opened : (xs : List ModuleVersion) → AreOpened run xs → length xs ≤ 65536
   few_opened xs opened =

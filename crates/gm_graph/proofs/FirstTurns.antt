@@ -10,7 +10,7 @@ use Rattle.gm_graph.specs.Private.Worklists.{IsWorklist, turn_of, turns_of}
 use Rattle.gm_graph.specs.Run.{Run}
 use Rattle.gm_graph.specs.Private.Turns.{AddsAll, OverflowsWith, depth_by}
 use Rattle.gm_graph.specs.Private.Visiting.{IsFirstWorklist}
-use Rattle.gm_graph.proofs.Rounds.{first_turns_are}
+use Rattle.gm_graph.proofs.Rounds.{first_turns}
 
 -- the vertices that the main file requires
 abbrev pub required_in : Main → List ModuleVersion
@@ -22,22 +22,23 @@ module _ (run : Run) (modules xs : List ModuleVersion) (none : Worklist) (no_tur
   none_turned : turns_of modules none ≡ []
   none_turned = ap (λ (ts : List NumberedTurn). map (turn_of modules) ts) no_turns
 
+  -- So what holds of them holds of no turns and of the vertices that the main file requires.
+  none_added : (P : List Turn → List ModuleVersion → Type 0) → P (turns_of modules none) xs → P [] (required_in run.main)
+  none_added P holds =
+      subst (λ (ts : List Turn). P ts (required_in run.main)) none_turned
+      (subst (λ (ys : List ModuleVersion). P (turns_of modules none) ys) are holds)
+
   -- They are too many.
   pub too_many_first : OverflowsWith (turns_of modules none) xs → OverflowsWith [] (required_in run.main)
-  too_many_first over =
-      subst (λ (ts : List Turn). OverflowsWith ts (required_in run.main)) none_turned
-      (subst (λ (ys : List ModuleVersion). OverflowsWith (turns_of modules none) ys) are over)
+  too_many_first over = none_added OverflowsWith over
 
   -- Their turns were added.
   pub is_first : (made : Worklist) (depth : Depth) → depth ≡ depth_by (is_pruned_by run.main.go)
       → AddsAll (turns_of modules none) (turns_of modules made) xs depth → IsWorklist modules made
       → IsFirstWorklist run modules made
-  is_first made depth by adds worklist =
-      let old = turns_of modules none in
-      let new = turns_of modules made in
-      record {
-        worklist_is = worklist;
-        turns = first_turns_are run old new none_turned
-            (subst (λ (d : Depth). AddsAll old new (required_in run.main) d) by
-            (subst (λ (ys : List ModuleVersion). AddsAll old new ys depth) are adds));
-      }
+  is_first made depth by adds worklist = record {
+    worklist_is = worklist;
+    turns = first_turns run (turns_of modules made)
+        (subst (λ (d : Depth). AddsAll [] (turns_of modules made) (required_in run.main) d) by
+        (none_added (λ ts ys. AddsAll ts (turns_of modules made) ys depth) adds));
+  }

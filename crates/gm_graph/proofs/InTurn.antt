@@ -73,10 +73,10 @@ module _ {main : Main} {sums : Option Sums} {cache : Cache} {worklist : Worklist
       let inside = turn_below (table_in cache) worklist at below in
       let there = turn_here (table_in cache) worklist at one below here in
       record {
-        asks = asks_more main sums old.asked read turns at vertex one.depth state.queue.valid inside there new.asked is.asks adds_here;
+        asks = asks_more main sums old.asked read turns at vertex one.depth state.queue.first.valid inside there new.asked is.asks adds_here;
         device = λ name e.
             let lacks = lacks_still (main_in cache) vertex asks name e in
-            due_here main sums old.asked read turns at vertex one.depth state.queue.valid inside there new.asked name lacks.0
+            due_here main sums old.asked read turns at vertex one.depth state.queue.first.valid inside there new.asked name lacks.0
             (lacks.1 ∙ ap (λ (m : Main). file_of m vertex) state.main_is) lacks.2 lacks.3;
         refused = asks.refused ∙ ap (λ (ns : List Name). ns ++ failed) (is.refused ∙ append-nil start.refused);
         served = served_both first before after start old new is.served asks.served;
@@ -87,7 +87,7 @@ module _ {main : Main} {sums : Option Sums} {cache : Cache} {worklist : Worklist
       → IsRead (run_of main sums new.asked) × AreTooMany (run_of main sums new.asked)
   many_in_turn over =
       let turns = turns_of (table_in cache) worklist in
-      many_here main sums old.asked read turns at vertex one.depth state.queue.valid (turn_below (table_in cache) worklist at below)
+      many_here main sums old.asked read turns at vertex one.depth state.queue.first.valid (turn_below (table_in cache) worklist at below)
       (turn_here (table_in cache) worklist at one below here) new.asked adds_here
       (by_run (λ (run : Run). OverflowsAt run turns vertex one.depth) main sums cache new.asked state.main_is state.sums_are over)
 

@@ -1,12 +1,13 @@
 -- The marks of vertices in a worklist.
-use Rattle.std.proofs.Common.{◌≡◌, ◌+◌, ◌<◌, ◌≤◌, ◌&&◌, ◌||◌, ◌++◌, ◌∷◌, ◌∙◌, [], ℕ, Bool, true, false, All, List, Contains, ap, ap₂, arith, get_or, inl, if◌then◌else◌, inr, length, length-append, map, refl, replicate, set, subst, suc, sym, take, zero}
+use Rattle.std.proofs.Common.{◌≡◌, ◌+◌, ◌<◌, ◌≤◌, ◌&&◌, ◌||◌, ◌++◌, ◌∷◌, ◌∙◌, [], ℕ, Bool, true, false, All, List, Contains, ap, ap₂, arith, inl, if◌then◌else◌, inr, length, length-append, map, refl, subst, sym}
+use Rattle.std.specs.Prelude.{◌==◌}
 use Rattle.std.specs.List.{IsDistinct, list_any}
 use Rattle.std.specs.Cmp.{both_ways}
-use Rattle.std.proofs.lemmas.Bool.{cases_eq, cases_lt, or_cases}
-use Rattle.std.proofs.lemmas.List.Elements.{All-nil, All-push}
+use Rattle.std.proofs.lemmas.Bool.{cases_eq, ne_eqb, or_cases}
+use Rattle.std.proofs.lemmas.Bool.Decides.{Decides-eqb}
+use Rattle.std.proofs.lemmas.List.Elements.{All-head, All-nil, All-push, All-tail}
 use Rattle.std.proofs.lemmas.List.Folds.{list_any-append}
-use Rattle.std.proofs.lemmas.List.{get_or-replicate, get_or-set_other, get_or-set_same, get_or_past, get_or_read, length-replicate, length-set, map-append, take_all}
-use Rattle.std.proofs.lemmas.Map.Keys.{apart_from_distinct}
+use Rattle.std.proofs.lemmas.List.{map-append}
 use Rattle.std.proofs.lemmas.Map.Views.{Contains-from_any, list_any-from_Contains}
 use Rattle.gm_name.specs.ModuleVersion.{ModuleVersion, module_at, pair_eq}
 use Rattle.gm_name.specs.Private.ModuleVersion.{pair-same, pairs-equivalence}
@@ -18,11 +19,15 @@ use Rattle.gm_graph.specs.Private.Turns.{AreTurnsOf, OverflowsWith}
 use Rattle.gm_graph.specs.declared.worklist.Worklist.{Worklist}
 use Rattle.gm_graph.specs.declared.worklist.NumberedTurn.{NumberedTurn}
 use Rattle.gm_graph.specs.declared.marks.Marks.{Marks}
-use Rattle.gm_graph.specs.Private.Worklists.{AreMarks, IsWorklist, marks_at, turn_of, turns_of}
-use Rattle.gm_graph.specs.Private.Marks.{is_marked}
+use Rattle.gm_graph.specs.Private.Worklists.{AreMarks, IsWorklist, is_turn, marks_at, turn_of, turns_of}
+use Rattle.gm_graph.specs.Private.Marks.{is_marked, no_marks}
 use Rattle.gm_graph.proofs.Adding.{more_turn, new_turn, no_turns, overflow_one}
-use Rattle.gm_graph.proofs.Growing.{unmarked}
+use Rattle.gm_graph.proofs.NumberedModules.{number_same}
 use Rattle.gm_graph.proofs.Sameness.{exact_turn, turns_equivalence}
+
+unmarked : (d : Depth) → is_marked no_marks d ≡ false
+unmarked Top = refl
+unmarked Deep = refl
 
 -- the empty worklist
 pub no_worklist : (modules : List ModuleVersion) (made : Worklist) → IsDistinct pair_eq modules
@@ -31,61 +36,28 @@ no_worklist modules made distinct marks turns opened = record {
   distinct = distinct;
   turned = subst (λ (ts : List NumberedTurn). All (λ one. one.number < length modules) ts) (sym turns)
       (All-nil (λ (one : NumberedTurn). one.number < length modules));
-  marked = omega (arith, ap length marks);
-  marks = λ number d below.
-      unmarked made.marks.items number d (omega (arith, ap length marks))
-      ∙ ap (λ (ts : List NumberedTurn).
-      list_any (same_turn (turn (module_at modules number) d)) (map (turn_of modules) ts)) (sym turns);
+  marks = λ number d. ap (λ (ms : List Marks). is_marked (marks_at ms number) d) marks ∙ unmarked d ∙ sym (ap (list_any (is_turn number d)) turns);
   opened = [];
   turns = subst (λ (ts : List Turn). AreTurnsOf [] ts) (sym (ap (map (turn_of modules)) turns)) no_turns;
   counted = opened;
 }
 
--- ---- more marks
+-- ---- the marks of a number are those of its module
 
-abbrev no_marks : Marks
-no_marks = record { top = false; deep = false }
+module _ (modules : List ModuleVersion) (distinct : IsDistinct pair_eq modules) (number : ℕ) (below : number < length modules) where
+  same_number : (other : ℕ) → other < length modules → (number == other) ≡ pair_eq (module_at modules number) (module_at modules other)
+  same_number other within = both_ways (number == other) (pair_eq (module_at modules number) (module_at modules other))
+      (λ e. subst (λ (n : ℕ). pair_eq (module_at modules number) (module_at modules n) ≡ true) ((Decides-eqb number other).0 e)
+      (pairs-equivalence.refl (module_at modules number)))
+      (λ e. (Decides-eqb number other).1
+      (number_same modules distinct number other below within (pair-same (module_at modules number) (module_at modules other) e)))
 
-is_none : (none : Marks) → ((d : Depth) → is_marked none d ≡ false) → none ≡ no_marks
-is_none none has_none =
-    ap₂ (λ (t d : Bool). let m : Marks = record { top = t; deep = d } in m) (has_none Top) (has_none Deep)
-
-none_in : (more number : ℕ) → marks_at (replicate more no_marks) number ≡ no_marks
-none_in more number = elim (cases_lt number more) [
-  | inl below ↦ get_or-replicate more number no_marks no_marks below
-  | inr past ↦
-      get_or_past (replicate more no_marks) number no_marks (omega (arith, past, length-replicate more no_marks))
-]
-
-same_marks : (marks : List Marks) (more number : ℕ)
-    → marks_at (marks ++ replicate more no_marks) number ≡ marks_at marks number
-same_marks [] more number = none_in more number
-same_marks (one ∷ marks) more zero = refl
-same_marks (one ∷ marks) more (suc number) = same_marks marks more number
-
--- There are marks for so many vertices. All else is the same.
-pub worklist_filled : (modules : List ModuleVersion) (old new : Worklist) (none : Marks) (count more : ℕ)
-    → IsWorklist modules old → ((d : Depth) → is_marked none d ≡ false) → length old.marks.items ≤ count
-    → length new.marks.items ≤ length modules → new.marks.items ≡ take count old.marks.items ++ replicate more none
-    → new.turns ≡ old.turns → new.opened ≡ old.opened → IsWorklist modules new
-worklist_filled modules old new none count more is has_none fewer fits marks turns opened =
-    let filled : new.marks.items ≡ old.marks.items ++ replicate more no_marks =
-    marks ∙ ap₂ (λ (ms : List Marks) (n : Marks). ms ++ replicate more n)
-    (take_all count old.marks.items fewer) (is_none none has_none) in
-    let same : turns_of modules new ≡ turns_of modules old = ap (λ all. map (turn_of modules) all.items) turns in
-    record {
-      distinct = is.distinct;
-      turned = subst (λ all. All (λ one. one.number < length modules) all.items) (sym turns) is.turned;
-      marked = fits;
-      marks = λ number d below.
-          ap (λ (ms : List Marks). is_marked (marks_at ms number) d) filled
-          ∙ ap (λ (m : Marks). is_marked m d) (same_marks old.marks.items more number)
-          ∙ is.marks number d below
-          ∙ ap (list_any (same_turn (turn (module_at modules number) d))) (sym same);
-      opened = is.opened;
-      turns = subst (λ (ts : List Turn). AreTurnsOf is.opened ts) (sym same) is.turns;
-      counted = opened ∙ is.counted;
-    }
+  same_turns : (d : Depth) (turns : List NumberedTurn) → All (λ one. one.number < length modules) turns
+      → list_any (is_turn number d) turns ≡ list_any (same_turn (turn (module_at modules number) d)) (map (turn_of modules) turns)
+  same_turns d [] all = refl
+  same_turns d (one ∷ turns) all = ap₂ (λ (a b : Bool). (a && same_depth d one.depth) || b)
+      (same_number one.number (All-head (λ (o : NumberedTurn). o.number < length modules) one turns all))
+      (same_turns d turns (All-tail (λ (o : NumberedTurn). o.number < length modules) one turns all))
 
 -- ---- whether a vertex has a turn
 
@@ -136,35 +108,23 @@ other_or true a b e = cc
 other_or false a true e = refl
 other_or false a false e = refl
 
-apart : (modules : List ModuleVersion) (q number : ℕ) → IsDistinct pair_eq modules → q < length modules
-    → number < length modules → (q ≡ number → ⊥)
-    → pair_eq (module_at modules q) (module_at modules number) ≡ false
-apart modules q number distinct under below other = elim (cases_lt q number) [
-  | inl lt ↦ apart_from_distinct pair_eq modules q number ([], []) distinct lt below
-  | inr ge ↦ elim (cases_lt number q) [
-    | inl lt ↦ pairs-equivalence.symm (module_at modules q) (module_at modules number)
-        ∙ apart_from_distinct pair_eq modules number q ([], []) distinct lt under
-    | inr le ↦ absurd (other (omega (arith, ge, le)))
-  ]
-]
-
 -- The vertex with this number has these marks.
 module _ (modules : List ModuleVersion) (old : Worklist) (number : ℕ) (depth : Depth) (marks : Marks)
-    (is : IsWorklist modules old) (in_marks : number < length old.marks.items)
-    (at : marks ≡ get_or old.marks.items number marks) where
+    (is : IsWorklist modules old) (below : number < length modules) (at : marks ≡ marks_at old.marks.items number) where
   abbrev its_vertex : ModuleVersion
   its_vertex = module_at modules number
 
   abbrev turns_with : List Turn
   turns_with = turns_of modules old ++ turn its_vertex depth ∷ []
 
-  below : number < length modules
-  below = omega (arith, is.marked, in_marks)
+  abbrev one : NumberedTurn
+  one = record { number = number; depth = depth }
+
+  numbered : (d : Depth) → is_marked marks d ≡ list_any (is_turn number d) old.turns.items
+  numbered d = ap (λ (m : Marks). is_marked m d) at ∙ is.marks number d
 
   marked : (d : Depth) → is_marked marks d ≡ list_any (same_turn (turn its_vertex d)) (turns_of modules old)
-  marked d = ap (λ (m : Marks). is_marked m d)
-      (get_or_read old.marks.items number marks in_marks at (record { top = false; deep = false }))
-      ∙ is.marks number d below
+  marked d = numbered d ∙ same_turns modules is.distinct number below d old.turns.items is.turned
 
   -- a turn that the worklist has
   pub has_turn : true ≡ is_marked marks depth → Contains (turns_of modules old) (turn its_vertex depth)
@@ -205,40 +165,29 @@ module _ (modules : List ModuleVersion) (old : Worklist) (number : ℕ) (depth :
         omega (arith, e, is.counted, length-append is.opened (its_vertex ∷ [])),
       )
 
-  marks_with : (new : Marks) → ((d : Depth) → is_marked new d ≡ (same_depth d depth || is_marked marks d))
-      → AreMarks modules (set old.marks.items number new) turns_with
-  marks_with new with' q d under = elim (cases_eq q number) [
+  marks_with : (new : Worklist) (more : Marks) → marks_at new.marks.items number ≡ more
+      → ((n : ℕ) → (n ≡ number → ⊥) → marks_at new.marks.items n ≡ marks_at old.marks.items n)
+      → ((d : Depth) → is_marked more d ≡ (same_depth d depth || is_marked marks d)) → AreMarks new.marks.items (old.turns.items ++ one ∷ [])
+  marks_with new more put others with' q d = (elim (cases_eq q number) [
     | inl same ↦
-        subst (λ (n : ℕ). is_marked (marks_at (set old.marks.items number new) n) d
-        ≡ list_any (same_turn (turn (module_at modules n) d)) turns_with) (sym same)
-        (ap (λ (m : Marks). is_marked m d)
-        (get_or-set_same old.marks.items number new (record { top = false; deep = false }) in_marks)
-        ∙ with' d
-        ∙ ap (λ (b : Bool). same_depth d depth || b) (marked d)
-        ∙ equal_or (pair_eq its_vertex its_vertex) (same_depth d depth)
-        (list_any (same_turn (turn its_vertex d)) (turns_of modules old)) (pairs-equivalence.refl its_vertex)
-        ∙ sym (list_any-append (same_turn (turn its_vertex d)) (turns_of modules old) (turn its_vertex depth ∷ [])))
+        subst (λ (n : ℕ). is_marked (marks_at new.marks.items n) d ≡ list_any (is_turn n d) old.turns.items || list_any (is_turn n d) (one ∷ [])) (sym same)
+        (ap (λ (m : Marks). is_marked m d) put ∙ with' d ∙ ap (λ (b : Bool). same_depth d depth || b) (numbered d)
+        ∙ equal_or (number == number) (same_depth d depth) (list_any (is_turn number d) old.turns.items) ((Decides-eqb number number).1 refl))
     | inr other ↦
-        ap (λ (m : Marks). is_marked m d)
-        (get_or-set_other old.marks.items number q new (record { top = false; deep = false }) other)
-        ∙ is.marks q d under
-        ∙ other_or (pair_eq (module_at modules q) its_vertex) (same_depth d depth)
-        (list_any (same_turn (turn (module_at modules q) d)) (turns_of modules old))
-        (apart modules q number is.distinct under below other)
-        ∙ sym (list_any-append (same_turn (turn (module_at modules q) d)) (turns_of modules old)
-        (turn its_vertex depth ∷ []))
-  ]
+        ap (λ (m : Marks). is_marked m d) (others q other) ∙ is.marks q d
+        ∙ other_or (q == number) (same_depth d depth) (list_any (is_turn q d) old.turns.items) (ne_eqb q number other)
+  ]) ∙ sym (list_any-append (is_turn q d) old.turns.items (one ∷ []))
 
   -- a new turn, and its mark
-  pub worklist_with : (new : Worklist) (more : Marks) → new.marks.items ≡ set old.marks.items number more
-      → new.turns.items ≡ old.turns.items ++ record { number = number; depth = depth } ∷ []
+  pub worklist_with : (new : Worklist) (more : Marks) → marks_at new.marks.items number ≡ more
+      → ((n : ℕ) → (n ≡ number → ⊥) → marks_at new.marks.items n ≡ marks_at old.marks.items n)
+      → new.turns.items ≡ old.turns.items ++ one ∷ []
       → ((d : Depth) → is_marked more d ≡ (same_depth d depth || is_marked marks d))
       → false ≡ is_marked marks depth
       → new.opened ≡ (if marks.top || marks.deep then old.opened else old.opened + 1) → new.opened ≤ 65536
       → IsWorklist modules new
-  worklist_with new more marks' turns with' unmarked counts few =
-      let one : NumberedTurn = record { number = number; depth = depth } in
-      let (list, are, counted) = opened_more new.opened counts few (sym (unmarked ∙ marked depth)) in
+  worklist_with new more put others turns with' fresh counts few =
+      let (list, are, counted) = opened_more new.opened counts few (sym (fresh ∙ marked depth)) in
       let turns' : turns_of modules new ≡ turns_with =
       ap (λ (ts : List NumberedTurn). map (turn_of modules) ts) turns
       ∙ map-append (turn_of modules) old.turns.items (one ∷ []) in
@@ -246,9 +195,7 @@ module _ (modules : List ModuleVersion) (old : Worklist) (number : ℕ) (depth :
         distinct = is.distinct;
         turned = subst (λ (ts : List NumberedTurn). All (λ one. one.number < length modules) ts) (sym turns)
             (All-push (λ (one : NumberedTurn). one.number < length modules) old.turns.items one is.turned below);
-        marked = omega (arith, ap length marks', length-set old.marks.items number more, is.marked);
-        marks = subst (λ (ts : List Turn). AreMarks modules new.marks.items ts) (sym turns')
-            (subst (λ (ms : List Marks). AreMarks modules ms turns_with) (sym marks') (marks_with more with'));
+        marks = subst (λ (ts : List NumberedTurn). AreMarks new.marks.items ts) (sym turns) (marks_with new more put others with');
         opened = list;
         turns = subst (λ (ts : List Turn). AreTurnsOf list ts) (sym turns') are;
         counted = counted;

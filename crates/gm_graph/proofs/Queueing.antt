@@ -1,5 +1,5 @@
 -- A worklist whose first turns are done.
-use Rattle.std.proofs.Common.{◌≡◌, ◌∙◌, ◌+◌, ◌≤◌, ◌<◌, ℕ, true, false, List, [], ◌++◌, length, get_or, Option, Contains, ap, sym, subst, inl, inr, arith}
+use Rattle.std.proofs.Common.{◌≡◌, ◌∙◌, ◌+◌, ◌≤◌, ◌<◌, ℕ, List, [], ◌++◌, length, get_or, Option, Contains, ap, sym, subst, inl, inr, arith}
 use Rattle.std.proofs.lemmas.Grind.{common_steps}
 use Rattle.std.proofs.lemmas.List.{get_or_default}
 use Rattle.std.proofs.lemmas.Bool.{cases_eq}
@@ -9,29 +9,19 @@ use Rattle.gm_store.specs.Asked.{Name, Reply}
 use Rattle.gm_store_sums.specs.Sums.{Sums}
 use Rattle.gm_graph.specs.declared.cache.depth.Turn.{Turn}
 use Rattle.gm_graph.specs.declared.cache.depth.Depth.{Depth}
-use Rattle.gm_graph.specs.declared.cache.depth.Depth.TheVariants.{Top, Deep}
-use Rattle.gm_graph.specs.Run.{AreTooMany, IsTop, KeepsSayings, Run, TakesTurn, run_of}
+use Rattle.gm_graph.specs.declared.cache.depth.Depth.TheVariants.{Deep}
+use Rattle.gm_graph.specs.Run.{AreTooMany, KeepsSayings, Run, TakesTurn, run_of}
 use Rattle.gm_graph.specs.Turns.{turn}
-use Rattle.gm_graph.specs.Private.Turns.{OverflowsWith}
-use Rattle.gm_graph.specs.Private.VisitedTurns.{AllValidTurns, AreFirstTurns, IsDone, VisitOverflows, Visits}
+use Rattle.gm_graph.specs.Private.Turns.{OverflowsWith, depth_by}
+use Rattle.gm_graph.specs.Private.VisitedTurns.{AllValidTurns, HasFirstTurns, IsDone, VisitOverflows, Visits}
 use Rattle.gm_name_table.specs.Listed.{BeginsWith}
 use Rattle.gm_graph.proofs.Deepening.{IsDone-kept, IsValidTurn-kept, leads_to_deep}
 use Rattle.gm_graph.proofs.Rounds.{AreVisited, along, opened_from}
 
 -- The first turns and more, each one that its vertex takes, with those up to this position done.
 pub record IsQueue (run : Run) (turns : List Turn) (at : ℕ) : Type 0 where
-  pub tops : is_pruned_by run.main.go ≡ true → (x : ModuleVersion) → IsTop run x → Contains turns (turn x Top)
-  pub deeps : is_pruned_by run.main.go ≡ false → (x : ModuleVersion) → IsTop run x → Contains turns (turn x Deep)
-  pub valid : AllValidTurns run turns
+  pub first : HasFirstTurns run turns
   pub done : (k : ℕ) (d : Turn) → k < at → IsDone run turns (get_or turns k d)
-
-pub queue_none : (run : Run) (turns : List Turn) → AreFirstTurns run turns → IsQueue run turns 0
-queue_none run turns first = record {
-  tops = first.tops;
-  deeps = first.deeps;
-  valid = first.valid;
-  done = λ k d h. absurd (omega arith);
-}
 
 done_along : (run : Run) (old new : List Turn) (one : Turn) → BeginsWith old new → IsDone run old one → IsDone run new one
 done_along run old new one extends done = record {
@@ -46,9 +36,7 @@ get_or-along old new rest k d e below = ap (λ (t : List Turn). get_or t k d) e 
 -- a worklist that is done to its end
 pub queue_all : (run : Run) (turns : List Turn) (at : ℕ) → length turns ≤ at → IsQueue run turns at → AreVisited run turns
 queue_all run turns at past queue = record {
-  tops = queue.tops;
-  deeps = queue.deeps;
-  valid = queue.valid;
+  first = queue.first;
   done = λ one (k, below, is). subst (λ (t : Turn). IsDone run turns t) is (queue.done k one (omega arith));
 }
 
@@ -76,13 +64,14 @@ module _ (main : Main) (sums : Option Sums) (pairs longer : List (Name × Reply)
 
   pub queue_more : (new : List Turn) → IsQueue earlier old at → Visits later old new (turn x depth) → IsQueue later new (at + 1)
   queue_more new queue follows = record {
-    tops = λ p y t. along old new (turn y Top) follows.extends (queue.tops p y t);
-    deeps = λ p y t. along old new (turn y Deep) follows.extends (queue.deeps p y t);
-    valid = λ next there. elim (follows.only next there) [
-      | inl in_old ↦ IsValidTurn-kept main sums pairs longer keeps next.vertex next.depth (queue.valid next in_old)
-      | inr found ↦ subst (λ (t : Turn). TakesTurn later t.vertex t.depth) (sym found.2)
-          (leads_to_deep later x depth found.0 (valid_here queue.valid) found.1)
-    ];
+    first = record {
+      tops = λ y t. along old new (turn y (depth_by (is_pruned_by main.go))) follows.extends (queue.first.tops y t);
+      valid = λ next there. elim (follows.only next there) [
+        | inl in_old ↦ IsValidTurn-kept main sums pairs longer keeps next.vertex next.depth (queue.first.valid next in_old)
+        | inr found ↦ subst (λ (t : Turn). TakesTurn later t.vertex t.depth) (sym found.2)
+            (leads_to_deep later x depth found.0 (valid_here queue.first.valid) found.1)
+      ];
+    };
     done = λ k d lt. elim (cases_eq k at) [
       | inl is ↦ subst (λ (t : Turn). IsDone later new t)
           (sym (ap (λ (n : ℕ). get_or new n d) is ∙ get_or-along old new follows.extends.0 at d follows.extends.1 below

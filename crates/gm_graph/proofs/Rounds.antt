@@ -1,7 +1,6 @@
 -- Turns that are all done.
-use Rattle.std.proofs.Common.{◌≡◌, ◌+◌, ◌≤◌, Bool, true, false, List, [], ◌++◌, length, Contains, map, ◌∙◌, sym, refl, subst, inl, inr, arith, length-append, ◌↔◌, Result}
+use Rattle.std.proofs.Common.{◌≡◌, ◌↔◌, ◌+◌, ◌≤◌, Bool, true, false, List, [], ◌++◌, length, Contains, map, sym, refl, subst, inl, inr, arith, length-append, Result}
 use Rattle.std.proofs.lemmas.List.{length-map}
-use Rattle.std.proofs.lemmas.Bool.{cases_Bool, false≢true}
 use Rattle.std.specs.Bool.{Decides}
 use Rattle.std.proofs.lemmas.Map.Made.{length-le_from_is_member, is_member-Decides}
 use Rattle.std.proofs.lemmas.List.Elements.{Contains-append_left, Contains-append_right}
@@ -14,18 +13,16 @@ use Rattle.gm_graph.specs.declared.cache.depth.Depth.{Depth}
 use Rattle.gm_graph.specs.declared.cache.depth.Depth.TheVariants.{Top, Deep}
 use Rattle.gm_graph.specs.Run.{AreTurns, IsOpened, IsTop, Run, Says, TakesTurn, from_main}
 use Rattle.gm_graph.specs.Turns.{same_turn, turn}
-use Rattle.gm_graph.specs.Private.Turns.{AreTurnsOf, AddsAll, depth_by}
-use Rattle.gm_graph.specs.Private.VisitedTurns.{AllValidTurns, AreFirstTurns, IsDone}
+use Rattle.gm_graph.specs.Private.Turns.{AddsAll, AreTurnsOf, depth_by}
+use Rattle.gm_graph.specs.Private.VisitedTurns.{HasFirstTurns, IsDone}
 use Rattle.gm_name_table.specs.Listed.{BeginsWith}
 use Rattle.gm_graph.proofs.Sameness.{turns_equivalence, exact_turn}
-use Rattle.gm_graph.proofs.Deepening.{IsDeep-among}
-use Rattle.gm_graph_select.proofs.RankedLists.{in_mapped}
+use Rattle.gm_graph.proofs.Deepening.{deep_among}
+use Rattle.gm_graph.proofs.Mapped.{in_mapped}
 
 -- The first turns and more, each one that its vertex takes, and each of them done.
 pub record AreVisited (run : Run) (turns : List Turn) : Type 0 where
-  pub tops : is_pruned_by run.main.go ≡ true → (x : ModuleVersion) → IsTop run x → Contains turns (turn x Top)
-  pub deeps : is_pruned_by run.main.go ≡ false → (x : ModuleVersion) → IsTop run x → Contains turns (turn x Deep)
-  pub valid : AllValidTurns run turns
+  pub first : HasFirstTurns run turns
   pub done : (one : Turn) → Contains turns one → IsDone run turns one
 
 same_turn-Decides : (a b : Turn) → Decides (same_turn a b) (a ≡ b)
@@ -64,59 +61,43 @@ pub opened_from : (run : Run) (x : ModuleVersion) (d : Depth) → TakesTurn run 
 opened_from run x Top h = inl h.1
 opened_from run x Deep h = inr h
 
+-- The first turn of a vertex is one that it takes.
+first_taken : (run : Run) (x : ModuleVersion) (pruned : Bool) → is_pruned_by run.main.go ≡ pruned → IsTop run x → TakesTurn run x (depth_by pruned)
+first_taken run x true is top = (is, top)
+first_taken run x false is top = from_main is top
+
+pub takes_first : (run : Run) (x : ModuleVersion) → IsTop run x → TakesTurn run x (depth_by (is_pruned_by run.main.go))
+takes_first run x top = first_taken run x (is_pruned_by run.main.go) refl top
+
 -- Every opened vertex has a turn.
 pub has_turn_of : (run : Run) (turns : List Turn) → AreVisited run turns → (x : ModuleVersion) → IsOpened run x → (d : Depth) × Contains turns (turn x d)
-has_turn_of run turns followed x (inl top) = elim (cases_Bool (is_pruned_by run.main.go)) [
-  | inl pruned ↦ (Top, followed.tops pruned x top)
-  | inr unpruned ↦ (Deep, followed.deeps unpruned x top)
-]
-has_turn_of run turns followed x (inr deep) = (Deep, IsDeep-among run turns followed.tops followed.deeps followed.done deep)
+has_turn_of run turns visited x (inl top) = (depth_by (is_pruned_by run.main.go), visited.first.tops x top)
+has_turn_of run turns visited x (inr deep) = (Deep, deep_among run turns visited.first visited.done deep)
 
-module _ (run : Run) (vertices : List ModuleVersion) (turns : List Turn) (are : AreTurnsOf vertices turns) (followed : AreVisited run turns) where
-  pub turns_exactly : (x : ModuleVersion) (d : Depth) → Contains turns (turn x d) ↔ TakesTurn run x d
-  turns_exactly x Top = ((λ h. followed.valid (turn x Top) h), (λ h. followed.tops h.0 x h.1))
-  turns_exactly x Deep = ((λ h. followed.valid (turn x Deep) h), (λ h. IsDeep-among run turns followed.tops followed.deeps followed.done h))
+module _ (run : Run) (vertices : List ModuleVersion) (turns : List Turn) (are : AreTurnsOf vertices turns) (visited : AreVisited run turns) where
+  turns_exactly : (x : ModuleVersion) (d : Depth) → Contains turns (turn x d) ↔ TakesTurn run x d
+  turns_exactly x Top = (
+    (λ h. visited.first.valid (turn x Top) h),
+    (λ h. subst (λ (pruned : Bool). Contains turns (turn x (depth_by pruned))) h.0 (visited.first.tops x h.1)),
+  )
+  turns_exactly x Deep = ((λ h. visited.first.valid (turn x Deep) h), (λ h. deep_among run turns visited.first visited.done h))
 
   pub are_turns : AreTurns run turns
   are_turns = record { once = are.turns_once; each = turns_exactly }
 
   pub opened_known : (x : ModuleVersion) → IsOpened run x → (said : Result Dependency Class) × Says run x said
   opened_known x h =
-      let one = has_turn_of run turns followed x h in
-      let done = followed.done (turn x one.0) one.1 in
+      let one = has_turn_of run turns visited x h in
+      let done = visited.done (turn x one.0) one.1 in
       (done.said, done.says)
 
-not_in_none : (one : Turn) → Contains [] one → ⊥
-not_in_none one h = absurd (omega (arith, h.1))
-
-module _ (run : Run) (old new : List Turn) (none : old ≡ []) where
-  -- if the main file is pruned
-  first_tops : is_pruned_by run.main.go ≡ true → AddsAll old new (without_excluded run.main run.main.requirements) Top
-      → AreFirstTurns run new
-  first_tops pruned adds = record {
-    tops = λ _ x t. adds.each x t;
-    deeps = λ p. absurd (false≢true (sym p ∙ pruned));
-    valid = λ one h. elim (adds.only one h) [
-      | inl there ↦ absurd (not_in_none one (subst (λ (t : List Turn). Contains t one) none there))
-      | inr found ↦ subst (λ (t : Turn). TakesTurn run t.vertex t.depth) (sym found.2) (pruned, found.1)
-    ];
-  }
-
-  -- if it is unpruned
-  first_deeps : is_pruned_by run.main.go ≡ false → AddsAll old new (without_excluded run.main run.main.requirements) Deep → AreFirstTurns run new
-  first_deeps unpruned adds = record {
-    tops = λ p. absurd (false≢true (sym unpruned ∙ p));
-    deeps = λ _ x t. adds.each x t;
-    valid = λ one h. elim (adds.only one h) [
-      | inl there ↦ absurd (not_in_none one (subst (λ (t : List Turn). Contains t one) none there))
-      | inr found ↦ subst (λ (t : Turn). TakesTurn run t.vertex t.depth) (sym found.2) (from_main unpruned found.1)
-    ];
-  }
-
-  first_by : (pruned : Bool) → is_pruned_by run.main.go ≡ pruned
-      → AddsAll old new (without_excluded run.main run.main.requirements) (depth_by pruned) → AreFirstTurns run new
-  first_by true is adds = first_tops is adds
-  first_by false is adds = first_deeps is adds
-
-  pub first_turns_are : AddsAll old new (without_excluded run.main run.main.requirements) (depth_by (is_pruned_by run.main.go)) → AreFirstTurns run new
-  first_turns_are adds = first_by (is_pruned_by run.main.go) refl adds
+-- Turns of what the main file requires, and no others, are the first ones.
+pub first_turns : (run : Run) (turns : List Turn)
+    → AddsAll [] turns (without_excluded run.main run.main.requirements) (depth_by (is_pruned_by run.main.go)) → HasFirstTurns run turns
+first_turns run turns adds = record {
+  tops = adds.each;
+  valid = λ one h. elim (adds.only one h) [
+    | inl there ↦ absurd (omega (arith, there.1))
+    | inr found ↦ subst (λ (t : Turn). TakesTurn run t.vertex t.depth) (sym found.2) (takes_first run found.0 found.1)
+  ];
+}

@@ -29,7 +29,7 @@ use Rattle.gm_graph.proofs.Dues.{AddsFile, knows_nothing, lent_more, says_still}
 use Rattle.gm_graph.proofs.FoundFiles.{same_module}
 use Rattle.gm_graph.proofs.Growing.{number_below}
 use Rattle.gm_graph.proofs.Lending.{list_there}
-use Rattle.gm_graph.proofs.Queueing.{IsQueue, get_or-along, queue_all, queue_more, queue_none}
+use Rattle.gm_graph.proofs.Queueing.{IsQueue, get_or-along, queue_all, queue_more}
 use Rattle.gm_graph.proofs.Rounds.{are_turns, has_turn_of, opened_from, opened_known}
 
 -- ---- the numbered turns of a worklist
@@ -99,7 +99,7 @@ first_step cache pairs worklist findings none knows lent nothing unvisited =
       sums_are = refl;
       knows = knows_nothing cache pairs none knows;
       lent = lent;
-      queue = queue_none (run_in cache pairs) (turns_of (table_in cache) worklist) first.turns;
+      queue = record { first = first.turns; done = λ k d h. absurd (omega arith) };
       visited = record { opened = λ number w. absurd (unvisited number w); each = λ k d h. absurd (omega arith) };
     }
 
@@ -166,7 +166,7 @@ step main sums old new pairs longer before after findings more at number depth i
     let follows = by_run (λ (run : Run). Visits run was made (turn x depth)) main sums new longer main_is sums_are visits in
     let extends = follows.extends in
     let longer_list = ap length extends.1 in
-    let taken = IsValidTurn-kept main sums pairs longer keeps x depth (is.queue.valid (turn x depth) (at, below, here)) in
+    let taken = IsValidTurn-kept main sums pairs longer keeps x depth (is.queue.first.valid (turn x depth) (at, below, here)) in
     record {
       place = omega (arith, below, longer_list, length-append was extends.0);
       worklist_is = worklist;

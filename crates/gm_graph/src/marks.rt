@@ -1,7 +1,7 @@
 //! Marks of vertices: the depths at which they have turns.
 
-ghost use Rattle.std.specs.Prelude.{◌≡◌, ◌||◌, false};
-ghost use Rattle.gm_graph.specs.Private.Marks.{is_marked};
+ghost use Rattle.std.specs.Prelude.{◌≡◌, ◌||◌};
+ghost use Rattle.gm_graph.specs.Private.Marks.{is_marked, no_marks};
 ghost use Rattle.gm_graph.specs.Turns.{same_depth};
 ghost use Rattle.gm_graph.specs.declared.cache.depth.Depth.{Depth};
 
@@ -19,7 +19,7 @@ pub(crate) struct Marks {
 impl Marks {
     /// The marks of a vertex without turns.
     pub(crate) fn none() -> Marks
-        ensures { (d : Depth) → is_marked result d ≡ false }
+        ensures { result ≡ no_marks }
     {
         Marks {
             top: false,

@@ -17,6 +17,7 @@ use crate::cache::depth::Depth;
 use crate::cache::lent::Lent;
 use crate::cache::load_fault::LoadFault;
 use crate::marks::Marks;
+use crate::places::put_at;
 use std::alloc::{AllocError, Global};
 
 /// The most vertices that are opened. Loading a larger graph is refused with `TooMany`.
@@ -93,7 +94,7 @@ pub(crate) struct Worklist {
 }
 
 impl Worklist {
-    ghost use Rattle.gm_graph.specs.Private.Worklists.{IsWorklist, KeepsTurns, turns_of};
+    ghost use Rattle.gm_graph.specs.Private.Worklists.{IsWorklist, marks_at, turns_of};
 
     /// No turns, with room for the marks of so many modules.
     pub(crate) fn new(alloc: Global, count: usize) -> Result<Worklist, AllocError>
@@ -115,33 +116,28 @@ impl Worklist {
         self.turns
     }
 
-    /// Makes marks for so many modules, if there are fewer.
-    fn make_marks(&mut self, count: usize) -> Result<(), AllocError>
-        ensures made { OnOk result (count ≤ length self.new.marks.items) }
-        ensures worklist { (modules : List ModuleVersion) → count ≤ length modules → IsWorklist modules self.old
-            → OnOk result (IsWorklist modules self.new) }
-        ensures turns { OnOk result (KeepsTurns self.old self.new) }
+    /// The marks of the vertex with a number.
+    fn marks_of(&self, number: u32) -> Marks
+        ensures { result ≡ marks_at self.now.marks.items number }
     {
-        if self.marks.len() < count {
-            self.marks.resize(count, Marks::none())?;
+        match self.marks.get(number as usize) {
+            None => Marks::none(),
+            Some(marks) => *marks,
         }
-        Ok(())
     }
 
     /// Adds a turn, unless the worklist has it. `TooMany` is returned if the vertex has no turn and `MOST` others have
     /// one.
     fn add(&mut self, number: u32, depth: Depth) -> Result<(), AddFault>
-        requires { number < length self.old.marks.items }
-        ensures worklist { (modules : List ModuleVersion) → IsWorklist modules self.old
+        ensures worklist { (modules : List ModuleVersion) → IsWorklist modules self.old → number < length modules
             → OnOk result (IsWorklist modules self.new) }
-        ensures adds { (modules : List ModuleVersion) → IsWorklist modules self.old → OnOk result
-            (AppendsTurnIfNew (turns_of modules self.old) (turns_of modules self.new)
+        ensures adds { (modules : List ModuleVersion) → IsWorklist modules self.old → number < length modules
+            → OnOk result (AppendsTurnIfNew (turns_of modules self.old) (turns_of modules self.new)
             (turn (module_at modules number) depth)) }
-        ensures marks { length self.new.marks.items ≡ length self.old.marks.items }
         ensures too_many { result ≡ Err AddFault.TooMany → (modules : List ModuleVersion) → IsWorklist modules self.old
-            → OverflowsWith (turns_of modules self.old) (module_at modules number ∷ []) }
+            → number < length modules → OverflowsWith (turns_of modules self.old) (module_at modules number ∷ []) }
     {
-        let marks = self.marks[number as usize];
+        let marks = self.marks_of(number);
         if marks.has(depth) {
             return Ok(());
         }
@@ -149,8 +145,8 @@ impl Worklist {
         if opened > MOST {
             return Err(AddFault::TooMany);
         }
+        put_at(&mut self.marks, number, Marks::none(), marks.with(depth))?;
         self.opened = opened;
-        self.marks[number as usize] = marks.with(depth);
         push_turn(&mut self.turns, NumberedTurn { number, depth })?;
         Ok(())
     }
@@ -164,7 +160,6 @@ impl Worklist {
         ensures too_many { result ≡ Err AddFault.TooMany
             → OverflowsWith (turns_of (lent_table list.entry) self.old) (lent_modules list.entry) }
     {
-        self.make_marks(list.module_count())?;
         for number in list.numbers() {
             self.add(*number, depth)?;
         }

@@ -1,14 +1,14 @@
 -- What the visits of a worklist's turns add to it, by what a run says.
-use Rattle.std.specs.Prelude.{◌≡◌, ◌⊎◌, true, false, List, Result, Ok, Contains}
+use Rattle.std.specs.Prelude.{◌≡◌, ◌⊎◌, true, List, Result, Ok, Contains}
 use Rattle.gm_name.specs.ModuleVersion.{ModuleVersion}
 use Rattle.gm_name_table.specs.Listed.{BeginsWith}
 use Rattle.gm_file.specs.Fields.{Dependency}
 use Rattle.gm_file.specs.Main.{is_pruned_by, without_excluded}
 use Rattle.gm_graph.specs.declared.cache.class.Class.{Class}
 use Rattle.gm_graph.specs.declared.cache.depth.Depth.{Depth}
-use Rattle.gm_graph.specs.declared.cache.depth.Depth.TheVariants.{Top, Deep}
+use Rattle.gm_graph.specs.declared.cache.depth.Depth.TheVariants.{Deep}
 use Rattle.gm_graph.specs.declared.cache.depth.Turn.{Turn}
-use Rattle.gm_graph.specs.Private.Turns.{leads_on, OverflowsWith}
+use Rattle.gm_graph.specs.Private.Turns.{depth_by, leads_on, OverflowsWith}
 use Rattle.gm_graph.specs.Run.{IsTop, Run, Says, TakesTurn}
 use Rattle.gm_graph.specs.Turns.{turn}
 
@@ -36,10 +36,9 @@ pub record Visits (run : Run) (old new : List Turn) (one : Turn) : Type 0 where
   pub only : (next : Turn) → Contains new next
       → Contains old next ⊎ ((y : ModuleVersion) × LeadsTo run one y × (next ≡ turn y Deep))
 
--- The turns are exactly those of the main file's requirements.
-pub record AreFirstTurns (run : Run) (turns : List Turn) : Type 0 where
-  pub tops : is_pruned_by run.main.go ≡ true → (x : ModuleVersion) → IsTop run x → Contains turns (turn x Top)
-  pub deeps : is_pruned_by run.main.go ≡ false → (x : ModuleVersion) → IsTop run x → Contains turns (turn x Deep)
+-- What the main file requires has its turns, and each turn is one that its vertex takes.
+pub record HasFirstTurns (run : Run) (turns : List Turn) : Type 0 where
+  pub tops : (x : ModuleVersion) → IsTop run x → Contains turns (turn x (depth_by (is_pruned_by run.main.go)))
   pub valid : AllValidTurns run turns
 
 -- The vertices with turns, together with what the turn leads to, are too many.

@@ -15,13 +15,13 @@ use Rattle.gm_graph.specs.Private.Cached.{module_numbered, span_at}
 use Rattle.gm_graph.specs.Private.Findings.{AreFindings, WasVisited, place_found}
 use Rattle.gm_graph.specs.Run.{AreTurns, IsOpened, IsRead, Run, Says}
 use Rattle.gm_graph.specs.Summaries.{at_span}
-use Rattle.gm_graph.specs.Private.VisitedTurns.{AreFirstTurns, VisitOverflows}
+use Rattle.gm_graph.specs.Private.VisitedTurns.{HasFirstTurns, VisitOverflows}
 use Rattle.gm_graph.specs.Private.Worklists.{IsWorklist, turns_of}
 
 -- The worklist before the first visit: the turns are those of the main file's requirements.
 pub record IsFirstWorklist (run : Run) (modules : List ModuleVersion) (worklist : Worklist) : Type 0 where
   pub worklist_is : IsWorklist modules worklist
-  pub turns : AreFirstTurns run (turns_of modules worklist)
+  pub turns : HasFirstTurns run (turns_of modules worklist)
 
 -- Each answer says something, and by them the visit would open too many vertices.
 abbrev pub OverflowsAt : Run → List Turn → ModuleVersion → Depth → Type 0

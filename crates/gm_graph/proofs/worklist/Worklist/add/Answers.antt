@@ -1,21 +1,20 @@
 use Rattle.std.proofs.Common.{inr, refl}
-use Rattle.gm_graph.proofs.Marking.{worklist_with, has_turn, too_many}
+use Rattle.gm_graph.proofs.Marking.{has_turn, too_many, worklist_with}
 use Rattle.gm_graph.proofs.worklist.Worklist.add.Goals as goal
 
 pub returns-then-has-clause-adds : goal.returns-then-has-clause-adds
-returns-then-has-clause-adds c = λ modules is. inr (
+returns-then-has-clause-adds c = λ modules is below. inr (
   refl,
-  has_turn modules c.args.self.now c.args.number c.args.depth c.index-marks.result.now is c.requires
-      c.index-marks.ensures c.if-has.ensures,
+  has_turn modules c.args.self.now c.args.number c.args.depth c.marks_of-marks.result is below c.marks_of-marks.ensures c.if-has.ensures,
 )
 
 pub returns-then-opened-gt-MOST-clause-too_many : goal.returns-then-opened-gt-MOST-clause-too_many
-returns-then-opened-gt-MOST-clause-too_many c = λ _ modules is.
-    too_many modules c.args.self.now c.args.number c.args.depth c.index-marks.result.now is c.requires
-    c.index-marks.ensures c.opened_with-opened.result c.opened_with-opened.ensures c.if-opened-gt-MOST.true
+returns-then-opened-gt-MOST-clause-too_many c = λ _ modules is below.
+    too_many modules c.args.self.now c.args.number c.args.depth c.marks_of-marks.result is below c.marks_of-marks.ensures
+    c.opened_with-opened.result c.opened_with-opened.ensures c.if-opened-gt-MOST.true
 
 pub returns-clause-worklist : goal.returns-clause-worklist
-returns-clause-worklist c = λ modules is.
-    worklist_with modules c.args.self.now c.args.number c.args.depth c.index-marks.result.now is c.requires
-    c.index-marks.ensures _ c.with.result refl c.in_ok-push_turn.ensures c.with.ensures c.if-has.ensures
-    c.opened_with-opened.ensures c.if-opened-gt-MOST.false
+returns-clause-worklist c = λ modules is below.
+    worklist_with modules c.args.self.now c.args.number c.args.depth c.marks_of-marks.result is below c.marks_of-marks.ensures _ c.with.result
+    (rw c.none.ensures at c.in_ok-put_at.ensures.put) (rw c.none.ensures at c.in_ok-put_at.ensures.others) c.in_ok-push_turn.ensures
+    c.with.ensures c.if-has.ensures c.opened_with-opened.ensures c.if-opened-gt-MOST.false
