@@ -78,23 +78,23 @@ module _ (main : Main) (old new : NumberedList) (files : FileTable) (grows : Gro
 -- ---- what is held of one name
 
 -- What is held of one name is what the answer to it says.
-pub record IsAnswerOf (sums : Option Sums) (name : Name) (answer : Option Reply) (held : Option (Result Dependency Class)) : Type 0 where
+record IsAnswerOf (sums : Option Sums) (name : Name) (answer : Option Reply) (held : Option (Result Dependency Class)) : Type 0 where
   pub kept : (reply : Reply) → answer ≡ Some reply
       → (said : Result Dependency Class) × (held ≡ Some said) × IsFileReading sums name reply said
   pub only : answer ≡ None → held ≡ None
 
-pub one_answer : (sums : Option Sums) (name : Name) (reply : Reply) (reading : Result Dependency Class) → IsFileReading sums name reply reading
+one_answer : (sums : Option Sums) (name : Name) (reply : Reply) (reading : Result Dependency Class) → IsFileReading sums name reply reading
     → IsAnswerOf sums name (Some reply) (Some reading)
 one_answer sums name reply reading reads = record {
   kept = λ other e. (reading, refl, subst (λ (r : Reply). IsFileReading sums name r reading) (same_Some reply other e) reads);
   only = λ e. absurd (cc e);
 }
 
-pub map_cond : {A B : Type 0} (f : A → B) (b : Bool) (v : A) (r : Option A) → option_map f (cond b (Some v) r) ≡ cond b (Some (f v)) (option_map f r)
+map_cond : {A B : Type 0} (f : A → B) (b : Bool) (v : A) (r : Option A) → option_map f (cond b (Some v) r) ≡ cond b (Some (f v)) (option_map f r)
 map_cond f true v r = refl
 map_cond f false v r = refl
 
-pub kept_with : (b : Bool) (main : Main) (modules : List ModuleVersion) (o : Option Kept) (one some : Kept)
+kept_with : (b : Bool) (main : Main) (modules : List ModuleVersion) (o : Option Kept) (one some : Kept)
     → ((any : Kept) → o ≡ Some any → IsKept main modules any) → IsKept main modules one
     → cond b (Some one) o ≡ Some some → IsKept main modules some
 kept_with true main modules o one some were is e = let same : one ≡ some = cc in subst (λ (x : Kept). IsKept main modules x) same is
@@ -118,22 +118,24 @@ module _ (main : Main) (sums : Option Sums) (list : NumberedList) (old new : Fil
     put_held other = ap (option_map (summary_reading (modules_of list))) (puts other)
         ∙ map_cond (summary_reading (modules_of list)) (same_name other name) one (kept_at old other)
 
-    put_answers : (pairs : List (Name × Reply)) → HoldsAnswers (run_of main sums pairs) list old → (other : Name)
-        → IsAnswerOf sums other (answer_in ((name, reply) ∷ pairs) other) (held_under list new other)
-    put_answers pairs holds other =
-        subst (λ (held : Option (Result Dependency Class)). IsAnswerOf sums other (answer_in ((name, reply) ∷ pairs) other) held) (sym (put_held other))
-        (answer_put (same_name other name) sums name other reply (summary_reading (modules_of list) one)
-        (answer_in pairs other) (held_under list old other) refl reads
-        (record { kept = holds.kept other; only = holds.only other }))
+    module _ (pairs all : List (Name × Reply))
+        (more : (other : Name) → answer_in all other ≡ cond (same_name other name) (Some reply) (answer_in pairs other))
+        (holds : HoldsAnswers (run_of main sums pairs) list old) where
+      put_answers : (other : Name) → IsAnswerOf sums other (answer_in all other) (held_under list new other)
+      put_answers other =
+          subst (λ (answer : Option Reply). IsAnswerOf sums other answer (held_under list new other)) (sym (more other))
+          (subst (λ (held : Option (Result Dependency Class)). IsAnswerOf sums other (cond (same_name other name) (Some reply) (answer_in pairs other)) held)
+          (sym (put_held other))
+          (answer_put (same_name other name) sums name other reply (summary_reading (modules_of list) one)
+          (answer_in pairs other) (held_under list old other) refl reads (record { kept = holds.kept other; only = holds.only other })))
 
-    put_holds : (pairs : List (Name × Reply)) → HoldsAnswers (run_of main sums pairs) list old
-        → HoldsAnswers (run_of main sums ((name, reply) ∷ pairs)) list new
-    put_holds pairs holds = record {
-      kept = λ other. (put_answers pairs holds other).kept;
-      only = λ other. (put_answers pairs holds other).only;
-      lends = λ other some e. kept_with (same_name other name) main (modules_of list) (kept_at old other) one some (holds.lends other) is
-          (sym (puts other) ∙ e);
-    }
+      pub put_holds : HoldsAnswers (run_of main sums all) list new
+      put_holds = record {
+        kept = λ other. (put_answers other).kept;
+        only = λ other. (put_answers other).only;
+        lends = λ other some e. kept_with (same_name other name) main (modules_of list) (kept_at old other) one some (holds.lends other) is
+            (sym (puts other) ∙ e);
+      }
 
   same_holds : (pairs : List (Name × Reply)) → KeepsFiles old new → HoldsAnswers (run_of main sums pairs) list old
       → HoldsAnswers (run_of main sums pairs) list new
@@ -153,5 +155,5 @@ module _ (main : Main) (sums : Option Sums) (list : NumberedList) (old new : Fil
       → OnOk result (PutsFile old new name one) → OnErr result (KeepsFiles old new)
       → ∥ HoldsSome main sums list old ∥₁ → ∥ HoldsSome main sums list new ∥₁
   added_some (Ok t) name one says is puts keeps some =
-      ∥∥₁_map some (λ it. ((name, says.0) ∷ it.0, put_holds name says.0 one puts says.1 is it.0 it.1))
+      ∥∥₁_map some (λ it. ((name, says.0) ∷ it.0, put_holds name says.0 one puts says.1 is it.0 ((name, says.0) ∷ it.0) (λ other. refl) it.1))
   added_some (Err e) name one says is puts keeps some = kept_some keeps some
