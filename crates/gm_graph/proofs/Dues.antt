@@ -1,24 +1,18 @@
--- Which names are due while a worklist is visited.
-use Rattle.std.proofs.Common.{◌≡◌, ◌⊎◌, ◌+◌, ◌<◌, ℕ, true, List, [], ◌∷◌, ◌++◌, length, take, get_or, Option, None, Result, Ok, Err, ap, ◌∙◌, sym, refl, subst, inl, inr, arith}
+-- What is asked for while a worklist is visited.
+use Rattle.std.proofs.Common.{◌≡◌, ◌⊎◌, ◌+◌, ◌<◌, ℕ, true, List, [], ◌∷◌, ◌++◌, length, take, get_or, Option, None, Result, Ok, Err, ap, ◌∙◌, sym, subst, inl, inr, arith}
 use Rattle.std.specs.Result.{IsErr}
 use Rattle.std.proofs.lemmas.List.{take_more, take-append-le}
 use Rattle.gm_name.specs.ModuleVersion.{ModuleVersion}
 use Rattle.gm_store.specs.Asked.{Name, Reply, answer_in}
 use Rattle.gm_store_sums.specs.Sums.{Sums}
 use Rattle.gm_graph.specs.declared.cache.Cache.{Cache}
-use Rattle.gm_graph.specs.declared.cache.depth.Depth.{Depth}
 use Rattle.gm_graph.specs.declared.cache.depth.Turn.{Turn}
 use Rattle.gm_graph.specs.declared.cache.load_fault.LoadFault.{LoadFault}
 use Rattle.gm_file.specs.Main.{Main}
 use Rattle.gm_graph.specs.Cached.{Knows}
 use Rattle.gm_graph.specs.Reading.{file_of, is_askable}
 use Rattle.gm_graph.specs.Refusals.{refused_names, refused_in}
-use Rattle.gm_graph.specs.Run.{AreTooMany, AskedInTurn, CallsFor, IsDue, IsRead, KeepsSayings, LoadingNeeds, Says, more, nothing, run_of}
-use Rattle.gm_graph.specs.Turns.{turn}
-use Rattle.gm_graph.specs.Private.VisitedTurns.{AllValidTurns}
-use Rattle.gm_graph.specs.Private.Visiting.{OverflowsAt}
-use Rattle.gm_graph.proofs.Queueing.{many_followed}
-use Rattle.gm_graph.proofs.Rounds.{opened_from}
+use Rattle.gm_graph.specs.Run.{AskedInTurn, KeepsSayings, Says, nothing, run_of}
 use Rattle.gm_graph.proofs.Sayings.{says_more}
 
 -- Nothing was asked for.
@@ -42,32 +36,6 @@ says_still main sums old new x (inl same) = λ y said says.
 says_still main sums old new x (inr asked) = λ y said says.
     subst (λ (ps : List (Name × Reply)). Says (run_of main sums ps) y said) (sym asked.2.1)
     (says_more main sums old ((file_of main x, asked.2.0) ∷ []) y said says)
-
--- The vertex of a turn in the worklist is opened, so its file may be asked for.
-module _ (main : Main) (sums : Option Sums) (old : List (Name × Reply)) (read : IsRead (run_of main sums old)) (turns : List Turn) (at : ℕ)
-    (x : ModuleVersion) (depth : Depth) (valid : AllValidTurns (run_of main sums old) turns) (below : at < length turns)
-    (here : get_or turns at (turn x depth) ≡ turn x depth) where
-  called : (name : Name) → file_of main x ≡ name → is_askable name ≡ true → CallsFor (run_of main sums old) name
-  called name is askable = record {
-    read = read;
-    needed = (x, opened_from (run_of main sums old) x depth (valid (turn x depth) (at, below, here)), is, askable);
-  }
-
-  pub asks_more : (new : List (Name × Reply)) → AskedInTurn (LoadingNeeds main sums) old → AddsFile main old new x → AskedInTurn (LoadingNeeds main sums) new
-  asks_more new asks (inl e) = subst (λ (ps : List (Name × Reply)). AskedInTurn (LoadingNeeds main sums) ps) (sym e) asks
-  asks_more new asks (inr asked) =
-      subst (λ (ps : List (Name × Reply)). AskedInTurn (LoadingNeeds main sums) ps) (sym asked.2.1)
-      (more asked.2.0 asks (called (file_of main x) refl asked.0) asked.1)
-
-  pub due_here : (new : List (Name × Reply)) (name : Name) → new ≡ old → name ≡ file_of main x → is_askable name ≡ true → answer_in old name ≡ None
-      → IsDue (run_of main sums new) name
-  due_here new name same is askable none =
-      subst (λ (ps : List (Name × Reply)). IsDue (run_of main sums ps) name) (sym same) (record { calls = called name (sym is) askable; unasked = none })
-
-  pub many_here : (new : List (Name × Reply)) → AddsFile main old new x → OverflowsAt (run_of main sums new) turns x depth
-      → IsRead (run_of main sums new) × AreTooMany (run_of main sums new)
-  many_here new for over =
-      (over.0, many_followed main sums old new (says_still main sums old new x for) turns at x depth below here valid over.1)
 
 -- ---- the refused names of a refusal that is passed on
 

@@ -1,5 +1,7 @@
--- What loading asks a store for, turn by turn.
-use Rattle.std.proofs.Common.{◌≡◌, ◌∙◌, ◌+◌, ◌<◌, ◌++◌, [], ℕ, List, Option, ap, append-nil, get_or, length, subst, sym}
+-- What loading asks a store for and what it visits, turn by turn.
+use Rattle.std.proofs.Common.{◌≡◌, ◌∙◌, ◌+◌, ◌<◌, ◌++◌, ◌∷◌, [], ℕ, true, List, Option, ap, append-nil, arith, get_or, inl, inr, length, length-append, refl, subst, sym}
+use Rattle.std.proofs.lemmas.Bool.{cases_eq}
+use Rattle.std.proofs.lemmas.List.{get_or_default}
 use Rattle.gm_name.specs.ModuleVersion.{ModuleVersion}
 use Rattle.gm_store.specs.Asked.{Name, Reply}
 use Rattle.gm_store.specs.States.{StoreState}
@@ -14,19 +16,22 @@ use Rattle.gm_graph.specs.declared.worklist.Worklist.{Worklist}
 use Rattle.gm_graph.specs.declared.worklist.NumberedTurn.{NumberedTurn}
 use Rattle.gm_graph.specs.Private.Asking.{AsksInTurn, AsksOne, IsAskableFile}
 use Rattle.gm_graph.specs.Private.Worklists.{turns_of}
-use Rattle.gm_graph.specs.Cached.{main_in, run_in, table_in}
+use Rattle.gm_graph.specs.Cached.{main_in, run_in, sums_in, table_in, turns_in}
 use Rattle.gm_graph.specs.Private.Cached.{module_numbered}
-use Rattle.gm_graph.specs.Reading.{file_of}
-use Rattle.gm_graph.specs.Run.{AreTooMany, IsRead, LoadingNeeds, Run, run_of}
+use Rattle.gm_graph.specs.Reading.{file_of, is_askable}
+use Rattle.gm_graph.specs.Run.{AreTooMany, AskedInTurn, CallsFor, IsDue, IsOpened, IsRead, KeepsSayings, LoadingNeeds, Run, TakesTurn, more, run_of}
 use Rattle.gm_graph.specs.Private.TurnVisits.{IsTurnVisited}
 use Rattle.gm_graph.specs.Turns.{turn}
 use Rattle.gm_graph.specs.Private.VisitedTurns.{Visits}
 use Rattle.gm_graph.specs.Private.Visiting.{OverflowsAt}
 use Rattle.gm_graph.proofs.AskedFile.{asks_for, lacks_still}
-use Rattle.gm_graph.proofs.Dues.{AddsFile, asks_more, due_here, many_here, none_in_turn}
+use Rattle.gm_graph.proofs.Deepening.{IsValidTurn-kept, opened_kept}
+use Rattle.gm_graph.proofs.Dues.{AddsFile, lent_more, none_in_turn, says_still}
 use Rattle.gm_graph.proofs.FoundFiles.{same_module}
-use Rattle.gm_graph.proofs.Growing.{turns_over}
-use Rattle.gm_graph.proofs.Stepping.{IsAt, by_run, number_here, read_by, step, turn_below, turn_here}
+use Rattle.gm_graph.proofs.Growing.{number_below, turns_over}
+use Rattle.gm_graph.proofs.Queueing.{get_or-along, many_followed, queue_more}
+use Rattle.gm_graph.proofs.Rounds.{opened_from}
+use Rattle.gm_graph.proofs.Stepping.{AreVisitedTo, IsAt, by_run, number_here, read_by, turn_below, turn_here}
 
 -- Nothing was asked for.
 pub nothing_asked : (main : Main) (sums : Option Sums) (may : Name → Option Reply → Type 0) (state : StoreState) → state.asked ≡ []
@@ -56,52 +61,142 @@ module _ {main : Main} {sums : Option Sums} {cache : Cache} {worklist : Worklist
   abbrev vertex : ModuleVersion
   vertex = module_numbered cache one.number
 
-  adds_file : AddsFile (main_in cache) old.asked new.asked vertex
-  adds_file = asks_for (main_in cache) vertex asks
+  abbrev turns : List Turn
+  turns = turns_of (table_in cache) worklist
 
-  adds_here : AddsFile main old.asked new.asked vertex
-  adds_here = subst (λ (m : Main). AddsFile m old.asked new.asked vertex) state.main_is adds_file
+  abbrev earlier : Run
+  earlier = run_of main sums old.asked
 
-  read : IsRead (run_of main sums old.asked)
-  read = read_by main sums cache old.asked state.sums_are state.knows
+  abbrev later : Run
+  later = run_of main sums new.asked
+
+  inside : at < length turns
+  inside = turn_below (table_in cache) worklist at below
+
+  there : get_or turns at (turn vertex one.depth) ≡ turn vertex one.depth
+  there = turn_here (table_in cache) worklist at one below here
+
+  -- The vertex takes the turn, so it is opened, and its file may be asked for.
+  takes : TakesTurn earlier vertex one.depth
+  takes = state.queue.first.valid (turn vertex one.depth) (at, inside, there)
+
+  called : (name : Name) → file_of main vertex ≡ name → is_askable name ≡ true → CallsFor earlier name
+  called name is askable = record {
+    read = read_by main sums cache old.asked state.sums_are state.knows;
+    needed = (vertex, opened_from earlier vertex one.depth takes, is, askable);
+  }
+
+  adds_file : AddsFile main old.asked new.asked vertex
+  adds_file = subst (λ (m : Main). AddsFile m old.asked new.asked vertex) state.main_is (asks_for (main_in cache) vertex asks)
+
+  keeps : KeepsSayings earlier later
+  keeps = says_still main sums old.asked new.asked vertex adds_file
+
+  asked_more : AskedInTurn (LoadingNeeds main sums) old.asked → AskedInTurn (LoadingNeeds main sums) new.asked
+  asked_more before = elim adds_file [
+    | inl same ↦ subst (λ (ps : List (Name × Reply)). AskedInTurn (LoadingNeeds main sums) ps) (sym same) before
+    | inr asked ↦ subst (λ (ps : List (Name × Reply)). AskedInTurn (LoadingNeeds main sums) ps) (sym asked.2.1)
+        (more asked.2.0 before (called (file_of main vertex) refl asked.0) asked.1)
+  ]
+
+  due_here : (name : Name) → failed ≡ name ∷ [] → IsDue later name
+  due_here name e =
+      let lacks = lacks_still (main_in cache) vertex asks name e in
+      subst (λ (ps : List (Name × Reply)). IsDue (run_of main sums ps) name) (sym lacks.0) (record {
+        calls = called name (sym (lacks.1 ∙ ap (λ (m : Main). file_of m vertex) state.main_is)) lacks.2;
+        unasked = lacks.3;
+      })
 
   -- what was asked for
   pub asked_in_turn : {first : Name → Option Reply → Type 0} {start : StoreState}
       → AsksInTurn main sums first before start old [] → AsksInTurn main sums first after start new failed
-  asked_in_turn {first} {start} is =
-      let turns = turns_of (table_in cache) worklist in
-      let inside = turn_below (table_in cache) worklist at below in
-      let there = turn_here (table_in cache) worklist at one below here in
-      record {
-        asks = asks_more main sums old.asked read turns at vertex one.depth state.queue.first.valid inside there new.asked is.asks adds_here;
-        device = λ name e.
-            let lacks = lacks_still (main_in cache) vertex asks name e in
-            due_here main sums old.asked read turns at vertex one.depth state.queue.first.valid inside there new.asked name lacks.0
-            (lacks.1 ∙ ap (λ (m : Main). file_of m vertex) state.main_is) lacks.2 lacks.3;
-        refused = asks.refused ∙ ap (λ (ns : List Name). ns ++ failed) (is.refused ∙ append-nil start.refused);
-        served = served_both first before after start old new is.served asks.served;
-      }
+  asked_in_turn {first} {start} is = record {
+    asks = asked_more is.asks;
+    device = due_here;
+    refused = asks.refused ∙ ap (λ (ns : List Name). ns ++ failed) (is.refused ∙ append-nil start.refused);
+    served = served_both first before after start old new is.served asks.served;
+  }
 
   -- too many vertices
-  pub many_in_turn : OverflowsAt (run_in cache new.asked) (turns_of (table_in cache) worklist) vertex one.depth
-      → IsRead (run_of main sums new.asked) × AreTooMany (run_of main sums new.asked)
+  pub many_in_turn : OverflowsAt (run_in cache new.asked) turns vertex one.depth → IsRead later × AreTooMany later
   many_in_turn over =
-      let turns = turns_of (table_in cache) worklist in
-      many_here main sums old.asked read turns at vertex one.depth state.queue.first.valid (turn_below (table_in cache) worklist at below)
-      (turn_here (table_in cache) worklist at one below here) new.asked adds_here
-      (by_run (λ (run : Run). OverflowsAt run turns vertex one.depth) main sums cache new.asked state.main_is state.sums_are over)
+      let many = by_run (λ (run : Run). OverflowsAt run turns vertex one.depth) main sums cache new.asked state.main_is state.sums_are over in
+      (many.0, many_followed main sums old.asked new.asked keeps turns at vertex one.depth inside there state.queue.first.valid many.1)
 
   -- It was visited.
-  pub stepped : {end : Cache} {made : Worklist} {marks : Followed} {more : Findings}
-      → IsTurnVisited cache end old.asked new.asked worklist made marks findings more one
-      → IsAt main sums end new.asked made more (at + 1)
-  stepped {end} {made} {marks} {more} is =
-      let within = number_here (table_in cache) worklist at one state.worklist_is below here in
-      step main sums cache end old.asked new.asked worklist made findings more at one.number one.depth state
-      (turn_below (table_in cache) worklist at below) (turn_here (table_in cache) worklist at one below here) within
-      is.knows is.continues is.turns is.adds.ready.worklist_is
-      (subst (λ (x : ModuleVersion). Visits (run_in end new.asked) (turns_of (table_in cache) worklist) (turns_of (table_in end) made) (turn x one.depth))
-      (sym (same_module cache end one.number is.continues within))
-      (subst (λ (ts : List Turn). Visits (run_in end new.asked) ts (turns_of (table_in end) made) (turn (module_numbered end one.number) one.depth))
-      (turns_over (table_in cache) (table_in end) worklist state.worklist_is is.continues.numbered) is.adds.follows))
-      is.adds.finds adds_file
+  module _ {end : Cache} {made : Worklist} {marks : Followed} {found : Findings}
+      (is : IsTurnVisited cache end old.asked new.asked worklist made marks findings found one) where
+    abbrev after_it : List Turn
+    after_it = turns_of (table_in end) made
+
+    within : one.number < length (table_in cache)
+    within = number_here (table_in cache) worklist at one state.worklist_is below here
+
+    -- The vertices that were visited have their numbers still, and are opened.
+    opened_still : (number : ℕ) → number < length (table_in cache) → IsOpened later (module_numbered cache number)
+        → (number < length (table_in end)) × IsOpened later (module_numbered end number)
+    opened_still number lower opened = (
+      number_below (table_in cache) (table_in end) number is.continues.numbered lower,
+      subst (λ (x : ModuleVersion). IsOpened later x) (same_module cache end number is.continues lower) opened,
+    )
+
+    main_is : main_in end ≡ main
+    main_is = is.continues.main ∙ state.main_is
+
+    sums_are : sums_in end ≡ sums
+    sums_are = is.continues.sums ∙ state.sums_are
+
+    visits : Visits later turns after_it (turn vertex one.depth)
+    visits =
+        by_run (λ (run : Run). Visits run turns after_it (turn vertex one.depth)) main sums end new.asked main_is sums_are
+        (subst (λ (x : ModuleVersion). Visits (run_in end new.asked) turns after_it (turn x one.depth))
+        (sym (same_module cache end one.number is.continues within))
+        (subst (λ (ts : List Turn). Visits (run_in end new.asked) ts after_it (turn (module_numbered end one.number) one.depth))
+        (turns_over (table_in cache) (table_in end) worklist state.worklist_is is.continues.numbered) is.adds.follows))
+
+    still_there : (k : ℕ) (d : Turn) → k < length turns → get_or after_it k d ≡ get_or turns k d
+    still_there k d lower = get_or-along turns after_it visits.extends.0 k d visits.extends.1 lower
+
+    visited_to : AreVisitedTo end later after_it found (at + 1)
+    visited_to = record {
+      opened = λ n w. elim (is.adds.finds.only n w) [
+        | inl was ↦
+            (let before_it = state.visited.opened n was in
+            opened_still n before_it.0 (opened_kept main sums old.asked new.asked keeps (module_numbered cache n) before_it.1))
+        | inr same ↦
+            subst (λ (m : ℕ). (m < length (table_in end)) × IsOpened later (module_numbered end m)) (sym same)
+            (opened_still one.number within (opened_from later vertex one.depth
+            (IsValidTurn-kept main sums old.asked new.asked keeps vertex one.depth takes)))
+      ];
+      each = λ k d lt. elim (cases_eq k at) [
+        | inl same ↦ (
+          one.number,
+          is.adds.finds.here,
+          sym (same_module cache end one.number is.continues within)
+              ∙ sym (ap (λ (t : Turn). t.vertex) (ap (λ (j : ℕ). get_or after_it j d) same ∙ still_there at d inside
+              ∙ get_or_default turns at d (turn vertex one.depth) inside ∙ there)),
+        )
+        | inr other ↦
+            (let lower : k < at = omega arith in
+            let known : k < length turns = omega (arith, inside) in
+            let was = state.visited.each k d lower in (
+              was.0,
+              is.adds.finds.stay was.0 was.1,
+              sym (same_module cache end was.0 is.continues (state.visited.opened was.0 was.1).0) ∙ was.2
+                  ∙ sym (ap (λ (t : Turn). t.vertex) (still_there k d known)),
+            ))
+      ];
+    }
+
+    pub stepped : IsAt main sums end new.asked made found (at + 1)
+    stepped = record {
+      place = omega (arith, inside, ap length visits.extends.1, length-append turns visits.extends.0);
+      worklist_is = is.adds.ready.worklist_is;
+      main_is = main_is;
+      sums_are = sums_are;
+      knows = is.knows;
+      lent = lent_more (turns_in cache) (turns_in end) turns after_it visits.extends.0 at (turn vertex one.depth) state.lent is.turns visits.extends.1
+          inside there;
+      queue = queue_more main sums old.asked new.asked keeps turns at vertex one.depth inside there after_it state.queue visits;
+      visited = visited_to;
+    }
