@@ -6,9 +6,9 @@ use Rattle.gm_name.specs.ModuleVersion.{ModuleVersion, module_at}
 use Rattle.gm_graph.specs.declared.cache.depth.Turn.{Turn}
 use Rattle.gm_graph.specs.declared.cache.depth.Depth.{Depth}
 use Rattle.gm_graph.proofs.Adding.{overflow_later}
+use Rattle.gm_graph_select.proofs.RankedLists.{from_mapped, in_mapped}
 use Rattle.gm_graph.specs.Turns.{turn}
 use Rattle.gm_graph.specs.Private.Turns.{AppendsTurnIfNew, AddsAll, OverflowsWith}
-use Rattle.gm_graph_select.proofs.RankedLists.{from_mapped, in_mapped}
 
 pub no_shorter : (old new more : List Turn) → new ≡ old ++ more → length old ≤ length new
 no_shorter old new more e = omega (arith, ap length e, length-append old more)

@@ -11,7 +11,7 @@ use Rattle.gm_graph.specs.declared.cache.depth.Turn.{Turn}
 use Rattle.gm_graph.specs.declared.cache.depth.Depth.{Depth}
 use Rattle.gm_graph.specs.declared.cache.depth.Depth.TheVariants.{Top, Deep}
 use Rattle.gm_graph.specs.Private.Turns.{AddsAll, depth_by, leads_on}
-use Rattle.gm_graph.specs.Run.{IsDeep, IsOpened, IsTop, KeepsSayings, Requires, Run, Says, TakesTurn, from_deep, from_main, from_top, run_of}
+use Rattle.gm_graph.specs.Run.{IsDeep, IsOpened, KeepsSayings, Requires, Run, Says, TakesTurn, from_deep, from_main, from_top, run_of}
 use Rattle.gm_graph.specs.Turns.{turn}
 use Rattle.gm_graph.specs.Private.VisitedTurns.{HasFirstTurns, IsDone, LeadsTo, Visits}
 use Rattle.gm_graph.proofs.Sayings.{file_same, not_both}

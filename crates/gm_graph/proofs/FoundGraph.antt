@@ -1,10 +1,9 @@
 -- What was found makes the edges and the faults of the graph.
-use Rattle.std.proofs.Common.{◌≡◌, ◌∙◌, ◌↔◌, ◌<◌, ◌+◌, ◌∷◌, [], ℕ, zero, suc, List, Option, None, Some, Result, Ok, Err, All, Contains, ap, arith, get_or, inl, inr, length, refl, subst, sym, take}
+use Rattle.std.proofs.Common.{◌≡◌, ◌∙◌, ◌↔◌, ◌<◌, ◌+◌, ℕ, zero, suc, List, Option, None, Some, Result, Ok, Err, All, Contains, ap, arith, get_or, inl, inr, length, refl, subst, sym, take}
 use Rattle.std.specs.Prelude.{IsSome, slice_get}
 use Rattle.std.proofs.lemmas.Bool.{false≢true}
 use Rattle.std.proofs.lemmas.List.{get_or_default}
 use Rattle.std.proofs.lemmas.Slice.{between_from_start}
-use Rattle.std.proofs.lemmas.List.Elements.{Contains-append_cases, Contains-append_left, Contains-append_right}
 use Rattle.gm_name.specs.ModuleVersion.{ModuleVersion, module_at}
 use Rattle.gm_name_table.specs.Listed.{modules_at, modules_of}
 use Rattle.gm_name_table.proofs.Listed.{part_as}
@@ -30,39 +29,12 @@ use Rattle.gm_graph_select.specs.declared.adjacency.Source.{Source}
 use Rattle.gm_graph_select.specs.declared.step.Edge.{Edge}
 use Rattle.gm_graph_select.specs.declared.step.Step.{Step}
 use Rattle.gm_graph_select.specs.declared.step.Step.TheVariants.{Main as FromMain, Of}
-use Rattle.gm_graph_select.specs.Adjacency.{StepEdges, edges_from, edges_of, left_by, list_at, sources_of as steps_left, step_edges, step_with}
+use Rattle.gm_graph_select.specs.Adjacency.{StepEdges, edges_of, left_by, list_at, sources_of as steps_left, step_edges, step_with}
 use Rattle.gm_graph_select.specs.Graph.{edge}
-use Rattle.gm_graph_select.proofs.RankedLists.{from_mapped, in_mapped}
 use Rattle.gm_graph.proofs.Gathered.{faulty_list, file_source, lists_by, noted_has, source_is, source_there, used_list}
 use Rattle.gm_graph.proofs.Keeping.{file_there}
+use Rattle.gm_graph_select.proofs.RankedLists.{edges_each, edges_only, from_mapped, in_mapped}
 use Rattle.gm_graph.proofs.Sayings.{file_same, not_both, one_said}
-
--- ---- the edges of steps
-
-module _ (vertices : List ModuleVersion) where
-  edge_there : (all : List StepEdges) (one : StepEdges) (number : ℕ) → Contains all one → Contains one.to number
-      → Contains (edges_of vertices all) (edge (left_by vertices one) (module_at vertices number))
-  edge_there [] one number h there = absurd (omega (arith, h.1))
-  edge_there (first ∷ all) one number (zero, below, at) there =
-      subst (λ (s : StepEdges). Contains (edges_of vertices (first ∷ all)) (edge (left_by vertices s) (module_at vertices number))) at
-      (Contains-append_left (edges_from vertices first) (edges_of vertices all) (edge (left_by vertices first) (module_at vertices number))
-      (in_mapped (λ (n : ℕ). edge (left_by vertices first) (module_at vertices n)) first.to number
-      (subst (λ (s : StepEdges). Contains s.to number) (sym at) there)))
-  edge_there (first ∷ all) one number (suc k, below, at) there =
-      Contains-append_right (edges_from vertices first) (edges_of vertices all) (edge (left_by vertices one) (module_at vertices number))
-      (edge_there all one number (k, omega (arith, below), at) there)
-
-  edge_from : (all : List StepEdges) (e : Edge) → Contains (edges_of vertices all) e
-      → (one : StepEdges) × Contains all one × ((number : ℕ) × Contains one.to number × (edge (left_by vertices one) (module_at vertices number) ≡ e))
-  edge_from [] e h = absurd (omega (arith, h.1))
-  edge_from (first ∷ all) e h = elim (Contains-append_cases (edges_from vertices first) (edges_of vertices all) e h) [
-    | inl here ↦
-        (let found = from_mapped (λ (n : ℕ). edge (left_by vertices first) (module_at vertices n)) first.to e here in
-        (first, (0, omega arith, refl), (found.0, found.1, found.2)))
-    | inr later ↦
-        (let found = edge_from all e later in
-        (found.0, (suc found.1.0, omega (arith, found.1.1), found.1.2), found.2))
-  ]
 
 -- ---- what was found, by the parts of the cache
 
@@ -167,7 +139,9 @@ module _ (run : Run) (cache : Cache) (worklist : Worklist) (findings : Findings)
   listed_edge one y there h =
       let found = from_mapped (module_at modules) (list_at lists one.list) y h in
       subst (λ (z : ModuleVersion). Contains (edges_of modules steps) (edge (step_with modules one.from) z)) found.2
-      (edge_there modules steps (step_edges lists one) found.0 (in_mapped (step_edges lists) (gathered_sources places) one there) found.1)
+      (edges_each modules steps (step_edges lists one) (edge (step_with modules one.from) (module_at modules found.0))
+      (in_mapped (step_edges lists) (gathered_sources places) one there)
+      (in_mapped (λ (n : ℕ). edge (step_with modules one.from) (module_at modules n)) (list_at lists one.list) found.0 found.1))
 
   found_edge : (x y : ModuleVersion) (number : ℕ) → WasVisited findings number → module_numbered cache number ≡ x → Requires run x y
       → Contains (edges_of modules steps) (edge (Of x) y)
@@ -192,14 +166,13 @@ module _ (run : Run) (cache : Cache) (worklist : Worklist) (findings : Findings)
 
   only : (e : Edge) → Contains (edges_of modules steps) e → IsEdge run e.from e.to
   only e h =
-      let found = edge_from modules steps e h in
-      let source = from_mapped (step_edges lists) (gathered_sources places) found.0 found.1 in
-      let number = found.2.0 in
-      subst (λ (one : Edge). IsEdge run one.from one.to) found.2.2
-      (subst (λ (s : StepEdges). IsEdge run (left_by modules s) (module_at modules number)) source.2
-      (source_edge source.0 source.1 (module_at modules number)
-      (in_mapped (module_at modules) (list_at lists source.0.list) number
-      (subst (λ (s : StepEdges). Contains s.to number) (sym source.2) found.2.1))))
+      let (step, left, there) = edges_only modules steps e h in
+      let (source, listed, is) = from_mapped (step_edges lists) (gathered_sources places) step left in
+      let (number, held, same) = from_mapped (λ (n : ℕ). edge (left_by modules step) (module_at modules n)) step.to e there in
+      subst (λ (one : Edge). IsEdge run one.from one.to) same
+      (subst (λ (s : StepEdges). IsEdge run (left_by modules s) (module_at modules number)) is
+      (source_edge source listed (module_at modules number)
+      (in_mapped (module_at modules) (list_at lists source.list) number (subst (λ (s : StepEdges). Contains s.to number) (sym is) held))))
 
   -- The edges are exactly those of the graph.
   pub edges_exactly : (e : Edge) → Contains (edges_of modules steps) e ↔ IsEdge run e.from e.to

@@ -12,12 +12,12 @@ use Rattle.std.proofs.lemmas.Map.Keys.{Less-from_sorted}
 use Rattle.std.proofs.lemmas.Map.Views.{btree_map_get_iff}
 use Rattle.gm_name.specs.ModuleVersion.{ModuleVersion, module_at, pair_cmp, pair_eq, pair_ties, pair_total}
 use Rattle.gm_name.specs.Private.ModuleVersion.{pair-anti, pair-same, pair-self}
+use Rattle.gm_graph_select.proofs.RankedLists.{from_mapped, in_mapped}
 use Rattle.gm_graph.specs.declared.cache.class.Class.{Class}
 use Rattle.gm_graph.specs.declared.fault.Fault.{Fault}
 use Rattle.gm_graph.specs.declared.findings.NumberedFault.{NumberedFault}
 use Rattle.gm_graph.specs.Private.Findings.{numbered}
 use Rattle.gm_graph.specs.Private.Gathering.{AreFaultsOf, HasFaultOf, fault}
-use Rattle.gm_graph_select.proofs.RankedLists.{from_mapped, in_mapped}
 
 abbrev entry_fault : ModuleVersion × Class → Fault
 entry_fault e = fault e.0 e.1

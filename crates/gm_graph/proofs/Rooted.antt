@@ -9,9 +9,9 @@ use Rattle.gm_graph_select.specs.Chains.{IsReached, IsRooted, along, at_main}
 use Rattle.gm_graph_select.specs.Graph.{among, edge, edge_cmp}
 use Rattle.gm_graph_select.specs.Order.{HaveSame, IsAscending}
 use Rattle.gm_graph_select.proofs.Same.{AreSame, same_back, same_rooted}
-use Rattle.gm_graph_select.proofs.RankedLists.{from_mapped}
 use Rattle.gm_graph.specs.Run.{IsDeep, IsEdge, IsOpened, IsTop, Run, from_deep, from_main, from_top}
 use Rattle.gm_graph.specs.Outcome.{AreReached}
+use Rattle.gm_graph_select.proofs.RankedLists.{from_mapped}
 
 module _ (run : Run) where
   top_reached : (x : ModuleVersion) → IsTop run x → IsReached (IsEdge run) (Of x)

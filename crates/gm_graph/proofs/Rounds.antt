@@ -18,7 +18,7 @@ use Rattle.gm_graph.specs.Private.VisitedTurns.{HasFirstTurns, IsDone}
 use Rattle.gm_name_table.specs.Listed.{BeginsWith}
 use Rattle.gm_graph.proofs.Sameness.{turns_equivalence, exact_turn}
 use Rattle.gm_graph.proofs.Deepening.{deep_among}
-use Rattle.gm_graph.proofs.Mapped.{in_mapped}
+use Rattle.gm_graph_select.proofs.RankedLists.{in_mapped}
 
 -- The first turns and more, each one that its vertex takes, and each of them done.
 pub record AreVisited (run : Run) (turns : List Turn) : Type 0 where
