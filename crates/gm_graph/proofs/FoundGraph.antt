@@ -38,8 +38,8 @@ use Rattle.gm_graph.proofs.Sayings.{file_same, not_both, one_said}
 
 -- ---- what was found, by the parts of the cache
 
-module _ (run : Run) (cache : Cache) (worklist : Worklist) (findings : Findings)
-    (opened : IsOpenedIn run cache worklist findings) (parts : CacheParts) (are : ArePartsOf cache parts) where
+module _ {run : Run} {cache : Cache} {worklist : Worklist} {findings : Findings} (opened : IsOpenedIn run cache worklist findings)
+    {parts : CacheParts} (are : ArePartsOf cache parts) where
   abbrev places : List (Option ℕ)
   places = findings.places.items
 

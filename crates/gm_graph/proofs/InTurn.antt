@@ -120,7 +120,7 @@ module _ {main : Main} {sums : Option Sums} {cache : Cache} {worklist : Worklist
   -- too many vertices
   pub many_in_turn : OverflowsAt (run_in cache new.asked) turns vertex one.depth → IsRead later × AreTooMany later
   many_in_turn over =
-      let many = by_run (λ (run : Run). OverflowsAt run turns vertex one.depth) main sums cache new.asked state.main_is state.sums_are over in
+      let many = by_run (λ (run : Run). OverflowsAt run turns vertex one.depth) cache new.asked state.main_is state.sums_are over in
       (many.0, many_followed main sums old.asked new.asked keeps turns at vertex one.depth inside there state.queue.first.valid many.1)
 
   -- It was visited.
@@ -148,7 +148,7 @@ module _ {main : Main} {sums : Option Sums} {cache : Cache} {worklist : Worklist
 
     visits : Visits later turns after_it (turn vertex one.depth)
     visits =
-        by_run (λ (run : Run). Visits run turns after_it (turn vertex one.depth)) main sums end new.asked main_is sums_are
+        by_run (λ (run : Run). Visits run turns after_it (turn vertex one.depth)) end new.asked main_is sums_are
         (subst (λ (x : ModuleVersion). Visits (run_in end new.asked) turns after_it (turn x one.depth))
         (sym (same_module cache end one.number is.continues within))
         (subst (λ (ts : List Turn). Visits (run_in end new.asked) ts after_it (turn (module_numbered end one.number) one.depth))

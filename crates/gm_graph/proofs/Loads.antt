@@ -31,38 +31,38 @@ use Rattle.gm_graph.proofs.FoundGraph.{edges_exactly, faults_exactly, sources_op
 use Rattle.gm_graph.proofs.Queueing.{many_first}
 use Rattle.gm_graph.proofs.Rooted.{list_rooted, same_edges}
 
-module _ (run : Run) (cache : Cache) (worklist : Worklist) (findings : Findings)
-    (opened : IsOpenedIn run cache worklist findings) (parts : CacheParts) (are : ArePartsOf cache parts) where
+module _ {run : Run} {cache : Cache} {worklist : Worklist} {findings : Findings} (opened : IsOpenedIn run cache worklist findings)
+    {parts : CacheParts} (are : ArePartsOf cache parts) where
   abbrev edges : List Edge
   edges = edges_of parts.modules.items (steps_by parts findings.places.items)
 
   exact : (e : Edge) → Contains edges e ↔ IsEdge run e.from e.to
-  exact = edges_exactly run cache worklist findings opened parts are
+  exact = edges_exactly opened are
 
   pub found_rooted : IsRooted (among edges)
   found_rooted = list_rooted run edges exact
 
   pub found_ends : (x : ModuleVersion) → Contains (sources_of parts.modules.items (steps_by parts findings.places.items)) (Of x)
       → IsEdgeEnd (among edges) x
-  found_ends x h = opened_among run edges exact x (sources_opened run cache worklist findings opened parts are x h)
+  found_ends x h = opened_among run edges exact x (sources_opened opened are x h)
 
   edges_are : (sorted : List Edge) → HaveSame edges sorted → (e : Edge) → Contains sorted e ↔ IsEdge run e.from e.to
   edges_are sorted same e = ((λ h. (exact e).0 ((same e).1 h)), (λ h. (same e).0 ((exact e).1 h)))
 
 -- The run is that of a main file, a go.sum and answers.
-pub loads : (main : Main) (sums : Option Sums) (pairs : List (Name × Reply)) (cache : Cache) (worklist : Worklist) (findings : Findings)
-    (parts : CacheParts) → IsOpenedIn (run_of main sums pairs) cache worklist findings → ArePartsOf cache parts
+pub loads : (main : Main) (sums : Option Sums) (pairs : List (Name × Reply)) {cache : Cache} {worklist : Worklist} {findings : Findings}
+    {parts : CacheParts} → IsOpenedIn (run_of main sums pairs) cache worklist findings → ArePartsOf cache parts
     → AskedInTurn (LoadingNeeds main sums) pairs → (loaded : LoadedGraph) → loaded.main ≡ main.path
     → AreFaultsOf parts.modules.items findings.faults.items loaded.faults → IsAscending edge_cmp loaded.edges
     → HaveSame (edges_of parts.modules.items (steps_by parts findings.places.items)) loaded.edges
     → IsBuildList main.path main.replaces (among loaded.edges) loaded.rows
     → loaded.turns ≡ map (turn_of parts.modules.items) worklist.turns.items → IsLoaded (run_of main sums pairs) (names_in pairs) loaded
-loads main sums pairs cache worklist findings parts opened are asks loaded path_is faults ascending same rows turns =
+loads main sums pairs {cache} {worklist} opened are asks loaded path_is faults ascending same rows turns =
     let run = run_of main sums pairs in
-    let each = edges_are run cache worklist findings opened parts are loaded.edges same in
+    let each = edges_are opened are loaded.edges same in
     record {
       main_is = path_is;
-      faults = faults_exactly run cache worklist findings opened parts are loaded.faults faults;
+      faults = faults_exactly opened are loaded.faults faults;
       edges = record { ascending = ascending; each = each };
       rows = same_build_list main.path main.replaces (among loaded.edges) (IsEdge run) loaded.rows (same_edges run loaded.edges each) rows;
       turns = subst (λ (ts : List Turn). AreTurns run ts)

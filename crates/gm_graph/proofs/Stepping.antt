@@ -72,9 +72,9 @@ pub read_by : (main : Main) (sums : Option Sums) (cache : Cache) (pairs : List (
     → IsRead (run_of main sums pairs)
 read_by main sums cache pairs sums_are knows = subst (λ (s : Option Sums). IsRead (run_of main s pairs)) sums_are (answers_read cache pairs knows)
 
-pub by_run : (P : Run → Type 0) (main : Main) (sums : Option Sums) (cache : Cache) (pairs : List (Name × Reply)) → main_in cache ≡ main
+pub by_run : (P : Run → Type 0) {main : Main} {sums : Option Sums} (cache : Cache) (pairs : List (Name × Reply)) → main_in cache ≡ main
     → sums_in cache ≡ sums → P (run_in cache pairs) → P (run_of main sums pairs)
-by_run P main sums cache pairs main_is sums_are holds =
+by_run P {main} {sums} cache pairs main_is sums_are holds =
     subst (λ (m : Main). P (run_of m sums pairs)) main_is
     (subst (λ (s : Option Sums). P (run_of (main_in cache) s pairs)) sums_are holds)
 
@@ -112,8 +112,8 @@ last_step main sums cache pairs worklist findings at is found past =
       worklist_is = is.worklist_is;
       turns = are_turns run opened turns of all;
       known = opened_known run opened turns of all;
-      found = by_run (λ (r : Run). AreFindings cache r findings) main sums cache pairs is.main_is is.sums_are found;
-      lists = λ number place e. by_run (λ (r : Run). HasListAt cache r (module_numbered cache number) place) main sums cache pairs is.main_is is.sums_are
+      found = by_run (λ (r : Run). AreFindings cache r findings) cache pairs is.main_is is.sums_are found;
+      lists = λ number place e. by_run (λ (r : Run). HasListAt cache r (module_numbered cache number) place) cache pairs is.main_is is.sums_are
           (list_there cache pairs (module_numbered cache number) place is.knows (found.files number place e).sound);
       opened = λ number w. (is.visited.opened number w).1;
       each = λ x opened.

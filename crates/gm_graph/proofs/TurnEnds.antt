@@ -18,7 +18,7 @@ use Rattle.gm_graph.specs.declared.findings.Findings.{Findings}
 use Rattle.gm_graph.specs.declared.followed.Followed.{Followed}
 use Rattle.gm_graph.specs.declared.worklist.NumberedTurn.{NumberedTurn}
 use Rattle.gm_graph.specs.declared.worklist.Worklist.{Worklist}
-use Rattle.gm_graph.specs.Cached.{main_in, run_in, sums_in, table_in}
+use Rattle.gm_graph.specs.Cached.{run_in, table_in}
 use Rattle.gm_graph.specs.Private.Cached.{module_numbered}
 use Rattle.gm_graph.specs.Private.CacheVisits.{HasVisited, IsVisit, IsRefusedVisit as KeptTurns, required_by, table_of}
 use Rattle.gm_graph.specs.Private.Findings.{AreFindings, FindsOne}
@@ -38,21 +38,20 @@ use Rattle.gm_graph.proofs.Holding.{answers_read}
 use Rattle.gm_graph.proofs.Stepping.{by_run}
 
 -- What a visit got, and what the cache became.
-pub got : (old new : Cache) (earlier pairs : List (Name × Reply)) (number : ℕ) (d : Depth) {result : Result Visit AskFault} {seen v : Visit}
+pub got : {old new : Cache} {earlier pairs : List (Name × Reply)} {number : ℕ} {d : Depth} {result : Result Visit AskFault} {seen v : Visit}
     → result ≡ Ok seen → seen ≡ v
     → MatchResult result (λ one. HasVisited old earlier new pairs number d one) (λ fault. KeptTurns old new number fault)
     → HasVisited old earlier new pairs number d v
-got old new earlier pairs number d is same ends =
+got {old} {new} {earlier} {pairs} {number} {d} is same ends =
     subst (λ (one : Visit). HasVisited old earlier new pairs number d one) same
     (subst (λ (r : Result Visit AskFault). MatchResult r (λ one. HasVisited old earlier new pairs number d one)
     (λ fault. KeptTurns old new number fault)) is ends)
 
 -- ---- the cache may have numbered more modules
 
-module _ (old new : Cache) (earlier pairs : List (Name × Reply)) (worklist : Worklist) (marks : Followed) (findings : Findings)
-    (one : NumberedTurn) (ready : IsReady old (run_in old earlier) worklist marks findings) where
-  pub ready_after : {seen : Visit} → HasVisited old earlier new pairs one.number one.depth seen
-      → IsReady new (run_in new pairs) worklist marks findings
+module _ {old new : Cache} {earlier pairs : List (Name × Reply)} {number : ℕ} {d : Depth} {worklist : Worklist} {marks : Followed}
+    {findings : Findings} (ready : IsReady old (run_in old earlier) worklist marks findings) where
+  pub ready_after : {seen : Visit} → HasVisited old earlier new pairs number d seen → IsReady new (run_in new pairs) worklist marks findings
   ready_after has = record {
     worklist_is = worklist_over (table_in old) (table_in new) worklist ready.worklist_is has.continues.numbered has.distinct;
     followed = followed_known old new (run_in old earlier) (run_in new pairs) worklist marks ready.worklist_is has.continues
@@ -61,18 +60,18 @@ module _ (old new : Cache) (earlier pairs : List (Name × Reply)) (worklist : Wo
   }
 
   -- too many vertices
-  pub overflows_at : (required : Required) → HasVisited old earlier new pairs one.number one.depth (visit.Required required)
+  pub overflows_at : {required : Required} → HasVisited old earlier new pairs number d (visit.Required required)
       → required.leads ≡ true → OverflowsWith (turns_of (table_of required) worklist) (required_by required)
-      → OverflowsAt (run_in old pairs) (turns_of (table_in old) worklist) (module_numbered old one.number) one.depth
-  overflows_at required has leads over =
-      let x = module_numbered old one.number in
+      → OverflowsAt (run_in old pairs) (turns_of (table_in old) worklist) (module_numbered old number) d
+  overflows_at {required} has leads over =
+      let x = module_numbered old number in
       let says = has.visit_is.1 in
       let turns = turns_of (table_in old) worklist in
       let run = run_in new pairs in
       let same : turns_of (table_of required) worklist ≡ turns =
       ap (λ (ms : List ModuleVersion). turns_of ms worklist) has.visit_is.2
       ∙ turns_over (table_in old) (table_in new) worklist ready.worklist_is has.continues.numbered in
-      let holds : OverflowsAt run turns x one.depth = (
+      let holds : OverflowsAt run turns x d = (
         answers_read new pairs has.knows,
         (
           says.file,
@@ -82,15 +81,15 @@ module _ (old new : Cache) (earlier pairs : List (Name × Reply)) (worklist : Wo
               (subst (λ (xs : List ModuleVersion). OverflowsWith (turns_of (table_of required) worklist) xs) says.modules over),
         ),
       ) in
-      by_run (λ (r : Run). OverflowsAt r turns x one.depth) (main_in old) (sums_in old) new pairs has.continues.main has.continues.sums holds
+      by_run (λ (r : Run). OverflowsAt r turns x d) new pairs has.continues.main has.continues.sums holds
 
 -- ---- what the visit of a turn adds
 
 -- the vertex has a fault
-pub fault_added : (cache : Cache) (run : Run) (worklist : Worklist) (marks : Followed) (old new : Findings) (one : NumberedTurn)
-    (class : Class) → IsReady cache run worklist marks old → Says run (module_numbered cache one.number) (Err class)
+pub fault_added : {cache : Cache} {run : Run} {worklist : Worklist} {marks : Followed} {old new : Findings} {one : NumberedTurn}
+    {class : Class} → IsReady cache run worklist marks old → Says run (module_numbered cache one.number) (Err class)
     → AreFindings cache run new → FindsOne old new one.number → AddsTurn cache run worklist worklist marks old new one
-fault_added cache run worklist marks old new one class ready says found finds =
+fault_added {cache} {run} {worklist} {one = one} {class = class} ready says found finds =
     let x = module_numbered cache one.number in
     record {
       ready = record { worklist_is = ready.worklist_is; followed = ready.followed; found = found };
@@ -154,11 +153,11 @@ module _ (cache : Cache) (run : Run) (old : Worklist) (marks : Followed) (one : 
   }
 
 -- So the turn was visited.
-pub turn_visited : (old new : Cache) (earlier pairs : List (Name × Reply)) (before after : Worklist) (marks : Followed)
-    (found more : Findings) (one : NumberedTurn) {seen : Visit} (result : Result (Unit {0}) LoadFault)
+pub turn_visited : {old new : Cache} {earlier pairs : List (Name × Reply)} {before after : Worklist} {marks : Followed}
+    {found more : Findings} {one : NumberedTurn} {seen : Visit} (result : Result (Unit {0}) LoadFault)
     → HasVisited old earlier new pairs one.number one.depth seen
     → OnOk result (AddsTurn new (run_in new pairs) before after marks found more one)
     → OnOk result (IsTurnVisited old new earlier pairs before after marks found more one)
-turn_visited old new earlier pairs before after marks found more one (Err fault) has adds = tt
-turn_visited old new earlier pairs before after marks found more one (Ok u) has adds =
+turn_visited (Err fault) has adds = tt
+turn_visited (Ok u) has adds =
     record { knows = has.knows; count = has.count; continues = has.continues; turns = has.turns; adds = adds }

@@ -17,8 +17,8 @@ use Rattle.gm_file.specs.declared.fault.DirectiveKind.{DirectiveKind}
 use Rattle.gm_file.specs.Directives.{Lax, LineInBlock, Mode, item_at, directive_said, with_blocks}
 use Rattle.gm_file.specs.Faults.{Fault, fault_of, faults, faults_after, first_of, item_kinds, precedes, with_before_from}
 use Rattle.gm_file.proofs.Snoc.{length-with_blocks}
-use Rattle.gm_graph_select.proofs.Ascending.{no_member}
 use Rattle.gm_graph_select.proofs.RankedLists.{from_mapped}
+use Rattle.gm_graph_select.proofs.Ascending.{no_member}
 use Rattle.gm_file.specs.declared.misreading.Misreading.{Misreading}
 use Rattle.gm_file.specs.declared.misreading.Misreading.TheVariants as misreading
 use Rattle.gm_file.specs.Misreading.{IsMisread}

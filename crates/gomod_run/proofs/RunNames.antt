@@ -20,12 +20,12 @@ use Rattle.gm_graph.specs.declared.cache.class.Class.{Class}
 use Rattle.gm_graph.specs.declared.cache.class.Class.TheVariants.{NotFetchable, Missing, TooLong, NoSum, SumDiffers, Malformed, WrongPath}
 use Rattle.gm_graph.specs.Reading.{IsContentReading, IsFileReading, IsReadUnless, class_of_sum, sum_fault}
 use Rattle.gm_graph.specs.Run.{FileSays, IsDeep, IsEdge, IsOpened, IsTop, Requires, Run, Says, answered, faulty, from_deep, from_main, from_top, run_of, sound, unaskable, wrong_path}
+use Rattle.gm_graph_select.proofs.RankedLists.{from_mapped}
 use Rattle.gm_graph_select.specs.declared.step.Step.{Step}
 use Rattle.gm_graph_select.specs.declared.step.Step.TheVariants.{Main as FromMain, Of}
 use Rattle.gm_graph_select.specs.BuildList.{Entry, entry_of, main_entry}
 use Rattle.gm_graph_select.specs.Chains.{IsChain, begins, goes_on}
 use Rattle.gm_graph_select.proofs.Ascending.{member_cases, member_head, member_tail, no_member}
-use Rattle.gm_graph_select.proofs.RankedLists.{from_mapped}
 use Rattle.gomod_run.specs.PrintedLines.{AreProperSteps, IsProperClass, IsProperRight, IsProperRow, IsProperStep, RunHasNames, RunHasProperEdges, RunHasProperFaults, RunHasProperRows, RunHasProperSteps}
 use Rattle.gomod_run.proofs.FileNames.{declared_path, replaced_module, replacement_said, replaces_said, required_names}
 use Rattle.gomod_run.proofs.FolderNames.{is_folder}

@@ -4,7 +4,6 @@ use Rattle.gm_name.specs.ModuleVersion.{ModuleVersion}
 use Rattle.gm_file.specs.Main.{main_of}
 use Rattle.gm_store.specs.Asked.{Name, name_of}
 use Rattle.gm_store.proofs.Serving.{nothing_served}
-use Rattle.gm_graph.specs.Cached.{run_in}
 use Rattle.gm_graph.specs.Refusals.{refused_names}
 use Rattle.gm_graph.specs.Run.{AreTooMany, IsRead, LoadingNeeds, Run}
 use Rattle.gm_graph.specs.Private.Visiting.{IsOpenedIn}
@@ -69,8 +68,7 @@ returns-in_err-findings-clause-refused g c =
 
 pub returns-in_err-findings-clause-too_many : goal.returns-in_err-findings-clause-too_many
 returns-in_err-findings-clause-too_many g c = λ e.
-    by_run (λ (run : Run). IsRead run × AreTooMany run) (main_of c.args.main.now) (option_copied c.args.sums) c.in_ok-cache.cache
-    (g.F.Asks.state c.visit_all.new.files).asked c.in_ok-cache.ensures.main c.in_ok-cache.ensures.sums
+    by_run (λ (run : Run). IsRead run × AreTooMany run) c.in_ok-cache.cache (g.F.Asks.state c.visit_all.new.files).asked c.in_ok-cache.ensures.main c.in_ok-cache.ensures.sums
     (c.in_err-findings.ensures.too_many (ap Err (sym (rw e at c.from_residual-in_err-findings.ensures.1))))
 
 pub invariant_of-cache-in_err-findings-clause-in_order : goal.invariant_of-cache-in_err-findings-clause-in_order
@@ -79,20 +77,15 @@ invariant_of-cache-in_err-findings-clause-in_order g c = c.visit_all.new.cache.i
 pub assemble-requires : goal.assemble-requires
 assemble-requires g c =
     let opened = c.in_ok-findings.ensures.opened in
-    let cache = c.visit_all.new.cache in
-    let worklist = c.visit_all.new.worklist in
-    let findings = c.in_ok-findings.findings in
-    let parts = c.into_parts-parts.result in
     let are = c.into_parts-parts.ensures in
-    let pairs = (g.F.Asks.state c.visit_all.new.files).asked in
-    let run = run_in c.in_ok-cache.cache pairs in
     record {
-      turned = subst (λ ts. All (λ one. one.number < length parts.modules.items) ts.items) (sym c.into_turns.ensures)
-          (subst (λ (ms : List ModuleVersion). All (λ one. one.number < length ms) worklist.turns.items) (sym are.modules) opened.worklist_is.turned);
-      faults = found_faults run cache worklist findings opened parts are;
-      places = found_places run cache worklist findings opened parts are;
-      rooted = found_rooted run cache worklist findings opened parts are;
-      sources = found_ends run cache worklist findings opened parts are;
+      turned = subst (λ ts. All (λ one. one.number < length c.into_parts-parts.result.modules.items) ts.items) (sym c.into_turns.ensures)
+          (subst (λ (ms : List ModuleVersion). All (λ one. one.number < length ms) c.visit_all.new.worklist.turns.items) (sym are.modules)
+          opened.worklist_is.turned);
+      faults = found_faults opened are;
+      places = found_places opened are;
+      rooted = found_rooted opened are;
+      sources = found_ends opened are;
     }
 
 pub returns-clause-loaded : goal.returns-clause-loaded
@@ -101,16 +94,11 @@ returns-clause-loaded g c =
     let main = main_of c.args.main.now in
     let sums = option_copied c.args.sums in
     let pairs = (g.F.Asks.state c.visit_all.new.files).asked in
-    let cache = c.visit_all.new.cache in
-    let worklist = c.visit_all.new.worklist in
-    let findings = c.in_ok-findings.findings in
-    let loaded = c.in_ok-assemble.field-0 in
-    let opened = by_run (λ (run : Run). IsOpenedIn run cache worklist findings) main sums c.in_ok-cache.cache pairs
-    c.in_ok-cache.ensures.main c.in_ok-cache.ensures.sums c.in_ok-findings.ensures.opened in
-    loads main sums pairs cache worklist findings c.into_parts-parts.result
-    opened c.into_parts-parts.ensures
+    let opened = by_run (λ (run : Run). IsOpenedIn run c.visit_all.new.cache c.visit_all.new.worklist c.in_ok-findings.findings)
+    c.in_ok-cache.cache pairs c.in_ok-cache.ensures.main c.in_ok-cache.ensures.sums c.in_ok-findings.ensures.opened in
+    loads main sums pairs opened c.into_parts-parts.ensures
     (in_turn_by c.in_ok-cache.ensures.main c.in_ok-cache.ensures.sums refl c.visit_all.ensures.asks).asks
-    loaded told.main told.faults told.ascending told.edges told.rows
+    c.in_ok-assemble.field-0 told.main told.faults told.ascending told.edges told.rows
     (told.turns ∙ ap (λ ts. map (turn_of c.into_parts-parts.result.modules.items) ts.items) c.into_turns.ensures)
 
 pub returns-in_err-worklist-clause-served : goal.returns-in_err-worklist-clause-served

@@ -8,6 +8,6 @@ returns-clause-adds c = λ cache run worklist marks ready below says.
     let new = c.note_fault.new.self in
     let noted = c.in_ok-note_fault.ensures in
     let number = c.args.one.number in
-    fault_added cache run worklist marks old new c.args.one c.args.class ready says
+    fault_added ready says
     (fault_noted old new number c.args.class noted.put c.note_fault.ensures.places cache run ready.found (record { below = below; says = says }))
     (fault_finds old new number c.args.class noted.put c.note_fault.ensures.places)

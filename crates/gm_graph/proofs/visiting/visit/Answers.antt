@@ -34,29 +34,20 @@ pub returns-in-Ok-Required-clause-visited : goal.returns-in-Ok-Required-clause-v
 returns-in-Ok-Required-clause-visited g c =
     let old = c.args.cache.now in
     let end = c.visit.follows.lender-at-none in
-    let earlier = (g.F.Asks.state c.args.files.now).asked in
-    let pairs = (g.F.Asks.state c.visit.new.files).asked in
+    let run = run_in end (g.F.Asks.state c.visit.new.files).asked in
     let one = c.args.one in
-    let has = got old end earlier pairs one.number one.depth c.in-Ok-Required.is c.in-Ok-Required.field-0-is c.visit.follows.holds-at-none in
-    let here = same_module old end one.number has.continues c.requires.below in
-    turn_visited old end earlier pairs c.args.worklist.now c.add_requirements.new.worklist c.add_requirements.new.followed
-    c.args.findings.now c.add_requirements.new.findings one c.add_requirements.result has
-    (c.add_requirements.ensures.adds end (run_in end pairs)
-    (ready_after old end earlier pairs c.args.worklist.now c.args.followed.now c.args.findings.now one c.requires.ready has)
+    let has = got c.in-Ok-Required.is c.in-Ok-Required.field-0-is c.visit.follows.holds-at-none in
+    turn_visited c.add_requirements.result has
+    (c.add_requirements.ensures.adds end run (ready_after c.requires.ready has)
     (number_below (table_in old) (table_in end) one.number has.continues.numbered c.requires.below)
-    (subst (λ (x : ModuleVersion). IsVisit end (run_in end pairs) x one.depth (visit.Required c.in-Ok-Required.required)) here has.visit_is))
+    (subst (λ (x : ModuleVersion). IsVisit end run x one.depth (visit.Required c.in-Ok-Required.required))
+    (same_module old end one.number has.continues c.requires.below) has.visit_is))
 
 pub returns-in-Ok-Required-clause-too_many : goal.returns-in-Ok-Required-clause-too_many
 returns-in-Ok-Required-clause-too_many g c = λ e.
-    let old = c.args.cache.now in
-    let end = c.visit.follows.lender-at-none in
-    let earlier = (g.F.Asks.state c.args.files.now).asked in
-    let pairs = (g.F.Asks.state c.visit.new.files).asked in
-    let one = c.args.one in
-    let has = got old end earlier pairs one.number one.depth c.in-Ok-Required.is c.in-Ok-Required.field-0-is c.visit.follows.holds-at-none in
+    let has = got c.in-Ok-Required.is c.in-Ok-Required.field-0-is c.visit.follows.holds-at-none in
     let many = c.add_requirements.ensures.too_many e in
-    overflows_at old end earlier pairs c.args.worklist.now c.args.followed.now c.args.findings.now one c.requires.ready
-    c.in-Ok-Required.required has many.0 many.1
+    overflows_at c.requires.ready has many.0 many.1
 
 pub returns-in-Ok-Required-clause-asks : goal.returns-in-Ok-Required-clause-asks
 returns-in-Ok-Required-clause-asks g c = asks_by (sym c.add_requirements.ensures.not_refused) c.in-Ok-Required.ensures.asks
@@ -67,17 +58,13 @@ pub returns-in-Ok-Fault-clause-visited : goal.returns-in-Ok-Fault-clause-visited
 returns-in-Ok-Fault-clause-visited g c =
     let old = c.args.cache.now in
     let end = c.visit.follows.lender-at-none in
-    let earlier = (g.F.Asks.state c.args.files.now).asked in
-    let pairs = (g.F.Asks.state c.visit.new.files).asked in
+    let run = run_in end (g.F.Asks.state c.visit.new.files).asked in
     let one = c.args.one in
-    let has = got old end earlier pairs one.number one.depth c.in-Ok-Fault.is c.in-Ok-Fault.field-0-is c.visit.follows.holds-at-none in
-    let here = same_module old end one.number has.continues c.requires.below in
-    turn_visited old end earlier pairs c.args.worklist.now c.args.worklist.now c.args.followed.now c.args.findings.now
-    c.add_fault.new.findings one c.add_fault.result has
-    (c.add_fault.ensures.adds end (run_in end pairs) c.args.worklist.now c.args.followed.now
-    (ready_after old end earlier pairs c.args.worklist.now c.args.followed.now c.args.findings.now one c.requires.ready has)
+    let has = got c.in-Ok-Fault.is c.in-Ok-Fault.field-0-is c.visit.follows.holds-at-none in
+    turn_visited c.add_fault.result has
+    (c.add_fault.ensures.adds end run c.args.worklist.now c.args.followed.now (ready_after c.requires.ready has)
     (number_below (table_in old) (table_in end) one.number has.continues.numbered c.requires.below)
-    (subst (λ (x : ModuleVersion). Says (run_in end pairs) x (Err c.in-Ok-Fault.class)) here has.visit_is))
+    (subst (λ (x : ModuleVersion). Says run x (Err c.in-Ok-Fault.class)) (same_module old end one.number has.continues c.requires.below) has.visit_is))
 
 pub returns-in-Ok-Fault-clause-too_many : goal.returns-in-Ok-Fault-clause-too_many
 returns-in-Ok-Fault-clause-too_many g c = λ e. absurd (c.add_fault.ensures.not_too_many e)
