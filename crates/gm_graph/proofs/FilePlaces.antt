@@ -12,7 +12,7 @@ use Rattle.gm_file.specs.Main.{Main, replacement_in}
 use Rattle.gm_store.specs.Asked.{Name, mod_file}
 use Rattle.gm_graph.specs.declared.cache.file_table.FileTable.{FileTable}
 use Rattle.gm_graph.specs.FileTable.{place_of}
-use Rattle.gm_graph.specs.Private.FileTable.{IsFileOf, IsPlaceOf, NotesFiles, noted_for, replacing_place}
+use Rattle.gm_graph.specs.Private.FileTable.{IsFileOf, IsPlaceOf, IsUnnoted, NotesFiles, noted_for, replacing_place}
 use Rattle.gm_graph.specs.Reading.{file_named, file_of}
 use Rattle.gm_graph.proofs.NumberedModules.{number_same}
 
@@ -39,37 +39,32 @@ module _ (main : Main) (modules : List ModuleVersion) (files : FileTable) (notes
           let p : x.0 ≡ y.0 = cc in let v : x.1 ≡ y.1 = cc in
           ap₂ (λ (a b : List ℕ). (a, b)) p v
 
-  -- For a module without a number the place of its file is that of a replacement's file.
-  pub place_by_absent : (x : ModuleVersion) (name : Name) → IsAbsent modules x → name ≡ file_of main x
+  -- If no place is noted for the modules with this file, its place is that of a replacement's file.
+  by_replacing : (name : Name) → (replacing_place files name ≡ None → IsUnnoted main modules files name)
       → place_of files name ≡ option_and_then place_in (replacing_place files name)
-  place_by_absent x name absent named = by (replacing_place files name) refl
+  by_replacing name unnoted = by (replacing_place files name) refl
     where
       by : (o : Option OptionalPlace) → replacing_place files name ≡ o → place_of files name ≡ option_and_then place_in o
-      by None none =
-          notes.others_noted name
-          (λ k below also. absurd (absent k
-          (slice_get-get_or modules k ([], []) below ∙ ap (λ (y : ModuleVersion). Some y) (sym (one_owner x (module_at modules k) name none named also)))))
-          none
+      by None none = notes.others_noted name (unnoted none) none
       by (Some place) some = sym (notes.replacing_noted name place some)
+
+  -- So it is for a module without a number.
+  pub place_by_absent : (x : ModuleVersion) (name : Name) → IsAbsent modules x → name ≡ file_of main x
+      → place_of files name ≡ option_and_then place_in (replacing_place files name)
+  place_by_absent x name absent named = by_replacing name (λ none k below also. absurd (absent k
+      (slice_get-get_or modules k ([], []) below ∙ ap (λ (y : ModuleVersion). Some y) (sym (one_owner x (module_at modules k) name none named also)))))
 
 -- The place of a file's name is the one noted for its module, or otherwise that of a replacement's file.
 pub place_by : (main : Main) (modules : List ModuleVersion) (files : FileTable) (number : ℕ) (name : Name) → IsFileOf main modules files number name
     → place_of files name ≡ option_or (noted_for files number) (option_and_then place_in (replacing_place files name))
 place_by main modules files number name is = noted (noted_for files number) refl
   where
-    replacing : (o : Option OptionalPlace) → replacing_place files name ≡ o → noted_for files number ≡ None
-        → place_of files name ≡ option_and_then place_in o
-    replacing None none nowhere =
-        is.notes.others_noted name
-        (λ k below also. ap (noted_for files) (number_same modules is.distinct k number below is.within
-        (sym (one_owner main modules files is.notes (module_at modules number) (module_at modules k) name none is.named also)))
-        ∙ nowhere)
-        none
-    replacing (Some place) some nowhere = sym (is.notes.replacing_noted name place some)
-
     noted : (o : Option ℕ) → noted_for files number ≡ o
         → place_of files name ≡ option_or o (option_and_then place_in (replacing_place files name))
-    noted None none = replacing (replacing_place files name) refl none
+    noted None nowhere = by_replacing main modules files is.notes name (λ none k below also.
+        ap (noted_for files) (number_same modules is.distinct k number below is.within
+        (sym (one_owner main modules files is.notes (module_at modules number) (module_at modules k) name none is.named also)))
+        ∙ nowhere)
     noted (Some place) some = ap (place_of files) is.named ∙ (is.notes.modules_noted number place some).placed
 
 -- what `place_of` returns

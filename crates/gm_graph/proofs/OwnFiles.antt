@@ -85,10 +85,6 @@ pub if_ok_both : {T E : Type 0} {Q : Type 0} {P R : T → Type 0} (r : Result T 
 if_ok_both (Ok t) f p q = f t p q
 if_ok_both (Err e) f p q = tt
 
-pub on_err_weaker : {T E : Type 0} {P Q : Type 0} (r : Result T E) → (P → Q) → OnErr r P → OnErr r Q
-on_err_weaker (Ok t) f p = tt
-on_err_weaker (Err e) f p = f p
-
 -- ---- the place of a replacement's file is noted for a module
 
 -- What follows both if a call succeeds and if it is refused.

@@ -4,7 +4,8 @@ use Rattle.std.specs.Map.{lookup, set_value}
 use Rattle.std.specs.Option.{IsSome, option_and_then, option_map}
 use Rattle.std.specs.Ordering.{is_eq}
 use Rattle.std.specs.Prelude.{slice_get}
-use Rattle.std.proofs.lemmas.Bool.Decides.{Decides-eqb}
+use Rattle.std.proofs.lemmas.Bool.{cases_Bool, cond-false, cond-true}
+use Rattle.std.proofs.lemmas.Bool.Decides.{Decides-eqb, eqb_tells}
 use Rattle.std.proofs.lemmas.Option.{same_Some}
 use Rattle.gm_name.specs.ModuleVersion.{ModuleVersion, module_at}
 use Rattle.gm_name_table.specs.OptionalPlaces.{no_place, place_in}
@@ -28,26 +29,21 @@ use Rattle.gm_graph.specs.Reading.{file_of, is_askable}
 
 module _ (old new : FileTable) (number place : ℕ) (notes : NotesFor old new number place) where
   noted_here : noted_for new number ≡ Some place
-  noted_here = notes number ∙ ap (λ (b : Bool). cond b (Some place) (noted_for old number)) ((Decides-eqb number number).1 refl)
+  noted_here = notes number ∙ cond-true (nat_eq number number) (Some place) (noted_for old number) ((Decides-eqb number number).1 refl)
 
-  -- What is noted was noted, or is this.
-  noted_by : (k at : ℕ) → noted_for new k ≡ Some at → ((number ≡ k) × (place ≡ at)) ⊎ (noted_for old k ≡ Some at)
-  noted_by k at e = by (nat_eq number k) refl
-    where
-      by : (b : Bool) → nat_eq number k ≡ b → ((number ≡ k) × (place ≡ at)) ⊎ (noted_for old k ≡ Some at)
-      by true is =
-          inl ((Decides-eqb number k).0 is, same_Some place at (sym (notes k ∙ ap (λ (b : Bool). cond b (Some place) (noted_for old k)) is) ∙ e))
-      by false apart = inr (sym (notes k ∙ ap (λ (b : Bool). cond b (Some place) (noted_for old k)) apart) ∙ e)
+  -- What is noted for a number is this place, or what was noted.
+  noted_cases : (k : ℕ) → ((number ≡ k) × (noted_for new k ≡ Some place)) ⊎ (noted_for new k ≡ noted_for old k)
+  noted_cases k = elim (eqb_tells number k) [
+    | inl here ↦ inl (here.1, notes k ∙ cond-true (nat_eq number k) (Some place) (noted_for old k) here.0)
+    | inr other ↦ inr (notes k ∙ cond-false (nat_eq number k) (Some place) (noted_for old k) other.0)
+  ]
 
   -- What is not noted was not.
   noted_before : (k : ℕ) → noted_for new k ≡ None → noted_for old k ≡ None
-  noted_before k none = by (nat_eq number k) refl
-    where
-      by : (b : Bool) → nat_eq number k ≡ b → noted_for old k ≡ None
-      by true is =
-          let never : ◌≡◌ {A = Option ℕ} (Some place) None = sym (notes k ∙ ap (λ (b : Bool). cond b (Some place) (noted_for old k)) is) ∙ none in
-          absurd (cc never)
-      by false apart = sym (notes k ∙ ap (λ (b : Bool). cond b (Some place) (noted_for old k)) apart) ∙ none
+  noted_before k none = elim (noted_cases k) [
+    | inl here ↦ absurd (cc (sym here.1 ∙ none))
+    | inr same ↦ sym same ∙ none
+  ]
 
 -- ---- a file gets its place
 
@@ -85,14 +81,18 @@ module _ (main : Main) (modules : List ModuleVersion) (old new : FileTable) (num
   placed = place_put old new name place put at names
 
   placed_here : (other : Name) → same_name other name ≡ true → place_of new other ≡ Some place
-  placed_here other same = placed other ∙ ap (λ (b : Bool). cond b (Some place) (place_of old other)) same
+  placed_here other same = placed other ∙ cond-true (same_name other name) (Some place) (place_of old other) same
 
   placed_there : (other : Name) → same_name other name ≡ false → place_of new other ≡ place_of old other
-  placed_there other apart = placed other ∙ ap (λ (b : Bool). cond b (Some place) (place_of old other)) apart
+  placed_there other apart = placed other ∙ cond-false (same_name other name) (Some place) (place_of old other) apart
+
+  replacing_here : (other : Name) → same_name other name ≡ true → replacing_place new other ≡ option_map (λ _. put) (replacing_place old other)
+  replacing_here other same =
+      puts other ∙ cond-true (same_name other name) (option_map (λ _. put) (replacing_place old other)) (replacing_place old other) same
 
   replacing_there : (other : Name) → same_name other name ≡ false → replacing_place new other ≡ replacing_place old other
   replacing_there other apart =
-      puts other ∙ ap (λ (b : Bool). cond b (option_map (λ _. put) (replacing_place old other)) (replacing_place old other)) apart
+      puts other ∙ cond-false (same_name other name) (option_map (λ _. put) (replacing_place old other)) (replacing_place old other) apart
 
   -- Each place that is noted is that of the file, and each place is noted.
   pub notes_put : NotesFiles main modules old → NotesFiles main modules new
@@ -100,46 +100,37 @@ module _ (main : Main) (modules : List ModuleVersion) (old new : FileTable) (num
     has_replacing = λ x some.
         subst (λ (r : Option OptionalPlace). IsSome r) (sym (puts (file_of main x)))
         (some_put (same_name (file_of main x) name) (replacing_place old (file_of main x)) put (were.has_replacing x some));
-    modules_noted = λ k there e. elim (noted_by old new number place notes k there e) [
+    modules_noted = λ k there e. elim (noted_cases old new number place notes k) [
       | inl here ↦ subst (λ (n : ℕ). IsPlacedAt main new (module_at modules n) there) here.0 record {
         placed = placed_here (file_of main (module_at modules number)) (same_from_equal (file_of main (module_at modules number)) name (sym is.named))
-            ∙ ap (λ (p : ℕ). Some p) here.1;
+            ∙ sym here.1 ∙ e;
         askable = ap is_askable (sym is.named) ∙ is.askable;
       }
-      | inr was ↦ (let one = were.modules_noted k there was in record {
-        placed = stays (file_of main (module_at modules k)) there one.placed (same_name (file_of main (module_at modules k)) name) refl;
+      | inr same ↦ (let one = were.modules_noted k there (sym same ∙ e) in record {
+        placed = stays (file_of main (module_at modules k)) there one.placed;
         askable = one.askable;
       })
     ];
-    replacing_noted = λ other held e. replaced other held e (same_name other name) refl;
-    others_noted = λ other unnoted none. others other unnoted none (same_name other name) refl;
-  }
-    where
-      stays : (other : Name) (there : ℕ) → place_of old other ≡ Some there → (b : Bool) → same_name other name ≡ b → place_of new other ≡ Some there
-      stays other there was true same =
-          let never : ◌≡◌ {A = Option ℕ} None (Some there) = sym is.none ∙ ap (place_of old) (sym (names_equal other name same)) ∙ was in
-          absurd (cc never)
-      stays other there was false apart = placed_there other apart ∙ was
-
-      replaced : (other : Name) (held : OptionalPlace) → replacing_place new other ≡ Some held → (b : Bool) → same_name other name ≡ b
-          → place_in held ≡ place_of new other
-      replaced other held e true same =
-          let here = is_put (replacing_place old other) put held
-          (sym (puts other ∙ ap (λ (b : Bool). cond b (option_map (λ _. put) (replacing_place old other)) (replacing_place old other)) same) ∙ e) in
-          ap place_in (sym here) ∙ at ∙ sym (placed_here other same)
-      replaced other held e false apart =
-          were.replacing_noted other held (sym (replacing_there other apart) ∙ e) ∙ sym (placed_there other apart)
-
-      others : (other : Name) → ((k : ℕ) → k < length modules → other ≡ file_of main (module_at modules k) → noted_for new k ≡ None)
-          → replacing_place new other ≡ None → (b : Bool) → same_name other name ≡ b → place_of new other ≡ None
-      others other unnoted none true same =
-          let never : ◌≡◌ {A = Option ℕ} (Some place) None =
-          sym (noted_here old new number place notes) ∙ unnoted number is.within (names_equal other name same ∙ is.named) in
-          absurd (cc never)
-      others other unnoted none false apart =
+    replacing_noted = λ other held e. elim (cases_Bool (same_name other name)) [
+      | inl same ↦
+          (let here = is_put (replacing_place old other) put held (sym (replacing_here other same) ∙ e) in
+          ap place_in (sym here) ∙ at ∙ sym (placed_here other same))
+      | inr apart ↦ were.replacing_noted other held (sym (replacing_there other apart) ∙ e) ∙ sym (placed_there other apart)
+    ];
+    others_noted = λ other unnoted none. elim (cases_Bool (same_name other name)) [
+      | inl same ↦ absurd (cc (sym (noted_here old new number place notes) ∙ unnoted number is.within (names_equal other name same ∙ is.named)))
+      | inr apart ↦
           placed_there other apart
           ∙ were.others_noted other (λ k below named. noted_before old new number place notes k (unnoted k below named))
           (sym (replacing_there other apart) ∙ none)
+    ];
+  }
+    where
+      stays : (other : Name) (there : ℕ) → place_of old other ≡ Some there → place_of new other ≡ Some there
+      stays other there was = elim (cases_Bool (same_name other name)) [
+        | inl same ↦ absurd (cc (sym is.none ∙ ap (place_of old) (sym (names_equal other name same)) ∙ was))
+        | inr apart ↦ placed_there other apart ∙ was
+      ]
 
 -- ---- the files stay
 
@@ -171,10 +162,10 @@ module _ (main : Main) (modules : List ModuleVersion) (old new : FileTable) (oth
   pub notes_again : (number place : ℕ) → NotesFor old new number place → IsPlacedAt main old (module_at modules number) place
       → NotesFiles main modules old → NotesFiles main modules new
   notes_again number place notes is were = notes_by
-      (λ k at e. elim (noted_by old new number place notes k at e) [
+      (λ k at e. elim (noted_cases old new number place notes k) [
         | inl here ↦ subst (λ (n : ℕ). IsPlacedAt main old (module_at modules n) at) here.0
-            (subst (λ (p : ℕ). IsPlacedAt main old (module_at modules number) p) here.1 is)
-        | inr was ↦ were.modules_noted k at was
+            (subst (λ (p : ℕ). IsPlacedAt main old (module_at modules number) p) (same_Some place at (sym here.1 ∙ e)) is)
+        | inr same ↦ were.modules_noted k at (sym same ∙ e)
       ])
       (noted_before old new number place notes) were
 

@@ -1,8 +1,9 @@
 use Rattle.std.proofs.Common.{length, refl}
+use Rattle.std.proofs.lemmas.Result.{on_err_weaker}
 use Rattle.gm_store.specs.Asked.{name_of}
 use Rattle.gm_graph.specs.Cached.{main_in, sums_in, table_in}
 use Rattle.gm_graph.specs.Private.Cached.{module_numbered}
-use Rattle.gm_graph.proofs.OwnFiles.{added_there, has_file, if_ok_both, on_err_weaker}
+use Rattle.gm_graph.proofs.OwnFiles.{added_there, has_file, if_ok_both}
 use Rattle.gm_graph.proofs.HeldFiles.{added_some}
 use Rattle.gm_graph.proofs.Keeping.{holds_listed}
 use Rattle.gm_graph.proofs.Ordered.{begins_added, one_more, order_added}
