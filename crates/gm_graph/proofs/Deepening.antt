@@ -11,9 +11,10 @@ use Rattle.gm_graph.specs.declared.cache.depth.Turn.{Turn}
 use Rattle.gm_graph.specs.declared.cache.depth.Depth.{Depth}
 use Rattle.gm_graph.specs.declared.cache.depth.Depth.TheVariants.{Top, Deep}
 use Rattle.gm_graph.specs.Private.Turns.{AddsAll, depth_by, leads_on}
-use Rattle.gm_graph.specs.Run.{IsDeep, IsOpened, KeepsSayings, Requires, Run, Says, TakesTurn, from_deep, from_main, from_top, run_of}
+use Rattle.gm_graph.specs.Run.{IsDeep, IsOpened, KeepsSayings, Run, Says, TakesTurn, from_deep, from_main, from_top, run_of}
 use Rattle.gm_graph.specs.Turns.{turn}
 use Rattle.gm_graph.specs.Private.VisitedTurns.{HasFirstTurns, IsDone, LeadsTo, Visits}
+use Rattle.gm_graph.proofs.RunLemmas.{deep as deep_too, keeps_agree, opened as opened_too}
 use Rattle.gm_graph.proofs.Sayings.{file_same, not_both}
 
 -- At whatever depth the first turns are, a file that is not pruned leads on.
@@ -84,22 +85,13 @@ module _ (main : Main) (sums : Option Sums) (pairs longer : List (Name × Reply)
   abbrev later : Run
   later = run_of main sums longer
 
-  requirement-kept : (x y : ModuleVersion) → Requires earlier x y → Requires later x y
-  requirement-kept x y (file, says, there) = (file, keeps x (Ok file) says, there)
-
   -- What was opened stays opened.
-  IsDeep-kept : {x : ModuleVersion} → IsDeep earlier x → IsDeep later x
-  IsDeep-kept (from_main p t) = from_main p t
-  IsDeep-kept (from_top {x} {y} file t says u c) = from_top {x = x} file t (keeps x (Ok file) says) u c
-  IsDeep-kept (from_deep {x} {y} d r) = from_deep {x = x} (IsDeep-kept d) (requirement-kept x y r)
-
   pub opened_kept : (x : ModuleVersion) → IsOpened earlier x → IsOpened later x
-  opened_kept x (inl top) = inl top
-  opened_kept x (inr deep) = inr (IsDeep-kept deep)
+  opened_kept x is = opened_too earlier later (keeps_agree earlier later refl keeps) x is
 
   pub IsValidTurn-kept : (x : ModuleVersion) (d : Depth) → TakesTurn earlier x d → TakesTurn later x d
   IsValidTurn-kept x Top h = h
-  IsValidTurn-kept x Deep h = IsDeep-kept h
+  IsValidTurn-kept x Deep h = deep_too earlier later (keeps_agree earlier later refl keeps) h
 
   -- What a turn leads to it led to before, if what its vertex says was known.
   led_before : (one : Turn) (said : Result Dependency Class) → Says earlier one.vertex said → (y : ModuleVersion) → LeadsTo later one y → LeadsTo earlier one y

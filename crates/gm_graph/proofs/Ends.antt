@@ -1,27 +1,23 @@
 -- Edges lead to each vertex that is left, and so the vertices of the graph are those that edges lead to.
-use Rattle.std.proofs.Common.{◌↔◌, ◌⊎◌, List, Contains, inl, inr}
+use Rattle.std.proofs.Common.{◌↔◌, ◌⊎◌, ℕ, List, Contains, inl, inr}
 use Rattle.gm_name.specs.ModuleVersion.{ModuleVersion}
 use Rattle.gm_graph_select.specs.declared.step.Edge.{Edge}
 use Rattle.gm_graph_select.specs.declared.step.Step.{Step}
-use Rattle.gm_graph_select.specs.declared.step.Step.TheVariants.{Main as FromMain, Of}
+use Rattle.gm_graph_select.specs.declared.step.Step.TheVariants.{Of}
+use Rattle.gm_graph_select.specs.Chains.{Leads, along}
 use Rattle.gm_graph_select.specs.Graph.{AreEnds, IsEdgeEnd, among, edge}
 use Rattle.gm_graph_select.specs.Order.{HaveSame}
-use Rattle.gm_graph.specs.Run.{IsDeep, IsEdge, IsOpened, IsVertex, Run, from_deep, from_main, from_top}
+use Rattle.gm_graph.specs.Run.{IsEdge, IsOpened, IsVertex, Run}
+use Rattle.gm_graph.proofs.Rooted.{opened_reached}
 
 module _ (run : Run) where
-  deep_end : {x : ModuleVersion} → IsDeep run x → IsVertex run x
-  deep_end (from_main p t) = (FromMain, t)
-  deep_end (from_top {x} {y} file t says u c) = (Of x, (inl t, (file, says, c)))
-  deep_end (from_deep {x} {y} d r) = (Of x, (inr d, r))
-
-  opened_end : (x : ModuleVersion) → IsOpened run x → IsVertex run x
-  opened_end x (inl t) = (FromMain, t)
-  opened_end x (inr d) = deep_end d
+  last_edge : {x : ModuleVersion} {n : ℕ} → Leads (IsEdge run) (Of x) n → IsVertex run x
+  last_edge (along {s} leads e) = (s, e)
 
   -- An edge of the list of all edges leads to an opened vertex.
   pub opened_among : (edges : List Edge) → ((e : Edge) → Contains edges e ↔ IsEdge run e.from e.to)
       → (x : ModuleVersion) → IsOpened run x → IsEdgeEnd (among edges) x
-  opened_among edges exact x opened = let end = opened_end x opened in (end.0, (exact (edge end.0 x)).1 end.1)
+  opened_among edges exact x opened = let end = last_edge (opened_reached run x opened).1 in (end.0, (exact (edge end.0 x)).1 end.1)
 
 -- If edges lead to each vertex that is left, the vertices that edges lead to or that are left are those that edges lead to.
 pub ends_are : (vertices : List ModuleVersion) (sources : List Step) (old new : List Edge) → HaveSame old new

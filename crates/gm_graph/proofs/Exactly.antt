@@ -20,7 +20,7 @@ use Rattle.gm_graph.specs.Reading.{file_of, is_askable}
 use Rattle.gm_graph.specs.Run.{AreOpened, AreTurns, AskedInTurn, FileSays, IsNeeded, IsOpened, IsRead, IsSettled, LoadingNeeds, Run, Says, answered, faulty, more, nothing, run_of, sound, unaskable, wrong_path}
 use Rattle.gm_graph.specs.Turns.{turn}
 use Rattle.gm_graph.specs.Private.Turns.{AreTurnsOf, depth_by}
-use Rattle.gm_graph.proofs.Deepening.{opened_kept}
+use Rattle.gm_graph.proofs.RunLemmas.{keeps_agree, needed as needed_too}
 use Rattle.gm_graph.proofs.Sameness.{equivalence_from_exact}
 use Rattle.gm_graph.proofs.Rounds.{takes_first}
 use Rattle.gm_graph.proofs.Sayings.{says_more}
@@ -58,18 +58,15 @@ asked_once needs (more {pairs} {name} reply asks needed unasked) =
     subst (λ (ns : List Name). IsDistinct same_name ns) (sym (names_push pairs name reply))
     (IsDistinct-push names_equivalence (names_in pairs) name (asked_once needs asks) (none_named pairs name unasked))
 
--- What was needed is needed when more was asked for.
-needed_kept : (main : Main) (sums : Option Sums) (pairs : List (Name × Reply)) (one : Name × Reply) (n : Name)
-    → IsNeeded (run_of main sums pairs) n → IsNeeded (run_of main sums (pairs ++ one ∷ [])) n
-needed_kept main sums pairs one n (x, opened, is, askable) =
-    (x, opened_kept main sums pairs (pairs ++ one ∷ []) (says_more main sums pairs (one ∷ [])) x opened, is, askable)
-
 asked_only : (main : Main) (sums : Option Sums) {pairs : List (Name × Reply)}
     → AskedInTurn (LoadingNeeds main sums) pairs → (n : Name) → Contains (names_in pairs) n
     → IsNeeded (run_of main sums pairs) n
 asked_only main sums nothing n h = absurd (omega (arith, h.1))
 asked_only main sums (more {pairs} {name} reply asks called unasked) n h =
-    needed_kept main sums pairs (name, reply) n (elim (Contains-push_cases (names_in pairs) name n
+    let before = run_of main sums pairs in
+    let after = run_of main sums (pairs ++ (name, reply) ∷ []) in
+    needed_too before after (keeps_agree before after refl (says_more main sums pairs ((name, reply) ∷ []))) n
+    (elim (Contains-push_cases (names_in pairs) name n
     (subst (λ (ns : List Name). Contains ns n) (names_push pairs name reply) h)) [
       | inl there ↦ asked_only main sums asks n there
       | inr same ↦ subst (λ (m : Name). IsNeeded (run_of main sums pairs) m) same called.needed

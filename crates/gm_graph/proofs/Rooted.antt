@@ -22,7 +22,7 @@ module _ (run : Run) where
   deep_reached (from_top {x} {y} file t says u c) = (2, along (along at_main t) (inl t, (file, says, c)))
   deep_reached (from_deep {x} {y} d r) = let (n, l) = deep_reached d in (suc n, along l (inr d, r))
 
-  opened_reached : (x : ModuleVersion) → IsOpened run x → IsReached (IsEdge run) (Of x)
+  pub opened_reached : (x : ModuleVersion) → IsOpened run x → IsReached (IsEdge run) (Of x)
   opened_reached x (inl t) = top_reached x t
   opened_reached x (inr d) = deep_reached d
 

@@ -13,7 +13,7 @@ use Rattle.gm_store_sums.specs.Sums.{Sums}
 use Rattle.gm_graph.specs.declared.cache.class.Class.{Class}
 use Rattle.gm_graph.specs.declared.fault.Fault.{Fault}
 use Rattle.gm_graph.specs.Reading.{IsFileReading, file_named, file_of, is_right_path}
-use Rattle.gm_graph.specs.Run.{AreTooMany, FileSays, IsDeep, IsEdge, IsFault, IsNeeded, IsOpened, IsSettled, IsTop, Run, Says, answered, faulty, from_deep, from_main, from_top, run_of, sound, unaskable, wrong_path}
+use Rattle.gm_graph.specs.Run.{AreTooMany, FileSays, IsDeep, IsEdge, IsFault, IsNeeded, IsOpened, IsSettled, IsTop, KeepsSayings, Run, Says, answered, faulty, from_deep, from_main, from_top, run_of, sound, unaskable, wrong_path}
 use Rattle.gm_graph_select.specs.declared.step.Step.{Step}
 use Rattle.gm_graph_select.specs.declared.step.Step.TheVariants.{Main as FromMain, Of}
 use Rattle.gm_graph_select.proofs.Same.{AreSame}
@@ -113,6 +113,10 @@ agree one other same alike heard = record {
   says = says_too one other (λ x. ap (λ (m : Main). replacement_in m x) same) alike heard;
 }
 
+-- So do runs of one main file, if the second keeps what the first says.
+pub keeps_agree : (one other : Run) → one.main ≡ other.main → KeepsSayings one other → Agrees one other
+keeps_agree one other same keeps = record { main_is = same; says = λ x opened said says. keeps x said says }
+
 module _ (one other : Run) (agrees : Agrees one other) where
   unpruned_too : is_pruned_by one.main.go ≡ false → is_pruned_by other.main.go ≡ false
   unpruned_too e = subst (λ (m : Main). is_pruned_by m.go ≡ false) agrees.main_is e
@@ -123,6 +127,9 @@ module _ (one other : Run) (agrees : Agrees one other) where
   requires_too : RequiresToo one other
   requires_too x y file is be says there =
       (agrees.says x be (Ok file) says, subst (λ (m : Main). Contains (without_excluded m file.requirements) y) agrees.main_is there)
+
+  pub deep : {x : ModuleVersion} → IsDeep one x → IsDeep other x
+  deep is = deep_too one other unpruned_too (λ y t. inl (top y t)) requires_too is
 
   pub opened : (x : ModuleVersion) → IsOpened one x → IsOpened other x
   opened x is = opened_too one other unpruned_too (λ y t. inl (top y t)) requires_too x is
