@@ -30,7 +30,7 @@ module _ (run : Run) (modules xs : List ModuleVersion) (none : Worklist) (no_tur
 
   -- They are too many.
   pub too_many_first : OverflowsWith (turns_of modules none) xs → OverflowsWith [] (required_in run.main)
-  too_many_first over = none_added OverflowsWith over
+  too_many_first over = none_added (λ ts ys. OverflowsWith ts ys) over
 
   -- Their turns were added.
   pub is_first : (made : Worklist) (depth : Depth) → depth ≡ depth_by (is_pruned_by run.main.go)

@@ -121,7 +121,7 @@ module _ {main : Main} {sums : Option Sums} {cache : Cache} {worklist : Worklist
   pub many_in_turn : OverflowsAt (run_in cache new.asked) turns vertex one.depth → IsRead later × AreTooMany later
   many_in_turn over =
       let many = by_run (λ (run : Run). OverflowsAt run turns vertex one.depth) cache new.asked state.main_is state.sums_are over in
-      (many.0, many_followed main sums old.asked new.asked keeps turns at vertex one.depth inside there state.queue.first.valid many.1)
+      (many.0, many_followed keeps vertex one.depth inside there state.queue.first.valid many.1)
 
   -- It was visited.
   module _ {end : Cache} {made : Worklist} {marks : Followed} {found : Findings}
@@ -162,11 +162,11 @@ module _ {main : Main} {sums : Option Sums} {cache : Cache} {worklist : Worklist
       opened = λ n w. elim (is.adds.finds.only n w) [
         | inl was ↦
             (let before_it = state.visited.opened n was in
-            opened_still n before_it.0 (opened_kept main sums old.asked new.asked keeps (module_numbered cache n) before_it.1))
+            opened_still n before_it.0 (opened_kept keeps (module_numbered cache n) before_it.1))
         | inr same ↦
             subst (λ (m : ℕ). (m < length (table_in end)) × IsOpened later (module_numbered end m)) (sym same)
             (opened_still one.number within (opened_from later vertex one.depth
-            (IsValidTurn-kept main sums old.asked new.asked keeps vertex one.depth takes)))
+            (IsValidTurn-kept keeps vertex one.depth takes)))
       ];
       each = λ k d lt. elim (cases_eq k at) [
         | inl same ↦ (
@@ -197,6 +197,6 @@ module _ {main : Main} {sums : Option Sums} {cache : Cache} {worklist : Worklist
       knows = is.knows;
       lent = lent_more (turns_in cache) (turns_in end) turns after_it visits.extends.0 at (turn vertex one.depth) state.lent is.turns visits.extends.1
           inside there;
-      queue = queue_more main sums old.asked new.asked keeps turns at vertex one.depth inside there after_it state.queue visits;
+      queue = queue_more keeps vertex one.depth inside there after_it state.queue visits;
       visited = visited_to;
     }

@@ -109,7 +109,7 @@ other_or false a true e = refl
 other_or false a false e = refl
 
 -- The vertex with this number has these marks.
-module _ (modules : List ModuleVersion) (old : Worklist) (number : ℕ) (depth : Depth) (marks : Marks)
+module _ {modules : List ModuleVersion} {old : Worklist} {number : ℕ} {depth : Depth} {marks : Marks}
     (is : IsWorklist modules old) (below : number < length modules) (at : marks ≡ marks_at old.marks.items number) where
   abbrev its_vertex : ModuleVersion
   its_vertex = module_at modules number
@@ -165,18 +165,24 @@ module _ (modules : List ModuleVersion) (old : Worklist) (number : ℕ) (depth :
         omega (arith, e, is.counted, length-append is.opened (its_vertex ∷ [])),
       )
 
-  marks_with : (new : Worklist) (more : Marks) → marks_at new.marks.items number ≡ more
-      → ((n : ℕ) → (n ≡ number → ⊥) → marks_at new.marks.items n ≡ marks_at old.marks.items n)
-      → ((d : Depth) → is_marked more d ≡ (same_depth d depth || is_marked marks d)) → AreMarks new.marks.items (old.turns.items ++ one ∷ [])
-  marks_with new more put others with' q d = (elim (cases_eq q number) [
-    | inl same ↦
-        subst (λ (n : ℕ). is_marked (marks_at new.marks.items n) d ≡ list_any (is_turn n d) old.turns.items || list_any (is_turn n d) (one ∷ [])) (sym same)
-        (ap (λ (m : Marks). is_marked m d) put ∙ with' d ∙ ap (λ (b : Bool). same_depth d depth || b) (numbered d)
-        ∙ equal_or (number == number) (same_depth d depth) (list_any (is_turn number d) old.turns.items) ((Decides-eqb number number).1 refl))
-    | inr other ↦
-        ap (λ (m : Marks). is_marked m d) (others q other) ∙ is.marks q d
-        ∙ other_or (q == number) (same_depth d depth) (list_any (is_turn q d) old.turns.items) (ne_eqb q number other)
-  ]) ∙ sym (list_any-append (is_turn q d) old.turns.items (one ∷ []))
+  module _ (new : Worklist) (more : Marks) (put : marks_at new.marks.items number ≡ more)
+      (others : (n : ℕ) → (n ≡ number → ⊥) → marks_at new.marks.items n ≡ marks_at old.marks.items n)
+      (with' : (d : Depth) → is_marked more d ≡ (same_depth d depth || is_marked marks d)) where
+    mark_with : (q : ℕ) (d : Depth)
+        → is_marked (marks_at new.marks.items q) d ≡ (list_any (is_turn q d) old.turns.items || list_any (is_turn q d) (one ∷ []))
+    mark_with q d = elim (cases_eq q number) [
+      | inl same ↦
+          subst (λ (n : ℕ). is_marked (marks_at new.marks.items n) d ≡ (list_any (is_turn n d) old.turns.items || list_any (is_turn n d) (one ∷ [])))
+          (sym same)
+          (ap (λ (m : Marks). is_marked m d) put ∙ with' d ∙ ap (λ (b : Bool). same_depth d depth || b) (numbered d)
+          ∙ equal_or (number == number) (same_depth d depth) (list_any (is_turn number d) old.turns.items) ((Decides-eqb number number).1 refl))
+      | inr other ↦
+          ap (λ (m : Marks). is_marked m d) (others q other) ∙ is.marks q d
+          ∙ other_or (q == number) (same_depth d depth) (list_any (is_turn q d) old.turns.items) (ne_eqb q number other)
+    ]
+
+    marks_with : AreMarks new.marks.items (old.turns.items ++ one ∷ [])
+    marks_with q d = mark_with q d ∙ sym (list_any-append (is_turn q d) old.turns.items (one ∷ []))
 
   -- a new turn, and its mark
   pub worklist_with : (new : Worklist) (more : Marks) → marks_at new.marks.items number ≡ more

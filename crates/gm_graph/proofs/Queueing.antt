@@ -49,8 +49,8 @@ many_first run over = (
 
 -- ---- when more was asked for
 
-module _ (main : Main) (sums : Option Sums) (pairs longer : List (Name × Reply))
-    (keeps : KeepsSayings (run_of main sums pairs) (run_of main sums longer)) (old : List Turn) (at : ℕ) (x : ModuleVersion)
+module _ {main : Main} {sums : Option Sums} {pairs longer : List (Name × Reply)}
+    (keeps : KeepsSayings (run_of main sums pairs) (run_of main sums longer)) {old : List Turn} {at : ℕ} (x : ModuleVersion)
     (depth : Depth) (below : at < length old) (here : get_or old at (turn x depth) ≡ turn x depth) where
   abbrev earlier : Run
   earlier = run_of main sums pairs
@@ -60,14 +60,14 @@ module _ (main : Main) (sums : Option Sums) (pairs longer : List (Name × Reply)
 
   -- The turn at this position is still one that its vertex takes.
   valid_here : AllValidTurns earlier old → TakesTurn later x depth
-  valid_here valid = IsValidTurn-kept main sums pairs longer keeps x depth (valid (turn x depth) (at, below, here))
+  valid_here valid = IsValidTurn-kept keeps x depth (valid (turn x depth) (at, below, here))
 
   pub queue_more : (new : List Turn) → IsQueue earlier old at → Visits later old new (turn x depth) → IsQueue later new (at + 1)
   queue_more new queue follows = record {
     first = record {
       tops = λ y t. along old new (turn y (depth_by (is_pruned_by main.go))) follows.extends (queue.first.tops y t);
       valid = λ next there. elim (follows.only next there) [
-        | inl in_old ↦ IsValidTurn-kept main sums pairs longer keeps next.vertex next.depth (queue.first.valid next in_old)
+        | inl in_old ↦ IsValidTurn-kept keeps next.vertex next.depth (queue.first.valid next in_old)
         | inr found ↦ subst (λ (t : Turn). TakesTurn later t.vertex t.depth) (sym found.2)
             (leads_to_deep later x depth found.0 (valid_here queue.first.valid) found.1)
       ];
@@ -78,7 +78,7 @@ module _ (main : Main) (sums : Option Sums) (pairs longer : List (Name × Reply)
           ∙ get_or_default old at d (turn x depth) below ∙ here)) follows.done
       | inr not_is ↦ let lower : k < at = omega arith in let inside : k < length old = omega arith in
           subst (λ (t : Turn). IsDone later new t) (sym (get_or-along old new follows.extends.0 k d follows.extends.1 inside))
-          (done_along later old new (get_or old k d) follows.extends (IsDone-kept main sums pairs longer keeps old (get_or old k d) (queue.done k d lower)))
+          (done_along later old new (get_or old k d) follows.extends (IsDone-kept keeps old (get_or old k d) (queue.done k d lower)))
     ];
   }
 
@@ -89,7 +89,7 @@ module _ (main : Main) (sums : Option Sums) (pairs longer : List (Name × Reply)
     record {
       once = over.2;
       each = λ y h. elim (over.3 y h) [
-        | inl one ↦ opened_from later y one.0 (IsValidTurn-kept main sums pairs longer keeps y one.0 (valid (turn y one.0) one.1))
+        | inl one ↦ opened_from later y one.0 (IsValidTurn-kept keeps y one.0 (valid (turn y one.0) one.1))
         | inr required ↦ inr (leads_to_deep later x depth y (valid_here valid) (record { file = file; says = says; leads = leads; requires = required }))
       ];
     },
