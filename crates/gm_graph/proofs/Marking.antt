@@ -3,7 +3,7 @@ use Rattle.std.proofs.Common.{◌≡◌, ◌+◌, ◌<◌, ◌≤◌, ◌&&◌, 
 use Rattle.std.specs.Prelude.{◌==◌}
 use Rattle.std.specs.List.{IsDistinct, list_any}
 use Rattle.std.specs.Cmp.{both_ways}
-use Rattle.std.proofs.lemmas.Bool.{cases_eq, ne_eqb, or_cases}
+use Rattle.std.proofs.lemmas.Bool.{cases_eq, ne_eqb, or_cases, or_left, or_right}
 use Rattle.std.proofs.lemmas.Bool.Decides.{Decides-eqb}
 use Rattle.std.proofs.lemmas.List.Elements.{All-head, All-nil, All-push, All-tail}
 use Rattle.std.proofs.lemmas.List.Folds.{list_any-append}
@@ -61,26 +61,15 @@ module _ (modules : List ModuleVersion) (distinct : IsDistinct pair_eq modules) 
 
 -- ---- whether a vertex has a turn
 
-found_turn : (turns : List Turn) (one : Turn) → Contains turns one → list_any (same_turn one) turns ≡ true
-found_turn turns one h = list_any-from_Contains turns_equivalence one turns h
-
-found_vertex : (vertices : List ModuleVersion) (x : ModuleVersion) → Contains vertices x
-    → list_any (pair_eq x) vertices ≡ true
-found_vertex vertices x h = list_any-from_Contains pairs-equivalence x vertices h
-
 any_true : (marks : Marks) (d : Depth) → is_marked marks d ≡ true → (marks.top || marks.deep) ≡ true
-any_true marks Top h = ap (λ (b : Bool). b || marks.deep) h
-any_true marks Deep h = ap (λ (b : Bool). marks.top || b) h ∙ or_true marks.top
-  where
-    or_true : (b : Bool) → (b || true) ≡ true
-    or_true true = refl
-    or_true false = refl
+any_true marks Top h = or_left marks.top marks.deep h
+any_true marks Deep h = or_right marks.top marks.deep h
 
 module _ (vertices : List ModuleVersion) (turns : List Turn) (x : ModuleVersion) (marks : Marks)
     (are : AreTurnsOf vertices turns)
     (marked : (d : Depth) → is_marked marks d ≡ list_any (same_turn (turn x d)) turns) where
   turn_vertex : (d : Depth) → is_marked marks d ≡ true → list_any (pair_eq x) vertices ≡ true
-  turn_vertex d h = found_vertex vertices x
+  turn_vertex d h = list_any-from_Contains pairs-equivalence x vertices
       (are.has_vertex (turn x d) (Contains-from_any exact_turn (turn x d) turns (sym (marked d) ∙ h)))
 
   -- It has one exactly if it has a mark.
@@ -92,7 +81,7 @@ module _ (vertices : List ModuleVersion) (turns : List Turn) (x : ModuleVersion)
       ])
       (λ h.
       let one = are.has_turn x (Contains-from_any pair-same x vertices h) in
-      any_true marks one.0 (marked one.0 ∙ found_turn turns (turn x one.0) one.1))
+      any_true marks one.0 (marked one.0 ∙ list_any-from_Contains turns_equivalence (turn x one.0) turns one.1))
 
 -- ---- one more turn
 

@@ -1,6 +1,7 @@
 -- Vertices and turns that compare as the same are equal.
-use Rattle.std.proofs.Common.{◌≡◌, Bool, true, false, ◌&&◌, ap, ◌∙◌, refl, subst}
+use Rattle.std.proofs.Common.{◌≡◌, Bool, true, ap, ap₂, refl, subst}
 use Rattle.std.specs.Cmp.{IsEquivalence, both_ways}
+use Rattle.std.proofs.lemmas.Bool.{and_parts}
 use Rattle.std.specs.Cmp.Derive.{both_true}
 use Rattle.gm_name.specs.ModuleVersion.{ModuleVersion, pair_eq}
 use Rattle.gm_name.specs.Private.ModuleVersion.{pair-same, pair-self}
@@ -8,14 +9,6 @@ use Rattle.gm_graph.specs.declared.cache.depth.Turn.{Turn}
 use Rattle.gm_graph.specs.declared.cache.depth.Depth.{Depth}
 use Rattle.gm_graph.specs.declared.cache.depth.Depth.TheVariants.{Top, Deep}
 use Rattle.gm_graph.specs.Turns.{same_turn, same_depth, turn}
-
-pub first_true : (a b : Bool) → (a && b) ≡ true → a ≡ true
-first_true true b h = refl
-first_true false b h = h
-
-pub second_true : (a b : Bool) → (a && b) ≡ true → b ≡ true
-second_true true b h = h
-second_true false b h = cc
 
 pub equivalence_from_exact : {K : Type 0} (E : K → K → Bool) → ((x : K) → E x x ≡ true) → ((x y : K) → E x y ≡ true → x ≡ y) → IsEquivalence E
 equivalence_from_exact E r e = record {
@@ -36,9 +29,8 @@ same_depth-refl Deep = refl
 
 pub exact_turn : (a b : Turn) → same_turn a b ≡ true → a ≡ b
 exact_turn a b h =
-    let v : a.vertex ≡ b.vertex = pair-same _ _ (first_true _ _ h) in
-    let d : a.depth ≡ b.depth = exact_depth _ _ (second_true (pair_eq a.vertex b.vertex) _ h) in
-    ap (λ (t : ModuleVersion). turn t a.depth) v ∙ ap (λ (t : Depth). turn b.vertex t) d
+    let (vertex, depth) = and_parts (pair_eq a.vertex b.vertex) (same_depth a.depth b.depth) h in
+    ap₂ (λ (x : ModuleVersion) (d : Depth). turn x d) (pair-same a.vertex b.vertex vertex) (exact_depth a.depth b.depth depth)
 
 pub same_turn-refl : (a : Turn) → same_turn a a ≡ true
 same_turn-refl a = both_true (pair-self a.vertex) (same_depth-refl a.depth)
