@@ -85,8 +85,6 @@ gm_graph/src/starting.rt first_worklist: one for each module that is there
   let mut worklist = Worklist::new(alloc, required.module_count())? where required is cache.first_requirements()
 gm_graph/src/worklist.rt new: as many as it is told
   marks: Vec::with_capacity(alloc, count)?
-gm_graph/src/worklist.rt make_marks: as many marks as it is told
-  if self.marks.len() < count { self.marks.resize(count, Marks::none())?
 gm_graph_select/src/chaining.rt chain_to: one step
   let Step::Of(goal) = last else { return Ok(Some(vec![in alloc; Step::Main]?))
 gm_graph_select/src/graph.rt new: as many as there are modules

@@ -1,7 +1,7 @@
 -- Exactly the needed names were asked for, and at most 65,536 vertices are opened.
 use Rattle.std.proofs.Common.{◌≡◌, ◌∙◌, ◌≤◌, ◌||◌, Bool, true, false, cond, List, [], ◌∷◌, ◌++◌, length, Option, Some, None, IsSome, Contains, ap, sym, refl, subst, inl, inr, arith, suc, Result}
 use Rattle.std.specs.List.{IsDistinct, list_any}
-use Rattle.std.specs.Cmp.{IsEquivalence}
+use Rattle.std.specs.Cmp.{IsEquivalence, decided}
 use Rattle.std.proofs.lemmas.Bool.{false≢true}
 use Rattle.std.proofs.lemmas.Map.Keys.{IsDistinct-push}
 use Rattle.std.proofs.lemmas.Map.Made.{length-le_from_is_member, is_member-Decides}
@@ -11,7 +11,7 @@ use Rattle.gm_name.specs.Private.ModuleVersion.{pair_eq-Decides, pairs-equivalen
 use Rattle.gm_file.specs.Fields.{Dependency}
 use Rattle.gm_file.specs.Main.{Main, is_pruned_by}
 use Rattle.gm_store.specs.Asked.{Name, Reply, answer_in, names_in, same_name}
-use Rattle.gm_store.proofs.NameOrder.{name_itself, names_equal}
+use Rattle.gm_store.proofs.NameOrder.{names_equal, same_from_equal}
 use Rattle.gm_store_sums.specs.Sums.{Sums}
 use Rattle.gm_graph.specs.declared.cache.class.Class.{Class}
 use Rattle.gm_graph.specs.declared.cache.depth.Turn.{Turn}
@@ -21,12 +21,11 @@ use Rattle.gm_graph.specs.Run.{AreOpened, AreTurns, AskedInTurn, FileSays, IsNee
 use Rattle.gm_graph.specs.Turns.{turn}
 use Rattle.gm_graph.specs.Private.Turns.{AreTurnsOf, depth_by}
 use Rattle.gm_graph.proofs.RunLemmas.{keeps_agree, needed as needed_too}
-use Rattle.gm_graph.proofs.Sameness.{equivalence_from_exact}
 use Rattle.gm_graph.proofs.Rounds.{takes_first}
 use Rattle.gm_graph.proofs.Sayings.{says_more}
 
 names_equivalence : IsEquivalence same_name
-names_equivalence = equivalence_from_exact same_name name_itself names_equal
+names_equivalence = decided same_name (λ a b. (names_equal a b, same_from_equal a b))
 
 pub names_push : (pairs : List (Name × Reply)) (n : Name) (r : Reply) → names_in (pairs ++ (n, r) ∷ []) ≡ names_in pairs ++ n ∷ []
 names_push [] n r = refl

@@ -1,21 +1,19 @@
 -- A listed path has a first entry, and edges lead to it.
-use Rattle.std.proofs.Common.{◌≡◌, ◌≢◌, ℕ, zero, suc, true, false, List, [], ◌∷◌, Contains, ap, ◌∙◌, sym, refl, subst, inl, inr, arith}
+use Rattle.std.proofs.Common.{◌≡◌, ◌≢◌, ℕ, zero, suc, List, [], ◌∷◌, Contains, ap, ◌∙◌, sym, refl, subst, inl, inr, arith}
 use Rattle.std.specs.Str.{bytes_eq}
-use Rattle.std.proofs.lemmas.Bool.{false≢true, cases_Bool}
+use Rattle.std.proofs.lemmas.Bool.{cases_Bool}
 use Rattle.std.proofs.lemmas.Slice.Eq.{bytes_eq-Decides}
 use Rattle.std.proofs.lemmas.List.Elements.{Contains-append_right}
 use Rattle.gm_graph_select.specs.declared.step.Edge.{Edge}
 use Rattle.gm_graph_select.specs.declared.step.Step.{Step}
 use Rattle.gm_graph_select.specs.BuildList.{Entry, IsAt, IsEntryOf, HasEntryFor, path_of}
+use Rattle.gm_graph_select.proofs.RestRows.{texts_differ}
 use Rattle.gm_graph_select.specs.Chains.{IsReached}
 use Rattle.gm_graph_select.specs.Graph.{among}
 use Rattle.gm_graph.specs.Outcome.{AreReached}
 
 abbrev Found : List ℕ → List Entry → List ℕ → Type 0
 Found main entries path = (entry : Entry) × (rest : List Entry) × IsAt main entries path entry rest
-
-differs : (a b : List ℕ) → bytes_eq a b ≡ false → a ≢ b
-differs a b e is = false≢true (sym e ∙ (bytes_eq-Decides a b).1 is)
 
 behind : (main : List ℕ) (e : Entry) (es : List Entry) (path : List ℕ) → path_of main e.0 ≢ path → HasEntryFor main (e ∷ es) path → HasEntryFor main es path
 behind main e es path other (entry, (zero, below, is), same) = absurd (other (ap (λ (x : Entry). path_of main x.0) is ∙ same))
@@ -47,7 +45,7 @@ pub first_at : (main : List ℕ) (entries : List Entry) (path : List ℕ) → Ha
 first_at main [] path (entry, there, same) = absurd (omega (arith, there.1))
 first_at main (e ∷ es) path listed = elim (cases_Bool (bytes_eq (path_of main e.0) path)) [
   | inl is ↦ found_now main e es path ((bytes_eq-Decides (path_of main e.0) path).0 is)
-  | inr is_not ↦ (let other = differs (path_of main e.0) path is_not in
+  | inr is_not ↦ (let other = texts_differ (path_of main e.0) path is_not in
       found_later main e es path other (first_at main es path (behind main e es path other listed)))
 ]
 

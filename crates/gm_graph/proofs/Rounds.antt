@@ -1,7 +1,6 @@
 -- Turns that are all done.
 use Rattle.std.proofs.Common.{◌≡◌, ◌↔◌, ◌+◌, ◌≤◌, Bool, true, false, List, [], ◌++◌, length, Contains, map, sym, refl, subst, inl, inr, arith, length-append, Result}
 use Rattle.std.proofs.lemmas.List.{length-map}
-use Rattle.std.specs.Bool.{Decides}
 use Rattle.std.proofs.lemmas.Map.Made.{length-le_from_is_member, is_member-Decides}
 use Rattle.std.proofs.lemmas.List.Elements.{Contains-append_left, Contains-append_right}
 use Rattle.gm_name.specs.ModuleVersion.{ModuleVersion}
@@ -12,11 +11,11 @@ use Rattle.gm_graph.specs.declared.cache.depth.Turn.{Turn}
 use Rattle.gm_graph.specs.declared.cache.depth.Depth.{Depth}
 use Rattle.gm_graph.specs.declared.cache.depth.Depth.TheVariants.{Top, Deep}
 use Rattle.gm_graph.specs.Run.{AreTurns, IsOpened, IsTop, Run, Says, TakesTurn, from_main}
-use Rattle.gm_graph.specs.Turns.{same_turn, turn}
+use Rattle.gm_graph.specs.Turns.{turn}
 use Rattle.gm_graph.specs.Private.Turns.{AddsAll, AreTurnsOf, depth_by}
 use Rattle.gm_graph.specs.Private.VisitedTurns.{HasFirstTurns, IsDone}
 use Rattle.gm_name_table.specs.Listed.{BeginsWith}
-use Rattle.gm_graph.proofs.Sameness.{turns_equivalence, exact_turn}
+use Rattle.gm_graph.proofs.Sameness.{same_turn-Decides, turns_equivalence}
 use Rattle.gm_graph.proofs.Deepening.{deep_among}
 use Rattle.gm_graph_select.proofs.RankedLists.{in_mapped}
 
@@ -24,9 +23,6 @@ use Rattle.gm_graph_select.proofs.RankedLists.{in_mapped}
 pub record AreVisited (run : Run) (turns : List Turn) : Type 0 where
   pub first : HasFirstTurns run turns
   pub done : (one : Turn) → Contains turns one → IsDone run turns one
-
-same_turn-Decides : (a b : Turn) → Decides (same_turn a b) (a ≡ b)
-same_turn-Decides a b = (exact_turn a b, λ e. subst (λ (t : Turn). same_turn a t ≡ true) e (turns_equivalence.refl a))
 
 -- both turns of each vertex
 both_turns : List ModuleVersion → List Turn

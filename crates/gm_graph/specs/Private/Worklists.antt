@@ -25,7 +25,7 @@ marks_at marks number = get_or marks number no_marks
 
 -- whether this is the turn of the vertex with a number at a depth
 abbrev pub is_turn : ℕ → Depth → NumberedTurn → Bool
-is_turn number d one = number == one.number && same_depth d one.depth
+is_turn number d one = (number == one.number) && same_depth d one.depth
 
 -- Each vertex has the marks of its turns.
 abbrev pub AreMarks : List Marks → List NumberedTurn → Type 0
