@@ -1,7 +1,6 @@
 -- What loading asks a store for and what it visits, turn by turn.
-use Rattle.std.proofs.Common.{◌≡◌, ◌∙◌, ◌+◌, ◌<◌, ◌++◌, ◌∷◌, [], ℕ, true, List, Option, ap, append-nil, arith, get_or, inl, inr, length, length-append, refl, subst, sym}
-use Rattle.std.proofs.lemmas.Bool.{cases_eq}
-use Rattle.std.proofs.lemmas.List.{get_or_default}
+use Rattle.std.proofs.Common.{◌≡◌, ◌∙◌, ◌+◌, ◌<◌, ◌++◌, ◌∷◌, [], ℕ, true, Contains, List, Option, ap, append-nil, get_or, inl, inr, length, refl, subst, sym}
+use Rattle.std.proofs.lemmas.List.Elements.{Contains-push_cases}
 use Rattle.gm_name.specs.ModuleVersion.{ModuleVersion}
 use Rattle.gm_store.specs.Asked.{Name, Reply}
 use Rattle.gm_store.specs.States.{StoreState}
@@ -29,9 +28,9 @@ use Rattle.gm_graph.proofs.Deepening.{IsValidTurn-kept, opened_kept}
 use Rattle.gm_graph.proofs.Dues.{AddsFile, lent_more, none_in_turn, says_still}
 use Rattle.gm_graph.proofs.FoundFiles.{same_module}
 use Rattle.gm_graph.proofs.Growing.{number_below, turns_over}
-use Rattle.gm_graph.proofs.Queueing.{get_or-along, many_followed, queue_more}
-use Rattle.gm_graph.proofs.Rounds.{opened_from}
-use Rattle.gm_graph.proofs.Stepping.{AreVisitedTo, IsAt, by_run, number_here, read_by, turn_below, turn_here}
+use Rattle.gm_graph.proofs.Queueing.{many_followed, visited_more}
+use Rattle.gm_graph.proofs.Rounds.{AreVisited, opened_from}
+use Rattle.gm_graph.proofs.Stepping.{AreFound, IsAt, by_run, number_here, read_by, turn_below, turn_here}
 
 -- Nothing was asked for.
 pub nothing_asked : (main : Main) (sums : Option Sums) (may : Name → Option Reply → Type 0) (state : StoreState) → state.asked ≡ []
@@ -78,7 +77,7 @@ module _ {main : Main} {sums : Option Sums} {cache : Cache} {worklist : Worklist
 
   -- The vertex takes the turn, so it is opened, and its file may be asked for.
   takes : TakesTurn earlier vertex one.depth
-  takes = state.queue.first.valid (turn vertex one.depth) (at, inside, there)
+  takes = state.visited.first.valid (turn vertex one.depth) (at, inside, there)
 
   called : (name : Name) → file_of main vertex ≡ name → is_askable name ≡ true → CallsFor earlier name
   called name is askable = record {
@@ -91,6 +90,9 @@ module _ {main : Main} {sums : Option Sums} {cache : Cache} {worklist : Worklist
 
   keeps : KeepsSayings earlier later
   keeps = says_still main sums old.asked new.asked vertex adds_file
+
+  still_takes : TakesTurn later vertex one.depth
+  still_takes = IsValidTurn-kept keeps vertex one.depth takes
 
   asked_more : AskedInTurn (LoadingNeeds main sums) old.asked → AskedInTurn (LoadingNeeds main sums) new.asked
   asked_more before = elim adds_file [
@@ -121,7 +123,7 @@ module _ {main : Main} {sums : Option Sums} {cache : Cache} {worklist : Worklist
   pub many_in_turn : OverflowsAt (run_in cache new.asked) turns vertex one.depth → IsRead later × AreTooMany later
   many_in_turn over =
       let many = by_run (λ (run : Run). OverflowsAt run turns vertex one.depth) cache new.asked state.main_is state.sums_are over in
-      (many.0, many_followed keeps vertex one.depth inside there state.queue.first.valid many.1)
+      (many.0, many_followed keeps vertex one.depth still_takes state.visited.first.valid many.1)
 
   -- It was visited.
   module _ {end : Cache} {made : Worklist} {marks : Followed} {found : Findings}
@@ -154,49 +156,38 @@ module _ {main : Main} {sums : Option Sums} {cache : Cache} {worklist : Worklist
         (subst (λ (ts : List Turn). Visits (run_in end new.asked) ts after_it (turn (module_numbered end one.number) one.depth))
         (turns_over (table_in cache) (table_in end) worklist state.worklist_is is.continues.numbered) is.adds.follows))
 
-    still_there : (k : ℕ) (d : Turn) → k < length turns → get_or after_it k d ≡ get_or turns k d
-    still_there k d lower = get_or-along turns after_it visits.extends.0 k d visits.extends.1 lower
-
-    visited_to : AreVisitedTo end later after_it found (at + 1)
-    visited_to = record {
+    found_more : AreFound end later found
+    found_more = record {
       opened = λ n w. elim (is.adds.finds.only n w) [
-        | inl was ↦
-            (let before_it = state.visited.opened n was in
+        | inl was ↦ (let before_it = state.found.opened n was in
             opened_still n before_it.0 (opened_kept keeps (module_numbered cache n) before_it.1))
-        | inr same ↦
-            subst (λ (m : ℕ). (m < length (table_in end)) × IsOpened later (module_numbered end m)) (sym same)
-            (opened_still one.number within (opened_from later vertex one.depth
-            (IsValidTurn-kept keeps vertex one.depth takes)))
+        | inr same ↦ subst (λ (m : ℕ). (m < length (table_in end)) × IsOpened later (module_numbered end m)) (sym same)
+            (opened_still one.number within (opened_from later vertex one.depth still_takes))
       ];
-      each = λ k d lt. elim (cases_eq k at) [
-        | inl same ↦ (
-          one.number,
-          is.adds.finds.here,
-          sym (same_module cache end one.number is.continues within)
-              ∙ sym (ap (λ (t : Turn). t.vertex) (ap (λ (j : ℕ). get_or after_it j d) same ∙ still_there at d inside
-              ∙ get_or_default turns at d (turn vertex one.depth) inside ∙ there)),
-        )
-        | inr other ↦
-            (let lower : k < at = omega arith in
-            let known : k < length turns = omega (arith, inside) in
-            let was = state.visited.each k d lower in (
-              was.0,
-              is.adds.finds.stay was.0 was.1,
-              sym (same_module cache end was.0 is.continues (state.visited.opened was.0 was.1).0) ∙ was.2
-                  ∙ sym (ap (λ (t : Turn). t.vertex) (still_there k d known)),
+      each = λ next in_end.
+          elim (Contains-push_cases (turns_in cache) (turn vertex one.depth) next (subst (λ (ts : List Turn). Contains ts next) is.turns in_end)) [
+            | inl was ↦ (let (number, before_it, of) = state.found.each next was in (
+              number,
+              is.adds.finds.stay number before_it,
+              sym (same_module cache end number is.continues (state.found.opened number before_it).0) ∙ of,
             ))
-      ];
+            | inr same ↦ (
+              one.number,
+              is.adds.finds.here,
+              sym (same_module cache end one.number is.continues within) ∙ ap (λ (t : Turn). t.vertex) same,
+            )
+          ];
     }
 
     pub stepped : IsAt main sums end new.asked made found (at + 1)
     stepped = record {
-      place = omega (arith, inside, ap length visits.extends.1, length-append turns visits.extends.0);
       worklist_is = is.adds.ready.worklist_is;
       main_is = main_is;
       sums_are = sums_are;
       knows = is.knows;
       lent = lent_more (turns_in cache) (turns_in end) turns after_it visits.extends.0 at (turn vertex one.depth) state.lent is.turns visits.extends.1
           inside there;
-      queue = queue_more keeps vertex one.depth inside there after_it state.queue visits;
-      visited = visited_to;
+      visited = subst (λ (front : List Turn). AreVisited later after_it front) (sym is.turns)
+          (visited_more keeps vertex one.depth still_takes after_it state.visited visits);
+      found = found_more;
     }

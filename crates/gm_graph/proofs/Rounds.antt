@@ -19,10 +19,10 @@ use Rattle.gm_graph.proofs.Sameness.{same_turn-Decides, turns_equivalence}
 use Rattle.gm_graph.proofs.Deepening.{deep_among}
 use Rattle.gm_graph_select.proofs.RankedLists.{in_mapped}
 
--- The first turns and more, each one that its vertex takes, and each of them done.
-pub record AreVisited (run : Run) (turns : List Turn) : Type 0 where
+-- The first turns and more, each one that its vertex takes, and those at the front done.
+pub record AreVisited (run : Run) (turns front : List Turn) : Type 0 where
   pub first : HasFirstTurns run turns
-  pub done : (one : Turn) → Contains turns one → IsDone run turns one
+  pub done : (one : Turn) → Contains front one → IsDone run turns one
 
 -- both turns of each vertex
 both_turns : List ModuleVersion → List Turn
@@ -66,11 +66,11 @@ pub takes_first : (run : Run) (x : ModuleVersion) → IsTop run x → TakesTurn 
 takes_first run x top = first_taken run x (is_pruned_by run.main.go) refl top
 
 -- Every opened vertex has a turn.
-pub has_turn_of : (run : Run) (turns : List Turn) → AreVisited run turns → (x : ModuleVersion) → IsOpened run x → (d : Depth) × Contains turns (turn x d)
+pub has_turn_of : (run : Run) (turns : List Turn) → AreVisited run turns turns → (x : ModuleVersion) → IsOpened run x → (d : Depth) × Contains turns (turn x d)
 has_turn_of run turns visited x (inl top) = (depth_by (is_pruned_by run.main.go), visited.first.tops x top)
 has_turn_of run turns visited x (inr deep) = (Deep, deep_among run turns visited.first visited.done deep)
 
-module _ (run : Run) (vertices : List ModuleVersion) (turns : List Turn) (are : AreTurnsOf vertices turns) (visited : AreVisited run turns) where
+module _ (run : Run) (vertices : List ModuleVersion) (turns : List Turn) (are : AreTurnsOf vertices turns) (visited : AreVisited run turns turns) where
   turns_exactly : (x : ModuleVersion) (d : Depth) → Contains turns (turn x d) ↔ TakesTurn run x d
   turns_exactly x Top = (
     (λ h. visited.first.valid (turn x Top) h),

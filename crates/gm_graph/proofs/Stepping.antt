@@ -1,5 +1,5 @@
 -- The state of a worklist whose first turns were visited: before the first visit, and after the last.
-use Rattle.std.proofs.Common.{◌≡◌, ◌≤◌, ◌<◌, ℕ, List, [], length, take, get_or, Option, ap, ◌∙◌, sym, refl, subst, arith}
+use Rattle.std.proofs.Common.{◌≡◌, ◌≤◌, ◌<◌, ℕ, Contains, List, [], length, take, get_or, Option, ap, ◌∙◌, sym, refl, subst, arith}
 use Rattle.std.proofs.lemmas.List.{get_or-map, length-map, take_all}
 use Rattle.std.proofs.lemmas.List.Elements.{All-contains}
 use Rattle.gm_name.specs.ModuleVersion.{ModuleVersion}
@@ -21,8 +21,7 @@ use Rattle.gm_graph.specs.Private.Visiting.{HasListAt, IsFirstWorklist, IsOpened
 use Rattle.gm_graph.proofs.Holding.{answers_read}
 use Rattle.gm_graph.proofs.Dues.{knows_nothing}
 use Rattle.gm_graph.proofs.Lending.{list_there}
-use Rattle.gm_graph.proofs.Queueing.{IsQueue, queue_all}
-use Rattle.gm_graph.proofs.Rounds.{are_turns, has_turn_of, opened_known}
+use Rattle.gm_graph.proofs.Rounds.{AreVisited, are_turns, has_turn_of, opened_known}
 
 -- ---- the numbered turns of a worklist
 
@@ -49,23 +48,22 @@ module _ (modules : List ModuleVersion) (worklist : Worklist) (at : ℕ) where
 abbrev pub HasFinding : Cache → Findings → ModuleVersion → Type 0
 HasFinding cache findings x = (number : ℕ) × WasVisited findings number × (module_numbered cache number ≡ x)
 
--- The vertices of which something was found are opened, and the turns before this position are theirs.
-pub record AreVisitedTo (cache : Cache) (run : Run) (turns : List Turn) (findings : Findings) (at : ℕ) : Type 0 where
+-- The vertices of which something was found are opened, and the turns of the cache are theirs.
+pub record AreFound (cache : Cache) (run : Run) (findings : Findings) : Type 0 where
   pub opened : (number : ℕ) → WasVisited findings number
       → (number < length (table_in cache)) × IsOpened run (module_numbered cache number)
-  pub each : (k : ℕ) (d : Turn) → k < at → HasFinding cache findings (get_or turns k d).vertex
+  pub each : (one : Turn) → Contains (turns_in cache) one → HasFinding cache findings one.vertex
 
 -- The turns before this position were visited.
 pub record IsAt (main : Main) (sums : Option Sums) (cache : Cache) (pairs : List (Name × Reply)) (worklist : Worklist)
     (findings : Findings) (at : ℕ) : Type 0 where
-  pub place : at ≤ length (turns_of (table_in cache) worklist)
   pub worklist_is : IsWorklist (table_in cache) worklist
   pub main_is : main_in cache ≡ main
   pub sums_are : sums_in cache ≡ sums
   pub knows : Knows cache pairs
   pub lent : turns_in cache ≡ take at (turns_of (table_in cache) worklist)
-  pub queue : IsQueue (run_of main sums pairs) (turns_of (table_in cache) worklist) at
-  pub visited : AreVisitedTo cache (run_of main sums pairs) (turns_of (table_in cache) worklist) findings at
+  pub visited : AreVisited (run_of main sums pairs) (turns_of (table_in cache) worklist) (turns_in cache)
+  pub found : AreFound cache (run_of main sums pairs) findings
 
 -- What a cache's run is, if its main file and its go.sum are these.
 pub read_by : (main : Main) (sums : Option Sums) (cache : Cache) (pairs : List (Name × Reply)) → sums_in cache ≡ sums → Knows cache pairs
@@ -78,6 +76,9 @@ by_run P {main} {sums} cache pairs main_is sums_are holds =
     subst (λ (m : Main). P (run_of m sums pairs)) main_is
     (subst (λ (s : Option Sums). P (run_of (main_in cache) s pairs)) sums_are holds)
 
+none_there : (cache : Cache) → turns_in cache ≡ [] → (one : Turn) → Contains (turns_in cache) one → ⊥
+none_there cache none one there = let in_none = subst (λ (ts : List Turn). Contains ts one) none there in absurd (omega (arith, in_none.1))
+
 pub first_step : (cache : Cache) (pairs : List (Name × Reply)) (worklist : Worklist) (findings : Findings) → pairs ≡ []
     → Knows cache [] → turns_in cache ≡ [] → IsFirstWorklist (run_in cache []) (table_in cache) worklist
     → ((number : ℕ) → WasVisited findings number → ⊥) → IsAt (main_in cache) (sums_in cache) cache pairs worklist findings 0
@@ -85,14 +86,13 @@ first_step cache pairs worklist findings none knows lent nothing unvisited =
     let first : IsFirstWorklist (run_in cache pairs) (table_in cache) worklist =
     subst (λ (ps : List (Name × Reply)). IsFirstWorklist (run_in cache ps) (table_in cache) worklist) (sym none) nothing in
     record {
-      place = omega arith;
       worklist_is = first.worklist_is;
       main_is = refl;
       sums_are = refl;
       knows = knows_nothing cache pairs none knows;
       lent = lent;
-      queue = record { first = first.turns; done = λ k d h. absurd (omega arith) };
-      visited = record { opened = λ number w. absurd (unvisited number w); each = λ k d h. absurd (omega arith) };
+      visited = record { first = first.turns; done = λ one there. absurd (none_there cache lent one there) };
+      found = record { opened = λ number w. absurd (unvisited number w); each = λ one there. absurd (none_there cache lent one there) };
     }
 
 -- All turns were visited.
@@ -104,20 +104,20 @@ last_step main sums cache pairs worklist findings at is found past =
     let turns = turns_of (table_in cache) worklist in
     let of = is.worklist_is.turns in
     let opened = is.worklist_is.opened in
-    let all = queue_all run turns at past is.queue in
+    let to_end = is.lent ∙ take_all at turns past in
+    let all : AreVisited run turns turns = subst (λ (front : List Turn). AreVisited run turns front) to_end is.visited in
     record {
       main_is = is.main_is;
       read = read_by main sums cache pairs is.sums_are is.knows;
-      lent = is.lent ∙ take_all at turns past;
+      lent = to_end;
       worklist_is = is.worklist_is;
       turns = are_turns run opened turns of all;
       known = opened_known run opened turns of all;
       found = by_run (λ (r : Run). AreFindings cache r findings) cache pairs is.main_is is.sums_are found;
       lists = λ number place e. by_run (λ (r : Run). HasListAt cache r (module_numbered cache number) place) cache pairs is.main_is is.sums_are
           (list_there cache pairs (module_numbered cache number) place is.knows (found.files number place e).sound);
-      opened = λ number w. (is.visited.opened number w).1;
+      opened = λ number w. (is.found.opened number w).1;
       each = λ x opened.
           let (d, there) = has_turn_of run turns all x opened in
-          let was = is.visited.each there.0 (turn x d) (omega (arith, there.1, past)) in
-          (was.0, was.1, was.2 ∙ ap (λ (t : Turn). t.vertex) there.2);
+          is.found.each (turn x d) (subst (λ (ts : List Turn). Contains ts (turn x d)) (sym to_end) there);
     }
