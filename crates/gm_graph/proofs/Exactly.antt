@@ -1,17 +1,18 @@
 -- Exactly the needed names were asked for, and at most 65,536 vertices are opened.
-use Rattle.std.proofs.Common.{◌≡◌, ◌∙◌, ◌≤◌, ◌||◌, Bool, true, false, cond, List, [], ◌∷◌, ◌++◌, length, Option, Some, None, IsSome, Contains, ap, sym, refl, subst, inl, inr, arith, suc, Result}
-use Rattle.std.specs.List.{IsDistinct, list_any}
-use Rattle.std.specs.Cmp.{IsEquivalence, decided}
+use Rattle.std.proofs.Common.{◌≡◌, ◌∙◌, ◌≤◌, true, false, List, [], ◌∷◌, ◌++◌, length, Option, IsSome, Contains, ap, sym, refl, subst, inl, inr, arith, Result}
+use Rattle.std.specs.Prelude.{is_some}
+use Rattle.std.specs.List.{IsDistinct}
 use Rattle.std.proofs.lemmas.Bool.{false≢true}
 use Rattle.std.proofs.lemmas.Map.Keys.{IsDistinct-push}
+use Rattle.std.proofs.lemmas.Map.Views.{Contains-from_any}
 use Rattle.std.proofs.lemmas.Map.Made.{length-le_from_is_member, is_member-Decides}
 use Rattle.std.proofs.lemmas.List.Elements.{Contains-push_cases}
 use Rattle.gm_name.specs.ModuleVersion.{ModuleVersion}
 use Rattle.gm_name.specs.Private.ModuleVersion.{pair_eq-Decides, pairs-equivalence}
 use Rattle.gm_file.specs.Fields.{Dependency}
 use Rattle.gm_file.specs.Main.{Main, is_pruned_by}
-use Rattle.gm_store.specs.Asked.{Name, Reply, answer_in, names_in, same_name}
-use Rattle.gm_store.proofs.NameOrder.{names_equal, same_from_equal}
+use Rattle.gm_store.specs.Asked.{Name, Reply, names_in, same_name}
+use Rattle.gm_store.proofs.NameOrder.{names_equal}
 use Rattle.gm_store_sums.specs.Sums.{Sums}
 use Rattle.gm_graph.specs.declared.cache.class.Class.{Class}
 use Rattle.gm_graph.specs.declared.cache.depth.Turn.{Turn}
@@ -20,42 +21,20 @@ use Rattle.gm_graph.specs.Reading.{file_of, is_askable}
 use Rattle.gm_graph.specs.Run.{AreOpened, AreTurns, AskedInTurn, FileSays, IsNeeded, IsOpened, IsRead, IsSettled, LoadingNeeds, Run, Says, answered, faulty, more, nothing, run_of, sound, unaskable, wrong_path}
 use Rattle.gm_graph.specs.Turns.{turn}
 use Rattle.gm_graph.specs.Private.Turns.{AreTurnsOf, depth_by}
-use Rattle.gm_graph.proofs.RunLemmas.{keeps_agree, needed as needed_too}
+use Rattle.gm_graph.proofs.RunLemmas.{answered_any, keeps_agree, names_equivalence, needed as needed_too}
 use Rattle.gm_graph.proofs.Rounds.{takes_first}
 use Rattle.gm_graph.proofs.Sayings.{says_more}
-
-names_equivalence : IsEquivalence same_name
-names_equivalence = decided same_name (λ a b. (names_equal a b, same_from_equal a b))
 
 pub names_push : (pairs : List (Name × Reply)) (n : Name) (r : Reply) → names_in (pairs ++ (n, r) ∷ []) ≡ names_in pairs ++ n ∷ []
 names_push [] n r = refl
 names_push (pair ∷ pairs) n r = ap (λ (ns : List Name). pair.0 ∷ ns) (names_push pairs n r)
-
--- A name without an answer is not among the names.
-none_named : (pairs : List (Name × Reply)) (n : Name) → answer_in pairs n ≡ None → list_any (same_name n) (names_in pairs) ≡ false
-none_named [] n h = refl
-none_named (pair ∷ pairs) n h =
-    elim (same_name n pair.0) as (λ b. cond b (Some pair.1) (answer_in pairs n) ≡ None → (b || list_any (same_name n) (names_in pairs)) ≡ false) [
-      | true ↦ λ e. cc
-      | false ↦ λ e. none_named pairs n e
-    ] h
-
-named_if : (b : Bool) (pair : Name × Reply) (ns : List Name) (n : Name) (o : Option Reply) → same_name n pair.0 ≡ b
-    → IsSome (cond b (Some pair.1) o) → (IsSome o → Contains ns n) → Contains (pair.0 ∷ ns) n
-named_if true pair ns n o e s there = (0, omega arith, sym (names_equal n pair.0 e))
-named_if false pair ns n o e s there = let (k, below, at) = there s in (suc k, omega (arith, below), at)
-
--- A name with an answer is among the names.
-some_named : (pairs : List (Name × Reply)) (n : Name) → IsSome (answer_in pairs n) → Contains (names_in pairs) n
-some_named [] n h = absurd (false≢true h)
-some_named (pair ∷ pairs) n h = named_if (same_name n pair.0) pair (names_in pairs) n (answer_in pairs n) refl h (λ s. some_named pairs n s)
 
 asked_once : (needs : (Name → Option Reply) → Name → Type 0) {pairs : List (Name × Reply)} → AskedInTurn needs pairs → IsDistinct same_name (names_in pairs)
 unfolding IsDistinct
 asked_once needs nothing = tt
 asked_once needs (more {pairs} {name} reply asks needed unasked) =
     subst (λ (ns : List Name). IsDistinct same_name ns) (sym (names_push pairs name reply))
-    (IsDistinct-push names_equivalence (names_in pairs) name (asked_once needs asks) (none_named pairs name unasked))
+    (IsDistinct-push names_equivalence (names_in pairs) name (asked_once needs asks) (sym (answered_any pairs name) ∙ ap is_some unasked))
 
 asked_only : (main : Main) (sums : Option Sums) {pairs : List (Name × Reply)}
     → AskedInTurn (LoadingNeeds main sums) pairs → (n : Name) → Contains (names_in pairs) n
@@ -88,7 +67,7 @@ module _ (main : Main) (sums : Option Sums) (pairs : List (Name × Reply)) (asks
   needed_asked n (x, opened, is, askable) =
       let says = (known x opened).1 in
       let has = module_answered says (subst (λ (m : Name). is_askable m ≡ true) (sym is) askable) in
-      subst (λ (m : Name). Contains (names_in pairs) m) is (some_named pairs (file_of main x) has)
+      subst (λ (m : Name). Contains (names_in pairs) m) is (Contains-from_any names_equal (file_of main x) (names_in pairs) (sym (answered_any pairs (file_of main x)) ∙ has))
 
   -- Exactly the needed files were asked for.
   pub settled : IsRead (run_of main sums pairs) → ((xs : List ModuleVersion) → AreOpened (run_of main sums pairs) xs → length xs ≤ 65536)

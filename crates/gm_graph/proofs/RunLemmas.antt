@@ -1,14 +1,17 @@
 -- Two runs, perhaps of two main files: what modules say in the one they say in the other, and what the one opens the
 -- other opens. Runs of one main file that agree on what they open have the same edges, faults and needed files.
-use Rattle.std.proofs.Common.{◌≡◌, ◌∙◌, ◌∷◌, zero, suc, Bool, true, false, List, [], Option, Some, Result, Ok, Err, Contains, ap, arith, refl, subst, sym, inl, inr}
-use Rattle.std.specs.Prelude.{if◌then◌else◌}
+use Rattle.std.proofs.Common.{◌≡◌, ◌||◌, ◌∙◌, ◌∷◌, Bool, true, false, List, [], Option, None, Some, IsSome, Result, Ok, Err, Contains, ap, refl, subst, inl, inr}
+use Rattle.std.specs.Prelude.{if◌then◌else◌, is_some}
+use Rattle.std.specs.Cmp.{IsEquivalence, decided}
+use Rattle.std.specs.List.{list_any}
+use Rattle.std.proofs.lemmas.Map.Views.{list_any-from_Contains}
 use Rattle.std.proofs.lemmas.Bool.{false≢true}
 use Rattle.gm_name.specs.ModuleVersion.{ModuleVersion}
 use Rattle.gm_file.specs.Directives.{Right}
 use Rattle.gm_file.specs.Fields.{Dependency}
 use Rattle.gm_file.specs.Main.{Main, is_pruned_by, replacement_in, without_excluded}
 use Rattle.gm_store.specs.Asked.{Name, Reply, answer_in, names_in, same_name}
-use Rattle.gm_store.proofs.NameOrder.{name_itself}
+use Rattle.gm_store.proofs.NameOrder.{names_equal, same_from_equal}
 use Rattle.gm_store_sums.specs.Sums.{Sums}
 use Rattle.gm_graph.specs.declared.cache.class.Class.{Class}
 use Rattle.gm_graph.specs.declared.fault.Fault.{Fault}
@@ -151,16 +154,25 @@ same_edges one other into back s y = (edge one other into s y, edge other one ba
 
 -- ---- what was asked for is answered
 
-answered_if : (b : Bool) (pair : Name × Reply) (pairs : List (Name × Reply)) (name : Name) → same_name name pair.0 ≡ b
-    → (Contains (names_in pairs) name → (reply : Reply) × (answer_in pairs name ≡ Some reply)) → Contains (pair.0 ∷ names_in pairs) name
-    → (reply : Reply) × ((if b then Some pair.1 else answer_in pairs name) ≡ Some reply)
-answered_if true pair pairs name e rest there = (pair.1, refl)
-answered_if false pair pairs name e rest (zero, within, at) = absurd (false≢true (sym e ∙ ap (same_name name) at ∙ name_itself name))
-answered_if false pair pairs name e rest (suc i, within, at) = rest (i, omega (arith, within), at)
+pub names_equivalence : IsEquivalence same_name
+names_equivalence = decided same_name (λ a b. (names_equal a b, same_from_equal a b))
+
+-- A name has an answer exactly if it is among the names.
+pub answered_any : (pairs : List (Name × Reply)) (name : Name) → is_some (answer_in pairs name) ≡ list_any (same_name name) (names_in pairs)
+answered_any [] name = refl
+answered_any (pair ∷ pairs) name =
+    elim (same_name name pair.0) as (λ b. is_some (if b then Some pair.1 else answer_in pairs name) ≡ (b || list_any (same_name name) (names_in pairs))) [
+      | true ↦ refl
+      | false ↦ answered_any pairs name
+    ]
+
+some_reply : (o : Option Reply) → IsSome o → (reply : Reply) × (o ≡ Some reply)
+some_reply None none = absurd (false≢true none)
+some_reply (Some reply) some = (reply, refl)
 
 pub asked_answered : (pairs : List (Name × Reply)) (name : Name) → Contains (names_in pairs) name → (reply : Reply) × (answer_in pairs name ≡ Some reply)
-asked_answered [] name there = absurd (omega (arith, there.1))
-asked_answered (pair ∷ pairs) name there = answered_if (same_name name pair.0) pair pairs name refl (asked_answered pairs name) there
+asked_answered pairs name there = some_reply (answer_in pairs name)
+    (answered_any pairs name ∙ list_any-from_Contains names_equivalence name (names_in pairs) there)
 
 -- Each needed name has an answer.
 pub settled_answers : (main : Main) (sums : Option Sums) (pairs : List (Name × Reply)) → IsSettled (run_of main sums pairs) (names_in pairs)
