@@ -1,5 +1,6 @@
 -- What modules' files say: one thing, which stays when more is asked for.
 use Rattle.std.proofs.Common.{◌≡◌, ◌↔◌, ◌∙◌, ◌++◌, ◌∷◌, [], cond, true, false, List, Option, Some, Result, Ok, Err, Contains, ap, refl, subst, sym}
+use Rattle.std.specs.Option.{option_or}
 use Rattle.std.proofs.lemmas.Bool.{false≢true}
 use Rattle.std.proofs.lemmas.Option.{same_Some}
 use Rattle.gm_name.specs.ModuleVersion.{ModuleVersion}
@@ -64,15 +65,19 @@ required_of run x file says y = (
 
 -- ---- answers stay when more is asked for
 
+pub answer_append : (pairs more : List (Name × Reply)) (name : Name)
+    → answer_in (pairs ++ more) name ≡ option_or (answer_in pairs name) (answer_in more name)
+answer_append [] more name = refl
+answer_append (pair ∷ pairs) more name =
+    elim (same_name name pair.0) as (λ b. cond b (Some pair.1) (answer_in (pairs ++ more) name)
+    ≡ option_or (cond b (Some pair.1) (answer_in pairs name)) (answer_in more name)) [
+      | true ↦ refl
+      | false ↦ answer_append pairs more name
+    ]
+
 pub answer_stays : (pairs more : List (Name × Reply)) (name : Name) (reply : Reply) → answer_in pairs name ≡ Some reply
     → answer_in (pairs ++ more) name ≡ Some reply
-answer_stays [] more name reply e = absurd cc
-answer_stays (pair ∷ pairs) more name reply e =
-    elim (same_name name pair.0) as (λ b. cond b (Some pair.1) (answer_in pairs name) ≡ Some reply
-    → cond b (Some pair.1) (answer_in (pairs ++ more) name) ≡ Some reply) [
-      | true ↦ λ h. h
-      | false ↦ λ h. answer_stays pairs more name reply h
-    ] e
+answer_stays pairs more name reply e = answer_append pairs more name ∙ ap (λ (o : Option Reply). option_or o (answer_in more name)) e
 
 module _ (main : Main) (sums : Option Sums) (pairs more : List (Name × Reply)) where
   file_still : {name : Name} {said : Result Dependency Class} → FileSays (run_of main sums pairs) name said

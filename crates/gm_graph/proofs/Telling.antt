@@ -1,10 +1,10 @@
 -- A cache that keeps one more file knows one more answer.
 use Rattle.std.proofs.Common.{◌≡◌, ◌∙◌, Bool, true, false, cond, List, [], ◌∷◌, ◌++◌, Option, Some, None, sym, ap, subst, refl}
-use Rattle.std.specs.Option.{option_map}
+use Rattle.std.specs.Option.{option_map, option_or}
 use Rattle.gm_name.specs.ModuleVersion.{ModuleVersion}
 use Rattle.gm_store.specs.Asked.{Name, Reply, answer_in, same_name}
 use Rattle.gm_store_sums.specs.Sums.{Sums}
-use Rattle.gm_store.proofs.NameOrder.{names_equal, name_itself}
+use Rattle.gm_store.proofs.NameOrder.{names_equal}
 use Rattle.gm_name_table.specs.Listed.{BeginsWith, NumberedList, modules_of}
 use Rattle.gm_graph.specs.declared.cache.summary.Kept.{Kept}
 use Rattle.gm_graph.specs.declared.cache.Cache.{Cache}
@@ -15,6 +15,7 @@ use Rattle.gm_graph.specs.Held.{HoldsAnswers}
 use Rattle.gm_graph.specs.Private.FileTable.{PutsFile}
 use Rattle.gm_graph.proofs.HeldFiles.{put_holds}
 use Rattle.gm_graph.proofs.Keeping.{knows_still, main_same, same_run, says_later, sound_still}
+use Rattle.gm_graph.proofs.Sayings.{answer_append}
 use Rattle.gm_graph.specs.Summaries.{IsKept, summary_reading}
 use Rattle.gm_graph.specs.Cached.{HoldsSame, KeepsSound, Knows, LentSame, main_in, run_in, summary_at, sums_in}
 
@@ -29,29 +30,17 @@ not_asked cache pairs name knows none = by (answer_in pairs name) refl
 
 -- ---- one more answer
 
-answer_there : (pairs : List (Name × Reply)) (name : Name) (reply : Reply) → answer_in pairs name ≡ None
-    → answer_in (pairs ++ (name, reply) ∷ []) name ≡ Some reply
-answer_there [] name reply e = ap (λ (b : Bool). cond b (Some reply) None) (name_itself name)
-answer_there (pair ∷ pairs) name reply e =
-    elim (same_name name pair.0) as (λ b. cond b (Some pair.1) (answer_in pairs name) ≡ None
-    → cond b (Some pair.1) (answer_in (pairs ++ (name, reply) ∷ []) name) ≡ Some reply) [
-      | true ↦ λ h. absurd cc
-      | false ↦ λ h. answer_there pairs name reply h
-    ] e
-
-answer_elsewhere : (pairs : List (Name × Reply)) (name other : Name) (reply : Reply) → same_name other name ≡ false
-    → answer_in (pairs ++ (name, reply) ∷ []) other ≡ answer_in pairs other
-answer_elsewhere [] name other reply e = ap (λ (b : Bool). cond b (Some reply) None) e
-answer_elsewhere (pair ∷ pairs) name other reply e = ap
-    (λ (o : Option Reply). cond (same_name other pair.0) (Some pair.1) o) (answer_elsewhere pairs name other reply e)
-
 answer_more : (pairs : List (Name × Reply)) (name other : Name) (reply : Reply) → answer_in pairs name ≡ None
     → answer_in (pairs ++ (name, reply) ∷ []) other ≡ cond (same_name other name) (Some reply) (answer_in pairs other)
-answer_more pairs name other reply none = by (same_name other name) refl
+answer_more pairs name other reply none =
+    answer_append pairs ((name, reply) ∷ []) other ∙ by (same_name other name) refl (answer_in pairs other) refl
   where
-    by : (b : Bool) → same_name other name ≡ b → answer_in (pairs ++ (name, reply) ∷ []) other ≡ cond b (Some reply) (answer_in pairs other)
-    by true is = ap (answer_in (pairs ++ (name, reply) ∷ [])) (names_equal other name is) ∙ answer_there pairs name reply none
-    by false apart = answer_elsewhere pairs name other reply apart
+    by : (b : Bool) → same_name other name ≡ b → (o : Option Reply) → answer_in pairs other ≡ o
+        → option_or o (cond b (Some reply) None) ≡ cond b (Some reply) o
+    by true is None e = refl
+    by true is (Some held) e = absurd (cc (sym e ∙ ap (answer_in pairs) (names_equal other name is) ∙ none))
+    by false apart None e = refl
+    by false apart (Some held) e = refl
 
 -- ---- a cache with one more file
 
