@@ -123,7 +123,7 @@ module _ {main : Main} {sums : Option Sums} {cache : Cache} {worklist : Worklist
   pub many_in_turn : OverflowsAt (run_in cache new.asked) turns vertex one.depth → IsRead later × AreTooMany later
   many_in_turn over =
       let many = by_run (λ (run : Run). OverflowsAt run turns vertex one.depth) cache new.asked state.main_is state.sums_are over in
-      (many.0, many_followed keeps vertex one.depth still_takes state.visited.first.valid many.1)
+      (many.0, many_followed keeps vertex one.depth still_takes turns state.visited.first.valid many.1)
 
   -- It was visited.
   module _ {end : Cache} {made : Worklist} {marks : Followed} {found : Findings}

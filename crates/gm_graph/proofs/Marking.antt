@@ -98,7 +98,7 @@ other_or false a true e = refl
 other_or false a false e = refl
 
 -- The vertex with this number has these marks.
-module _ {modules : List ModuleVersion} {old : Worklist} {number : ℕ} {depth : Depth} {marks : Marks}
+module _ {modules : List ModuleVersion} {old : Worklist} {number : ℕ} {marks : Marks} (depth : Depth)
     (is : IsWorklist modules old) (below : number < length modules) (at : marks ≡ marks_at old.marks.items number) where
   abbrev its_vertex : ModuleVersion
   its_vertex = module_at modules number

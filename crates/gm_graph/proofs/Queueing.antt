@@ -33,7 +33,7 @@ many_first run over = (
 -- ---- when more was asked for
 
 module _ {main : Main} {sums : Option Sums} {pairs longer : List (Name × Reply)}
-    (keeps : KeepsSayings (run_of main sums pairs) (run_of main sums longer)) {old : List Turn} (x : ModuleVersion) (depth : Depth)
+    (keeps : KeepsSayings (run_of main sums pairs) (run_of main sums longer)) (x : ModuleVersion) (depth : Depth)
     (takes : TakesTurn (run_of main sums longer) x depth) where
   abbrev earlier : Run
   earlier = run_of main sums pairs
@@ -42,9 +42,9 @@ module _ {main : Main} {sums : Option Sums} {pairs longer : List (Name × Reply)
   later = run_of main sums longer
 
   -- One more turn was visited.
-  pub visited_more : {front : List Turn} (new : List Turn) → AreVisited earlier old front → Visits later old new (turn x depth)
+  pub visited_more : {old front : List Turn} (new : List Turn) → AreVisited earlier old front → Visits later old new (turn x depth)
       → AreVisited later new (front ++ turn x depth ∷ [])
-  visited_more {front} new visited follows = record {
+  visited_more {old} {front} new visited follows = record {
     first = record {
       tops = λ y t. along old new (turn y (depth_by (is_pruned_by main.go))) follows.extends (visited.first.tops y t);
       valid = λ next there. elim (follows.only next there) [
@@ -59,8 +59,8 @@ module _ {main : Main} {sums : Option Sums} {pairs longer : List (Name × Reply)
     ];
   }
 
-  pub many_followed : AllValidTurns earlier old → VisitOverflows later old x depth → AreTooMany later
-  many_followed valid (file, says, leads, over) = (
+  pub many_followed : (old : List Turn) → AllValidTurns earlier old → VisitOverflows later old x depth → AreTooMany later
+  many_followed old valid (file, says, leads, over) = (
     over.0,
     over.1,
     record {

@@ -49,10 +49,11 @@ got {old} {new} {earlier} {pairs} {number} {d} is same ends =
 
 -- ---- the cache may have numbered more modules
 
-module _ {old new : Cache} {earlier pairs : List (Name × Reply)} {number : ℕ} {d : Depth} {worklist : Worklist} {marks : Followed}
-    {findings : Findings} (ready : IsReady old (run_in old earlier) worklist marks findings) where
-  pub ready_after : {seen : Visit} → HasVisited old earlier new pairs number d seen → IsReady new (run_in new pairs) worklist marks findings
-  ready_after has = record {
+module _ {old : Cache} {earlier : List (Name × Reply)} {worklist : Worklist} {marks : Followed} {findings : Findings}
+    (ready : IsReady old (run_in old earlier) worklist marks findings) where
+  pub ready_after : {new : Cache} {pairs : List (Name × Reply)} {number : ℕ} {d : Depth} {seen : Visit}
+      → HasVisited old earlier new pairs number d seen → IsReady new (run_in new pairs) worklist marks findings
+  ready_after {new} {pairs} has = record {
     worklist_is = worklist_over (table_in old) (table_in new) worklist ready.worklist_is has.continues.numbered has.distinct;
     followed = followed_known old new (run_in old earlier) (run_in new pairs) worklist marks ready.worklist_is has.continues
         has.continues.main has.stays has.sound ready.followed;
@@ -60,10 +61,11 @@ module _ {old new : Cache} {earlier pairs : List (Name × Reply)} {number : ℕ}
   }
 
   -- too many vertices
-  pub overflows_at : {required : Required} → HasVisited old earlier new pairs number d (visit.Required required)
+  pub overflows_at : {new : Cache} {pairs : List (Name × Reply)} {number : ℕ} {d : Depth} {required : Required}
+      → HasVisited old earlier new pairs number d (visit.Required required)
       → required.leads ≡ true → OverflowsWith (turns_of (table_of required) worklist) (required_by required)
       → OverflowsAt (run_in old pairs) (turns_of (table_in old) worklist) (module_numbered old number) d
-  overflows_at {required} has leads over =
+  overflows_at {new} {pairs} {number} {d} {required} has leads over =
       let x = module_numbered old number in
       let says = has.visit_is.1 in
       let turns = turns_of (table_in old) worklist in

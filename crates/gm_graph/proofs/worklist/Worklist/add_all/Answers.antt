@@ -44,7 +44,7 @@ returns-in_err-add-clause-too_many c = λ e.
     let old = turns_of modules c.args.self.now in
     let held = c.loop-number.invariant in
     let below = c.numbers-number-items.ensures.below c.loop-number.number-index 0 (omega arith) in
-    let many = ap Err (sym (rw e at c.from_residual-in_err-add.ensures.1)) in
+    let many = ap Err (sym (rw e at c.from_residual.ensures.1)) in
     subst (λ (xs : List ModuleVersion). OverflowsWith old xs) c.numbers-number-items.ensures.modules
     (overflow_at modules old (turns_of modules c.loop-number.self) c.numbers-number-items.result.now
     c.loop-number.number-index c.args.depth (omega arith) held.adds
