@@ -7,10 +7,10 @@ use Rattle.std.proofs.lemmas.List.Elements.{Contains-append_right}
 use Rattle.gm_graph_select.specs.declared.step.Edge.{Edge}
 use Rattle.gm_graph_select.specs.declared.step.Step.{Step}
 use Rattle.gm_graph_select.specs.BuildList.{Entry, IsAt, IsEntryOf, HasEntryFor, path_of}
-use Rattle.gm_graph_select.proofs.RestRows.{texts_differ}
 use Rattle.gm_graph_select.specs.Chains.{IsReached}
 use Rattle.gm_graph_select.specs.Graph.{among}
 use Rattle.gm_graph.specs.Outcome.{AreReached}
+use Rattle.gm_name.proofs.Texts.{bytes_eq-differ}
 
 abbrev Found : List ℕ → List Entry → List ℕ → Type 0
 Found main entries path = (entry : Entry) × (rest : List Entry) × IsAt main entries path entry rest
@@ -45,7 +45,7 @@ pub first_at : (main : List ℕ) (entries : List Entry) (path : List ℕ) → Ha
 first_at main [] path (entry, there, same) = absurd (omega (arith, there.1))
 first_at main (e ∷ es) path listed = elim (cases_Bool (bytes_eq (path_of main e.0) path)) [
   | inl is ↦ found_now main e es path ((bytes_eq-Decides (path_of main e.0) path).0 is)
-  | inr is_not ↦ (let other = texts_differ (path_of main e.0) path is_not in
+  | inr is_not ↦ (let other = bytes_eq-differ (path_of main e.0) path is_not in
       found_later main e es path other (first_at main es path (behind main e es path other listed)))
 ]
 

@@ -17,6 +17,7 @@ use Rattle.gm_graph.specs.declared.cache.class.Class.{Class}
 use Rattle.gm_graph.specs.Run.{AreOpened, IsEdge, IsOpened, IsTop, Requires, Run, Says}
 use Rattle.gm_graph.proofs.LawProofs.{modules_say_one_thing}
 use Rattle.gm_graph_select.proofs.RankedLists.{from_mapped, in_mapped}
+use Rattle.gm_name_table.proofs.Lists.{no_pairs}
 
 -- at most 65,536 modules are opened
 abbrev pub IsFew : Run → Type 0
@@ -31,10 +32,6 @@ in_or_out x (first ∷ all) = by_test (pair_eq x first) refl (in_or_out x all)
     by_test true e rest = inl (subst (λ (z : ModuleVersion). Contains (z ∷ all) x) (pair-same x first e) (member_head x all))
     by_test false e (inl there) = inl (member_tail first x all there)
     by_test false e (inr out) = inr (ap (λ (b : Bool). b || list_any (pair_eq x) all) e ∙ out)
-
-nothing_twice : IsDistinct pair_eq []
-unfolding IsDistinct
-nothing_twice = tt
 
 module _ (run : Run) (few : IsFew run) where
   -- ---- the opened modules are those of a list
@@ -153,7 +150,7 @@ module _ (run : Run) (few : IsFew run) where
 
   -- so it can't be refuted that the edges are those of a list
   pub edges_listed : ((edges : List Edge) → AreSame (among edges) (IsEdge run) → ⊥) → ⊥
-  edges_listed none = opened_from 65536 [] nothing_twice (λ y there. absurd (no_member y there)) (omega arith)
+  edges_listed none = opened_from 65536 [] no_pairs (λ y there. absurd (no_member y there)) (omega arith)
       (λ all are. leaving all (λ edges same. none edges (λ s y. (
         (λ there. (leaves_edge all are s y).0 ((same s y).0 there)),
         (λ is. (same s y).1 ((leaves_edge all are s y).1 is)),

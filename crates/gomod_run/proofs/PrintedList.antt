@@ -6,6 +6,7 @@ use Rattle.std.specs.Str.{bytes_eq}
 use Rattle.std.proofs.lemmas.Grind.{flat_map-append}
 use Rattle.gm_name.specs.Version.{version_cmp}
 use Rattle.gm_name.specs.ModuleVersion.{ModuleVersion}
+use Rattle.gm_name.proofs.Texts.{bytes_eq-differ, bytes_eq-same}
 use Rattle.gm_file.specs.Directives.{Replacing}
 use Rattle.gm_file.specs.Main.{Main}
 use Rattle.gm_store_sums.specs.Sums.{Sums}
@@ -16,7 +17,6 @@ use Rattle.gm_graph_select.specs.Graph.{Edges, IsEdgeEnd, among, edge}
 use Rattle.gm_graph_select.specs.Laws.{ArePages as AreRowPages, entries_of_pages, no_more, one_more}
 use Rattle.gm_graph_select.proofs.Ascending.{member_cases, member_head, member_tail, no_member}
 use Rattle.gm_graph_select.proofs.Lawful.{pages_exist, pages_join as rows_join, row_selected, rows_satisfy}
-use Rattle.gm_graph_select.proofs.RestRows.{texts_differ, texts_same}
 use Rattle.gm_graph_select.proofs.Same.{AreSame, same_back, same_build_list}
 use Rattle.gm_graph.specs.Run.{AreRows, IsEdge, IsVertex, Run, run_of}
 use Rattle.gm_graph_select.proofs.RankedLists.{from_mapped, in_mapped}
@@ -63,10 +63,10 @@ module _ (run : Run) (few : IsFew run) (rows : List Entry) (list : AreRows run r
       by_test : (b : Bool) → bytes_eq first.0 path ≡ b → ((x : ModuleVersion) × Contains xs x × (x.0 ≡ path))
           ⊎ ((x : ModuleVersion) → Contains xs x → x.0 ≢ path)
           → ((x : ModuleVersion) × Contains (first ∷ xs) x × (x.0 ≡ path)) ⊎ ((x : ModuleVersion) → Contains (first ∷ xs) x → x.0 ≢ path)
-      by_test true e rest = inl (first, member_head first xs, texts_same first.0 path e)
+      by_test true e rest = inl (first, member_head first xs, bytes_eq-same first.0 path e)
       by_test false e (inl (x, there, is)) = inl (x, member_tail first x xs there, is)
       by_test false e (inr none) = inr (λ x there. elim (member_cases first x xs there) [
-        | inl same ↦ subst (λ (z : ModuleVersion). z.0 ≢ path) same (texts_differ first.0 path e)
+        | inl same ↦ subst (λ (z : ModuleVersion). z.0 ≢ path) same (bytes_eq-differ first.0 path e)
         | inr behind ↦ none x behind
       ])
 
