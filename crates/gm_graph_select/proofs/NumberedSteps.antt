@@ -1,6 +1,6 @@
 -- Steps in ascending order, by their numbers.
 use Rattle.std.proofs.Common.{add-one, ◌≡◌, ◌<◌, ◌+◌, ℕ, true, List, [], ◌∷◌, Option, Some, None, length, map, get_or, Contains, ap, ap₂, ◌∙◌, refl, sym, subst, inl, inr, arith}
-use Rattle.std.specs.Prelude.{All, AllPairs}
+use Rattle.std.specs.Prelude.{All, AllPairs, nat_lt}
 use Rattle.std.specs.declared.cmp.Ordering.{Ordering}
 use Rattle.std.specs.declared.cmp.Ordering.TheVariants.{Less, Equal, Greater}
 use Rattle.std.specs.Cmp.{IsTotalOrder}
@@ -8,7 +8,7 @@ use Rattle.std.specs.FinMap.{nat_cmp-IsAntisymmetric}
 use Rattle.std.specs.List.Sorted.{IsNonDecreasingBy, IsPartitionPoint, IsSortedBy}
 use Rattle.std.specs.Option.{option_cmp}
 use Rattle.std.specs.Ordering.{is_lt, nat_cmp, ordering_index, ordering_reverse}
-use Rattle.std.proofs.lemmas.Bool.{cases_lt}
+use Rattle.std.proofs.lemmas.Bool.{cases_lt, cond-true, lt-ltb}
 use Rattle.std.proofs.lemmas.Cmp.{nat_cmp_total, tied_itself}
 use Rattle.std.proofs.lemmas.List.{get_or_default, get_or-map, length-map}
 use Rattle.std.proofs.lemmas.List.Elements.{All-contains, Contains-get_or}
@@ -235,6 +235,9 @@ module _ (vertices : List ModuleVersion) (lists : List (List ℕ)) (sources : Li
       (omega (arith, below, count))) in
       less_number_cmp (number_left (get_or sources i d)) (number_left (get_or sources j d))
       (omega (arith, low, ap (λ (o : StepEdges). number_with o.from) first, ap (λ (o : StepEdges). number_with o.from) second))
+    where
+      less_number_cmp : (a b : ℕ) → a < b → nat_cmp a b ≡ Less
+      less_number_cmp a b lt = cond-true (nat_lt a b) Less _ (lt-ltb a b lt)
 
   -- A binary search found the source with that number.
   pub source_found : (number place : ℕ) (one : Source) → place < length sources → one ≡ get_or sources place one

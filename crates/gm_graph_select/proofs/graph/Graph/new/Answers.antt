@@ -5,7 +5,7 @@ use Rattle.gm_graph_select.specs.Adjacency.{IsBelow, by_step}
 use Rattle.gm_graph_select.specs.Private.Adjacency.{IsNumberedList}
 use Rattle.gm_graph_select.specs.Spans.{lists_at}
 use Rattle.gm_graph_select.proofs.RankedLists.{ranked_edges_ascend}
-use Rattle.gm_graph_select.proofs.Vertices.{is_graph_of, lists_below, sources_below}
+use Rattle.gm_graph_select.proofs.Vertices.{IsGraphOf, is_graph_of, lists_below, sources_below}
 use Rattle.gm_graph_select.proofs.graph.Graph.new.Goals as goal
 
 pub marks_of-requires-clause-sources : goal.marks_of-requires-clause-sources
