@@ -5,6 +5,7 @@ docs/dev/CASES.md has the form of a case. tools/program.py runs their command li
 
 import contextlib
 import hashlib
+import itertools
 import os
 import re
 import shutil
@@ -54,23 +55,30 @@ def words_of(line):
     return words
 
 
+def form_of(text, most):
+    """A text as a form for its number, which has as many digits as the greatest one, and how often that stands in it."""
+    digits = b"%%0%dd" % len(b"%d" % most)
+    return text.replace(b"%", b"%%").replace(b"{n}", digits), text.count(b"{n}")
+
+
 def numbered(text, number, most):
-    """A text with its number, of as many digits as the greatest one has."""
-    return text.replace(b"{n}", b"%0*d" % (len(b"%d" % most), number))
+    """A text with its number."""
+    form, times = form_of(text, most)
+    return form % ((number,) * times)
 
 
 def each_numbered(text, most):
     """A text with each number from 1."""
-    return (numbered(text, number, most) for number in range(1, most + 1))
+    form, times = form_of(text, most)
+    return map(form.__mod__, zip(*[range(1, most + 1)] * times)) if times else itertools.repeat(text, most)
 
 
 def all_numbered(text, most):
     """The texts with each number from 1, one after the other."""
-    if b"{n}" not in text:
+    form, times = form_of(text, most)
+    if not times:
         return text * most
-    form = text.replace(b"%", b"%%").replace(b"{n}", b"%%0%dd" % len(b"%d" % most))
-    times = text.count(b"{n}")
-    return (form * most) % tuple(number for number in range(1, most + 1) for _ in range(times))
+    return (form * most) % tuple(itertools.chain.from_iterable(zip(*[range(1, most + 1)] * times)))
 
 
 def greatest_sizes(least, sizes):
@@ -178,8 +186,7 @@ class Piece:
     def lay_each(self, place):
         """Makes each of its files, given the place with `{n}` in it."""
         most, text, made = int(self.argument), self.text(), None
-        for number in range(1, most + 1):
-            one = numbered(place, number, most)
+        for number, one in enumerate(each_numbered(place, most), 1):
             if os.path.dirname(one) != made:
                 made = os.path.dirname(one)
                 os.makedirs(made, exist_ok=True)
@@ -226,6 +233,10 @@ class Case:
     def __init__(self, line, title):
         self.line, self.title, self.runs, self.pieces, self.is_sized, self.memory = line, title, [], [], False, None
         self.copies = {}
+
+    def is_hungry(self):
+        """Whether a command takes much memory for it, so that no other such case should run beside it."""
+        return any(it.kind == b"repeat" and int(it.argument) > 900_000 for it in self.pieces)
 
     def is_large(self):
         """Whether its commands ask for memory so often that refusing each time would take hours."""

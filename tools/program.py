@@ -6,8 +6,9 @@ tools/case_files.py reads the cases, and tools/other_world.py has the other worl
 """
 
 import concurrent.futures
+import contextlib
 import itertools
-import math
+import multiprocessing
 import os
 import re
 import resource
@@ -16,6 +17,7 @@ import socket
 import subprocess
 import sys
 import tempfile
+import threading
 
 import other_world
 import script
@@ -28,7 +30,7 @@ REFUSE_LATER = os.environ.pop("REFUSE_LATER", None)
 # the variables for each way to refuse an allocation, and what is then said of it
 ALONE = {"allocation {} refused": {}}
 EACH_WAY = {**ALONE, "allocation {} and all later ones refused": {"REFUSE_LATER": "yes"}}
-# how many refused runs there are side by side, and how many are begun before the first result is looked at
+# how many cases, or refused runs, there are side by side, and how many of these are begun before a result is looked at
 AT_ONCE = len(os.sched_getaffinity(0))
 BATCH = 8 * AT_ONCE
 # the name that each command is called by, as from a folder whose name is not UTF-8
@@ -61,10 +63,16 @@ def stack_of_readme():
         return 1024 * int(re.search(r"`ulimit -s (\d+)`", file.read())[1])
 
 
-def usual_stack():
-    """The stack that a command has without a limit of ours."""
-    size = resource.getrlimit(resource.RLIMIT_STACK)[0]
-    return math.inf if size == resource.RLIM_INFINITY else size
+@contextlib.contextmanager
+def limited(kind, most):
+    """Sets a limit of this process, for what it starts meanwhile. To set it in a process just before it becomes the
+    command takes four times as long as starting the command does."""
+    before = resource.getrlimit(kind)
+    resource.setrlimit(kind, (most, before[1]))
+    try:
+        yield
+    finally:
+        resource.setrlimit(kind, before)
 
 
 def shell_words(line, folder):
@@ -100,16 +108,19 @@ def lost_words(run, tip, left, folder):
 
 
 def told(what, out, report, status):
-    """Prints a result."""
-    print(f"  {what}:\n{other_world.shown(out, report, status)}")
+    """A result, below what it is."""
+    return f"  {what}:\n{other_world.shown(out, report, status)}"
 
 
 class Commands:
     """The program, with what is known of its commands."""
 
-    def __init__(self, program, is_proved, scratch):
-        self.program, self.is_proved, self.scratch = program, is_proved, scratch
-        self.stack, self.usual_stack = stack_of_readme(), usual_stack()
+    here = None  # that of this process
+
+    def __init__(self, program, is_proved, scratch, turn):
+        self.program, self.is_proved, self.scratch, self.turn = program, is_proved, scratch, turn
+        self.stack = stack_of_readme()
+        self.starting = threading.Lock()  # limits are those of all threads
         self.refusals = 0  # how many runs had an allocation refused
         self.cut_runs = set()  # the commands that were tried with a stream that takes nothing, with the stream's name
         self.home, self.temporary = (os.path.join(scratch, it) for it in ("home", "tmp"))
@@ -133,7 +144,7 @@ class Commands:
     def stack_with(self, words, environment):
         """The stack for a command. Its arguments lie there too, and Linux gives them no more than a fourth of it."""
         texts = [*words, *map(os.fsencode, environment), *map(os.fsencode, environment.values())]
-        size = sum(len(it) + 10 for it in texts)
+        size = len(b"".join(texts)) + 10 * len(texts)
         return max(self.stack + size, 4 * size)
 
     def result(self, run, case, folder, stdin, refused=None, file_bytes=None, memory=None, cut=None):
@@ -143,38 +154,36 @@ class Commands:
             environment = {**environment, "LD_PRELOAD": REFUSE_MEMORY, **refused}
         words = [NAME, *run.words[1:]]
         stack = self.stack_with(words, environment)
-        # a refused run takes no more stack than the one before it, and a limit makes its start three times as long
-        is_limited = not refused or stack > self.usual_stack
-        most = resource.RLIM_INFINITY
-        if file_bytes is not None:
-            most = SPARE + FACTOR * (file_bytes + sum(len(it) + 1 for it in words))
-        if memory is not None:
-            most = memory
+        most = memory
+        if file_bytes is not None and memory is None:
+            most = SPARE + FACTOR * (file_bytes + len(b"".join(words)) + len(words))
 
         def limit():
             resource.setrlimit(resource.RLIMIT_AS, (most, most))
-            resource.setrlimit(resource.RLIMIT_STACK, (stack, stack))
 
-        streams = {"stdout": subprocess.PIPE, "stderr": subprocess.PIPE}
-        given = {"input": stdin} if run.reads_input() else {"stdin": OPEN_INPUT}
-        try:
-            with open("/dev/full", "wb") as full, case.fed(folder) as descriptors:
-                if cut:
-                    streams[cut] = full
-                got = subprocess.run(
+        text = stdin if run.reads_input() else None
+        streams = {"stdin": OPEN_INPUT if text is None else subprocess.PIPE}
+        streams |= {"stdout": subprocess.PIPE, "stderr": subprocess.PIPE}
+        with open("/dev/full", "wb") as full, case.fed(folder) as descriptors:
+            if cut:
+                streams[cut] = full
+            with self.starting, limited(resource.RLIMIT_STACK, stack):
+                command = subprocess.Popen(
                     words,
                     executable=self.program,
                     cwd=folder,
                     env=environment,
-                    preexec_fn=limit if is_limited else None,
-                    timeout=LIMIT,
+                    preexec_fn=None if most is None else limit,
                     pass_fds=descriptors,
                     **streams,
-                    **given,
                 )
-        except subprocess.TimeoutExpired:
-            sys.exit(f"program: line {run.line} has not ended after {LIMIT} seconds: $ {run.text.decode()}")
-        return got.stdout or b"", got.stderr or b"", got.returncode
+            with command:
+                try:
+                    out, report = command.communicate(text, LIMIT)
+                except subprocess.TimeoutExpired:
+                    command.kill()
+                    sys.exit(f"program: line {run.line} has not ended after {LIMIT} seconds: $ {run.text.decode()}")
+        return out or b"", report or b"", command.returncode
 
     def refused(self, run, case, folder, stdin):
         """What was refused when the result was wrong for the first time, and that result, or None."""
@@ -248,8 +257,8 @@ class Commands:
         if got != wanted:
             yield over, (got, wanted)
 
-    def passes(self, path, case):
-        """Whether a case passes. Prints what is wrong."""
+    def all_faults(self, path, case):
+        """What is wrong with a case, in lines, the first of which says which case it is."""
         root = tempfile.mkdtemp(prefix="case-", dir=self.scratch).encode()
         folder, said = os.path.join(root, b"main"), []
         os.mkdir(folder)
@@ -259,24 +268,17 @@ class Commands:
             file_bytes = len(stdin) + bytes_below(folder) if case.is_sized else None
             for run in case.commands():
                 for over, fault in self.faults_of(run, case, folder, stdin, file_bytes):
-                    if not said:
-                        print(f"{path}:{case.line}: {case.title}")
-                    said.append(over)
-                    print(f"  line {run.line}{over and ', '}{over}: $ {run.text.decode()}")
+                    said.append(f"  line {run.line}{over and ', '}{over}: $ {run.text.decode()}")
                     if isinstance(fault, str):
-                        print(f"  {fault}")
+                        said.append(f"  {fault}")
                     else:
-                        told("got", *fault[0])
-                        told("wanted", *fault[1])
+                        said += [told("got", *fault[0]), told("wanted", *fault[1])]
             differing = changed(trees, self.trees(root))
             if differing:
-                if not said:
-                    print(f"{path}:{case.line}: {case.title}")
-                said.append("files")
-                print(f"  files that were made, changed or removed: {differing}")
+                said.append(f"  files that were made, changed or removed: {differing}")
         finally:
             remove(root)
-        return not said
+        return [f"{path}:{case.line}: {case.title}", *said] if said else []
 
     def trees(self, root):
         """What the folders of a case, and that of HOME and TMPDIR, have."""
@@ -310,9 +312,7 @@ def reads_each_input(program):
         got, wanted = (done.stdout, done.stderr, done.returncode), printed if is_readable else unread
         if got != wanted:
             good = False
-            print(f"standard input is {kind}: $ gomod fmt -")
-            told("got", *got)
-            told("wanted", *wanted)
+            print(f"standard input is {kind}: $ gomod fmt -", told("got", *got), told("wanted", *wanted), sep="\n")
     return good
 
 
@@ -323,20 +323,46 @@ def is_run_here(case):
     return not (case.is_rooted() or is_large or (is_root and any(it.has_mode() for it in case.pieces)))
 
 
+def begin(scratch, *given):
+    """Makes this process one that runs cases, in a folder of its own."""
+    Commands.here = Commands(*given[:2], tempfile.mkdtemp(dir=scratch), *given[2:])
+
+
+def judge(job):
+    """What is wrong with a case, or None if it isn't run here."""
+    path, *lines = job
+    case, commands = case_of(*lines), Commands.here
+    if not is_run_here(case):
+        return None
+    with commands.turn if case.is_hungry() else contextlib.nullcontext():
+        return commands.all_faults(path, case)
+
+
+def judge_all(jobs, given):
+    """What is wrong with each case that is run here. If allocations are refused, each of these runs beside others, and
+    otherwise each case."""
+    if REFUSE_MEMORY:
+        begin(*given)
+        yield from map(judge, jobs)
+    else:
+        with concurrent.futures.ProcessPoolExecutor(AT_ONCE, multiprocessing.get_context("fork"), begin, given) as pool:
+            yield from pool.map(judge, jobs)
+
+
 def run_here(program, is_proved, words):
     """Runs the cases in this world. Returns how many passed and failed, and of how many runs an allocation was
     refused."""
     counts = {True: 0, False: 0}
     scratch = tempfile.mkdtemp(prefix="gomod-program-")
     try:
-        commands = Commands(program, is_proved, scratch)
-        for path, *lines in chosen_cases(words, greatest_sizes):
-            case = case_of(*lines)
-            if is_run_here(case):
-                counts[commands.passes(path, case)] += 1
+        given = scratch, program, is_proved, multiprocessing.get_context("fork").Lock()
+        for said in judge_all(chosen_cases(words, greatest_sizes), given):
+            if said is not None:
+                counts[not said] += 1
+                print(*said, sep="\n", end="\n" if said else "")
         if not words and not REFUSE_MEMORY:
             counts[reads_each_input(program)] += 1
-        return counts[True], counts[False], commands.refusals
+        return counts[True], counts[False], Commands.here.refusals if REFUSE_MEMORY else 0
     finally:
         shutil.rmtree(scratch)
 
