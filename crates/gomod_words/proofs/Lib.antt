@@ -6,5 +6,6 @@ mod Faults
 pub mod GivenWords
 mod Limits
 mod Queries
+mod RowLemmas
 mod TipLemmas
 mod UsageLines

@@ -5,9 +5,9 @@
 ghost use Rattle.std.specs.Prelude.{◌≡◌, ◌++◌, IfOk, IfSome, Some, map, option_map, true};
 ghost use Rattle.std.specs.String.{string_bytes};
 ghost use Rattle.gomod_words.specs.Private.Items.{words_in};
-ghost use Rattle.gomod_words.specs.Table.{name_in};
 ghost use Rattle.gomod_words.specs.Private.Rows.{is_over_file};
-ghost use Rattle.gomod_words.specs.Private.Tips.{IsShown, IsTipOf, is_mod, is_versions, is_word, without_name, without_versions};
+ghost use Rattle.gomod_words.specs.Private.Tips.{IsShown, IsTipOf, is_mod, is_note, is_on_path, is_versions, is_word, stands_for, without_name, without_versions};
+ghost use Rattle.gomod_words.specs.declared.table.CommandName.TheVariants.{Fmt};
 ghost use Rattle.gomod_words.specs.Typed.{left_text, typed_words};
 ghost use Rattle.gomod_words.specs.Usage.{ShowsLine, is_line_or_memory, usage_of};
 
@@ -17,7 +17,7 @@ use crate::items::{Item, items, push_all_words, word_in};
 use crate::lines::shown;
 use crate::placed::{Placed, has, has_cache_alone, has_operation, place_all};
 use crate::refusal::{Refusal, refusal_in};
-use crate::rows::{CACHE, Row, Slot, Target, is_edit_of_go, row_of, target_of};
+use crate::rows::{Row, Slot, Target, is_edit_of_go, is_on_path, is_over_file, row_of, target_of};
 use crate::table::{CommandName, command_row};
 use crate::typed::{followed, push_left};
 use crate::usage::{UsageFault, line};
@@ -352,43 +352,55 @@ fn with_left(alloc: Global, text: &str, rest: &[Item<'_>]) -> Tip
 
 /// A command of gomod with what it takes of these items.
 fn command_tip(alloc: Global, command: CommandName, items: &[Item<'_>]) -> Tip
-    ensures { IfOk result (λ tip. IfSome tip (λ text. IsTipOf items.now (string_bytes text))) }
+    ensures { IfOk result (λ tip. IfSome tip (λ text. IsTipOf command items.now (string_bytes text))) }
 {
-    match command {
-        CommandName::Fmt | CommandName::Edit => over_file(alloc, command, items),
-        CommandName::Chain | CommandName::Versions => over_path(alloc, command, items),
-        _ => over_graph(alloc, command, "", items),
+    if is_over_file(command) {
+        over_file(alloc, command, items)
+    } else if is_on_path(command) {
+        over_path(alloc, command, items)
+    } else {
+        over_graph(alloc, command, "", items)
     }
 }
 
 /// A command over one file: `edit` if there is an operation, otherwise `fmt`. Both take the same.
 #[tactic(auto, using(crate::proofs::TipLemmas::of_items))]
 fn over_file(alloc: Global, command: CommandName, items: &[Item<'_>]) -> Tip
-    ensures { IfOk result (λ tip. IfSome tip (λ text. IsTipOf items.now (string_bytes text))) }
+    requires { is_over_file command ≡ true }
+    ensures { IfOk result (λ tip. IfSome tip (λ text. IsTipOf command items.now (string_bytes text))) }
 {
     let placed = place_all(alloc, CommandName::Fmt, items)?;
     file_line(alloc, command, placed.as_slice())
 }
 
 /// The tip for items of this command over one file that are placed.
-#[tactic(auto, using(crate::proofs::TipLemmas::shown_as))]
+#[tactic(auto, using(crate::proofs::TipLemmas::shown_for))]
 fn file_line(alloc: Global, command: CommandName, placed: &[Placed<'_>]) -> Tip
-    ensures { IfOk result (λ tip. IfSome tip (λ text. IsShown true placed.now (string_bytes text))) }
+    requires { is_over_file command ≡ true }
+    ensures { IfOk result (λ tip. IfSome tip (λ text. IsShown command placed.now (string_bytes text))) }
 {
-    let name = file_command(has_operation(placed));
+    let name = file_command(command, has_operation(placed));
     let note = about_operation(command, has_operation(placed) || has(placed, Slot::Print));
-    shown(alloc, name, &["go.mod"], &[], (note, ""), placed)
+    shown(alloc, name, note, "", placed)
 }
 
-/// The name of the command over one file, with operations or without.
-fn file_command(has_operation: bool) -> &'static str
-    ensures { is_over_file result.now ≡ true }
+/// The command over one file that is shown for this one, with operations or without.
+#[tactic(auto, using(crate::proofs::TipLemmas::stands_over_file))]
+fn file_command(command: CommandName, has_operation: bool) -> CommandName
+    requires { is_over_file command ≡ true }
+    ensures { stands_for command result ≡ true }
 {
-    if has_operation { "edit" } else { "fmt" }
+    if has_operation {
+        CommandName::Edit
+    } else {
+        CommandName::Fmt
+    }
 }
 
 /// What is said of `fmt` in the place of this command.
-fn about_operation(command: CommandName, says_what: bool) -> &'static str {
+fn about_operation(command: CommandName, says_what: bool) -> &'static str
+    ensures { is_note result.now ≡ true }
+{
     match command {
         CommandName::Edit => if says_what { "" } else { ABOUT_OPERATION },
         _ => "",
@@ -396,9 +408,10 @@ fn about_operation(command: CommandName, says_what: bool) -> &'static str {
 }
 
 /// A command on one module, or the list of modules if none is named.
-#[tactic(auto, using(crate::proofs::TipLemmas::of_items))]
+#[tactic(auto, using(crate::proofs::TipLemmas::of_items, crate::proofs::TipLemmas::listed))]
 fn over_path(alloc: Global, command: CommandName, items: &[Item<'_>]) -> Tip
-    ensures { IfOk result (λ tip. IfSome tip (λ text. IsTipOf items.now (string_bytes text))) }
+    requires { is_on_path command ≡ true }
+    ensures { IfOk result (λ tip. IfSome tip (λ text. IsTipOf command items.now (string_bytes text))) }
 {
     let placed = place_all(alloc, command, items)?;
     if has(placed.as_slice(), Slot::Operand) {
@@ -411,35 +424,31 @@ fn over_path(alloc: Global, command: CommandName, items: &[Item<'_>]) -> Tip
 /// A command over proxy folders, and this after it.
 #[tactic(auto, using(crate::proofs::TipLemmas::of_items))]
 fn over_graph(alloc: Global, command: CommandName, about: &'static str, items: &[Item<'_>]) -> Tip
-    ensures { IfOk result (λ tip. IfSome tip (λ text. IsTipOf items.now (string_bytes text))) }
+    requires { is_note about.now ≡ true }
+    ensures { IfOk result (λ tip. IfSome tip (λ text. IsTipOf command items.now (string_bytes text))) }
 {
     let placed = place_all(alloc, command, items)?;
     graph_line(alloc, command, about, placed.as_slice())
 }
 
 /// The tip for items of a command over proxy folders that are placed, and this after it.
-#[tactic(auto, using(crate::proofs::TipLemmas::shown_as))]
+#[tactic(auto, using(crate::proofs::TipLemmas::shown_itself))]
 fn graph_line(
     alloc: Global,
     command: CommandName,
     about: &'static str,
     placed: &[Placed<'_>],
 ) -> Tip
-    ensures { IfOk result (λ tip. IfSome tip (λ text.
-        IsShown (is_over_file (name_in command)) placed.now (string_bytes text))) }
+    requires { is_note about.now ≡ true }
+    ensures { IfOk result (λ tip. IfSome tip (λ text. IsShown command placed.now (string_bytes text))) }
 {
-    shown(
-        alloc,
-        command_row(command).name,
-        &[],
-        &[CACHE],
-        (about_folder(placed), about),
-        placed,
-    )
+    shown(alloc, command, about_folder(placed), about, placed)
 }
 
 /// What is said of the proxy folders.
-fn about_folder(placed: &[Placed<'_>]) -> &'static str {
+fn about_folder(placed: &[Placed<'_>]) -> &'static str
+    ensures { is_note result.now ≡ true }
+{
     if has_cache_alone(placed) {
         ABOUT_CACHE
     } else {

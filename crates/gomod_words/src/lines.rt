@@ -1,16 +1,17 @@
 //! The command lines that tips show: their words, and how they are typed.
 
-ghost use Rattle.std.specs.Prelude.{◌≡◌, ◌++◌, IfOk, IfSome, OnOk, [], codes, flat_map, map};
+ghost use Rattle.std.specs.Prelude.{◌≡◌, ◌++◌, IfOk, IfSome, OnOk, [], codes, flat_map, map, true};
 ghost use Rattle.std.specs.String.{string_bytes};
-ghost use Rattle.gomod_words.specs.Private.Placed.{after_program, command_text, end_in, end_of, grouped, json_text, keeps_output, typed_line, or_else, proxy_words, second_of, shown_words};
-ghost use Rattle.gomod_words.specs.Private.Rows.{is_over_file};
-ghost use Rattle.gomod_words.specs.Private.Tips.{IsShown, IsTold};
+ghost use Rattle.gomod_words.specs.Private.Placed.{after_program, command_text, end_in, end_of, grouped, json_text, keeps_output, names_keeping, typed_line, or_else, proxy_words, second_of, shown_words, usual_files, usual_lists};
+ghost use Rattle.gomod_words.specs.Private.Tips.{IsTold, is_note};
 ghost use Rattle.gomod_words.specs.Typed.{left_text};
 ghost use Rattle.gomod_words.specs.declared.placed.Group.TheVariants.{Folders, Left, Lists, Operands, Options, Outputs};
 
 use crate::dashed::without_dashes;
+use crate::items::name_before;
 use crate::placed::{Group, Placed, grouped, has_json, push_operations};
-use crate::table::{OptionName, typed_option};
+use crate::table::{CommandName, OptionName, command_row, typed_option};
+use crate::rows::CACHE;
 use crate::typed::{followed, push_left};
 use crate::usage::is_command;
 use std::alloc::{AllocError, Global};
@@ -150,22 +151,39 @@ fn push_other_options(
     push_copies(alloc, texts, words.as_slice())
 }
 
+/// The FILE of a command over one file, if no item is.
+fn usual_files(command: CommandName) -> &'static [&'static str]
+    ensures { map (λ file. file.now) result.now ≡ usual_files command }
+{
+    match command {
+        CommandName::Fmt | CommandName::Edit => &["go.mod"],
+        _ => &[],
+    }
+}
+
+/// The proxy folder of another command, if no item is a list of them.
+fn usual_lists(command: CommandName) -> &'static [&'static str]
+    ensures { map (λ list. list.now) result.now ≡ usual_lists command }
+{
+    match command {
+        CommandName::Fmt | CommandName::Edit => &[],
+        _ => &[CACHE],
+    }
+}
+
 /// The words of a command line of gomod: the name of a command, FILE or PATH, `--proxy`, the other options and the
 /// operations.
 fn shown_words(
     alloc: Global,
-    name: &str,
-    files: &[&str],
-    folders: &[&str],
+    command: CommandName,
     placed: &[Placed<'_>],
 ) -> Result<Vec<String>, AllocError>
-    ensures { IfOk result (λ texts. map string_bytes texts.items ≡ shown_words name.now
-        (map (λ word. word.now) files.now) (map (λ list. list.now) folders.now) placed.now) }
+    ensures { IfOk result (λ texts. map string_bytes texts.items ≡ shown_words command placed.now) }
 {
     let mut texts = Vec::new(alloc);
-    push_copies(alloc, &mut texts, &["gomod", name])?;
-    push_files(alloc, &mut texts, files, placed)?;
-    push_proxy(alloc, &mut texts, folders, placed)?;
+    push_copies(alloc, &mut texts, &["gomod", command_row(command).name])?;
+    push_files(alloc, &mut texts, usual_files(command), placed)?;
+    push_proxy(alloc, &mut texts, usual_lists(command), placed)?;
     push_other_options(alloc, &mut texts, placed)?;
     push_operations(alloc, &mut texts, placed)?;
     Ok(texts)
@@ -181,11 +199,18 @@ fn second_of<'a>(words: &[&'a str]) -> &'a str
     }
 }
 
-/// Whether an option says that the output is kept in the file.
+/// Whether an option says by its name that the output is kept in the file.
 fn keeps_output(option: &str) -> bool
     ensures { result ≡ keeps_output option.now }
 {
-    matches!(without_dashes(option), "w" | "write" | "i" | "in-place")
+    names_keeping(name_before(without_dashes(option)))
+}
+
+/// Whether this is the name of an option that says that the output is kept in the file.
+fn names_keeping(name: &str) -> bool
+    ensures { result ≡ names_keeping name.now }
+{
+    matches!(name, "w" | "write" | "i" | "in-place")
 }
 
 /// What an option does with the output of a command over this file: it keeps it there, or shows the difference.
@@ -311,6 +336,8 @@ fn told(
     after: &str,
     placed: &[Placed<'_>],
 ) -> Result<Option<String>, AllocError>
+    requires before { is_note before.now ≡ true }
+    requires after { is_note after.now ≡ true }
     ensures { IfOk result (λ tip. IfSome tip (λ text.
         IsTold (map (λ word. word.now) words.now) placed.now (string_bytes text))) }
 {
@@ -332,21 +359,22 @@ fn push_notes(tip: &mut String, before: &str, json: &str, after: &str) -> Result
     tip.push_str(after)
 }
 
-/// The tip for items that are placed, with a command of this name. What is named here stands in the place of FILE or
-/// PATH, and of the lists of proxy folders, if no item does.
-#[tactic(auto, using(crate::proofs::TipLemmas::shown_by))]
+/// The tip for items that are placed: this command, and what is said of it.
+#[tactic(auto, using(crate::proofs::TipLemmas::told_of))]
 pub(crate) fn shown(
     alloc: Global,
-    name: &str,
-    files: &[&str],
-    lists: &[&str],
-    notes: (&str, &str),
+    command: CommandName,
+    before: &str,
+    after: &str,
     placed: &[Placed<'_>],
 ) -> Result<Option<String>, AllocError>
-    ensures { IfOk result (λ tip. IfSome tip (λ text. IsShown (is_over_file name.now) placed.now (string_bytes text))) }
+    requires before { is_note before.now ≡ true }
+    requires after { is_note after.now ≡ true }
+    ensures { IfOk result (λ tip. IfSome tip (λ text.
+        IsTold (shown_words command placed.now) placed.now (string_bytes text))) }
 {
-    let texts = shown_words(alloc, name, files, lists, placed)?;
+    let texts = shown_words(alloc, command, placed)?;
     let mut words = Vec::new(alloc);
     push_texts(&mut words, texts.as_slice())?;
-    told(alloc, words.as_slice(), notes.0, notes.1, placed)
+    told(alloc, words.as_slice(), before, after, placed)
 }

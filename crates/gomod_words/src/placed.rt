@@ -4,7 +4,6 @@
 ghost use Rattle.std.specs.Prelude.{◌≡◌, ◌∷◌, ◌++◌, All, IfOk, [], OnOk, codes, map};
 ghost use Rattle.std.specs.List.{list_any};
 ghost use Rattle.std.specs.String.{string_bytes};
-ghost use Rattle.gomod_words.specs.Table.{name_in};
 ghost use Rattle.gomod_words.specs.Private.Placed.{asks_for_json, grouped, is_of, omitted_by, operation_text, operations_by, placed_operations, option_words, part_words, release_words, undashed, words_by};
 ghost use Rattle.gomod_words.specs.Private.Rows.{Becomes, is_over_file};
 
@@ -57,7 +56,7 @@ pub(crate) fn place_all<'a>(
 ) -> Result<Vec<Placed<'a>>, AllocError>
     ensures all { IfOk result (λ placed. map (λ each. each.item) placed.items ≡ items.now) }
     ensures each { IfOk result (λ placed.
-        All (λ each. Becomes (is_over_file (name_in command)) each.item each.row) placed.items) }
+        All (λ each. Becomes (is_over_file command) each.item each.row) placed.items) }
 {
     let whole = Whole {
         is_input: names_input(command, items),
@@ -95,7 +94,7 @@ fn settled<'a>(
     command: CommandName,
     item: Item<'a>,
 ) -> Result<Row<'a>, AllocError>
-    ensures { IfOk result (λ row. Becomes (is_over_file (name_in command)) item.entry row) }
+    ensures { IfOk result (λ row. Becomes (is_over_file command) item.entry row) }
 {
     let row = row_of(command, item);
     if is_free(seen, whole, row)? {

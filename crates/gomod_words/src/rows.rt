@@ -1,10 +1,10 @@
 //! The table of what go users type: which command their words are for, and what becomes of each word.
 
-ghost use Rattle.std.specs.Prelude.{◌≡◌, ◌++◌, IfSome, Some, false, true};
+ghost use Rattle.std.specs.Prelude.{◌≡◌, IfSome, Some, false, true};
 ghost use Rattle.std.specs.Option.{option_copied};
-ghost use Rattle.gomod_words.specs.Table.{name_in};
 ghost use Rattle.gomod_words.specs.Private.Placed.{part_option, typed_option};
-ghost use Rattle.gomod_words.specs.Private.Rows.{Becomes, by_value, fits, is_operation_item, is_over_file, json_in, only_word, option_slot, other_slot, part_text, slot_named, slot_of};
+ghost use Rattle.gomod_words.specs.Private.Rows.{Becomes, IsRelease, by_value, fits, flag_text, is_off, is_operation_item, is_over_file, json_in, only_word, operates, option_slot, other_slot, part_text, slot_named, slot_of};
+ghost use Rattle.gomod_words.specs.Private.Tips.{is_on_path};
 ghost use Rattle.gomod_words.specs.declared.rows.Slot.TheVariants.{Operand};
 
 use crate::dashed::{begins_with_dash, is_operation_name, operation_in};
@@ -110,7 +110,7 @@ pub(crate) enum Slot {
     Format,
     /// A list of proxy folders.
     Proxy,
-    /// The module cache of the go command, where `--proxy` names no folder.
+    /// The module cache of the go command, if `--proxy` names no folder.
     Cache,
 }
 
@@ -134,11 +134,20 @@ pub(crate) const CACHE: &str = "~/go/pkg/mod/cache/download";
 
 /// What becomes of an item of this command.
 pub(crate) fn row_of<'a>(command: CommandName, item: Item<'a>) -> Row<'a>
-    ensures { Becomes (is_over_file (name_in command)) item.entry result }
+    ensures { Becomes (is_over_file command) item.entry result }
 {
-    if is_over_file(command) && is_typed_operation(item) {
-        return Row::Operation;
+    if operates(command, item) {
+        Row::Operation
+    } else {
+        part_of(command, item)
     }
+}
+
+/// What becomes of an item that is no operation of this command.
+fn part_of<'a>(command: CommandName, item: Item<'a>) -> Row<'a>
+    requires { operates (is_over_file command) item ≡ false }
+    ensures { Becomes (is_over_file command) item.entry result }
+{
     match slot_for(command, item) {
         Some(slot) => taken(command, slot, item),
         None => if is_known(item) {
@@ -152,7 +161,7 @@ pub(crate) fn row_of<'a>(command: CommandName, item: Item<'a>) -> Row<'a>
 /// The part that an item is, if the command takes it.
 fn slot_for(command: CommandName, item: Item<'_>) -> Option<Slot>
     ensures slot { IfSome result (λ slot. slot_of item.entry ≡ Some slot) }
-    ensures fits { IfSome result (λ slot. fits (is_over_file (name_in command)) slot ≡ true) }
+    ensures fits { IfSome result (λ slot. fits (is_over_file command) slot ≡ true) }
 {
     let slot = slot_in(item)?;
     if takes(command, slot) {
@@ -163,8 +172,8 @@ fn slot_for(command: CommandName, item: Item<'_>) -> Option<Slot>
 }
 
 /// Whether a command is over one file.
-fn is_over_file(command: CommandName) -> bool
-    ensures { result ≡ is_over_file (name_in command) }
+pub(crate) fn is_over_file(command: CommandName) -> bool
+    ensures { result ≡ is_over_file command }
 {
     match command {
         CommandName::Fmt | CommandName::Edit => true,
@@ -172,11 +181,23 @@ fn is_over_file(command: CommandName) -> bool
     }
 }
 
-/// Whether an item is an operation that has a value.
-fn is_typed_operation(item: Item<'_>) -> bool
-    ensures { result ≡ true → is_operation_item item.entry ≡ true }
+/// Whether a command is on one module.
+pub(crate) fn is_on_path(command: CommandName) -> bool
+    ensures { result ≡ is_on_path command }
 {
-    is_operation_item(item) && (name_in(item).is_none() || value_in(item).is_some())
+    match command {
+        CommandName::Chain | CommandName::Versions => true,
+        _ => false,
+    }
+}
+
+/// Whether an item is an operation, which has its value if it is an option, and the command takes it.
+fn operates(command: CommandName, item: Item<'_>) -> bool
+    ensures { result ≡ operates (is_over_file command) item.entry }
+{
+    is_over_file(command)
+        && is_operation_item(item)
+        && (name_in(item).is_none() || value_in(item).is_some())
 }
 
 /// Whether an item is an operation, with a dash or without.
@@ -257,7 +278,7 @@ fn by_value(slot: Slot, value: Option<&str>) -> Slot
 
 /// Whether a command has this part.
 fn takes(command: CommandName, slot: Slot) -> bool
-    ensures { result ≡ true → fits (is_over_file (name_in command)) slot ≡ true }
+    ensures { result ≡ true → fits (is_over_file command) slot ≡ true }
 {
     match command {
         CommandName::Fmt | CommandName::Edit => is_of_file(slot),
@@ -322,9 +343,10 @@ fn is_of_versions(slot: Slot) -> bool
 
 /// What becomes of an item that is this part of this command.
 fn taken<'a>(command: CommandName, slot: Slot, item: Item<'a>) -> Row<'a>
+    requires other { operates (is_over_file command) item ≡ false }
     requires slot { slot_of item ≡ Some slot }
-    requires fits { fits (is_over_file (name_in command)) slot ≡ true }
-    ensures { Becomes (is_over_file (name_in command)) item.entry result }
+    requires fits { fits (is_over_file command) slot ≡ true }
+    ensures { Becomes (is_over_file command) item.entry result }
 {
     match text_in(slot, item) {
         Some(text) => {
@@ -340,10 +362,11 @@ fn taken<'a>(command: CommandName, slot: Slot, item: Item<'a>) -> Row<'a>
 
 /// What becomes of an item that is this part of this command, with this text.
 fn part_row<'a>(command: CommandName, slot: Slot, item: Item<'a>, text: &'a str) -> Row<'a>
+    requires other { operates (is_over_file command) item ≡ false }
     requires slot { slot_of item ≡ Some slot }
     requires text { part_text slot item ≡ Some text.now }
-    requires fits { fits (is_over_file (name_in command)) slot ≡ true }
-    ensures { Becomes (is_over_file (name_in command)) item.entry result }
+    requires fits { fits (is_over_file command) slot ≡ true }
+    ensures { Becomes (is_over_file command) item.entry result }
 {
     match release_in(command, slot, text) {
         Some((path, version)) => Row::Release(path, version),
@@ -353,7 +376,9 @@ fn part_row<'a>(command: CommandName, slot: Slot, item: Item<'a>, text: &'a str)
 
 /// PATH and a version, if the part with this text is both.
 fn release_in<'a>(command: CommandName, slot: Slot, text: &'a str) -> Option<(&'a str, &'a str)>
-    ensures { IfSome result (λ parts. (slot ≡ Operand) × (text.now ≡ parts.0.now ++ parts.1.now)) }
+    ensures file { IfSome result (λ parts. is_over_file command ≡ false) }
+    ensures slot { IfSome result (λ parts. slot ≡ Operand) }
+    ensures parts { IfSome result (λ parts. IsRelease text.now parts.0.now parts.1.now) }
 {
     match slot {
         Slot::Operand => if is_over_file(command) {
@@ -367,9 +392,12 @@ fn release_in<'a>(command: CommandName, slot: Slot, text: &'a str) -> Option<(&'
 
 /// A text in two, before its first `@`.
 fn at_version(text: &str) -> Option<(&str, &str)>
-    ensures { IfSome result (λ parts. text.now ≡ parts.0.now ++ parts.1.now) }
+    ensures { IfSome result (λ parts. IsRelease text.now parts.0.now parts.1.now) }
 {
-    Some(text.split_at(text.find('@')?))
+    match text.find('@') {
+        Some(at) => Some(text.split_at(at)),
+        None => None,
+    }
 }
 
 /// The text of an item that is this part.
@@ -382,8 +410,26 @@ fn text_in<'a>(slot: Slot, item: Item<'a>) -> Option<&'a str>
         Slot::After | Slot::Limit | Slot::Folder | Slot::Proxy => value_in(item),
         Slot::Format => json_in(value_in(item)?),
         Slot::Cache => Some(CACHE),
-        _ => only_word(item),
+        Slot::Operand => only_word(item),
+        _ => flag_text(item),
     }
+}
+
+/// The word of a flag, unless its value says that it asks for nothing.
+fn flag_text<'a>(item: Item<'a>) -> Option<&'a str>
+    ensures { option_copied result ≡ flag_text item.entry }
+{
+    match value_in(item) {
+        Some(value) => if is_off(value) { None } else { only_word(item) },
+        None => only_word(item),
+    }
+}
+
+/// Whether a flag asks for nothing by this value.
+fn is_off(value: &str) -> bool
+    ensures { result ≡ is_off value.now }
+{
+    matches!(value, "false" | "0")
 }
 
 /// The word, unless it is two.

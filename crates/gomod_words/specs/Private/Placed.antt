@@ -1,11 +1,11 @@
 -- The command lines that are made of what becomes of each item of another one.
-use Rattle.std.specs.Prelude.{◌||◌, ◌∷◌, ◌++◌, if◌then◌else◌, ℕ, Bool, List, [], Option, Some, codes, false, flat_map, slice_get, true, unwrap_or}
-use Rattle.std.specs.List.{list_any}
+use Rattle.std.specs.Prelude.{◌++◌, ◌||◌, ◌∷◌, Bool, List, Option, Some, [], codes, false, flat_map, if◌then◌else◌, slice_get, true, unwrap_or, ℕ}
+use Rattle.std.specs.List.{before_first, list_any}
 use Rattle.std.specs.Str.{bytes_eq}
 use Rattle.clap.specs.Walk.{Text}
 use Rattle.gomod_words.specs.Dashed.{operation_in, without_dashes}
-use Rattle.gomod_words.specs.Private.Items.{item_words}
-use Rattle.gomod_words.specs.Table.{option_text}
+use Rattle.gomod_words.specs.Private.Items.{is_equals, item_words}
+use Rattle.gomod_words.specs.Table.{name_in, option_text}
 use Rattle.gomod_words.specs.Typed.{typed_words}
 use Rattle.gomod_words.specs.declared.items.Item.{Item}
 use Rattle.gomod_words.specs.declared.items.Item.TheVariants.{Word, Pair}
@@ -18,6 +18,8 @@ use Rattle.gomod_words.specs.declared.rows.Slot.{Slot}
 use Rattle.gomod_words.specs.declared.rows.Slot.TheVariants.{Operand, Main, Sums, After, Limit, Retracted, Folder, Output, Json, Format, Proxy, Cache}
 use Rattle.gomod_words.specs.declared.table.OptionName.{OptionName}
 use Rattle.gomod_words.specs.declared.table.OptionName.TheVariants as o
+use Rattle.gomod_words.specs.declared.table.CommandName.{CommandName}
+use Rattle.gomod_words.specs.declared.table.CommandName.TheVariants as n
 
 -- an option as it is typed
 abbrev pub typed_option : OptionName → Text
@@ -104,10 +106,14 @@ json_text placed =
     if list_any (λ each. asks_for_json each.row) placed
     then codes "\n       for JSON see docs/use/RECIPES.md, which makes it of the rows" else []
 
--- an option that says that the output is kept in the file, and not compared with it
+-- the name of an option that says that the output is kept in the file
+abbrev pub names_keeping : Text → Bool
+names_keeping name = bytes_eq name (codes "w") || (bytes_eq name (codes "write")
+    || (bytes_eq name (codes "i") || bytes_eq name (codes "in-place")))
+
+-- an option says by its name that the output is kept in the file, and not compared with it
 abbrev pub keeps_output : Text → Bool
-keeps_output option = bytes_eq (without_dashes option) (codes "w") || (bytes_eq (without_dashes option) (codes "write")
-    || (bytes_eq (without_dashes option) (codes "i") || bytes_eq (without_dashes option) (codes "in-place")))
+keeps_output option = names_keeping (before_first is_equals (without_dashes option))
 
 -- what an option does with the output of a command over this file
 abbrev pub end_of : Text → Text → List ℕ
@@ -129,12 +135,25 @@ abbrev pub proxy_words : List Text → List Text
 proxy_words [] = []
 proxy_words (first ∷ lists) = typed_option o.Proxy ∷ (first ++ flat_map (λ list. codes "," ++ list) lists) ∷ []
 
+-- the FILE of a command over one file, if no item is
+abbrev pub usual_files : CommandName → List Text
+usual_files n.Fmt = codes "go.mod" ∷ []
+usual_files n.Edit = codes "go.mod" ∷ []
+usual_files _ = []
+
+-- the proxy folder of another command, if no item is a list of them
+abbrev pub usual_lists : CommandName → List Text
+usual_lists n.Fmt = []
+usual_lists n.Edit = []
+usual_lists _ = codes "~/go/pkg/mod/cache/download" ∷ []
+
 -- The words of a command line of gomod: the name of a command, FILE or PATH, `--proxy`, the other options and the
--- operations. If no item is FILE or PATH, or a list of proxy folders, others stand there.
-abbrev pub shown_words : Text → List Text → List Text → List Placed → List Text
-shown_words name files lists placed =
-    (codes "gomod" ∷ name ∷ []) ++ or_else files (grouped g.Operands placed)
-    ++ proxy_words (or_else lists (grouped g.Lists placed)) ++ grouped g.Options placed ++ placed_operations placed
+-- operations.
+abbrev pub shown_words : CommandName → List Placed → List Text
+shown_words command placed =
+    (codes "gomod" ∷ name_in command ∷ []) ++ or_else (usual_files command) (grouped g.Operands placed)
+    ++ proxy_words (or_else (usual_lists command) (grouped g.Lists placed)) ++ grouped g.Options placed
+    ++ placed_operations placed
 
 -- the words after the program's name
 abbrev pub after_program : List Text → List Text

@@ -1,7 +1,7 @@
 -- What may become of an item of a command line that is meant for another one.
-use Rattle.std.specs.Prelude.{◌≡◌, ◌||◌, ◌∷◌, ◌++◌, if◌then◌else◌, Bool, List, [], Option, None, Some, codes, find, is_some, true, unwrap_or}
-use Rattle.std.specs.Option.{option_and_then, option_map, option_or}
-use Rattle.std.specs.List.{list_any}
+use Rattle.std.specs.Prelude.{◌&&◌, ◌++◌, ◌<◌, ◌==◌, ◌||◌, ◌∷◌, ◌≡◌, Bool, List, None, Option, Some, [], codes, false, find, if◌then◌else◌, is_none, is_some, length, not, true, unwrap_or, ℕ}
+use Rattle.std.specs.Option.{option_and_then, option_map, option_map_or, option_or}
+use Rattle.std.specs.List.{before_first, list_any}
 use Rattle.std.specs.Str.{bytes_eq}
 use Rattle.clap.specs.Walk.{Text}
 use Rattle.gomod_words.specs.Dashed.{is_operation_name, operation_in}
@@ -15,6 +15,8 @@ use Rattle.gomod_words.specs.declared.rows.Slot.{Slot}
 use Rattle.gomod_words.specs.declared.rows.Slot.TheVariants.{Operand, Main, Sums, After, Limit, Retracted, Folder, Output, Print, Json, Format, Proxy, Cache}
 use Rattle.gomod_words.specs.declared.table.OptionName.{OptionName}
 use Rattle.gomod_words.specs.declared.table.OptionName.TheVariants as o
+use Rattle.gomod_words.specs.declared.table.CommandName.{CommandName}
+use Rattle.gomod_words.specs.declared.table.CommandName.TheVariants as n
 
 -- the part of a command line that an option of gomod is
 abbrev pub option_slot : OptionName → Slot
@@ -63,6 +65,14 @@ abbrev pub only_word : Item → Option Text
 only_word (Word word) = Some word.now
 only_word (Pair option value) = None
 
+-- a value by which a flag asks for nothing
+abbrev pub is_off : Text → Bool
+is_off value = bytes_eq value (codes "false") || bytes_eq value (codes "0")
+
+-- the word of a flag, unless its value says that it asks for nothing
+abbrev pub flag_text : Item → Option Text
+flag_text item = if option_map_or is_off (option_value item) false then None else only_word item
+
 -- the value, if it asks for JSON
 abbrev pub json_in : Text → Option Text
 json_in value = if bytes_eq value (codes "json") then Some value else None
@@ -77,15 +87,22 @@ part_text Folder item = option_value item
 part_text Proxy item = option_value item
 part_text Format item = option_and_then json_in (option_value item)
 part_text Cache item = Some (codes "~/go/pkg/mod/cache/download")
-part_text slot item = only_word item
+part_text Operand item = only_word item
+part_text slot item = flag_text item
 
--- the name of a command over one file, which prints that file
-abbrev pub is_over_file : Text → Bool
-is_over_file name = bytes_eq name (codes "fmt") || bytes_eq name (codes "edit")
+-- a command over one file, which prints that file
+abbrev pub is_over_file : CommandName → Bool
+is_over_file n.Fmt = true
+is_over_file n.Edit = true
+is_over_file _ = false
 
--- a command does what the part asks for, though nothing shows of it, where the flag says that it is over one file
+-- A command can do what the part asks for, if the parser does not see that part. The flag says that the command is over
+-- one file: it prints that file, its output can be kept or compared, and there is nothing that JSON could show.
 abbrev pub fits : Bool → Slot → Bool
 fits is_file Print = is_file
+fits is_file Output = is_file
+fits is_file Json = not is_file
+fits is_file Format = not is_file
 fits is_file slot = true
 
 -- the item is an operation, with a dash or without
@@ -93,12 +110,34 @@ abbrev pub is_operation_item : Item → Bool
 is_operation_item (Word word) = is_some (operation_in word.now)
 is_operation_item (Pair option value) = is_operation_name option.now
 
--- This may become of an item: it is the part that it names, with its text; PATH and a version; an operation; or it is
--- named as left out. The flag says that the command is over one file.
+-- the item is an operation that has its value, if it is an option, and the command, which is over one file, takes it
+abbrev pub operates : Bool → Item → Bool
+operates is_file item =
+    is_file && (is_operation_item item && (is_none (option_name item) || is_some (option_value item)))
+
+-- the sign `@`, between PATH and a version
+abbrev pub is_at : ℕ → Bool
+is_at b = b == 64
+
+-- a word is PATH, which ends before its first `@`, and a version
+pub record IsRelease (word path version : Text) : Type 0 where
+  pub whole : word ≡ path ++ version
+  pub first : path ≡ before_first is_at word
+  pub has_version : 0 < length version
+
+-- a word is PATH and a version, if there is one
+abbrev pub IsReleaseOf : Option Text → Text → Text → Type 0
+IsReleaseOf None path version = ⊥
+IsReleaseOf (Some word) path version = IsRelease word path version
+
+-- This may become of an item: an operation, which it is; or, of another one, the part that it names, with its text; or
+-- PATH and a version, if it is a word and not FILE; or it is named as left out. The flag says that the command is over
+-- one file.
 abbrev pub Becomes : Bool → Item → Row → Type 0
-Becomes is_file item (Part slot text) =
-    (slot_of item ≡ Some slot) × (part_text slot item ≡ Some text.now) × (fits is_file slot ≡ true)
-Becomes is_file item (Release path version) = only_word item ≡ Some (path.now ++ version.now)
-Becomes is_file item Operation = is_operation_item item ≡ true
+Becomes is_file item Operation = operates is_file item ≡ true
+Becomes is_file item (Part slot text) = (operates is_file item ≡ false) × (slot_of item ≡ Some slot)
+    × (part_text slot item ≡ Some text.now) × (fits is_file slot ≡ true)
+Becomes is_file item (Release path version) = (is_file ≡ false) × (slot_of item ≡ Some Operand)
+    × IsReleaseOf (only_word item) path.now version.now
 Becomes is_file item LeftOut = Unit {0}
 Becomes is_file item Unknown = Unit {0}

@@ -1,5 +1,6 @@
 -- What a tip accounts for.
 use Rattle.std.specs.Prelude.{◌≡◌, ◌&&◌, ◌∷◌, ◌++◌, if◌then◌else◌, ℕ, All, Bool, true, false, List, [], codes, flat_map, map, not}
+use Rattle.std.specs.List.{list_any}
 use Rattle.std.specs.Str.{bytes_eq}
 use Rattle.clap.specs.Walk.{Text}
 use Rattle.gomod_words.specs.Dashed.{begins_with_dash, without_dashes}
@@ -11,34 +12,65 @@ use Rattle.gomod_words.specs.declared.items.Item.{Item}
 use Rattle.gomod_words.specs.declared.items.Item.TheVariants.{Word}
 use Rattle.gomod_words.specs.declared.placed.Group.TheVariants as g
 use Rattle.gomod_words.specs.declared.placed.Placed.{Placed}
+use Rattle.gomod_words.specs.declared.table.CommandName.{CommandName}
+use Rattle.gomod_words.specs.declared.table.CommandName.TheVariants as n
+
+-- what may be said of a command line, on lines of its own
+abbrev pub notes : List Text
+notes =
+    [] ∷ codes "\n       the module cache of go; any folder with the layout of a GOPROXY server will do"
+    ∷ codes "\n       prints the modules; name one of them as PATH"
+    ∷ codes "\n       'gomod edit --help' lists the operations" ∷ []
+
+-- the text is one of these, or nothing is said
+abbrev pub is_note : Text → Bool
+is_note text = list_any (bytes_eq text) notes
 
 -- The tip is a command line of these words, which asks for something, what is said of it, with what is said of JSON if
 -- something asks for that, and what is left out of the items.
 pub record IsTold (words : List Text) (placed : List Placed) (tip : List ℕ) : Type 0 where
-  pub before : List ℕ
-  pub after : List ℕ
+  pub before : Text
+  pub after : Text
+  pub note : is_note before ≡ true
+  pub last_note : is_note after ≡ true
   pub asks : AskForSomething words
   pub says : tip ≡ command_text (grouped g.Folders placed) (after_program words)
       (end_in (second_of (after_program words)) (grouped g.Outputs placed))
       ++ before ++ json_text placed ++ after ++ left_text (grouped g.Left placed)
 
--- The tip is a command line of gomod that is made of the items. The flag says whether its command is over one file.
-pub record IsShown (is_file : Bool) (placed : List Placed) (tip : List ℕ) : Type 0 where
-  pub name : Text
-  pub files : List Text
-  pub lists : List Text
-  pub kind : is_over_file name ≡ is_file
-  pub told : IsTold (shown_words name files lists placed) placed tip
+-- a command on one module
+abbrev pub is_on_path : CommandName → Bool
+is_on_path n.Chain = true
+is_on_path n.Versions = true
+is_on_path _ = false
 
--- Something becomes of each item that it may become, and the tip is made of that: the item is FILE or PATH, a list of
--- proxy folders, an option, an operation, the folder to go to first or what is done with the output; or it asks for
--- JSON, which the tip speaks of, or for a print, which the command does; or it is named as left out.
-pub record IsTipOf (items : List Item) (tip : List ℕ) : Type 0 where
-  pub is_file : Bool
+-- The tip for the first command shows the second: itself, `fmt` or `edit` for each of the two, or `list` for one on a
+-- module.
+abbrev pub stands_for : CommandName → CommandName → Bool
+stands_for n.Fmt name = is_over_file name
+stands_for n.Edit name = is_over_file name
+stands_for n.Graph n.Graph = true
+stands_for n.List n.List = true
+stands_for n.Chain n.Chain = true
+stands_for n.Chain n.List = true
+stands_for n.Versions n.Versions = true
+stands_for n.Versions n.List = true
+stands_for _ _ = false
+
+-- the tip for this command is a command line of gomod that is made of the items
+pub record IsShown (command : CommandName) (placed : List Placed) (tip : List ℕ) : Type 0 where
+  pub name : CommandName
+  pub stands : stands_for command name ≡ true
+  pub told : IsTold (shown_words name placed) placed tip
+
+-- Something becomes of each item that it may become, and the tip for this command is made of that: the item is FILE or
+-- PATH, a list of proxy folders, an option, an operation, the folder to go to first or what is done with the output; or
+-- it asks for JSON, which the tip speaks of, or for a print, which the command does; or it is named as left out.
+pub record IsTipOf (command : CommandName) (items : List Item) (tip : List ℕ) : Type 0 where
   pub placed : List Placed
   pub all : map (λ each. each.item) placed ≡ items
-  pub each : All (λ each. Becomes is_file each.item each.row) placed
-  pub shown : IsShown is_file placed tip
+  pub each : All (λ each. Becomes (is_over_file command) each.item each.row) placed
+  pub shown : IsShown command placed tip
 
 -- the option `-versions`, which names a command of gomod
 abbrev pub is_versions : Item → Bool
@@ -63,7 +95,7 @@ abbrev pub is_mod : Item → Bool
 is_mod (Word word) = bytes_eq word.now (codes "mod")
 is_mod _ = false
 
--- the items without the command, where the flag says that the next word is the command
+-- The items without the command. The flag says that the next word is the command.
 abbrev pub without_name_from : Bool → List Item → List Item
 without_name_from is_next [] = []
 without_name_from is_next (item ∷ items) =
