@@ -1,7 +1,9 @@
 //! The table of what go users type: which command their words are for, and what becomes of each word.
 
 ghost use Rattle.std.specs.Prelude.{◌≡◌, IfSome, Some, false, true};
+ghost use Rattle.std.specs.List.{list_any};
 ghost use Rattle.std.specs.Option.{option_copied};
+ghost use Rattle.std.specs.Str.{bytes_eq};
 ghost use Rattle.gomod_words.specs.Private.Placed.{part_option, typed_option};
 ghost use Rattle.gomod_words.specs.Private.Rows.{Becomes, IsRelease, by_value, fits, flag_text, is_off, is_operation_item, is_over_file, json_in, only_word, operates, option_slot, other_slot, part_text, slot_named, slot_of};
 ghost use Rattle.gomod_words.specs.Private.Tips.{is_on_path};
@@ -220,6 +222,13 @@ fn slot_in(item: Item<'_>) -> Option<Slot>
     }
 }
 
+/// Whether a text is one of these names.
+fn is_among(name: &str, names: &[&str]) -> bool
+    ensures { result ≡ list_any (λ each. bytes_eq name.now each.now) names.now }
+{
+    names.iter().any(|each| name == *each)
+}
+
 /// The part of a command line that an option with this name is.
 fn slot_named(name: &str) -> Option<Slot>
     ensures { result ≡ slot_named name.now }
@@ -250,15 +259,23 @@ fn option_slot(option: OptionName) -> Slot
 fn other_slot(name: &str) -> Option<Slot>
     ensures { result ≡ other_slot name.now }
 {
-    match name {
-        "modfile" => Some(Slot::Main),
-        "C" => Some(Slot::Folder),
-        "w" | "write" | "i" | "in-place" => Some(Slot::Output),
-        "d" | "diff" | "l" | "check" => Some(Slot::Output),
-        "print" | "fmt" => Some(Slot::Print),
-        "json" => Some(Slot::Json),
-        "format" | "output" | "o" => Some(Slot::Format),
-        _ => None,
+    if is_among(name, &["modfile"]) {
+        Some(Slot::Main)
+    } else if is_among(name, &["C"]) {
+        Some(Slot::Folder)
+    } else if is_among(
+        name,
+        &["w", "write", "i", "in-place", "d", "diff", "l", "check"],
+    ) {
+        Some(Slot::Output)
+    } else if is_among(name, &["print", "fmt"]) {
+        Some(Slot::Print)
+    } else if is_among(name, &["json"]) {
+        Some(Slot::Json)
+    } else if is_among(name, &["format", "output", "o"]) {
+        Some(Slot::Format)
+    } else {
+        None
     }
 }
 
@@ -479,11 +496,13 @@ fn is_known(item: Item<'_>) -> bool {
 
 /// Whether this is the name of an option of gomod or of go.
 fn names_known(name: &str) -> bool {
-    match name {
-        "modfile" | "json" | "m" | "versions" | "u" | "f" => true,
-        "v" | "x" | "vendor" | "deps" | "test" => true,
-        _ => option_named(name).is_some(),
-    }
+    option_named(name).is_some()
+        || is_among(
+            name,
+            &[
+                "modfile", "json", "m", "versions", "u", "f", "v", "x", "vendor", "deps", "test",
+            ],
+        )
 }
 
 /// Whether `go mod edit` alone has what an option asks for.

@@ -32,8 +32,11 @@ abbrev pub other_slots : List (List Text × Slot)
 other_slots =
     (codes "modfile" ∷ [], Main)
     ∷ (codes "C" ∷ [], Folder)
-    ∷ (codes "w" ∷ codes "write" ∷ codes "i" ∷ codes "in-place" ∷ [], Output)
-    ∷ (codes "d" ∷ codes "diff" ∷ codes "l" ∷ codes "check" ∷ [], Output)
+    ∷ (
+      codes "w" ∷ codes "write" ∷ codes "i" ∷ codes "in-place"
+          ∷ codes "d" ∷ codes "diff" ∷ codes "l" ∷ codes "check" ∷ [],
+      Output,
+    )
     ∷ (codes "print" ∷ codes "fmt" ∷ [], Print)
     ∷ (codes "json" ∷ [], Json)
     ∷ (codes "format" ∷ codes "output" ∷ codes "o" ∷ [], Format) ∷ []
