@@ -47,7 +47,6 @@ type Tip = Result<Option<String>, AllocError>;
 
 /// The usage error for words that the parser refuses with an error of this kind and this text. It says what to type,
 /// if that is known.
-#[tactic(auto, using(crate::proofs::UsageLines::line_shows))]
 pub(crate) fn advised(alloc: Global, kind: ErrorKind, text: &str, words: &[&str]) -> UsageFault
     ensures kind { is_line_or_memory result ≡ true }
     ensures usage { ShowsLine (usage_of (map (λ word. word.now) words.now)) result }

@@ -181,12 +181,25 @@ fn shown_words(
     ensures { IfOk result (λ texts. map string_bytes texts.items ≡ shown_words command placed.now) }
 {
     let mut texts = Vec::new(alloc);
-    push_copies(alloc, &mut texts, &["gomod", command_row(command).name])?;
-    push_files(alloc, &mut texts, usual_files(command), placed)?;
-    push_proxy(alloc, &mut texts, usual_lists(command), placed)?;
-    push_other_options(alloc, &mut texts, placed)?;
-    push_operations(alloc, &mut texts, placed)?;
+    push_shown_words(alloc, &mut texts, command, placed)?;
     Ok(texts)
+}
+
+/// Appends the words of a command line of gomod.
+fn push_shown_words(
+    alloc: Global,
+    texts: &mut Vec<String>,
+    command: CommandName,
+    placed: &[Placed<'_>],
+) -> Result<(), AllocError>
+    ensures { OnOk result (map string_bytes texts.new.items
+        ≡ map string_bytes texts.old.items ++ shown_words command placed.now) }
+{
+    push_copies(alloc, texts, &["gomod", command_row(command).name])?;
+    push_files(alloc, texts, usual_files(command), placed)?;
+    push_proxy(alloc, texts, usual_lists(command), placed)?;
+    push_other_options(alloc, texts, placed)?;
+    push_operations(alloc, texts, placed)
 }
 
 /// The word after a command's name. Without one it is `go.mod`.

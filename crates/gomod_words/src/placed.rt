@@ -97,23 +97,20 @@ fn settled<'a>(
     ensures { IfOk result (λ row. Becomes (is_over_file command) item.entry row) }
 {
     let row = row_of(command, item);
-    if is_free(seen, whole, row)? {
-        Ok(row)
-    } else {
-        Ok(Row::LeftOut)
+    match slot_of(row) {
+        Some(slot) => if is_free(seen.as_slice(), whole, slot) {
+            seen.push(slot)?;
+            Ok(row)
+        } else {
+            Ok(Row::LeftOut)
+        },
+        None => Ok(row),
     }
 }
 
-/// Whether the place of this is free, after those that have filled these slots. It is filled then.
-fn is_free(seen: &mut Vec<Slot>, whole: Whole, row: Row<'_>) -> Result<bool, AllocError> {
-    let Some(slot) = slot_of(row) else {
-        return Ok(true);
-    };
-    if is_void(whole, slot) || seen.iter().any(|filled| *filled == slot) {
-        return Ok(false);
-    }
-    seen.push(slot)?;
-    Ok(true)
+/// Whether there is a place for this slot, after those that are filled.
+fn is_free(seen: &[Slot], whole: Whole, slot: Slot) -> bool {
+    !is_void(whole, slot) && !seen.iter().any(|filled| *filled == slot)
 }
 
 /// Whether all items together leave nothing for this slot.
