@@ -10,8 +10,8 @@ ghost use Rattle.gomod_words.specs.declared.placed.Group.TheVariants.{Folders, L
 use crate::dashed::without_dashes;
 use crate::items::name_before;
 use crate::placed::{Group, Placed, grouped, has_json, push_operations};
-use crate::table::{CommandName, OptionName, command_row, typed_option};
 use crate::rows::CACHE;
+use crate::table::{CommandName, OptionName, command_row, typed_option};
 use crate::typed::{followed, push_left};
 use crate::usage::is_command;
 use std::alloc::{AllocError, Global};
