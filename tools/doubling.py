@@ -113,8 +113,8 @@ def lines(count):
 
 
 def long_lines(count):
-    """A main file of so many requirements with long paths in quotes."""
-    return {"go.mod": main_of(numbered(count, '"a.c/{:0100}" v1.0.0'))}
+    """A main file of so many requirements with paths of a thousand bytes in quotes."""
+    return {"go.mod": main_of(numbered(count, '"a.c/{:01000}" v1.0.0'))}
 
 
 PROXY = "--proxy proxy"
@@ -124,7 +124,7 @@ ROWS = [
     Row("bytes of a comment", 200_000, "fmt go.mod", lambda n: {"go.mod": "//" + "x" * n}),
     Row("lines", 2000, "edit go.mod require=a.c/0@v1.1.0 droprequire=a.c/1 go=1.22", lines),
     Row("operations", 1000, "edit go.mod *go=1.22", lambda n: {"go.mod": "module example.com/m\n"}),
-    # so few that to look at the key of each line for each operation takes little, and to look at its words much
+    # so few and so long that to look at the key of each line for each operation takes little, and at its words much
     Row("lines and operations", 20, "edit go.mod *droprequire=a.c/x", long_lines),
     Row("modules", 200, f"list {PROXY}", wide),
     Row("modules with sums", 200, f"list {PROXY} --sum go.sum --limit 1", wide),
