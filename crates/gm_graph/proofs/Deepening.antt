@@ -77,7 +77,7 @@ leads_to_deep run x Deep y taken to = from_deep {x = x} taken (to.file, to.says,
 
 -- ---- when more was asked for
 
-module _ {main : Main} {sums : Option Sums} {pairs longer : List (Name × Reply)}
+module _ {main : Main} {sums : Option Sums} (pairs longer : List (Name × Reply))
     (keeps : KeepsSayings (run_of main sums pairs) (run_of main sums longer)) where
   abbrev earlier : Run
   earlier = run_of main sums pairs

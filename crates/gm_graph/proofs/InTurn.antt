@@ -92,7 +92,7 @@ module _ {main : Main} {sums : Option Sums} {cache : Cache} {worklist : Worklist
   keeps = says_still main sums old.asked new.asked vertex adds_file
 
   still_takes : TakesTurn later vertex one.depth
-  still_takes = IsValidTurn-kept keeps vertex one.depth takes
+  still_takes = IsValidTurn-kept old.asked new.asked keeps vertex one.depth takes
 
   asked_more : AskedInTurn (LoadingNeeds main sums) old.asked → AskedInTurn (LoadingNeeds main sums) new.asked
   asked_more before = elim adds_file [
@@ -123,7 +123,7 @@ module _ {main : Main} {sums : Option Sums} {cache : Cache} {worklist : Worklist
   pub many_in_turn : OverflowsAt (run_in cache new.asked) turns vertex one.depth → IsRead later × AreTooMany later
   many_in_turn over =
       let many = by_run (λ (run : Run). OverflowsAt run turns vertex one.depth) cache new.asked state.main_is state.sums_are over in
-      (many.0, many_followed keeps vertex one.depth still_takes turns state.visited.first.valid many.1)
+      (many.0, many_followed old.asked new.asked keeps vertex one.depth still_takes turns state.visited.first.valid many.1)
 
   -- It was visited.
   module _ {end : Cache} {made : Worklist} {marks : Followed} {found : Findings}
@@ -160,7 +160,7 @@ module _ {main : Main} {sums : Option Sums} {cache : Cache} {worklist : Worklist
     found_more = record {
       opened = λ n w. elim (is.adds.finds.only n w) [
         | inl was ↦ (let before_it = state.found.opened n was in
-            opened_still n before_it.0 (opened_kept keeps (module_numbered cache n) before_it.1))
+            opened_still n before_it.0 (opened_kept old.asked new.asked keeps (module_numbered cache n) before_it.1))
         | inr same ↦ subst (λ (m : ℕ). (m < length (table_in end)) × IsOpened later (module_numbered end m)) (sym same)
             (opened_still one.number within (opened_from later vertex one.depth still_takes))
       ];
@@ -188,6 +188,6 @@ module _ {main : Main} {sums : Option Sums} {cache : Cache} {worklist : Worklist
       lent = lent_more (turns_in cache) (turns_in end) turns after_it visits.extends.0 at (turn vertex one.depth) state.lent is.turns visits.extends.1
           inside there;
       visited = subst (λ (front : List Turn). AreVisited later after_it front) (sym is.turns)
-          (visited_more keeps vertex one.depth still_takes after_it state.visited visits);
+          (visited_more old.asked new.asked keeps vertex one.depth still_takes after_it state.visited visits);
       found = found_more;
     }

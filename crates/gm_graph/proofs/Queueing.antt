@@ -32,7 +32,7 @@ many_first run over = (
 
 -- ---- when more was asked for
 
-module _ {main : Main} {sums : Option Sums} {pairs longer : List (Name × Reply)}
+module _ {main : Main} {sums : Option Sums} (pairs longer : List (Name × Reply))
     (keeps : KeepsSayings (run_of main sums pairs) (run_of main sums longer)) (x : ModuleVersion) (depth : Depth)
     (takes : TakesTurn (run_of main sums longer) x depth) where
   abbrev earlier : Run
@@ -48,13 +48,13 @@ module _ {main : Main} {sums : Option Sums} {pairs longer : List (Name × Reply)
     first = record {
       tops = λ y t. along old new (turn y (depth_by (is_pruned_by main.go))) follows.extends (visited.first.tops y t);
       valid = λ next there. elim (follows.only next there) [
-        | inl in_old ↦ IsValidTurn-kept keeps next.vertex next.depth (visited.first.valid next in_old)
+        | inl in_old ↦ IsValidTurn-kept pairs longer keeps next.vertex next.depth (visited.first.valid next in_old)
         | inr found ↦ subst (λ (t : Turn). TakesTurn later t.vertex t.depth) (sym found.2)
             (leads_to_deep later x depth found.0 takes found.1)
       ];
     };
     done = λ next there. elim (Contains-push_cases front (turn x depth) next there) [
-      | inl was ↦ done_along later old new next follows.extends (IsDone-kept keeps old next (visited.done next was))
+      | inl was ↦ done_along later old new next follows.extends (IsDone-kept pairs longer keeps old next (visited.done next was))
       | inr same ↦ subst (λ (t : Turn). IsDone later new t) same follows.done
     ];
   }
@@ -66,7 +66,7 @@ module _ {main : Main} {sums : Option Sums} {pairs longer : List (Name × Reply)
     record {
       once = over.2;
       each = λ y h. elim (over.3 y h) [
-        | inl one ↦ opened_from later y one.0 (IsValidTurn-kept keeps y one.0 (valid (turn y one.0) one.1))
+        | inl one ↦ opened_from later y one.0 (IsValidTurn-kept pairs longer keeps y one.0 (valid (turn y one.0) one.1))
         | inr required ↦ inr (leads_to_deep later x depth y takes (record { file = file; says = says; leads = leads; requires = required }))
       ];
     },

@@ -155,11 +155,11 @@ module _ (cache : Cache) (run : Run) (old : Worklist) (marks : Followed) (one : 
   }
 
 -- So the turn was visited.
-pub turn_visited : {old new : Cache} {earlier pairs : List (Name × Reply)} {before after : Worklist} {marks : Followed}
-    {found more : Findings} {one : NumberedTurn} {seen : Visit} (result : Result (Unit {0}) LoadFault)
+pub turn_visited : {old new : Cache} {earlier pairs : List (Name × Reply)} (before after : Worklist) (marks : Followed)
+    (found more : Findings) {one : NumberedTurn} {seen : Visit} (result : Result (Unit {0}) LoadFault)
     → HasVisited old earlier new pairs one.number one.depth seen
     → OnOk result (AddsTurn new (run_in new pairs) before after marks found more one)
     → OnOk result (IsTurnVisited old new earlier pairs before after marks found more one)
-turn_visited (Err fault) has adds = tt
-turn_visited (Ok u) has adds =
+turn_visited before after marks found more (Err fault) has adds = tt
+turn_visited before after marks found more (Ok u) has adds =
     record { knows = has.knows; count = has.count; continues = has.continues; turns = has.turns; adds = adds }

@@ -37,7 +37,8 @@ returns-in-Ok-Required-clause-visited g c =
     let run = run_in end (g.F.Asks.state c.visit.new.files).asked in
     let one = c.args.one in
     let has = got c.in-Ok-Required.is c.in-Ok-Required.field-0-is c.visit.follows.holds-at-none in
-    turn_visited c.add_requirements.result has
+    turn_visited c.args.worklist.now c.add_requirements.new.worklist c.add_requirements.new.followed c.args.findings.now
+    c.add_requirements.new.findings c.add_requirements.result has
     (c.add_requirements.ensures.adds end run (ready_after c.requires.ready has)
     (number_below (table_in old) (table_in end) one.number has.continues.numbered c.requires.below)
     (subst (λ (x : ModuleVersion). IsVisit end run x one.depth (visit.Required c.in-Ok-Required.required))
@@ -61,7 +62,7 @@ returns-in-Ok-Fault-clause-visited g c =
     let run = run_in end (g.F.Asks.state c.visit.new.files).asked in
     let one = c.args.one in
     let has = got c.in-Ok-Fault.is c.in-Ok-Fault.field-0-is c.visit.follows.holds-at-none in
-    turn_visited c.add_fault.result has
+    turn_visited c.args.worklist.now c.args.worklist.now c.args.followed.now c.args.findings.now c.add_fault.new.findings c.add_fault.result has
     (c.add_fault.ensures.adds end run c.args.worklist.now c.args.followed.now (ready_after c.requires.ready has)
     (number_below (table_in old) (table_in end) one.number has.continues.numbered c.requires.below)
     (subst (λ (x : ModuleVersion). Says run x (Err c.in-Ok-Fault.class)) (same_module old end one.number has.continues c.requires.below) has.visit_is))
