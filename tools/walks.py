@@ -13,10 +13,9 @@ WALKS = [
     ("list, to where the graph is loaded", 9, """
         gomod/src/main.rt main
         gomod_run/src/program.rt exit_code ending_of ending_of_words
-        gomod_run/src/serving.rt serve over_folders
-        gomod_run/src/running.rt run
-        gomod_run/src/outcome.rt outcome
-        gomod_run/src/listing/answering.rt answer
+        gomod_run/src/command.rt run_command over_folders
+        gomod_run/src/running.rt run outcome
+        gomod_run/src/queries/answering.rt answer
         gm_graph/src/loading.rt load
     """),
     ("list, from `load` to a requirement that is known", 14, """
@@ -42,9 +41,8 @@ WALKS = [
     ("edit, to the first change of a line", 12, """
         gomod/src/main.rt main
         gomod_run/src/program.rt exit_code ending_of ending_of_words
-        gomod_run/src/serving.rt serve over_memory
-        gomod_run/src/running.rt run
-        gomod_run/src/outcome.rt outcome
+        gomod_run/src/command.rt run_command over_memory
+        gomod_run/src/running.rt run outcome
         gomod_run/src/edit.rt edit_outcome apply_text
         gm_file_edit/src/editor.rt apply
         gm_file_edit/src/applying.rt edit_lines change_lines

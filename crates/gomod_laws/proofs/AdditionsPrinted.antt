@@ -9,7 +9,8 @@ use Rattle.gm_graph_select.specs.declared.step.Step.{Step}
 use Rattle.gm_graph_select.specs.BuildList.{Entry}
 use Rattle.gm_graph_select.proofs.Lawful.{row_selected, selected_row}
 use Rattle.gm_graph.specs.Run.{AreRows, IsEdge, IsOpened, IsTop, Run, run_of}
-use Rattle.gomod_run.specs.Outcomes.{PrintsGraph, PrintsList}
+use Rattle.gomod_run.specs.GraphQuery.{PrintsGraph}
+use Rattle.gomod_run.specs.ListQuery.{PrintsList}
 use Rattle.gm_graph.proofs.RunLemmas.{RequiresToo, SaysToo, edge_too, opened_too}
 use Rattle.gomod_run.proofs.FewOpened.{IsFew}
 use Rattle.gomod_run.proofs.PrintedList.{greatest}

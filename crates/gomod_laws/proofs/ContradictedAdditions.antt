@@ -11,9 +11,9 @@ use Rattle.gm_graph_select.specs.declared.step.Edge.{Edge}
 use Rattle.gm_graph_select.specs.declared.step.Step.TheVariants.{Main as FromMain, Of}
 use Rattle.gm_graph_select.specs.BuildList.{Entry, HasEntryFor, path_of}
 use Rattle.gm_graph_select.proofs.Ascending.{member_cases, member_head, no_member}
-use Rattle.gomod_run.specs.Outcomes.{Given}
+use Rattle.gomod_run.specs.Queries.{Given}
 use Rattle.gomod_run.specs.Outcome.{Outcome, text_outcome}
-use Rattle.gomod_run.specs.ListingTexts.{edge_text}
+use Rattle.gomod_run.specs.GraphQuery.{edge_text}
 use Rattle.gomod_run.proofs.ListLines.{heads}
 use Rattle.gomod_laws.specs.CounterAdditions.{ChainIsByNoLine, ChainIsToAnother, LineIsLost, RowIsLower, ShowA, UnlistedIsShown, chain_by_b, chain_to_b}
 use Rattle.gomod_laws.specs.Counterexamples.{a_one}

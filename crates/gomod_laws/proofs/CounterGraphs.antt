@@ -13,12 +13,14 @@ use Rattle.gm_graph_select.specs.Graph.{Edges, among, edge}
 use Rattle.gm_graph_select.proofs.Ascending.{member_cases, member_head, member_tail, no_member}
 use Rattle.gm_graph_select.proofs.Lawful.{rows_are_ends}
 use Rattle.gm_graph_select.proofs.Same.{AreSame, same_build_list, same_chain}
-use Rattle.gomod_run.specs.ListingLaws.{IsWalk, further, here}
-use Rattle.gomod_run.specs.Outcomes.{AreFound, Given}
+use Rattle.gomod_run.specs.QueryLaws.{IsWalk, further, here}
+use Rattle.gomod_run.specs.Queries.{AreFound, Given}
 use Rattle.gomod_run.specs.Outcome.{text_outcome}
 use Rattle.gomod_run.specs.PrintedLines.{AreProperRows, AreProperSteps, IsProperRow, IsProperStep}
 use Rattle.gomod_run.specs.Reports.{not_listed_line}
-use Rattle.gomod_run.specs.ListingTexts.{chain_text, graph_text, list_text}
+use Rattle.gomod_run.specs.ChainQuery.{chain_text}
+use Rattle.gomod_run.specs.GraphQuery.{graph_text}
+use Rattle.gomod_run.specs.ListQuery.{list_text}
 use Rattle.gomod_run.proofs.GraphLines.{text_says_edges, text_says_steps}
 use Rattle.gomod_run.proofs.ListLines.{cut_at}
 use Rattle.gomod_run.proofs.OneRead.{one_main}
@@ -68,12 +70,12 @@ b_step : IsProperStep (Of b_one)
 b_step = (b_is_path, one_zero_is)
 
 module _ (run : Given) (main : Main) (table : Option Sums) (found : AreFound run main table []) {s : Step}
-    {steps : List Step} (walk : IsWalk (IsEdge (run_of main table run.told.asked)) s steps) where
+    {steps : List Step} (walk : IsWalk (IsEdge (run_of main table run.answers.asked)) s steps) where
   steps_proper : AreProperSteps steps
   steps_proper FromMain there = tt
   steps_proper (Of y) there =
-      let (t, is) = walk_step (IsEdge (run_of main table run.told.asked)) walk y there in
-      end_name (run_of main table run.told.asked) run.file found.read.main_file t y is
+      let (t, is) = walk_step (IsEdge (run_of main table run.answers.asked)) walk y there in
+      end_name (run_of main table run.answers.asked) run.file found.read.main_file t y is
 
   known_steps : (known : List Step) → AreProperSteps known → chain_text main.path steps ≡ chain_text main.path known → steps ≡ known
   known_steps known proper text =
@@ -83,7 +85,7 @@ module _ (run : Given) (main : Main) (table : Option Sums) (found : AreFound run
   steps_are : (known : List Step) → AreProperSteps (FromMain ∷ known) → chain_text main.path steps ≡ chain_text (codes "m") (FromMain ∷ known)
       → (main.path ≡ codes "m") × (steps ≡ FromMain ∷ known)
   steps_are known proper e =
-      let (rest, begins) = walk_begins (IsEdge (run_of main table run.told.asked)) walk in
+      let (rest, begins) = walk_begins (IsEdge (run_of main table run.answers.asked)) walk in
       let text : main.path ++ (10 ∷ chain_text main.path rest) ≡ codes "m" ++ (10 ∷ chain_text (codes "m") known) =
       sym (append_assoc main.path (codes "\n") (chain_text main.path rest)) ∙ ap (chain_text main.path) (sym begins) ∙ e in
       let own = (cut_at 10 main.path (codes "m") (chain_text main.path rest) (chain_text (codes "m") known)
@@ -131,7 +133,7 @@ pub chain_ends_elsewhere : ChainEndsElsewhere
 chain_ends_elsewhere run (main, table, rows, s, steps, found, are, (entry, rest, at, is), says, walk, least) =
     let (own, same) = steps_are run main table found walk (Of a_one ∷ []) to_a_proper
     (sym (same_text (codes "m\na.b@v1.0.0\n") (chain_text main.path steps) says)) in
-    let (front, ends) = walk_ends (IsEdge (run_of main table run.told.asked)) walk in
+    let (front, ends) = walk_ends (IsEdge (run_of main table run.answers.asked)) walk in
     let last : s ≡ Of a_one = last_of_two front s FromMain (Of a_one) (sym ends ∙ same) in
     other_name (ap (path_of main.path) (sym last ∙ sym is) ∙ at.path_is)
 
@@ -140,12 +142,12 @@ chain_begins_elsewhere path run (main, table, rows, s, steps, found, are, row, s
     let same : steps ≡ Of a_one ∷ [] = known_steps run main table found walk (Of a_one ∷ [])
     (each_of IsProperStep (Of a_one ∷ []) (a_step, tt))
     (sym (same_text (codes "a.b@v1.0.0\n") (chain_text main.path steps) says)) in
-    let (rest, begins) = walk_begins (IsEdge (run_of main table run.told.asked)) walk in
+    let (rest, begins) = walk_begins (IsEdge (run_of main table run.answers.asked)) walk in
     not_from_main a_one rest (sym begins ∙ same)
 
 pub chain_is_too_long : ChainIsTooLong
 chain_is_too_long run file is top (main, table, rows, s, steps, found, are, row, says, walk, least) =
-    let edges : Edges = IsEdge (run_of main table run.told.asked) in
+    let edges : Edges = IsEdge (run_of main table run.answers.asked) in
     let (own, same) = steps_are run main table found walk (Of b_one ∷ Of a_one ∷ []) by_b_proper
     (sym (same_text (codes "m\nb.c@v1.0.0\na.b@v1.0.0\n") (chain_text main.path steps) says)) in
     let (front, ends) = walk_ends edges walk in
@@ -159,7 +161,7 @@ chain_is_too_long run file is top (main, table, rows, s, steps, found, are, row,
 -- ---- one graph
 
 edges_are : (run : Given) (main : Main) (table : Option Sums) (edges : List Edge) → AreFound run main table []
-    → AreEdges (run_of main table run.told.asked) edges → main.path ≡ codes "m"
+    → AreEdges (run_of main table run.answers.asked) edges → main.path ≡ codes "m"
     → graph_of_a ≡ text_outcome (graph_text main.path edges) → edges ≡ edge_to one_zero ∷ []
 edges_are run main table edges found exact own says =
     text_says_edges main.path edges (edge_to one_zero ∷ []) (run_has_names run main table found.read).0
@@ -181,8 +183,8 @@ with_b_proper = each_of IsProperRow rows_with_b (refl, ((b_is_path, one_zero_is,
 
 pub list_is_of_another_graph : ListIsOfAnotherGraph
 list_is_of_another_graph path run chain (main, table, edges, rows, found, exact, one) =
-    let here_edges : Edges = IsEdge (run_of main table run.told.asked) in
-    let are : AreRows (run_of main table run.told.asked) rows =
+    let here_edges : Edges = IsEdge (run_of main table run.answers.asked) in
+    let are : AreRows (run_of main table run.answers.asked) rows =
     same_build_list main.path main.replaces (among edges) here_edges rows (λ t y. exact.each (edge t y))
     one.build_list in
     let (own, same) = rows_are run main table rows found are ((Of b_one, None) ∷ []) with_b_proper
@@ -197,10 +199,10 @@ pub chain_is_of_another_graph : ChainIsOfAnotherGraph
 chain_is_of_another_graph after limit path run list (main, table, edges, rows, found, exact, one) = elim one.chain_is [
   | inr (none, says) ↦ not_printed (codes "m\nb.c@v1.0.0\n") (not_listed_line path) says
   | inl (s, steps, row, chain, says) ↦ (
-      let same_graph : AreSame (among edges) (IsEdge (run_of main table run.told.asked)) = λ t y. exact.each (edge t y) in
-      let walk : IsWalk (IsEdge (run_of main table run.told.asked)) s steps =
-      chain_walk (IsEdge (run_of main table run.told.asked))
-      (same_chain (among edges) (IsEdge (run_of main table run.told.asked)) same_graph chain) in
+      let same_graph : AreSame (among edges) (IsEdge (run_of main table run.answers.asked)) = λ t y. exact.each (edge t y) in
+      let walk : IsWalk (IsEdge (run_of main table run.answers.asked)) s steps =
+      chain_walk (IsEdge (run_of main table run.answers.asked))
+      (same_chain (among edges) (IsEdge (run_of main table run.answers.asked)) same_graph chain) in
       let (own, same) = steps_are run main table found walk (Of b_one ∷ []) to_b_proper
       (sym (same_text (codes "m\nb.c@v1.0.0\n") (chain_text main.path steps) says)) in
       let there : Contains steps (Of b_one) = subst (λ (ss : List Step). Contains ss (Of b_one)) (sym same)

@@ -16,12 +16,12 @@ use Rattle.gm_graph_select.specs.declared.step.Step.TheVariants.{Main as FromMai
 use Rattle.gm_graph_select.specs.BuildList.{Entry, entry_of, main_entry, path_of}
 use Rattle.gm_graph_select.specs.Laws.{entries_of_pages}
 use Rattle.gm_graph_select.proofs.Ascending.{member_cases, member_head, member_tail, no_member}
-use Rattle.gomod_run.specs.ListingLaws.{AreGreatest, ArePrintedPages, ShowsBuildList, no_row, one_page}
-use Rattle.gomod_run.specs.Outcomes.{AreFound, Given, ListEnds, no_path, path_listed, path_unlisted}
+use Rattle.gomod_run.specs.QueryLaws.{AreGreatest, ArePrintedPages, ShowsBuildList, no_row, one_page}
+use Rattle.gomod_run.specs.Queries.{AreFound, Given}
+use Rattle.gomod_run.specs.ListQuery.{ListEnds, no_path, path_listed, path_unlisted, up_to, list_text}
 use Rattle.gomod_run.specs.Outcome.{Outcome, text_outcome}
 use Rattle.gomod_run.specs.PrintedLines.{AreProperRows, IsProperRow}
 use Rattle.gomod_run.specs.Reports.{not_listed_line}
-use Rattle.gomod_run.specs.ListingTexts.{up_to, list_text}
 use Rattle.gomod_run.proofs.GreatestRows.{as_build_list}
 use Rattle.gomod_run.proofs.ListLines.{Lacks, cut_at, lacks, path_has_no_blank, text_says_rows}
 use Rattle.gomod_run.proofs.OneRead.{one_main}
@@ -91,7 +91,7 @@ own_path : (main rest text : List ℕ) → IsPath main → ((main ++ []) ++ code
 own_path main rest text is e = (cut_at 10 main (codes "m") rest text (path-plain main is) m_has_no_feed (sym (spread_main main rest) ∙ e)).0
 
 module _ (run : Given) (main : Main) (table : Option Sums) (rows : List Entry) (found : AreFound run main table [])
-    (are : AreRows (run_of main table run.told.asked) rows) where
+    (are : AreRows (run_of main table run.answers.asked) rows) where
   pub main_is_path : IsPath main.path
   main_is_path = (run_has_names run main table found.read).0
 
@@ -150,13 +150,13 @@ record Selects (run : Given) (known : List ModuleVersion) : Type 0 where
   table : Option Sums
   found : AreFound run main table []
   own : main.path ≡ codes "m"
-  greatest : AreGreatest (run_of main table run.told.asked) known
+  greatest : AreGreatest (run_of main table run.answers.asked) known
 
 selects : (run : Given) (text : List ℕ) (known : List ModuleVersion) → AllByRecursion IsName known
     → text ≡ list_text (codes "m") (main_entry ∷ map row_at known)
     → ShowsBuildList run (text_outcome text) → Selects run known
 selects run text known names is (main, table, selected, found, greatest, says) =
-    let r : Run = run_of main table run.told.asked in
+    let r : Run = run_of main table run.answers.asked in
     let rows : List Entry = main_entry ∷ map (entry_of main.replaces) selected in
     let are : AreRows r rows = as_build_list r selected greatest in
     let proper : AreProperRows (main_entry ∷ map row_at known) = each_of IsProperRow (main_entry ∷ map row_at known) (refl, names_proper known names) in
@@ -190,7 +190,7 @@ first_lacks = lacks 10 (λ b. nat_lt 10 b) refl (codes "a.b v1.0.0") refl
 pub main_is_missing : MainIsMissing
 main_is_missing run (main, table, selected, found, greatest, says) =
     let rows : List Entry = main_entry ∷ map (entry_of main.replaces) selected in
-    let is = main_is_path run main table rows found (as_build_list (run_of main table run.told.asked) selected greatest) in
+    let is = main_is_path run main table rows found (as_build_list (run_of main table run.answers.asked) selected greatest) in
     let rest = list_text main.path (map (entry_of main.replaces) selected) in
     let text : codes "a.b v1.0.0" ++ (10 ∷ []) ≡ main.path ++ (10 ∷ rest) =
     same_text (codes "a.b v1.0.0\n") (list_text main.path rows) says ∙ spread_main main.path rest in
@@ -243,11 +243,12 @@ pub row_is_not_required : RowIsNotRequired
 row_is_not_required run main is nothing shows =
     let s = selects run (codes "m\na.b v1.0.0\n") (a_one ∷ []) (a_name, tt) refl shows in
     let none : s.main.requirements ≡ [] = ap (λ (m : Main). m.requirements) (sym (same_main run main s.main s.table s.found is)) ∙ nothing in
-    no_vertex (run_of s.main s.table run.told.asked) none a_one (s.greatest.required a_one (member_head a_one []))
+    no_vertex (run_of s.main s.table run.answers.asked) none a_one (s.greatest.required a_one (member_head a_one []))
 
 -- ---- parts
 
-whole_is : (run : Given) (main : Main) (table : Option Sums) (rows : List Entry) → AreFound run main table [] → AreRows (run_of main table run.told.asked) rows
+whole_is : (run : Given) (main : Main) (table : Option Sums) (rows : List Entry) → AreFound run main table []
+    → AreRows (run_of main table run.answers.asked) rows
     → list_of_a ≡ text_outcome (list_text main.path rows) → (main.path ≡ codes "m") × (rows ≡ rows_with_a)
 whole_is run main table rows found are says =
     rows_are run main table rows found are (row_at a_one ∷ []) with_a_proper (sym (same_text (codes "m\na.b v1.0.0\n") (list_text main.path rows) says))
@@ -339,7 +340,7 @@ m_proper = each_of IsProperRow (main_entry ∷ []) (refl, tt)
 
 module _ (run : Given) (main : Main) (table : Option Sums) (found : AreFound run main table []) where
   abbrev AreJoined : List (List Entry) → Type 0
-  AreJoined pages = AreRows (run_of main table run.told.asked) (entries_of_pages pages)
+  AreJoined pages = AreRows (run_of main table run.answers.asked) (entries_of_pages pages)
 
   abbrev IsText : List (List Entry) → Type 0
   IsText pages = list_of_a.text ≡ flat_map (list_text main.path) pages

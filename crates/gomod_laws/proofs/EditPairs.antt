@@ -21,10 +21,10 @@ use Rattle.gm_file_edit.proofs.EitherOrder.{either-order}
 use Rattle.gm_file_edit.proofs.Places.{edited-same}
 use Rattle.gm_file_edit.proofs.Undone.{drop-undoes-layout}
 use Rattle.gm_file.specs.Main.{IsMainOf}
-use Rattle.gomod_run.specs.Outcomes.{longest}
+use Rattle.gomod_run.specs.Queries.{longest}
 use Rattle.gomod_run.specs.Outcome.{text_outcome}
 use Rattle.gomod_run.proofs.OneRead.{misread_or_lines, same_lines}
-use Rattle.gomod_run.specs.Editing.{EditEnds, applied, bad_main}
+use Rattle.gomod_run.specs.Edit.{EditEnds, applied, bad_main}
 use Rattle.gomod_run.proofs.Sameness.{in_turn_same}
 use Rattle.gomod_laws.specs.EditPairLaws.{EitherOrderChangesNoBuild, UndoneIsFormatted}
 use Rattle.gomod_laws.specs.LineOrderLaws.{HoldTheSame}

@@ -20,9 +20,9 @@ use Rattle.gm_file_edit.specs.Kinds.{is_fit}
 use Rattle.gm_file_edit.specs.Laws.{IsEditOf, directives_of}
 use Rattle.gm_file_edit.proofs.EditedSound.{edited-document}
 use Rattle.gm_file_edit.proofs.Written.{written-sound}
-use Rattle.gomod_run.specs.Editing.{EditEnds, applied, bad_main, lines_after_all, edits_outcome, refusal_of, refusals_from}
+use Rattle.gomod_run.specs.Edit.{EditEnds, applied, bad_main, lines_after_all, edits_outcome, refusal_of, refusals_from}
 use Rattle.gomod_run.specs.Outcome.{Outcome, text_outcome, refusal_outcome}
-use Rattle.gomod_run.specs.Outcomes.{longest}
+use Rattle.gomod_run.specs.Queries.{longest}
 use Rattle.gomod_run.specs.Reports.{edit_line, main_line}
 use Rattle.gomod_run.proofs.FolderNames.{read_document}
 use Rattle.gomod_words.specs.Usage.{texts_in}

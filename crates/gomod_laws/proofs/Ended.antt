@@ -2,7 +2,7 @@
 use Rattle.std.proofs.Common.{ℕ, List, [], Option}
 use Rattle.gm_store.specs.Asked.{Name, Reply}
 use Rattle.gomod_run.specs.Outcome.{Outcome}
-use Rattle.gomod_run.specs.Outcomes.{answers_of, given_of}
+use Rattle.gomod_run.specs.Queries.{answers_of, given_of}
 use Rattle.gomod_run.specs.Runs.{RunEnds}
 use Rattle.gomod_words.specs.declared.usage.Command.{Command}
 

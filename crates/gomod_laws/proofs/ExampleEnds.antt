@@ -25,7 +25,8 @@ use Rattle.gm_graph_select.proofs.Ascending.{member_cases, member_head, no_membe
 use Rattle.gm_graph.specs.Run.{AreFaults, AreOpened, AreRows, AreTooMany, FileSays, IsDue, IsFault, IsNeeded, IsOpened, IsSettled, IsTop, IsVertex, Run, Says, answered, faulty as says_fault, from_deep, from_main, from_top, run_of, sound, unaskable, wrong_path}
 use Rattle.gm_graph.specs.declared.fault.Fault.{Fault}
 use Rattle.gm_graph.proofs.LawProofs.{modules_say_one_thing}
-use Rattle.gomod_run.specs.Outcomes.{AreFound, FilesReadAs, ListEnds, bad_main, bad_sums, device, faulty, no_fault, no_path, too_many}
+use Rattle.gomod_run.specs.Queries.{AreFound, FilesReadAs, bad_main, bad_sums, device, faulty, no_fault, too_many}
+use Rattle.gomod_run.specs.ListQuery.{ListEnds, no_path}
 use Rattle.gomod_run.specs.Outcome.{text_outcome, refusal_outcome}
 use Rattle.gomod_run.proofs.OneRead.{misread_or_main, one_main}
 use Rattle.gomod_run.proofs.OneStore.{one_outcome}

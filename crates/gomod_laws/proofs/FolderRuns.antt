@@ -15,8 +15,8 @@ use Rattle.gm_graph.specs.Run as graph
 use Rattle.gm_graph.specs.Run.{AskedInTurn, FileSays, IsNeeded, run_of}
 use Rattle.gm_graph.proofs.Exactly.{names_push}
 use Rattle.gm_graph.proofs.RunLemmas.{needed}
-use Rattle.gomod_run.specs.ListingLaws.{AnswerAlike}
-use Rattle.gomod_run.specs.Outcomes.{AreFound, answers_of, given_of}
+use Rattle.gomod_run.specs.QueryLaws.{AnswerAlike}
+use Rattle.gomod_run.specs.Queries.{AreFound, answers_of, given_of}
 use Rattle.gomod_run.specs.Needs.{AnsweredAll, AnswersByName}
 use Rattle.gomod_run.specs.Outcome.{Outcome}
 use Rattle.gomod_run.proofs.OneQueryStore.{alike_back, stores_agree}
@@ -92,7 +92,7 @@ latest_again path all one other name moved (versions, latest, same, is) = (
   latest,
   same,
   record {
-    some = is.some;
+    filtered = is.filtered;
     listed = record {
       fetchable = is.listed.fetchable;
       list = is.listed.list;
@@ -127,7 +127,7 @@ module _ (path : List ℕ) (all : Bool) (told : AnswersByName) (outcome : Outcom
       by : (these : List (List ℕ)) → AreShown path all told these → IsFile reply
       by these (all_listed listed every) = absurd (none_needed path all told these versions latest listed every is)
       by these (not_retracted others last other file intervals says retracted hidden) =
-          let latest_same = (one_latest path all told versions others latest last is says.is).1 in
+          let latest_same = (one_latest path all told versions others latest last is says.chosen).1 in
           let again : told (mod_file path last) ≡ Some reply = subst (λ (n : Name). told n ≡ Some reply) (same ∙ ap (mod_file path) latest_same) answered in
           let (content, content_is) = read_is_file None (mod_file path last) other file says.says in
           (content, same_answer (told (mod_file path last)) reply other again says.answered ∙ content_is)

@@ -10,12 +10,12 @@ use Rattle.gm_file.specs.Directives.{Strict, directives}
 use Rattle.gm_file.specs.Faults.{fault_of}
 use Rattle.gm_file.specs.Fields.{first}
 use Rattle.gm_file.specs.Main.{Main, IsMainFile}
-use Rattle.gomod_run.specs.Outcomes.{longest}
+use Rattle.gomod_run.specs.Queries.{longest}
 use Rattle.gomod_run.specs.Outcome.{Outcome, text_outcome, refusal_outcome}
 use Rattle.gomod_run.specs.Reports.{main_line}
 use Rattle.gomod_run.proofs.OneRead.{same_lines}
 use Rattle.gomod_words.specs.declared.usage.Command.TheVariants.{Fmt}
-use Rattle.gomod_run.specs.Runs.{FmtEnds, bad_syntax, laid_out}
+use Rattle.gomod_run.specs.Fmt.{FmtEnds, bad_syntax, laid_out}
 use Rattle.gomod_run.proofs.Sameness.{fmt_once}
 use Rattle.gomod_laws.specs.FormattingLaws.{FormattingChangesNoBuild, IsFormatted, LayoutsAreFormatted}
 use Rattle.gomod_laws.proofs.Ended.{Ends}

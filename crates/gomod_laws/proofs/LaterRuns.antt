@@ -1,7 +1,7 @@
 -- Runs over a store in which files that were absent now exist.
 use Rattle.std.proofs.Common.{◌≡◌, ◌∙◌, ℕ, Bool, true, List, [], Option, Some, ap, inl, inr, refl, sym}
 use Rattle.gm_store.specs.Asked.{Name, Reply, absent, answer_in, bytes, list_file}
-use Rattle.gomod_run.specs.ListingLaws.{AnswerAlike}
+use Rattle.gomod_run.specs.QueryLaws.{AnswerAlike}
 use Rattle.gomod_run.specs.Needs.{AnswersByName}
 use Rattle.gomod_run.specs.Outcome.{Outcome}
 use Rattle.gomod_run.proofs.OneQueryStore.{alike_back}

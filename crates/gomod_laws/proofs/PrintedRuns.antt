@@ -4,14 +4,14 @@ use Rattle.gm_store.specs.Asked.{Name, Reply}
 use Rattle.gm_store_sums.specs.Sums.{Sums}
 use Rattle.gm_file.specs.Main.{Main, IsMainFile}
 use Rattle.gm_graph.specs.Run.{run_of}
-use Rattle.gomod_run.specs.Outcomes.{AreFound, Given, Prints, QueryEnds}
+use Rattle.gomod_run.specs.Queries.{AreFound, Given, Prints, QueryEnds}
 use Rattle.gomod_run.specs.Outcome.{Outcome}
 use Rattle.gomod_run.proofs.OneRead.{one_main}
 use Rattle.gomod_run.proofs.PrintedList.{printed_run}
 use Rattle.gomod_run.proofs.QueryParts.{query_ends}
 use Rattle.gomod_words.specs.declared.usage.Command.{Command}
 use Rattle.gomod_run.specs.Runs.{is_query}
-use Rattle.gomod_run.specs.Private.Runs.{PrintsOf}
+use Rattle.gomod_run.specs.Private.ByCommand.{PrintsOf}
 use Rattle.gomod_laws.specs.Runs.{HasPrinted}
 use Rattle.gomod_laws.specs.Shown.{run_over}
 use Rattle.gomod_laws.proofs.Ended.{Ends}
@@ -21,7 +21,7 @@ Pairs = List (Name × Reply)
 
 -- The run finds no fault, and this is printed.
 abbrev pub PrintsOver : Prints → Given → Main → Outcome → Type 0
-PrintsOver prints run main outcome = (table : Option Sums) × AreFound run main table [] × prints (run_of main table run.told.asked) outcome
+PrintsOver prints run main outcome = (table : Option Sums) × AreFound run main table [] × prints (run_of main table run.answers.asked) outcome
 
 -- A run that prints, by what its main file is known to say.
 pub printed_by : (prints : Prints) (run : Given) (main : Main) (outcome : Outcome) → IsMainFile run.file main

@@ -16,12 +16,14 @@ use Rattle.gm_graph_select.specs.declared.step.Edge.{Edge}
 use Rattle.gm_graph_select.specs.declared.step.Step.TheVariants.{Of}
 use Rattle.gm_graph_select.specs.BuildList.{Entry, HasEntryFor, IsBuildList, IsRestAfter, entry_of, main_entry}
 use Rattle.gm_graph_select.proofs.Same.{AreSame, same_build_list, same_chain}
-use Rattle.gomod_run.specs.ListingTexts.{graph_text, up_to, list_text}
+use Rattle.gomod_run.specs.GraphQuery.{graph_text}
+use Rattle.gomod_run.specs.ListQuery.{up_to, list_text, PrintsRows, no_path, path_listed, path_unlisted}
 use Rattle.gomod_run.specs.Outcome.{Outcome, text_outcome}
-use Rattle.gomod_run.specs.Outcomes.{Answers, AreFound, FilesReadAs, Given, PrintsRows, QueryEnds, ShowsChain, given_of, no_path, path_listed, path_unlisted}
+use Rattle.gomod_run.specs.Queries.{Answers, AreFound, FilesReadAs, Given, QueryEnds, given_of}
+use Rattle.gomod_run.specs.ChainQuery.{ShowsChain}
 use Rattle.gomod_run.specs.Runs.{is_query}
-use Rattle.gomod_run.specs.Private.Runs.{PrintsOf}
-use Rattle.gomod_run.specs.ListingLaws.{AreAlike}
+use Rattle.gomod_run.specs.Private.ByCommand.{PrintsOf}
+use Rattle.gomod_run.specs.QueryLaws.{AreAlike}
 use Rattle.gomod_run.proofs.OneStore.{one_for_stores}
 use Rattle.gomod_run.proofs.QueryParts.{ends_query}
 use Rattle.gomod_words.specs.declared.usage.Command.{Command}

@@ -12,11 +12,13 @@ use Rattle.gm_graph_select.specs.BuildList.{Entry, entry_of, main_entry}
 use Rattle.gm_graph_select.specs.Chains.{IsChain, begins, goes_on}
 use Rattle.gm_graph_select.proofs.Ascending.{member_head}
 use Rattle.gm_store_sums.specs.Sums.{Sums}
-use Rattle.gomod_run.specs.Outcomes.{AreFound, Given}
+use Rattle.gomod_run.specs.Queries.{AreFound, Given}
 use Rattle.gomod_run.specs.Outcome.{Outcome, text_outcome}
 use Rattle.gomod_run.specs.PrintedLines.{AreProperEdges, AreProperRows, AreProperSteps, IsProperStep}
-use Rattle.gomod_run.specs.ListingTexts.{chain_text, graph_text, list_text, step_text}
-use Rattle.gomod_run.specs.ReportTexts.{vertex_text}
+use Rattle.gomod_run.specs.ChainQuery.{chain_text}
+use Rattle.gomod_run.specs.GraphQuery.{graph_text}
+use Rattle.gomod_run.specs.ListQuery.{list_text}
+use Rattle.gomod_run.specs.LineParts.{step_text, vertex_text}
 use Rattle.gomod_run.proofs.GraphLines.{text_says_edges, text_says_steps, at_is_no_blank}
 use Rattle.gomod_run.proofs.ListLines.{Lacks, both_lack, cut_at, has_it, path_has_no_blank, text_says_rows, version_has_no_blank}
 use Rattle.gomod_run.proofs.RunNames.{run_has_names, run_has_proper_edges, run_has_proper_rows, run_has_proper_steps}

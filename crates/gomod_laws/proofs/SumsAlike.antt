@@ -13,8 +13,8 @@ use Rattle.gm_graph.specs.declared.fault.Fault.{Fault}
 use Rattle.gm_graph.specs.Reading.{IsFileReading, class_of_sum, file_of, is_askable, sum_fault}
 use Rattle.gm_graph.specs.Run.{AreTooMany, FileSays, IsNeeded, IsRead, IsSettled, Run, answered, run_of, unaskable}
 use Rattle.gm_graph.proofs.RunLemmas.{RequiresToo, asked_answered, many_too}
-use Rattle.gomod_run.specs.ListingLaws.{AnswerAlike}
-use Rattle.gomod_run.specs.Outcomes.{AreFound, AreSums, answers_of, bad_main, bad_sums, device, faulty, longest, no_fault, too_many}
+use Rattle.gomod_run.specs.QueryLaws.{AnswerAlike}
+use Rattle.gomod_run.specs.Queries.{AreFound, AreSums, answers_of, bad_main, bad_sums, device, faulty, longest, no_fault, too_many}
 use Rattle.gomod_run.specs.Needs.{GraphNeeds}
 use Rattle.gomod_run.specs.Outcome.{Outcome, refusal_outcome}
 use Rattle.gomod_run.specs.Reports.{too_many_line}

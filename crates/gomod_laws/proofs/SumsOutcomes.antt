@@ -5,12 +5,12 @@ use Rattle.gm_store_sums.specs.Sums.{HasValidLines, Sums}
 use Rattle.gm_file.specs.Main.{Main, IsMainFile}
 use Rattle.gm_graph.specs.declared.fault.Fault.{Fault}
 use Rattle.gm_graph.specs.Run.{IsRead, Run, run_of}
-use Rattle.gomod_run.specs.ListingLaws.{AnswerAlike}
-use Rattle.gomod_run.specs.Outcomes.{AreFound, AreSums, FilesReadAs, QueryEnds, answers_of, bad_main, bad_sums, device, faulty, longest, no_fault, too_many}
+use Rattle.gomod_run.specs.QueryLaws.{AnswerAlike}
+use Rattle.gomod_run.specs.Queries.{AreFound, AreSums, FilesReadAs, QueryEnds, answers_of, bad_main, bad_sums, device, faulty, longest, no_fault, too_many}
 use Rattle.gomod_run.specs.Needs.{GraphNeeds}
 use Rattle.gomod_run.specs.Outcome.{Outcome}
 use Rattle.gomod_run.specs.Runs.{is_query}
-use Rattle.gomod_run.specs.Private.Runs.{PrintsOf}
+use Rattle.gomod_run.specs.Private.ByCommand.{PrintsOf}
 use Rattle.gomod_run.proofs.OneQueryStore.{alike_back}
 use Rattle.gomod_run.proofs.OneRead.{misread_or_main}
 use Rattle.gomod_run.proofs.QueryParts.{query_ends}

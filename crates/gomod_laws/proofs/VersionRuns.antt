@@ -34,7 +34,7 @@ unretracted_shown : (path : List ℕ) (asked : Pairs) (shown : List (List ℕ)) 
 unretracted_shown path asked shown (all_listed is (inl every)) = absurd (false≢true every)
 unretracted_shown path asked shown (all_listed is (inr none)) = (shown, is, inl (none, none))
 unretracted_shown path asked shown (not_retracted versions latest reply file intervals says retracted same) =
-    (versions, says.is.listed, inr (latest, intervals, says.is.greatest, (reply, file, says.answered, says.says, retracted), same))
+    (versions, says.chosen.listed, inr (latest, intervals, says.chosen.greatest, (reply, file, says.answered, says.says, retracted), same))
 
 -- with `--retracted`, each version is printed that the list names
 module _ (path : List ℕ) (answers : AnswersByName) (list : List ℕ) (versions : List (List ℕ)) (outcome : Outcome) (listed : AreListed path list versions)
@@ -47,14 +47,14 @@ module _ (path : List ℕ) (answers : AnswersByName) (list : List ℕ) (versions
   all_shown : (shown : List (List ℕ)) → AreShown path true answers shown → shown ≡ versions
   all_shown shown (all_listed is every) =
       listed_once path list shown versions (subst (λ (r : Reply). AreListed path (bytes_in r) shown) (same (bytes is.list) is.answered) is.listed) listed
-  all_shown shown (not_retracted others latest reply file intervals says retracted hidden) = absurd (false≢true (sym says.is.some))
+  all_shown shown (not_retracted others latest reply file intervals says retracted hidden) = absurd (false≢true (sym says.chosen.filtered))
 
   all_printed : is_fetchable path ≡ true → VersionsEnds path true answers [] outcome → outcome ≡ text_outcome (versions_line path versions)
   all_printed fetchable (device name need unanswered failed says) = absurd (cc failed)
   all_printed fetchable (no_list refused none) =
       absurd (not_refused (answers (list_file path)) same (subst
       (λ (b : Bool). list_refusal path b (answers (list_file path)) ≡ Some outcome) fetchable refused))
-  all_printed fetchable (bad_file others latest reply class says none told) = absurd (false≢true (sym says.is.some))
+  all_printed fetchable (bad_file others latest reply class says none told) = absurd (false≢true (sym says.chosen.filtered))
   all_printed fetchable (printed shown are none told) = told ∙ ap (λ (vs : List (List ℕ)). text_outcome (versions_line path vs)) (all_shown shown are)
 
 pub retracted_are_left_out : RetractedAreLeftOut

@@ -9,25 +9,25 @@ use Rattle.gm_file.specs.Main.{Main, IsMainFile}
 use Rattle.gm_graph_select.proofs.Ascending.{member_head, no_member}
 use Rattle.gm_graph.specs.declared.fault.Fault.{Fault}
 use Rattle.gm_graph.specs.Run.{AreTooMany, IsFault, IsOpened, Run, run_of}
-use Rattle.gomod_run.specs.ListingLaws.{AnswerAlike}
-use Rattle.gomod_run.specs.Outcomes.{AreFound, AreInvalidSums, AreSums, Given, Prints, QueryEnds, bad_main, bad_sums, device, faulty, no_fault, too_many}
+use Rattle.gomod_run.specs.QueryLaws.{AnswerAlike}
+use Rattle.gomod_run.specs.Queries.{AreFound, AreInvalidSums, AreSums, Given, Prints, QueryEnds, bad_main, bad_sums, device, faulty, no_fault, too_many}
 use Rattle.gomod_run.specs.Outcome.{Outcome}
 use Rattle.gomod_run.proofs.OneRead.{misread_or_main, misread_or_sums, one_finding, one_main, read_alike}
 use Rattle.gomod_laws.proofs.PrintedRuns.{PrintsOver}
 
 module _ (run next : Given) (first second : Main) (table : Option Sums) (found : AreFound next second table [])
     (says : IsMainFile run.file first) (sums : run.sums ≡ next.sums)
-    (alike : AnswerAlike run.told.asked next.told.asked) (same : ReplaceAlike first second) where
+    (alike : AnswerAlike run.answers.asked next.answers.asked) (same : ReplaceAlike first second) where
   -- the first run by what its go.sum says, and the second
   abbrev pub narrow : Option Sums → Run
-  narrow t = run_of first t run.told.asked
+  narrow t = run_of first t run.answers.asked
 
   abbrev pub wide : Run
-  wide = run_of second table next.told.asked
+  wide = run_of second table next.answers.asked
 
   pub narrow_says : (t : Option Sums) → AreSums run.sums t → SaysToo (narrow t) wide
   narrow_says t are =
-      says_too (narrow t) wide same say_alike (settled_answers second table next.told.asked found.settled)
+      says_too (narrow t) wide same say_alike (settled_answers second table next.answers.asked found.settled)
     where
       say_alike : SayAlike (narrow t) wide
       say_alike name x y one other said reads =
@@ -38,7 +38,7 @@ module _ (run next : Given) (first second : Main) (table : Option Sums) (found :
   abbrev pub OpensAsMuch : Type 0
   OpensAsMuch = (t : Option Sums) → SaysToo (narrow t) wide → (x : ModuleVersion) → IsOpened (narrow t) x → IsOpened wide x
 
-  module _ (opens : OpensAsMuch) (sound : run.told.failed ≡ []) (prints : Prints) (outcome : Outcome) where
+  module _ (opens : OpensAsMuch) (sound : run.answers.failed ≡ []) (prints : Prints) (outcome : Outcome) where
     not_many : (t : Option Sums) → AreSums run.sums t → AreTooMany (narrow t) → ⊥
     not_many t are (xs, long, opened) =
         let few : length xs ≤ 65536 = found.settled.few xs (record {
@@ -60,10 +60,10 @@ module _ (run next : Given) (first second : Main) (table : Option Sums) (found :
         absurd (misread_or_sums next.sums report table (subst (λ (s : Option (List ℕ)). AreInvalidSums s report) sums misread) found.read.sums)
     prints_too (device main t name are due one text) = absurd (let names : name ∷ [] ≡ [] = sym one ∙ sound in cc names)
     prints_too (too_many main t are read many none text) =
-        absurd (not_many t are.sums (subst (λ (m : Main). AreTooMany (run_of m t run.told.asked)) (one_main run.file main first are.main_file says) many))
+        absurd (not_many t are.sums (subst (λ (m : Main). AreTooMany (run_of m t run.answers.asked)) (one_main run.file main first are.main_file says) many))
     prints_too (faulty main t one others is text) =
         let fault = (is.faults_are.each one).0 (member_head one others) in
-        absurd (not_faulty t is.read.sums one (subst (λ (m : Main). IsFault (run_of m t run.told.asked) one)
+        absurd (not_faulty t is.read.sums one (subst (λ (m : Main). IsFault (run_of m t run.answers.asked) one)
         (one_main run.file main first is.read.main_file says) fault))
     prints_too (no_fault main t is shows) =
         subst (λ (m : Main). PrintsOver prints run m outcome) (one_main run.file main first is.read.main_file says) (t, is, shows)

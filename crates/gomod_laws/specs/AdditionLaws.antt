@@ -9,8 +9,8 @@ use Rattle.gm_file.specs.Main.{Main, is_pruned_by, replacement_in, IsMainFile}
 use Rattle.gm_graph_select.specs.declared.step.Edge.{Edge}
 use Rattle.gm_graph_select.specs.declared.step.Step.TheVariants.{Of}
 use Rattle.gm_graph_select.specs.BuildList.{Entry}
-use Rattle.gomod_run.specs.ListingLaws.{AnswerAlike}
-use Rattle.gomod_run.specs.Outcomes.{Given}
+use Rattle.gomod_run.specs.QueryLaws.{AnswerAlike}
+use Rattle.gomod_run.specs.Queries.{Given}
 use Rattle.gomod_run.specs.Outcome.{Outcome}
 use Rattle.gomod_words.specs.declared.usage.Command.{Command}
 use Rattle.gomod_words.specs.declared.usage.Command.TheVariants.{Graph, List as Rows}

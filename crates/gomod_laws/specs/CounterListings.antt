@@ -1,10 +1,11 @@
--- What the laws of gomod_run.listing conclude of `list`, `graph` and `chain` is false of outputs that contradict them.
+-- What the laws of gomod_run.queries conclude of `list`, `graph` and `chain` is false of outputs that contradict them.
 use Rattle.std.specs.Prelude.{◌≡◌, ℕ, List, [], Option, None, Some, codes}
 use Rattle.gm_name.specs.ModuleVersion.{ModuleVersion}
 use Rattle.gm_file.specs.Main.{Main, IsMainFile}
 use Rattle.gm_graph.specs.Run.{IsTop, run_of}
-use Rattle.gomod_run.specs.ListingLaws.{JoinsPages, ShowOneGraph, ShowsBuildList, ShowsPart, ShowsShortestWalk}
-use Rattle.gomod_run.specs.Outcomes.{Given, ListEnds}
+use Rattle.gomod_run.specs.QueryLaws.{JoinsPages, ShowOneGraph, ShowsBuildList, ShowsPart, ShowsShortestWalk}
+use Rattle.gomod_run.specs.Queries.{Given}
+use Rattle.gomod_run.specs.ListQuery.{ListEnds}
 use Rattle.gomod_run.specs.Outcome.{Outcome, text_outcome}
 use Rattle.gomod_laws.specs.Counterexamples.{a_one, chain_to_a, graph_of_a, list_of_a}
 

@@ -5,7 +5,7 @@ use Rattle.gm_store.specs.Asked.{Name, Reply}
 use Rattle.gomod_run.specs.Outcome.{Outcome, text_outcome}
 use Rattle.gomod_words.specs.declared.usage.Command.{Command}
 use Rattle.gomod_words.specs.declared.usage.Command.TheVariants.{Edit}
-use Rattle.gomod_run.specs.Outcomes.{answers_of, given_of}
+use Rattle.gomod_run.specs.Queries.{answers_of, given_of}
 use Rattle.gomod_run.specs.Runs.{RunEnds}
 use Rattle.std.specs.Str.{IsUtf8}
 

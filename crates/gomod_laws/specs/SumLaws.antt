@@ -6,8 +6,8 @@ use Rattle.gm_name.specs.Lines.{fields, lines}
 use Rattle.gm_store_sums.specs.Hash.{file_hash}
 use Rattle.gm_store_sums.specs.Sums.{HasValidLines, SaysOfHash}
 use Rattle.gm_store_sums.specs.declared.sum_table.Sum.TheVariants.{Good}
-use Rattle.gomod_run.specs.ListingLaws.{AnswerAlike}
-use Rattle.gomod_run.specs.Outcomes.{longest}
+use Rattle.gomod_run.specs.QueryLaws.{AnswerAlike}
+use Rattle.gomod_run.specs.Queries.{longest}
 use Rattle.gomod_run.specs.Needs.{GraphNeeds}
 use Rattle.gomod_run.specs.Outcome.{Outcome}
 use Rattle.gomod_words.specs.declared.usage.Command.{Command}

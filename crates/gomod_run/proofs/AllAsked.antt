@@ -8,7 +8,10 @@ use Rattle.gm_file.specs.Main.{Main}
 use Rattle.gm_graph.specs.declared.fault.Fault.{Fault}
 use Rattle.gm_graph.specs.Run.{Run, run_of}
 use Rattle.gm_graph.proofs.RunLemmas.{Agrees, needed, settled_answers}
-use Rattle.gomod_run.specs.Outcomes.{AreFound, Given, Prints, PrintsChain, PrintsGraph, PrintsList, QueryEnds}
+use Rattle.gomod_run.specs.Queries.{AreFound, Given, Prints, QueryEnds}
+use Rattle.gomod_run.specs.ChainQuery.{PrintsChain}
+use Rattle.gomod_run.specs.GraphQuery.{PrintsGraph}
+use Rattle.gomod_run.specs.ListQuery.{PrintsList}
 use Rattle.gomod_run.specs.Needs.{AnsweredAll, AnswersByName, GraphNeeds}
 use Rattle.gomod_run.specs.Outcome.{OrNoMemory, Outcome, failure_outcome}
 use Rattle.gomod_run.specs.Reports.{device_line}
@@ -28,12 +31,12 @@ use Rattle.gm_store.specs.Taken.{SinkState}
 
 -- what the answers need by any reading of the two files, they need by this one
 graph_answered : (run : Given) (main : Main) (table : Option Sums) (faults : List Fault)
-    → AreFound run main table faults → AnsweredAll (GraphNeeds run.file run.sums) (answer_in run.told.asked)
+    → AreFound run main table faults → AnsweredAll (GraphNeeds run.file run.sums) (answer_in run.answers.asked)
 graph_answered run main table faults found name needs =
-    let theirs : Run = run_of needs.main needs.table run.told.asked in
-    let ours : Run = run_of main table run.told.asked in
+    let theirs : Run = run_of needs.main needs.table run.answers.asked in
+    let ours : Run = run_of main table run.answers.asked in
     let agrees : Agrees theirs ours = stores_agree run run needs.main main needs.table table (itself run) needs.read found.read found.settled in
-    settled_answers main table run.told.asked found.settled name (needed theirs ours agrees name needs.calls.needed)
+    settled_answers main table run.answers.asked found.settled name (needed theirs ours agrees name needs.calls.needed)
 
 -- ---- what `versions` needs
 
@@ -45,7 +48,7 @@ shown_answered path all answers shown are name (inl (fetchable, same)) =
 shown_answered path all answers shown (all_listed is every) name (inr (versions, latest, same, needed)) =
     absurd (none_needed path all answers shown versions latest is every needed)
 shown_answered path all answers shown (not_retracted versions latest reply file intervals says retracted kept) name (inr (others, last, same, needed)) =
-    (reply, ap answers (same ∙ ap (mod_file path) (one_latest path all answers others versions last latest needed says.is).1) ∙ says.answered)
+    (reply, ap answers (same ∙ ap (mod_file path) (one_latest path all answers others versions last latest needed says.chosen).1) ∙ says.answered)
 
 -- the report that there is no list has the status of a refusal
 pub refusal_status : (path : List ℕ) (fetchable : Bool) (answer : Option Reply) (outcome : Outcome)
@@ -59,7 +62,7 @@ refusal_status path true None outcome is = absurd (cc is)
 -- ---- runs that are done
 
 query_done : (prints : Prints) (run : Given) (outcome : Outcome) → QueryEnds prints run outcome → outcome.status ≡ 0
-    → AnsweredAll (GraphNeeds run.file run.sums) (answer_in run.told.asked)
+    → AnsweredAll (GraphNeeds run.file run.sums) (answer_in run.answers.asked)
 query_done prints run outcome is done =
     let (main, table, found, says) = printed_run prints run outcome is done in graph_answered run main table [] found
 
@@ -76,17 +79,17 @@ versions_done path all answers failed outcome (printed shown are none told) done
 
 -- a run of a command whose outcome has the status of a done run has all answers that it needs
 pub done_answers : (command : Command) (run : Given) (outcome : Outcome) → RunEnds command run outcome
-    → outcome.status ≡ 0 → AnsweredAll (Needs command run.file run.sums) (answer_in run.told.asked)
+    → outcome.status ≡ 0 → AnsweredAll (Needs command run.file run.sums) (answer_in run.answers.asked)
 done_answers Fmt run outcome is done = λ name need. absurd need
 done_answers (Edit operations) run outcome is done = λ name need. absurd need
-done_answers (Versions path all) run outcome is done = versions_done path all (answer_in run.told.asked) run.told.failed outcome is done
+done_answers (Versions path all) run outcome is done = versions_done path all (answer_in run.answers.asked) run.answers.failed outcome is done
 done_answers Graph run outcome is done = query_done PrintsGraph run outcome is done
 done_answers (Rows after limit) run outcome is done = query_done (PrintsList after limit) run outcome is done
 done_answers (Chain path) run outcome is done = query_done (PrintsChain path) run outcome is done
 
 -- the same where memory may have run out: its report has another status
 pub done_if_memory : (command : Command) (run : Given) (outcome : Outcome) → OrNoMemory (RunEnds command run) outcome → outcome.status ≡ 0
-    → AnsweredAll (Needs command run.file run.sums) (answer_in run.told.asked)
+    → AnsweredAll (Needs command run.file run.sums) (answer_in run.answers.asked)
 done_if_memory command run outcome (inl is) done = done_answers command run outcome is done
 done_if_memory command run outcome (inr memory) done = let code = ap (λ (o : Outcome). o.status) memory in absurd (omega (arith, code, done))
 

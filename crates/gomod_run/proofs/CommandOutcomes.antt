@@ -26,15 +26,15 @@ use Rattle.gomod_run.specs.declared.reports.report.Report.{Report}
 use Rattle.gomod_run.specs.FromFaults.{report_by_bytes, report_by_load}
 use Rattle.gomod_run.specs.Outcome.{OrNoMemory, Outcome, failure_outcome, text_outcome, refusal_outcome, report_outcome}
 use Rattle.gomod_run.specs.Reports.{device_line}
-use Rattle.gomod_run.specs.declared.listing.answering.Read.{Read}
-use Rattle.gomod_run.specs.declared.listing.query.Query.{Query}
-use Rattle.gomod_run.specs.declared.listing.query.Query.TheVariants.{Graph, List as Rows, Chain}
-use Rattle.gomod_run.specs.ListingTexts.{up_to, list_text}
-use Rattle.gomod_run.specs.Outcomes.{AreInvalidSums, AreSums, FilesReadAs, Given, PrintsRows, QueryEnds, answers_of, bad_main, bad_sums, device, faulty, given_of, no_fault, path_listed, too_many}
+use Rattle.gomod_run.specs.declared.queries.answering.Read.{Read}
+use Rattle.gomod_run.specs.declared.queries.query.Query.{Query}
+use Rattle.gomod_run.specs.declared.queries.query.Query.TheVariants.{Graph, List as Rows, Chain}
+use Rattle.gomod_run.specs.ListQuery.{up_to, list_text, PrintsRows, path_listed}
+use Rattle.gomod_run.specs.Queries.{AreInvalidSums, AreSums, FilesReadAs, Given, QueryEnds, answers_of, bad_main, bad_sums, device, faulty, given_of, no_fault, too_many}
 use Rattle.gomod_run.specs.Needs.{AnswersByName, FailsInTurn, GraphNeeds}
 use Rattle.gomod_run.specs.Private.Refusals.{IsRefusedRead}
 use Rattle.gomod_run.specs.Runs.{ComesTo, Needs, RunEnds, command_of, run_between}
-use Rattle.gomod_run.specs.Private.Runs.{PrintsOf}
+use Rattle.gomod_run.specs.Private.ByCommand.{PrintsOf}
 use Rattle.gomod_run.specs.Versions.{IsRefusedList}
 use Rattle.gomod_run.proofs.AllAsked.{done_if_memory}
 use Rattle.gomod_run.proofs.InTurn.{loading_in_turn, loading_needs}

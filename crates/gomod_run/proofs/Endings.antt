@@ -11,7 +11,7 @@ use Rattle.gomod_words.specs.declared.usage.UsageFault.TheVariants.{NoMemory, He
 use Rattle.gomod_words.specs.declared.usage.Command.{Command}
 use Rattle.gomod_words.specs.declared.usage.Places.{Places}
 use Rattle.gomod_run.specs.Outcome.{Outcome, out_of_memory}
-use Rattle.gomod_run.specs.Program.{IsProgramOutcome, IsProgramStatus, IsServed, IsWordsOutcome, usage_outcome, IsOutcomeUnless, usage_error}
+use Rattle.gomod_run.specs.Program.{IsProgramOutcome, IsProgramStatus, CommandEnds, IsWordsOutcome, usage_outcome, IsOutcomeUnless, usage_error}
 use Rattle.gomod_run.specs.Written.{EndsAsStated, IsWritten}
 use Rattle.gm_store.specs.Taken.{SinkState}
 
@@ -29,7 +29,7 @@ ends_weaken one other out out' report report' status wider ends = record {
 pub words_end : (may_open : List ℕ → Opening → Type 0) (may_take : Opening → Type 0) (words : List (List ℕ))
     (command : Command) (places : Places) (out out' report report' : SinkState) (status code : ℕ) → code ≡ status
     → AskFor words command places
-    → EndsAsStated (IsServed may_open may_take command (string_bytes places.main) (option_map string_bytes places.sums)
+    → EndsAsStated (CommandEnds may_open may_take command (string_bytes places.main) (option_map string_bytes places.sums)
     places.proxy) out out' report report' status
     → EndsAsStated (IsWordsOutcome may_open may_take words) out out' report report' code
 words_end may_open may_take words command places out out' report report' status code same asked ends =

@@ -10,7 +10,7 @@ use Rattle.gm_graph.specs.declared.fault.Fault.{Fault}
 use Rattle.gm_graph.specs.Private.Gathering.{fault}
 use Rattle.gomod_run.specs.PrintedLines.{IsProperFault, LineIsOfAFault, LineSaysFault, ReportHasLines, TextSaysFaults, fault_text}
 use Rattle.gomod_run.specs.Reports.{class_text}
-use Rattle.gomod_run.specs.ReportTexts.{vertex_text}
+use Rattle.gomod_run.specs.LineParts.{vertex_text}
 use Rattle.gomod_run.proofs.ClassWords.{class_has_no_feed, says_class}
 use Rattle.gomod_run.proofs.GraphLines.{at_is_no_feed, says_vertex, vertex_lacks}
 use Rattle.gomod_run.proofs.ListLines.{Lacks, both_lack, cut_at, found_line, lacks, lines_are, same_are}

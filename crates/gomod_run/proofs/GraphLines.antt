@@ -9,8 +9,8 @@ use Rattle.gm_graph_select.specs.declared.step.Edge.{Edge}
 use Rattle.gm_graph_select.specs.declared.step.Step.{Step}
 use Rattle.gm_graph_select.specs.declared.step.Step.TheVariants.{Main, Of}
 use Rattle.gm_graph_select.specs.Graph.{edge}
-use Rattle.gomod_run.specs.ListingTexts.{edge_text, step_text}
-use Rattle.gomod_run.specs.ReportTexts.{vertex_text}
+use Rattle.gomod_run.specs.GraphQuery.{edge_text}
+use Rattle.gomod_run.specs.LineParts.{step_text, vertex_text}
 use Rattle.gomod_run.specs.PrintedLines.{ChainHasLines, GraphHasLines, IsProperEdge, IsProperStep, LineIsOfAStep, LineIsOfAnEdge, LineSaysEdge, LineSaysStep, TextSaysEdges, TextSaysSteps}
 use Rattle.gomod_run.proofs.ListLines.{Lacks, both_lack, cut_at, found_line, has_it, lacks, lines_are, same_are, path_has_no_blank, version_has_no_blank}
 use Rattle.gomod_run.proofs.ClassWords.{blank_plain}

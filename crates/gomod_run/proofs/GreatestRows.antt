@@ -12,8 +12,9 @@ use Rattle.gm_graph_select.specs.BuildList.{IsBuildList, IsSelected, entry_of, m
 use Rattle.gm_graph_select.specs.Order.{IsAscending}
 use Rattle.gm_graph_select.proofs.Ascending.{less_itself, member_cases, no_member, pairs_head, pairs_tail}
 use Rattle.gm_graph.specs.Run.{IsEdge, Run, run_of}
-use Rattle.gomod_run.specs.ListingLaws.{AreGreatest, BuildListIsListed}
-use Rattle.gomod_run.specs.Outcomes.{no_fault, no_path}
+use Rattle.gomod_run.specs.QueryLaws.{AreGreatest, BuildListIsListed}
+use Rattle.gomod_run.specs.Queries.{no_fault}
+use Rattle.gomod_run.specs.ListQuery.{no_path}
 
 -- two versions are the same if neither is greater
 same_version : (v w : List ℕ) → is_gt (version_cmp v w) ≡ false → is_gt (version_cmp w v) ≡ false → v ≡ w
@@ -66,6 +67,6 @@ pub build_list_is_listed : BuildListIsListed
 build_list_is_listed run main table selected found greatest =
     no_fault main table found (
       main_entry ∷ map (entry_of main.replaces) selected,
-      as_build_list (run_of main table run.told.asked) selected greatest,
+      as_build_list (run_of main table run.answers.asked) selected greatest,
       no_path refl refl,
     )

@@ -9,7 +9,7 @@ pub mod OneVersions
 pub mod Uniqueness
 pub mod PassedOn
 pub mod VersionsSteps
-pub mod Served
+pub mod CommandRuns
 pub mod OneStore
 pub mod Answered
 pub mod WrittenTexts

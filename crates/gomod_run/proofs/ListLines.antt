@@ -15,8 +15,8 @@ use Rattle.gm_graph_select.specs.declared.step.Step.TheVariants.{Main, Of}
 use Rattle.gm_graph_select.specs.BuildList.{Entry}
 use Rattle.gm_graph_select.proofs.Ascending.{member_head, member_tail}
 use Rattle.gm_graph_select.proofs.RankedLists.{from_mapped}
-use Rattle.gomod_run.specs.ListingTexts.{replacement_suffix, replacement_text, row_text}
-use Rattle.gomod_run.specs.ReportTexts.{line}
+use Rattle.gomod_run.specs.ListQuery.{replacement_suffix, replacement_text, row_text}
+use Rattle.gomod_run.specs.LineParts.{line}
 use Rattle.gomod_run.specs.PrintedLines.{IsProperRight, IsProperRow, LineIsOfARow, LineSaysRow, ListHasLines, TextSaysRows}
 use Rattle.gm_file_edit.proofs.Feeds.{path-plain, version-plain}
 use Rattle.gm_file_edit.proofs.Folders.{begins-no-folder}

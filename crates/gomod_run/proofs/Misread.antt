@@ -7,7 +7,7 @@ use Rattle.gm_file.specs.BytesFaults.{fault_by_syntax}
 use Rattle.gm_file.specs.declared.misreading.Misreading.TheVariants as misreading
 use Rattle.gomod_run.specs.FromFaults.{report_by_bytes}
 use Rattle.gomod_run.specs.Outcome.{OrNoMemory, report_outcome}
-use Rattle.gomod_run.specs.Runs.{FmtEnds, bad_syntax}
+use Rattle.gomod_run.specs.Fmt.{FmtEnds, bad_syntax}
 
 -- the outcome of `fmt` over bytes that are not a document
 fmt_broken : (bytes : List ℕ) (fault : SyntaxFault) → IsParsedAs bytes (Err fault) → FmtEnds bytes (report_outcome (report_by_bytes (fault_by_syntax fault)))

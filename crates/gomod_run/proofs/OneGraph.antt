@@ -4,8 +4,11 @@ use Rattle.gm_graph_select.specs.BuildList.{Entry}
 use Rattle.gm_graph_select.specs.Graph.{Edges, among, edge}
 use Rattle.gm_graph_select.proofs.Same.{AreSame, same_back, same_build_list}
 use Rattle.gm_graph.specs.Run.{IsEdge, run_of}
-use Rattle.gomod_run.specs.ListingLaws.{OneGraph, OneRefusal, PartsOfOneList}
-use Rattle.gomod_run.specs.Outcomes.{Given, GraphEnds, Prints, PrintsChain, PrintsGraph, PrintsList, PrintsRows, QueryEnds, ShowsChain, bad_main, bad_sums, device, faulty, no_fault, too_many}
+use Rattle.gomod_run.specs.QueryLaws.{OneGraph, OneRefusal, PartsOfOneList}
+use Rattle.gomod_run.specs.Queries.{Given, Prints, QueryEnds, bad_main, bad_sums, device, faulty, no_fault, too_many}
+use Rattle.gomod_run.specs.GraphQuery.{GraphEnds, PrintsGraph}
+use Rattle.gomod_run.specs.ChainQuery.{PrintsChain, ShowsChain}
+use Rattle.gomod_run.specs.ListQuery.{PrintsList, PrintsRows}
 use Rattle.gomod_run.specs.Outcome.{Outcome}
 use Rattle.gomod_run.proofs.OneOutcome.{also_printed, ends_once}
 use Rattle.gomod_run.proofs.OnePrinted.{chain_once, list_once, one_rows, shown_by}
@@ -16,9 +19,9 @@ one_graph after limit path run graph list chain is_graph is_list is_chain ends =
     let (main, table, found, (edges, exact, says)) = printed_run PrintsGraph run graph is_graph ends in
     let (rows, listed, shows) = also_printed (PrintsList after limit) (list_once after limit) run main table found list is_list in
     let (others, selected, tells) = also_printed (PrintsChain path) (chain_once path) run main table found chain is_chain in
-    let here : Edges = IsEdge (run_of main table run.told.asked) in
+    let here : Edges = IsEdge (run_of main table run.answers.asked) in
     let among_here : AreSame here (among edges) = same_back (among edges) here (λ s y. exact.each (edge s y)) in
-    let rows_same : others ≡ rows = one_rows (run_of main table run.told.asked) others rows selected listed in (
+    let rows_same : others ≡ rows = one_rows (run_of main table run.answers.asked) others rows selected listed in (
       main,
       table,
       edges,
@@ -53,5 +56,5 @@ pub parts_of_one_list : PartsOfOneList
 parts_of_one_list after limit run whole part is_whole is_part ends =
     let (main, table, found, (rows, list, says)) = printed_run (PrintsList None None) run whole is_whole ends in
     let (others, listed, shows) = also_printed (PrintsList after limit) (list_once after limit) run main table found part is_part in
-    let rows_same : others ≡ rows = one_rows (run_of main table run.told.asked) others rows listed list in
+    let rows_same : others ≡ rows = one_rows (run_of main table run.answers.asked) others rows listed list in
     (main, table, rows, found, list, all_rows main rows None whole says, subst (λ (es : List Entry). PrintsRows main es after limit part) rows_same shows)

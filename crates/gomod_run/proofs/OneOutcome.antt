@@ -7,8 +7,8 @@ use Rattle.gm_graph.specs.declared.fault.Fault.{Fault}
 use Rattle.gm_graph.specs.Run.{AreTooMany, run_of}
 use Rattle.gm_graph.proofs.RunLemmas.{Agrees, same_edges, too_many as many_stay}
 use Rattle.gomod_run.specs.Private.Found.{ReportsFaultsOr}
-use Rattle.gomod_run.specs.ListingLaws.{AreAlike}
-use Rattle.gomod_run.specs.Outcomes.{AreFound, FilesReadAs, Given, Prints, QueryEnds}
+use Rattle.gomod_run.specs.QueryLaws.{AreAlike}
+use Rattle.gomod_run.specs.Queries.{AreFound, FilesReadAs, Given, Prints, QueryEnds}
 use Rattle.gomod_run.specs.Private.Refusals.{IsRefusedRead}
 use Rattle.gomod_run.proofs.QueryParts.{LoadingEnd, Parts, are_read, is_broken, is_known, is_many, parts, unread}
 use Rattle.gomod_run.specs.Outcome.{Outcome, failure_outcome, refusal_outcome}
@@ -33,10 +33,10 @@ one_failure names n m is other = let same : n ∷ [] ≡ m ∷ [] = sym is ∙ o
 -- too many modules are opened by the one run, so the other can't have found the faults of all
 not_many : (one other : Given) (main again : Main) (table next : Option Sums) (faults : List Fault) → AreAlike one other
     → FilesReadAs one.file one.sums main table
-    → AreTooMany (run_of main table one.told.asked) → AreFound other again next faults → ⊥
+    → AreTooMany (run_of main table one.answers.asked) → AreFound other again next faults → ⊥
 not_many one other main again table next faults alike read many found =
-    let r = run_of main table one.told.asked in
-    let s = run_of again next other.told.asked in
+    let r = run_of main table one.answers.asked in
+    let s = run_of again next other.answers.asked in
     let (xs, long, are) = many_stay r s (stores_agree one other main again table next alike read found.read found.settled) many in
     let few = found.settled.few xs are in
     omega (arith, long, few)
@@ -47,11 +47,11 @@ module _ (prints : Prints) (once : PrintsOnce prints) (one other : Given) (main 
   back = alike_reversed one other alike
 
   both_known : (faults others : List Fault) → AreFound one main table faults → AreFound other again next others
-      → ReportsFaultsOr faults (prints (run_of main table one.told.asked) a) a
-      → ReportsFaultsOr others (prints (run_of again next other.told.asked) b) b → a ≡ b
+      → ReportsFaultsOr faults (prints (run_of main table one.answers.asked) a) a
+      → ReportsFaultsOr others (prints (run_of again next other.answers.asked) b) b → a ≡ b
   both_known faults others found finds says tells =
-      let r = run_of main table one.told.asked in
-      let s = run_of again next other.told.asked in
+      let r = run_of main table one.answers.asked in
+      let s = run_of again next other.answers.asked in
       let into : Agrees r s = stores_agree one other main again table next alike read reads finds.settled in
       let from : Agrees s r = stores_agree other one again main next table back reads read found.settled in
       let same : faults ≡ others = one_faults r s faults others into from found.faults_are finds.faults_are in
@@ -61,16 +61,16 @@ module _ (prints : Prints) (once : PrintsOnce prints) (one other : Given) (main 
 
   one_loading_end : LoadingEnd prints one main table a → LoadingEnd prints other again next b → a ≡ b
   one_loading_end (is_many seen over none says) (is_many sees beyond nothing tells) = says ∙ sym tells
-  one_loading_end (is_many seen over none says) (is_broken name due some tells) = absurd (not_broken other.told.failed name some (sym alike.failed ∙ none))
+  one_loading_end (is_many seen over none says) (is_broken name due some tells) = absurd (not_broken other.answers.failed name some (sym alike.failed ∙ none))
   one_loading_end (is_many seen over none says) (is_known faults finds tells) = absurd (not_many one other main again table next faults alike read over finds)
-  one_loading_end (is_broken name due some says) (is_many sees over none tells) = absurd (not_broken one.told.failed name some (alike.failed ∙ none))
+  one_loading_end (is_broken name due some says) (is_many sees over none tells) = absurd (not_broken one.answers.failed name some (alike.failed ∙ none))
   one_loading_end (is_broken name due some says) (is_broken late dues more tells) =
-      says ∙ ap (λ (n : Name). failure_outcome (device_line n)) (one_failure one.told.failed name late some (alike.failed ∙ more)) ∙ sym tells
+      says ∙ ap (λ (n : Name). failure_outcome (device_line n)) (one_failure one.answers.failed name late some (alike.failed ∙ more)) ∙ sym tells
   one_loading_end (is_broken name due some says) (is_known faults finds tells) =
-      absurd (not_broken one.told.failed name some (alike.failed ∙ finds.none_failed))
+      absurd (not_broken one.answers.failed name some (alike.failed ∙ finds.none_failed))
   one_loading_end (is_known faults found says) (is_many sees over none tells) = absurd (not_many other one again main next table faults back reads over found)
   one_loading_end (is_known faults found says) (is_broken name due some tells) =
-      absurd (not_broken other.told.failed name some (sym alike.failed ∙ found.none_failed))
+      absurd (not_broken other.answers.failed name some (sym alike.failed ∙ found.none_failed))
   one_loading_end (is_known faults found says) (is_known others finds tells) = both_known faults others found finds says tells
 
 -- ---- when a file is invalid
@@ -116,21 +116,21 @@ ends_once prints once run a b is be = one_end prints once run run a b (itself ru
 module _ (prints : Prints) (once : PrintsOnce prints) (run : Given) (main : Main) (table : Option Sums)
     (found : AreFound run main table []) (outcome : Outcome) where
   also_loading_end : (again : Main) (next : Option Sums) → FilesReadAs run.file run.sums again next
-      → LoadingEnd prints run again next outcome → prints (run_of main table run.told.asked) outcome
+      → LoadingEnd prints run again next outcome → prints (run_of main table run.answers.asked) outcome
   also_loading_end again next reads (is_many seen over none says) = absurd (not_many run run again main next table [] (itself run) reads over found)
-  also_loading_end again next reads (is_broken name due some says) = absurd (not_broken run.told.failed name some found.none_failed)
+  also_loading_end again next reads (is_broken name due some says) = absurd (not_broken run.answers.failed name some found.none_failed)
   also_loading_end again next reads (is_known faults finds says) =
-      let r = run_of again next run.told.asked in
-      let s = run_of main table run.told.asked in
+      let r = run_of again next run.answers.asked in
+      let s = run_of main table run.answers.asked in
       let into : Agrees r s = stores_agree run run again main next table (itself run) reads found.read found.settled in
       let from : Agrees s r = stores_agree run run main again table next (itself run) found.read reads finds.settled in
       let same : faults ≡ [] = one_faults r s faults [] into from finds.faults_are found.faults_are in
       once.alike r s outcome into.main_is (same_edges r s into from) (subst (λ (fs : List Fault). ReportsFaultsOr fs (prints r outcome) outcome) same says)
 
   -- the command prints by the same run
-  pub also_printed : QueryEnds prints run outcome → prints (run_of main table run.told.asked) outcome
+  pub also_printed : QueryEnds prints run outcome → prints (run_of main table run.answers.asked) outcome
   also_printed is = by (parts prints run outcome is)
     where
-      by : Parts prints run outcome → prints (run_of main table run.told.asked) outcome
+      by : Parts prints run outcome → prints (run_of main table run.answers.asked) outcome
       by (unread is none) = absurd (not_refused run outcome main table is found.read)
       by (are_read again next reads over) = also_loading_end again next reads over

@@ -17,8 +17,10 @@ use Rattle.gm_graph.specs.declared.fault.Fault.{Fault}
 use Rattle.gm_graph.specs.Run.{AreEdges, AreFaults, AreRows, IsEdge, Run}
 use Rattle.gm_graph.proofs.RunLemmas.{Agrees, fault}
 use Rattle.gm_graph.proofs.LawProofs.{faults_total}
-use Rattle.gomod_run.specs.ListingTexts.{chain_text, graph_text, up_to, list_text}
-use Rattle.gomod_run.specs.Outcomes.{Prints, PrintsChain, PrintsGraph, PrintsList, PrintsRows, ShowsChain, no_path, path_listed, path_unlisted}
+use Rattle.gomod_run.specs.ChainQuery.{chain_text, PrintsChain, ShowsChain}
+use Rattle.gomod_run.specs.GraphQuery.{graph_text, PrintsGraph}
+use Rattle.gomod_run.specs.ListQuery.{up_to, list_text, PrintsList, PrintsRows, no_path, path_listed, path_unlisted}
+use Rattle.gomod_run.specs.Queries.{Prints}
 use Rattle.gomod_run.specs.Outcome.{Outcome, text_outcome, refusal_outcome}
 use Rattle.gomod_run.specs.Reports.{not_listed_line}
 use Rattle.gomod_run.proofs.FewOpened.{IsFew, edges_listed}

@@ -6,8 +6,8 @@ use Rattle.gm_store_sums.specs.Sums.{Sums}
 use Rattle.gm_graph.specs.Reading.{IsFileReading}
 use Rattle.gm_graph.specs.Run.{IsSettled, run_of}
 use Rattle.gm_graph.proofs.RunLemmas.{Agrees, agree, settled_answers}
-use Rattle.gomod_run.specs.ListingLaws.{AnswerAlike, AreAlike}
-use Rattle.gomod_run.specs.Outcomes.{AreSums, FilesReadAs, Given}
+use Rattle.gomod_run.specs.QueryLaws.{AnswerAlike, AreAlike}
+use Rattle.gomod_run.specs.Queries.{AreSums, FilesReadAs, Given}
 use Rattle.gomod_run.proofs.OneRead.{one_finding, one_main, read_alike}
 
 pub alike_back : (one other : List (Name × Reply)) → AnswerAlike one other → AnswerAlike other one
@@ -18,7 +18,7 @@ pub alike_reversed : (one other : Given) → AreAlike one other → AreAlike oth
 alike_reversed one other alike = record {
   file = sym alike.file;
   sums = sym alike.sums;
-  answers = alike_back one.told.asked other.told.asked alike.answers;
+  answers = alike_back one.answers.asked other.answers.asked alike.answers;
   failed = sym alike.failed;
 }
 
@@ -36,12 +36,12 @@ read_as_well one other main table alike are = record {
 -- If all that the second run needs was asked for, it says of what it opens what the first run says of that.
 pub stores_agree : (one other : Given) (main again : Main) (table next : Option Sums) → AreAlike one other
     → FilesReadAs one.file one.sums main table → FilesReadAs other.file other.sums again next
-    → IsSettled (run_of again next other.told.asked) (names_in other.told.asked)
-    → Agrees (run_of main table one.told.asked) (run_of again next other.told.asked)
+    → IsSettled (run_of again next other.answers.asked) (names_in other.answers.asked)
+    → Agrees (run_of main table one.answers.asked) (run_of again next other.answers.asked)
 stores_agree one other main again table next alike read reads settled =
     let here = read_as_well one other main table alike read in
-    agree (run_of main table one.told.asked) (run_of again next other.told.asked) (one_main other.file main again here.main_file reads.main_file)
+    agree (run_of main table one.answers.asked) (run_of again next other.answers.asked) (one_main other.file main again here.main_file reads.main_file)
     (λ name a b first second said is.
     read_alike table next (one_finding other.sums table next here.sums reads.sums) name b said
     (subst (λ (reply : Reply). IsFileReading table name reply said) (alike.answers name a b first second) is))
-    (settled_answers again next other.told.asked settled)
+    (settled_answers again next other.answers.asked settled)

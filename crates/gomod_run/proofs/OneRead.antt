@@ -23,7 +23,7 @@ use Rattle.gm_file.specs.declared.misreading.Misreading.{Misreading}
 use Rattle.gm_file.specs.declared.misreading.Misreading.TheVariants as misreading
 use Rattle.gm_graph.proofs.OneReading.{one_reading}
 use Rattle.gomod_run.specs.Reports.{FaultPlace, bad_sum_line}
-use Rattle.gomod_run.specs.Outcomes.{AreInvalidSums, AreSums}
+use Rattle.gomod_run.specs.Queries.{AreInvalidSums, AreSums}
 use Rattle.gm_file.specs.Misreading.{IsMisread}
 
 -- ---- the main module's file

@@ -4,14 +4,17 @@ use Rattle.gm_name.specs.Path.{is_fetchable}
 use Rattle.gm_file.specs.Fields.{Dependency}
 use Rattle.gm_graph.specs.declared.cache.class.Class.{Class}
 use Rattle.gm_store.specs.Asked.{Name, Reply, answer_in, bytes, list_file, mod_file}
-use Rattle.gomod_run.specs.Editing.{EditEnds}
-use Rattle.gomod_run.specs.ListingLaws.{AnswerAlike}
-use Rattle.gomod_run.specs.Outcomes.{Answers, PrintsChain, PrintsGraph, PrintsList}
+use Rattle.gomod_run.specs.Edit.{EditEnds}
+use Rattle.gomod_run.specs.QueryLaws.{AnswerAlike}
+use Rattle.gomod_run.specs.Queries.{Answers}
+use Rattle.gomod_run.specs.ChainQuery.{PrintsChain}
+use Rattle.gomod_run.specs.GraphQuery.{PrintsGraph}
+use Rattle.gomod_run.specs.ListQuery.{PrintsList}
 use Rattle.gomod_run.specs.Needs.{AnswersByName}
 use Rattle.gomod_run.specs.Outcome.{Outcome, failure_outcome}
 use Rattle.gomod_run.specs.Reports.{device_line}
 use Rattle.gomod_run.specs.Laws.{OneForStores, OneOutcome}
-use Rattle.gomod_run.specs.Runs.{FmtEnds}
+use Rattle.gomod_run.specs.Fmt.{FmtEnds}
 use Rattle.gomod_run.specs.Versions.{AreShown, HasListed, LatestSays, VersionsEnds, VersionsNeed, all_listed, bad_file, device, list_refusal, no_list, not_retracted, printed}
 use Rattle.gomod_run.proofs.OneOutcome.{one_end, not_broken, one_failure}
 use Rattle.gomod_run.proofs.OneQueryStore.{itself}
@@ -67,8 +70,8 @@ module _ (path : List ℕ) (all : Bool) (told kept : AnswersByName)
       → LatestSays path all told versions latest reply reading
       → LatestSays path all kept versions latest reply reading
   says_kept {versions} {latest} {reply} says = record {
-    is = record { some = says.is.some; listed = listed_kept says.is.listed; greatest = says.is.greatest };
-    answered = keeps (mod_file path latest) reply (inr (versions, latest, refl, says.is)) says.answered;
+    chosen = record { filtered = says.chosen.filtered; listed = listed_kept says.chosen.listed; greatest = says.chosen.greatest };
+    answered = keeps (mod_file path latest) reply (inr (versions, latest, refl, says.chosen)) says.answered;
     says = says.says;
   }
 
@@ -128,7 +131,7 @@ pub one_for_stores : OneForStores
 one_for_stores Fmt run next a b alike is be = fmt_once next.file a b (subst (λ (file : List ℕ). FmtEnds file a) alike.file is) be
 one_for_stores (Edit operations) run next a b alike is be =
     edit_once (texts_in operations) next.file a b (subst (λ (file : List ℕ). EditEnds (texts_in operations) file a) alike.file is) be
-one_for_stores (Versions path all) run next a b alike is be = versions_alike path all run.told next.told a b alike.answers alike.failed is be
+one_for_stores (Versions path all) run next a b alike is be = versions_alike path all run.answers next.answers a b alike.answers alike.failed is be
 one_for_stores Graph run next a b alike is be = one_end PrintsGraph graph_once run next a b alike is be
 one_for_stores (Rows after limit) run next a b alike is be = one_end (PrintsList after limit) (list_once after limit) run next a b alike is be
 one_for_stores (Chain path) run next a b alike is be = one_end (PrintsChain path) (chain_once path) run next a b alike is be

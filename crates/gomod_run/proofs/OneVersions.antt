@@ -52,7 +52,7 @@ module _ (path : List ℕ) (all : Bool) (answers : AnswersByName) where
   -- none is needed if all listed versions are shown
   pub none_needed : (shown versions : List (List ℕ)) (latest : List ℕ) → HasListed path answers shown
       → (all ≡ true) ⊎ (shown ≡ []) → ¬ (IsLatestListed path all answers versions latest)
-  none_needed shown versions latest listed (inl every) is = let e = sym every ∙ is.some in cc e
+  none_needed shown versions latest listed (inl every) is = let e = sym every ∙ is.filtered in cc e
   none_needed shown versions latest listed (inr none) is =
       none_latest latest (subst (λ (vs : List (List ℕ)). IsLatest vs latest) (one_listed versions shown is.listed listed ∙ none) is.greatest)
 
@@ -60,7 +60,7 @@ module _ (path : List ℕ) (all : Bool) (answers : AnswersByName) where
       (reading other : Result Dependency Class) → LatestSays path all answers versions latest r reading
       → LatestSays path all answers others last s other → (r ≡ s) × (reading ≡ other)
   one_says versions others latest last r s reading other a b =
-      let latest_same = (one_latest versions others latest last a.is b.is).1 in
+      let latest_same = (one_latest versions others latest last a.chosen b.chosen).1 in
       let same = same_answer (answers (mod_file path last)) r s
       (subst (λ (v : List ℕ). answers (mod_file path v) ≡ Some r) latest_same a.answered) b.answered in
       let says = subst (λ (v : List ℕ). IsFileReading None (mod_file path v) r reading) latest_same a.says in
@@ -71,24 +71,24 @@ module _ (path : List ℕ) (all : Bool) (answers : AnswersByName) where
   -- they are listed ones
   pub shown_listed : (shown : List (List ℕ)) → AreShown path all answers shown → (versions : List (List ℕ)) × HasListed path answers versions
   shown_listed shown (all_listed is every) = (shown, is)
-  shown_listed shown (not_retracted versions latest reply file intervals says retracted same) = (versions, says.is.listed)
+  shown_listed shown (not_retracted versions latest reply file intervals says retracted same) = (versions, says.chosen.listed)
 
   shown_once : (one other : List (List ℕ)) → AreShown path all answers one → AreShown path all answers other → one ≡ other
   shown_once one other (all_listed a every) (all_listed b also) = one_listed one other a b
   shown_once one other (all_listed a every) (not_retracted versions latest reply file intervals says retracted same) =
-      absurd (none_needed one versions latest a every says.is)
+      absurd (none_needed one versions latest a every says.chosen)
   shown_once one other (not_retracted versions latest reply file intervals says retracted same) (all_listed b also) =
-      absurd (none_needed other versions latest b also says.is)
+      absurd (none_needed other versions latest b also says.chosen)
   shown_once one other (not_retracted versions latest r file intervals says retracted same) (not_retracted others last s next more tells also is) =
       let replies = (one_says versions others latest last r s (Ok file) (Ok next) says tells).0 in
       let intervals_same = one_retracted s intervals more (subst (λ (r : Reply). AreRetractedBy r intervals) replies retracted) also in
-      same ∙ ap₂ shown_of intervals_same (one_latest versions others latest last says.is tells.is).0 ∙ sym is
+      same ∙ ap₂ shown_of intervals_same (one_latest versions others latest last says.chosen tells.chosen).0 ∙ sym is
 
   -- none are if the go.mod has a fault
   none_shown : (versions : List (List ℕ)) (latest : List ℕ) (reply : Reply) (class : Class) (shown : List (List ℕ))
       → LatestSays path all answers versions latest reply (Err class)
       → ¬ (AreShown path all answers shown)
-  none_shown versions latest reply class shown says (all_listed is every) = none_needed shown versions latest is every says.is
+  none_shown versions latest reply class shown says (all_listed is every) = none_needed shown versions latest is every says.chosen
   none_shown versions latest reply class shown says (not_retracted others last next file intervals tells retracted same) =
       let e = (one_says versions others latest last reply next (Err class) (Ok file) says tells).1 in cc e
 
@@ -99,16 +99,16 @@ module _ (path : List ℕ) (all : Bool) (answers : AnswersByName) where
   versions_once one other (no_list refused none) (device name need unanswered failed says) = absurd (cc failed)
   versions_once one other (no_list refused none) (no_list also nothing) = one_refusal path answers one other refused also
   versions_once one other (no_list refused none) (bad_file versions latest reply class says nothing tells) =
-      absurd (not_refused one versions says.is.listed refused)
+      absurd (not_refused one versions says.chosen.listed refused)
   versions_once one other (no_list refused none) (printed shown are nothing tells) =
       absurd (let (versions, is) = shown_listed shown are in not_refused one versions is refused)
   versions_once one other (bad_file versions latest reply class says none told) (device name need unanswered failed tells) = absurd (cc failed)
   versions_once one other (bad_file versions latest reply class says none told) (no_list refused nothing) =
-      absurd (not_refused other versions says.is.listed refused)
+      absurd (not_refused other versions says.chosen.listed refused)
   versions_once one other (bad_file versions latest reply class says none told) (bad_file others last next kind tells nothing also) =
       let classes : class ≡ kind = let e = (one_says versions others latest last reply next (Err class) (Err kind) says tells).1 in cc e in
       told ∙ ap₂ (λ (v : List ℕ) (c : Class). refusal_outcome (fault_line (path, v) c))
-      (one_latest versions others latest last says.is tells.is).1 classes ∙ sym also
+      (one_latest versions others latest last says.chosen tells.chosen).1 classes ∙ sym also
   versions_once one other (bad_file versions latest reply class says none told) (printed shown are nothing also) =
       absurd (none_shown versions latest reply class shown says are)
   versions_once one other (printed shown are none told) (device name need unanswered failed tells) = absurd (cc failed)

@@ -18,9 +18,8 @@ use Rattle.gm_file.specs.Misreading.{IsMisread}
 use Rattle.gm_file.specs.Directives.{Strict}
 use Rattle.gomod_run.specs.Reports.{FaultPlace, main_line}
 use Rattle.gomod_run.specs.declared.reports.report.Report.{Report}
-use Rattle.gomod_run.specs.Editing.{EditEnds, applied, bad_main, lines_after_all, edits_outcome, refusal_of, refusals_from}
-use Rattle.gomod_run.specs.Private.Runs.{IsRefusedOperation}
-use Rattle.gomod_run.specs.Private.Refusals.{report_by_edit}
+use Rattle.gomod_run.specs.Edit.{EditEnds, applied, bad_main, lines_after_all, edits_outcome, refusal_of, refusals_from}
+use Rattle.gomod_run.specs.Private.Refusals.{IsRefusedOperation, report_by_edit}
 
 -- an operation that has been parsed and is not applied
 pub not_applied : (number : ℕ) (text : List ℕ) (edit : Edit) (fault : EditFault) (told : Report)

@@ -20,16 +20,16 @@ use Rattle.gm_graph_select.proofs.Lawful.{pages_exist, pages_join as rows_join, 
 use Rattle.gm_graph_select.proofs.Same.{AreSame, same_back, same_build_list}
 use Rattle.gm_graph.specs.Run.{AreRows, IsEdge, IsVertex, Run, run_of}
 use Rattle.gm_graph_select.proofs.RankedLists.{from_mapped, in_mapped}
-use Rattle.gomod_run.specs.ListingLaws.{AreGreatest, ArePrintedPages, ListIsBuildList, PrintedPagesJoin, no_row, one_page}
-use Rattle.gomod_run.specs.Outcomes.{AreFound, Given, ListEnds, Prints, PrintsList, PrintsRows, QueryEnds, bad_main, bad_sums, device, faulty, no_fault, no_path, path_listed, path_unlisted, too_many}
+use Rattle.gomod_run.specs.QueryLaws.{AreGreatest, ArePrintedPages, ListIsBuildList, PrintedPagesJoin, no_row, one_page}
+use Rattle.gomod_run.specs.Queries.{AreFound, Given, Prints, QueryEnds, bad_main, bad_sums, device, faulty, no_fault, too_many}
+use Rattle.gomod_run.specs.ListQuery.{ListEnds, PrintsList, PrintsRows, no_path, path_listed, path_unlisted, up_to, list_text}
 use Rattle.gomod_run.specs.Outcome.{Outcome, failure_outcome, text_outcome, refusal_outcome}
-use Rattle.gomod_run.specs.ListingTexts.{up_to, list_text}
 use Rattle.gomod_run.proofs.FewOpened.{IsFew, edges_listed}
 
 -- ---- a run that prints
 
 abbrev pub Printed : Prints → Given → Outcome → Type 0
-Printed prints run outcome = (main : Main) × (table : Option Sums) × AreFound run main table [] × prints (run_of main table run.told.asked) outcome
+Printed prints run outcome = (main : Main) × (table : Option Sums) × AreFound run main table [] × prints (run_of main table run.answers.asked) outcome
 
 pub not_refused : (report : List ℕ) (outcome : Outcome) → outcome ≡ refusal_outcome report → outcome.status ≡ 0 → ⊥
 not_refused report outcome same is = let code = ap (λ (o : Outcome). o.status) same in omega (arith, code, is)
@@ -102,7 +102,7 @@ list_is_build_list run outcome is ends =
       table,
       list.selected,
       found,
-      greatest (run_of main table run.told.asked) found.settled.few rows list,
+      greatest (run_of main table run.answers.asked) found.settled.few rows list,
       all_rows main rows None outcome says ∙ ap (λ (es : List Entry). text_outcome (list_text main.path es)) list.entries_are,
     )
 
@@ -148,7 +148,7 @@ texts_join main [] = refl
 texts_join main (page ∷ pages) = flat_map-append _ page (entries_of_pages pages) ∙ ap (λ (t : List ℕ). list_text main page ++ t) (texts_join main pages)
 
 module _ (run : Given) (main : Main) (table : Option Sums) (found : AreFound run main table []) (rows : List Entry)
-    (list : AreRows (run_of main table run.told.asked) rows) (n : ℕ) where
+    (list : AreRows (run_of main table run.answers.asked) rows) (n : ℕ) where
   -- the rows that remain after a path, or all rows
   abbrev AreLeft : Option (List ℕ) → List Entry → Type 0
   AreLeft None left = left ≡ rows
@@ -172,7 +172,7 @@ module _ (run : Given) (main : Main) (table : Option Sums) (found : AreFound run
 pub pages_join : PrintedPagesJoin
 pages_join run n whole some is ends =
     let (main, table, found, (rows, list, says)) = printed_run (PrintsList None None) run whole is ends in
-    let r : Run = run_of main table run.told.asked in
+    let r : Run = run_of main table run.answers.asked in
     let (pages, paging, joins) = row_pages main.path main.replaces (IsEdge r) rows list n some in (
       main,
       table,

@@ -7,28 +7,28 @@ use Rattle.gm_file.specs.Main.{Main}
 use Rattle.gm_graph.specs.declared.fault.Fault.{Fault}
 use Rattle.gm_graph.specs.Run.{AreTooMany, IsDue, IsRead, run_of}
 use Rattle.gomod_run.specs.Private.Found.{ReportsFaultsOr}
-use Rattle.gomod_run.specs.Outcomes.{AreFound, FilesReadAs, Given, IsUnasked, Prints, QueryEnds, bad_main, bad_sums, device, faulty, no_fault, too_many}
+use Rattle.gomod_run.specs.Queries.{AreFound, FilesReadAs, Given, IsUnasked, Prints, QueryEnds, bad_main, bad_sums, device, faulty, no_fault, too_many}
 use Rattle.gomod_run.specs.Outcome.{Outcome, failure_outcome, refusal_outcome}
 use Rattle.gomod_run.specs.Private.Refusals.{IsRefusedRead}
 use Rattle.gomod_run.specs.Reports.{device_line, too_many_line}
 use Rattle.gomod_run.specs.Runs.{RunEnds, is_query}
-use Rattle.gomod_run.specs.Private.Runs.{PrintsOf}
+use Rattle.gomod_run.specs.Private.ByCommand.{PrintsOf}
 use Rattle.gomod_words.specs.declared.usage.Command.{Command}
 use Rattle.gomod_words.specs.declared.usage.Command.TheVariants.{Fmt, Edit, Versions, Graph, List as Rows, Chain}
 
 -- loading finds too many modules, or its store's device fails, or all needed files are answered
 pub data LoadingEnd (prints : Prints) (run : Given) (main : Main) (table : Option Sums) (outcome : Outcome) : Type 0 where
-  is_many : IsRead (run_of main table run.told.asked) → AreTooMany (run_of main table run.told.asked)
-      → run.told.failed ≡ [] → outcome ≡ refusal_outcome too_many_line → LoadingEnd prints run main table outcome
-  is_broken : (name : Name) → IsDue (run_of main table run.told.asked) name → run.told.failed ≡ name ∷ []
+  is_many : IsRead (run_of main table run.answers.asked) → AreTooMany (run_of main table run.answers.asked)
+      → run.answers.failed ≡ [] → outcome ≡ refusal_outcome too_many_line → LoadingEnd prints run main table outcome
+  is_broken : (name : Name) → IsDue (run_of main table run.answers.asked) name → run.answers.failed ≡ name ∷ []
       → outcome ≡ failure_outcome (device_line name) → LoadingEnd prints run main table outcome
   is_known : (faults : List Fault) → AreFound run main table faults
-      → ReportsFaultsOr faults (prints (run_of main table run.told.asked) outcome) outcome
+      → ReportsFaultsOr faults (prints (run_of main table run.answers.asked) outcome) outcome
       → LoadingEnd prints run main table outcome
 
 -- one of the two files is invalid, or both are valid, and loading ends
 pub data Parts (prints : Prints) (run : Given) (outcome : Outcome) : Type 0 where
-  unread : IsRefusedRead run.file run.sums outcome → IsUnasked run.told → Parts prints run outcome
+  unread : IsRefusedRead run.file run.sums outcome → IsUnasked run.answers → Parts prints run outcome
   are_read : (main : Main) (table : Option Sums) → FilesReadAs run.file run.sums main table
       → LoadingEnd prints run main table outcome → Parts prints run outcome
 

@@ -9,7 +9,7 @@ use Rattle.gm_graph.specs.declared.cache.class.Class.{Class}
 use Rattle.gm_graph.specs.declared.cache.class.Class.TheVariants.{NotFetchable, Missing, TooLong, NoSum, SumDiffers, Malformed, WrongPath}
 use Rattle.gm_file.specs.declared.misreading.Misreading.{Misreading}
 use Rattle.gomod_run.specs.Reports.{class_text}
-use Rattle.gomod_run.specs.ReportTexts.{line, vertex_text}
+use Rattle.gomod_run.specs.LineParts.{line, vertex_text}
 
 -- ---- equal texts
 

@@ -168,7 +168,7 @@ module _ (run : Run) (file : List ℕ) (main_is : IsMainFile file run.main) wher
 
 pub run_has_names : RunHasNames
 run_has_names run main table read =
-    let r : Run = run_of main table run.told.asked in (
+    let r : Run = run_of main table run.answers.asked in (
       main_path_is run.file main read.main_file,
       opened_name r run.file read.main_file,
       (λ x vertex. end_name r run.file read.main_file vertex.0 x vertex.1),
@@ -177,7 +177,7 @@ run_has_names run main table read =
 pub run_has_proper_faults : RunHasProperFaults
 run_has_proper_faults run main table faults read are one there =
     let (opens, says) = (are.each one).0 there in
-    let names = opened_name (run_of main table run.told.asked) run.file read.main_file one.vertex opens in
+    let names = opened_name (run_of main table run.answers.asked) run.file read.main_file one.vertex opens in
     (names.0, names.1, says_proper says)
 
 pub run_has_proper_rows : RunHasProperRows
@@ -186,7 +186,7 @@ run_has_proper_rows run main table rows read are row there =
       | inl same ↦ subst IsProperRow same refl
       | inr later ↦ (let (x, inside, is) = from_mapped (entry_of main.replaces) are.selected row later in
           let end = ((are.each x).0 inside).is_end in
-          let name = end_name (run_of main table run.told.asked) run.file read.main_file end.0 x end.1 in
+          let name = end_name (run_of main table run.answers.asked) run.file read.main_file end.0 x end.1 in
           let right : IsProperRight (replacement_of main.replaces x) = right_proper run.file main read.main_file x in
           let proper : IsProperRow (entry_of main.replaces x) = (name.0, name.1, right) in
           subst IsProperRow is proper)
@@ -195,8 +195,8 @@ run_has_proper_rows run main table rows read are row there =
 pub run_has_proper_edges : RunHasProperEdges
 run_has_proper_edges run main table edges read are one there =
     let is = (are.each one).0 there in
-    let r : Run = run_of main table run.told.asked in
+    let r : Run = run_of main table run.answers.asked in
     (start_proper r run.file read.main_file one.from one.to is, end_name r run.file read.main_file one.from one.to is)
 
 pub run_has_proper_steps : RunHasProperSteps
-run_has_proper_steps run main table s steps read chain = chain_proper (run_of main table run.told.asked) run.file read.main_file chain
+run_has_proper_steps run main table s steps read chain = chain_proper (run_of main table run.answers.asked) run.file read.main_file chain

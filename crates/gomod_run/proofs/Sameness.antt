@@ -15,8 +15,8 @@ use Rattle.gm_file_edit.proofs.Places.{edited-same}
 use Rattle.gomod_run.specs.Outcome.{Outcome, text_outcome, refusal_outcome}
 use Rattle.gomod_run.specs.Reports.{FaultPlace, main_line, syntax_place}
 use Rattle.gomod_run.proofs.OneRead.{misread_or_lines, one_place, same_lines}
-use Rattle.gomod_run.specs.Editing.{EditEnds, bad_main, applied, lines_after_all, edits_outcome, refusals_from}
-use Rattle.gomod_run.specs.Runs.{FmtEnds, bad_syntax, laid_out}
+use Rattle.gomod_run.specs.Edit.{EditEnds, bad_main, applied, lines_after_all, edits_outcome, refusals_from}
+use Rattle.gomod_run.specs.Fmt.{FmtEnds, bad_syntax, laid_out}
 
 -- ---- fmt
 

@@ -6,8 +6,8 @@ use Rattle.gm_graph_select.specs.Chains.{IsChain, Leads, along, at_main, begins,
 use Rattle.gm_graph_select.specs.Graph.{Edges}
 use Rattle.gm_graph_select.proofs.Lawful.{shortest}
 use Rattle.gm_graph.specs.Run.{IsEdge, run_of}
-use Rattle.gomod_run.specs.ListingLaws.{PrintedChainIsShortest, IsWalk, further, here}
-use Rattle.gomod_run.specs.Outcomes.{PrintsChain}
+use Rattle.gomod_run.specs.QueryLaws.{PrintedChainIsShortest, IsWalk, further, here}
+use Rattle.gomod_run.specs.ChainQuery.{PrintsChain}
 use Rattle.gomod_run.proofs.PrintedList.{not_refused, printed_run}
 
 pub chain_walk : (E : Edges) {s : Step} {steps : List Step} → IsChain E s steps → IsWalk E s steps
@@ -31,7 +31,7 @@ no_shorter E s steps others chain walk =
 pub chain_is_shortest : PrintedChainIsShortest
 chain_is_shortest path run outcome is ends =
     let (main, table, found, (rows, list, shows)) = printed_run (PrintsChain path) run outcome is ends in
-    let edges : Edges = IsEdge (run_of main table run.told.asked) in
+    let edges : Edges = IsEdge (run_of main table run.answers.asked) in
     elim shows [
       | inl (s, steps, entry, chain, says) ↦
           (main, table, rows, s, steps, found, list, entry, says, chain_walk edges chain, (λ others walk. no_shorter edges s steps others chain walk))

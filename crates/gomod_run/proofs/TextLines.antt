@@ -7,7 +7,7 @@ use Rattle.std.specs.Option.{option_map, option_eq}
 use Rattle.std.specs.Prelude.{nat_eq}
 use Rattle.std.proofs.lemmas.Bool.{eqb-true, false≢true}
 use Rattle.gm_graph_select.specs.BuildList.{Entry}
-use Rattle.gomod_run.specs.ListingTexts.{entry_line, up_to, list_text}
+use Rattle.gomod_run.specs.ListQuery.{entry_line, up_to, list_text}
 
 -- the lines so far, and the next
 pub lines_more : {X : Type 0} (f : X → List ℕ) (xs : List X) (i : ℕ) (x : X) (old new : List ℕ) → i < length xs → x ≡ slice_index_or xs i x

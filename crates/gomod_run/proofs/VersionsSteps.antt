@@ -146,7 +146,7 @@ module _ (path : List ℕ) (all : Bool) (first mid : StoreState) (versions : Lis
 module _ (path : List ℕ) (first mid new : StoreState) (versions : List (List ℕ)) (latest : List ℕ)
     (is : AreVersionsAnswered path first mid versions) (greatest : IsLatest versions latest) where
   needed_after : (asked rest : Pairs) → asked ≡ (list_file path, bytes is.list) ∷ rest → IsLatestListed path false (answer_in asked) versions latest
-  needed_after asked rest begins = record { some = refl; listed = listed_first path false first mid versions is asked rest begins; greatest = greatest }
+  needed_after asked rest begins = record { filtered = refl; listed = listed_first path false first mid versions is asked rest begins; greatest = greatest }
 
   turn_before : AskedInTurn (VersionsNeed path false) mid.asked
   turn_before = list_in_turn path false mid.asked (bytes is.list) is.answered.fetchable is.answered.alone
@@ -190,7 +190,7 @@ module _ (path : List ℕ) (first mid new : StoreState) (versions : List (List �
     says_after : (reading : Result Dependency Class) → IsFileReading None (mod_file path latest) reply reading
         → LatestSays path false (answer_in new.asked) versions latest reply reading
     says_after reading says = record {
-      is = needed;
+      chosen = needed;
       answered = ap (λ (a : Pairs). answer_in a (mod_file path latest)) both ∙ file_answer path latest (bytes is.list) reply [];
       says = says;
     }

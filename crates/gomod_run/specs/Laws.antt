@@ -1,8 +1,8 @@
 -- Laws of runs, which follow from the definitions alone.
 use Rattle.std.specs.Prelude.{◌≡◌, ◌⊎◌, ◌∷◌, ℕ, List, [], codes}
-use Rattle.gomod_run.specs.ListingLaws.{AreAlike}
+use Rattle.gomod_run.specs.QueryLaws.{AreAlike}
 use Rattle.gomod_run.specs.Outcome.{Outcome, text_outcome, out_of_memory}
-use Rattle.gomod_run.specs.Outcomes.{Given}
+use Rattle.gomod_run.specs.Queries.{Given}
 use Rattle.gomod_words.specs.Usage.{version_line}
 use Rattle.gomod_words.specs.declared.usage.Command.{Command}
 use Rattle.gomod_run.specs.Program.{IsWordsOutcome, any_input, anything}

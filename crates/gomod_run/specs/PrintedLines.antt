@@ -18,9 +18,12 @@ use Rattle.gm_graph.specs.declared.cache.class.Class.TheVariants.{Malformed}
 use Rattle.gm_file.specs.Main.{Main as MainFile}
 use Rattle.gm_graph.specs.declared.fault.Fault.{Fault}
 use Rattle.gm_graph.specs.Run.{AreEdges, AreFaults, AreRows, IsEdge, IsOpened, IsVertex, run_of}
-use Rattle.gomod_run.specs.Outcomes.{FilesReadAs, Given, longest}
+use Rattle.gomod_run.specs.Queries.{FilesReadAs, Given, longest}
 use Rattle.gomod_run.specs.Reports.{faults_text, vertex_fault_text}
-use Rattle.gomod_run.specs.ListingTexts.{chain_text, edge_text, graph_text, list_text, row_text, step_text}
+use Rattle.gomod_run.specs.ChainQuery.{chain_text}
+use Rattle.gomod_run.specs.GraphQuery.{edge_text, graph_text}
+use Rattle.gomod_run.specs.ListQuery.{list_text, row_text}
+use Rattle.gomod_run.specs.LineParts.{step_text}
 
 -- ---- rows whose names are names
 
@@ -161,27 +164,27 @@ LineIsOfAFault = (faults : List Fault) (one : Fault) → AreProperFaults faults 
 abbrev pub RunHasNames : Type 0
 RunHasNames = (run : Given) (main : MainFile) (table : Option Sums) → FilesReadAs run.file run.sums main table
     → IsPath main.path
-    × ((x : ModuleVersion) → IsOpened (run_of main table run.told.asked) x → IsPath x.0 × IsVersion x.1)
-    × ((x : ModuleVersion) → IsVertex (run_of main table run.told.asked) x → IsPath x.0 × IsVersion x.1)
+    × ((x : ModuleVersion) → IsOpened (run_of main table run.answers.asked) x → IsPath x.0 × IsVersion x.1)
+    × ((x : ModuleVersion) → IsVertex (run_of main table run.answers.asked) x → IsPath x.0 × IsVersion x.1)
 
 -- Its faults are proper ones.
 abbrev pub RunHasProperFaults : Type 0
 RunHasProperFaults = (run : Given) (main : MainFile) (table : Option Sums) (faults : List Fault)
-    → FilesReadAs run.file run.sums main table → AreFaults (run_of main table run.told.asked) faults
+    → FilesReadAs run.file run.sums main table → AreFaults (run_of main table run.answers.asked) faults
     → AreProperFaults faults
 
 -- Its rows are proper ones: no folder on the right side of a row has a line feed.
 abbrev pub RunHasProperRows : Type 0
 RunHasProperRows = (run : Given) (main : MainFile) (table : Option Sums) (rows : List Entry)
-    → FilesReadAs run.file run.sums main table → AreRows (run_of main table run.told.asked) rows → AreProperRows rows
+    → FilesReadAs run.file run.sums main table → AreRows (run_of main table run.answers.asked) rows → AreProperRows rows
 
 -- And so are its edges, and the steps of a chain.
 abbrev pub RunHasProperEdges : Type 0
 RunHasProperEdges = (run : Given) (main : MainFile) (table : Option Sums) (edges : List Edge)
-    → FilesReadAs run.file run.sums main table → AreEdges (run_of main table run.told.asked) edges
+    → FilesReadAs run.file run.sums main table → AreEdges (run_of main table run.answers.asked) edges
     → AreProperEdges edges
 
 abbrev pub RunHasProperSteps : Type 0
 RunHasProperSteps = (run : Given) (main : MainFile) (table : Option Sums) (s : Step) (steps : List Step)
-    → FilesReadAs run.file run.sums main table → IsChain (IsEdge (run_of main table run.told.asked)) s steps
+    → FilesReadAs run.file run.sums main table → IsChain (IsEdge (run_of main table run.answers.asked)) s steps
     → AreProperSteps steps

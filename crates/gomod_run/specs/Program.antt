@@ -16,7 +16,7 @@ use Rattle.gomod_words.specs.declared.usage.Command.TheVariants.{Versions}
 use Rattle.gomod_words.specs.declared.usage.Places.{Places}
 use Rattle.gomod_words.specs.declared.usage.UsageFault.{UsageFault}
 use Rattle.gomod_words.specs.declared.usage.UsageFault.TheVariants as usage
-use Rattle.gomod_run.specs.Outcomes.{Answers as Told, given_of, longest}
+use Rattle.gomod_run.specs.Queries.{Answers, given_of, longest}
 use Rattle.gomod_run.specs.Outcome.{Outcome, code_of, failure_outcome, out_of_memory, text_outcome}
 use Rattle.gomod_run.specs.Reports.{cannot_read_line}
 use Rattle.gomod_run.specs.declared.ending.Ending.{Ending}
@@ -105,43 +105,44 @@ IsFolderFor (Some path) main folder = folder ≡ codes "."
 IsFolderFor None main folder = IsFolderOf main folder
 
 -- each answer is one that may come of asking for its name, and the device failed only where it may
-abbrev pub AreToldBy : (Name → Option Reply → Type 0) → Told → Type 0
-AreToldBy may told = ((name : Name) (reply : Reply) → Contains told.asked (name, reply) → may name (Some reply))
-    × ((name : Name) → Contains told.failed name → may name None)
+abbrev pub AreAnswersBy : (Name → Option Reply → Type 0) → Answers → Type 0
+AreAnswersBy may answers = ((name : Name) (reply : Reply) → Contains answers.asked (name, reply)
+    → may name (Some reply))
+    × ((name : Name) → Contains answers.failed name → may name None)
 
 -- What the store of a command may answer, and at which files its device may fail: that of the named proxy folders, if
 -- there are any, otherwise one in memory, whose device never fails.
-abbrev pub MayBeTold : (List ℕ → Opening → Type 0) → Option (List ℕ) → List ℕ → Option (Vec ℕ) → Option ProxyList
-    → Told → Type 0
-MayBeTold may_open path main list None told =
-    AreToldBy (λ name answer. answer ≡ Some (reply_for longest (held_for path list name))) told
-MayBeTold may_open path main list (Some folders) told = (folder : List ℕ) × IsFolderFor path main folder
-    × AreToldBy (MayAnswer may_open folder (folders_in folders) (marks_in folders)) told
+abbrev pub MayBeAnswered : (List ℕ → Opening → Type 0) → Option (List ℕ) → List ℕ → Option (Vec ℕ) → Option ProxyList
+    → Answers → Type 0
+MayBeAnswered may_open path main list None answers =
+    AreAnswersBy (λ name answer. answer ≡ Some (reply_for longest (held_for path list name))) answers
+MayBeAnswered may_open path main list (Some folders) answers = (folder : List ℕ) × IsFolderFor path main folder
+    × AreAnswersBy (MayAnswer may_open folder (folders_in folders) (marks_in folders)) answers
 
 -- ---- how it ends
 
 -- How a command ends that words ask for, with these names of a main file and of a go.sum, if memory doesn't run out.
 -- FILE `-` is standard input.
-pub data IsServed (may_open : List ℕ → Opening → Type 0) (may_take : Opening → Type 0) (command : Command)
+pub data CommandEnds (may_open : List ℕ → Opening → Type 0) (may_take : Opening → Type 0) (command : Command)
     (main : List ℕ) (sums : Option (List ℕ)) (proxy : Option ProxyList) (outcome : Outcome) : Type 0 where
   -- the main file can't be read
   no_main : IsUnread (FileGives may_open may_take) (main_input command main) outcome
-      → IsServed may_open may_take command main sums proxy outcome
+      → CommandEnds may_open may_take command main sums proxy outcome
   -- the main file was read, and the go.sum can't be
   no_sums : (file : Option (Vec ℕ)) → IsInput (FileGives may_open may_take) (main_input command main) file
       → IsUnread (FileGives may_open may_take) (sums_input command sums) outcome
-      → IsServed may_open may_take command main sums proxy outcome
+      → CommandEnds may_open may_take command main sums proxy outcome
   -- the list can't be read
   no_list : IsUnread (FileGives may_open may_take) (list_input command proxy) outcome
-      → IsServed may_open may_take command main sums proxy outcome
+      → CommandEnds may_open may_take command main sums proxy outcome
   -- all were read, and the command runs over a store
-  runs : (file table list : Option (Vec ℕ)) (told : Told)
+  runs : (file table list : Option (Vec ℕ)) (answers : Answers)
       → IsInput (FileGives may_open may_take) (main_input command main) file
       → IsInput (FileGives may_open may_take) (sums_input command sums) table
       → IsInput (FileGives may_open may_take) (list_input command proxy) list
-      → MayBeTold may_open (versions_path command) main list proxy told
-      → RunEnds command (given_of (bytes_read file) (option_map (λ content. content.items) table) told) outcome
-      → IsServed may_open may_take command main sums proxy outcome
+      → MayBeAnswered may_open (versions_path command) main list proxy answers
+      → RunEnds command (given_of (bytes_read file) (option_map (λ content. content.items) table) answers) outcome
+      → CommandEnds may_open may_take command main sums proxy outcome
 
 -- the outcome for these words: their usage error, or the outcome of their command over the files that they name, or
 -- over standard input
@@ -149,8 +150,8 @@ abbrev pub IsWordsOutcome : (List ℕ → Opening → Type 0) → (Opening → T
 IsWordsOutcome may_open may_take words outcome =
     ((fault : UsageFault) × IsFaultOf words fault × (outcome ≡ usage_outcome fault))
     ⊎ ((command : Command) × (places : Places) × AskFor words command places
-    × IsServed may_open may_take command (string_bytes places.main) (option_map string_bytes places.sums) places.proxy
-    outcome)
+    × CommandEnds may_open may_take command (string_bytes places.main)
+    (option_map string_bytes places.sums) places.proxy outcome)
 
 -- the outcome for these words after the program's own name, given the first that is not UTF-8, if there is one: its
 -- usage error; otherwise the outcome for the words

@@ -15,7 +15,7 @@ use Rattle.gm_file.specs.Misreading.{misreading_word}
 use Rattle.gm_graph.specs.declared.fault.Fault.{Fault}
 use Rattle.gomod_run.specs.declared.reports.report.Refusal.{Refusal}
 use Rattle.gomod_run.specs.declared.reports.report.Refusal.TheVariants.{Spelling, Misfit}
-use Rattle.gomod_run.specs.ReportTexts.{line, vertex_text}
+use Rattle.gomod_run.specs.LineParts.{line, vertex_text}
 
 -- ---- faults of modules
 

@@ -1,26 +1,24 @@
 -- How a run of a command ends, given what was read and answered, and the files that it asks a store for.
-use Rattle.std.specs.Prelude.{◌≡◌, ◌++◌, ◌∷◌, ℕ, Bool, List, [], Option, Ok, Err, Some, false, true, drop, length}
+use Rattle.std.specs.Prelude.{◌≡◌, ◌++◌, ◌∷◌, ℕ, Bool, List, [], Option, false, true, drop, length}
 use Rattle.std.specs.Option.{option_copied}
 use Rattle.gm_store.specs.States.{HasServed, StoreState}
 use Rattle.gm_store.specs.Asked.{Name, Reply, answer_in}
 use Rattle.gm_graph.specs.Run.{AskedInTurn}
-use Rattle.gm_syntax.specs.declared.fault.SyntaxFault.{SyntaxFault}
-use Rattle.gm_syntax.specs.Document.{Line}
-use Rattle.gm_syntax.specs.Layout.{layout}
-use Rattle.gm_syntax.specs.LineViews.{plain_lines}
-use Rattle.gm_syntax.specs.Parsed.{IsParsedAs}
-use Rattle.gm_syntax.specs.Tokens.{Placed}
-use Rattle.gomod_run.specs.declared.listing.query.Query.{Query}
-use Rattle.gomod_run.specs.declared.listing.query.Query.TheVariants as query
-use Rattle.gomod_run.specs.Outcome.{OrNoMemory, Outcome, failure_outcome, text_outcome, refusal_outcome}
-use Rattle.gomod_run.specs.Outcomes.{Answers, ChainEnds, Given, GraphEnds, ListEnds, answers_of, given_of}
-use Rattle.gomod_run.specs.Reports.{FaultPlace, device_line, main_line, syntax_place}
+use Rattle.gomod_run.specs.declared.queries.query.Query.{Query}
+use Rattle.gomod_run.specs.declared.queries.query.Query.TheVariants as query
+use Rattle.gomod_run.specs.Outcome.{OrNoMemory, Outcome, failure_outcome}
+use Rattle.gomod_run.specs.Reports.{device_line}
 use Rattle.gomod_run.specs.Needs.{AnsweredAll, AnswersByName, FailsInTurn, GraphNeeds}
 use Rattle.gomod_words.specs.Usage.{texts_in}
 use Rattle.gomod_words.specs.declared.usage.Command.{Command}
 use Rattle.gomod_words.specs.declared.usage.Command.TheVariants.{Fmt, Edit, Versions, Graph, List as Rows, Chain}
-use Rattle.gomod_run.specs.Editing.{EditEnds}
+use Rattle.gomod_run.specs.Edit.{EditEnds}
 use Rattle.gomod_run.specs.Versions.{IsRefusedList, VersionsEnds, VersionsNeed}
+use Rattle.gomod_run.specs.Queries.{Answers, Given, answers_of, given_of}
+use Rattle.gomod_run.specs.ChainQuery.{ChainEnds}
+use Rattle.gomod_run.specs.GraphQuery.{GraphEnds}
+use Rattle.gomod_run.specs.ListQuery.{ListEnds}
+use Rattle.gomod_run.specs.Fmt.{FmtEnds}
 
 -- ---- commands
 
@@ -39,30 +37,22 @@ command_of (query.Chain path) = Chain path.now
 
 -- ---- ends
 
--- How `fmt FILE` ends over the bytes of the file, if memory doesn't run out: the syntax fault is reported, or the
--- layout of the document is printed.
-pub data FmtEnds (file : List ℕ) (outcome : Outcome) : Type 0 where
-  bad_syntax : (fault : SyntaxFault) (place : FaultPlace) → IsParsedAs file (Err fault)
-      → syntax_place fault ≡ Some place → outcome ≡ refusal_outcome (main_line place) → FmtEnds file outcome
-  laid_out : (lines : List (Line Placed)) → IsParsedAs file (Ok lines)
-      → outcome ≡ text_outcome (layout (plain_lines lines)) → FmtEnds file outcome
-
 -- how a run of a command ends, if memory doesn't run out
 abbrev pub RunEnds : Command → Given → Outcome → Type 0
 RunEnds Fmt run outcome = FmtEnds run.file outcome
 RunEnds (Edit operations) run outcome = EditEnds (texts_in operations) run.file outcome
-RunEnds (Versions path all) run outcome = VersionsEnds path all (answer_in run.told.asked) run.told.failed outcome
+RunEnds (Versions path all) run outcome = VersionsEnds path all (answer_in run.answers.asked) run.answers.failed outcome
 RunEnds Graph run outcome = GraphEnds run outcome
 RunEnds (Rows after limit) run outcome = ListEnds after limit run outcome
 RunEnds (Chain path) run outcome = ChainEnds path run outcome
 
 -- what a store that had not been asked before was asked in a run, with its answers, and where its device failed
-abbrev pub told_between : StoreState → StoreState → Answers
-told_between old new = answers_of new.asked (drop (length old.refused) new.refused)
+abbrev pub answers_between : StoreState → StoreState → Answers
+answers_between old new = answers_of new.asked (drop (length old.refused) new.refused)
 
 -- the run over these bytes and such a store
 abbrev pub run_between : List ℕ → Option (List ℕ) → StoreState → StoreState → Given
-run_between main sums old new = given_of main sums (told_between old new)
+run_between main sums old new = given_of main sums (answers_between old new)
 
 -- ---- however a run ends
 

@@ -45,14 +45,14 @@ pub record HasListed (path : List ℕ) (answers : AnswersByName) (versions : Lis
 -- not all versions are asked for, and this is the latest of those that are listed
 pub record IsLatestListed (path : List ℕ) (all : Bool) (answers : AnswersByName) (versions : List (List ℕ))
     (latest : List ℕ) : Type 0 where
-  pub some : all ≡ false
+  pub filtered : all ≡ false
   pub listed : HasListed path answers versions
   pub greatest : IsLatest versions latest
 
 -- the answer for its go.mod, and what that says or what is wrong with it. No hash is checked.
 pub record LatestSays (path : List ℕ) (all : Bool) (answers : AnswersByName) (versions : List (List ℕ))
     (latest : List ℕ) (reply : Reply) (reading : Result Dependency Class) : Type 0 where
-  pub is : IsLatestListed path all answers versions latest
+  pub chosen : IsLatestListed path all answers versions latest
   pub answered : answers (mod_file path latest) ≡ Some reply
   pub says : IsFileReading None (mod_file path latest) reply reading
 

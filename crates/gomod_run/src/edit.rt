@@ -10,9 +10,8 @@ ghost use Rattle.gm_file.specs.Misreading.{IsMisread};
 ghost use Rattle.gm_file.specs.Directives.{Strict};
 ghost use Rattle.gomod_run.specs.Outcome.{OrNoMemory, outcome_view, refusal_outcome, report_outcome};
 ghost use Rattle.gomod_run.specs.Reports.{FaultPlace, main_line};
-ghost use Rattle.gomod_run.specs.Editing.{EditEnds, lines_after_all, refusal_of};
-ghost use Rattle.gomod_run.specs.Private.Runs.{IsRefusedOperation};
-ghost use Rattle.gomod_run.specs.Private.Refusals.{report_by_edit, report_by_op};
+ghost use Rattle.gomod_run.specs.Edit.{EditEnds, lines_after_all, refusal_of};
+ghost use Rattle.gomod_run.specs.Private.Refusals.{IsRefusedOperation, report_by_edit, report_by_op};
 
 use crate::reports::report::{Refusal, Report};
 use gm_file::MainFile;

@@ -7,7 +7,7 @@ ghost use Rattle.std.specs.String.{string_bytes};
 ghost use Rattle.gm_store.specs.Openings.{MayRead};
 ghost use Rattle.gm_store.specs.declared.fallback.proxy_list.ProxyList.{ProxyList};
 ghost use Rattle.gomod_run.specs.Outcome.{OrNoMemory, report_outcome};
-ghost use Rattle.gomod_run.specs.Program.{FileGives, IsInput, IsServed, IsUnread, bytes_read, main_input, sums_input, versions_path};
+ghost use Rattle.gomod_run.specs.Program.{FileGives, IsInput, CommandEnds, IsUnread, bytes_read, main_input, sums_input, versions_path};
 ghost use Rattle.gomod_run.specs.Runs.{is_query};
 
 use crate::reports::report::Report;
@@ -159,7 +159,7 @@ pub(crate) fn read_inputs<'a, S: StandardInput + FileSystem + Alloc<A = Global>>
     ensures sums { IfOk result (λ inputs. IsInput (FileGives (S.may_open rt.now) (S.may_take rt.now))
         (sums_input command.now (option_map string_bytes places.now.sums)) inputs.sums) }
     ensures unread { (proxy : Option ProxyList) → IfErr result (λ told.
-        OrNoMemory (IsServed (S.may_open rt.now) (S.may_take rt.now) command.now (string_bytes places.now.main)
+        OrNoMemory (CommandEnds (S.may_open rt.now) (S.may_take rt.now) command.now (string_bytes places.now.main)
         (option_map string_bytes places.now.sums) proxy) (report_outcome told)) }
 {
     let main = read_optional(rt, main_name(command, places))?;

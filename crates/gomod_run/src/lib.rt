@@ -10,30 +10,30 @@
 #![tactic(auto)]
 
 mod asking;
+mod command;
 mod edit;
 mod ending;
 mod fmt;
 mod inputs;
 pub mod laws;
-pub mod listing;
-mod outcome;
 mod program;
+pub mod queries;
 mod reports;
 mod running;
-mod serving;
 mod stores;
 mod versions;
 mod writing;
 
 pub use crate::ending::Ending;
-pub use crate::listing::answering::answer;
-pub use crate::listing::graph_lines::{chain_text, graph_text};
-pub use crate::listing::query::Query;
-pub use crate::listing::row_lines::list_text;
 pub use crate::program::{ending_of, ending_of_words, exit_code};
+pub use crate::queries::answering::answer;
+pub use crate::queries::chain::chain_text;
+pub use crate::queries::graph::graph_text;
+pub use crate::queries::list::list_text;
+pub use crate::queries::query::Query;
+pub use crate::reports::lines::write_line;
 pub use crate::reports::report::{Refusal, Report};
 pub use crate::reports::status::Status;
-pub use crate::reports::writing::write_line;
 pub use crate::running::run;
 pub use gm_file::Misreading;
 pub use gm_graph::{Class, Fault};

@@ -7,12 +7,12 @@ ghost use Rattle.std.specs.String.{string_bytes};
 ghost use Rattle.gomod_run.specs.Program.{IsProgramOutcome, IsProgramStatus, IsWordsOutcome, any_input, anything, ending_code, usage_outcome};
 ghost use Rattle.gomod_run.specs.Written.{EndsAsStated, IsWritten};
 
+use crate::command::run_command;
 use crate::ending::Ending;
+use crate::reports::lines::write_line;
 use crate::reports::report::Report;
 use crate::reports::status::Status;
-use crate::reports::writing::write_line;
-use crate::serving::serve;
-use crate::writing::{print_text, write_report};
+use crate::writing::{write_report, write_text};
 use gm_store::{FileSystem, Sink, StandardInput, StdSink, WriteFault, write_all};
 use gomod_words::{UsageFault, Words, given_words, read_words};
 use std::alloc::{AllocError, Global};
@@ -49,7 +49,7 @@ pub fn ending_of<
 {
     let words = match given_words(rt) {
         Ok(words) => words,
-        Err(fault) => return tell(&fault, out, report),
+        Err(fault) => return ending_of_fault(&fault, out, report),
     };
     match texts_of(rt.alloc(), words.as_slice()) {
         Ok(texts) => ending_of_words(rt, texts.as_slice(), out, report),
@@ -92,8 +92,8 @@ pub fn ending_of_words<
         (ending_code result) }
 {
     match read_words(rt.alloc(), words) {
-        Ok((command, places)) => Ending::Run(serve(rt, &command, places, out, report)),
-        Err(fault) => tell(&fault, out, report),
+        Ok((command, places)) => Ending::Run(run_command(rt, &command, places, out, report)),
+        Err(fault) => ending_of_fault(&fault, out, report),
     }
 }
 
@@ -110,15 +110,15 @@ fn texts_of(alloc: Global, words: &[String]) -> Result<Vec<&str>, AllocError>
 }
 
 /// Shows help or the version, or reports a usage error.
-fn tell<O: Sink, R: Sink>(fault: &UsageFault, out: &mut O, report: &mut R) -> Ending
+fn ending_of_fault<O: Sink, R: Sink>(fault: &UsageFault, out: &mut O, report: &mut R) -> Ending
     ensures { IsWritten (usage_outcome fault.now)
         (O.state out.old) (O.state out.new) (R.state report.old) (R.state report.new)
         (ending_code result) }
 {
     match fault {
         UsageFault::NoMemory => Ending::Run(write_report(report, &Report::NoMemory)),
-        UsageFault::Help(text) => Ending::Run(print_text(out, text.as_str())),
-        UsageFault::Version(text) => Ending::Run(print_text(out, text.as_str())),
+        UsageFault::Help(text) => Ending::Run(write_text(out, text.as_str())),
+        UsageFault::Version(text) => Ending::Run(write_text(out, text.as_str())),
         UsageFault::Line(text) => usage_error(write_all(report, text.as_str().as_bytes())),
         UsageFault::BadPath(path) => {
             usage_error(write_line(report, &["gomod: bad path ", path.as_str()]))

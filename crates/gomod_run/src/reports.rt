@@ -11,6 +11,6 @@
 
 pub(crate) mod buffer;
 pub(crate) mod from_faults;
+pub(crate) mod lines;
 pub(crate) mod report;
 pub(crate) mod status;
-pub(crate) mod writing;

@@ -11,7 +11,7 @@ use crate::reports::status::Status;
 use gm_store::{Sink, write_all};
 
 /// Writes a text to the output, and returns the status of the run: `Done`, or `Device` if the sink fails.
-pub(crate) fn print_text<O: Sink>(out: &mut O, text: &str) -> Status
+pub(crate) fn write_text<O: Sink>(out: &mut O, text: &str) -> Status
     ensures { (report : SinkState) → IsWritten (text_outcome text.now)
         (O.state out.old) (O.state out.new) report report
         (code_of result) }
@@ -47,7 +47,7 @@ pub(crate) fn write_outcome<O: Sink, R: Sink>(
         (code_of result) }
 {
     match ended {
-        Ok(text) => print_text(out, text.as_str()),
+        Ok(text) => write_text(out, text.as_str()),
         Err(told) => write_report(report, &told),
     }
 }

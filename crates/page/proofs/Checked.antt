@@ -12,11 +12,11 @@ use Rattle.page.specs.Asked.{Name, Reply, absent, answer_in, bytes, folder_file,
 use Rattle.page.specs.BuildList.{Entry, HasEntryFor, IsRestAfter, entry_of, main_entry, path_cmp, path_of}
 use Rattle.page.specs.Fields.{Dependency}
 use Rattle.page.specs.Files.{main_in, said_in, sum_fault}
-use Rattle.page.specs.ListingTexts.{list_text, up_to}
+use Rattle.page.specs.ListQuery.{list_text, up_to, ListEnds, PrintsRows, no_path, path_listed, path_unlisted}
 use Rattle.page.specs.Main.{Main, is_pruned_by, replacement_in, without_excluded}
 use Rattle.page.specs.ModuleVersion.{ModuleVersion, pair_cmp}
 use Rattle.page.specs.Outcome.{Outcome, refusal_outcome, text_outcome}
-use Rattle.page.specs.Outcomes.{AreFound, ListEnds, PrintsRows, faulty as some_faulty, no_fault, no_path, path_listed, path_unlisted}
+use Rattle.page.specs.Queries.{AreFound, faulty as some_faulty, no_fault}
 use Rattle.page.specs.Reading.{IsContentReading, IsFileReading, IsReadUnless, file_of, is_askable, is_right_path}
 use Rattle.page.specs.Reports.{faults_text, not_listed_line}
 use Rattle.page.specs.Run.{FileSays, IsRead, Run, Says, answered, faulty, run_of, sound, unaskable, wrong_path}

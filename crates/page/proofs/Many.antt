@@ -10,7 +10,7 @@ use Rattle.page.specs.Files.{main_in}
 use Rattle.page.specs.Files.RowFiles.{at, many_file, many_text, versions_below}
 use Rattle.page.specs.Main.{Main, without_excluded}
 use Rattle.page.specs.ModuleVersion.{ModuleVersion, pair_eq}
-use Rattle.page.specs.Outcomes.{too_many}
+use Rattle.page.specs.Queries.{too_many}
 use Rattle.page.specs.Run.{AreTooMany, run_of}
 use Rattle.page.specs.Types.{Misreading, Unknown}
 use Rattle.page.specs.Worlds.Rows.{TooManyAreReported}

@@ -7,7 +7,7 @@ use Rattle.page.specs.Files.{main_in}
 use Rattle.page.specs.Files.RowFiles.{alone_file, alone_text, bare_file, first_of, one_file, one_text}
 use Rattle.page.specs.Main.{Main, without_excluded}
 use Rattle.page.specs.ModuleVersion.{ModuleVersion}
-use Rattle.page.specs.Outcomes.{AreFound, Given, bad_main, bad_sums, device, faulty, no_fault, too_many}
+use Rattle.page.specs.Queries.{AreFound, Given, bad_main, bad_sums, device, faulty, no_fault, too_many}
 use Rattle.page.specs.Path.{is_fetchable}
 use Rattle.page.specs.Run.{AreTooMany, IsDeep, IsDue, IsNeeded, IsOpened, IsTop, Requires, Run, from_deep, from_main, from_top, run_of}
 use Rattle.page.specs.Types.{AreSums, Fault, Misreading, Sums}
@@ -31,7 +31,7 @@ some_not_none a e = cc e
 -- ---- a main file that is invalid
 
 pub no_main : (run : Given) (place : ℕ × Misreading) → main_in run.file ≡ Err place → run.sums ≡ None
-    → ((run.told.asked ≡ []) × (run.told.failed ≡ []) → ⊥) → HasNoOutcome run
+    → ((run.answers.asked ≡ []) × (run.answers.failed ≡ []) → ⊥) → HasNoOutcome run
 no_main run place is none asks outcome (bad_main other misread unasked says) = asks unasked
 no_main run place is none asks outcome (bad_sums main report read bad unasked says) = not_both main place (sym read ∙ is)
 no_main run place is none asks outcome (device main table name read due failed says) = not_both main place (sym read.main_file ∙ is)
@@ -46,7 +46,7 @@ module _ (content : List ℕ) (main : Main) (asked : List (Name × Reply)) (fail
   run = run_of main None asked
 
   abbrev given : Given
-  given = record { file = content; sums = None; told = record { asked = asked; failed = failed } }
+  given = record { file = content; sums = None; answers = record { asked = asked; failed = failed } }
 
   module _ (bare : (x : ModuleVersion) → IsTop run x → (y : ModuleVersion) → Requires run x y → ⊥) where
     deep_is_top : (x : ModuleVersion) → IsDeep run x → IsTop run x

@@ -6,11 +6,11 @@ use Rattle.page.specs.Asked.{Name}
 use Rattle.page.specs.BuildList.{Entry, HasEntryFor, IsRestAfter, entry_of, main_entry, path_cmp, path_of}
 use Rattle.page.specs.Files.{IsMainFile, IsMisread}
 use Rattle.page.specs.Directives.{Strict}
-use Rattle.page.specs.ListingTexts.{list_text, up_to}
+use Rattle.page.specs.ListQuery.{list_text, up_to, ListEnds, PrintsList, PrintsRows, no_path, path_listed, path_unlisted}
 use Rattle.page.specs.Main.{Main}
 use Rattle.page.specs.ModuleVersion.{ModuleVersion, pair_cmp}
 use Rattle.page.specs.Outcome.{Outcome, failure_outcome, refusal_outcome, text_outcome}
-use Rattle.page.specs.Outcomes.{AreFound, FilesReadAs, Given, ListEnds, PrintsList, PrintsRows, bad_main, bad_sums, device, faulty, no_fault, no_path, path_listed, path_unlisted, too_many}
+use Rattle.page.specs.Queries.{AreFound, FilesReadAs, Given, bad_main, bad_sums, device, faulty, no_fault, too_many}
 use Rattle.page.specs.Reports.{FaultPlace, device_line, faults_text, main_line, not_listed_line, too_many_line}
 use Rattle.page.specs.Run.{AreFaults, AreRows, AreTooMany, Run, run_of}
 use Rattle.page.specs.Types.{AreInvalidSums, AreSums, Fault, Parts, Sums, parts_in, pre_cmp, pre_rank}
@@ -164,11 +164,11 @@ one_told after limit run (first ∷ others) a b is be = is ∙ sym be
 
 -- how it ends if its files are valid
 data Ends (after : Option (List ℕ)) (limit : Option ℕ) (run : Given) (main : Main) (table : Option Sums) (outcome : Outcome) : Type 0 where
-  broken : (name : Name) → run.told.failed ≡ name ∷ [] → outcome ≡ failure_outcome (device_line name) → Ends after limit run main table outcome
-  many : AreTooMany (run_of main table run.told.asked) → run.told.failed ≡ [] → outcome ≡ refusal_outcome too_many_line
+  broken : (name : Name) → run.answers.failed ≡ name ∷ [] → outcome ≡ failure_outcome (device_line name) → Ends after limit run main table outcome
+  many : AreTooMany (run_of main table run.answers.asked) → run.answers.failed ≡ [] → outcome ≡ refusal_outcome too_many_line
       → Ends after limit run main table outcome
   known : (faults : List Fault) → AreFound run main table faults
-      → Tells after limit (run_of main table run.told.asked) faults outcome → Ends after limit run main table outcome
+      → Tells after limit (run_of main table run.answers.asked) faults outcome → Ends after limit run main table outcome
 
 -- its files are invalid, or it ends otherwise
 data Reads (after : Option (List ℕ)) (limit : Option ℕ) (run : Given) (outcome : Outcome) : Type 0 where
@@ -187,13 +187,13 @@ reads after limit run outcome (faulty main table first others found is) = valid 
 reads after limit run outcome (no_fault main table found prints) = valid main table found.read (known [] found prints)
 
 module _ (after : Option (List ℕ)) (limit : Option ℕ) (run : Given) where
-  some_failed : (name : Name) → run.told.failed ≡ name ∷ [] → run.told.failed ≡ [] → ⊥
+  some_failed : (name : Name) → run.answers.failed ≡ name ∷ [] → run.answers.failed ≡ [] → ⊥
   some_failed name some none = let same : name ∷ [] ≡ [] = sym some ∙ none in cc same
 
-  one_failed : (name other : Name) → run.told.failed ≡ name ∷ [] → run.told.failed ≡ other ∷ [] → name ≡ other
+  one_failed : (name other : Name) → run.answers.failed ≡ name ∷ [] → run.answers.failed ≡ other ∷ [] → name ≡ other
   one_failed name other is be = let same : name ∷ [] ≡ other ∷ [] = sym is ∙ be in cc same
 
-  not_many : (main : Main) (table : Option Sums) (faults : List Fault) → AreFound run main table faults → AreTooMany (run_of main table run.told.asked) → ⊥
+  not_many : (main : Main) (table : Option Sums) (faults : List Fault) → AreFound run main table faults → AreTooMany (run_of main table run.answers.asked) → ⊥
   not_many main table faults found (xs, over, are) = let few = found.settled.few xs are in omega (arith, over, few)
 
   one_end : (main : Main) (table : Option Sums) (a b : Outcome) → Ends after limit run main table a → Ends after limit run main table b → a ≡ b
@@ -207,7 +207,7 @@ module _ (after : Option (List ℕ)) (limit : Option ℕ) (run : Given) where
   one_end main table a b (known faults found is) (broken name some be) = absurd (some_failed name some found.none_failed)
   one_end main table a b (known faults found is) (many over none be) = absurd (not_many main table faults found over)
   one_end main table a b (known faults found is) (known others finds be) =
-      let r = run_of main table run.told.asked in
+      let r = run_of main table run.answers.asked in
       one_told after limit r others a b (subst (λ (fs : List Fault). Tells after limit r fs a)
       (one_faults r faults others found.faults_are finds.faults_are) is) be
 

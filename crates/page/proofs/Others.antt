@@ -11,7 +11,7 @@ use Rattle.page.specs.Files.RowFiles.{alone_file, file_requiring, first_of, huge
 use Rattle.page.specs.Main.{is_pruned_by, without_excluded}
 use Rattle.page.specs.ModuleVersion.{ModuleVersion}
 use Rattle.page.specs.Outcome.{Outcome}
-use Rattle.page.specs.Outcomes.{PrintsRows, no_path, path_listed, path_unlisted}
+use Rattle.page.specs.ListQuery.{PrintsRows, no_path, path_listed, path_unlisted}
 use Rattle.page.specs.Path.{is_fetchable}
 use Rattle.page.specs.Reading.{IsFileReading}
 use Rattle.page.specs.Run.{FileSays, IsDeep, IsEdge, IsNeeded, IsOpened, IsRead, IsTop, Requires, Says, answered, from_deep, from_main, from_top, run_of, sound, unaskable}

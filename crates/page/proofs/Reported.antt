@@ -5,7 +5,7 @@ use Rattle.page.specs.Asked.{Name, Reply, answer_in, folder_file}
 use Rattle.page.specs.Files.{local_file, local_text, mid_nine, old_file}
 use Rattle.page.specs.Files.RowFiles.{alone_file, forking_file, forking_text, hosts_file, hosts_text, late_text, local_zero, nine_file, nine_text, one_file, one_text, replacing_file, three_file, three_text, unfetchable_file, unfetchable_text}
 use Rattle.page.specs.Main.{Main}
-use Rattle.page.specs.Outcomes.{bad_main, bad_sums, device, faulty, no_fault, too_many}
+use Rattle.page.specs.Queries.{bad_main, bad_sums, device, faulty, no_fault, too_many}
 use Rattle.page.specs.Path.{is_fetchable}
 use Rattle.page.specs.Run.{IsDue, run_of}
 use Rattle.page.specs.Types.{Misreading, NoModule, Sums, Unknown, sums_table, sums_text}

@@ -6,7 +6,7 @@ use Rattle.page.specs.ModuleVersion.{ModuleVersion}
 use Rattle.page.specs.Asked.{Name, mod_file, folder_file, list_file}
 use Rattle.page.specs.Types.{Class, Malformed, Misreading, misreading_word, Fault}
 use Rattle.page.specs.ClassWords.{class_word}
-use Rattle.page.specs.ReportTexts.{line, vertex_text}
+use Rattle.page.specs.LineParts.{line, vertex_text}
 
 -- `Malformed LINE KIND`
 abbrev pub malformed_text : ℕ → Misreading → List ℕ

@@ -3,7 +3,8 @@ use Rattle.std.specs.Prelude.{◌≡◌, ℕ, List, [], ◌∷◌, Option, Some,
 use Rattle.page.specs.Asked.{Name, Reply, bytes, folder_file, mod_file}
 use Rattle.page.specs.Files.{end_text, folder_text, local_text, low_text, main_text, mid_text, old_text, short_text, top_text}
 use Rattle.page.specs.Outcome.{Outcome}
-use Rattle.page.specs.Outcomes.{Given, ListEnds}
+use Rattle.page.specs.Queries.{Given}
+use Rattle.page.specs.ListQuery.{ListEnds}
 pub mod Parts
 pub mod Rows
 
@@ -29,7 +30,7 @@ asked_end = mod_file (codes "end.org") (codes "v1.0.0")
 
 -- a run over the bytes of a main file, and of a go.sum if there is one, with these answers
 abbrev pub given_with : List ℕ → Option (List ℕ) → List (Name × Reply) → Given
-given_with file sums asked = record { file = file; sums = sums; told = record { asked = asked; failed = [] } }
+given_with file sums asked = record { file = file; sums = sums; answers = record { asked = asked; failed = [] } }
 
 -- a run without a go.sum
 abbrev pub given_by : List ℕ → List (Name × Reply) → Given
@@ -37,7 +38,7 @@ given_by file asked = given_with file None asked
 
 -- The device fails on a name.
 abbrev pub failing : List ℕ → List (Name × Reply) → Name → Given
-failing file asked name = record { file = file; sums = None; told = record { asked = asked; failed = name ∷ [] } }
+failing file asked name = record { file = file; sums = None; answers = record { asked = asked; failed = name ∷ [] } }
 
 -- Outcomes that are written out: what is printed, with status 0, and what is reported, with status 1 or 3.
 abbrev pub printing : List ℕ → Outcome

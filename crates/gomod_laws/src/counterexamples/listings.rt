@@ -1,4 +1,4 @@
-//! What the laws of `gomod_run::listing` conclude, tried on outputs of `list`, `graph` and `chain`.
+//! What the laws of `gomod_run::queries` conclude, tried on outputs of `list`, `graph` and `chain`.
 
 ghost use Rattle.gomod_laws.specs.CounterListings.{ChainBeginsElsewhere, ChainEndsElsewhere, ChainIsOfAnotherGraph, ChainIsTooLong, ListIsOfAnotherGraph, MainIsMissing, PageHasAnotherRow, PageIsMissing, PartHasAnotherRow, PartIsTheWhole, PartIsTooLong, PathIsTwice, RequiredHasNoRow, RowIsNotRequired, RowIsTooLow, RowsAreUnordered};
 

@@ -5,11 +5,12 @@ use Rattle.gm_file.specs.Main.{Main}
 use Rattle.gm_graph_select.specs.Graph.{among}
 use Rattle.gm_graph.specs.declared.fault.Fault.{Fault}
 use Rattle.gm_graph.specs.Outcome.{LoadedGraph as Found}
-use Rattle.gomod_run.specs.declared.listing.query.Query.{Query}
-use Rattle.gomod_run.specs.declared.listing.query.Query.TheVariants.{Graph, List as Rows, Chain}
-use Rattle.gomod_run.specs.ListingTexts.{graph_text}
+use Rattle.gomod_run.specs.declared.queries.query.Query.{Query}
+use Rattle.gomod_run.specs.declared.queries.query.Query.TheVariants.{Graph, List as Rows, Chain}
+use Rattle.gomod_run.specs.GraphQuery.{graph_text}
 use Rattle.gomod_run.specs.Reports.{faults_text}
-use Rattle.gomod_run.specs.Outcomes.{PrintsRows, ShowsChain}
+use Rattle.gomod_run.specs.ListQuery.{PrintsRows}
+use Rattle.gomod_run.specs.ChainQuery.{ShowsChain}
 use Rattle.gomod_run.specs.Outcome.{Outcome, text_outcome, refusal_outcome}
 
 -- what a command prints of what was found

@@ -4,7 +4,7 @@
 ghost use Rattle.std.specs.Prelude.{◌≡◌, ◌-◌, ◌^◌, [], OnOk, length, min};
 ghost use Rattle.std.specs.List.{flat_map};
 ghost use Rattle.gomod_run.specs.Private.Giving.{IsGiven, IsEnded};
-ghost use Rattle.gomod_run.specs.ReportTexts.{line};
+ghost use Rattle.gomod_run.specs.LineParts.{line};
 
 use arrayvec::ArrayVec;
 use gm_store::{Sink, WriteFault, write_all};

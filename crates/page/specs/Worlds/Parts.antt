@@ -7,11 +7,10 @@ use Rattle.page.specs.Fields.{Dependency}
 use Rattle.page.specs.Files.{end_one, local_file, low_nine, low_ten, main_file, mid_nine, mid_ten, old_file, own_one, top_file, top_one, top_text}
 use Rattle.page.specs.Files.RowFiles.{alone_file, first_of, huge_text, malformed_text, one_file, three_file}
 use Rattle.page.specs.Graph.{Edges, IsEdgeEnd}
-use Rattle.page.specs.ListingTexts.{replacement_text}
+use Rattle.page.specs.ListQuery.{replacement_text, PrintsRows}
 use Rattle.page.specs.Main.{without_excluded}
 use Rattle.page.specs.ModuleVersion.{ModuleVersion}
 use Rattle.page.specs.Outcome.{Outcome}
-use Rattle.page.specs.Outcomes.{PrintsRows}
 use Rattle.page.specs.Reading.{IsContentReading, IsFileReading, IsReadUnless}
 use Rattle.page.specs.Run.{FileSays, IsDeep, IsEdge, IsFault, IsNeeded, IsOpened, IsRead, IsTop, Requires, Run, Says, run_of}
 use Rattle.page.specs.Types.{Class, Malformed, Missing, NoSum, NotFetchable, Of, TooLong, WrongArguments, WrongPath, sums_table}

@@ -1,11 +1,8 @@
 -- More worlds, each of which shows one thing that `list` does.
 use Rattle.std.specs.Prelude.{◌≡◌, ◌++◌, ℕ, false, List, [], ◌∷◌, Option, Some, None, codes}
 use Rattle.page.specs.Asked.{Name, Reply, absent, bytes, folder_file, mod_file, too_long}
-use Rattle.page.specs.Files.RowFiles.{alone_text, both_text, ends_text, excluding_text, forking_text, going}
-use Rattle.page.specs.Files.RowFiles.{malformed_text, module_line, one_text, path_of, replacing_text, requiring}
-use Rattle.page.specs.Files.RowFiles.{three_text, two_text, unfetchable_text}
-use Rattle.page.specs.Files.RowFiles.{folders_text, greater_text, hosts_text, late_text, later_text, lesser_text, many_text, nine_text, unknown_text}
-use Rattle.page.specs.Outcomes.{ListEnds}
+use Rattle.page.specs.Files.RowFiles.{alone_text, both_text, ends_text, excluding_text, forking_text, going, malformed_text, module_line, one_text, path_of, replacing_text, requiring, three_text, two_text, unfetchable_text, folders_text, greater_text, hosts_text, late_text, later_text, lesser_text, many_text, nine_text, unknown_text}
+use Rattle.page.specs.ListQuery.{ListEnds}
 use Rattle.page.specs.Reading.{declares}
 use Rattle.page.specs.Types.{sums_text}
 use Rattle.page.specs.Worlds.{HasNoOutcome, failing, failing_with, given_by, given_with, printing, reporting}

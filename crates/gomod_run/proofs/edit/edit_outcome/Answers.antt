@@ -5,7 +5,7 @@ use Rattle.std.proofs.Math.ListN.{drop_of_length-le}
 use Rattle.std.specs.List.{filter_map}
 use Rattle.gm_file_edit.specs.Edits.{edit_in}
 use Rattle.gm_file_edit.proofs.Walking.{drop-next}
-use Rattle.gomod_run.specs.Editing.{EditEnds, lines_after_all, refusals_from}
+use Rattle.gomod_run.specs.Edit.{EditEnds, lines_after_all, refusals_from}
 use Rattle.gomod_run.specs.Outcome.{OrNoMemory, report_outcome}
 use Rattle.gomod_run.proofs.Operations.{all_applied, bad_file, next_lines, next_refusals, one_refused}
 use Rattle.gomod_run.proofs.PassedOn.{passed}

@@ -1,7 +1,7 @@
 use Rattle.std.proofs.Common.{◌≡◌, ◌+◌, drop, map, string_bytes}
 use Rattle.std.specs.List.{filter_map}
 use Rattle.gm_file_edit.specs.Edits.{edit_in}
-use Rattle.gomod_run.specs.Editing.{lines_after_all, refusals_from}
+use Rattle.gomod_run.specs.Edit.{lines_after_all, refusals_from}
 use Rattle.gomod_run.proofs.edit.edit_outcome.Given as goal
 
 -- the remaining operations have the refusals of all of them, and give the lines that all of them give

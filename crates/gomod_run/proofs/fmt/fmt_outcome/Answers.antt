@@ -1,6 +1,6 @@
 use Rattle.std.proofs.Common.{inl, inr, rules}
 use Rattle.std.proofs.lemmas.Result.{err_from_is_err_and}
-use Rattle.gomod_run.specs.Runs.{laid_out}
+use Rattle.gomod_run.specs.Fmt.{laid_out}
 use Rattle.gomod_run.proofs.Misread.{fmt_misread}
 use Rattle.gomod_run.proofs.PassedOn.{no_memory}
 use Rattle.gomod_run.proofs.fmt.fmt_outcome.Goals as goal

@@ -13,7 +13,7 @@ returns-in-Ok-texts_of g c =
 pub returns-in-Err : goal.returns-in-Err
 returns-in-Err g c =
     unreadable_ends (g.S.FileSystem.may_open c.args.rt.now) (g.S.StandardInput.may_take c.args.rt.now)
-    (g.S.Words.given c.args.rt.now) c.in-Err.fault _ _ _ _ _ c.in-Err.ensures.fault c.tell.ensures
+    (g.S.Words.given c.args.rt.now) c.in-Err.fault _ _ _ _ _ c.in-Err.ensures.fault c.ending_of_fault.ensures
 
 pub returns : goal.returns
 returns g c = record {

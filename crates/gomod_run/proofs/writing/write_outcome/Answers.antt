@@ -13,7 +13,7 @@ returns-in-Ok-clause-written g c =
     let report = g.R.Sink.state c.args.report.now in
     rw c.in-Ok.is
     (written_as (text_outcome c.as_str.result.now) (text_outcome (string_bytes c.in-Ok.text)) _ _ report report _
-    (ap text_outcome c.as_str.ensures.value) (c.print_text.ensures report))
+    (ap text_outcome c.as_str.ensures.value) (c.write_text.ensures report))
 
 pub returns-in-Err-clause-utf8 : goal.returns-in-Err-clause-utf8
 returns-in-Err-clause-utf8 g c = rw c.in-Err.is IsUtf8-nil

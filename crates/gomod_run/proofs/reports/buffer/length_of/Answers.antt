@@ -1,5 +1,5 @@
 use Rattle.std.proofs.Common.{◌≡◌, ◌∙◌, ◌+◌, ◌-◌, ◌^◌, ◌++◌, ℕ, List, [], ap, arith, codes, length, length-append, min, take_all}
-use Rattle.gomod_run.specs.ReportTexts.{line}
+use Rattle.gomod_run.specs.LineParts.{line}
 use Rattle.gomod_run.proofs.Waiting.{one_more}
 use Rattle.gomod_run.proofs.reports.buffer.length_of.Goals as goal
 

@@ -1,6 +1,6 @@
 use Rattle.std.proofs.Common.{◌≡◌, ◌-◌, ◌^◌, length, min, take}
 use Rattle.std.specs.List.{flat_map}
-use Rattle.gomod_run.specs.ReportTexts.{line}
+use Rattle.gomod_run.specs.LineParts.{line}
 use Rattle.gomod_run.proofs.reports.buffer.length_of.Given as goal
 
 -- the pieces so far were counted

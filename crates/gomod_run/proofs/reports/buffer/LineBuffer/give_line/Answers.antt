@@ -1,7 +1,7 @@
 use Rattle.std.proofs.Common.{◌∙◌, ◌+◌, ◌++◌, List, [], Ok, ap, codes, drop, refl, suc, sym, take, take_all, ℕ}
 use Rattle.std.specs.List.{flat_map}
 use Rattle.gomod_run.proofs.Waiting.{around, gives_more, gives_no_end, no_more, one_more}
-use Rattle.gomod_run.specs.ReportTexts.{line}
+use Rattle.gomod_run.specs.LineParts.{line}
 use Rattle.gomod_run.proofs.reports.buffer.LineBuffer.give_line.Goals as goal
 
 pub returns-in_err-end : goal.returns-in_err-end

@@ -1,5 +1,0 @@
-use Rattle.gomod_run.proofs.PrintedList.{pages_join}
-use Rattle.gomod_run.proofs.listing.laws.pages_join.Goals as goal
-
-pub returns : goal.returns
-returns c = pages_join

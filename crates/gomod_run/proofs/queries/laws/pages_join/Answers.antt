@@ -1,0 +1,5 @@
+use Rattle.gomod_run.proofs.PrintedList.{pages_join}
+use Rattle.gomod_run.proofs.queries.laws.pages_join.Goals as goal
+
+pub returns : goal.returns
+returns c = pages_join

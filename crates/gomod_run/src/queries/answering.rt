@@ -1,0 +1,136 @@
+//! Answers a query: reads the two files, loads the module graph that the main module's file leads to, and makes the
+//! outcome. Faults of modules are handled once, before any query looks at the graph, so the queries agree on when
+//! they print nothing.
+
+ghost use Rattle.std.specs.Prelude.{◌≡◌, [], MatchResult, List, ℕ};
+ghost use Rattle.std.specs.Option.{option_copied};
+ghost use Rattle.gm_file.specs.Main.{main_of};
+ghost use Rattle.gomod_run.specs.Queries.{FilesReadAs, AreInvalidSums, AreSums};
+ghost use Rattle.gomod_run.specs.Outcome.{OrNoMemory, outcome_view, report_outcome, refusal_outcome};
+ghost use Rattle.gomod_run.specs.Private.Refusals.{IsRefusedRead};
+ghost use Rattle.gomod_run.specs.Runs.{ComesTo, command_of};
+ghost use Rattle.gomod_run.specs.Private.Found.{IsOutcomeOfFound, PrintsFound};
+
+use crate::queries::chain::chain_outcome;
+use crate::queries::graph::graph_outcome;
+use crate::queries::list::list_outcome;
+use crate::queries::query::Query;
+use crate::reports::report::Report;
+use gm_file::MainFile;
+use gm_graph::{Loaded, load};
+use gm_store::Asks;
+use gm_store_sums::SumTable;
+use std::alloc::Global;
+
+/// The two files that are given as bytes, both valid.
+#[derive(Drop)]
+struct Read<'a> {
+    /// The main module's file.
+    main: MainFile<'a>,
+    /// The hashes of the go.sum, or `None` if no go.sum is given.
+    table: Option<SumTable<'a>>,
+}
+
+/// The table of a go.sum, or `None` if no go.sum is given; or the report of its first fault.
+fn sum_table<'a, 'r>(
+    alloc: Global,
+    sums: Option<&'a [u8]>,
+) -> Result<Option<SumTable<'a>>, Report<'r>>
+    ensures { MatchResult result
+        (λ table. AreSums (option_copied sums.entry) table)
+        (λ told. OrNoMemory (λ outcome. (report : List ℕ) × AreInvalidSums (option_copied sums.entry) report
+        × (outcome ≡ refusal_outcome report)) (report_outcome told)) }
+{
+    match sums {
+        Some(text) => Ok(Some(SumTable::read(alloc, text)?)),
+        None => Ok(None),
+    }
+}
+
+/// Both files, or the report of the first invalid one. The main module's file is read first.
+fn read_files<'a, 'r>(
+    alloc: Global,
+    file: &'a [u8],
+    sums: Option<&'a [u8]>,
+) -> Result<Read<'a>, Report<'r>>
+    ensures { MatchResult result
+        (λ both. FilesReadAs file.now (option_copied sums.entry) (main_of both.main) both.table)
+        (λ told. OrNoMemory (IsRefusedRead file.now (option_copied sums.entry)) (report_outcome told)) }
+{
+    let main = MainFile::read_bytes(alloc, file)?;
+    let table = sum_table(alloc, sums)?;
+    Ok(Read { main, table })
+}
+
+/// What a query ends with if no opened module has a fault.
+fn query_outcome<'q>(
+    alloc: Global,
+    query: Query<'q>,
+    main: &MainFile<'_>,
+    loaded: &Loaded,
+) -> Result<String, Report<'q>>
+    requires no_fault { loaded.now.faults ≡ [] }
+    requires main { loaded.now.main ≡ (main_of main.now).path }
+    ensures { OrNoMemory (PrintsFound query.entry (main_of main.now) loaded.now) (outcome_view result) }
+{
+    match query {
+        Query::Graph => graph_outcome(alloc, main, loaded),
+        Query::List(after, limit) => list_outcome(alloc, main, loaded, after, limit),
+        Query::Chain(path) => chain_outcome(alloc, main, loaded, path),
+    }
+}
+
+/// What a query ends with once loading has finished: a report of the faults if there are any, otherwise what the
+/// query prints.
+fn loaded_outcome<'q>(
+    alloc: Global,
+    query: Query<'q>,
+    main: &MainFile<'_>,
+    loaded: Loaded,
+) -> Result<String, Report<'q>>
+    requires { loaded.main ≡ (main_of main.now).path }
+    ensures { OrNoMemory (IsOutcomeOfFound query.entry (main_of main.now) loaded) (outcome_view result) }
+{
+    if loaded.faults().is_empty() {
+        return query_outcome(alloc, query, main, &loaded);
+    }
+    Err(Report::Faults(loaded.into_faults()))
+}
+
+/// What `query` ends with over the bytes `file` of a main module's go.mod, the bytes `sums` of a
+/// go.sum if one is given, and a store `files` (Go Modules Reference, "Minimal version selection", "go mod
+/// graph" and "go list -m").
+///
+/// If both files are valid, loading completes and no opened module has a fault, the text is what `query` asks
+/// for: the edges of the module graph, rows of the build list, or a shortest chain of requirements to the
+/// build list's entry for a path. If the list has no entry for the path, the report says so. Otherwise the report
+/// gives the first of these that applies:
+///
+/// - the first fault of the main file,
+/// - the first fault of the go.sum,
+/// - that more than 65,536 module versions are opened, or the file on which the store's device failed,
+/// - each opened module that has a fault.
+///
+/// If one of the two files is invalid, the store is asked for nothing. Otherwise it is asked for the files of
+/// the modules that are opened according to its previous answers, each once, and for no other file. Each
+/// answer is one that the store may give. Its device fails on at most one file, which is one of these, and
+/// only if the count of its failures rises or has reached its maximum. All this holds however the run ends.
+///
+/// The store must not have been asked for anything before. If memory runs out, which can happen instead of any
+/// answer but the report of the store's device, the report is `NoMemory`.
+pub fn answer<'q, F: Asks>(
+    alloc: Global,
+    query: Query<'q>,
+    file: &[u8],
+    sums: Option<&[u8]>,
+    files: &mut F,
+) -> Result<String, Report<'q>>
+    requires { (F.state files.old).asked ≡ [] }
+    ensures { ComesTo (command_of query.entry) file.now (option_copied sums.entry)
+        (F.may_answer files.old) (F.may_answer files.new) (F.state files.old) (F.state files.new)
+        (outcome_view result) }
+{
+    let read = read_files(alloc, file, sums)?;
+    let loaded = load(alloc, &read.main, files, read.table.as_ref())?;
+    loaded_outcome(alloc, query, &read.main, loaded)
+}
