@@ -79,7 +79,7 @@ module _ (run : Given) (main : Main) (table : Option Sums) (found : AreFound run
 
   known_steps : (known : List Step) → AreProperSteps known → chain_text main.path steps ≡ chain_text main.path known → steps ≡ known
   known_steps known proper text =
-      text_says_steps main.path steps known (run_has_names run main table found.read).0 steps_proper proper text
+      text_says_steps main.path (run_has_names run main table found.read).0 steps known steps_proper proper text
 
   -- steps with this text are these steps, and the main module is m
   steps_are : (known : List Step) → AreProperSteps (FromMain ∷ known) → chain_text main.path steps ≡ chain_text (codes "m") (FromMain ∷ known)
@@ -164,7 +164,7 @@ edges_are : (run : Given) (main : Main) (table : Option Sums) (edges : List Edge
     → AreEdges (run_of main table run.answers.asked) edges → main.path ≡ codes "m"
     → graph_of_a ≡ text_outcome (graph_text main.path edges) → edges ≡ edge_to one_zero ∷ []
 edges_are run main table edges found exact own says =
-    text_says_edges main.path edges (edge_to one_zero ∷ []) (run_has_names run main table found.read).0
+    text_says_edges main.path (run_has_names run main table found.read).0 edges (edge_to one_zero ∷ [])
     (run_has_proper_edges run main table edges found.read exact) (edge_proper one_zero one_zero_is)
     (sym (same_text (codes "m a.b@v1.0.0\n") (graph_text main.path edges) says) ∙ ap (λ (m : List ℕ). graph_text m (edge_to one_zero ∷ [])) (sym own))
 

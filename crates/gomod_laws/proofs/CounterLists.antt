@@ -106,7 +106,7 @@ module _ (run : Given) (main : Main) (table : Option Sums) (rows : List Entry) (
       ap (list_text main.path) (sym are.entries_are) ∙ e in
       let own = own_path main.path (list_text main.path (map (entry_of main.replaces) are.selected)) (list_text (codes "m") known) main_is_path begins in (
         own,
-        text_says_rows main.path rows (main_entry ∷ known) main_is_path rows_proper proper
+        text_says_rows main.path main_is_path rows (main_entry ∷ known) rows_proper proper
             (e ∙ ap (λ (m : List ℕ). list_text m (main_entry ∷ known)) (sym own)),
       )
 
@@ -114,7 +114,7 @@ module _ (run : Given) (main : Main) (table : Option Sums) (rows : List Entry) (
   some_are : (shown known : List Entry) → ((row : Entry) → Contains shown row → Contains rows row) → AreProperRows known
       → list_text main.path shown ≡ list_text main.path known → shown ≡ known
   some_are shown known inside proper e =
-      text_says_rows main.path shown known main_is_path (λ row there. rows_proper row (inside row there)) proper e
+      text_says_rows main.path main_is_path shown known (λ row there. rows_proper row (inside row there)) proper e
 
 -- ---- build lists
 

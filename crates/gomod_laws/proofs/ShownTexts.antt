@@ -99,7 +99,7 @@ module _ (run : Given) (main : Main) where
 
     pub rows_of_list : AreProperRows shown → main.path ≡ path → rows ≡ shown
     rows_of_list proper own =
-        text_says_rows main.path rows shown (own_path shows.table shows.found) (run_has_proper_rows run main shows.table rows shows.found.read shows.are) proper
+        text_says_rows main.path (own_path shows.table shows.found) rows shown (run_has_proper_rows run main shows.table rows shows.found.read shows.are) proper
         (sym rows_text ∙ ap (λ (m : List ℕ). list_text m shown) (sym own))
 
   -- ---- edges
@@ -125,7 +125,7 @@ module _ (run : Given) (main : Main) where
 
     pub edges_of_graph : AreProperEdges shown → main.path ≡ path → edges ≡ shown
     edges_of_graph proper own =
-        text_says_edges main.path edges shown (own_path shows.table shows.found)
+        text_says_edges main.path (own_path shows.table shows.found) edges shown
         (run_has_proper_edges run main shows.table edges shows.found.read shows.are) proper
         (sym graph_is ∙ ap (λ (m : List ℕ). graph_text m shown) (sym own))
 
@@ -146,6 +146,6 @@ module _ (run : Given) (main : Main) where
 
     pub steps_of_chain : AreProperSteps shown → main.path ≡ path → steps ≡ shown
     steps_of_chain proper own =
-        text_says_steps main.path steps shown (own_path shows.table shows.found)
+        text_says_steps main.path (own_path shows.table shows.found) steps shown
         (run_has_proper_steps run main shows.table shows.last steps shows.found.read shows.are) proper
         (sym chain_is ∙ ap (λ (m : List ℕ). chain_text m shown) (sym own))

@@ -1,6 +1,7 @@
 -- The text of a list determines its rows.
 use Rattle.std.proofs.Common.{◌≡◌, ◌≢◌, ◌∙◌, ◌⊎◌, ℕ, Bool, true, false, List, [], ◌∷◌, ◌++◌, map, Option, Some, None, Contains, codes, ap, append_assoc, append-nil, refl, sym, subst, inl, inr}
 use Rattle.std.specs.List.{AllByRecursion, flat_map, list_all}
+use Rattle.std.specs.Prelude.{nat_lt}
 use Rattle.std.proofs.lemmas.Bool.{true≢false}
 use Rattle.gm_name.specs.Path.{IsPath, is_byte_of_path}
 use Rattle.gm_name.specs.Version.{IsVersion, is_byte_of_version}
@@ -14,12 +15,11 @@ use Rattle.gm_file.specs.Values.{is_folder_path}
 use Rattle.gm_graph_select.specs.declared.step.Step.TheVariants.{Main, Of}
 use Rattle.gm_graph_select.specs.BuildList.{Entry}
 use Rattle.gm_graph_select.proofs.Ascending.{member_head, member_tail}
-use Rattle.gm_graph_select.proofs.RankedLists.{from_mapped}
-use Rattle.gomod_run.specs.ListQuery.{replacement_suffix, replacement_text, row_text}
+use Rattle.gm_graph.proofs.Mapped.{from_mapped}
+use Rattle.gomod_run.specs.ListQuery.{list_text, replacement_suffix, replacement_text, row_text}
 use Rattle.gomod_run.specs.LineParts.{line}
-use Rattle.gomod_run.specs.PrintedLines.{IsProperRight, IsProperRow, LineIsOfARow, LineSaysRow, ListHasLines, TextSaysRows}
-use Rattle.gm_file_edit.proofs.Feeds.{path-plain, version-plain}
-use Rattle.gm_file_edit.proofs.Folders.{begins-no-folder}
+use Rattle.gomod_run.specs.PrintedLines.{AreAll, HasLines, IsProperRight, IsProperRow, LineIsOfOne, LineSaysOne, TextSaysAll}
+use Rattle.gomod_run.proofs.PathStarts.{begins_no_folder}
 
 -- ---- texts without a byte
 
@@ -37,15 +37,31 @@ pub both_lack : (c : ℕ) (a b : List ℕ) → Lacks c a → Lacks c b → Lacks
 both_lack c [] b p q = q
 both_lack c (x ∷ a) b p q = (p.0, both_lack c a b p.1 q)
 
+-- a text of bytes above the line feed has none
+pub plain : (text : List ℕ) → list_all (λ b. nat_lt 10 b) text ≡ true → Lacks 10 text
+plain text all = lacks 10 (λ b. nat_lt 10 b) refl text all
+
+pub path_lacks : (c : ℕ) → is_byte_of_path c ≡ false → (text : List ℕ) → IsPath text → Lacks c text
+path_lacks c other text is = lacks c is_byte_of_path other text (path-bytes text is)
+
+pub version_lacks : (c : ℕ) → is_byte_of_version c ≡ false → (text : List ℕ) → IsVersion text → Lacks c text
+version_lacks c other text is = lacks c is_byte_of_version other text (version-bytes text is)
+
 pub path_has_no_blank : (text : List ℕ) → IsPath text → Lacks 32 text
-path_has_no_blank text is = lacks 32 is_byte_of_path refl text (path-bytes text is)
+path_has_no_blank text is = path_lacks 32 refl text is
+
+pub path_has_no_feed : (text : List ℕ) → IsPath text → HasNoLineFeed text
+path_has_no_feed text is = path_lacks 10 refl text is
 
 pub version_has_no_blank : (text : List ℕ) → IsVersion text → Lacks 32 text
-version_has_no_blank text is = lacks 32 is_byte_of_version refl text (version-bytes text is)
+version_has_no_blank text is = version_lacks 32 refl text is
+
+pub version_has_no_feed : (text : List ℕ) → IsVersion text → HasNoLineFeed text
+version_has_no_feed text is = version_lacks 10 refl text is
 
 -- ---- where a text is cut
 
-pub heads : (a b : ℕ) (x y : List ℕ) → a ∷ x ≡ b ∷ y → a ≡ b
+heads : (a b : ℕ) (x y : List ℕ) → a ∷ x ≡ b ∷ y → a ≡ b
 heads a b x y e = cc e
 
 pub tails : (a b : ℕ) (x y : List ℕ) → a ∷ x ≡ b ∷ y → x ≡ y
@@ -84,10 +100,7 @@ cut_end c (a ∷ more) (b ∷ bs) s t p q u v e =
 -- ---- lines of any kind
 
 module _ {X : Type 0} (text : X → List ℕ) (IsProper : X → Type 0) where
-  abbrev pub AreProper : List X → Type 0
-  AreProper xs = (x : X) → Contains xs x → IsProper x
-
-  pub lines_are : ((x : X) → IsProper x → HasNoLineFeed (text x)) → (xs : List X) → AreProper xs → lines_of (flat_map (λ x. line (text x)) xs) ≡ map text xs
+  pub lines_are : ((x : X) → IsProper x → HasNoLineFeed (text x)) → HasLines X IsProper text (flat_map (λ x. line (text x)))
   lines_are plain [] proper = lines_nil
   lines_are plain (x ∷ xs) proper =
       let behind = flat_map (λ y. line (text y)) xs in
@@ -95,8 +108,7 @@ module _ {X : Type 0} (text : X → List ℕ) (IsProper : X → Type 0) where
       ∙ ended_line (text x) behind (plain x (proper x (member_head x xs)))
       ∙ ap (λ (ls : List (List ℕ)). text x ∷ ls) (lines_are plain xs (λ y there. proper y (member_tail x y xs there)))
 
-  pub same_are : ((x y : X) → IsProper x → IsProper y → text x ≡ text y → x ≡ y) → (xs ys : List X) → AreProper xs
-      → AreProper ys → map text xs ≡ map text ys → xs ≡ ys
+  same_are : LineSaysOne X IsProper text → (xs ys : List X) → AreAll X IsProper xs → AreAll X IsProper ys → map text xs ≡ map text ys → xs ≡ ys
   same_are says [] [] p q e = refl
   same_are says [] (y ∷ ys) p q e = absurd (cc e)
   same_are says (x ∷ xs) [] p q e = absurd (cc e)
@@ -106,11 +118,14 @@ module _ {X : Type 0} (text : X → List ℕ) (IsProper : X → Type 0) where
       ap (λ (z : X). z ∷ xs) (says x y (p x (member_head x xs)) (q y (member_head y ys)) first)
       ∙ ap (λ (zs : List X). y ∷ zs) (same_are says xs ys (λ z there. p z (member_tail x z xs there)) (λ z there. q z (member_tail y z ys there)) later)
 
-  pub found_line : ((x y : X) → IsProper x → IsProper y → text x ≡ text y → x ≡ y) → (xs : List X) (y : X)
-      → AreProper xs → IsProper y → Contains (map text xs) (text y) → Contains xs y
-  found_line says xs y p q there =
-      let (x, inside, same) = from_mapped text xs (text y) there in
-      subst (λ (z : X). Contains xs z) (says x y (p x inside) q same) inside
+  module _ (whole : List X → List ℕ) (lines : HasLines X IsProper text whole) (says : LineSaysOne X IsProper text) where
+    pub text_says : TextSaysAll X IsProper whole
+    text_says xs ys p q e = same_are says xs ys p q (sym (lines xs p) ∙ ap lines_of e ∙ lines ys q)
+
+    pub found_line : LineIsOfOne X IsProper text whole
+    found_line xs y p q there =
+        let (x, inside, same) = from_mapped text xs (text y) (subst (λ (ls : List (List ℕ)). Contains ls (text y)) (lines xs p) there) in
+        subst (λ (z : X). Contains xs z) (says x y (p x inside) q same) inside
 
 -- ---- rows
 
@@ -119,14 +134,11 @@ suffix_ends None = inl refl
 suffix_ends (Some right) = inr (codes "=> " ++ replacement_text right, refl)
 
 mark_has_no_feed : HasNoLineFeed (codes " => ")
-mark_has_no_feed = ((λ e. cc e), ((λ e. cc e), ((λ e. cc e), ((λ e. cc e), tt))))
-
-blank_has_no_feed : HasNoLineFeed (codes " ")
-blank_has_no_feed = ((λ e. cc e), tt)
+mark_has_no_feed = plain (codes " => ") refl
 
 name_has_no_feed : (path version : List ℕ) → IsPath path → IsVersion version → HasNoLineFeed ((path ++ codes " ") ++ version)
 name_has_no_feed path version p v =
-    plain_append (path ++ codes " ") version (plain_append path (codes " ") (path-plain path p) blank_has_no_feed) (version-plain version v)
+    plain_append (path ++ codes " ") version (plain_append path (codes " ") (path_has_no_feed path p) (plain (codes " ") refl)) (version_has_no_feed version v)
 
 suffix_has_no_feed : (right : Option Right) → IsProperRight right → HasNoLineFeed (replacement_suffix right)
 suffix_has_no_feed None proper = tt
@@ -135,7 +147,7 @@ suffix_has_no_feed (Some (Module path version)) proper =
     plain_append (codes " => ") ((path ++ codes " ") ++ version) mark_has_no_feed (name_has_no_feed path version proper.0 proper.1)
 
 row_has_no_feed : (main : List ℕ) → IsPath main → (row : Entry) → IsProperRow row → HasNoLineFeed (row_text main row)
-row_has_no_feed main is (Main, right) proper = rw proper (plain_append main [] (path-plain main is) tt)
+row_has_no_feed main is (Main, right) proper = rw proper (plain_append main [] (path_has_no_feed main is) tt)
 row_has_no_feed main is (Of x, right) proper =
     plain_append ((x.0 ++ codes " ") ++ x.1) (replacement_suffix right) (name_has_no_feed x.0 x.1 proper.0 proper.1) (suffix_has_no_feed right proper.2)
 
@@ -144,7 +156,7 @@ row_has_no_feed main is (Of x, right) proper =
 folder_is_no_module : (text path version : List ℕ) → is_folder_path text ≡ true → IsPath path → text ≡ (path ++ codes " ") ++ version → ⊥
 folder_is_no_module text path version folder is e =
     let whole : text ≡ path ++ (32 ∷ version) = e ∙ append_assoc path (codes " ") version in
-    true≢false (sym folder ∙ ap is_folder_path whole ∙ begins-no-folder path (32 ∷ version) is)
+    true≢false (sym folder ∙ ap is_folder_path whole ∙ begins_no_folder path (32 ∷ version) is)
 
 says_right : (one other : Right) → IsProperRight (Some one) → IsProperRight (Some other) → replacement_text one ≡ replacement_text other → one ≡ other
 says_right (Folder text) (Folder second) p q e = ap Folder e
@@ -173,7 +185,7 @@ module _ (main : List ℕ) (is_path : IsPath main) where
   main_is_no_module p v s e =
       has_it 32 p (v ++ s) (subst (Lacks 32) (sym (append-nil main) ∙ e ∙ spread p v s) (path_has_no_blank main is_path))
 
-  says_row : (one other : Entry) → IsProperRow one → IsProperRow other → row_text main one ≡ row_text main other → one ≡ other
+  pub says_row : LineSaysOne Entry IsProperRow (row_text main)
   says_row (Main, r) (Main, s) p q e = ap (λ (right : Option Right). (Main, right)) (p ∙ sym q)
   says_row (Main, r) (Of y, s) p q e =
       absurd (main_is_no_module y.0 y.1 (replacement_suffix s) (ap (λ (o : Option Right). main ++ replacement_suffix o) (sym p) ∙ e))
@@ -188,18 +200,11 @@ module _ (main : List ℕ) (is_path : IsPath main) where
       ap (λ (path : List ℕ). (Of (path, x.1), r)) after.0 ∙ ap (λ (version : List ℕ). (Of (y.0, version), r)) ends.0
       ∙ ap (λ (o : Option Right). (Of y, o)) right
 
-pub list_has_lines : ListHasLines
-list_has_lines main rows is proper = lines_are (row_text main) IsProperRow (row_has_no_feed main is) rows proper
+pub list_has_lines : (main : List ℕ) → IsPath main → HasLines Entry IsProperRow (row_text main) (list_text main)
+list_has_lines main is = lines_are (row_text main) IsProperRow (row_has_no_feed main is)
 
-pub line_says_row : LineSaysRow
-line_says_row main one other is p q e = says_row main is one other p q e
+pub text_says_rows : (main : List ℕ) → IsPath main → TextSaysAll Entry IsProperRow (list_text main)
+text_says_rows main is = text_says (row_text main) IsProperRow (list_text main) (list_has_lines main is) (says_row main is)
 
-pub text_says_rows : TextSaysRows
-text_says_rows main rows others is p q e =
-    same_are (row_text main) IsProperRow (says_row main is) rows others p q
-    (sym (list_has_lines main rows is p) ∙ ap lines_of e ∙ list_has_lines main others is q)
-
-pub line_is_of_a_row : LineIsOfARow
-line_is_of_a_row main rows one is p q there =
-    found_line (row_text main) IsProperRow (says_row main is) rows one p q
-    (subst (λ (ls : List (List ℕ)). Contains ls (row_text main one)) (list_has_lines main rows is p) there)
+pub line_is_of_a_row : (main : List ℕ) → IsPath main → LineIsOfOne Entry IsProperRow (row_text main) (list_text main)
+line_is_of_a_row main is = found_line (row_text main) IsProperRow (list_text main) (list_has_lines main is) (says_row main is)

@@ -3,7 +3,18 @@
 //! program.
 
 ghost use Rattle.gomod_run.specs.QueryLaws.{BuildListIsListed, ListIsBuildList, OneGraph, OneRefusal, PartsOfOneList, PrintedChainIsShortest, PrintedPagesJoin};
-ghost use Rattle.gomod_run.specs.PrintedLines.{ChainHasLines, GraphHasLines, LineIsOfAFault, LineIsOfARow, LineIsOfAStep, LineIsOfAnEdge, LineSaysEdge, LineSaysFault, LineSaysRow, LineSaysStep, ListHasLines, ReportHasLines, RunHasNames, RunHasProperEdges, RunHasProperFaults, RunHasProperRows, RunHasProperSteps, TextSaysEdges, TextSaysFaults, TextSaysRows, TextSaysSteps};
+ghost use Rattle.gm_graph.specs.declared.fault.Fault.{Fault};
+ghost use Rattle.gm_graph_select.specs.BuildList.{Entry};
+ghost use Rattle.gm_graph_select.specs.declared.step.Edge.{Edge};
+ghost use Rattle.gm_graph_select.specs.declared.step.Step.{Step};
+ghost use Rattle.gm_name.specs.Path.{IsPath};
+ghost use Rattle.std.specs.Prelude.{List, ℕ};
+ghost use Rattle.gomod_run.specs.ChainQuery.{chain_text};
+ghost use Rattle.gomod_run.specs.GraphQuery.{edge_text, graph_text};
+ghost use Rattle.gomod_run.specs.LineParts.{step_text};
+ghost use Rattle.gomod_run.specs.ListQuery.{list_text, row_text};
+ghost use Rattle.gomod_run.specs.PrintedLines.{HasLines, IsProperEdge, IsProperFault, IsProperRow, IsProperStep, LineIsOfOne, LineSaysOne, RunHasNames, RunHasProperEdges, RunHasProperFaults, RunHasProperRows, RunHasProperSteps, TextSaysAll, fault_text};
+ghost use Rattle.gomod_run.specs.Reports.{faults_text};
 
 /// When `list` prints, the files of the opened modules are known and have no faults. The text has a row for
 /// the main module and then, in path order, one row for each other path that the main module or an opened
@@ -45,38 +56,38 @@ pub fn one_graph()
 /// text is one of the rows. This holds if every path is a module path and every version a version, and no folder has a
 /// line feed.
 pub fn a_list_says_its_rows()
-    ensures lines { ListHasLines }
-    ensures row { LineSaysRow }
-    ensures text { TextSaysRows }
-    ensures found { LineIsOfARow }
+    ensures lines { (main : List ℕ) → IsPath main → HasLines Entry IsProperRow (row_text main) (list_text main) }
+    ensures row { (main : List ℕ) → IsPath main → LineSaysOne Entry IsProperRow (row_text main) }
+    ensures text { (main : List ℕ) → IsPath main → TextSaysAll Entry IsProperRow (list_text main) }
+    ensures found { (main : List ℕ) → IsPath main → LineIsOfOne Entry IsProperRow (row_text main) (list_text main) }
 {}
 
 /// The text of a graph, cut at its line feeds, is one line for each edge, in order, and a line says its edge. So edges
 /// with the same text are the same.
 pub fn a_graph_says_its_edges()
-    ensures lines { GraphHasLines }
-    ensures edge { LineSaysEdge }
-    ensures text { TextSaysEdges }
-    ensures found { LineIsOfAnEdge }
+    ensures lines { (main : List ℕ) → IsPath main → HasLines Edge IsProperEdge (edge_text main) (graph_text main) }
+    ensures edge { (main : List ℕ) → IsPath main → LineSaysOne Edge IsProperEdge (edge_text main) }
+    ensures text { (main : List ℕ) → IsPath main → TextSaysAll Edge IsProperEdge (graph_text main) }
+    ensures found { (main : List ℕ) → IsPath main → LineIsOfOne Edge IsProperEdge (edge_text main) (graph_text main) }
 {}
 
 /// The text of a chain, cut at its line feeds, is one line for each step, in order, and a line says its step. So steps
 /// with the same text are the same.
 pub fn a_chain_says_its_steps()
-    ensures lines { ChainHasLines }
-    ensures step { LineSaysStep }
-    ensures text { TextSaysSteps }
-    ensures found { LineIsOfAStep }
+    ensures lines { (main : List ℕ) → IsPath main → HasLines Step IsProperStep (step_text main) (chain_text main) }
+    ensures step { (main : List ℕ) → IsPath main → LineSaysOne Step IsProperStep (step_text main) }
+    ensures text { (main : List ℕ) → IsPath main → TextSaysAll Step IsProperStep (chain_text main) }
+    ensures found { (main : List ℕ) → IsPath main → LineIsOfOne Step IsProperStep (step_text main) (chain_text main) }
 {}
 
 /// The text of a report on modules, cut at its line feeds, is one line for each fault, in order, and a line says its
 /// fault: path and version, the class, and for `Malformed` the line and the kind. So faults with the same text are the
 /// same, and a fault whose line is in the text is one of the faults.
 pub fn a_report_says_its_faults()
-    ensures lines { ReportHasLines }
-    ensures fault { LineSaysFault }
-    ensures text { TextSaysFaults }
-    ensures found { LineIsOfAFault }
+    ensures lines { HasLines Fault IsProperFault fault_text faults_text }
+    ensures fault { LineSaysOne Fault IsProperFault fault_text }
+    ensures text { TextSaysAll Fault IsProperFault faults_text }
+    ensures found { LineIsOfOne Fault IsProperFault fault_text faults_text }
 {}
 
 /// In what a run finds, paths are paths and versions are versions: if its main file and its go.sum are valid, the path
