@@ -36,14 +36,14 @@ pub record HasOneMore (folders others : FoldersInMemory) (marks more : List Mark
 
 -- A store was asked for the same files in both runs, in whatever order.
 abbrev pub AskForTheSame : List (Name × Reply) → List (Name × Reply) → Type 0
-AskForTheSame asked told = (name : Name) → Contains (names_in told) name ↔ Contains (names_in asked) name
+AskForTheSame asked again = (name : Name) → Contains (names_in again) name ↔ Contains (names_in asked) name
 
 -- If a command prints, it prints the same with one more folder put last, and asks for the same files.
 abbrev pub MoreFoldersChangeNothing : Type 0
 MoreFoldersChangeNothing = (command : Command) (main : List ℕ) (sums : Option (List ℕ))
-    (folders others : FoldersInMemory) (marks more : List Mark) (asked told : List (Name × Reply))
+    (folders others : FoldersInMemory) (marks more : List Mark) (asked again : List (Name × Reply))
     (one other : Outcome)
     → HasOneMore folders others marks more
     → RunsOver command main sums folders marks asked one → HasPrinted one
-    → RunsOver command main sums others more told other
-    → (other ≡ one) × AskForTheSame asked told
+    → RunsOver command main sums others more again other
+    → (other ≡ one) × AskForTheSame asked again

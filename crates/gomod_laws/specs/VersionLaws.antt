@@ -60,8 +60,8 @@ pub record LeavesOutRetracted (asked : List (Name × Reply)) (path : List ℕ) (
 -- If `versions` prints without `--retracted`, it prints with it, over a store that answers no file differently. With it
 -- it prints all listed versions, and without it those of them that are not retracted.
 abbrev pub RetractedAreLeftOut : Type 0
-RetractedAreLeftOut = (path main : List ℕ) (sums : Option (List ℕ)) (asked told : List (Name × Reply))
+RetractedAreLeftOut = (path main : List ℕ) (sums : Option (List ℕ)) (asked again : List (Name × Reply))
     (one other : Outcome)
     → HasOutcome (Versions path false) main sums asked one → HasPrinted one
-    → HasOutcome (Versions path true) main sums told other → AnswerAlike asked told
+    → HasOutcome (Versions path true) main sums again other → AnswerAlike asked again
     → LeavesOutRetracted asked path one other
