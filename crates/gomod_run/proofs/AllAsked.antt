@@ -1,5 +1,5 @@
 -- A run that is done has an answer for every file that it needs.
-use Rattle.std.proofs.Common.{◌≡◌, ◌∙◌, ℕ, Bool, List, [], Option, Some, None, false, true, ap, arith, inl, inr, sym}
+use Rattle.std.proofs.Common.{◌≡◌, ◌∙◌, ℕ, Bool, List, [], Option, Some, false, true, ap, arith, inl, inr, sym}
 use Rattle.std.proofs.lemmas.Option.{same_Some}
 use Rattle.gm_name.specs.Path.{is_fetchable}
 use Rattle.gm_store.specs.Asked.{Name, Reply, absent, answer_in, bytes, list_file, mod_file, too_long}
@@ -56,8 +56,7 @@ pub refusal_status : (path : List ℕ) (fetchable : Bool) (answer : Option Reply
 refusal_status path false answer outcome is = ap (λ (o : Outcome). o.status) (sym (same_Some _ outcome is))
 refusal_status path true (Some absent) outcome is = ap (λ (o : Outcome). o.status) (sym (same_Some _ outcome is))
 refusal_status path true (Some too_long) outcome is = ap (λ (o : Outcome). o.status) (sym (same_Some _ outcome is))
-refusal_status path true (Some (bytes list)) outcome is = absurd (cc is)
-refusal_status path true None outcome is = absurd (cc is)
+refusal_status path true answer outcome is = absurd (cc is)
 
 -- ---- runs that are done
 

@@ -4,7 +4,7 @@ use Rattle.gomod_run.specs.Outcome.{Outcome, text_outcome, out_of_memory}
 use Rattle.gomod_words.specs.Laws.{AreUsageError, AskForVersion}
 use Rattle.gomod_words.specs.Usage.{IsVersionLine, is_line_or_memory, version_line}
 use Rattle.gomod_words.specs.declared.usage.UsageFault.{UsageFault}
-use Rattle.gomod_words.specs.declared.usage.UsageFault.TheVariants.{NoMemory, Help, Version, Line, BadPath, BadProxy}
+use Rattle.gomod_words.specs.declared.usage.UsageFault.TheVariants.{NoMemory, Version, Line}
 use Rattle.gomod_words.proofs.Asked.{error_without_words, version_by_long, version_by_short}
 use Rattle.gomod_run.specs.Program.{IsWordsOutcome, any_input, anything, usage_outcome}
 
@@ -12,19 +12,13 @@ version_outcome : (fault : UsageFault) (outcome : Outcome) → IsVersionLine fau
     → (outcome ≡ text_outcome version_line) ⊎ (outcome ≡ out_of_memory)
 version_outcome NoMemory outcome known is = inr is
 version_outcome (Version text) outcome known is = inl (is ∙ ap text_outcome known)
-version_outcome (Help text) outcome known is = absurd known
-version_outcome (Line text) outcome known is = absurd known
-version_outcome (BadPath text) outcome known is = absurd known
-version_outcome (BadProxy text) outcome known is = absurd known
+version_outcome fault outcome known is = absurd known
 
 error_outcome : (fault : UsageFault) (outcome : Outcome) → is_line_or_memory fault ≡ true → outcome ≡ usage_outcome fault
     → ((outcome.text ≡ []) × (outcome.status ≡ 2)) ⊎ (outcome ≡ out_of_memory)
 error_outcome NoMemory outcome known is = inr is
 error_outcome (Line text) outcome known is = inl (ap (λ (o : Outcome). o.text) is, ap (λ (o : Outcome). o.status) is)
-error_outcome (Version text) outcome known is = cc known
-error_outcome (Help text) outcome known is = cc known
-error_outcome (BadPath text) outcome known is = cc known
-error_outcome (BadProxy text) outcome known is = cc known
+error_outcome fault outcome known is = cc known
 
 asked_version : (words : List (List ℕ)) (outcome : Outcome) → AskForVersion words → IsWordsOutcome anything any_input words outcome
     → (outcome ≡ text_outcome version_line) ⊎ (outcome ≡ out_of_memory)

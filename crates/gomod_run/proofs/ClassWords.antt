@@ -16,7 +16,7 @@ use Rattle.gm_file.specs.declared.misreading.Misreading.TheVariants as misreadin
 use Rattle.gm_file.specs.Misreading.{misreading_word}
 use Rattle.gomod_run.specs.PrintedLines.{IsProperClass}
 use Rattle.gomod_run.specs.Reports.{class_text, malformed_text}
-use Rattle.gomod_run.proofs.ListLines.{Lacks, both_lack, cut_at, has_it, lacks}
+use Rattle.gomod_run.proofs.ListLines.{Lacks, both_lack, cut_at, has_it, lacks, plain}
 
 -- ---- the misreading that a word is for
 
@@ -40,58 +40,39 @@ directive_of word other = if_word word (misreading.Directive directive.UnknownVe
 abbrev misreading_of : List ℕ → Option Misreading
 misreading_of word = if_word word misreading.TooMany (if_word word misreading.NotUtf8 (syntax_of word (directive_of word None)))
 
-word_is : (kind : Misreading) → misreading_of (misreading_word kind) ≡ Some kind
-word_is misreading.TooMany = refl
-word_is misreading.NotUtf8 = refl
-word_is (misreading.Syntax syntax.BadByte) = refl
-word_is (misreading.Syntax syntax.OpenString) = refl
-word_is (misreading.Syntax syntax.BadEscape) = refl
-word_is (misreading.Syntax syntax.BlockComment) = refl
-word_is (misreading.Syntax syntax.StrayClose) = refl
-word_is (misreading.Syntax syntax.NestedOpen) = refl
-word_is (misreading.Syntax syntax.OpenBlock) = refl
-word_is (misreading.Directive directive.UnknownVerb) = refl
-word_is (misreading.Directive directive.WrongArguments) = refl
-word_is (misreading.Directive directive.BadPath) = refl
-word_is (misreading.Directive directive.BadVersion) = refl
-word_is (misreading.Directive directive.Misfit) = refl
-word_is (misreading.Directive directive.Repeated) = refl
-word_is (misreading.Directive directive.NoModule) = refl
-word_is (misreading.Directive directive.ConflictingReplace) = refl
-word_is (misreading.Directive directive.BadGo) = refl
+-- a byte of a word: none is a blank or a line feed
+abbrev is_byte_of_word : ℕ → Bool
+is_byte_of_word b = nat_lt 32 b
+
+-- the word is that of the misreading alone, and has such bytes
+word_is : (kind : Misreading) → (misreading_of (misreading_word kind) ≡ Some kind) × (list_all is_byte_of_word (misreading_word kind) ≡ true)
+word_is misreading.TooMany = (refl, refl)
+word_is misreading.NotUtf8 = (refl, refl)
+word_is (misreading.Syntax syntax.BadByte) = (refl, refl)
+word_is (misreading.Syntax syntax.OpenString) = (refl, refl)
+word_is (misreading.Syntax syntax.BadEscape) = (refl, refl)
+word_is (misreading.Syntax syntax.BlockComment) = (refl, refl)
+word_is (misreading.Syntax syntax.StrayClose) = (refl, refl)
+word_is (misreading.Syntax syntax.NestedOpen) = (refl, refl)
+word_is (misreading.Syntax syntax.OpenBlock) = (refl, refl)
+word_is (misreading.Directive directive.UnknownVerb) = (refl, refl)
+word_is (misreading.Directive directive.WrongArguments) = (refl, refl)
+word_is (misreading.Directive directive.BadPath) = (refl, refl)
+word_is (misreading.Directive directive.BadVersion) = (refl, refl)
+word_is (misreading.Directive directive.Misfit) = (refl, refl)
+word_is (misreading.Directive directive.Repeated) = (refl, refl)
+word_is (misreading.Directive directive.NoModule) = (refl, refl)
+word_is (misreading.Directive directive.ConflictingReplace) = (refl, refl)
+word_is (misreading.Directive directive.BadGo) = (refl, refl)
 
 some_same : (one other : Misreading) → Some one ≡ Some other → one ≡ other
 some_same one other e = cc e
 
 -- a word is that of one misreading
 says_misreading : (one other : Misreading) → misreading_word one ≡ misreading_word other → one ≡ other
-says_misreading one other e = some_same one other (sym (word_is one) ∙ ap misreading_of e ∙ word_is other)
+says_misreading one other e = some_same one other (sym (word_is one).0 ∙ ap misreading_of e ∙ (word_is other).0)
 
 -- ---- bytes
-
--- a byte of a word: none is a blank or a line feed
-abbrev is_byte_of_word : ℕ → Bool
-is_byte_of_word b = nat_lt 32 b
-
-word_bytes : (kind : Misreading) → list_all is_byte_of_word (misreading_word kind) ≡ true
-word_bytes misreading.TooMany = refl
-word_bytes misreading.NotUtf8 = refl
-word_bytes (misreading.Syntax syntax.BadByte) = refl
-word_bytes (misreading.Syntax syntax.OpenString) = refl
-word_bytes (misreading.Syntax syntax.BadEscape) = refl
-word_bytes (misreading.Syntax syntax.BlockComment) = refl
-word_bytes (misreading.Syntax syntax.StrayClose) = refl
-word_bytes (misreading.Syntax syntax.NestedOpen) = refl
-word_bytes (misreading.Syntax syntax.OpenBlock) = refl
-word_bytes (misreading.Directive directive.UnknownVerb) = refl
-word_bytes (misreading.Directive directive.WrongArguments) = refl
-word_bytes (misreading.Directive directive.BadPath) = refl
-word_bytes (misreading.Directive directive.BadVersion) = refl
-word_bytes (misreading.Directive directive.Misfit) = refl
-word_bytes (misreading.Directive directive.Repeated) = refl
-word_bytes (misreading.Directive directive.NoModule) = refl
-word_bytes (misreading.Directive directive.ConflictingReplace) = refl
-word_bytes (misreading.Directive directive.BadGo) = refl
 
 -- a number of a line is small enough for its digits
 small : (n : ℕ) → n ≤ 16777216 → n < 2 ^ 64
@@ -106,28 +87,12 @@ feed_lacked text all = lacks 10 is_byte_of_word refl text all
 blank_lacked : (text : List ℕ) → list_all is_byte_of_word text ≡ true → Lacks 32 text
 blank_lacked text all = lacks 32 is_byte_of_word refl text all
 
-begins_plain : Lacks 10 (codes "Malformed ")
-begins_plain = lacks 10 (λ b. nat_lt 10 b) refl (codes "Malformed ") refl
-
-pub blank_plain : Lacks 10 (codes " ")
-blank_plain = lacks 10 (λ b. nat_lt 10 b) refl (codes " ") refl
-
 malformed_plain : (number : ℕ) (kind : Misreading) → number ≤ 16777216 → Lacks 10 (malformed_text number kind)
 malformed_plain number kind le =
     both_lack 10 ((codes "Malformed " ++ decimal number) ++ codes " ") (misreading_word kind)
     (both_lack 10 (codes "Malformed " ++ decimal number) (codes " ")
-    (both_lack 10 (codes "Malformed ") (decimal number) begins_plain (number_lacks 10 number refl le)) blank_plain)
-    (feed_lacked (misreading_word kind) (word_bytes kind))
-
--- the text of a class has no line feed
-pub class_has_no_feed : (class : Class) → IsProperClass class → Lacks 10 (class_text class)
-class_has_no_feed NotFetchable proper = feed_lacked (codes "NotFetchable") refl
-class_has_no_feed Missing proper = feed_lacked (codes "Missing") refl
-class_has_no_feed TooLong proper = feed_lacked (codes "TooLong") refl
-class_has_no_feed NoSum proper = feed_lacked (codes "NoSum") refl
-class_has_no_feed SumDiffers proper = feed_lacked (codes "SumDiffers") refl
-class_has_no_feed (Malformed number kind) proper = malformed_plain number kind proper
-class_has_no_feed WrongPath proper = feed_lacked (codes "WrongPath") refl
+    (both_lack 10 (codes "Malformed ") (decimal number) (plain (codes "Malformed ") refl) (number_lacks 10 number refl le)) (plain (codes " ") refl))
+    (feed_lacked (misreading_word kind) (word_is kind).1)
 
 -- ---- `Malformed LINE KIND`
 
@@ -180,19 +145,22 @@ data ClassCase : Class → Type 0 where
   worded : (class : Class) → IsOfAWord class → ClassCase class
 
 class_case : (class : Class) → ClassCase class
-class_case NotFetchable = worded NotFetchable (record { bytes = refl; found = refl })
-class_case Missing = worded Missing (record { bytes = refl; found = refl })
-class_case TooLong = worded TooLong (record { bytes = refl; found = refl })
-class_case NoSum = worded NoSum (record { bytes = refl; found = refl })
-class_case SumDiffers = worded SumDiffers (record { bytes = refl; found = refl })
 class_case (Malformed number kind) = misread number kind
-class_case WrongPath = worded WrongPath (record { bytes = refl; found = refl })
+class_case class = worded class (record { bytes = refl; found = refl })
 
 by_cases : {one other : Class} → ClassCase one → ClassCase other → IsProperClass one → IsProperClass other → class_text one ≡ class_text other → one ≡ other
 by_cases (misread m one) (misread n other) p q e = says_malformed m n one other p q e
 by_cases (misread m one) (worded other w) p q e = absurd (not_malformed (class_text other) m one w.bytes (sym e))
 by_cases (worded one w) (misread n other) p q e = absurd (not_malformed (class_text one) n other w.bytes e)
 by_cases (worded one w) (worded other v) p q e = says_word one other w v e
+
+-- the text of a class has no line feed
+pub class_has_no_feed : (class : Class) → IsProperClass class → Lacks 10 (class_text class)
+class_has_no_feed class proper = by_case (class_case class) proper
+  where
+    by_case : {class : Class} → ClassCase class → IsProperClass class → Lacks 10 (class_text class)
+    by_case (misread number kind) proper = malformed_plain number kind proper
+    by_case (worded class is) proper = feed_lacked (class_text class) is.bytes
 
 -- a text is that of one class
 pub says_class : (one other : Class) → IsProperClass one → IsProperClass other → class_text one ≡ class_text other → one ≡ other

@@ -37,6 +37,7 @@ use Rattle.gomod_run.specs.Runs.{ComesTo, Needs, RunEnds, command_of, run_betwee
 use Rattle.gomod_run.specs.Private.ByCommand.{PrintsOf}
 use Rattle.gomod_run.specs.Versions.{IsRefusedList}
 use Rattle.gomod_run.proofs.AllAsked.{done_if_memory}
+use Rattle.gomod_run.proofs.PassedOn.{or_memory}
 use Rattle.gomod_run.proofs.InTurn.{loading_in_turn, loading_needs}
 use Rattle.gm_graph.proofs.Dues.{none_in_turn}
 use Rattle.gomod_words.specs.declared.usage.Command.{Command}
@@ -50,8 +51,9 @@ use Rattle.gomod_run.proofs.MainMisreading.{IsMalformed, main_refused}
 pub rest_printed : (main : Main) (rows others : List Entry) (path : List ℕ) (limit : Option ℕ) (outcome : Outcome) → IsRestAfter main.path rows path others
     → OrNoMemory (λ outcome. outcome ≡ text_outcome (list_text main.path (up_to limit others))) outcome
     → OrNoMemory (PrintsRows main rows (Some path) limit) outcome
-rest_printed main rows others path limit outcome is (inl says) = inl (path_listed path others refl is says)
-rest_printed main rows others path limit outcome is (inr none) = inr none
+rest_printed main rows others path limit outcome is =
+    or_memory (λ outcome. outcome ≡ text_outcome (list_text main.path (up_to limit others))) (PrintsRows main rows (Some path) limit) outcome
+    (λ says. path_listed path others refl is says)
 
 -- a command prints the same of what was found as of the run
 pub prints_for : (query : Query) (run : Run) (asked : List Name) (loaded : Loaded) (outcome : Outcome) → IsLoaded run asked loaded
@@ -81,12 +83,8 @@ by_faults query file sums main table asked loaded (first ∷ others) outcome rea
 -- a main module's file that was not read refuses both
 pub main_told : (file : List ℕ) (sums : Option (List ℕ)) (fault : BytesFault) → IsBytesFault Strict file fault
     → OrNoMemory (IsRefusedRead file sums) (report_outcome (report_by_bytes fault))
-main_told file sums fault is = refused_main (main_refused file fault is)
-  where
-    refused_main : OrNoMemory (IsMalformed file) (report_outcome (report_by_bytes fault))
-        → OrNoMemory (IsRefusedRead file sums) (report_outcome (report_by_bytes fault))
-    refused_main (inl malformed) = inl (inl malformed)
-    refused_main (inr none) = inr none
+main_told file sums fault is =
+    or_memory (IsMalformed file) (IsRefusedRead file sums) (report_outcome (report_by_bytes fault)) (λ malformed. inl malformed) (main_refused file fault is)
 
 -- the go.sum is reported
 abbrev pub AreReported : Option (List ℕ) → Outcome → Type 0
@@ -102,11 +100,9 @@ sums_ok sums r table is match = subst (AreSumsRead sums) is match
 pub sums_told : (file : List ℕ) (sums : Option (List ℕ)) (main : Main) (r : Result (Option Sums) Report) (told : Report)
     → IsMainFile file main → r ≡ Err told → AreSumsRead sums r
     → OrNoMemory (IsRefusedRead file sums) (report_outcome told)
-sums_told file sums main r told is stops match = refused_sums (subst (AreSumsRead sums) stops match)
-  where
-    refused_sums : OrNoMemory (AreReported sums) (report_outcome told) → OrNoMemory (IsRefusedRead file sums) (report_outcome told)
-    refused_sums (inl (report, misread, says)) = inl (inr (main, report, is, misread, says))
-    refused_sums (inr none) = inr none
+sums_told file sums main r told is stops match =
+    or_memory (AreReported sums) (IsRefusedRead file sums) (report_outcome told)
+    (λ reported. inr (main, reported.0, is, reported.1, reported.2)) (subst (AreSumsRead sums) stops match)
 
 pub both_read : (file : List ℕ) (sums : Option (List ℕ)) (lines : List (Line Placed)) (s : Result (Option Sums) Report) (table : Option Sums)
     → IsMainOf file lines → s ≡ Ok table → AreSumsRead sums s → FilesReadAs file sums (main_of lines) table
@@ -224,12 +220,11 @@ module _ (query : Query) (file : List ℕ) (sums : Option (List ℕ)) (main : Ma
       → ComesTo (command_of query) file sums before after old new outcome
   still outcome same ends =
       still_comes (command_of query) file sums before after old new outcome in_turn served
-      (λ path all other is. absurd (no_versions query path all is)) (same ∙ append-nil old.refused) (by ends)
+      (λ path all other is. absurd (no_versions query path all is)) (same ∙ append-nil old.refused)
+      (or_memory (QueryEnds (PrintsOf (command_of query)) run) (RunEnds (command_of query) run) outcome (of_query query run outcome) ends)
     where
-      by : OrNoMemory (QueryEnds (PrintsOf (command_of query)) (given_of file sums (answers_of new.asked []))) outcome
-          → OrNoMemory (RunEnds (command_of query) (given_of file sums (answers_of new.asked []))) outcome
-      by (inl is) = inl (of_query query (given_of file sums (answers_of new.asked [])) outcome is)
-      by (inr memory) = inr memory
+      run : Given
+      run = given_of file sums (answers_of new.asked [])
 
   -- loading was refused
   pub not_loaded : (result : Result Loaded LoadFault) (fault : LoadFault) → result ≡ Err fault
@@ -257,11 +252,8 @@ module _ (query : Query) (file : List ℕ) (sums : Option (List ℕ)) (main : Ma
       → IfOk result (IsLoaded (run_of main table new.asked) (names_in new.asked))
       → new.refused ≡ old.refused ++ refused_in result → OrNoMemory (IsOutcomeOfFound query main loaded) outcome
       → ComesTo (command_of query) file sums before after old new outcome
-  answered result loaded outcome ok is grown told = still outcome (subst (λ r. new.refused ≡ old.refused ++ refused_in r) ok grown) (by told)
-    where
-      by : OrNoMemory (IsOutcomeOfFound query main loaded) outcome
-          → OrNoMemory (QueryEnds (PrintsOf (command_of query)) (given_of file sums (answers_of new.asked []))) outcome
-      by (inl told) =
-          inl (by_faults query file sums main table new.asked loaded loaded.faults outcome read
-          (subst (λ r. IfOk r (IsLoaded (run_of main table new.asked) (names_in new.asked))) ok is) refl told)
-      by (inr memory) = inr memory
+  answered result loaded outcome ok is grown told =
+      still outcome (subst (λ r. new.refused ≡ old.refused ++ refused_in r) ok grown)
+      (or_memory (IsOutcomeOfFound query main loaded) (QueryEnds (PrintsOf (command_of query)) (given_of file sums (answers_of new.asked []))) outcome
+      (by_faults query file sums main table new.asked loaded loaded.faults outcome read
+      (subst (λ r. IfOk r (IsLoaded (run_of main table new.asked) (names_in new.asked))) ok is) refl) told)

@@ -16,7 +16,7 @@ use Rattle.gomod_run.specs.Reports.{device_line}
 use Rattle.gomod_run.specs.Laws.{OneForStores, OneOutcome}
 use Rattle.gomod_run.specs.Fmt.{FmtEnds}
 use Rattle.gomod_run.specs.Versions.{AreShown, HasListed, LatestSays, VersionsEnds, VersionsNeed, all_listed, bad_file, device, list_refusal, no_list, not_retracted, printed}
-use Rattle.gomod_run.proofs.OneOutcome.{one_end, not_broken, one_failure}
+use Rattle.gomod_run.proofs.OneOutcome.{not_broken, one_end, one_failure}
 use Rattle.gomod_run.proofs.OneQueryStore.{itself}
 use Rattle.gomod_run.proofs.OnePrinted.{chain_once, graph_once, list_once}
 use Rattle.gomod_run.proofs.OneVersions.{versions_once}

@@ -96,13 +96,12 @@ module _ (path : List ℕ) (all : Bool) (answers : AnswersByName) where
 
   pub versions_once : (one other : Outcome) → VersionsEnds path all answers [] one → VersionsEnds path all answers [] other → one ≡ other
   versions_once one other (device name need unanswered failed says) be = absurd (cc failed)
-  versions_once one other (no_list refused none) (device name need unanswered failed says) = absurd (cc failed)
+  versions_once one other is (device name need unanswered failed says) = absurd (cc failed)
   versions_once one other (no_list refused none) (no_list also nothing) = one_refusal path answers one other refused also
   versions_once one other (no_list refused none) (bad_file versions latest reply class says nothing tells) =
       absurd (not_refused one versions says.chosen.listed refused)
   versions_once one other (no_list refused none) (printed shown are nothing tells) =
       absurd (let (versions, is) = shown_listed shown are in not_refused one versions is refused)
-  versions_once one other (bad_file versions latest reply class says none told) (device name need unanswered failed tells) = absurd (cc failed)
   versions_once one other (bad_file versions latest reply class says none told) (no_list refused nothing) =
       absurd (not_refused other versions says.chosen.listed refused)
   versions_once one other (bad_file versions latest reply class says none told) (bad_file others last next kind tells nothing also) =
@@ -111,7 +110,6 @@ module _ (path : List ℕ) (all : Bool) (answers : AnswersByName) where
       (one_latest versions others latest last says.chosen tells.chosen).1 classes ∙ sym also
   versions_once one other (bad_file versions latest reply class says none told) (printed shown are nothing also) =
       absurd (none_shown versions latest reply class shown says are)
-  versions_once one other (printed shown are none told) (device name need unanswered failed tells) = absurd (cc failed)
   versions_once one other (printed shown are none told) (no_list refused nothing) =
       absurd (let (versions, is) = shown_listed shown are in not_refused other versions is refused)
   versions_once one other (printed shown are none told) (bad_file versions latest reply class says nothing also) =

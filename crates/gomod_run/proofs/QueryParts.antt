@@ -14,7 +14,7 @@ use Rattle.gomod_run.specs.Reports.{device_line, too_many_line}
 use Rattle.gomod_run.specs.Runs.{RunEnds, is_query}
 use Rattle.gomod_run.specs.Private.ByCommand.{PrintsOf}
 use Rattle.gomod_words.specs.declared.usage.Command.{Command}
-use Rattle.gomod_words.specs.declared.usage.Command.TheVariants.{Fmt, Edit, Versions, Graph, List as Rows, Chain}
+use Rattle.gomod_words.specs.declared.usage.Command.TheVariants.{Graph, List as Rows, Chain}
 
 -- loading finds too many modules, or its store's device fails, or all needed files are answered
 pub data LoadingEnd (prints : Prints) (run : Given) (main : Main) (table : Option Sums) (outcome : Outcome) : Type 0 where
@@ -55,15 +55,11 @@ module _ (run : Given) (outcome : Outcome) where
   query_ends Graph query is = is
   query_ends (Rows after limit) query is = is
   query_ends (Chain path) query is = is
-  query_ends Fmt query is = absurd (false≢true query)
-  query_ends (Edit operations) query is = absurd (false≢true query)
-  query_ends (Versions path all) query is = absurd (false≢true query)
+  query_ends command query is = absurd (false≢true query)
 
   -- and the reverse
   pub ends_query : (command : Command) → is_query command ≡ true → QueryEnds (PrintsOf command) run outcome → RunEnds command run outcome
   ends_query Graph query is = is
   ends_query (Rows after limit) query is = is
   ends_query (Chain path) query is = is
-  ends_query Fmt query is = absurd (false≢true query)
-  ends_query (Edit operations) query is = absurd (false≢true query)
-  ends_query (Versions path all) query is = absurd (false≢true query)
+  ends_query command query is = absurd (false≢true query)

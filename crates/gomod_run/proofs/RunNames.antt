@@ -11,13 +11,13 @@ use Rattle.gm_file.specs.Directives.{Folder, Lax, Module, Replaces, Replacing, R
 use Rattle.gm_file.specs.Fields.{Dependency, replacement_of}
 use Rattle.gm_file.specs.Main.{Main, is_excluded, without_excluded, IsMainFile}
 use Rattle.gm_file.specs.declared.misreading.Misreading.TheVariants as misreading
-use Rattle.gm_store.specs.Asked.{Name, Reply, absent, bytes, folder_file, list_file, mod_file, too_long}
+use Rattle.gm_store.specs.Asked.{Name, Reply, absent, bytes, mod_file, too_long}
 use Rattle.gm_store_sums.specs.Hash.{file_hash}
 use Rattle.gm_store_sums.specs.Sums.{Sums, check_in}
 use Rattle.gm_store_sums.specs.declared.sum_table.Sum.{Sum}
 use Rattle.gm_store_sums.specs.declared.sum_table.Sum.TheVariants.{Good, Unlisted, Differs}
 use Rattle.gm_graph.specs.declared.cache.class.Class.{Class}
-use Rattle.gm_graph.specs.declared.cache.class.Class.TheVariants.{NotFetchable, Missing, TooLong, NoSum, SumDiffers, Malformed, WrongPath}
+use Rattle.gm_graph.specs.declared.cache.class.Class.TheVariants.{Missing, TooLong, NoSum, SumDiffers, Malformed}
 use Rattle.gm_graph.specs.Reading.{IsContentReading, IsFileReading, IsReadUnless, class_of_sum, sum_fault}
 use Rattle.gm_graph.specs.Run.{FileSays, IsDeep, IsEdge, IsOpened, IsTop, Requires, Run, Says, answered, faulty, from_deep, from_main, from_top, run_of, sound, unaskable, wrong_path}
 use Rattle.gm_graph_select.proofs.RankedLists.{from_mapped}
@@ -63,8 +63,7 @@ sum_class Differs class is = let same : SumDiffers ≡ class = cc is in subst Is
 sum_sound : (table : Option Sums) (name : Name) (content : List ℕ) (class : Class) → sum_fault table name content ≡ Some class → IsProperClass class
 sum_sound None name content class is = absurd (cc is)
 sum_sound (Some table) (mod_file path version) content class is = sum_class (check_in table path version (file_hash content)) class is
-sum_sound (Some table) (folder_file text) content class is = absurd (cc is)
-sum_sound (Some table) (list_file path) content class is = absurd (cc is)
+sum_sound (Some table) name content class is = absurd (cc is)
 
 read_proper : (content : List ℕ) (file : Dependency) → IsDependencyIn content file → IsProper (Ok file)
 read_proper content file (doc, parsed, none, is) x there =
@@ -76,12 +75,7 @@ content_proper content (Err (Malformed number misreading.TooMany)) is = absurd i
 content_proper content (Err (Malformed number misreading.NotUtf8)) is = misread_few content number misreading.NotUtf8 is
 content_proper content (Err (Malformed number (misreading.Syntax kind))) is = misread_few content number (misreading.Syntax kind) is
 content_proper content (Err (Malformed number (misreading.Directive kind))) is = misread_few content number (misreading.Directive kind) is
-content_proper content (Err NotFetchable) is = tt
-content_proper content (Err Missing) is = tt
-content_proper content (Err TooLong) is = tt
-content_proper content (Err NoSum) is = tt
-content_proper content (Err SumDiffers) is = tt
-content_proper content (Err WrongPath) is = tt
+content_proper content (Err class) is = tt
 
 unless_proper : (o : Option Class) (content : List ℕ) (said : Result Dependency Class)
     → ((class : Class) → o ≡ Some class → IsProperClass class) → IsReadUnless o content said → IsProper said

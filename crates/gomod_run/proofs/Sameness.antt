@@ -30,15 +30,13 @@ no_fault file lines (faults.Syntax line kind) place good bad named = let ends = 
 same_place : (file : List ℕ) (one other : SyntaxFault) (here there : FaultPlace) → IsParsedAs file (Err one) → IsParsedAs file (Err other)
     → syntax_place one ≡ Some here → syntax_place other ≡ Some there → here ≡ there
 same_place file faults.NoMemory other here there a b p q = absurd (cc)
-same_place file faults.TooMany faults.NoMemory here there a b p q = absurd (cc)
+same_place file one faults.NoMemory here there a b p q = absurd (cc)
 same_place file faults.TooMany faults.TooMany here there a b p q = cc
 same_place file faults.TooMany faults.NotUtf8 here there a b p q = let short = b.0 in absurd (omega arith)
 same_place file faults.TooMany (faults.Syntax line kind) here there a b p q = let short = b.0.0 in absurd (omega arith)
-same_place file faults.NotUtf8 faults.NoMemory here there a b p q = absurd (cc)
 same_place file faults.NotUtf8 faults.TooMany here there a b p q = let short = a.0 in absurd (omega arith)
 same_place file faults.NotUtf8 faults.NotUtf8 here there a b p q = cc
 same_place file faults.NotUtf8 (faults.Syntax line kind) here there a b p q = absurd (a.1 b.0.1)
-same_place file (faults.Syntax line kind) faults.NoMemory here there a b p q = absurd (cc)
 same_place file (faults.Syntax line kind) faults.TooMany here there a b p q = let short = a.0.0 in absurd (omega arith)
 same_place file (faults.Syntax line kind) faults.NotUtf8 here there a b p q = absurd (b.1 a.0.1)
 same_place file (faults.Syntax line kind) (faults.Syntax row sort) here there a b p q =

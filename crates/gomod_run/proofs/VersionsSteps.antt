@@ -3,6 +3,7 @@ use Rattle.std.proofs.Common.{◌≡◌, ◌⊎◌, ◌∙◌, ◌++◌, ◌∷�
 use Rattle.gm_name.specs.Path.{is_fetchable}
 use Rattle.gm_store.specs.Asked.{IsWithinLimit, Name, Reply, answer_in, bytes, list_file, mod_file}
 use Rattle.gm_store.specs.Latest.{IsLatest}
+use Rattle.gm_store.specs.Listed.{AreListed}
 use Rattle.gm_store.specs.States.{HasServed, StoreState}
 use Rattle.gm_file.specs.Directives.{VersionInterval}
 use Rattle.gm_file.specs.Fields.{Dependency}
@@ -21,6 +22,7 @@ use Rattle.gomod_run.specs.Versions.{AreShown, HasListed, IsLatestListed, IsRefu
 use Rattle.gomod_run.specs.Private.VersionsRuns.{AreToBeShown, AreVersionsAnswered, IsListAnswered, IsVersionsRun, broken_run, still_run}
 use Rattle.gomod_words.specs.declared.usage.Command.TheVariants.{Versions}
 use Rattle.gomod_run.proofs.Answering.{file_answer, list_answer}
+use Rattle.gomod_run.proofs.PassedOn.{or_memory}
 use Rattle.gomod_run.proofs.CommandOutcomes.{broken_comes, still_comes}
 use Rattle.gomod_run.proofs.OneVersions.{one_refusal, shown_listed, unrefused}
 
@@ -126,6 +128,11 @@ listed_memory path all old new list outcome is memory =
     (λ other. unrefused path list (answer_in new.asked) other is.fetchable
     (ap (λ (a : Pairs). answer_in a (list_file path)) is.alone ∙ list_answer path (bytes list) [])) memory
 
+-- and it names these versions
+pub versions_answered : (path : List ℕ) (old mid : StoreState) (list : List ℕ) (versions : List (List ℕ)) → IsListAnswered path old mid list
+    → AreListed path list versions → AreVersionsAnswered path old mid versions
+versions_answered path old mid list versions answered listed = record { list = list; answered = answered; listed = listed }
+
 module _ (path : List ℕ) (all : Bool) (first mid : StoreState) (versions : List (List ℕ)) (is : AreVersionsAnswered path first mid versions) where
   list_first : (asked rest : Pairs) → asked ≡ (list_file path, bytes is.list) ∷ rest → answer_in asked (list_file path) ≡ Some (bytes is.list)
   list_first asked rest begins = ap (λ (a : Pairs). answer_in a (list_file path)) begins ∙ list_answer path (bytes is.list) rest
@@ -221,11 +228,9 @@ pub shown_run : (path : List ℕ) (all : Bool) (old new : StoreState) (shown : L
 shown_run path all old new shown outcome is told =
     let (versions, listed) = shown_listed path all (answer_in new.asked) shown is.shown in
     still_run is.still is.in_turn
-    (λ other refused. absurd (unrefused path listed.list (answer_in new.asked) other listed.fetchable listed.answered refused)) (by told)
-  where
-    by : OrNoMemory (λ outcome. outcome ≡ text_outcome (versions_line path shown)) outcome → OrNoMemory (VersionsEnds path all (answer_in new.asked) []) outcome
-    by (inl says) = inl (printed shown is.shown refl says)
-    by (inr memory) = inr memory
+    (λ other refused. absurd (unrefused path listed.list (answer_in new.asked) other listed.fetchable listed.answered refused))
+    (or_memory (λ outcome. outcome ≡ text_outcome (versions_line path shown)) (VersionsEnds path all (answer_in new.asked) []) outcome
+    (λ says. printed shown is.shown refl says) told)
 
 -- all are if there are no intervals
 pub none_hidden : (versions : List (List ℕ)) → shown_of [] versions ≡ versions

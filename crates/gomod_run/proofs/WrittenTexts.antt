@@ -10,7 +10,7 @@ use Rattle.gomod_run.specs.Taking.{Took, TookAll, TookPrefix}
 use Rattle.gomod_run.specs.declared.reports.report.Report.{Report}
 use Rattle.gomod_run.specs.Program.{usage_error, usage_outcome}
 use Rattle.gomod_words.specs.declared.usage.UsageFault.{UsageFault}
-use Rattle.gomod_words.specs.declared.usage.UsageFault.TheVariants.{NoMemory, Help, Version, Line, BadPath, BadProxy}
+use Rattle.gomod_words.specs.declared.usage.UsageFault.TheVariants.{Help, Version}
 use Rattle.gomod_run.specs.Written.{EndsAsStated, IsWritten}
 
 -- ---- texts and reports
@@ -49,12 +49,9 @@ written_as one other out out' report report' status same written =
     subst (λ (outcome : Outcome). IsWritten outcome out out' report report' status) same written
 
 usage_utf8 : (fault : UsageFault) → IsUtf8 (usage_outcome fault).text
-usage_utf8 NoMemory = IsUtf8-nil
 usage_utf8 (Help text) = IsUtf8-string_bytes text
 usage_utf8 (Version text) = IsUtf8-string_bytes text
-usage_utf8 (Line text) = IsUtf8-nil
-usage_utf8 (BadPath text) = IsUtf8-nil
-usage_utf8 (BadProxy text) = IsUtf8-nil
+usage_utf8 fault = IsUtf8-nil
 
 -- an end with a usage error, or with help or the version
 pub usage_ends : (fault : UsageFault) (out out' report report' : SinkState) (status : ℕ)

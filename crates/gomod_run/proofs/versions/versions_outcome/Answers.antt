@@ -5,9 +5,9 @@ use Rattle.gm_file.specs.Views.{interval_views}
 use Rattle.gm_store.proofs.Serving.{served_both}
 use Rattle.gomod_run.specs.Outcome.{outcome_view, text_outcome}
 use Rattle.gomod_run.specs.Versions.{versions_line}
-use Rattle.gomod_run.specs.Private.VersionsRuns.{AreVersionsAnswered, IsVersionsRun}
+use Rattle.gomod_run.specs.Private.VersionsRuns.{IsVersionsRun}
 use Rattle.gomod_run.proofs.PassedOn.{no_memory, passed}
-use Rattle.gomod_run.proofs.VersionsSteps.{file_unasked, listed_memory, shown_run}
+use Rattle.gomod_run.proofs.VersionsSteps.{file_unasked, listed_memory, shown_run, versions_answered}
 use Rattle.gomod_run.proofs.versions.versions_outcome.Goals as goal
 
 pub returns-in_err-list-clause-run : goal.returns-in_err-list-clause-run
@@ -35,11 +35,8 @@ returns-in_err-versions-clause-served g c = c.in_ok-list.ensures.served
 
 pub retracting_file-requires : goal.retracting_file-requires
 retracting_file-requires g c =
-    let path = c.args.path.now in
-    let all = c.args.all in
-    let old = g.F.Asks.state c.args.files.now in
-    let mid = g.F.Asks.state c.list_of.new.files in
-    file_unasked path old mid c.in_ok-list.list.items (c.in_ok-list.ensures.run all)
+    file_unasked c.args.path.now (g.F.Asks.state c.args.files.now) (g.F.Asks.state c.list_of.new.files) c.in_ok-list.list.items
+    (c.in_ok-list.ensures.run c.args.all)
 
 pub returns-in_err-file-clause-run : goal.returns-in_err-file-clause-run
 returns-in_err-file-clause-run g c =
@@ -47,22 +44,14 @@ returns-in_err-file-clause-run g c =
     let all = c.args.all in
     let old = g.F.Asks.state c.args.files.now in
     let mid = g.F.Asks.state c.list_of.new.files in
-    let versions = c.in_ok-versions.versions.items in
-    let are : AreVersionsAnswered path old mid versions =
-    record {
-      list = c.in_ok-list.list.items;
-      answered = c.in_ok-list.ensures.run all;
-      listed =
-          rw c.as_slice.ensures.value at c.in_ok-versions.ensures;
-    } in
+    let are = versions_answered path old mid c.in_ok-list.list.items c.in_ok-versions.versions.items (c.in_ok-list.ensures.run all)
+    (rw c.as_slice.ensures.value at c.in_ok-versions.ensures) in
     passed (IsVersionsRun path all old (g.F.Asks.state c.retracting_file.new.files)) c.in_err-file.field-0.0
     c.from_residual-in_err-file.result c.from_residual-in_err-file.ensures.1
     (c.in_err-file.ensures.run old (rw c.as_slice-2.ensures.value are))
 
 pub returns-in_err-file-clause-served : goal.returns-in_err-file-clause-served
 returns-in_err-file-clause-served g c =
-    let path = c.args.path.now in
-    let all = c.args.all in
     let old = g.F.Asks.state c.args.files.now in
     let mid = g.F.Asks.state c.list_of.new.files in
     served_both _ _ _ old mid (g.F.Asks.state c.retracting_file.new.files) c.in_ok-list.ensures.served c.in_err-file.ensures.served
@@ -73,14 +62,8 @@ returns-in_err-line-clause-run g c =
     let all = c.args.all in
     let old = g.F.Asks.state c.args.files.now in
     let mid = g.F.Asks.state c.list_of.new.files in
-    let versions = c.in_ok-versions.versions.items in
-    let are : AreVersionsAnswered path old mid versions =
-    record {
-      list = c.in_ok-list.list.items;
-      answered = c.in_ok-list.ensures.run all;
-      listed =
-          rw c.as_slice.ensures.value at c.in_ok-versions.ensures;
-    } in
+    let are = versions_answered path old mid c.in_ok-list.list.items c.in_ok-versions.versions.items (c.in_ok-list.ensures.run all)
+    (rw c.as_slice.ensures.value at c.in_ok-versions.ensures) in
     shown_run path all old (g.F.Asks.state c.retracting_file.new.files) _
     (outcome_view c.from_residual-in_err-line.result) (c.in_ok-file.ensures.run old
     (rw c.as_slice-2.ensures.value are))
@@ -88,8 +71,6 @@ returns-in_err-line-clause-run g c =
 
 pub returns-in_err-line-clause-served : goal.returns-in_err-line-clause-served
 returns-in_err-line-clause-served g c =
-    let path = c.args.path.now in
-    let all = c.args.all in
     let old = g.F.Asks.state c.args.files.now in
     let mid = g.F.Asks.state c.list_of.new.files in
     served_both _ _ _ old mid (g.F.Asks.state c.retracting_file.new.files) c.in_ok-list.ensures.served c.in_ok-file.ensures.served
@@ -100,14 +81,8 @@ returns-clause-run g c =
     let all = c.args.all in
     let old = g.F.Asks.state c.args.files.now in
     let mid = g.F.Asks.state c.list_of.new.files in
-    let versions = c.in_ok-versions.versions.items in
-    let are : AreVersionsAnswered path old mid versions =
-    record {
-      list = c.in_ok-list.list.items;
-      answered = c.in_ok-list.ensures.run all;
-      listed =
-          rw c.as_slice.ensures.value at c.in_ok-versions.ensures;
-    } in
+    let are = versions_answered path old mid c.in_ok-list.list.items c.in_ok-versions.versions.items (c.in_ok-list.ensures.run all)
+    (rw c.as_slice.ensures.value at c.in_ok-versions.ensures) in
     let shown = ap (λ (rs : List VersionInterval). versions_line path (shown_of rs c.as_slice-2.result.now)) c.retracts_in.ensures in
     let line = c.in_ok-line.ensures ∙ ap (λ (vs : List (List ℕ)).
     versions_line path (shown_of (interval_views c.retracts_in.result.now) vs))
@@ -117,8 +92,6 @@ returns-clause-run g c =
 
 pub returns-clause-served : goal.returns-clause-served
 returns-clause-served g c =
-    let path = c.args.path.now in
-    let all = c.args.all in
     let old = g.F.Asks.state c.args.files.now in
     let mid = g.F.Asks.state c.list_of.new.files in
     served_both _ _ _ old mid (g.F.Asks.state c.retracting_file.new.files) c.in_ok-list.ensures.served c.in_ok-file.ensures.served
