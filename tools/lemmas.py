@@ -11,7 +11,7 @@ import script
 
 MOST_SHARED = 20
 # how many statements are proved twice or more often, a number that only falls; crates/page has copies
-TWICE, PAGE = 35, "page"
+TWICE, PAGE = 0, "page"
 DECLARED = re.compile(r"(?:pub )?([^\s:(){}]+) : (.+)")
 NAME = re.compile(r"[^\s(){}\[\],;.]+")
 # variables that a type binds: `(x y : T)`, `{x y : T}`, `λ (x : T).`, `λ x y.`

@@ -1,5 +1,5 @@
 -- What a query prints determines the main module's path, and the rows, edges and steps of its run.
-use Rattle.std.proofs.Common.{◌≡◌, ◌∙◌, ◌∷◌, ◌++◌, ℕ, List, [], None, Option, Contains, ap, append_assoc, arith, codes, length, length-append, map, refl, subst, sym}
+use Rattle.std.proofs.Common.{◌≡◌, ◌≢◌, ◌∙◌, ◌∷◌, ◌++◌, ℕ, List, [], None, Option, Contains, ap, append_assoc, arith, codes, length, length-append, map, refl, subst, sym}
 use Rattle.gm_name.specs.Path.{IsPath}
 use Rattle.gm_name.specs.Version.{IsVersion}
 use Rattle.gm_name.specs.ModuleVersion.{ModuleVersion}
@@ -19,7 +19,7 @@ use Rattle.gomod_run.specs.ChainQuery.{chain_text}
 use Rattle.gomod_run.specs.GraphQuery.{graph_text}
 use Rattle.gomod_run.specs.ListQuery.{list_text}
 use Rattle.gomod_run.specs.LineParts.{step_text, vertex_text}
-use Rattle.gomod_run.proofs.GraphLines.{text_says_edges, text_says_steps, at_is_no_blank}
+use Rattle.gomod_run.proofs.GraphLines.{text_says_edges, text_says_steps}
 use Rattle.gomod_run.proofs.ListLines.{Lacks, both_lack, cut_at, has_it, path_has_no_blank, text_says_rows, version_has_no_blank}
 use Rattle.gomod_run.proofs.RunNames.{run_has_names, run_has_proper_edges, run_has_proper_rows, run_has_proper_steps}
 use Rattle.gomod_run.proofs.PrintedList.{all_rows}
@@ -27,6 +27,9 @@ use Rattle.gomod_laws.specs.Shown.{ShowsEdges, ShowsRows, ShowsSteps}
 use Rattle.gm_file_edit.proofs.Feeds.{path-plain}
 
 -- ---- texts
+
+at_is_no_blank : ◌≢◌ {A = ℕ} 64 32
+at_is_no_blank e = omega (arith, e)
 
 vertex_lacks : (x : ModuleVersion) → IsPath x.0 → IsVersion x.1 → Lacks 32 (vertex_text x)
 vertex_lacks x p v = both_lack 32 (x.0 ++ codes "@") x.1

@@ -1,17 +1,18 @@
 -- The answers of a store, in the order of the asks.
 use Rattle.std.proofs.Common.{◌≡◌, ◌<◌, ◌&&◌, suc, ℕ, Bool, true, false, if◌then◌else◌, List, [], ◌∷◌, length, Some, Contains, ap, ap₂, arith, refl, sym}
-use Rattle.gm_store.proofs.NameOrder.{bytes_itself, names_equal}
+use Rattle.gm_store.proofs.NameOrder.{names_equal}
 use Rattle.gm_store.specs.Asked.{Name, Reply, answer_in, list_file, mod_file, same_name}
+use Rattle.gm_name.proofs.Texts.{bytes_eq-self}
 
 -- the list is answered first
 pub list_answer : (path : List ℕ) (reply : Reply) (rest : List (Name × Reply)) → answer_in ((list_file path, reply) ∷ rest) (list_file path) ≡ Some reply
-list_answer path reply rest = ap (λ (b : Bool). if b then Some reply else answer_in rest (list_file path)) (bytes_itself path)
+list_answer path reply rest = ap (λ (b : Bool). if b then Some reply else answer_in rest (list_file path)) (bytes_eq-self path)
 
 -- and then the go.mod of a version
 pub file_answer : (path version : List ℕ) (first reply : Reply) (rest : List (Name × Reply))
     → answer_in ((list_file path, first) ∷ (mod_file path version, reply) ∷ rest) (mod_file path version) ≡ Some reply
 file_answer path version first reply rest =
-    ap (λ (b : Bool). if b then Some reply else answer_in rest (mod_file path version)) (ap₂ (λ (x y : Bool). x && y) (bytes_itself path) (bytes_itself version))
+    ap (λ (b : Bool). if b then Some reply else answer_in rest (mod_file path version)) (ap₂ (λ (x y : Bool). x && y) (bytes_eq-self path) (bytes_eq-self version))
 
 -- every answer is the answer to some ask
 pub answered_in : (pairs : List (Name × Reply)) (name : Name) (reply : Reply) → answer_in pairs name ≡ Some reply → Contains pairs (name, reply)

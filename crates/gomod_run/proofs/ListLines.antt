@@ -15,11 +15,12 @@ use Rattle.gm_file.specs.Values.{is_folder_path}
 use Rattle.gm_graph_select.specs.declared.step.Step.TheVariants.{Main, Of}
 use Rattle.gm_graph_select.specs.BuildList.{Entry}
 use Rattle.gm_graph_select.proofs.Ascending.{member_head, member_tail}
-use Rattle.gm_graph.proofs.Mapped.{from_mapped}
+use Rattle.gm_graph_select.proofs.RankedLists.{from_mapped}
 use Rattle.gomod_run.specs.ListQuery.{list_text, replacement_suffix, replacement_text, row_text}
 use Rattle.gomod_run.specs.LineParts.{line}
 use Rattle.gomod_run.specs.PrintedLines.{AreAll, HasLines, IsProperRight, IsProperRow, LineIsOfOne, LineSaysOne, TextSaysAll}
-use Rattle.gomod_run.proofs.PathStarts.{begins_no_folder}
+use Rattle.gm_file_edit.proofs.Feeds.{path-plain, version-plain}
+use Rattle.gm_file_edit.proofs.Folders.{begins-no-folder}
 
 -- ---- texts without a byte
 
@@ -50,18 +51,12 @@ version_lacks c other text is = lacks c is_byte_of_version other text (version-b
 pub path_has_no_blank : (text : List ℕ) → IsPath text → Lacks 32 text
 path_has_no_blank text is = path_lacks 32 refl text is
 
-pub path_has_no_feed : (text : List ℕ) → IsPath text → HasNoLineFeed text
-path_has_no_feed text is = path_lacks 10 refl text is
-
 pub version_has_no_blank : (text : List ℕ) → IsVersion text → Lacks 32 text
 version_has_no_blank text is = version_lacks 32 refl text is
 
-pub version_has_no_feed : (text : List ℕ) → IsVersion text → HasNoLineFeed text
-version_has_no_feed text is = version_lacks 10 refl text is
-
 -- ---- where a text is cut
 
-heads : (a b : ℕ) (x y : List ℕ) → a ∷ x ≡ b ∷ y → a ≡ b
+pub heads : (a b : ℕ) (x y : List ℕ) → a ∷ x ≡ b ∷ y → a ≡ b
 heads a b x y e = cc e
 
 pub tails : (a b : ℕ) (x y : List ℕ) → a ∷ x ≡ b ∷ y → x ≡ y
@@ -138,7 +133,7 @@ mark_has_no_feed = plain (codes " => ") refl
 
 name_has_no_feed : (path version : List ℕ) → IsPath path → IsVersion version → HasNoLineFeed ((path ++ codes " ") ++ version)
 name_has_no_feed path version p v =
-    plain_append (path ++ codes " ") version (plain_append path (codes " ") (path_has_no_feed path p) (plain (codes " ") refl)) (version_has_no_feed version v)
+    plain_append (path ++ codes " ") version (plain_append path (codes " ") (path-plain path p) (plain (codes " ") refl)) (version-plain version v)
 
 suffix_has_no_feed : (right : Option Right) → IsProperRight right → HasNoLineFeed (replacement_suffix right)
 suffix_has_no_feed None proper = tt
@@ -147,7 +142,7 @@ suffix_has_no_feed (Some (Module path version)) proper =
     plain_append (codes " => ") ((path ++ codes " ") ++ version) mark_has_no_feed (name_has_no_feed path version proper.0 proper.1)
 
 row_has_no_feed : (main : List ℕ) → IsPath main → (row : Entry) → IsProperRow row → HasNoLineFeed (row_text main row)
-row_has_no_feed main is (Main, right) proper = rw proper (plain_append main [] (path_has_no_feed main is) tt)
+row_has_no_feed main is (Main, right) proper = rw proper (plain_append main [] (path-plain main is) tt)
 row_has_no_feed main is (Of x, right) proper =
     plain_append ((x.0 ++ codes " ") ++ x.1) (replacement_suffix right) (name_has_no_feed x.0 x.1 proper.0 proper.1) (suffix_has_no_feed right proper.2)
 
@@ -156,7 +151,7 @@ row_has_no_feed main is (Of x, right) proper =
 folder_is_no_module : (text path version : List ℕ) → is_folder_path text ≡ true → IsPath path → text ≡ (path ++ codes " ") ++ version → ⊥
 folder_is_no_module text path version folder is e =
     let whole : text ≡ path ++ (32 ∷ version) = e ∙ append_assoc path (codes " ") version in
-    true≢false (sym folder ∙ ap is_folder_path whole ∙ begins_no_folder path (32 ∷ version) is)
+    true≢false (sym folder ∙ ap is_folder_path whole ∙ begins-no-folder path (32 ∷ version) is)
 
 says_right : (one other : Right) → IsProperRight (Some one) → IsProperRight (Some other) → replacement_text one ≡ replacement_text other → one ≡ other
 says_right (Folder text) (Folder second) p q e = ap Folder e
