@@ -185,9 +185,9 @@ from_steps modules marks vertices ranks old new count are contains up ranked by 
 
 -- `lists`, `sources`, `is_vertex` and `places` are what the calls were given: the lists, the sources, the marks and the
 -- ranks.
-pub is_graph_of : (modules : List ModuleVersion) (marks is_vertex : List Bool) (vertices : List ModuleVersion)
-    (ranks places others : List ℕ) (old_lists lists new_lists : List (List ℕ))
-    (old_sources sources new_sources : List Source)
+pub is_graph_of : {modules : List ModuleVersion} {marks is_vertex : List Bool} {vertices : List ModuleVersion}
+    {ranks places others : List ℕ} {old_lists lists : List (List ℕ)} (new_lists : List (List ℕ))
+    {old_sources sources new_sources : List Source}
     → lists ≡ old_lists → sources ≡ old_sources → is_vertex ≡ marks → places ≡ ranks → others ≡ ranks → AreUsed old_lists old_sources
     → length marks ≡ length modules → ((number : ℕ) → HasMark marks number ↔ Contains (numbers_left sources ++ numbers_listed lists) number)
     → ((x : ModuleVersion) → Contains vertices x ↔ IsMarkedModule modules is_vertex x) → IsAscending pair_cmp vertices
@@ -195,8 +195,8 @@ pub is_graph_of : (modules : List ModuleVersion) (marks is_vertex : List Bool) (
     → AllZip (IsByRanks places) lists new_lists → AreSourcesByRanks others old_sources new_sources
     → IsDistinct (same_step modules) (by_step old_lists old_sources)
     → IsGraphOf modules (by_step old_lists old_sources) vertices (by_step new_lists new_sources)
-is_graph_of modules marks is_vertex vertices ranks places others old_lists lists new_lists old_sources sources
-    new_sources lists_are sources_are marks_are places_are others_are used count are contains up ranked zip by once =
+is_graph_of {modules} {marks} {is_vertex} {vertices} {ranks} {places} {others} {old_lists} {lists} new_lists
+    {old_sources} {sources} {new_sources} lists_are sources_are marks_are places_are others_are used count are contains up ranked zip by once =
     from_steps modules marks vertices ranks (by_step old_lists old_sources) (by_step new_lists new_sources) count named
     (subst (λ (bs : List Bool). (x : ModuleVersion) → Contains vertices x ↔ IsMarkedModule modules bs x) marks_are contains)
     up

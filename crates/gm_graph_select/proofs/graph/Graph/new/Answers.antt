@@ -38,23 +38,25 @@ sources_by_ranks-sources-requires c =
     (sym (ap length c.deref-4.ensures.value ∙ c.in_ok-ranking.ensures.ranks.count))
     (sources_below lists c.args.sources.items (length c.args.modules.items) c.requires.numbered)
 
--- what was made is the graph of the edges by their numbers
-made : (c : goal.After-sources_by_ranks-sources)
-    → IsGraphOf c.args.modules.items (by_step (lists_at c.args.numbers.items c.args.spans.items) c.args.sources.items)
-    c.in_ok-ranking.ranking.vertices.items (by_step c.by_ranks-lists.result c.sources_by_ranks-sources.result.items)
-made c =
-    is_graph_of c.args.modules.items c.in_ok-is_vertex.is_vertex.items c.deref-2.result.now
-    c.in_ok-ranking.ranking.vertices.items c.in_ok-ranking.ranking.ranks.items c.deref-3.result.now
-    c.deref-4.result.now
-    (lists_at c.args.numbers.items c.args.spans.items) c.new-lists.result c.by_ranks-lists.result c.args.sources.items
-    c.deref.result.now c.sources_by_ranks-sources.result.items
+pub invariant_of-result : goal.invariant_of-result
+invariant_of-result c =
+    let made = is_graph_of c.by_ranks-lists.result
     c.new-lists.ensures c.deref.ensures.value c.deref-2.ensures.value c.deref-3.ensures.value c.deref-4.ensures.value c.requires.used
     (omega (arith, c.in_ok-is_vertex.ensures.count, c.len.ensures, c.args.modules.ok)) c.in_ok-is_vertex.ensures.marks
     c.in_ok-ranking.ensures.vertices c.in_ok-ranking.ensures.ascending c.in_ok-ranking.ensures.ranks
-    c.by_ranks-lists.ensures c.sources_by_ranks-sources.ensures c.requires.once
+    c.by_ranks-lists.ensures c.sources_by_ranks-sources.ensures c.requires.once in
+    made.ranked
 
-pub invariant_of-result : goal.invariant_of-result
-invariant_of-result c = (made c).ranked
+-- what is returned is the graph of the edges by their numbers
+made : (c : goal.After-drop-is_vertex-2)
+    → IsGraphOf c.args.modules.items (by_step (lists_at c.args.numbers.items c.args.spans.items) c.args.sources.items)
+    c.in_ok-ranking.ranking.vertices.items (by_step c.by_ranks-lists.result c.sources_by_ranks-sources.result.items)
+made c =
+    is_graph_of c.by_ranks-lists.result c.new-lists.ensures c.deref.ensures.value c.deref-2.ensures.value c.deref-3.ensures.value
+    c.deref-4.ensures.value c.requires.used
+    (omega (arith, c.in_ok-is_vertex.ensures.count, c.len.ensures, c.args.modules.ok)) c.in_ok-is_vertex.ensures.marks
+    c.in_ok-ranking.ensures.vertices c.in_ok-ranking.ensures.ascending c.in_ok-ranking.ensures.ranks
+    c.by_ranks-lists.ensures c.sources_by_ranks-sources.ensures c.requires.once
 
 pub returns-clause-vertices : goal.returns-clause-vertices
 returns-clause-vertices c = (made c).vertices_are
@@ -64,4 +66,5 @@ returns-clause-edges c = (made c).edges_are
 
 pub returns-clause-ascending : goal.returns-clause-ascending
 returns-clause-ascending c =
-    ranked_edges_ascend c.in_ok-ranking.ranking.vertices.items (by_step c.by_ranks-lists.result c.sources_by_ranks-sources.result.items) (made c).ranked
+    ranked_edges_ascend c.in_ok-ranking.ranking.vertices.items (by_step c.by_ranks-lists.result c.sources_by_ranks-sources.result.items)
+    (made c).ranked
