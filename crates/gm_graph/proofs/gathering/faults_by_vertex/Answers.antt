@@ -1,15 +1,11 @@
-use Rattle.std.proofs.Common.{◌∙◌, [], Some, ap, cond, get_or, subst, take}
+use Rattle.std.proofs.Common.{◌∙◌, [], Some, ap, cond, get_or, take}
 use Rattle.std.specs.Ordering.{is_eq}
 use Rattle.std.specs.BTreeMap as tree
-use Rattle.std.specs.Prelude.{IsSome}
-use Rattle.std.specs.List.{All}
 use Rattle.std.proofs.lemmas.List.{get_or_default, get_or_read, take_all, take_more}
 use Rattle.gm_name.specs.ModuleVersion.{ModuleVersion, module_at, pair_cmp}
-use Rattle.gm_graph.specs.declared.cache.class.Class.{Class}
 use Rattle.gm_graph.specs.declared.cache.class.Class.TheVariants.{Missing}
 use Rattle.gm_graph.specs.declared.findings.NumberedFault.{NumberedFault}
 use Rattle.gm_graph.specs.Private.Findings.{numbered}
-use Rattle.gm_graph.specs.Private.Gathering.{HasFaultOf}
 use Rattle.gm_graph.proofs.Mapped.{each_more, only_more}
 use Rattle.gm_graph.proofs.gathering.faults_by_vertex.Goals as goal
 
