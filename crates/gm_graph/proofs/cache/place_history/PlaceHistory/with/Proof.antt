@@ -15,7 +15,7 @@ use denote.Triple.Entry.{alive}
 use denote.Triple.Walked.{Stays, stay_dropped, Goes-dropped, walk_of, says, ends_at}
 use Rattle.gm_graph.specs.contracts.cache.place_history.PlaceHistory.with as f
 use Rattle.gm_graph.specs.contracts.cache.place_history.PlaceHistory as PlaceHistory
-use Rattle.gm_name.specs.contracts.place.OptionalPlace as OptionalPlace
+use Rattle.gm_name_table.specs.contracts.place.OptionalPlace as OptionalPlace
 use Rattle.gm_store.specs.Asked.{name_of}
 use Rattle.gm_store.specs.contracts.files.FileName as FileName
 use Rattle.gm_graph.specs.declared.cache.place_history.PlaceHistory.{PlaceHistory as Value}
