@@ -68,7 +68,8 @@ returns-in_err-findings-clause-refused g c =
 
 pub returns-in_err-findings-clause-too_many : goal.returns-in_err-findings-clause-too_many
 returns-in_err-findings-clause-too_many g c = λ e.
-    by_run (λ (run : Run). IsRead run × AreTooMany run) c.in_ok-cache.cache (g.F.Asks.state c.visit_all.new.files).asked c.in_ok-cache.ensures.main c.in_ok-cache.ensures.sums
+    by_run (λ (run : Run). IsRead run × AreTooMany run) c.in_ok-cache.cache (g.F.Asks.state c.visit_all.new.files).asked
+    c.in_ok-cache.ensures.main c.in_ok-cache.ensures.sums
     (c.in_err-findings.ensures.too_many (ap Err (sym (rw e at c.from_residual-in_err-findings.ensures.1))))
 
 pub invariant_of-cache-in_err-findings-clause-in_order : goal.invariant_of-cache-in_err-findings-clause-in_order
