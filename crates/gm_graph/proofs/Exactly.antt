@@ -1,5 +1,5 @@
 -- Exactly the needed names were asked for, and at most 65,536 vertices are opened.
-use Rattle.std.proofs.Common.{◌≡◌, ◌∙◌, ◌≤◌, true, false, List, [], ◌∷◌, ◌++◌, length, Option, IsSome, Contains, ap, sym, refl, subst, inl, inr, arith, Result}
+use Rattle.std.proofs.Common.{◌≡◌, ◌∙◌, ◌≤◌, true, List, [], ◌∷◌, ◌++◌, length, Option, IsSome, Contains, ap, sym, refl, subst, inl, inr, arith, Result}
 use Rattle.std.specs.Prelude.{is_some}
 use Rattle.std.specs.List.{IsDistinct}
 use Rattle.std.proofs.lemmas.Bool.{false≢true}

@@ -1,4 +1,4 @@
-use Rattle.std.proofs.Common.{◌≡◌, ◌↔◌, ◌⊎◌, Contains, List, ap, subst, sym}
+use Rattle.std.proofs.Common.{◌↔◌, ◌⊎◌, Contains, List, ap, subst, sym}
 use Rattle.std.specs.Prelude.{IfOk}
 use Rattle.gm_name.specs.ModuleVersion.{ModuleVersion}
 use Rattle.gm_graph.specs.Private.Gathering.{has_file, gathered_sources as file_sources, spans_of, steps_by}
