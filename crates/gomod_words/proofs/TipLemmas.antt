@@ -1,5 +1,5 @@
 -- What a tip accounts for, step by step.
-use Rattle.std.proofs.Common.{◌≡◌, ◌∙◌, ℕ, All, Bool, Global, List, Option, None, Some, Result, String, false, map, refl, subst, sym, true}
+use Rattle.std.proofs.Common.{◌≡◌, ◌∙◌, ℕ, All, Bool, Global, List, Option, None, Some, Result, String, false, map, refl, subst, true}
 use Rattle.std.proofs.lemmas.Result.{IfOk-weaker}
 use Rattle.std.specs.Prelude.{IfOk, IfSome}
 use Rattle.std.specs.String.{string_bytes}
@@ -98,7 +98,7 @@ list_stands n.Versions n.Versions on stands = refl
 list_stands n.Fmt name on stands = let never : false ≡ true = on in cc never
 list_stands n.Edit name on stands = let never : false ≡ true = on in cc never
 list_stands n.Graph name on stands = let never : false ≡ true = on in cc never
-list_stands n.List name on stands = let never : false ≡ true = on in cc never
+list_stands n.List name on stands = stands
 
 -- a command on one module is not over one file
 not_over_file : (command : CommandName) → is_on_path command ≡ true → is_over_file n.List ≡ is_over_file command
