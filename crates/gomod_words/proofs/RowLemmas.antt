@@ -1,5 +1,5 @@
 -- What becomes of a word that has an `@`.
-use Rattle.std.proofs.Common.{◌≡◌, ◌≢◌, ◌∙◌, ◌<◌, ◌==◌, ◌++◌, ℕ, ap, ap₂, arith, drop, false, get_or, length, length-drop, sym, take, take-append-drop, true}
+use Rattle.std.proofs.Common.{◌≡◌, ◌≢◌, ◌∙◌, ◌<◌, ◌++◌, ℕ, ap, ap₂, arith, drop, false, get_or, length, length-drop, sym, take, take-append-drop, true}
 use Rattle.std.proofs.lemmas.Bool.Decides.{nat_tests}
 use Rattle.std.proofs.lemmas.List.Sums.{position_or_len_is}
 use Rattle.clap.specs.Walk.{Text}

@@ -1,5 +1,5 @@
 -- What a tip accounts for, step by step.
-use Rattle.std.proofs.Common.{◌≡◌, ◌∙◌, ℕ, All, Bool, Global, List, Option, None, Some, Result, String, false, map, refl, subst, true}
+use Rattle.std.proofs.Common.{◌≡◌, ℕ, All, Bool, Global, List, Option, None, Some, Result, String, false, map, refl, subst, true}
 use Rattle.std.proofs.lemmas.Result.{IfOk-weaker}
 use Rattle.std.specs.Prelude.{IfOk, IfSome}
 use Rattle.std.specs.String.{string_bytes}
