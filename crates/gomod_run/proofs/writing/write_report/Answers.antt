@@ -5,9 +5,9 @@ use Rattle.gomod_run.proofs.writing.write_report.Goals as goal
 
 pub returns-in-Ok : goal.returns-in-Ok
 returns-in-Ok g c = λ out.
-    report_written out (g.R.Sink.state c.args.report.now) (g.R.Sink.state c.write.new.sink) c.args.answers.now
+    report_written out (g.R.Sink.state c.args.report.now) (g.R.Sink.state c.write.new.sink) c.args.told.now
     (code_of c.status.result) (ap code_of c.status.ensures) c.in-Ok.ensures
 
 pub returns-in-Err : goal.returns-in-Err
 returns-in-Err g c = λ out.
-    report_cut out (g.R.Sink.state c.args.report.now) (g.R.Sink.state c.write.new.sink) c.args.answers.now c.in-Err.ensures
+    report_cut out (g.R.Sink.state c.args.report.now) (g.R.Sink.state c.write.new.sink) c.args.told.now c.in-Err.ensures
