@@ -42,7 +42,7 @@ use Rattle.page.specs.Graph.{IsEdgeEnd}
 use Rattle.page.specs.Main.{is_pruned_by, without_excluded}
 use Rattle.page.specs.ModuleVersion.{ModuleVersion}
 use Rattle.page.specs.Outcome.{Outcome}
-use Rattle.page.specs.Outcomes.{PrintsRows, path_listed}
+use Rattle.page.specs.ListQuery.{PrintsRows, path_listed}
 use Rattle.page.specs.Path.{is_fetchable}
 use Rattle.page.specs.Reading.{IsFileReading, file_of}
 use Rattle.page.specs.Run.{FileSays, IsDeep, IsNeeded, IsTop, Says, answered, from_deep, from_main, from_top, run_of}

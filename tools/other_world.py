@@ -39,7 +39,7 @@ from case_files import case_of, changed, remove, tree_of
 
 NOBODY = 65534
 LIMIT = 100
-AT_ONCE = len(os.sched_getaffinity(0))
+AT_ONCE = min(len(os.sched_getaffinity(0)), 16)
 # What is typed at the end of a text, and how long a text may be to be typed.
 END_KEY, TYPED = b"\x04", 2000
 # What a file of the environment has, below HOME.

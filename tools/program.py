@@ -30,8 +30,9 @@ REFUSE_LATER = os.environ.pop("REFUSE_LATER", None)
 # the variables for each way to refuse an allocation, and what is then said of it
 ALONE = {"allocation {} refused": {}}
 EACH_WAY = {**ALONE, "allocation {} and all later ones refused": {"REFUSE_LATER": "yes"}}
-# how many cases, or refused runs, there are side by side, and how many of these are begun before a result is looked at
-AT_ONCE = len(os.sched_getaffinity(0))
+# how many cases, or refused runs, there are side by side, and how many of these are begun before a result is looked at:
+# from 24 on, cases that open descriptors 62 and 63 would meet those of the pool
+AT_ONCE = min(len(os.sched_getaffinity(0)), 16)
 BATCH = 8 * AT_ONCE
 # the name that each command is called by, as from a folder whose name is not UTF-8
 NAME = b"b\xff/gomod"
@@ -66,7 +67,7 @@ def stack_of_readme():
 @contextlib.contextmanager
 def limited(kind, most):
     """Sets a limit of this process, for what it starts meanwhile. To set it in a process just before it becomes the
-    command takes four times as long as starting the command does."""
+    command takes four times as long as starting the command does. Meanwhile it holds for this process, too."""
     before = resource.getrlimit(kind)
     resource.setrlimit(kind, (most, before[1]))
     try:

@@ -28,7 +28,7 @@
 # HOME and TMPDIR must be the same after its commands as before, by names, sizes, modes and contents.
 #
 # As many cases run side by side as there are processors, those that take much memory one at a time. Of each command the
-# first run that prints, in each of these rows of cases, is tried once more with /dev/full as its output, and the first
+# first run that prints, in each process that runs cases, is tried once more with /dev/full as its output, and the first
 # that reports with it as its report: the status must be 3, and the other stream empty.
 #
 # What a usage error says to type is given to bash. In a case with a go.mod it is run in a copy of the folder, whose `~`
