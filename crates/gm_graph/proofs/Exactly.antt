@@ -68,7 +68,7 @@ module _ (main : Main) (sums : Option Sums) (pairs : List (Name × Reply)) (asks
       let says = (known x opened).1 in
       let has = module_answered says (subst (λ (m : Name). is_askable m ≡ true) (sym is) askable) in
       subst (λ (m : Name). Contains (names_in pairs) m) is
-          (Contains-from_any names_equal (file_of main x) (names_in pairs) (sym (answered_any pairs (file_of main x)) ∙ has))
+      (Contains-from_any names_equal (file_of main x) (names_in pairs) (sym (answered_any pairs (file_of main x)) ∙ has))
 
   -- Exactly the needed files were asked for.
   pub settled : IsRead (run_of main sums pairs) → ((xs : List ModuleVersion) → AreOpened (run_of main sums pairs) xs → length xs ≤ 65536)

@@ -20,5 +20,5 @@ returns c =
       says = c.in_ok-push_left_of.ensures ∙ ap (λ (tip : List ℕ). tip ++ left_text (grouped Left placed)) (c.in_ok-push_notes.ensures
           ∙ ap (λ (json : List ℕ). string_bytes c.in_ok-tip.tip ++ before ++ json ++ after) c.json_text.ensures
           ∙ ap (λ (line : List ℕ). line ++ before ++ json_text placed ++ after) (c.in_ok-tip.ensures
-            ∙ ap (λ (ws : List Text). command_text (grouped Folders placed) ws (end_in (second_of ws) (grouped Outputs placed))) c.after_program.ensures));
+          ∙ ap (λ (ws : List Text). command_text (grouped Folders placed) ws (end_in (second_of ws) (grouped Outputs placed))) c.after_program.ensures));
     }
