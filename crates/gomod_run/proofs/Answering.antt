@@ -12,7 +12,8 @@ list_answer path reply rest = ap (λ (b : Bool). if b then Some reply else answe
 pub file_answer : (path version : List ℕ) (first reply : Reply) (rest : List (Name × Reply))
     → answer_in ((list_file path, first) ∷ (mod_file path version, reply) ∷ rest) (mod_file path version) ≡ Some reply
 file_answer path version first reply rest =
-    ap (λ (b : Bool). if b then Some reply else answer_in rest (mod_file path version)) (ap₂ (λ (x y : Bool). x && y) (bytes_eq-self path) (bytes_eq-self version))
+    ap (λ (b : Bool). if b then Some reply else answer_in rest (mod_file path version))
+    (ap₂ (λ (x y : Bool). x && y) (bytes_eq-self path) (bytes_eq-self version))
 
 -- every answer is the answer to some ask
 pub answered_in : (pairs : List (Name × Reply)) (name : Name) (reply : Reply) → answer_in pairs name ≡ Some reply → Contains pairs (name, reply)

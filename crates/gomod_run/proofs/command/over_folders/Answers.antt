@@ -46,6 +46,7 @@ returns g c =
           c.folders_of-files.ensures.asked c.folders_of-files.ensures.refused c.run.ensures.holds.served
           c.folders_of-files.ensures.answers,
     ) in
-    ends_weaken _ _ _ _ _ _ _ (λ outcome ran. runs read.main read.sums None (answers_between old new) c.in_ok-read.ensures.main c.in_ok-read.ensures.sums tt told
+    ends_weaken _ _ _ _ _ _ _ (λ outcome ran. runs read.main read.sums None (answers_between old new)
+    c.in_ok-read.ensures.main c.in_ok-read.ensures.sums tt told
     (same_run command read.main read.sums c.main.result.now (option_map (λ sums. sums.now) c.sums.result) old new outcome c.main.ensures c.sums.ensures ran))
     c.run.ensures.ends

@@ -44,6 +44,7 @@ returns g c =
     let told = told_by (λ name answer. answer ≡ Some (reply_for longest (held_for (versions_path command) list name))) _
     _ old new c.in_ok-files.ensures.asked refl c.run.ensures.holds.served
     (held_allowed (versions_path command) list c.in_ok-files.files holds) in
-    ends_weaken _ _ _ _ _ _ _ (λ outcome ran. runs read.main read.sums list (answers_between old new) c.in_ok-read.ensures.main c.in_ok-read.ensures.sums is told
+    ends_weaken _ _ _ _ _ _ _ (λ outcome ran. runs read.main read.sums list (answers_between old new)
+    c.in_ok-read.ensures.main c.in_ok-read.ensures.sums is told
     (same_run command read.main read.sums c.main.result.now (option_map (λ sums. sums.now) c.sums.result) old new outcome c.main.ensures c.sums.ensures ran))
     c.run.ensures.ends
