@@ -3,7 +3,7 @@
 //! All three start from the bytes of a main module's go.mod file, those of a go.sum if one is given, and a
 //! store of other modules' files. They load the module graph, and each shows one view of it: `graph` its
 //! edges, `list` the build list that minimal version selection chooses from it, `chain` a shortest path of
-//! requirements that explains why a module is in that list. `answer` runs a command from start to end. `laws`
+//! requirements that explains why a module is in that list. `answer` answers a query from start to end. `laws`
 //! holds what can be relied on across the three.
 //!
 //! For example, let `example.com/m` require `a.io` v1.0.0, which requires `b.io` v1.2.0. Then `graph` prints
