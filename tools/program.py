@@ -40,11 +40,14 @@ NAME = b"b\xff/gomod"
 TIP = re.compile(
     rb"\n\n  tip: ((?:gomod|go|\(cd) .*?)(?=\n       |\n\nUsage: )(?:.*\n       left out: (.*)\n\nUsage: )?", re.S
 )
+# a value of a flag, but for those by which it asks for nothing
+VALUE = rb"(=(?!(?:false|0)$).*)?"
 # words that what is to be typed has no word of its own for: commands, and options that it does without
 ACCOUNTED = re.compile(
     rb"(?i:mod|ls|list|all|why|get|add|fmt|format|edit|version|graph|tree|help|chain|versions|update|upgrade)"
     rb"|--?(versions?|v|print|fmt|proxy|C|w)|--proxy=|--?modfile"
-    rb"|-?-json|json|--format|--output(=.*)?|-o|-(d|l|w|i)|--(check|diff|write|in-place|retracted(=.*)?|)"
+    rb"|json|--format|--output(=.*)?|-o|--"
+    rb"|(-?-json|-(d|l|w|i)|--?(check|diff|write|in-place|retracted))" + VALUE
 )
 NO_MEMORY = b"", b"gomod: no memory\n", 3
 PASSED = b"all allocations passed\n"
