@@ -19,8 +19,8 @@ TABLES = {
         ("gomod_words/specs/Table.antt", r'^option_text \w+ = codes "([\w-]+)"'),
     ),
     "operation": (
-        ("gm_file_edit/src/op.rt", r'^ +"(\w+)" => Some\(OperationKind::'),
-        ("gm_file_edit/specs/Edits.antt", r'\(codes "(\w+)", op\.'),
+        ("gm_operation/src/kind.rt", r'^ +"(\w+)" => Some\(OperationKind::'),
+        ("gm_operation/specs/Operations.antt", r'\(codes "(\w+)", op\.'),
     ),
 }
 HELP = "gomod_words/src/help.rt"

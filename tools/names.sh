@@ -6,7 +6,7 @@
 #   tools/names.sh --list   prints each name and its two files
 #
 # The names are those of the tables: of options in src/table.rt and specs/Table.antt of gomod_words, of operations in
-# src/op.rt and specs/Edits.antt of gm_file_edit. A name that one table has and the other hasn't is wrong, and so is one
+# src/kind.rt and specs/Operations.antt of gm_operation. A name that one table has and the other hasn't is wrong, and so is one
 # that stands in another file too, or twice in a table. A string is a name with or without its dashes or its `=`;
 # longer texts, such as help, aren't looked at, but for help's list of operations.
 #

@@ -9,7 +9,8 @@ use Rattle.std.proofs.lemmas.Bool.Decides.{nat_tests}
 use Rattle.std.proofs.lemmas.Str.{IsCharBoundary-after_ascii}
 use Rattle.std.specs.List.{position_or_len, before_first, after_first}
 use Rattle.std.specs.Str.{IsCharBoundary, IsUtf8}
-use Rattle.gm_file_edit.specs.Edits.{split_at_byte, has_byte, is_bracketed, path_in, version_in}
+use Rattle.gm_file_edit.specs.Edits.{is_bracketed, path_in, version_in}
+use Rattle.gm_operation.specs.Operations.{has_byte, split_at_byte}
 use Rattle.gm_name.specs.Path.{IsPath}
 use Rattle.gm_name.specs.Version.{IsVersion}
 use Rattle.gm_name.specs.Names.{is_path, is_version}

@@ -18,7 +18,8 @@ use Rattle.gm_file.specs.declared.verb.Verb.TheVariants.{Module as ForModule, Re
 use Rattle.gm_file.specs.Directives.{Strict, VersionInterval, Directive, DeclaresGo, Requires, Excludes, Replaces, Retracts, directive_of, main_verb, verb_eq}
 use Rattle.gm_file.specs.Faults.{fault_of}
 use Rattle.gm_file.specs.Pairwise.{do_clash}
-use Rattle.gm_file_edit.specs.Edits.{has_byte, Edit, Target, Set, ModuleIs, GoIs, RequireAt, Drop, AnyRequire, Add, Exclude, ReplaceWith, Retract}
+use Rattle.gm_file_edit.specs.Edits.{Edit, Target, Set, ModuleIs, GoIs, RequireAt, Drop, AnyRequire, Add, Exclude, ReplaceWith, Retract}
+use Rattle.gm_operation.specs.Operations.{has_byte}
 use Rattle.gm_file_edit.specs.About.{about}
 use Rattle.gm_file_edit.specs.Edited.{with_change, lines_after, put_in}
 use Rattle.gm_file_edit.specs.Kinds.{directive_set, is_fit}

@@ -16,7 +16,7 @@ use Rattle.gm_name.specs.Path.{IsPath, is_byte_of_path}
 use Rattle.gm_name.specs.Version.{IsVersion, is_byte_of_version}
 use Rattle.gm_name.proofs.Bytes.{path-bytes, version-bytes}
 use Rattle.gm_name.proofs.NameTests.{and_both, path-tested, version-tested}
-use Rattle.gm_file_edit.specs.Edits.{has_byte}
+use Rattle.gm_operation.specs.Operations.{has_byte}
 use Rattle.gm_file.specs.GoVersions.{after_dot, before_dot, first_number, has_dot, is_go_suffix, last_number, numbers, second_number, small_number, strict_go}
 use Rattle.std.specs.Option.{option_map}
 use Rattle.gm_file.specs.Values.{both}

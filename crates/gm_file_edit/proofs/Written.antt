@@ -7,9 +7,10 @@ use Rattle.gm_name.specs.ModuleVersion.{ModuleVersion}
 use Rattle.gm_file.specs.Values.{both, is_folder_path}
 use Rattle.gm_file.specs.GoVersions.{strict_go}
 use Rattle.gm_file.specs.Directives.{VersionInterval, pair, Left, left_with, left_without, Right, Folder, Module, Replacing, replacing}
-use Rattle.gm_file_edit.specs.Edits.{Edit, Set, ModuleIs, GoIs, RequireAt, Drop, AnyRequire, Add, Exclude, AnyExclude, ReplaceWith, AnyReplace, Retract, AnyRetract, split_at_byte, edit_as, edit_in, go_text_in, has_byte, inside_brackets, interval_in, is_bracketed, left_in, edit_named, operation_named, pair_in, path_in, replacing_in, right_in, trim, version_in}
-use Rattle.gm_file_edit.specs.declared.op.OperationKind.{OperationKind}
-use Rattle.gm_file_edit.specs.declared.op.OperationKind.TheVariants as op
+use Rattle.gm_file_edit.specs.Edits.{Edit, Set, ModuleIs, GoIs, RequireAt, Drop, AnyRequire, Add, Exclude, AnyExclude, ReplaceWith, AnyReplace, Retract, AnyRetract, edit_as, edit_in, go_text_in, inside_brackets, interval_in, is_bracketed, left_in, edit_named, pair_in, path_in, replacing_in, right_in, trim, version_in}
+use Rattle.gm_operation.specs.Operations.{has_byte, operation_named, split_at_byte}
+use Rattle.gm_operation.specs.declared.kind.OperationKind.{OperationKind}
+use Rattle.gm_operation.specs.declared.kind.OperationKind.TheVariants as op
 use Rattle.gm_file_edit.specs.Sound.{AreVersions, IsPairOfNames, IsSoundEdit, IsSoundLeft, IsSoundRight}
 use Rattle.std.proofs.lemmas.Option.{same_Some}
 use Rattle.gm_file_edit.proofs.Feeds.{if-some, if-other, both-are, map-some, then-some}

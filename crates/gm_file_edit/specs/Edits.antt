@@ -1,15 +1,15 @@
 -- Operations on the go.mod file of a main module, and how they are spelled (go help mod edit).
-use Rattle.std.specs.Prelude.{ℕ, ◌-◌, ◌==◌, ◌&&◌, ◌||◌, ◌∷◌, nat_lt, if◌then◌else◌, Bool, List, [], length, take, drop, slice_index, codes, Option, Some, None, is_some, take_while, option_and_then}
+use Rattle.std.specs.Prelude.{ℕ, ◌-◌, ◌==◌, ◌&&◌, ◌||◌, nat_lt, if◌then◌else◌, Bool, List, length, take, drop, slice_index, Option, Some, None, is_some, take_while, option_and_then}
 use Rattle.std.specs.Option.{option_map}
-use Rattle.std.specs.List.{after_first, before_first, find, list_any, suffix_len}
-use Rattle.std.specs.Str.{bytes_eq}
+use Rattle.std.specs.List.{suffix_len}
 use Rattle.gm_name.specs.Names.{is_path, is_version}
 use Rattle.gm_name.specs.ModuleVersion.{ModuleVersion}
 use Rattle.gm_file.specs.Values.{both, is_folder_path}
 use Rattle.gm_file.specs.GoVersions.{strict_go}
 use Rattle.gm_file.specs.Directives.{VersionInterval, pair, Left, left_with, left_without, Right, Folder, Module, Replacing, replacing}
-use Rattle.gm_file_edit.specs.declared.op.OperationKind.{OperationKind}
-use Rattle.gm_file_edit.specs.declared.op.OperationKind.TheVariants as op
+use Rattle.gm_operation.specs.Operations.{has_byte, operation_named, split_at_byte}
+use Rattle.gm_operation.specs.declared.kind.OperationKind.{OperationKind}
+use Rattle.gm_operation.specs.declared.kind.OperationKind.TheVariants as op
 
 -- a directive that an operation sets: there is then one of its kind, and it says this
 pub data Setting : Type 0 where
@@ -37,16 +37,6 @@ pub data Edit : Type 0 where
   Drop : Target → Edit
 
 -- ---- how an operation is spelled: a name, `=` and an argument
-
--- whether the text contains the byte
-abbrev pub has_byte : ℕ → List ℕ → Bool
-has_byte b text = list_any (λ c. c == b) text
-
--- the text before the first such byte, and the text after it
-abbrev pub split_at_byte : ℕ → List ℕ → Option (List ℕ × List ℕ)
-split_at_byte b text =
-    if has_byte b text then Some (before_first (λ c. c == b) text, after_first (λ c. c == b) text)
-    else None
 
 -- a module path
 abbrev pub path_in : List ℕ → Option (List ℕ)
@@ -120,19 +110,6 @@ two_versions_in text =
 -- a version, which is both ends, or two in brackets
 unfoldable pub interval_in : List ℕ → Option VersionInterval
 interval_in text = if is_bracketed text then two_versions_in (inside_brackets text) else one_version_in text
-
--- the names of operations, and the kind of each
-abbrev pub operation_names : List (List ℕ × OperationKind)
-operation_names =
-    (codes "module", op.Module) ∷ (codes "go", op.Go)
-    ∷ (codes "require", op.Require) ∷ (codes "droprequire", op.DropRequire)
-    ∷ (codes "exclude", op.Exclude) ∷ (codes "dropexclude", op.DropExclude)
-    ∷ (codes "replace", op.Replace) ∷ (codes "dropreplace", op.DropReplace)
-    ∷ (codes "retract", op.Retract) ∷ (codes "dropretract", op.DropRetract) ∷ []
-
--- the kind of the operation with this name
-unfoldable pub operation_named : List ℕ → Option OperationKind
-operation_named name = option_map (λ row. row.1) (find (λ row. bytes_eq name row.0) operation_names)
 
 -- the operation of this kind with this argument
 abbrev pub edit_as : OperationKind → List ℕ → Option Edit

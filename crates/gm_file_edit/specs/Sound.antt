@@ -12,7 +12,8 @@ use Rattle.gm_file_edit.specs.declared.op.Target as declared_target
 use Rattle.gm_file_edit.specs.declared.op.Target.TheVariants as target
 use Rattle.gm_file_edit.specs.declared.op.Change as declared
 use Rattle.gm_file_edit.specs.declared.op.Change.TheVariants as change
-use Rattle.gm_file_edit.specs.Edits.{Edit, Set, Add, Drop, Setting, ModuleIs, GoIs, RequireAt, ReplaceWith, Addition, Exclude, Retract, Target, AnyRequire, AnyExclude, AnyReplace, AnyRetract, has_byte}
+use Rattle.gm_file_edit.specs.Edits.{Edit, Set, Add, Drop, Setting, ModuleIs, GoIs, RequireAt, ReplaceWith, Addition, Exclude, Retract, Target, AnyRequire, AnyExclude, AnyReplace, AnyRetract}
+use Rattle.gm_operation.specs.Operations.{has_byte}
 use Rattle.gm_name.specs.Names.{is_path, is_version}
 use Rattle.gm_name.specs.ModuleVersion.{ModuleVersion}
 use Rattle.gm_file.specs.Values.{is_folder_path}

@@ -29,4 +29,5 @@ mod targeting;
 pub use crate::apply::Apply;
 pub use crate::editor::Editor;
 pub use crate::fault::{EditFault, OpFault};
-pub use crate::op::{Op, OperationKind};
+pub use crate::op::Op;
+pub use gm_operation::OperationKind;

@@ -3,7 +3,7 @@
 //! Parsing needs no file, so whether a text is an operation never depends on what a file says.
 
 ghost use Rattle.std.specs.Prelude.{◌≡◌, IfOk, IsErrOf, None, Some};
-ghost use Rattle.gm_file_edit.specs.Edits.{edit_as, edit_in, edit_named, operation_named};
+ghost use Rattle.gm_file_edit.specs.Edits.{edit_as, edit_in, edit_named};
 ghost use Rattle.gm_file_edit.specs.Sound.{edit_of};
 ghost use Rattle.gm_file_edit.specs.Private.Sound.{IsParsedPart};
 
@@ -14,6 +14,7 @@ use crate::part::{
 };
 use gm_file::{Interval, Replace};
 use gm_name::{ModPath, ModVersion};
+use gm_operation::OperationKind;
 use std::alloc::Global;
 use std::marker::Model;
 
@@ -80,53 +81,6 @@ impl Model for Op {
     ghost view = { λ o. edit_of o.change };
 
     ghost invariant = { λ o. IsSoundEdit (edit_of o.change) };
-}
-
-/// What the name of an operation says.
-#[derive(Clone, Copy, Debug, PartialEq, Eq)]
-pub enum OperationKind {
-    /// `module`: set the module path.
-    Module,
-    /// `go`: set the go version.
-    Go,
-    /// `require`: set the required version of a path.
-    Require,
-    /// `droprequire`: drop the requirements of a path.
-    DropRequire,
-    /// `exclude`: add an exclusion.
-    Exclude,
-    /// `dropexclude`: drop the exclusions of a version of a path.
-    DropExclude,
-    /// `replace`: set a replacement.
-    Replace,
-    /// `dropreplace`: drop the replacements with a left side.
-    DropReplace,
-    /// `retract`: add a retraction.
-    Retract,
-    /// `dropretract`: drop the retractions of an interval.
-    DropRetract,
-}
-
-impl OperationKind {
-    /// The kind of the operation with this name, or `None` if no operation has it.
-    #[tactic(auto, unfolding(crate::specs::Edits::operation_named))]
-    pub fn named(name: &str) -> Option<OperationKind>
-        ensures { result ≡ operation_named name.now }
-    {
-        match name {
-            "module" => Some(OperationKind::Module),
-            "go" => Some(OperationKind::Go),
-            "require" => Some(OperationKind::Require),
-            "droprequire" => Some(OperationKind::DropRequire),
-            "exclude" => Some(OperationKind::Exclude),
-            "dropexclude" => Some(OperationKind::DropExclude),
-            "replace" => Some(OperationKind::Replace),
-            "dropreplace" => Some(OperationKind::DropReplace),
-            "retract" => Some(OperationKind::Retract),
-            "dropretract" => Some(OperationKind::DropRetract),
-            _ => None,
-        }
-    }
 }
 
 /// Parses the argument of an operation of this kind.

@@ -6,9 +6,10 @@
 ghost use Rattle.std.specs.Prelude.{◌≡◌, true};
 ghost use Rattle.std.specs.String.{string_bytes};
 ghost use Rattle.gm_file.specs.Views.{interval_view, replace_view, right_view};
-ghost use Rattle.gm_file_edit.specs.Edits.{split_at_byte, has_byte, inside_brackets, interval_in, is_bracketed, go_text_in, left_in, pair_in, path_in, replacing_in, right_in, trim, two_versions_in, version_in};
+ghost use Rattle.gm_file_edit.specs.Edits.{inside_brackets, interval_in, is_bracketed, go_text_in, left_in, pair_in, path_in, replacing_in, right_in, trim, two_versions_in, version_in};
 ghost use Rattle.gm_file_edit.specs.Sound.{left_view};
 ghost use Rattle.gm_file_edit.specs.Private.Sound.{IsParsedPart, split_view};
+ghost use Rattle.gm_operation.specs.Operations.{has_byte, split_at_byte};
 
 use crate::fault::OpFault;
 use gm_file::{Interval, Replace, Right, is_folder, strict_go};

@@ -5,7 +5,7 @@ use Rattle.std.specs.Option.{option_and_then, option_map_or}
 use Rattle.std.specs.Str.{bytes_eq}
 use Rattle.clap.specs.Lexer.{without_minus}
 use Rattle.clap.specs.Walk.{Text}
-use Rattle.gm_file_edit.specs.Edits.{operation_named, split_at_byte}
+use Rattle.gm_operation.specs.Operations.{operation_named, split_at_byte}
 use Rattle.gomod_words.specs.Table.{has_value, name_in, option_named}
 use Rattle.gomod_words.specs.declared.table.CommandName.TheVariants.{Edit}
 

@@ -9,7 +9,7 @@ ghost use Rattle.clap.specs.Lexer.{strip_byte, without_minus};
 ghost use Rattle.gomod_words.specs.Typed.{typed_words};
 ghost use Rattle.gomod_words.specs.Usage.{IsLineOf, dashed_message, dashed_text, edit_message, words_after};
 ghost use Rattle.gomod_words.specs.Private.Items.{waiting};
-ghost use Rattle.gm_file_edit.specs.Edits.{has_byte};
+ghost use Rattle.gm_operation.specs.Operations.{has_byte};
 ghost use Rattle.gomod_words.specs.Dashed.{begins_with_dash, dashed_in, edit_words, free_from, is_file, is_free, is_operation, is_operation_name, joined_from, joined_words, left_from, omitted_words, names_operation, names_value, operation_in, operations_in, takes_value, without_dashes};
 
 use crate::help::usage_of;
@@ -18,7 +18,7 @@ use crate::lines::push_texts;
 use crate::table::{EDIT, has_value, option_named};
 use crate::typed::{followed, push_left};
 use crate::usage::{UsageFault, line};
-use gm_file_edit::OperationKind;
+use gm_operation::OperationKind;
 use std::alloc::{AllocError, Global};
 
 /// Whether a word begins with a dash and is more than that.

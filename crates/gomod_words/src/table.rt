@@ -1,5 +1,5 @@
 //! The table of commands and options: what each is called, the texts of its help, and the arguments that it takes.
-//! Operations are named in the crate gm_file_edit.
+//! Operations are named in the crate gm_operation.
 
 ghost use Rattle.std.specs.Prelude.{◌≡◌, Some};
 ghost use Rattle.gomod_words.specs.Private.Made.{rule_in};
