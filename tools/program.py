@@ -41,7 +41,7 @@ TIP = re.compile(
     rb"\n\n  tip: ((?:gomod|go|\(cd) .*?)(?=\n       |\n\nUsage: )(?:.*\n       left out: (.*)\n\nUsage: )?", re.S
 )
 # a value of a flag, but for those by which it asks for nothing
-VALUE = rb"(=(?!(?:false|0)$).*)?"
+VALUE = rb"(=(?!(?:0|[fF]|false|False|FALSE)$).*)?"
 # words that what is to be typed has no word of its own for: commands, and options that it does without
 ACCOUNTED = re.compile(
     rb"(?i:mod|ls|list|all|why|get|add|fmt|format|edit|version|graph|tree|help|chain|versions|update|upgrade)"

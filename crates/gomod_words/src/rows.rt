@@ -446,7 +446,7 @@ fn flag_text<'a>(item: Item<'a>) -> Option<&'a str>
 fn is_off(value: &str) -> bool
     ensures { result ≡ is_off value.now }
 {
-    matches!(value, "false" | "0")
+    is_among(value, &["0", "f", "F", "false", "False", "FALSE"])
 }
 
 /// The word, unless it is two.

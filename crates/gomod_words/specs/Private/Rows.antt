@@ -68,9 +68,14 @@ abbrev pub only_word : Item → Option Text
 only_word (Word word) = Some word.now
 only_word (Pair option value) = None
 
+-- the values by which a flag asks for nothing: those that go's package flag takes
+abbrev pub off_values : List Text
+off_values =
+    codes "0" ∷ codes "f" ∷ codes "F" ∷ codes "false" ∷ codes "False" ∷ codes "FALSE" ∷ []
+
 -- a value by which a flag asks for nothing
 abbrev pub is_off : Text → Bool
-is_off value = bytes_eq value (codes "false") || bytes_eq value (codes "0")
+is_off value = list_any (bytes_eq value) off_values
 
 -- the word of a flag, unless its value says that it asks for nothing
 abbrev pub flag_text : Item → Option Text
