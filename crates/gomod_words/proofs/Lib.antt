@@ -5,6 +5,7 @@ mod Exclusion
 mod Faults
 pub mod GivenWords
 mod Limits
+mod PastEnd
 mod Queries
 mod RowLemmas
 mod TipLemmas

@@ -206,12 +206,10 @@ pub(crate) fn is_operation_name(word: &str) -> bool
 }
 
 /// An option and its value in one word.
-fn in_one_word(alloc: Global, option: &str, value: &str) -> Result<String, AllocError>
+pub(crate) fn in_one_word(alloc: Global, option: &str, value: &str) -> Result<String, AllocError>
     ensures { IfOk result (λ text. string_bytes text ≡ option.now ++ codes "=" ++ value.now) }
 {
-    let mut text = String::from_str(alloc, option)?;
-    text.push_str("=")?;
-    text.push_str(value)?;
+    let text = format!(in alloc; "{option}={value}")?;
     Ok(text)
 }
 

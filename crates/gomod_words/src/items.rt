@@ -6,6 +6,7 @@ ghost use Rattle.std.specs.Option.{option_copied};
 ghost use Rattle.gomod_words.specs.Private.Items.{is_equals, not_empty, option_in, option_name, option_value, value_after, waiting, words_in, item_words};
 
 use crate::dashed::{self, begins_with_dash, names_operation, without_dashes};
+use crate::names::is_among;
 use std::alloc::{AllocError, Global};
 
 /// An option with its value, or another word.
@@ -162,17 +163,28 @@ fn takes_value(word: &str) -> bool {
 
 /// Whether this is the name of an option that takes a value.
 fn names_value(name: &str) -> bool {
-    match name {
-        "C" | "color" | "f" | "format" | "modfile" | "o" | "output" | "reuse" | "tags" => true,
-        _ => dashed::names_value(name) || names_operation(name) || names_operation_of_go(name),
-    }
+    is_among(
+        name,
+        &[
+            "C", "color", "f", "format", "modfile", "o", "output", "reuse", "tags",
+        ],
+    ) || dashed::names_value(name)
+        || names_operation(name)
+        || names_operation_of_go(name)
 }
 
 /// Whether this is the name of an operation of `go mod edit` that gomod does not have.
 pub(crate) fn names_operation_of_go(name: &str) -> bool {
-    match name {
-        "toolchain" | "godebug" | "tool" | "ignore" => true,
-        "dropgodebug" | "droptool" | "dropignore" => true,
-        _ => false,
-    }
+    is_among(
+        name,
+        &[
+            "toolchain",
+            "godebug",
+            "tool",
+            "ignore",
+            "dropgodebug",
+            "droptool",
+            "dropignore",
+        ],
+    )
 }

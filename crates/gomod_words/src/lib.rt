@@ -19,6 +19,7 @@ mod help;
 mod items;
 pub mod laws;
 mod lines;
+mod names;
 mod placed;
 mod query;
 mod refusal;

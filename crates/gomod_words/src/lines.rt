@@ -9,6 +9,7 @@ ghost use Rattle.gomod_words.specs.declared.placed.Group.TheVariants.{Folders, L
 
 use crate::dashed::without_dashes;
 use crate::items::name_before;
+use crate::names::is_among;
 use crate::placed::{Group, Placed, grouped, has_json, push_operations};
 use crate::rows::CACHE;
 use crate::table::{CommandName, OptionName, command_row, typed_option};
@@ -20,7 +21,11 @@ use std::alloc::{AllocError, Global};
 const ABOUT_JSON: &str = "\n       for JSON see docs/use/RECIPES.md, which makes it of the rows";
 
 /// Appends copies of words.
-fn push_copies(alloc: Global, texts: &mut Vec<String>, words: &[&str]) -> Result<(), AllocError>
+pub(crate) fn push_copies(
+    alloc: Global,
+    texts: &mut Vec<String>,
+    words: &[&str],
+) -> Result<(), AllocError>
     ensures { OnOk result (map string_bytes texts.new.items
         ≡ map string_bytes texts.old.items ++ map (λ word. word.now) words.now) }
 {
@@ -30,19 +35,14 @@ fn push_copies(alloc: Global, texts: &mut Vec<String>, words: &[&str]) -> Result
     Ok(())
 }
 
-/// Appends copies of words, or of others if there are none.
-fn push_or_else(
-    alloc: Global,
-    texts: &mut Vec<String>,
-    others: &[&str],
-    words: &[&str],
-) -> Result<(), AllocError>
-    ensures { OnOk result (map string_bytes texts.new.items ≡ map string_bytes texts.old.items
-        ++ or_else (map (λ word. word.now) others.now) (map (λ word. word.now) words.now)) }
+/// These words, or others if there are none.
+fn or_else<'w, 'a>(others: &'w [&'a str], words: &'w [&'a str]) -> &'w [&'a str]
+    ensures { map (λ word. word.now) result.now
+        ≡ or_else (map (λ word. word.now) others.now) (map (λ word. word.now) words.now) }
 {
     match words {
-        [] => push_copies(alloc, texts, others),
-        _ => push_copies(alloc, texts, words),
+        [] => others,
+        _ => words,
     }
 }
 
@@ -70,22 +70,6 @@ fn push_list(alloc: Global, texts: &mut Vec<String>, lists: &[&str]) -> Result<(
     Ok(())
 }
 
-/// The same with other lists if there is none.
-fn push_list_or_else(
-    alloc: Global,
-    texts: &mut Vec<String>,
-    others: &[&str],
-    lists: &[&str],
-) -> Result<(), AllocError>
-    ensures { OnOk result (map string_bytes texts.new.items ≡ map string_bytes texts.old.items
-        ++ proxy_words (or_else (map (λ list. list.now) others.now) (map (λ list. list.now) lists.now))) }
-{
-    match lists {
-        [] => push_list(alloc, texts, others),
-        _ => push_list(alloc, texts, lists),
-    }
-}
-
 /// These lists of folders in one.
 fn list_text(alloc: Global, first: &str, rest: &[&str]) -> Result<String, AllocError>
     ensures { IfOk result (λ text. string_bytes text ≡ first.now
@@ -111,31 +95,31 @@ pub(crate) fn push_texts<'a>(
 }
 
 /// Appends FILE or PATH of the items, or others if there is none.
-fn push_files(
+fn push_files<'a>(
     alloc: Global,
     texts: &mut Vec<String>,
-    others: &[&str],
-    placed: &[Placed<'_>],
+    others: &[&'a str],
+    placed: &[Placed<'a>],
 ) -> Result<(), AllocError>
     ensures { OnOk result (map string_bytes texts.new.items ≡ map string_bytes texts.old.items
         ++ or_else (map (λ word. word.now) others.now) (grouped Operands placed.now)) }
 {
     let named = grouped(alloc, Group::Operands, placed)?;
-    push_or_else(alloc, texts, others, named.as_slice())
+    push_copies(alloc, texts, or_else(others, named.as_slice()))
 }
 
 /// Appends `--proxy` with the lists of folders of the items in one, or with others if there is none.
-fn push_proxy(
+fn push_proxy<'a>(
     alloc: Global,
     texts: &mut Vec<String>,
-    others: &[&str],
-    placed: &[Placed<'_>],
+    others: &[&'a str],
+    placed: &[Placed<'a>],
 ) -> Result<(), AllocError>
     ensures { OnOk result (map string_bytes texts.new.items ≡ map string_bytes texts.old.items
         ++ proxy_words (or_else (map (λ list. list.now) others.now) (grouped Lists placed.now))) }
 {
     let named = grouped(alloc, Group::Lists, placed)?;
-    push_list_or_else(alloc, texts, others, named.as_slice())
+    push_list(alloc, texts, or_else(others, named.as_slice()))
 }
 
 /// Appends the options of the items but `--proxy`.
@@ -152,7 +136,7 @@ fn push_other_options(
 }
 
 /// The FILE of a command over one file, if no item is.
-fn usual_files(command: CommandName) -> &'static [&'static str]
+fn usual_files<'a>(command: CommandName) -> &'static [&'a str]
     ensures { map (λ file. file.now) result.now ≡ usual_files command }
 {
     match command {
@@ -162,7 +146,7 @@ fn usual_files(command: CommandName) -> &'static [&'static str]
 }
 
 /// The proxy folder of another command, if no item is a list of them.
-fn usual_lists(command: CommandName) -> &'static [&'static str]
+fn usual_lists<'a>(command: CommandName) -> &'static [&'a str]
     ensures { map (λ list. list.now) result.now ≡ usual_lists command }
 {
     match command {
@@ -186,11 +170,11 @@ fn shown_words(
 }
 
 /// Appends the words of a command line of gomod.
-fn push_shown_words(
+fn push_shown_words<'a>(
     alloc: Global,
     texts: &mut Vec<String>,
     command: CommandName,
-    placed: &[Placed<'_>],
+    placed: &[Placed<'a>],
 ) -> Result<(), AllocError>
     ensures { OnOk result (map string_bytes texts.new.items
         ≡ map string_bytes texts.old.items ++ shown_words command placed.now) }
@@ -223,7 +207,7 @@ fn keeps_output(option: &str) -> bool
 fn names_keeping(name: &str) -> bool
     ensures { result ≡ names_keeping name.now }
 {
-    matches!(name, "w" | "write" | "i" | "in-place")
+    is_among(name, &["w", "write", "i", "in-place"])
 }
 
 /// What an option does with the output of a command over this file: it keeps it there, or shows the difference.
@@ -277,10 +261,7 @@ fn line_text(alloc: Global, words: &[&str], end: &str) -> Result<String, AllocEr
 fn after_cd(alloc: Global, cd: &str, line: &str) -> Result<String, AllocError>
     ensures { IfOk result (λ text. string_bytes text ≡ cd.now ++ codes " && " ++ line.now ++ codes ")") }
 {
-    let mut text = String::from_str(alloc, cd)?;
-    text.push_str(" && ")?;
-    text.push_str(line)?;
-    text.push_str(")")?;
+    let text = format!(in alloc; "{cd} && {line})")?;
     Ok(text)
 }
 

@@ -1,13 +1,13 @@
 //! What becomes of each item of a command line that is meant for another one: an item is a part of the command line that
 //! is shown instead, or it is left out.
 
-ghost use Rattle.std.specs.Prelude.{◌≡◌, ◌∷◌, ◌++◌, All, IfOk, [], OnOk, codes, map};
+ghost use Rattle.std.specs.Prelude.{◌≡◌, ◌∷◌, ◌++◌, All, IfOk, [], OnOk, map};
 ghost use Rattle.std.specs.List.{list_any};
 ghost use Rattle.std.specs.String.{string_bytes};
 ghost use Rattle.gomod_words.specs.Private.Placed.{asks_for_json, grouped, is_of, omitted_by, operation_text, operations_by, placed_operations, option_words, part_words, release_words, undashed, words_by};
 ghost use Rattle.gomod_words.specs.Private.Rows.{Becomes, is_over_file};
 
-use crate::dashed::{operation_in, without_dashes};
+use crate::dashed::{in_one_word, operation_in, without_dashes};
 use crate::items::{Item, push_words};
 use crate::rows::{CACHE, Row, Slot, row_of};
 use crate::table::{CommandName, OptionName, typed_option};
@@ -58,17 +58,21 @@ pub(crate) fn place_all<'a>(
     ensures each { IfOk result (λ placed.
         All (λ each. Becomes (is_over_file command) each.item each.row) placed.items) }
 {
-    let whole = Whole {
-        is_input: names_input(command, items),
-        has_folders: items.iter().any(|item| is_list(row_of(command, *item))),
-    };
-    let mut seen = Vec::new(alloc);
+    let whole = whole_of(command, items);
     let mut placed = Vec::new(alloc);
     for item in items {
-        let row = settled(&mut seen, whole, command, *item)?;
+        let row = settled(placed.as_slice(), whole, command, *item);
         placed.push(Placed { item: *item, row })?;
     }
     Ok(placed)
+}
+
+/// What all items of a command say together.
+fn whole_of(command: CommandName, items: &[Item<'_>]) -> Whole {
+    Whole {
+        is_input: names_input(command, items),
+        has_folders: items.iter().any(|item| is_list(row_of(command, *item))),
+    }
 }
 
 /// Whether the first operand of a command is the name of standard input.
@@ -86,31 +90,25 @@ fn is_list(row: Row<'_>) -> bool {
     matches!(row, Row::Part(Slot::Proxy, _))
 }
 
-/// What becomes of an item after those that have filled these slots. A part that there is already is left out, and so
-/// are what can't be done with the output if the file is standard input, and `--proxy` without a folder beside another.
-fn settled<'a>(
-    seen: &mut Vec<Slot>,
-    whole: Whole,
-    command: CommandName,
-    item: Item<'a>,
-) -> Result<Row<'a>, AllocError>
-    ensures { IfOk result (λ row. Becomes (is_over_file command) item.entry row) }
+/// What becomes of an item after these. A part that there is already is left out, and so are what can't be done with the
+/// output if the file is standard input, and `--proxy` without a folder beside another.
+fn settled<'a>(placed: &[Placed<'_>], whole: Whole, command: CommandName, item: Item<'a>) -> Row<'a>
+    ensures { Becomes (is_over_file command) item.entry result }
 {
     let row = row_of(command, item);
     match slot_of(row) {
-        Some(slot) => if is_free(seen.as_slice(), whole, slot) {
-            seen.push(slot)?;
-            Ok(row)
+        Some(slot) => if is_free(placed, whole, slot) {
+            row
         } else {
-            Ok(Row::LeftOut)
+            Row::LeftOut
         },
-        None => Ok(row),
+        None => row,
     }
 }
 
-/// Whether there is a place for this slot, after those that are filled.
-fn is_free(seen: &[Slot], whole: Whole, slot: Slot) -> bool {
-    !is_void(whole, slot) && !seen.iter().any(|filled| *filled == slot)
+/// Whether there is a place for this slot after these items.
+fn is_free(placed: &[Placed<'_>], whole: Whole, slot: Slot) -> bool {
+    !is_void(whole, slot) && !has(placed, slot)
 }
 
 /// Whether all items together leave nothing for this slot.
@@ -330,7 +328,7 @@ fn operation_text(alloc: Global, item: Item<'_>) -> Result<String, AllocError>
 {
     match item {
         Item::Word(word) => copied(alloc, undashed(word)),
-        Item::Pair(option, value) => named_text(alloc, without_dashes(option), value),
+        Item::Pair(option, value) => in_one_word(alloc, without_dashes(option), value),
     }
 }
 
@@ -339,16 +337,6 @@ fn copied(alloc: Global, text: &str) -> Result<String, AllocError>
     ensures { IfOk result (λ copy. string_bytes copy ≡ text.now) }
 {
     Ok(String::from_str(alloc, text)?)
-}
-
-/// The operation with this name and this value.
-fn named_text(alloc: Global, name: &str, value: &str) -> Result<String, AllocError>
-    ensures { IfOk result (λ text. string_bytes text ≡ name.now ++ codes "=" ++ value.now) }
-{
-    let mut text = String::from_str(alloc, name)?;
-    text.push_str("=")?;
-    text.push_str(value)?;
-    Ok(text)
 }
 
 /// Appends the operation that an item is, if it becomes one.

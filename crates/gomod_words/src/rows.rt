@@ -1,9 +1,7 @@
 //! The table of what go users type: which command their words are for, and what becomes of each word.
 
 ghost use Rattle.std.specs.Prelude.{◌≡◌, IfSome, Some, false, true};
-ghost use Rattle.std.specs.List.{list_any};
 ghost use Rattle.std.specs.Option.{option_copied};
-ghost use Rattle.std.specs.Str.{bytes_eq};
 ghost use Rattle.gomod_words.specs.Private.Placed.{part_option, typed_option};
 ghost use Rattle.gomod_words.specs.Private.Rows.{Becomes, IsRelease, by_value, fits, flag_text, is_off, is_operation_item, is_over_file, json_in, only_word, operates, option_slot, other_slot, part_text, slot_named, slot_of};
 ghost use Rattle.gomod_words.specs.Private.Tips.{is_on_path};
@@ -11,6 +9,7 @@ ghost use Rattle.gomod_words.specs.declared.rows.Slot.TheVariants.{Operand};
 
 use crate::dashed::{begins_with_dash, is_operation_name, operation_in};
 use crate::items::{Item, name_in, names_operation_of_go, value_in};
+use crate::names::is_among;
 use crate::query::limit_in;
 use crate::table::{CommandName, OptionName, command_named, option_named};
 
@@ -43,45 +42,72 @@ pub(crate) fn target_of(name: &str) -> Target {
 
 /// What a word that names no command of gomod asks for.
 fn target_like(name: &str) -> Target {
+    if is_among(name, &["get", "add"]) {
+        Target::Get
+    } else if is_among(name, &["version", "-version", "-v"]) {
+        Target::Version
+    } else if is_among(name, &["help", "mod", "", "--"]) {
+        Target::Help
+    } else if is_among(name, &["ls", "all", "-m"]) {
+        Target::Ours(CommandName::List)
+    } else {
+        target_of_others(name)
+    }
+}
+
+/// What a command of another tool, or of go, asks for.
+fn target_of_others(name: &str) -> Target {
     match name {
         "format" => Target::Ours(CommandName::Fmt),
         "tree" => Target::Ours(CommandName::Graph),
-        "ls" | "all" | "-m" => Target::Ours(CommandName::List),
         "why" => Target::Ours(CommandName::Chain),
-        "get" | "add" => Target::Get,
-        "version" | "-version" | "-v" => Target::Version,
-        "help" | "mod" | "" | "--" => Target::Help,
+        "update" | "upgrade" => Target::Go("go get -u"),
         _ => target_of_go(name),
     }
 }
 
-/// The command of go with this name that gomod does not have.
+/// The commands of go that gomod does not have.
+const GO_COMMANDS: [&str; 16] = [
+    "go mod tidy",
+    "go mod download",
+    "go mod init",
+    "go mod vendor",
+    "go mod verify",
+    "go build",
+    "go clean",
+    "go doc",
+    "go env",
+    "go generate",
+    "go install",
+    "go run",
+    "go test",
+    "go tool",
+    "go vet",
+    "go work",
+];
+
+/// The command of go with this name that gomod does not have, or `fmt` of the file with this name.
 fn target_of_go(name: &str) -> Target {
-    match name {
-        "tidy" => Target::Go("go mod tidy"),
-        "download" => Target::Go("go mod download"),
-        "init" => Target::Go("go mod init"),
-        "vendor" => Target::Go("go mod vendor"),
-        "verify" => Target::Go("go mod verify"),
-        "build" => Target::Go("go build"),
-        "clean" => Target::Go("go clean"),
-        "doc" => Target::Go("go doc"),
-        "env" => Target::Go("go env"),
-        "generate" => Target::Go("go generate"),
-        "install" => Target::Go("go install"),
-        "run" => Target::Go("go run"),
-        "test" => Target::Go("go test"),
-        "tool" => Target::Go("go tool"),
-        "update" | "upgrade" => Target::Go("go get -u"),
-        "vet" => Target::Go("go vet"),
-        "work" => Target::Go("go work"),
-        _ => {
-            if name.ends_with(".mod") && !begins_with_dash(name) {
-                Target::File
-            } else {
-                Target::Unknown
-            }
-        }
+    match GO_COMMANDS.iter().find(|command| is_last(command, name)) {
+        Some(command) => Target::Go(command),
+        None => target_of_file(name),
+    }
+}
+
+/// Whether this is the last word of a command.
+fn is_last(command: &str, word: &str) -> bool {
+    match command.rsplit_once(' ') {
+        Some((_, last)) => last == word,
+        None => false,
+    }
+}
+
+/// `fmt` of the file with this name, if it may be a go.mod file.
+fn target_of_file(name: &str) -> Target {
+    if name.ends_with(".mod") && !begins_with_dash(name) {
+        Target::File
+    } else {
+        Target::Unknown
     }
 }
 
@@ -222,13 +248,6 @@ fn slot_in(item: Item<'_>) -> Option<Slot>
     }
 }
 
-/// Whether a text is one of these names.
-fn is_among(name: &str, names: &[&str]) -> bool
-    ensures { result ≡ list_any (λ each. bytes_eq name.now each.now) names.now }
-{
-    names.iter().any(|each| name == *each)
-}
-
 /// The part of a command line that an option with this name is.
 fn slot_named(name: &str) -> Option<Slot>
     ensures { result ≡ slot_named name.now }
@@ -259,9 +278,9 @@ fn option_slot(option: OptionName) -> Slot
 fn other_slot(name: &str) -> Option<Slot>
     ensures { result ≡ other_slot name.now }
 {
-    if is_among(name, &["modfile"]) {
+    if name == "modfile" {
         Some(Slot::Main)
-    } else if is_among(name, &["C"]) {
+    } else if name == "C" {
         Some(Slot::Folder)
     } else if is_among(
         name,
@@ -270,7 +289,7 @@ fn other_slot(name: &str) -> Option<Slot>
         Some(Slot::Output)
     } else if is_among(name, &["print", "fmt"]) {
         Some(Slot::Print)
-    } else if is_among(name, &["json"]) {
+    } else if name == "json" {
         Some(Slot::Json)
     } else if is_among(name, &["format", "output", "o"]) {
         Some(Slot::Format)

@@ -155,9 +155,8 @@ pub(crate) fn has_value(option: OptionName) -> bool
     ensures { result ≡ has_value option }
 {
     match option {
-        OptionName::Proxy | OptionName::Mod | OptionName::Sum => true,
-        OptionName::After | OptionName::Limit => true,
         OptionName::Retracted => false,
+        _ => true,
     }
 }
 

@@ -17,6 +17,7 @@ use crate::advice::advised;
 use crate::command::gomod_command;
 use crate::dashed::{dashed, dashed_in};
 use crate::help::{GOMOD_USAGE, TRY_HELP, VERSION, usage_of};
+use crate::lines::push_copies;
 use crate::query::{read_chain, read_graph, read_list};
 use crate::table::{CHAIN, EDIT, FMT, GRAPH, LIST, OptionName, VERSIONS, option_text};
 use clap::ArgMatches;
@@ -354,9 +355,7 @@ fn copied(alloc: Global, words: &[&str]) -> Result<Vec<String>, AllocError>
     ensures { IfOk result (λ texts. texts_in texts ≡ map (λ word. word.now) words.now) }
 {
     let mut texts = Vec::new(alloc);
-    for word in words {
-        texts.push(String::from_str(alloc, word)?)?;
-    }
+    push_copies(alloc, &mut texts, words)?;
     Ok(texts)
 }
 

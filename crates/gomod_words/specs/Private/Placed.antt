@@ -108,8 +108,8 @@ json_text placed =
 
 -- the name of an option that says that the output is kept in the file
 abbrev pub names_keeping : Text → Bool
-names_keeping name = bytes_eq name (codes "w") || (bytes_eq name (codes "write")
-    || (bytes_eq name (codes "i") || bytes_eq name (codes "in-place")))
+names_keeping name =
+    list_any (bytes_eq name) (codes "w" ∷ codes "write" ∷ codes "i" ∷ codes "in-place" ∷ [])
 
 -- an option says by its name that the output is kept in the file, and not compared with it
 abbrev pub keeps_output : Text → Bool
