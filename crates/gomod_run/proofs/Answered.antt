@@ -1,5 +1,5 @@
 -- What the program says to single words.
-use Rattle.std.proofs.Common.{◌≡◌, ◌⊎◌, ◌∷◌, ◌∙◌, ℕ, List, [], ap, codes, inl, inr, subst, true}
+use Rattle.std.proofs.Common.{◌≡◌, ◌⊎◌, ◌∷◌, ◌∙◌, ℕ, List, [], ap, codes, inl, inr, true}
 use Rattle.gomod_run.specs.Outcome.{Outcome, text_outcome, out_of_memory}
 use Rattle.gomod_words.specs.Laws.{AreUsageError, AskForVersion}
 use Rattle.gomod_words.specs.Usage.{IsVersionLine, is_line_or_memory, version_line}
@@ -32,12 +32,8 @@ asked_nothing words outcome asked (inr served) = absurd (asked.0 served.0 served
 
 pub version_is_printed : (program flag : List ℕ) (outcome : Outcome) → (flag ≡ codes "--version") ⊎ (flag ≡ codes "-V")
     → IsWordsOutcome anything any_input (program ∷ flag ∷ []) outcome → (outcome ≡ text_outcome version_line) ⊎ (outcome ≡ out_of_memory)
-version_is_printed program flag outcome (inl long) words =
-    asked_version (program ∷ codes "--version" ∷ []) outcome (version_by_long program)
-    (subst (λ (f : List ℕ). IsWordsOutcome anything any_input (program ∷ f ∷ []) outcome) long words)
-version_is_printed program flag outcome (inr short) words =
-    asked_version (program ∷ codes "-V" ∷ []) outcome (version_by_short program)
-    (subst (λ (f : List ℕ). IsWordsOutcome anything any_input (program ∷ f ∷ []) outcome) short words)
+version_is_printed program flag outcome (inl long) words = asked_version _ outcome (version_by_long program) (rw long at words)
+version_is_printed program flag outcome (inr short) words = asked_version _ outcome (version_by_short program) (rw short at words)
 
 pub nothing_is_printed : (program : List ℕ) (outcome : Outcome) → IsWordsOutcome anything any_input (program ∷ []) outcome
     → ((outcome.text ≡ []) × (outcome.status ≡ 2)) ⊎ (outcome ≡ out_of_memory)

@@ -1,5 +1,7 @@
 -- The answers of a store, in the order of the asks.
-use Rattle.std.proofs.Common.{◌≡◌, ◌<◌, ◌&&◌, suc, ℕ, Bool, true, false, if◌then◌else◌, List, [], ◌∷◌, length, Some, Contains, ap, ap₂, arith, refl, sym}
+use Rattle.std.proofs.Common.{◌≡◌, ◌&&◌, ℕ, Bool, if◌then◌else◌, List, [], ◌∷◌, Some, Contains, ap, ap₂, arith, inl, inr, sym}
+use Rattle.std.proofs.lemmas.Bool.{cases_Bool}
+use Rattle.gm_graph_select.proofs.Ascending.{member_tail}
 use Rattle.gm_store.proofs.NameOrder.{names_equal}
 use Rattle.gm_store.specs.Asked.{Name, Reply, answer_in, list_file, mod_file, same_name}
 use Rattle.gm_name.proofs.Texts.{bytes_eq-self}
@@ -18,15 +20,7 @@ file_answer path version first reply rest =
 -- every answer is the answer to some ask
 pub answered_in : (pairs : List (Name × Reply)) (name : Name) (reply : Reply) → answer_in pairs name ≡ Some reply → Contains pairs (name, reply)
 answered_in [] name reply e = cc e
-answered_in (pair ∷ pairs) name reply e = by_test (same_name name pair.0) refl e (answered_in pairs name reply)
-  where
-    by_test : (b : Bool) → same_name name pair.0 ≡ b → (if b then Some pair.1 else answer_in pairs name) ≡ Some reply
-        → (answer_in pairs name ≡ Some reply → Contains pairs (name, reply)) → Contains (pair ∷ pairs) (name, reply)
-    by_test true same found later =
-        let names : name ≡ pair.0 = names_equal name pair.0 same in
-        let replies : pair.1 ≡ reply = cc found in
-        (0, omega arith, ap₂ (λ (n : Name) (r : Reply). (n, r)) (sym names) replies)
-    by_test false same found later =
-        let there = later found in
-        let within : there.0 < length pairs = there.1 in
-        (suc there.0, omega arith, there.2)
+answered_in (pair ∷ pairs) name reply e = elim (cases_Bool (same_name name pair.0)) [
+  | inl same ↦ (0, omega arith, ap₂ (λ (n : Name) (r : Reply). (n, r)) (sym (names_equal name pair.0 same)) (cc (rw same at e)))
+  | inr other ↦ member_tail pair (name, reply) pairs (answered_in pairs name reply (rw other at e))
+]

@@ -1,6 +1,6 @@
 -- The text of a class determines it.
-use Rattle.std.proofs.Common.{◌≡◌, ◌∙◌, ◌^◌, ◌<◌, ◌≤◌, ℕ, Bool, true, false, cond, List, ◌∷◌, ◌++◌, Option, Some, None, codes, ap, append_assoc, arith, refl, sym, subst}
-use Rattle.std.specs.Prelude.{nat_lt}
+use Rattle.std.proofs.Common.{◌≡◌, ◌∙◌, ◌^◌, ◌<◌, ◌≤◌, ℕ, Bool, true, false, List, [], ◌∷◌, ◌++◌, Option, Some, codes, ap, ap₂, append_assoc, arith, refl, sym, subst}
+use Rattle.std.specs.Prelude.{find, nat_lt}
 use Rattle.std.specs.Char.{is_ascii_digit}
 use Rattle.std.specs.Fmt.{decimal}
 use Rattle.std.specs.List.{list_all}
@@ -20,25 +20,19 @@ use Rattle.gomod_run.proofs.ListLines.{Lacks, both_lack, cut_at, has_it, lacks, 
 
 -- ---- the misreading that a word is for
 
--- the misreading if this is its word, or what else there is
-abbrev if_word : List ℕ → Misreading → Option Misreading → Option Misreading
-if_word word kind other = cond (bytes_eq word (misreading_word kind)) (Some kind) other
+-- all misreadings
+abbrev misreadings : List Misreading
+misreadings = misreading.TooMany ∷ misreading.NotUtf8
+    ∷ misreading.Syntax syntax.BadByte ∷ misreading.Syntax syntax.OpenString ∷ misreading.Syntax syntax.BadEscape
+    ∷ misreading.Syntax syntax.BlockComment ∷ misreading.Syntax syntax.StrayClose ∷ misreading.Syntax syntax.NestedOpen
+    ∷ misreading.Syntax syntax.OpenBlock
+    ∷ misreading.Directive directive.UnknownVerb ∷ misreading.Directive directive.WrongArguments ∷ misreading.Directive directive.BadPath
+    ∷ misreading.Directive directive.BadVersion ∷ misreading.Directive directive.Misfit ∷ misreading.Directive directive.Repeated
+    ∷ misreading.Directive directive.NoModule ∷ misreading.Directive directive.ConflictingReplace ∷ misreading.Directive directive.BadGo ∷ []
 
-abbrev syntax_of : List ℕ → Option Misreading → Option Misreading
-syntax_of word other = if_word word (misreading.Syntax syntax.BadByte)
-    (if_word word (misreading.Syntax syntax.OpenString) (if_word word (misreading.Syntax syntax.BadEscape)
-    (if_word word (misreading.Syntax syntax.BlockComment) (if_word word (misreading.Syntax syntax.StrayClose)
-    (if_word word (misreading.Syntax syntax.NestedOpen) (if_word word (misreading.Syntax syntax.OpenBlock) other))))))
-
-abbrev directive_of : List ℕ → Option Misreading → Option Misreading
-directive_of word other = if_word word (misreading.Directive directive.UnknownVerb)
-    (if_word word (misreading.Directive directive.WrongArguments) (if_word word (misreading.Directive directive.BadPath)
-    (if_word word (misreading.Directive directive.BadVersion) (if_word word (misreading.Directive directive.Misfit)
-    (if_word word (misreading.Directive directive.Repeated) (if_word word (misreading.Directive directive.NoModule)
-    (if_word word (misreading.Directive directive.ConflictingReplace) (if_word word (misreading.Directive directive.BadGo) other))))))))
-
+-- the first whose word this is
 abbrev misreading_of : List ℕ → Option Misreading
-misreading_of word = if_word word misreading.TooMany (if_word word misreading.NotUtf8 (syntax_of word (directive_of word None)))
+misreading_of word = find (λ kind. bytes_eq word (misreading_word kind)) misreadings
 
 -- a byte of a word: none is a blank or a line feed
 abbrev is_byte_of_word : ℕ → Bool
@@ -49,28 +43,13 @@ word_is : (kind : Misreading) → (misreading_of (misreading_word kind) ≡ Some
 word_is misreading.TooMany = (refl, refl)
 word_is misreading.NotUtf8 = (refl, refl)
 word_is (misreading.Syntax syntax.BadByte) = (refl, refl)
-word_is (misreading.Syntax syntax.OpenString) = (refl, refl)
-word_is (misreading.Syntax syntax.BadEscape) = (refl, refl)
-word_is (misreading.Syntax syntax.BlockComment) = (refl, refl)
-word_is (misreading.Syntax syntax.StrayClose) = (refl, refl)
-word_is (misreading.Syntax syntax.NestedOpen) = (refl, refl)
-word_is (misreading.Syntax syntax.OpenBlock) = (refl, refl)
+word_is (misreading.Syntax kind) = (refl, refl)
 word_is (misreading.Directive directive.UnknownVerb) = (refl, refl)
-word_is (misreading.Directive directive.WrongArguments) = (refl, refl)
-word_is (misreading.Directive directive.BadPath) = (refl, refl)
-word_is (misreading.Directive directive.BadVersion) = (refl, refl)
-word_is (misreading.Directive directive.Misfit) = (refl, refl)
-word_is (misreading.Directive directive.Repeated) = (refl, refl)
-word_is (misreading.Directive directive.NoModule) = (refl, refl)
-word_is (misreading.Directive directive.ConflictingReplace) = (refl, refl)
-word_is (misreading.Directive directive.BadGo) = (refl, refl)
-
-some_same : (one other : Misreading) → Some one ≡ Some other → one ≡ other
-some_same one other e = cc e
+word_is (misreading.Directive kind) = (refl, refl)
 
 -- a word is that of one misreading
 says_misreading : (one other : Misreading) → misreading_word one ≡ misreading_word other → one ≡ other
-says_misreading one other e = some_same one other (sym (word_is one).0 ∙ ap misreading_of e ∙ (word_is other).0)
+says_misreading one other e = let found : Some one ≡ Some other = sym (word_is one).0 ∙ ap misreading_of e ∙ (word_is other).0 in cc found
 
 -- ---- bytes
 
@@ -107,12 +86,11 @@ front_plain = blank_lacked (codes "Malformed") refl
 says_malformed : (m n : ℕ) (one other : Misreading) → m ≤ 16777216 → n ≤ 16777216
     → malformed_text m one ≡ malformed_text n other → Malformed m one ≡ Malformed n other
 says_malformed m n one other p q e =
-    let after = cut_at 32 (codes "Malformed") (codes "Malformed") (decimal m ++ 32 ∷ misreading_word one)
-    (decimal n ++ 32 ∷ misreading_word other) front_plain front_plain
-    (sym (spread m one) ∙ e ∙ spread n other) in
-    let parts = cut_at 32 (decimal m) (decimal n) (misreading_word one) (misreading_word other) (number_lacks 32 m refl p) (number_lacks 32 n refl q) after.1 in
-    ap (λ (x : ℕ). Malformed x one) (decimal_injective m n (small m p) (small n q) parts.0)
-    ∙ ap (λ (x : Misreading). Malformed n x) (says_misreading one other parts.1)
+    let (front, after) = cut_at 32 (codes "Malformed") (codes "Malformed") (decimal m ++ 32 ∷ misreading_word one)
+    (decimal n ++ 32 ∷ misreading_word other) front_plain front_plain (sym (spread m one) ∙ e ∙ spread n other) in
+    let (number, word) = cut_at 32 (decimal m) (decimal n) (misreading_word one) (misreading_word other)
+    (number_lacks 32 m refl p) (number_lacks 32 n refl q) after in
+    ap₂ Malformed (decimal_injective m n (small m p) (small n q) number) (says_misreading one other word)
 
 -- a text of such bytes is not that of a `Malformed`
 not_malformed : (word : List ℕ) (number : ℕ) (kind : Misreading) → list_all is_byte_of_word word ≡ true → word ≡ malformed_text number kind → ⊥
@@ -121,23 +99,16 @@ not_malformed word number kind all e =
 
 -- ---- the class that a word is for
 
-abbrev if_class : List ℕ → Class → Option Class → Option Class
-if_class word class other = cond (bytes_eq word (class_text class)) (Some class) other
-
 abbrev class_of : List ℕ → Option Class
-class_of word = if_class word NotFetchable (if_class word Missing (if_class word TooLong (if_class word NoSum
-    (if_class word SumDiffers (if_class word WrongPath None)))))
+class_of word = find (λ class. bytes_eq word (class_text class)) (NotFetchable ∷ Missing ∷ TooLong ∷ NoSum ∷ SumDiffers ∷ WrongPath ∷ [])
 
 -- a class whose text is a word
 record IsOfAWord (class : Class) : Type 0 where
   bytes : list_all is_byte_of_word (class_text class) ≡ true
   found : class_of (class_text class) ≡ Some class
 
-class_same : (one other : Class) → Some one ≡ Some other → one ≡ other
-class_same one other e = cc e
-
 says_word : (one other : Class) → IsOfAWord one → IsOfAWord other → class_text one ≡ class_text other → one ≡ other
-says_word one other p q e = class_same one other (sym p.found ∙ ap class_of e ∙ q.found)
+says_word one other p q e = let found : Some one ≡ Some other = sym p.found ∙ ap class_of e ∙ q.found in cc found
 
 -- the line and the kind of a misreading, or a class whose text is a word
 data ClassCase : Class → Type 0 where
@@ -156,11 +127,8 @@ by_cases (worded one w) (worded other v) p q e = says_word one other w v e
 
 -- the text of a class has no line feed
 pub class_has_no_feed : (class : Class) → IsProperClass class → Lacks 10 (class_text class)
-class_has_no_feed class proper = by_case (class_case class) proper
-  where
-    by_case : {class : Class} → ClassCase class → IsProperClass class → Lacks 10 (class_text class)
-    by_case (misread number kind) proper = malformed_plain number kind proper
-    by_case (worded class is) proper = feed_lacked (class_text class) is.bytes
+class_has_no_feed (Malformed number kind) proper = malformed_plain number kind proper
+class_has_no_feed class proper = feed_lacked (class_text class) refl
 
 -- a text is that of one class
 pub says_class : (one other : Class) → IsProperClass one → IsProperClass other → class_text one ≡ class_text other → one ≡ other

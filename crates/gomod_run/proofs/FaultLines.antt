@@ -1,8 +1,6 @@
 -- The text of a report determines its faults.
-use Rattle.std.proofs.Common.{◌≡◌, ◌∙◌, ◌∷◌, ◌++◌, codes, ap, append_assoc, arith, refl, sym}
-use Rattle.gm_name.specs.ModuleVersion.{ModuleVersion}
+use Rattle.std.proofs.Common.{◌∷◌, codes, ap₂, append_assoc, arith, refl}
 use Rattle.gm_syntax.specs.Lines.{HasNoLineFeed}
-use Rattle.gm_graph.specs.declared.cache.class.Class.{Class}
 use Rattle.gm_graph.specs.declared.fault.Fault.{Fault}
 use Rattle.gm_graph.specs.Private.Gathering.{fault}
 use Rattle.gomod_run.specs.PrintedLines.{HasLines, IsProperFault, LineIsOfOne, LineSaysOne, TextSaysAll, fault_text}
@@ -10,34 +8,28 @@ use Rattle.gomod_run.specs.Reports.{class_text, faults_text}
 use Rattle.gomod_run.specs.LineParts.{vertex_text}
 use Rattle.gomod_run.proofs.ClassWords.{class_has_no_feed, says_class}
 use Rattle.gomod_run.proofs.GraphLines.{IsApart, feed_is_apart, says_vertex, vertex_lacks}
-use Rattle.gomod_run.proofs.ListLines.{both_lack, cut_at, found_line, lines_are, plain, tails, text_says}
+use Rattle.gomod_run.proofs.ListLines.{both_lack, cut_at, found_line, lines_are, plain, text_says}
 
 colon_is_apart : IsApart 58
 colon_is_apart = record { at = λ e. omega (arith, e); path = refl; version = refl }
 
 fault_has_no_feed : (one : Fault) → IsProperFault one → HasNoLineFeed (fault_text one)
 fault_has_no_feed one proper =
-    both_lack 10 (vertex_text one.vertex ++ codes ": ") (class_text one.class)
-    (both_lack 10 (vertex_text one.vertex) (codes ": ") (vertex_lacks 10 feed_is_apart one.vertex (proper.0, proper.1)) (plain (codes ": ") refl))
+    both_lack 10 _ _ (both_lack 10 _ _ (vertex_lacks 10 feed_is_apart one.vertex (proper.0, proper.1)) (plain (codes ": ") refl))
     (class_has_no_feed one.class proper.2)
-
-spread : (x : ModuleVersion) (class : Class) → (vertex_text x ++ codes ": ") ++ class_text class ≡ vertex_text x ++ 58 ∷ (32 ∷ class_text class)
-spread x class = append_assoc (vertex_text x) (codes ": ") (class_text class)
 
 pub says_fault : LineSaysOne Fault IsProperFault fault_text
 says_fault one other p q e =
-    let cut = cut_at 58 (vertex_text one.vertex) (vertex_text other.vertex) (32 ∷ class_text one.class) (32 ∷ class_text other.class)
+    let (vertex, class) = cut_at 58 (vertex_text one.vertex) (vertex_text other.vertex) (32 ∷ class_text one.class) (32 ∷ class_text other.class)
     (vertex_lacks 58 colon_is_apart one.vertex (p.0, p.1)) (vertex_lacks 58 colon_is_apart other.vertex (q.0, q.1))
-    (sym (spread one.vertex one.class) ∙ e ∙ spread other.vertex other.class) in
-    let vertex : one.vertex ≡ other.vertex = says_vertex one.vertex other.vertex (p.0, p.1) (q.0, q.1) cut.0 in
-    let class : one.class ≡ other.class = says_class one.class other.class p.2 q.2 (tails 32 32 (class_text one.class) (class_text other.class) cut.1) in
-    ap (λ (x : ModuleVersion). fault x one.class) vertex ∙ ap (λ (c : Class). fault other.vertex c) class
+    (rw (append_assoc (vertex_text one.vertex), append_assoc (vertex_text other.vertex)) at e) in
+    ap₂ fault (says_vertex one.vertex other.vertex (p.0, p.1) (q.0, q.1) vertex) (says_class one.class other.class p.2 q.2 (cc class))
 
 pub report_has_lines : HasLines Fault IsProperFault fault_text faults_text
-report_has_lines = lines_are fault_text IsProperFault fault_has_no_feed
+report_has_lines = lines_are fault_text fault_has_no_feed
 
 pub text_says_faults : TextSaysAll Fault IsProperFault faults_text
-text_says_faults = text_says fault_text IsProperFault faults_text report_has_lines says_fault
+text_says_faults = text_says fault_text faults_text report_has_lines says_fault
 
 pub line_is_of_a_fault : LineIsOfOne Fault IsProperFault fault_text faults_text
-line_is_of_a_fault = found_line fault_text IsProperFault faults_text report_has_lines says_fault
+line_is_of_a_fault = found_line fault_text faults_text report_has_lines says_fault

@@ -1,5 +1,5 @@
 -- The text of a graph determines its edges, and that of a chain its steps.
-use Rattle.std.proofs.Common.{◌≡◌, ◌≢◌, ◌∙◌, ℕ, false, List, ◌++◌, codes, ap, append_assoc, arith, refl, sym, subst}
+use Rattle.std.proofs.Common.{◌≡◌, ◌≢◌, ℕ, false, List, codes, ap, ap₂, append_assoc, arith, refl, sym, subst}
 use Rattle.gm_name.specs.Path.{IsPath, is_byte_of_path}
 use Rattle.gm_name.specs.Version.{is_byte_of_version}
 use Rattle.gm_name.specs.ModuleVersion.{ModuleVersion}
@@ -24,8 +24,7 @@ pub record IsApart (c : ℕ) : Type 0 where
 
 pub vertex_lacks : (c : ℕ) → IsApart c → (x : ModuleVersion) → IsProperStep (Of x) → Lacks c (vertex_text x)
 vertex_lacks c is x proper =
-    both_lack c (x.0 ++ codes "@") x.1 (both_lack c x.0 (codes "@") (path_lacks c is.path x.0 proper.0) (is.at, tt))
-    (version_lacks c is.version x.1 proper.1)
+    both_lack c _ _ (both_lack c _ _ (path_lacks c is.path x.0 proper.0) (is.at, tt)) (version_lacks c is.version x.1 proper.1)
 
 blank_is_apart : IsApart 32
 blank_is_apart = record { at = λ e. omega (arith, e); path = refl; version = refl }
@@ -35,9 +34,8 @@ feed_is_apart = record { at = λ e. omega (arith, e); path = refl; version = ref
 
 pub says_vertex : (x y : ModuleVersion) → IsProperStep (Of x) → IsProperStep (Of y) → vertex_text x ≡ vertex_text y → x ≡ y
 says_vertex x y p q e =
-    let cut = cut_at 64 x.0 y.0 x.1 y.1 (path_lacks 64 refl x.0 p.0) (path_lacks 64 refl y.0 q.0)
-    (sym (append_assoc x.0 (codes "@") x.1) ∙ e ∙ append_assoc y.0 (codes "@") y.1) in
-    ap (λ (path : List ℕ). (path, x.1)) cut.0 ∙ ap (λ (version : List ℕ). (y.0, version)) cut.1
+    let (path, version) = cut_at 64 x.0 y.0 x.1 y.1 (path_lacks 64 refl x.0 p.0) (path_lacks 64 refl y.0 q.0) (simp append_assoc at e) in
+    ap₂ (λ (p v : List ℕ). (p, v)) path version
 
 module _ (main : List ℕ) (is_path : IsPath main) where
   step_lacks : (c : ℕ) → IsApart c → (step : Step) → IsProperStep step → Lacks c (step_text main step)
@@ -45,44 +43,40 @@ module _ (main : List ℕ) (is_path : IsPath main) where
   step_lacks c is (Of x) proper = vertex_lacks c is x proper
 
   main_is_no_vertex : (x : ModuleVersion) → main ≡ vertex_text x → ⊥
-  main_is_no_vertex x e = has_it 64 x.0 x.1 (subst (Lacks 64) (e ∙ append_assoc x.0 (codes "@") x.1) (path_lacks 64 refl main is_path))
+  main_is_no_vertex x e = has_it 64 x.0 x.1 (subst (Lacks 64) (simp append_assoc at e) (path_lacks 64 refl main is_path))
 
   pub says_step : LineSaysOne Step IsProperStep (step_text main)
   says_step Main Main p q e = refl
   says_step Main (Of y) p q e = absurd (main_is_no_vertex y e)
   says_step (Of x) Main p q e = absurd (main_is_no_vertex x (sym e))
-  says_step (Of x) (Of y) p q e = ap (λ (z : ModuleVersion). Of z) (says_vertex x y p q e)
+  says_step (Of x) (Of y) p q e = ap Of (says_vertex x y p q e)
 
   edge_has_no_feed : (one : Edge) → IsProperEdge one → HasNoLineFeed (edge_text main one)
   edge_has_no_feed one proper =
-      both_lack 10 (step_text main one.from ++ codes " ") (vertex_text one.to)
-      (both_lack 10 (step_text main one.from) (codes " ") (step_lacks 10 feed_is_apart one.from proper.0) (plain (codes " ") refl))
+      both_lack 10 _ _ (both_lack 10 _ _ (step_lacks 10 feed_is_apart one.from proper.0) (plain (codes " ") refl))
       (vertex_lacks 10 feed_is_apart one.to proper.1)
 
   pub says_edge : LineSaysOne Edge IsProperEdge (edge_text main)
   says_edge one other p q e =
-      let cut = cut_at 32 (step_text main one.from) (step_text main other.from) (vertex_text one.to) (vertex_text other.to)
+      let (from, to) = cut_at 32 (step_text main one.from) (step_text main other.from) (vertex_text one.to) (vertex_text other.to)
       (step_lacks 32 blank_is_apart one.from p.0) (step_lacks 32 blank_is_apart other.from q.0)
-      (sym (append_assoc (step_text main one.from) (codes " ") (vertex_text one.to)) ∙ e
-      ∙ append_assoc (step_text main other.from) (codes " ") (vertex_text other.to)) in
-      let from : one.from ≡ other.from = says_step one.from other.from p.0 q.0 cut.0 in
-      let to : one.to ≡ other.to = says_vertex one.to other.to p.1 q.1 cut.1 in
-      ap (λ (s : Step). edge s one.to) from ∙ ap (λ (x : ModuleVersion). edge other.from x) to
+      (rw (append_assoc (step_text main one.from), append_assoc (step_text main other.from)) at e) in
+      ap₂ edge (says_step one.from other.from p.0 q.0 from) (says_vertex one.to other.to p.1 q.1 to)
 
 pub graph_has_lines : (main : List ℕ) → IsPath main → HasLines Edge IsProperEdge (edge_text main) (graph_text main)
-graph_has_lines main is = lines_are (edge_text main) IsProperEdge (edge_has_no_feed main is)
+graph_has_lines main is = lines_are (edge_text main) (edge_has_no_feed main is)
 
 pub text_says_edges : (main : List ℕ) → IsPath main → TextSaysAll Edge IsProperEdge (graph_text main)
-text_says_edges main is = text_says (edge_text main) IsProperEdge (graph_text main) (graph_has_lines main is) (says_edge main is)
+text_says_edges main is = text_says (edge_text main) (graph_text main) (graph_has_lines main is) (says_edge main is)
 
 pub line_is_of_an_edge : (main : List ℕ) → IsPath main → LineIsOfOne Edge IsProperEdge (edge_text main) (graph_text main)
-line_is_of_an_edge main is = found_line (edge_text main) IsProperEdge (graph_text main) (graph_has_lines main is) (says_edge main is)
+line_is_of_an_edge main is = found_line (edge_text main) (graph_text main) (graph_has_lines main is) (says_edge main is)
 
 pub chain_has_lines : (main : List ℕ) → IsPath main → HasLines Step IsProperStep (step_text main) (chain_text main)
-chain_has_lines main is = lines_are (step_text main) IsProperStep (step_lacks main is 10 feed_is_apart)
+chain_has_lines main is = lines_are (step_text main) (step_lacks main is 10 feed_is_apart)
 
 pub text_says_steps : (main : List ℕ) → IsPath main → TextSaysAll Step IsProperStep (chain_text main)
-text_says_steps main is = text_says (step_text main) IsProperStep (chain_text main) (chain_has_lines main is) (says_step main is)
+text_says_steps main is = text_says (step_text main) (chain_text main) (chain_has_lines main is) (says_step main is)
 
 pub line_is_of_a_step : (main : List ℕ) → IsPath main → LineIsOfOne Step IsProperStep (step_text main) (chain_text main)
-line_is_of_a_step main is = found_line (step_text main) IsProperStep (chain_text main) (chain_has_lines main is) (says_step main is)
+line_is_of_a_step main is = found_line (step_text main) (chain_text main) (chain_has_lines main is) (says_step main is)

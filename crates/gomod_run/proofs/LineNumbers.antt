@@ -1,5 +1,5 @@
 -- The number of a faulty line is at most the number of bytes of its file.
-use Rattle.std.proofs.Common.{◌≡◌, ◌+◌, ◌<◌, ◌≤◌, ℕ, suc, List, [], ◌∷◌, ◌++◌, length, not, Option, Some, None, Ok, Contains, ap, arith, refl, inl, inr}
+use Rattle.std.proofs.Common.{◌≡◌, ◌+◌, ◌<◌, ◌≤◌, ℕ, List, [], ◌∷◌, ◌++◌, length, not, Option, Some, None, Ok, Contains, ap, arith, refl, inl, inr}
 use Rattle.std.specs.List.{filter_map, flat_map, list_all}
 use Rattle.std.specs.Option.{option_or}
 use Rattle.std.proofs.lemmas.Bool.{cases_eq}
@@ -7,7 +7,7 @@ use Rattle.std.proofs.lemmas.List.{length-append}
 use Rattle.std.proofs.lemmas.List.Elements.{Contains-append_cases}
 use Rattle.gm_syntax.specs.declared.fault.SyntaxKind.{SyntaxKind}
 use Rattle.gm_syntax.specs.Words.{Word}
-use Rattle.gm_syntax.specs.Document.{Blank, Close, Comment, Entry, Faulty, Finish, Line, Open, ReadsLines, Whole, after, start, Place}
+use Rattle.gm_syntax.specs.Document.{Blank, Faulty, Finish, Line, ReadsLines, Whole, after, start, Place}
 use Rattle.gm_syntax.specs.LineViews.{plain_lines}
 use Rattle.gm_syntax.specs.Lines.{lines_of, put_first}
 use Rattle.gm_syntax.specs.Parsed.{IsParsedAs}
@@ -31,13 +31,10 @@ put_few b [] = omega arith
 put_few b (line ∷ lines) = omega arith
 
 lines_few : (text : List ℕ) → length (lines_of text) ≤ length text
-lines_few [] = let none : length (lines_of []) ≡ 0 = ap (λ (ls : List (List ℕ)). length ls) lines_nil in omega (arith, none)
+lines_few [] = rw lines_nil (omega arith)
 lines_few (b ∷ text) = elim (cases_eq b 10) [
-  | inl feed ↦ let cut : length (lines_of (b ∷ text)) ≡ suc (length (lines_of text)) =
-      ap (λ (ls : List (List ℕ)). length ls) (lines_cut b text feed) in omega (arith, cut, lines_few text)
-  | inr other ↦ let more : length (lines_of (b ∷ text)) ≡ length (put_first b (lines_of text)) =
-      ap (λ (ls : List (List ℕ)). length ls) (lines_more b text other) in
-      omega (arith, more, put_few b (lines_of text), lines_few text)
+  | inl feed ↦ rw (lines_cut b text feed) (omega (arith, lines_few text))
+  | inr other ↦ rw (lines_more b text other) (omega (arith, put_few b (lines_of text), lines_few text))
 ]
 
 read_few : (at : Place) (texts : List (List ℕ)) (lines : List (Line Word)) (finish : Finish) → ReadsLines at texts lines finish → length lines ≤ length texts
@@ -50,10 +47,7 @@ read_few at (text ∷ texts) (line ∷ lines) finish (is, more) = let rest = rea
 next_number : (at : Place) (line : Line Word) → at.opened < at.number
     → ((after at line).number ≡ at.number + 1) × ((after at line).opened < (after at line).number)
 next_number at Blank below = (refl, omega (arith, below))
-next_number at (Comment text) below = (refl, omega (arith, below))
-next_number at (Open verb suffix) below = (refl, omega (arith, below))
-next_number at (Close suffix) below = (refl, omega (arith, below))
-next_number at (Entry words suffix) below = (refl, omega (arith, below))
+next_number at line below = (refl, omega (arith, below))
 
 stops_below : (at : Place) (texts : List (List ℕ)) (lines : List (Line Word)) (number : ℕ) (kind : SyntaxKind)
     → at.opened < at.number → ReadsLines at texts lines (Faulty number kind)
@@ -73,13 +67,11 @@ placed_few : (mode : Mode) (before seats : List (LineInBlock Word)) (one : Fault
 placed_few mode before [] one there = absurd (no_member one there)
 placed_few mode before (seat ∷ seats) one there =
     let next = before ++ seat ∷ [] in
-    let size : length next ≡ length before + 1 = length-append before (seat ∷ []) in
     elim (Contains-append_cases (faults_after mode (before, seat)) (flat_map (faults_after mode) (with_before_from next seats)) one there) [
       | inl here ↦ (let (kind, inside, is) = from_mapped (λ (kind : DirectiveKind). (length before + 1, kind))
           (item_kinds mode (filter_map (directive_said mode) before) (item_at seat)) one here in
-          let number : length before + 1 ≡ one.0 = ap (λ (f : Fault). f.0) is in
-          omega (arith, number))
-      | inr later ↦ (let rest = placed_few mode next seats one later in omega (arith, size, rest))
+          omega (arith, ap (λ (f : Fault). f.0) is))
+      | inr later ↦ omega (arith, length-append before (seat ∷ []), placed_few mode next seats one later)
     ]
 
 some_first : (o : Option Fault) (one : Fault) → option_or o None ≡ Some one → o ≡ Some one
@@ -91,8 +83,7 @@ unfolding fault_of faults
 lax_few lines one is =
     let found = faults Lax lines in
     let among = found_among (λ a. list_all (λ b. not (precedes b a)) found) found one (some_first (first_of found) one is) in
-    let few = placed_few Lax [] (with_blocks lines) one among in
-    omega (arith, few, length-with_blocks None lines)
+    omega (arith, placed_few Lax [] (with_blocks lines) one among, length-with_blocks None lines)
 
 -- ---- a file
 

@@ -1,12 +1,11 @@
 -- The text of a list determines its rows.
-use Rattle.std.proofs.Common.{◌≡◌, ◌≢◌, ◌∙◌, ◌⊎◌, ℕ, Bool, true, false, List, [], ◌∷◌, ◌++◌, map, Option, Some, None, Contains, codes, ap, append_assoc, append-nil, refl, sym, subst, inl, inr}
+use Rattle.std.proofs.Common.{◌≡◌, ◌≢◌, ◌∙◌, ◌⊎◌, ℕ, Bool, true, false, List, [], ◌∷◌, ◌++◌, map, Option, Some, None, Contains, codes, ap, ap₂, append_assoc, append-nil, refl, sym, subst, inl, inr}
 use Rattle.std.specs.List.{AllByRecursion, flat_map, list_all}
 use Rattle.std.specs.Prelude.{nat_lt}
 use Rattle.std.proofs.lemmas.Bool.{true≢false}
 use Rattle.gm_name.specs.Path.{IsPath, is_byte_of_path}
 use Rattle.gm_name.specs.Version.{IsVersion, is_byte_of_version}
 use Rattle.gm_name.proofs.Bytes.{path-bytes, version-bytes}
-use Rattle.gm_name.proofs.NameTests.{and_both}
 use Rattle.gm_syntax.specs.Lines.{HasNoLineFeed, lines_of}
 use Rattle.gm_syntax.proofs.Lines.{lines_nil}
 use Rattle.gm_syntax.proofs.Stable.{ended_line, plain_append}
@@ -19,7 +18,7 @@ use Rattle.gm_graph_select.proofs.RankedLists.{from_mapped}
 use Rattle.gomod_run.specs.ListQuery.{list_text, replacement_suffix, replacement_text, row_text}
 use Rattle.gomod_run.specs.LineParts.{line}
 use Rattle.gomod_run.specs.PrintedLines.{AreAll, HasLines, IsProperRight, IsProperRow, LineIsOfOne, LineSaysOne, TextSaysAll}
-use Rattle.gm_file_edit.proofs.Feeds.{path-plain, version-plain}
+use Rattle.gm_file_edit.proofs.Feeds.{has-no, path-plain, version-plain}
 use Rattle.gm_file_edit.proofs.Folders.{begins-no-folder}
 
 -- ---- texts without a byte
@@ -29,10 +28,7 @@ abbrev pub Lacks : ℕ → List ℕ → Type 0
 Lacks c text = AllByRecursion (λ b. b ≢ c) text
 
 pub lacks : (c : ℕ) (test : ℕ → Bool) → test c ≡ false → (text : List ℕ) → list_all test text ≡ true → Lacks c text
-lacks c test fails [] all = tt
-lacks c test fails (b ∷ text) all =
-    let parts = and_both (test b) (list_all test text) all in
-    ((λ e. true≢false (sym parts.0 ∙ ap test e ∙ fails)), lacks c test fails text parts.1)
+lacks = has-no
 
 pub both_lack : (c : ℕ) (a b : List ℕ) → Lacks c a → Lacks c b → Lacks c (a ++ b)
 both_lack c [] b p q = q
@@ -62,15 +58,6 @@ heads a b x y e = cc e
 pub tails : (a b : ℕ) (x y : List ℕ) → a ∷ x ≡ b ∷ y → x ≡ y
 tails a b x y e = cc e
 
--- what precedes the first such byte, and what follows it
-pub cut_at : (c : ℕ) (a b x y : List ℕ) → Lacks c a → Lacks c b → a ++ c ∷ x ≡ b ++ c ∷ y → (a ≡ b) × (x ≡ y)
-cut_at c [] [] x y p q e = (refl, tails c c x y e)
-cut_at c [] (b ∷ bs) x y p q e = absurd (q.0 (sym (heads c b x (bs ++ c ∷ y) e)))
-cut_at c (a ∷ more) [] x y p q e = absurd (p.0 (heads a c (more ++ c ∷ x) y e))
-cut_at c (a ∷ more) (b ∷ bs) x y p q e =
-    let rest = cut_at c more bs x y p.1 q.1 (tails a b (more ++ c ∷ x) (bs ++ c ∷ y) e) in
-    (ap (λ (h : ℕ). h ∷ more) (heads a b (more ++ c ∷ x) (bs ++ c ∷ y) e) ∙ ap (λ (t : List ℕ). b ∷ t) rest.0, rest.1)
-
 -- it has the byte
 pub has_it : (c : ℕ) (a x : List ℕ) → Lacks c (a ++ c ∷ x) → ⊥
 has_it c [] x none = none.0 refl
@@ -81,20 +68,24 @@ abbrev pub IsEndAt : ℕ → List ℕ → Type 0
 IsEndAt c text = (text ≡ []) ⊎ ((rest : List ℕ) × (text ≡ c ∷ rest))
 
 not_in_end : (c b : ℕ) (bs s : List ℕ) → b ≢ c → IsEndAt c s → s ≡ b ∷ bs → ⊥
-not_in_end c b bs s other (inl none) e = let wrong : [] ≡ b ∷ bs = sym none ∙ e in cc wrong
-not_in_end c b bs s other (inr (rest, is)) e = other (sym (heads c b rest bs (sym is ∙ e)))
+not_in_end c b bs s other (inl none) e = cc
+not_in_end c b bs s other (inr (rest, is)) e = other (cc (is, e))
 
+-- what precedes such an end, and the end
 pub cut_end : (c : ℕ) (a b s t : List ℕ) → Lacks c a → Lacks c b → IsEndAt c s → IsEndAt c t → a ++ s ≡ b ++ t → (a ≡ b) × (s ≡ t)
 cut_end c [] [] s t p q u v e = (refl, e)
 cut_end c [] (b ∷ bs) s t p q u v e = absurd (not_in_end c b (bs ++ t) s q.0 u e)
 cut_end c (a ∷ more) [] s t p q u v e = absurd (not_in_end c a (more ++ s) t p.0 v (sym e))
-cut_end c (a ∷ more) (b ∷ bs) s t p q u v e =
-    let rest = cut_end c more bs s t p.1 q.1 u v (tails a b (more ++ s) (bs ++ t) e) in
-    (ap (λ (h : ℕ). h ∷ more) (heads a b (more ++ s) (bs ++ t) e) ∙ ap (λ (x : List ℕ). b ∷ x) rest.0, rest.1)
+cut_end c (a ∷ more) (b ∷ bs) s t p q u v e = let (same, ends) = cut_end c more bs s t p.1 q.1 u v (cc e) in ((cc (e, same)), ends)
+
+-- what precedes the first such byte, and what follows it
+pub cut_at : (c : ℕ) (a b x y : List ℕ) → Lacks c a → Lacks c b → a ++ c ∷ x ≡ b ++ c ∷ y → (a ≡ b) × (x ≡ y)
+cut_at c a b x y p q e =
+    let (same, ends) = cut_end c a b (c ∷ x) (c ∷ y) p q (inr (x, refl)) (inr (y, refl)) e in (same, (cc ends))
 
 -- ---- lines of any kind
 
-module _ {X : Type 0} (text : X → List ℕ) (IsProper : X → Type 0) where
+module _ {X : Type 0} (text : X → List ℕ) {IsProper : X → Type 0} where
   pub lines_are : ((x : X) → IsProper x → HasNoLineFeed (text x)) → HasLines X IsProper text (flat_map (λ x. line (text x)))
   lines_are plain [] proper = lines_nil
   lines_are plain (x ∷ xs) proper =
@@ -108,10 +99,8 @@ module _ {X : Type 0} (text : X → List ℕ) (IsProper : X → Type 0) where
   same_are says [] (y ∷ ys) p q e = absurd (cc e)
   same_are says (x ∷ xs) [] p q e = absurd (cc e)
   same_are says (x ∷ xs) (y ∷ ys) p q e =
-      let first : text x ≡ text y = cc e in
-      let later : map text xs ≡ map text ys = cc e in
-      ap (λ (z : X). z ∷ xs) (says x y (p x (member_head x xs)) (q y (member_head y ys)) first)
-      ∙ ap (λ (zs : List X). y ∷ zs) (same_are says xs ys (λ z there. p z (member_tail x z xs there)) (λ z there. q z (member_tail y z ys there)) later)
+      ap₂ (λ (z : X) (zs : List X). z ∷ zs) (says x y (p x (member_head x xs)) (q y (member_head y ys)) (cc e))
+      (same_are says xs ys (λ z there. p z (member_tail x z xs there)) (λ z there. q z (member_tail y z ys there)) (cc e))
 
   module _ (whole : List X → List ℕ) (lines : HasLines X IsProper text whole) (says : LineSaysOne X IsProper text) where
     pub text_says : TextSaysAll X IsProper whole
@@ -119,8 +108,8 @@ module _ {X : Type 0} (text : X → List ℕ) (IsProper : X → Type 0) where
 
     pub found_line : LineIsOfOne X IsProper text whole
     found_line xs y p q there =
-        let (x, inside, same) = from_mapped text xs (text y) (subst (λ (ls : List (List ℕ)). Contains ls (text y)) (lines xs p) there) in
-        subst (λ (z : X). Contains xs z) (says x y (p x inside) q same) inside
+        let (x, inside, same) = from_mapped text xs (text y) (rw (lines xs p) at there) in
+        subst (Contains xs) (says x y (p x inside) q same) inside
 
 -- ---- rows
 
@@ -133,7 +122,7 @@ mark_has_no_feed = plain (codes " => ") refl
 
 name_has_no_feed : (path version : List ℕ) → IsPath path → IsVersion version → HasNoLineFeed ((path ++ codes " ") ++ version)
 name_has_no_feed path version p v =
-    plain_append (path ++ codes " ") version (plain_append path (codes " ") (path-plain path p) (plain (codes " ") refl)) (version-plain version v)
+    plain_append _ _ (plain_append _ _ (path-plain path p) (plain (codes " ") refl)) (version-plain version v)
 
 suffix_has_no_feed : (right : Option Right) → IsProperRight right → HasNoLineFeed (replacement_suffix right)
 suffix_has_no_feed None proper = tt
@@ -144,62 +133,49 @@ suffix_has_no_feed (Some (Module path version)) proper =
 row_has_no_feed : (main : List ℕ) → IsPath main → (row : Entry) → IsProperRow row → HasNoLineFeed (row_text main row)
 row_has_no_feed main is (Main, right) proper = rw proper (plain_append main [] (path-plain main is) tt)
 row_has_no_feed main is (Of x, right) proper =
-    plain_append ((x.0 ++ codes " ") ++ x.1) (replacement_suffix right) (name_has_no_feed x.0 x.1 proper.0 proper.1) (suffix_has_no_feed right proper.2)
+    plain_append _ _ (name_has_no_feed x.0 x.1 proper.0 proper.1) (suffix_has_no_feed right proper.2)
 
 -- ---- right sides
 
 folder_is_no_module : (text path version : List ℕ) → is_folder_path text ≡ true → IsPath path → text ≡ (path ++ codes " ") ++ version → ⊥
 folder_is_no_module text path version folder is e =
-    let whole : text ≡ path ++ (32 ∷ version) = e ∙ append_assoc path (codes " ") version in
-    true≢false (sym folder ∙ ap is_folder_path whole ∙ begins-no-folder path (32 ∷ version) is)
+    true≢false (sym folder ∙ rw e (rw append_assoc (begins-no-folder path (32 ∷ version) is)))
 
 says_right : (one other : Right) → IsProperRight (Some one) → IsProperRight (Some other) → replacement_text one ≡ replacement_text other → one ≡ other
 says_right (Folder text) (Folder second) p q e = ap Folder e
 says_right (Folder text) (Module path version) p q e = absurd (folder_is_no_module text path version p.0 q.0 e)
 says_right (Module path version) (Folder text) p q e = absurd (folder_is_no_module text path version q.0 p.0 (sym e))
 says_right (Module path version) (Module second at) p q e =
-    let cut = cut_at 32 path second version at (path_has_no_blank path p.0) (path_has_no_blank second q.0)
-    (sym (append_assoc path (codes " ") version) ∙ e ∙ append_assoc second (codes " ") at) in
-    ap (λ (x : List ℕ). Module x version) cut.0 ∙ ap (λ (x : List ℕ). Module second x) cut.1
-
-after_mark : (a b : List ℕ) → codes " => " ++ a ≡ codes " => " ++ b → a ≡ b
-after_mark a b e = cc e
+    let (same, rest) = cut_at 32 path second version at (path_has_no_blank path p.0) (path_has_no_blank second q.0) (simp append_assoc at e) in
+    ap₂ Module same rest
 
 says_suffix : (one other : Option Right) → IsProperRight one → IsProperRight other → replacement_suffix one ≡ replacement_suffix other → one ≡ other
 says_suffix None None p q e = refl
 says_suffix None (Some other) p q e = absurd (cc e)
 says_suffix (Some one) None p q e = absurd (cc e)
-says_suffix (Some one) (Some other) p q e =
-    ap (λ (right : Right). Some right) (says_right one other p q (after_mark (replacement_text one) (replacement_text other) e))
+says_suffix (Some one) (Some other) p q e = ap Some (says_right one other p q (cc e))
 
 module _ (main : List ℕ) (is_path : IsPath main) where
-  spread : (p v s : List ℕ) → ((p ++ codes " ") ++ v) ++ s ≡ p ++ (32 ∷ (v ++ s))
-  spread p v s = append_assoc (p ++ codes " ") v s ∙ append_assoc p (codes " ") (v ++ s)
-
-  main_is_no_module : (p v s : List ℕ) → main ++ [] ≡ ((p ++ codes " ") ++ v) ++ s → ⊥
-  main_is_no_module p v s e =
-      has_it 32 p (v ++ s) (subst (Lacks 32) (sym (append-nil main) ∙ e ∙ spread p v s) (path_has_no_blank main is_path))
+  main_is_no_module : (p v s : List ℕ) (right : Option Right) → right ≡ None → main ++ replacement_suffix right ≡ ((p ++ codes " ") ++ v) ++ s → ⊥
+  main_is_no_module p v s right none e =
+      has_it 32 p (v ++ s) (subst (Lacks 32) (sym (append-nil main) ∙ simp append_assoc at (rw none at e)) (path_has_no_blank main is_path))
 
   pub says_row : LineSaysOne Entry IsProperRow (row_text main)
-  says_row (Main, r) (Main, s) p q e = ap (λ (right : Option Right). (Main, right)) (p ∙ sym q)
-  says_row (Main, r) (Of y, s) p q e =
-      absurd (main_is_no_module y.0 y.1 (replacement_suffix s) (ap (λ (o : Option Right). main ++ replacement_suffix o) (sym p) ∙ e))
-  says_row (Of x, r) (Main, s) p q e =
-      absurd (main_is_no_module x.0 x.1 (replacement_suffix r) (ap (λ (o : Option Right). main ++ replacement_suffix o) (sym q) ∙ sym e))
+  says_row (Main, r) (Main, s) p q e = rw (p, q)
+  says_row (Main, r) (Of y, s) p q e = absurd (main_is_no_module y.0 y.1 (replacement_suffix s) r p e)
+  says_row (Of x, r) (Main, s) p q e = absurd (main_is_no_module x.0 x.1 (replacement_suffix r) s q (sym e))
   says_row (Of x, r) (Of y, s) p q e =
-      let after = cut_at 32 x.0 y.0 (x.1 ++ replacement_suffix r) (y.1 ++ replacement_suffix s) (path_has_no_blank x.0 p.0) (path_has_no_blank y.0 q.0)
-      (sym (spread x.0 x.1 (replacement_suffix r)) ∙ e ∙ spread y.0 y.1 (replacement_suffix s)) in
-      let ends = cut_end 32 x.1 y.1 (replacement_suffix r) (replacement_suffix s) (version_has_no_blank x.1 p.1)
-      (version_has_no_blank y.1 q.1) (suffix_ends r) (suffix_ends s) after.1 in
-      let right : r ≡ s = says_suffix r s p.2 q.2 ends.1 in
-      ap (λ (path : List ℕ). (Of (path, x.1), r)) after.0 ∙ ap (λ (version : List ℕ). (Of (y.0, version), r)) ends.0
-      ∙ ap (λ (o : Option Right). (Of y, o)) right
+      let (path, after) = cut_at 32 x.0 y.0 (x.1 ++ replacement_suffix r) (y.1 ++ replacement_suffix s) (path_has_no_blank x.0 p.0)
+      (path_has_no_blank y.0 q.0) (simp append_assoc at e) in
+      let (version, right) = cut_end 32 x.1 y.1 (replacement_suffix r) (replacement_suffix s) (version_has_no_blank x.1 p.1)
+      (version_has_no_blank y.1 q.1) (suffix_ends r) (suffix_ends s) after in
+      rw (path, version, says_suffix r s p.2 q.2 right)
 
 pub list_has_lines : (main : List ℕ) → IsPath main → HasLines Entry IsProperRow (row_text main) (list_text main)
-list_has_lines main is = lines_are (row_text main) IsProperRow (row_has_no_feed main is)
+list_has_lines main is = lines_are (row_text main) (row_has_no_feed main is)
 
 pub text_says_rows : (main : List ℕ) → IsPath main → TextSaysAll Entry IsProperRow (list_text main)
-text_says_rows main is = text_says (row_text main) IsProperRow (list_text main) (list_has_lines main is) (says_row main is)
+text_says_rows main is = text_says (row_text main) (list_text main) (list_has_lines main is) (says_row main is)
 
 pub line_is_of_a_row : (main : List ℕ) → IsPath main → LineIsOfOne Entry IsProperRow (row_text main) (list_text main)
-line_is_of_a_row main is = found_line (row_text main) IsProperRow (list_text main) (list_has_lines main is) (says_row main is)
+line_is_of_a_row main is = found_line (row_text main) (list_text main) (list_has_lines main is) (says_row main is)

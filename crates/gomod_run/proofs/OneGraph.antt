@@ -1,14 +1,13 @@
 -- `graph`, `list` and `chain` show the same graph.
-use Rattle.std.proofs.Common.{◌≡◌, ◌≢◌, List, None, ap, subst}
-use Rattle.gm_graph_select.specs.BuildList.{Entry}
+use Rattle.std.proofs.Common.{◌≡◌, ◌≢◌, None, ap}
 use Rattle.gm_graph_select.specs.Graph.{Edges, among, edge}
 use Rattle.gm_graph_select.proofs.Same.{AreSame, same_back, same_build_list}
 use Rattle.gm_graph.specs.Run.{IsEdge, run_of}
 use Rattle.gomod_run.specs.QueryLaws.{OneGraph, OneRefusal, PartsOfOneList}
 use Rattle.gomod_run.specs.Queries.{Given, Prints, QueryEnds, bad_main, bad_sums, device, faulty, no_fault, too_many}
 use Rattle.gomod_run.specs.GraphQuery.{GraphEnds, PrintsGraph}
-use Rattle.gomod_run.specs.ChainQuery.{PrintsChain, ShowsChain}
-use Rattle.gomod_run.specs.ListQuery.{PrintsList, PrintsRows}
+use Rattle.gomod_run.specs.ChainQuery.{PrintsChain}
+use Rattle.gomod_run.specs.ListQuery.{PrintsList}
 use Rattle.gomod_run.specs.Outcome.{Outcome}
 use Rattle.gomod_run.proofs.OneOutcome.{also_printed, ends_once}
 use Rattle.gomod_run.proofs.OnePrinted.{chain_once, list_once, one_rows, shown_by}
@@ -33,7 +32,7 @@ one_graph after limit path run graph list chain is_graph is_list is_chain ends =
         graph_is = says;
         list_is = shows;
         chain_is = shown_by path main here (among edges) rows chain among_here
-            (subst (λ (es : List Entry). ShowsChain path main here es chain) rows_same tells);
+            (rw rows_same at tells);
       },
     )
 
@@ -57,4 +56,4 @@ parts_of_one_list after limit run whole part is_whole is_part ends =
     let (main, table, found, (rows, list, says)) = printed_run (PrintsList None None) run whole is_whole ends in
     let (others, listed, shows) = also_printed (PrintsList after limit) (list_once after limit) run main table found part is_part in
     let rows_same : others ≡ rows = one_rows (run_of main table run.answers.asked) others rows listed list in
-    (main, table, rows, found, list, all_rows main rows None whole says, subst (λ (es : List Entry). PrintsRows main es after limit part) rows_same shows)
+    (main, table, rows, found, list, all_rows main rows None whole says, rw rows_same at shows)

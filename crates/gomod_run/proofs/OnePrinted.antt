@@ -1,11 +1,12 @@
 -- A command prints one thing, and the same of runs with the same edges.
-use Rattle.std.proofs.Common.{◌≡◌, ◌≢◌, ◌∙◌, ◌↔◌, ℕ, Bool, true, false, List, Option, Some, None, sym, ap, refl, subst, inl, inr}
+use Rattle.std.proofs.Common.{◌≡◌, ◌≢◌, ◌∙◌, ◌↔◌, ◌⊎◌, ℕ, List, Option, Some, None, sym, ap, refl, inl, inr}
 use Rattle.std.specs.Str.{bytes_eq}
+use Rattle.std.proofs.lemmas.Bool.{cases_Bool}
 use Rattle.gm_name.proofs.Texts.{bytes_eq-differ, bytes_eq-same}
 use Rattle.gm_file.specs.Main.{Main}
 use Rattle.gm_graph_select.specs.declared.step.Step.{Step}
 use Rattle.gm_graph_select.specs.declared.step.Edge.{Edge}
-use Rattle.gm_graph_select.specs.BuildList.{Entry, HasEntryFor, IsBuildList, IsRestAfter}
+use Rattle.gm_graph_select.specs.BuildList.{Entry, HasEntryFor, IsRestAfter}
 use Rattle.gm_graph_select.specs.Chains.{IsChain}
 use Rattle.gm_graph_select.specs.Graph.{Edges, among}
 use Rattle.gm_graph_select.specs.Private.StepOrder.{edge_total}
@@ -20,9 +21,8 @@ use Rattle.gm_graph.proofs.LawProofs.{faults_total}
 use Rattle.gomod_run.specs.ChainQuery.{chain_text, PrintsChain, ShowsChain}
 use Rattle.gomod_run.specs.GraphQuery.{graph_text, PrintsGraph}
 use Rattle.gomod_run.specs.ListQuery.{up_to, list_text, PrintsList, PrintsRows, no_path, path_listed, path_unlisted}
-use Rattle.gomod_run.specs.Queries.{Prints}
-use Rattle.gomod_run.specs.Outcome.{Outcome, text_outcome, refusal_outcome}
-use Rattle.gomod_run.specs.Reports.{not_listed_line}
+use Rattle.gomod_run.specs.Queries.{IsUnlisted, Prints}
+use Rattle.gomod_run.specs.Outcome.{Outcome, text_outcome}
 use Rattle.gomod_run.proofs.FewOpened.{IsFew, edges_listed}
 
 -- ---- faults and edges
@@ -42,11 +42,7 @@ one_edges run edges others is other =
 
 -- Equality of texts is decidable, so texts are equal if it can't be refuted that they are.
 same_texts : (a b : List ℕ) → ((a ≢ b) → ⊥) → a ≡ b
-same_texts a b is = by_test (bytes_eq a b) refl
-  where
-    by_test : (r : Bool) → bytes_eq a b ≡ r → a ≡ b
-    by_test true e = bytes_eq-same a b e
-    by_test false e = absurd (is (bytes_eq-differ a b e))
+same_texts a b is = elim (cases_Bool (bytes_eq a b)) [ inl e ↦ bytes_eq-same a b e | inr e ↦ absurd (is (bytes_eq-differ a b e)) ]
 
 -- If few modules are opened, the edges are those of a list, and for a list this is known.
 one_chain_text : (run : Run) → IsFew run → (s : Step) (steps others : List Step) → IsChain (IsEdge run) s steps → IsChain (IsEdge run) s others
@@ -63,47 +59,35 @@ one_chain_text run few s steps others chain other =
 pub one_rows : (run : Run) (rows others : List Entry) → AreRows run rows → AreRows run others → rows ≡ others
 one_rows run rows others is other = same_build_lists run.main.path run.main.replaces (IsEdge run) rows others is other
 
-one_path : (after : Option (List ℕ)) (path other : List ℕ) → after ≡ Some path → after ≡ Some other → path ≡ other
-one_path after path other is be = let same : Some path ≡ Some other = sym is ∙ be in cc same
+module _ (main : Main) (rows : List Entry) (limit : Option ℕ) where
+  -- what is printed, by whether a path is given
+  abbrev pub IsShown : Option (List ℕ) → Outcome → Type 0
+  IsShown None outcome = outcome ≡ text_outcome (list_text main.path (up_to limit rows))
+  IsShown (Some path) outcome = ((others : List Entry) × IsRestAfter main.path rows path others
+      × (outcome ≡ text_outcome (list_text main.path (up_to limit others)))) ⊎ IsUnlisted main rows path outcome
 
-some_path : (after : Option (List ℕ)) (path : List ℕ) → after ≡ None → after ≡ Some path → ⊥
-some_path after path none is = let same : None ≡ Some path = sym none ∙ is in cc same
+  pub shown : (after : Option (List ℕ)) (outcome : Outcome) → PrintsRows main rows after limit outcome → IsShown after outcome
+  shown after outcome (no_path none says) = rw none says
+  shown after outcome (path_listed path others is at says) = rw is (inl (others, at, says))
+  shown after outcome (path_unlisted path is says) = rw is (inr says)
 
-module _ (main : Main) (rows : List Entry) (after : Option (List ℕ)) (limit : Option ℕ) (a b : Outcome) where
-  -- a path that has a row has one list of rows after it
-  one_rest : (path other : List ℕ) (here there : List Entry) → path ≡ other → IsRestAfter main.path rows path here
-      → IsRestAfter main.path rows other there → here ≡ there
-  one_rest path other here there same is be = by_entries (subst (λ (p : List ℕ). IsRestAfter main.path rows p here) same is) be
-    where
-      by_entries : IsRestAfter main.path rows other here → IsRestAfter main.path rows other there → here ≡ there
-      by_entries (entry, at) (first, begun) = (one_at main.path rows other entry first here there at begun).1
+  -- a path that has a row is listed
+  rest_listed : (path : List ℕ) (others : List Entry) → IsRestAfter main.path rows path others → HasEntryFor main.path rows path
+  rest_listed path others (entry, at) = entry_listed main.path rows path entry.0 (entry, others, at, refl)
 
-  -- and it is listed
-  rest_listed : (path other : List ℕ) (others : List Entry) → path ≡ other → IsRestAfter main.path rows path others → ¬ (HasEntryFor main.path rows other) → ⊥
-  rest_listed path other others same (entry, at) none =
-      none (subst (λ (p : List ℕ). HasEntryFor main.path rows p) same (entry_listed main.path rows path entry.0 (entry, others, at, refl)))
-
-  one_text : PrintsRows main rows after limit a → PrintsRows main rows after limit b → a ≡ b
-  one_text (no_path none says) (no_path nothing tells) = says ∙ sym tells
-  one_text (no_path none says) (path_listed path others is at tells) = absurd (some_path after path none is)
-  one_text (no_path none says) (path_unlisted path is tells) = absurd (some_path after path none is)
-  one_text (path_listed path others is at says) (no_path none tells) = absurd (some_path after path none is)
-  one_text (path_listed path others is at says) (path_listed other more be begun tells) =
+  one_text : (after : Option (List ℕ)) (a b : Outcome) → IsShown after a → IsShown after b → a ≡ b
+  one_text None a b says tells = says ∙ sym tells
+  one_text (Some path) a b (inl (others, (entry, at), says)) (inl (more, (first, begun), tells)) =
       says ∙ ap (λ (es : List Entry). text_outcome (list_text main.path (up_to limit es)))
-      (one_rest path other others more (one_path after path other is be) at begun) ∙ sym tells
-  one_text (path_listed path others is at says) (path_unlisted other be tells) =
-      absurd (rest_listed path other others (one_path after path other is be) at tells.0)
-  one_text (path_unlisted path is says) (no_path none tells) = absurd (some_path after path none is)
-  one_text (path_unlisted path is says) (path_listed other more be begun tells) =
-      absurd (rest_listed other path more (one_path after other path be is) begun says.0)
-  one_text (path_unlisted path is says) (path_unlisted other be tells) =
-      says.1 ∙ ap (λ (p : List ℕ). refusal_outcome (not_listed_line p)) (one_path after path other is be) ∙ sym tells.1
+      (one_at main.path rows path entry first others more at begun).1 ∙ sym tells
+  one_text (Some path) a b (inl (others, at, says)) (inr (none, tells)) = absurd (none (rest_listed path others at))
+  one_text (Some path) a b (inr (none, says)) (inl (others, at, tells)) = absurd (none (rest_listed path others at))
+  one_text (Some path) a b (inr (none, says)) (inr (other, tells)) = says ∙ sym tells
 
 one_shown : (path : List ℕ) (run : Run) (rows : List Entry) (a b : Outcome) → IsFew run
     → ShowsChain path run.main (IsEdge run) rows a → ShowsChain path run.main (IsEdge run) rows b → a ≡ b
 one_shown path run rows a b few (inl (s, steps, entry, chain, says)) (inl (t, more, first, other, tells)) =
-    let one : IsChain (IsEdge run) t steps = subst (λ (u : Step). IsChain (IsEdge run) u steps) (one_entry run.main.path rows path s t entry first) chain in
-    says ∙ ap text_outcome (one_chain_text run few t steps more one other) ∙ sym tells
+    says ∙ ap text_outcome (one_chain_text run few t steps more (rw (one_entry run.main.path rows path s t entry first) at chain) other) ∙ sym tells
 one_shown path run rows a b few (inl (s, steps, entry, chain, says)) (inr (none, tells)) = absurd (none (entry_listed run.main.path rows path s entry))
 one_shown path run rows a b few (inr (none, says)) (inl (t, more, first, other, tells)) = absurd (none (entry_listed run.main.path rows path t first))
 one_shown path run rows a b few (inr (none, says)) (inr (other, tells)) = says ∙ sym tells
@@ -118,9 +102,7 @@ module _ (r s : Run) (main_is : r.main ≡ s.main) (same : AreSame (IsEdge r) (I
   }
 
   rows_alike : (rows : List Entry) → AreRows r rows → AreRows s rows
-  rows_alike rows are =
-      subst (λ (m : Main). IsBuildList m.path m.replaces (IsEdge s) rows) main_is
-      (same_build_list r.main.path r.main.replaces (IsEdge r) (IsEdge s) rows same are)
+  rows_alike rows are = rw main_is at (same_build_list r.main.path r.main.replaces (IsEdge r) (IsEdge s) rows same are)
 
 pub shown_by : (path : List ℕ) (main : Main) (E F : Edges) (rows : List Entry) (outcome : Outcome) → AreSame E F
     → ShowsChain path main E rows outcome → ShowsChain path main F rows outcome
@@ -135,41 +117,26 @@ pub record PrintsOnce (prints : Prints) : Type 0 where
   pub alike : (r s : Run) (a : Outcome) → r.main ≡ s.main → AreSame (IsEdge r) (IsEdge s) → prints r a → prints s a
 
 pub graph_once : PrintsOnce PrintsGraph
-graph_once = record { once = one; alike = other }
-  where
-    one : (run : Run) (a b : Outcome) → IsFew run → PrintsGraph run a → PrintsGraph run b → a ≡ b
-    one run a b few (edges, are, says) (others, be, tells) =
-        says ∙ ap (λ (es : List Edge). text_outcome (graph_text run.main.path es)) (one_edges run edges others are be) ∙ sym tells
-
-    other : (r s : Run) (a : Outcome) → r.main ≡ s.main → AreSame (IsEdge r) (IsEdge s) → PrintsGraph r a → PrintsGraph s a
-    other r s a main_is same (edges, are, says) =
-        (edges, edges_alike r s main_is same edges are, subst (λ (m : Main). a ≡ text_outcome (graph_text m.path edges)) main_is says)
+graph_once = record {
+  once = λ run a b few is other.
+      is.2 ∙ ap (λ (edges : List Edge). text_outcome (graph_text run.main.path edges)) (one_edges run is.0 other.0 is.1 other.1) ∙ sym other.2;
+  alike = λ r s a main_is same is. (is.0, edges_alike r s main_is same is.0 is.1, rw main_is at is.2);
+}
 
 pub list_once : (after : Option (List ℕ)) (limit : Option ℕ) → PrintsOnce (PrintsList after limit)
-list_once after limit = record { once = one; alike = other }
-  where
-    one : (run : Run) (a b : Outcome) → IsFew run → PrintsList after limit run a → PrintsList after limit run b → a ≡ b
-    one run a b few (rows, are, says) (others, be, tells) =
-        one_text run.main others after limit a b (subst (λ (es : List Entry). PrintsRows run.main es after limit a)
-        (one_rows run rows others are be) says) tells
-
-    other : (r s : Run) (a : Outcome) → r.main ≡ s.main → AreSame (IsEdge r) (IsEdge s) → PrintsList after limit r a → PrintsList after limit s a
-    other r s a main_is same (rows, are, says) =
-        (rows, rows_alike r s main_is same rows are, subst (λ (m : Main). PrintsRows m rows after limit a) main_is says)
+list_once after limit = record {
+  once = λ run a b few is other.
+      one_text run.main other.0 limit after a b
+      (shown run.main other.0 limit after a (rw (one_rows run is.0 other.0 is.1 other.1) at is.2)) (shown run.main other.0 limit after b other.2);
+  alike = λ r s a main_is same is. (is.0, rows_alike r s main_is same is.0 is.1, rw main_is at is.2);
+}
 
 pub chain_once : (path : List ℕ) → PrintsOnce (PrintsChain path)
-chain_once path = record { once = one; alike = other }
-  where
-    one : (run : Run) (a b : Outcome) → IsFew run → PrintsChain path run a → PrintsChain path run b → a ≡ b
-    one run a b few (rows, are, says) (others, be, tells) =
-        one_shown path run others a b few (subst (λ (es : List Entry). ShowsChain path run.main (IsEdge run) es a) (one_rows run rows others are be) says) tells
-
-    other : (r s : Run) (a : Outcome) → r.main ≡ s.main → AreSame (IsEdge r) (IsEdge s) → PrintsChain path r a → PrintsChain path s a
-    other r s a main_is same (rows, are, says) =
-        let here : Edges = IsEdge r in
-        let there : Edges = IsEdge s in (
-          rows,
-          rows_alike r s main_is same rows are,
-          subst (λ (m : Main). ShowsChain path m there rows a) main_is
-              (shown_by path r.main here there rows a same says),
-        )
+chain_once path = record {
+  once = λ run a b few is other. one_shown path run other.0 a b few (rw (one_rows run is.0 other.0 is.1 other.1) at is.2) other.2;
+  alike = λ r s a main_is same is. (
+    is.0,
+    rows_alike r s main_is same is.0 is.1,
+    rw main_is at (shown_by path r.main (IsEdge r) (IsEdge s) is.0 a same is.2),
+  );
+}

@@ -1,8 +1,10 @@
 -- What `list` prints is the build list, in pages or at once.
-use Rattle.std.proofs.Common.{◌≡◌, ◌≢◌, ◌∙◌, ◌⊎◌, ◌<◌, ℕ, zero, suc, Bool, true, false, List, [], ◌∷◌, ◌++◌, take, map, Option, Some, None, Contains, ap, sym, refl, subst, inl, inr, arith}
+use Rattle.std.proofs.Common.{◌≡◌, ◌≢◌, ◌∙◌, ◌⊎◌, ◌<◌, ℕ, false, List, [], ◌∷◌, ◌++◌, take, map, Option, Some, None, Contains, ap, sym, refl, subst, inl, inr, arith}
 use Rattle.std.specs.List.{flat_map}
 use Rattle.std.specs.Ordering.{is_gt}
 use Rattle.std.specs.Str.{bytes_eq}
+use Rattle.std.proofs.Math.Seq.{take-nil}
+use Rattle.std.proofs.lemmas.Bool.{cases_Bool}
 use Rattle.std.proofs.lemmas.Grind.{flat_map-append}
 use Rattle.gm_name.specs.Version.{version_cmp}
 use Rattle.gm_name.specs.ModuleVersion.{ModuleVersion}
@@ -22,9 +24,10 @@ use Rattle.gm_graph.specs.Run.{AreRows, IsEdge, IsVertex, Run, run_of}
 use Rattle.gm_graph_select.proofs.RankedLists.{from_mapped, in_mapped}
 use Rattle.gomod_run.specs.QueryLaws.{AreGreatest, ArePrintedPages, ListIsBuildList, PrintedPagesJoin, no_row, one_page}
 use Rattle.gomod_run.specs.Queries.{AreFound, Given, Prints, QueryEnds, bad_main, bad_sums, device, faulty, no_fault, too_many}
-use Rattle.gomod_run.specs.ListQuery.{ListEnds, PrintsList, PrintsRows, no_path, path_listed, path_unlisted, up_to, list_text}
+use Rattle.gomod_run.specs.ListQuery.{ListEnds, PrintsList, PrintsRows, no_path, path_listed, up_to, list_text}
 use Rattle.gomod_run.specs.Outcome.{Outcome, failure_outcome, text_outcome, refusal_outcome}
 use Rattle.gomod_run.proofs.FewOpened.{IsFew, edges_listed}
+use Rattle.gomod_run.proofs.OnePrinted.{shown}
 
 -- ---- a run that prints
 
@@ -48,33 +51,33 @@ printed_run prints run outcome (no_fault main table found says) is = (main, tabl
 -- without a path all rows are printed
 pub all_rows : (main : Main) (rows : List Entry) (limit : Option ℕ) (outcome : Outcome)
     → PrintsRows main rows None limit outcome → outcome ≡ text_outcome (list_text main.path (up_to limit rows))
-all_rows main rows limit outcome (no_path none says) = says
-all_rows main rows limit outcome (path_listed path others is at says) = absurd (cc is)
-all_rows main rows limit outcome (path_unlisted path is says) = absurd (cc is)
+all_rows main rows limit = shown main rows limit None
 
 -- ---- the build list of edges that are given as a relation
 
-module _ (run : Run) (few : IsFew run) (rows : List Entry) (list : AreRows run rows) where
-  with_path : (path : List ℕ) (xs : List ModuleVersion) → ((x : ModuleVersion) × Contains xs x × (x.0 ≡ path))
-      ⊎ ((x : ModuleVersion) → Contains xs x → x.0 ≢ path)
-  with_path path [] = inr (λ x there. absurd (no_member x there))
-  with_path path (first ∷ xs) = by_test (bytes_eq first.0 path) refl (with_path path xs)
-    where
-      by_test : (b : Bool) → bytes_eq first.0 path ≡ b → ((x : ModuleVersion) × Contains xs x × (x.0 ≡ path))
-          ⊎ ((x : ModuleVersion) → Contains xs x → x.0 ≢ path)
-          → ((x : ModuleVersion) × Contains (first ∷ xs) x × (x.0 ≡ path)) ⊎ ((x : ModuleVersion) → Contains (first ∷ xs) x → x.0 ≢ path)
-      by_test true e rest = inl (first, member_head first xs, bytes_eq-same first.0 path e)
-      by_test false e (inl (x, there, is)) = inl (x, member_tail first x xs there, is)
-      by_test false e (inr none) = inr (λ x there. elim (member_cases first x xs there) [
-        | inl same ↦ subst (λ (z : ModuleVersion). z.0 ≢ path) same (bytes_eq-differ first.0 path e)
-        | inr behind ↦ none x behind
-      ])
+with_path : (path : List ℕ) (xs : List ModuleVersion) → ((x : ModuleVersion) × Contains xs x × (x.0 ≡ path))
+    ⊎ ((x : ModuleVersion) → Contains xs x → x.0 ≢ path)
+with_path path [] = inr (λ x there. absurd (no_member x there))
+with_path path (first ∷ xs) = elim (cases_Bool (bytes_eq first.0 path)) [
+  | inl same ↦ inl (first, member_head first xs, bytes_eq-same first.0 path same)
+  | inr other ↦ elim (with_path path xs) [
+    | inl found ↦ inl (found.0, member_tail first found.0 xs found.1, found.2)
+    | inr none ↦ inr (λ x there. elim (member_cases first x xs there) [
+      | inl same ↦ subst (λ (z : ModuleVersion). z.0 ≢ path) same (bytes_eq-differ first.0 path other)
+      | inr behind ↦ none x behind
+    ])
+  ]
+]
 
+module _ (run : Run) (few : IsFew run) (rows : List Entry) (list : AreRows run rows) where
   abbrev Satisfied : ModuleVersion → Type 0
   Satisfied y = (x : ModuleVersion) × Contains list.selected x × (x.0 ≡ y.0) × (is_gt (version_cmp y.1 x.1) ≡ false)
 
   satisfied : (y : ModuleVersion) → IsVertex run y → y.0 ≢ run.main.path → Satisfied y
-  satisfied y (from, is) apart = go (with_path y.0 list.selected)
+  satisfied y (from, is) apart = elim (with_path y.0 list.selected) [
+    | inl found ↦ (found.0, found.1, found.2, ((list.each found.0).0 found.1).greatest y (from, is) (sym found.2))
+    | inr none ↦ absurd (edges_listed run few (listed none))
+  ]
     where
       listed : ((x : ModuleVersion) → Contains list.selected x → x.0 ≢ y.0) → (edges : List Edge) → AreSame (among edges) (IsEdge run) → ⊥
       listed none edges same =
@@ -82,10 +85,6 @@ module _ (run : Run) (few : IsFew run) (rows : List Entry) (list : AreRows run r
           same_build_list run.main.path run.main.replaces (IsEdge run) (among edges) rows (same_back (among edges) (IsEdge run) same) list in
           let (x, right, row, path, high) = rows_satisfy run.main.path run.main.replaces edges rows among_list y (from, (same from y).1 is) apart in
           none x ((list.each x).1 (row_selected run.main.path run.main.replaces (IsEdge run) rows list x right row)) path
-
-      go : ((x : ModuleVersion) × Contains list.selected x × (x.0 ≡ y.0)) ⊎ ((x : ModuleVersion) → Contains list.selected x → x.0 ≢ y.0) → Satisfied y
-      go (inl (x, there, same)) = (x, there, same, ((list.each x).0 there).greatest y (from, is) (sym same))
-      go (inr none) = absurd (edges_listed run few (listed none))
 
   pub greatest : AreGreatest run list.selected
   greatest = record {
@@ -139,10 +138,6 @@ module _ (main : List ℕ) (replaces : List Replacing) (E : Edges) (rows : List 
       let (pages, are) = pages_exist main replaces own_edges rows n some own_list in
       (pages, are, rows_join main replaces own_edges rows n pages own_list are)
 
-take_none : (n : ℕ) → take {A = Entry} n [] ≡ []
-take_none zero = refl
-take_none (suc n) = refl
-
 pub texts_join : (main : List ℕ) (pages : List (List Entry)) → list_text main (entries_of_pages pages) ≡ flat_map (list_text main) pages
 texts_join main [] = refl
 texts_join main (page ∷ pages) = flat_map-append _ page (entries_of_pages pages) ∙ ap (λ (t : List ℕ). list_text main page ++ t) (texts_join main pages)
@@ -161,13 +156,9 @@ module _ (run : Given) (main : Main) (table : Option Sums) (found : AreFound run
 
   paged : {left : List Entry} {pages : List (List Entry)} (after : Option (List ℕ)) → AreLeft after left
       → AreRowPages main.path rows n left pages → ArePrintedPages run main.path n after pages
-  paged after is no_more = no_row (subst (λ (es : List Entry).
-      ListEnds after (Some n) run (text_outcome (list_text main.path es))) (take_none n) (page_printed after [] is))
+  paged after is no_more = no_row (rw take-nil at (page_printed after [] is))
   paged after is (one_more {left} {rest} {pages} front last page behind more) =
-      subst (λ (es : List Entry). ArePrintedPages run main.path n after (es ∷ pages)) (sym page)
-      (one_page front last
-      (subst (λ (es : List Entry). ListEnds after (Some n) run (text_outcome (list_text main.path es))) page (page_printed after left is))
-      (paged (Some (path_of main.path last.0)) behind more))
+      rw page (one_page front last (rw page at (page_printed after left is)) (paged (Some (path_of main.path last.0)) behind more))
 
 pub pages_join : PrintedPagesJoin
 pages_join run n whole some is ends =
@@ -178,7 +169,7 @@ pages_join run n whole some is ends =
       table,
       pages,
       found,
-      subst (λ (es : List Entry). AreRows r es) (sym joins) list,
+      rw joins list,
       paged run main table found rows list n None refl paging,
       ap (λ (o : Outcome). o.text) (all_rows main rows None whole says) ∙ ap (list_text main.path) (sym joins) ∙ texts_join main.path pages,
     )

@@ -12,6 +12,9 @@ use Rattle.gm_syntax.specs.Words.{Word}
 use Rattle.gm_file_edit.specs.Edited.{lines_after}
 use Rattle.gm_file_edit.specs.Edits.{Edit as Change, edit_in}
 use Rattle.gm_file_edit.proofs.Places.{edited-same}
+use Rattle.gm_file.specs.Directives.{Strict}
+use Rattle.gm_file.specs.Misreading.{IsMisread}
+use Rattle.gm_file.specs.declared.misreading.Misreading.TheVariants as misreading
 use Rattle.gomod_run.specs.Outcome.{Outcome, text_outcome, refusal_outcome}
 use Rattle.gomod_run.specs.Reports.{FaultPlace, main_line, syntax_place}
 use Rattle.gomod_run.proofs.OneRead.{misread_or_lines, one_place, same_lines}
@@ -27,20 +30,20 @@ no_fault file lines faults.TooMany place good bad named = let short = good.0.0 i
 no_fault file lines faults.NotUtf8 place good bad named = bad.1 good.0.1
 no_fault file lines (faults.Syntax line kind) place good bad named = let ends = (good.1.only bad.1 (Faulty line kind) bad.2.reads).1 in cc
 
+-- a file with such a fault is misread
+syntax_misread : (file : List ℕ) (fault : SyntaxFault) → IsParsedAs file (Err fault)
+    → (place : FaultPlace) × (syntax_place fault ≡ Some place) × IsMisread Strict file place.0 place.1
+syntax_misread file faults.NoMemory bad = absurd bad
+syntax_misread file faults.TooMany bad = ((0, misreading.TooMany), refl, (refl, bad))
+syntax_misread file faults.NotUtf8 bad = ((0, misreading.NotUtf8), refl, (refl, bad))
+syntax_misread file (faults.Syntax line kind) bad = ((line, misreading.Syntax kind), refl, bad)
+
 same_place : (file : List ℕ) (one other : SyntaxFault) (here there : FaultPlace) → IsParsedAs file (Err one) → IsParsedAs file (Err other)
     → syntax_place one ≡ Some here → syntax_place other ≡ Some there → here ≡ there
-same_place file faults.NoMemory other here there a b p q = absurd (cc)
-same_place file one faults.NoMemory here there a b p q = absurd (cc)
-same_place file faults.TooMany faults.TooMany here there a b p q = cc
-same_place file faults.TooMany faults.NotUtf8 here there a b p q = let short = b.0 in absurd (omega arith)
-same_place file faults.TooMany (faults.Syntax line kind) here there a b p q = let short = b.0.0 in absurd (omega arith)
-same_place file faults.NotUtf8 faults.TooMany here there a b p q = let short = a.0 in absurd (omega arith)
-same_place file faults.NotUtf8 faults.NotUtf8 here there a b p q = cc
-same_place file faults.NotUtf8 (faults.Syntax line kind) here there a b p q = absurd (a.1 b.0.1)
-same_place file (faults.Syntax line kind) faults.TooMany here there a b p q = let short = a.0.0 in absurd (omega arith)
-same_place file (faults.Syntax line kind) faults.NotUtf8 here there a b p q = absurd (b.1 a.0.1)
-same_place file (faults.Syntax line kind) (faults.Syntax row sort) here there a b p q =
-    let ends = (a.2.only b.1 (Faulty row sort) b.2.reads).1 in cc
+same_place file one other here there a b p q =
+    let (first, is, misread) = syntax_misread file one a in
+    let (second, be, read) = syntax_misread file other b in
+    cc (p, q, is, be, one_place file first second misread read)
 
 pub fmt_once : (file : List ℕ) (one other : Outcome) → FmtEnds file one → FmtEnds file other → one ≡ other
 fmt_once file one other (laid_out lines parsed says) (laid_out others read tells) =
