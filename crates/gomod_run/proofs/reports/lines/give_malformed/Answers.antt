@@ -1,17 +1,7 @@
-use Rattle.std.proofs.Common.{◌∙◌, ◌++◌, List, [], ap₂, codes, sym, ℕ}
-use Rattle.gomod_run.proofs.ReportLines.{gives_same, module_malformed}
-use Rattle.gomod_run.specs.LineParts.{line, vertex_text}
+use Rattle.gomod_run.proofs.ReportLines.{module_malformed}
 use Rattle.gomod_run.proofs.reports.lines.give_malformed.Goals as goal
 
 pub returns : goal.returns
 returns g c =
-    let word = c.args.word.now in
-    let number = c.args.number.now in
-    let rest = codes ": Malformed " ++ (number ++ (codes " " ++ (word ++ []))) in
-    gives_same (g.R.Sink.state c.args.sink.now) (g.R.Sink.state c.give_line.new.sink) c.args.buffer.now
-    c.give_line.new.self (line (c.as_str.result.now ++ (codes "@" ++ (c.as_str-2.result.now ++ rest))))
-    (line (vertex_text (c.args.path.now, c.args.version.now) ++ codes ": "
-    ++ (codes "Malformed " ++ number ++ codes " " ++ word))) c.give_line.result
-    (module_malformed c.args.path.now c.args.version.now number word
-    ∙ ap₂ (λ (p v : List ℕ). line (p ++ (codes "@" ++ (v ++ rest)))) (sym c.as_str.ensures.text)
-    (sym c.as_str-2.ensures.text)) c.give_line.ensures
+    rw (module_malformed c.args.path.now c.args.version.now c.args.number.now c.args.word.now)
+    (rw (c.as_str.ensures.text, c.as_str-2.ensures.text) at c.give_line.ensures)

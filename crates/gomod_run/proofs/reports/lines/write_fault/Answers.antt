@@ -1,15 +1,10 @@
-use Rattle.gomod_run.specs.Reports.{fault_line}
 use Rattle.gomod_run.proofs.Waiting.{took_given, took_part}
 use Rattle.gomod_run.proofs.reports.lines.write_fault.Goals as goal
 
 pub returns-in_err-give_fault : goal.returns-in_err-give_fault
 returns-in_err-give_fault g c =
-    took_part (g.R.Sink.state c.args.sink.now) (g.R.Sink.state c.give_fault.new.sink) c.new-buffer.result
-    c.give_fault.new.buffer (fault_line (c.args.path.now, c.args.version.now) c.args.class) c.in_err-give_fault.field-0.0
-    c.from_residual.result c.new-buffer.ensures c.from_residual.ensures.0 c.in_err-give_fault.ensures
+    took_part _ _ _ c.give_fault.new.buffer _ c.in_err-give_fault.field-0.0 c.from_residual.result c.new-buffer.ensures
+    c.from_residual.ensures.0 c.in_err-give_fault.ensures
 
 pub returns : goal.returns
-returns g c =
-    took_given (g.R.Sink.state c.args.sink.now) (g.R.Sink.state c.give_fault.new.sink) (g.R.Sink.state c.end.new.sink)
-    c.new-buffer.result c.give_fault.new.buffer (fault_line (c.args.path.now, c.args.version.now) c.args.class)
-    c.in_ok-give_fault.field-0 c.end.result c.new-buffer.ensures c.in_ok-give_fault.ensures c.end.ensures.ended
+returns g c = took_given _ _ _ _ _ _ tt c.end.result c.new-buffer.ensures c.in_ok-give_fault.ensures c.end.ensures.ended
