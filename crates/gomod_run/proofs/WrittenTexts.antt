@@ -16,25 +16,25 @@ use Rattle.gomod_run.specs.Written.{EndsAsStated, IsWritten}
 -- ---- texts and reports
 
 -- a text, if it was written, or a prefix of it
-pub text_written : (out out' report : SinkState) (text : List ℕ) → TookAll out out' text
+pub text_written : {out out' : SinkState} (report : SinkState) {text : List ℕ} → TookAll out out' text
     → IsWritten (text_outcome text) out out' report report 0
-text_written out out' report text took = inl ((took, took_nothing report), refl)
+text_written report took = inl ((took, took_nothing report), refl)
 
-pub text_cut : (out out' report : SinkState) (text : List ℕ) → TookPrefix out out' text
+pub text_cut : {out out' : SinkState} (report : SinkState) {text : List ℕ} → TookPrefix out out' text
     → IsWritten (text_outcome text) out out' report report 3
-text_cut out out' report text part = inr (inl (part, refl), refl)
+text_cut report part = inr (inl (part, refl), refl)
 
 -- a report, if it was written, or a prefix of it
-pub report_written : (out report report' : SinkState) (told : Report) (status : ℕ) → status ≡ code_of (report_status told)
+pub report_written : {report report' : SinkState} (out : SinkState) (told : Report) {status : ℕ} → status ≡ code_of (report_status told)
     → TookAll report report' (report_text told) → IsWritten (report_outcome told) out out report report' status
-report_written out report report' told status same took = inl ((took_nothing out, took), same)
+report_written out told same took = inl ((took_nothing out, took), same)
 
-pub report_cut : (out report report' : SinkState) (told : Report) → TookPrefix report report' (report_text told)
+pub report_cut : {report report' : SinkState} (out : SinkState) (told : Report) → TookPrefix report report' (report_text told)
     → IsWritten (report_outcome told) out out report report' 3
-report_cut out report report' told part = inr (inr (took_nothing out, part), refl)
+report_cut out told part = inr (inr (took_nothing out, part), refl)
 
 -- a usage error, whether it was written or a prefix of it
-pub usage_written : (out report report' : SinkState) (text : List ℕ) (written : Result (Unit {0}) WriteFault) (status : ℕ)
+pub usage_written : (out : SinkState) (report report' : SinkState) (text : List ℕ) (written : Result (Unit {0}) WriteFault) (status : ℕ)
     → MatchResult written (λ _. status ≡ 2) (λ _. status ≡ 3) → Took report report' text written
     → IsWritten (usage_error text) out out report report' status
 usage_written out report report' text (Ok u) status same took = inl ((took_nothing out, took), same)
@@ -54,8 +54,6 @@ usage_utf8 (Version text) = IsUtf8-string_bytes text
 usage_utf8 fault = IsUtf8-nil
 
 -- an end with a usage error, or with help or the version
-pub usage_ends : (fault : UsageFault) (out out' report report' : SinkState) (status : ℕ)
-    → IsWritten (usage_outcome fault) out out' report report' status
-    → EndsAsStated (λ outcome. outcome ≡ usage_outcome fault) out out' report report' status
-usage_ends fault out out' report report' status written =
-    record { outcome = usage_outcome fault; as_stated = inl refl; utf8 = usage_utf8 fault; written = written }
+pub usage_ends : {stated : Outcome → Type 0} {out out' report report' : SinkState} {status : ℕ} (fault : UsageFault) → stated (usage_outcome fault)
+    → IsWritten (usage_outcome fault) out out' report report' status → EndsAsStated stated out out' report report' status
+usage_ends fault is written = record { outcome = usage_outcome fault; as_stated = inl is; utf8 = usage_utf8 fault; written = written }

@@ -41,15 +41,10 @@ fn over_folders<
     let read = read_inputs(rt, command, places)?;
     let folder = store_folder(rt.alloc(), command, places.main.as_str())?;
     let mut files = folders_of(rt, folder, folders);
-    Ok(run(
-        rt.alloc(),
-        command,
-        read.main(),
-        read.sums(),
-        &mut files,
-        out,
-        report,
-    ))
+    let alloc = rt.alloc();
+    let main = read.main();
+    let sums = read.sums();
+    Ok(run(alloc, command, main, sums, &mut files, out, report))
 }
 
 /// Runs a command over a store in memory. If something can't be read, nothing is written.
@@ -66,15 +61,10 @@ fn over_memory<'a, S: StandardInput + FileSystem + Alloc<A = Global>, O: Sink, R
 {
     let read = read_inputs(rt, command, places)?;
     let mut files = memory_of(rt, command)?;
-    Ok(run(
-        rt.alloc(),
-        command,
-        read.main(),
-        read.sums(),
-        &mut files,
-        out,
-        report,
-    ))
+    let alloc = rt.alloc();
+    let main = read.main();
+    let sums = read.sums();
+    Ok(run(alloc, command, main, sums, &mut files, out, report))
 }
 
 /// The status of a command that was run; or, if something could not be read, that of its report, which is written.

@@ -1,7 +1,7 @@
 //! Reading the files that a command works on: the main file, then the go.sum if one is named. Either may be standard
 //! input, whose name is `-`.
 
-ghost use Rattle.std.specs.Prelude.{◌≡◌, IfErr, IfOk, MatchResult, Ok, Option, Some};
+ghost use Rattle.std.specs.Prelude.{◌≡◌, IfErr, IfOk, MatchResult, None, Ok, Option, Some, false};
 ghost use Rattle.std.specs.Option.{option_map};
 ghost use Rattle.std.specs.String.{string_bytes};
 ghost use Rattle.gm_store.specs.Openings.{MayRead};
@@ -158,6 +158,8 @@ pub(crate) fn read_inputs<'a, S: StandardInput + FileSystem + Alloc<A = Global>>
         (main_input command.now (string_bytes places.now.main)) inputs.main) }
     ensures sums { IfOk result (λ inputs. IsInput (FileGives (S.may_open rt.now) (S.may_take rt.now))
         (sums_input command.now (option_map string_bytes places.now.sums)) inputs.sums) }
+    ensures no_sums { IfOk result (λ inputs. is_query command.now ≡ false
+        → option_map (λ sums. sums.items) inputs.sums ≡ None) }
     ensures unread { (proxy : Option ProxyList) → IfErr result (λ told.
         OrNoMemory (CommandEnds (S.may_open rt.now) (S.may_take rt.now) command.now (string_bytes places.now.main)
         (option_map string_bytes places.now.sums) proxy) (report_outcome told)) }

@@ -6,14 +6,11 @@ use Rattle.gomod_run.proofs.program.ending_of.Goals as goal
 
 pub returns-in-Ok-texts_of : goal.returns-in-Ok-texts_of
 returns-in-Ok-texts_of g c =
-    program_ends (g.S.FileSystem.may_open c.args.rt.now) (g.S.StandardInput.may_take c.args.rt.now)
-    (g.S.Words.given c.args.rt.now) _ _ c.in-Ok.words.items _ _ _ _ _ _
-    c.in-Ok.ensures.words c.in-Ok-texts_of.ensures c.ending_of_words.ensures (search rules) (search rules)
+    program_ends _ _ _ _ _ c.in-Ok.words.items _ c.in-Ok.ensures.words c.in-Ok-texts_of.ensures c.ending_of_words.ensures
+    (search rules) (search rules)
 
 pub returns-in-Err : goal.returns-in-Err
-returns-in-Err g c =
-    unreadable_ends (g.S.FileSystem.may_open c.args.rt.now) (g.S.StandardInput.may_take c.args.rt.now)
-    (g.S.Words.given c.args.rt.now) c.in-Err.fault _ _ _ _ _ c.in-Err.ensures.fault c.ending_of_fault.ensures
+returns-in-Err g c = unreadable_ends _ _ _ c.in-Err.fault c.in-Err.ensures.fault c.ending_of_fault.ensures
 
 pub returns : goal.returns
 returns g c = record {

@@ -4,10 +4,7 @@ use Rattle.gomod_run.proofs.WrittenTexts.{report_cut, report_written}
 use Rattle.gomod_run.proofs.writing.write_report.Goals as goal
 
 pub returns-in-Ok : goal.returns-in-Ok
-returns-in-Ok g c = λ out.
-    report_written out (g.R.Sink.state c.args.report.now) (g.R.Sink.state c.write.new.sink) c.args.told.now
-    (code_of c.status.result) (ap code_of c.status.ensures) c.in-Ok.ensures
+returns-in-Ok g c = λ out. report_written out c.args.told.now (ap code_of c.status.ensures) c.in-Ok.ensures
 
 pub returns-in-Err : goal.returns-in-Err
-returns-in-Err g c = λ out.
-    report_cut out (g.R.Sink.state c.args.report.now) (g.R.Sink.state c.write.new.sink) c.args.told.now c.in-Err.ensures
+returns-in-Err g c = λ out. report_cut out c.args.told.now c.in-Err.ensures
