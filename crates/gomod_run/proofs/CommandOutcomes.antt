@@ -1,5 +1,6 @@
 -- What the commands do with what was found.
 use Rattle.std.proofs.Common.{◌≡◌, ◌∙◌, ◌++◌, ℕ, Bool, List, [], ◌∷◌, Option, Some, None, Result, Ok, Err, IfOk, MatchResult, sym, refl, subst, ap, inl, inr, append-nil, drop, length}
+use Rattle.std.proofs.Math.Logic.{⊎_map}
 use Rattle.std.proofs.Math.Seq.{drop-append_seam}
 use Rattle.std.proofs.lemmas.List.{append_cancel_left}
 use Rattle.gm_syntax.specs.Document.{Line}
@@ -20,7 +21,7 @@ use Rattle.gm_graph_select.specs.BuildList.{Entry, IsRestAfter}
 use Rattle.gm_graph_select.specs.Graph.{among, edge}
 use Rattle.gm_graph_select.proofs.Same.{same_chain}
 use Rattle.gm_graph.specs.declared.fault.Fault.{Fault}
-use Rattle.gm_graph.specs.Run.{AreFaults, AreTooMany, AskedInTurn, IsDue, IsEdge, IsRead, LoadingNeeds, Run, run_of}
+use Rattle.gm_graph.specs.Run.{AreTooMany, AskedInTurn, IsDue, IsEdge, IsRead, LoadingNeeds, Run, run_of}
 use Rattle.gm_graph.specs.Outcome.{IsLoaded, LoadedGraph as Loaded}
 use Rattle.gomod_run.specs.declared.reports.report.Report.{Report}
 use Rattle.gomod_run.specs.FromFaults.{report_by_bytes, report_by_load}
@@ -30,20 +31,20 @@ use Rattle.gomod_run.specs.declared.queries.answering.Read.{Read}
 use Rattle.gomod_run.specs.declared.queries.query.Query.{Query}
 use Rattle.gomod_run.specs.declared.queries.query.Query.TheVariants.{Graph, List as Rows, Chain}
 use Rattle.gomod_run.specs.ListQuery.{up_to, list_text, PrintsRows, path_listed}
-use Rattle.gomod_run.specs.Queries.{AreInvalidSums, AreSums, FilesReadAs, Given, QueryEnds, answers_of, bad_main, bad_sums, device, faulty, given_of, no_fault, too_many}
+use Rattle.gomod_run.specs.Queries.{AreFound, AreInvalidSums, AreSums, FilesReadAs, Given, Prints, QueryEnds, answers_of, device, faulty, given_of, no_fault, too_many}
 use Rattle.gomod_run.specs.Needs.{AnswersByName, FailsInTurn, GraphNeeds}
 use Rattle.gomod_run.specs.Private.Refusals.{IsRefusedRead}
 use Rattle.gomod_run.specs.Runs.{ComesTo, Needs, RunEnds, command_of, run_between}
 use Rattle.gomod_run.specs.Private.ByCommand.{PrintsOf}
 use Rattle.gomod_run.specs.Versions.{IsRefusedList}
 use Rattle.gomod_run.proofs.AllAsked.{done_if_memory}
-use Rattle.gomod_run.proofs.PassedOn.{or_memory}
+use Rattle.gomod_run.proofs.QueryParts.{joined, unread}
 use Rattle.gomod_run.proofs.InTurn.{loading_in_turn, loading_needs}
 use Rattle.gm_graph.proofs.Dues.{none_in_turn}
 use Rattle.gomod_words.specs.declared.usage.Command.{Command}
 use Rattle.gomod_words.specs.declared.usage.Command.TheVariants.{Versions}
 use Rattle.gomod_run.specs.Private.Found.{IsOutcomeOfFound, PrintsFound, ReportsFaultsOr}
-use Rattle.gomod_run.proofs.MainMisreading.{IsMalformed, main_refused}
+use Rattle.gomod_run.proofs.MainMisreading.{main_refused}
 
 -- ---- what is printed
 
@@ -51,40 +52,29 @@ use Rattle.gomod_run.proofs.MainMisreading.{IsMalformed, main_refused}
 pub rest_printed : (main : Main) (rows others : List Entry) (path : List ℕ) (limit : Option ℕ) (outcome : Outcome) → IsRestAfter main.path rows path others
     → OrNoMemory (λ outcome. outcome ≡ text_outcome (list_text main.path (up_to limit others))) outcome
     → OrNoMemory (PrintsRows main rows (Some path) limit) outcome
-rest_printed main rows others path limit outcome is =
-    or_memory (λ outcome. outcome ≡ text_outcome (list_text main.path (up_to limit others))) (PrintsRows main rows (Some path) limit) outcome
-    (λ says. path_listed path others refl is says)
+rest_printed main rows others path limit outcome is = ⊎_map (path_listed path others refl is) (λ memory. memory)
 
 -- a command prints the same of what was found as of the run
-pub prints_for : (query : Query) (run : Run) (asked : List Name) (loaded : Loaded) (outcome : Outcome) → IsLoaded run asked loaded
+prints_for : (query : Query) {run : Run} {asked : List Name} {loaded : Loaded} (outcome : Outcome) → IsLoaded run asked loaded
     → PrintsFound query run.main loaded outcome → PrintsOf (command_of query) run outcome
-prints_for Graph run asked loaded outcome is prints = (loaded.edges, is.edges, prints)
-prints_for (Rows after limit) run asked loaded outcome is prints = (loaded.rows, is.rows, prints)
-prints_for (Chain path) run asked loaded outcome is (inl (s, steps, entry, chain, says)) =
+prints_for Graph {loaded} outcome is prints = (loaded.edges, is.edges, prints)
+prints_for (Rows after limit) {loaded} outcome is prints = (loaded.rows, is.rows, prints)
+prints_for (Chain path) {run} {loaded} outcome is (inl (s, steps, entry, chain, says)) =
     (loaded.rows, is.rows, inl (s, steps, entry, same_chain (among loaded.edges) (IsEdge run) (λ t y. is.edges.each (edge t y)) chain, says))
-prints_for (Chain path) run asked loaded outcome is (inr unlisted) = (loaded.rows, is.rows, inr unlisted)
+prints_for (Chain path) {loaded} outcome is (inr unlisted) = (loaded.rows, is.rows, inr unlisted)
 
-by_faults : (query : Query) (file : List ℕ) (sums : Option (List ℕ)) (main : Main) (table : Option Sums)
-    (asked : List (Name × Reply)) (loaded : Loaded) (faults : List Fault) (outcome : Outcome)
-    → FilesReadAs file sums main table → IsLoaded (run_of main table asked) (names_in asked) loaded → faults ≡ loaded.faults
-    → ReportsFaultsOr faults (PrintsFound query main loaded outcome) outcome
-    → QueryEnds (PrintsOf (command_of query)) (given_of file sums (answers_of asked [])) outcome
-by_faults query file sums main table asked loaded [] outcome read is same told =
-    no_fault main table
-    (record { read = read; settled = is.settled; faults_are = subst (AreFaults (run_of main table asked)) (sym same) is.faults; none_failed = refl })
-    (prints_for query (run_of main table asked) (names_in asked) loaded outcome is told)
-by_faults query file sums main table asked loaded (first ∷ others) outcome read is same told =
-    faulty main table first others
-    (record { read = read; settled = is.settled; faults_are = subst (AreFaults (run_of main table asked)) (sym same) is.faults; none_failed = refl })
-    told
+by_faults : {prints : Prints} {run : Given} {main : Main} {table : Option Sums} {shows : Type 0} {outcome : Outcome} (faults : List Fault)
+    → AreFound run main table faults → (shows → prints (run_of main table run.answers.asked) outcome) → ReportsFaultsOr faults shows outcome
+    → QueryEnds prints run outcome
+by_faults {main} {table} [] found prints told = no_fault main table found (prints told)
+by_faults {main} {table} (first ∷ others) found prints told = faulty main table first others found told
 
 -- ---- what was read
 
 -- a main module's file that was not read refuses both
 pub main_told : (file : List ℕ) (sums : Option (List ℕ)) (fault : BytesFault) → IsBytesFault Strict file fault
     → OrNoMemory (IsRefusedRead file sums) (report_outcome (report_by_bytes fault))
-main_told file sums fault is =
-    or_memory (IsMalformed file) (IsRefusedRead file sums) (report_outcome (report_by_bytes fault)) (λ malformed. inl malformed) (main_refused file fault is)
+main_told file sums fault is = ⊎_map (λ malformed. inl malformed) (λ memory. memory) (main_refused file fault is)
 
 -- the go.sum is reported
 abbrev pub AreReported : Option (List ℕ) → Outcome → Type 0
@@ -93,20 +83,16 @@ AreReported sums outcome = (report : List ℕ) × AreInvalidSums sums report × 
 abbrev pub AreSumsRead : Option (List ℕ) → Result (Option Sums) Report → Type 0
 AreSumsRead sums r = MatchResult r (λ table. AreSums sums table) (λ told. OrNoMemory (AreReported sums) (report_outcome told))
 
-pub sums_ok : (sums : Option (List ℕ)) (r : Result (Option Sums) Report) (table : Option Sums) → r ≡ Ok table → AreSumsRead sums r → AreSums sums table
-sums_ok sums r table is match = subst (AreSumsRead sums) is match
-
 -- a go.sum that was not read refuses both, after a main module's file that was read
 pub sums_told : (file : List ℕ) (sums : Option (List ℕ)) (main : Main) (r : Result (Option Sums) Report) (told : Report)
     → IsMainFile file main → r ≡ Err told → AreSumsRead sums r
     → OrNoMemory (IsRefusedRead file sums) (report_outcome told)
 sums_told file sums main r told is stops match =
-    or_memory (AreReported sums) (IsRefusedRead file sums) (report_outcome told)
-    (λ reported. inr (main, reported.0, is, reported.1, reported.2)) (subst (AreSumsRead sums) stops match)
+    ⊎_map (λ reported. inr (main, reported.0, is, reported.1, reported.2)) (λ memory. memory) (rw stops at match)
 
 pub both_read : (file : List ℕ) (sums : Option (List ℕ)) (lines : List (Line Placed)) (s : Result (Option Sums) Report) (table : Option Sums)
     → IsMainOf file lines → s ≡ Ok table → AreSumsRead sums s → FilesReadAs file sums (main_of lines) table
-both_read file sums lines s table is are read = record { main_file = (lines, is, refl); sums = sums_ok sums s table are read }
+both_read file sums lines s table is are read = record { main_file = (lines, is, refl); sums = rw are at read }
 
 abbrev pub IsBothRead : List ℕ → Option (List ℕ) → Result Read Report → Type 0
 IsBothRead file sums r =
@@ -114,7 +100,7 @@ IsBothRead file sums r =
 
 pub both_ok : (file : List ℕ) (sums : Option (List ℕ)) (r : Result Read Report) (x : Read) → r ≡ Ok x
     → IsBothRead file sums r → FilesReadAs file sums (main_of x.main) x.table
-both_ok file sums r x is match = subst (IsBothRead file sums) is match
+both_ok file sums r x is match = rw is at match
 
 -- ---- what a run comes to
 
@@ -134,9 +120,7 @@ module _ (command : Command) (file : List ℕ) (sums : Option (List ℕ)) (befor
       → FailsInTurn (Needs command file sums) old new → ((name : Name) → failing ≡ name ∷ [] → outcome ≡ failure_outcome (device_line name))
       → ComesTo command file sums before after old new outcome
   comes failing grown ends fails reported =
-      let ended : OrNoMemory (RunEnds command (run_between file sums old new)) outcome =
-      subst (λ (names : List Name). OrNoMemory (RunEnds command (given_of file sums (answers_of new.asked names)))
-      outcome) (sym (failed_in old.refused new.refused failing grown)) ends in
+      let ended : OrNoMemory (RunEnds command (run_between file sums old new)) outcome = rw (failed_in old.refused new.refused failing grown) ends in
       record {
         ends = ended;
         holds = record {
@@ -197,15 +181,12 @@ pub refused_read : (query : Query) (file : List ℕ) (sums : Option (List ℕ)) 
     (state : StoreState) (r : Result Read Report) (told : Report)
     → state.asked ≡ [] → r ≡ Err told → IsBothRead file sums r → ComesTo (command_of query) file sums may may state state (report_outcome told)
 refused_read query file sums may state r told none stops read =
-    unasked_comes (command_of query) file sums may state (report_outcome told) (no_versions query) none (by (subst (IsBothRead file sums) stops read))
+    unasked_comes (command_of query) file sums may state (report_outcome told) (no_versions query) none
+    (⊎_map (λ is. of_query query run (report_outcome told) (joined (PrintsOf (command_of query)) run (report_outcome told) (unread is (none, refl))))
+    (λ memory. memory) (rw stops at read))
   where
     run : Given
     run = given_of file sums (answers_of state.asked [])
-
-    by : OrNoMemory (IsRefusedRead file sums) (report_outcome told) → OrNoMemory (RunEnds (command_of query) run) (report_outcome told)
-    by (inl (inl (place, misread, says))) = inl (of_query query run (report_outcome told) (bad_main place misread (none, refl) says))
-    by (inl (inr (main, report, is, misread, says))) = inl (of_query query run (report_outcome told) (bad_sums main report is misread (none, refl) says))
-    by (inr memory) = inr memory
 
 -- both files are valid
 module _ (query : Query) (file : List ℕ) (sums : Option (List ℕ)) (main : Main) (table : Option Sums) (read : FilesReadAs file sums main table)
@@ -221,10 +202,7 @@ module _ (query : Query) (file : List ℕ) (sums : Option (List ℕ)) (main : Ma
   still outcome same ends =
       still_comes (command_of query) file sums before after old new outcome in_turn served
       (λ path all other is. absurd (no_versions query path all is)) (same ∙ append-nil old.refused)
-      (or_memory (QueryEnds (PrintsOf (command_of query)) run) (RunEnds (command_of query) run) outcome (of_query query run outcome) ends)
-    where
-      run : Given
-      run = given_of file sums (answers_of new.asked [])
+      (⊎_map (of_query query (given_of file sums (answers_of new.asked [])) outcome) (λ memory. memory) ends)
 
   -- loading was refused
   pub not_loaded : (result : Result Loaded LoadFault) (fault : LoadFault) → result ≡ Err fault
@@ -232,7 +210,7 @@ module _ (query : Query) (file : List ℕ) (sums : Option (List ℕ)) (main : Ma
       → ((name : FileName) → result ≡ Err (load.Device name) → IsDue (run_of main table new.asked) (name_of name))
       → new.refused ≡ old.refused ++ refused_in result
       → ComesTo (command_of query) file sums before after old new (report_outcome (report_by_load fault))
-  not_loaded result fault is many due grown = by fault is (subst (λ r. new.refused ≡ old.refused ++ refused_in r) is grown)
+  not_loaded result fault is many due grown = by fault is (rw is at grown)
     where
       by : (fault : LoadFault) → result ≡ Err fault → new.refused ≡ old.refused ++ refused_names fault
           → ComesTo (command_of query) file sums before after old new (report_outcome (report_by_load fault))
@@ -253,7 +231,7 @@ module _ (query : Query) (file : List ℕ) (sums : Option (List ℕ)) (main : Ma
       → new.refused ≡ old.refused ++ refused_in result → OrNoMemory (IsOutcomeOfFound query main loaded) outcome
       → ComesTo (command_of query) file sums before after old new outcome
   answered result loaded outcome ok is grown told =
-      still outcome (subst (λ r. new.refused ≡ old.refused ++ refused_in r) ok grown)
-      (or_memory (IsOutcomeOfFound query main loaded) (QueryEnds (PrintsOf (command_of query)) (given_of file sums (answers_of new.asked []))) outcome
-      (by_faults query file sums main table new.asked loaded loaded.faults outcome read
-      (subst (λ r. IfOk r (IsLoaded (run_of main table new.asked) (names_in new.asked))) ok is) refl) told)
+      let found : IsLoaded (run_of main table new.asked) (names_in new.asked) loaded = rw ok at is in
+      still outcome (rw ok at grown)
+      (⊎_map (by_faults loaded.faults (record { read = read; settled = found.settled; faults_are = found.faults; none_failed = refl }) (prints_for query outcome found))
+      (λ memory. memory) told)

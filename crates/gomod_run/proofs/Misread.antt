@@ -1,5 +1,5 @@
 -- What is reported of bytes that are misread.
-use Rattle.std.proofs.Common.{ℕ, List, Err, ap, inl, inr, refl}
+use Rattle.std.proofs.Common.{ℕ, List, Err, inl, inr, refl}
 use Rattle.gm_syntax.specs.Parsed.{IsFaultOrNoMemory, IsParsedAs}
 use Rattle.gm_syntax.specs.declared.fault.SyntaxFault.{SyntaxFault}
 use Rattle.gm_syntax.specs.declared.fault.SyntaxFault.TheVariants as syntax
@@ -20,4 +20,4 @@ fmt_broken bytes (syntax.Syntax number kind) parsed = bad_syntax (syntax.Syntax 
 pub fmt_misread : (bytes : List ℕ) (fault : SyntaxFault) → IsFaultOrNoMemory bytes fault
     → OrNoMemory (FmtEnds bytes) (report_outcome (report_by_bytes (fault_by_syntax fault)))
 fmt_misread bytes fault (inl parsed) = inl (fmt_broken bytes fault parsed)
-fmt_misread bytes fault (inr none) = inr (ap (λ (f : SyntaxFault). report_outcome (report_by_bytes (fault_by_syntax f))) none)
+fmt_misread bytes fault (inr none) = inr (rw none)

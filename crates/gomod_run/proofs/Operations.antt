@@ -1,8 +1,7 @@
 -- Operations of `edit`.
-use Rattle.std.proofs.Common.{◌≡◌, ◌∙◌, ◌++◌, ◌∷◌, ◌+◌, ℕ, Bool, List, [], IfErr, Option, Some, None, Ok, Err, Result, ap, codes, false, if◌then◌else◌, inl, inr, refl, sym, true}
+use Rattle.std.proofs.Common.{◌≡◌, ◌∙◌, ◌∷◌, ◌+◌, ℕ, Bool, List, [], IfErr, Option, Some, None, Ok, Err, Result, ap, codes, false, if◌then◌else◌, inl, inr, refl, true}
 use Rattle.std.specs.Prelude.{IsErrAnd, IsOk, OnOk}
 use Rattle.std.specs.List.{cons_option, filter_map}
-use Rattle.std.specs.Option.{option_map, option_to_list}
 use Rattle.gm_syntax.specs.Document.{Line}
 use Rattle.gm_syntax.specs.Layout.{layout}
 use Rattle.gm_syntax.specs.LineViews.{plain_lines}
@@ -18,7 +17,7 @@ use Rattle.gm_file.specs.Misreading.{IsMisread}
 use Rattle.gm_file.specs.Directives.{Strict}
 use Rattle.gomod_run.specs.Reports.{FaultPlace, main_line}
 use Rattle.gomod_run.specs.declared.reports.report.Report.{Report}
-use Rattle.gomod_run.specs.Edit.{EditEnds, applied, bad_main, lines_after_all, edits_outcome, refusal_of, refusals_from}
+use Rattle.gomod_run.specs.Edit.{EditEnds, applied, bad_main, lines_after_all, refusal_of, refusals_from}
 use Rattle.gomod_run.specs.Private.Refusals.{IsRefusedOperation, report_by_edit}
 
 -- an operation that has been parsed and is not applied
@@ -40,14 +39,14 @@ module _ (number : ℕ) (text : List ℕ) (edit : Edit) (parsed : edit_in text �
   pub op_accepted : (made : Result (Unit {0}) EditFault) (result : Result (Unit {0}) Report) → OnOk result (IsOk made)
       → (is_fit edit ≡ false → ◌≡◌ {A = Result (Unit {0}) EditFault} made (Err Misfit)) → OnOk result (refusal_of (edit_in text) ≡ None)
   op_accepted made (Err told) ok unfit = tt
-  op_accepted (Err fault) (Ok u) ok unfit = let e : false ≡ true = ok in cc e
+  op_accepted (Err fault) (Ok u) ok unfit = absurd (cc ok)
   op_accepted (Ok v) (Ok u) ok unfit = ap refusal_of parsed ∙ fits (is_fit edit) (λ e. absurd (cc (unfit e)))
 
   pub op_applied : (old new : List (Line Placed)) (made : Result (Unit {0}) EditFault) (result : Result (Unit {0}) Report) → OnOk result (IsOk made)
       → OnOk made (new ≡ lines_after edit old) → OnOk result (new ≡ lines_after_all (filter_map edit_in (text ∷ [])) old)
   op_applied old new made (Err told) ok is = tt
-  op_applied old new (Err fault) (Ok u) ok is = let e : false ≡ true = ok in cc e
-  op_applied old new (Ok v) (Ok u) ok is = is ∙ ap (λ (o : Option Edit). lines_after_all (cons_option o []) old) (sym parsed)
+  op_applied old new (Err fault) (Ok u) ok is = absurd (cc ok)
+  op_applied old new (Ok v) (Ok u) ok is = rw parsed is
 
   pub op_refused : (made : Result (Unit {0}) EditFault) (result : Result (Unit {0}) Report)
       → IfErr result (λ told. IsErrAnd made (λ fault. told ≡ report_by_edit number fault))
@@ -62,8 +61,7 @@ module _ (number : ℕ) (text : List ℕ) (edit : Edit) (parsed : edit_in text �
 -- one that is accepted has no refusal
 pub next_refusals : (number : ℕ) (text : List ℕ) (later : List (List ℕ)) → refusal_of (edit_in text) ≡ None
     → refusals_from number (text ∷ later) ≡ refusals_from (number + 1) later
-next_refusals number text later none = ap (λ (o : Option (List ℕ)).
-    option_to_list (option_map (λ kind. (number, kind)) o) ++ refusals_from (number + 1) later) none
+next_refusals number text later none = rw none
 
 -- those after it apply to what it left
 pub next_lines : (text : List ℕ) (later : List (List ℕ)) (lines : List (Line Placed)) → lines_after_all (filter_map edit_in (text ∷ later)) lines
@@ -91,14 +89,11 @@ pub one_refused : (texts : List (List ℕ)) (file : List ℕ) (lines : List (Lin
     → refusals_from 1 texts ≡ refusals_from number (text ∷ later)
     → OrNoMemory (IsRefusedOperation number (edit_in text)) outcome → OrNoMemory (EditEnds texts file) outcome
 one_refused texts file lines number text later outcome main same (inl (kind, is, says)) =
-    let first = ap (λ (o : Option (List ℕ)). option_to_list (option_map (λ kind. (number, kind)) o) ++ refusals_from (number + 1) later) is in
-    inl (applied lines main (says ∙ sym (ap (λ (rs : List (ℕ × List ℕ)). edits_outcome rs (lines_after_all (filter_map edit_in texts) lines)) (same ∙ first))))
+    inl (applied lines main (rw (same, is) says))
 one_refused texts file lines number text later outcome main same (inr memory) = inr memory
 
 -- no operation is refused, and the layout of what they leave is printed
 pub all_applied : (texts : List (List ℕ)) (file : List ℕ) (lines last : List (Line Placed)) (text : List ℕ) → IsMainOf file lines → refusals_from 1 texts ≡ []
     → lines_after_all (filter_map edit_in texts) lines ≡ last → text ≡ layout (plain_lines last) → EditEnds texts file (text_outcome text)
 all_applied texts file lines last text main none same is =
-    applied lines main
-    (ap text_outcome (is ∙ ap (λ (ls : List (Line Placed)). layout (plain_lines ls)) (sym same))
-    ∙ sym (ap (λ (rs : List (ℕ × List ℕ)). edits_outcome rs (lines_after_all (filter_map edit_in texts) lines)) none))
+    applied lines main (rw (none, same) (ap text_outcome is))

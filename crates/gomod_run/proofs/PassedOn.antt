@@ -1,6 +1,6 @@
 -- What `?` passes on to the outcome.
 use Rattle.std.proofs.lemmas.Result.{err_from_is_err_and}
-use Rattle.std.proofs.Common.{◌≡◌, ◌∙◌, Result, Ok, Err, ap, inl, inr, subst, sym}
+use Rattle.std.proofs.Common.{◌≡◌, ◌∙◌, Result, Ok, Err, ap, inl, inr}
 use Rattle.std.specs.Prelude.{String}
 use Rattle.std.specs.declared.alloc.Global.{Global}
 use Rattle.std.specs.Result.{IsErrAnd}
@@ -17,7 +17,7 @@ or_memory one other outcome wider (inr memory) = inr memory
 pub passed : (Is : Outcome → Type 0) (told : Report) (result : Result (String Global) Report)
     → IsErrAnd result (λ passed. passed ≡ told) → Is (report_outcome told)
     → Is (outcome_view result)
-passed Is told (Err other) same is = subst (λ (told : Report). Is (report_outcome told)) (sym same) is
+passed Is told (Err other) same is = rw same is
 passed Is told (Ok text) same is = absurd same
 
 -- memory ran out, which is passed on

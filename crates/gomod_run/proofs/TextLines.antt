@@ -1,6 +1,6 @@
 -- Texts that grow line by line.
 use Rattle.std.proofs.Common.{◌≡◌, ◌∙◌, ◌+◌, ◌-◌, ◌<◌, ℕ, zero, suc, List, [], ◌∷◌, ◌++◌, length, slice_index_or, take, ap, sym, append_assoc, append-nil, add-one, Option, Some, None, true, false, arith}
-use Rattle.std.proofs.Math.Seq.{take-suc}
+use Rattle.std.proofs.Math.Seq.{take-nil, take-suc}
 use Rattle.std.proofs.lemmas.List.{flat_map_more}
 use Rattle.std.specs.List.{flat_map}
 use Rattle.std.specs.Option.{option_map, option_eq}
@@ -27,20 +27,14 @@ none_more main (Some (suc n)) rest text whole at_end known = absurd (omega (arit
 pub entry_more : (main : List ℕ) (left : Option ℕ) (old rest : List Entry) (entry : Entry) (text new whole : List ℕ) → option_eq nat_eq left (Some 0) ≡ false
     → old ≡ entry ∷ rest → new ≡ text ++ entry_line main entry
     → text ++ list_text main (up_to left old) ≡ whole → new ++ list_text main (up_to (option_map (λ n. n - 1) left) rest) ≡ whole
-entry_more main None old rest entry text new whole goes_on steps pushed known =
-    ap (λ (t : List ℕ). t ++ list_text main rest) pushed ∙ append_assoc text (entry_line main entry) (list_text main rest)
-    ∙ ap (λ (es : List Entry). text ++ list_text main es) (sym steps) ∙ known
+entry_more main None old rest entry text new whole goes_on steps pushed known = rw (pushed, append_assoc text) (rw steps at known)
 entry_more main (Some zero) old rest entry text new whole goes_on steps pushed known = absurd (false≢true (sym goes_on))
 entry_more main (Some (suc n)) old rest entry text new whole goes_on steps pushed known =
-    ap (λ k. new ++ list_text main (take k rest)) (omega arith)
-    ∙ ap (λ (t : List ℕ). t ++ list_text main (take n rest)) pushed
-    ∙ append_assoc text (entry_line main entry) (list_text main (take n rest))
-    ∙ ap (λ (es : List Entry). text ++ list_text main (take (suc n) es)) (sym steps) ∙ known
+    let less : suc n - 1 ≡ n = omega arith in
+    rw (less, pushed, append_assoc text) (rw steps at known)
 
 -- no entry is left
 pub ended : (main : List ℕ) (left : Option ℕ) (rest : List Entry) (text whole : List ℕ) → rest ≡ []
     → text ++ list_text main (up_to left rest) ≡ whole → text ≡ whole
-ended main None rest text whole empty known = sym (append-nil text) ∙ ap (λ (es : List Entry). text ++ list_text main es) (sym empty) ∙ known
-ended main (Some zero) rest text whole empty known = sym (append-nil text) ∙ known
-ended main (Some (suc n)) rest text whole empty known =
-    sym (append-nil text) ∙ ap (λ (es : List Entry). text ++ list_text main (take (suc n) es)) (sym empty) ∙ known
+ended main None rest text whole empty known = sym (append-nil text) ∙ rw empty at known
+ended main (Some n) rest text whole empty known = sym (append-nil text) ∙ rw (empty, take-nil) at known
