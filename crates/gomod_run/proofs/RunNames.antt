@@ -1,13 +1,11 @@
 -- What a run finds is proper: names are names, and the number of a faulty line is one that a file can have.
-use Rattle.std.proofs.Common.{◌≡◌, ℕ, Bool, true, false, cond, List, [], ◌∷◌, map, not, Option, Some, None, Result, Ok, Err, Contains, refl, sym, subst, inl, inr}
-use Rattle.std.specs.Prelude.{filter}
-use Rattle.std.proofs.lemmas.List.Elements.{Contains-push_cases}
+use Rattle.std.proofs.Common.{◌≡◌, ℕ, List, [], ◌∷◌, map, not, Option, Some, None, IfSome, Result, Ok, Err, Contains, refl, sym, subst, inl, inr}
+use Rattle.std.specs.List.{AllByRecursion}
+use Rattle.std.proofs.lemmas.List.Elements.{All-contains, All-filter, All-from_recursion, Contains-push_cases}
 use Rattle.gm_name.specs.Path.{IsPath}
-use Rattle.gm_name.specs.Version.{IsVersion}
 use Rattle.gm_name.specs.ModuleVersion.{ModuleVersion}
 use Rattle.gm_syntax.specs.LineViews.{plain_lines}
-use Rattle.gm_file.specs.DepLines.{IsDependencyIn}
-use Rattle.gm_file.specs.Directives.{Folder, Lax, Module, Replaces, Replacing, Right, Strict, directives}
+use Rattle.gm_file.specs.Directives.{Lax, Strict, directives}
 use Rattle.gm_file.specs.Fields.{Dependency, replacement_of}
 use Rattle.gm_file.specs.Main.{Main, is_excluded, without_excluded, IsMainFile}
 use Rattle.gm_file.specs.declared.misreading.Misreading.TheVariants as misreading
@@ -17,75 +15,53 @@ use Rattle.gm_store_sums.specs.Sums.{Sums, check_in}
 use Rattle.gm_store_sums.specs.declared.sum_table.Sum.{Sum}
 use Rattle.gm_store_sums.specs.declared.sum_table.Sum.TheVariants.{Good, Unlisted, Differs}
 use Rattle.gm_graph.specs.declared.cache.class.Class.{Class}
-use Rattle.gm_graph.specs.declared.cache.class.Class.TheVariants.{Missing, TooLong, NoSum, SumDiffers, Malformed}
+use Rattle.gm_graph.specs.declared.cache.class.Class.TheVariants.{Malformed}
 use Rattle.gm_graph.specs.Reading.{IsContentReading, IsFileReading, IsReadUnless, class_of_sum, sum_fault}
 use Rattle.gm_graph.specs.Run.{FileSays, IsDeep, IsEdge, IsOpened, IsTop, Requires, Run, Says, answered, faulty, from_deep, from_main, from_top, run_of, sound, unaskable, wrong_path}
+use Rattle.gm_file.proofs.Pairwise.{faultless-apart}
 use Rattle.gm_graph_select.proofs.RankedLists.{from_mapped}
 use Rattle.gm_graph_select.specs.declared.step.Step.{Step}
 use Rattle.gm_graph_select.specs.declared.step.Step.TheVariants.{Main as FromMain, Of}
 use Rattle.gm_graph_select.specs.BuildList.{Entry, entry_of, main_entry}
 use Rattle.gm_graph_select.specs.Chains.{IsChain, begins, goes_on}
-use Rattle.gm_graph_select.proofs.Ascending.{member_cases, member_head, member_tail, no_member}
+use Rattle.gm_graph_select.proofs.Ascending.{member_cases, no_member}
 use Rattle.gomod_run.specs.PrintedLines.{AreProperSteps, IsProperClass, IsProperRight, IsProperRow, IsProperStep, RunHasNames, RunHasProperEdges, RunHasProperFaults, RunHasProperRows, RunHasProperSteps}
-use Rattle.gomod_run.proofs.FileNames.{declared_path, replaced_module, replacement_said, replaces_said, required_names}
-use Rattle.gomod_run.proofs.FolderNames.{is_folder}
+use Rattle.gomod_run.proofs.FileNames.{IsName, proper_path, proper_replacement, proper_requirements, said_properly}
 use Rattle.gomod_run.proofs.LineNumbers.{misread_few}
-
-abbrev IsName : ModuleVersion → Type 0
-IsName x = IsPath x.0 × IsVersion x.1
-
-kept_of : {X : Type 0} (test : X → Bool) (xs : List X) (x : X) → Contains (filter test xs) x → Contains xs x
-kept_of test [] x there = absurd (no_member x there)
-kept_of {X} test (y ∷ xs) x there = by_test (test y) there (kept_of test xs x)
-  where
-    by_test : (b : Bool) → Contains (cond b (y ∷ filter test xs) (filter test xs)) x → (Contains (filter test xs) x → Contains xs x) → Contains (y ∷ xs) x
-    by_test true inside rest = elim (member_cases y x (filter test xs) inside) [
-      | inl same ↦ subst (λ (z : X). Contains (y ∷ xs) z) same (member_head y xs)
-      | inr later ↦ member_tail y x xs (rest later)
-    ]
-    by_test false inside rest = member_tail y x xs (rest inside)
 
 -- ---- the file of a dependency
 
 -- what a file requires are paths and versions, and its fault is a proper one
-abbrev pub IsProper : Result Dependency Class → Type 0
-IsProper (Ok file) = (x : ModuleVersion) → Contains file.requirements x → IsName x
+abbrev IsProper : Result Dependency Class → Type 0
+IsProper (Ok file) = AllByRecursion IsName file.requirements
 IsProper (Err class) = IsProperClass class
 
-proper_fault : (said : Result Dependency Class) (class : Class) → IsProperClass class → said ≡ Err class → IsProper said
-proper_fault said class proper is = subst IsProper (sym is) proper
+sum_proper : (sum : Sum) → IfSome (class_of_sum sum) IsProperClass
+sum_proper Good = tt
+sum_proper Unlisted = tt
+sum_proper Differs = tt
 
-sum_class : (sum : Sum) (class : Class) → class_of_sum sum ≡ Some class → IsProperClass class
-sum_class Good class is = absurd (cc is)
-sum_class Unlisted class is = let same : NoSum ≡ class = cc is in subst IsProperClass same tt
-sum_class Differs class is = let same : SumDiffers ≡ class = cc is in subst IsProperClass same tt
-
-sum_sound : (table : Option Sums) (name : Name) (content : List ℕ) (class : Class) → sum_fault table name content ≡ Some class → IsProperClass class
-sum_sound None name content class is = absurd (cc is)
-sum_sound (Some table) (mod_file path version) content class is = sum_class (check_in table path version (file_hash content)) class is
-sum_sound (Some table) name content class is = absurd (cc is)
-
-read_proper : (content : List ℕ) (file : Dependency) → IsDependencyIn content file → IsProper (Ok file)
-read_proper content file (doc, parsed, none, is) x there =
-    required_names Lax (plain_lines doc) none x (subst (λ (f : Dependency). Contains f.requirements x) (sym is) there)
+found_proper : (table : Option Sums) (name : Name) (content : List ℕ) → IfSome (sum_fault table name content) IsProperClass
+found_proper None name content = tt
+found_proper (Some table) (mod_file path version) content = sum_proper (check_in table path version (file_hash content))
+found_proper (Some table) name content = tt
 
 content_proper : (content : List ℕ) (said : Result Dependency Class) → IsContentReading content said → IsProper said
-content_proper content (Ok file) is = read_proper content file is
+content_proper content (Ok file) (doc, parsed, none, is) =
+    subst (λ (f : Dependency). AllByRecursion IsName f.requirements) is
+    (proper_requirements (directives Lax (plain_lines doc)) (said_properly Lax content doc parsed none))
 content_proper content (Err (Malformed number misreading.TooMany)) is = absurd is
-content_proper content (Err (Malformed number misreading.NotUtf8)) is = misread_few content number misreading.NotUtf8 is
-content_proper content (Err (Malformed number (misreading.Syntax kind))) is = misread_few content number (misreading.Syntax kind) is
-content_proper content (Err (Malformed number (misreading.Directive kind))) is = misread_few content number (misreading.Directive kind) is
+content_proper content (Err (Malformed number kind)) is = misread_few content number kind is
 content_proper content (Err class) is = tt
 
-unless_proper : (o : Option Class) (content : List ℕ) (said : Result Dependency Class)
-    → ((class : Class) → o ≡ Some class → IsProperClass class) → IsReadUnless o content said → IsProper said
-unless_proper (Some class) content said proper is = proper_fault said class (proper class refl) is
+unless_proper : (o : Option Class) (content : List ℕ) (said : Result Dependency Class) → IfSome o IsProperClass → IsReadUnless o content said → IsProper said
+unless_proper (Some class) content said proper is = subst IsProper (sym is) proper
 unless_proper None content said proper is = content_proper content said is
 
 reply_proper : (table : Option Sums) (name : Name) (reply : Reply) (said : Result Dependency Class) → IsFileReading table name reply said → IsProper said
-reply_proper table name absent said is = proper_fault said Missing tt is
-reply_proper table name too_long said is = proper_fault said TooLong tt is
-reply_proper table name (bytes content) said is = unless_proper (sum_fault table name content) content said (sum_sound table name content) is
+reply_proper table name absent said is = subst IsProper (sym is) tt
+reply_proper table name too_long said is = subst IsProper (sym is) tt
+reply_proper table name (bytes content) said is = unless_proper (sum_fault table name content) content said (found_proper table name content) is
 
 file_proper : {run : Run} {name : Name} {said : Result Dependency Class} → FileSays run name said → IsProper said
 file_proper (unaskable e) = tt
@@ -98,38 +74,30 @@ says_proper (sound is own) = file_proper is
 
 -- ---- the main file
 
-main_path_is : (file : List ℕ) (main : Main) → IsMainFile file main → IsPath main.path
-main_path_is file main (lines, (parsed, none), is) = subst (λ (m : Main). IsPath m.path) is (declared_path (plain_lines lines) none)
+-- its path is one, what it requires are paths and versions, and the right side of each row is proper
+abbrev IsProperMain : Main → Type 0
+IsProperMain main = IsPath main.path × AllByRecursion IsName main.requirements × ((x : ModuleVersion) → IsProperRight (replacement_of main.replaces x))
 
-main_names : (file : List ℕ) (main : Main) → IsMainFile file main → (x : ModuleVersion) → Contains (without_excluded main main.requirements) x → IsName x
-main_names file main (lines, (parsed, none), is) x there =
-    required_names Strict (plain_lines lines) none x
-    (subst (λ (m : Main). Contains m.requirements x) (sym is) (kept_of (λ y. not (is_excluded main y)) main.requirements x there))
-
--- the right side of a row
-right_proper : (file : List ℕ) (main : Main) → IsMainFile file main → (x : ModuleVersion) → IsProperRight (replacement_of main.replaces x)
-right_proper file main (lines, (parsed, none), is) x = by_right (replacement_of main.replaces x) refl
-  where
-    said : (right : Right) → replacement_of main.replaces x ≡ Some right
-        → (r : Replacing) × Contains (directives Strict (plain_lines lines)) (Replaces r) × (r.1 ≡ right)
-    said right e =
-        let (r, there, same) = replacement_said main.replaces x right e in
-        (r, replaces_said (plain_lines lines) r (subst (λ (m : Main). Contains m.replaces r) (sym is) there), same)
-
-    by_right : (o : Option Right) → replacement_of main.replaces x ≡ o → IsProperRight o
-    by_right None e = tt
-    by_right (Some (Folder text)) e = let (r, there, same) = said (Folder text) e in is_folder file lines parsed r text there same
-    by_right (Some (Module path version)) e = let (r, there, same) = said (Module path version) e in
-        replaced_module (plain_lines lines) none r path version there same
+main_proper : (file : List ℕ) (main : Main) → IsMainFile file main → IsProperMain main
+main_proper file main (lines, (parsed, none), is) =
+    let ds = directives Strict (plain_lines lines) in
+    let are = said_properly Strict file lines parsed none in
+    subst IsProperMain is
+    (proper_path ds are (faultless-apart (plain_lines lines) none).declared, proper_requirements ds are, λ x. proper_replacement ds x are)
 
 -- ---- the run
 
 module _ (run : Run) (file : List ℕ) (main_is : IsMainFile file run.main) where
+  kept_name : (xs : List ModuleVersion) (x : ModuleVersion) → AllByRecursion IsName xs → Contains (without_excluded run.main xs) x → IsName x
+  kept_name xs x are there =
+      All-contains IsName (without_excluded run.main xs) x
+      (All-filter (λ y. not (is_excluded run.main y)) IsName xs (All-from_recursion IsName xs are)) there
+
   top_name : (x : ModuleVersion) → IsTop run x → IsName x
-  top_name x top = main_names file run.main main_is x top
+  top_name x top = kept_name run.main.requirements x (main_proper file run.main main_is).1 top
 
   required_name : (x y : ModuleVersion) → Requires run x y → IsName y
-  required_name x y (required, says, there) = says_proper says y (kept_of (λ y. not (is_excluded run.main y)) required.requirements y there)
+  required_name x y (required, says, there) = kept_name required.requirements y (says_proper says) there
 
   deep_name : {x : ModuleVersion} → IsDeep run x → IsName x
   deep_name (from_main {x} unpruned top) = top_name x top
@@ -163,7 +131,7 @@ module _ (run : Run) (file : List ℕ) (main_is : IsMainFile file run.main) wher
 pub run_has_names : RunHasNames
 run_has_names run main table read =
     let r : Run = run_of main table run.answers.asked in (
-      main_path_is run.file main read.main_file,
+      (main_proper run.file main read.main_file).0,
       opened_name r run.file read.main_file,
       (λ x vertex. end_name r run.file read.main_file vertex.0 x vertex.1),
     )
@@ -181,8 +149,7 @@ run_has_proper_rows run main table rows read are row there =
       | inr later ↦ (let (x, inside, is) = from_mapped (entry_of main.replaces) are.selected row later in
           let end = ((are.each x).0 inside).is_end in
           let name = end_name (run_of main table run.answers.asked) run.file read.main_file end.0 x end.1 in
-          let right : IsProperRight (replacement_of main.replaces x) = right_proper run.file main read.main_file x in
-          let proper : IsProperRow (entry_of main.replaces x) = (name.0, name.1, right) in
+          let proper : IsProperRow (entry_of main.replaces x) = (name.0, name.1, (main_proper run.file main read.main_file).2 x) in
           subst IsProperRow is proper)
     ]
 
