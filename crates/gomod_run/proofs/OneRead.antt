@@ -1,10 +1,12 @@
 -- A main module's file and a go.sum can be read in exactly one way.
-use Rattle.std.proofs.Common.{◌≡◌, ◌≤◌, ◌<◌, ◌⊎◌, ◌∙◌, ℕ, List, [], length, Option, Some, None, Result, Ok, Err, sym, ap, ap₂, refl, subst, arith, inl, inr}
+use Rattle.std.proofs.Common.{◌≡◌, ◌≤◌, ◌<◌, ◌∙◌, ℕ, List, [], length, Option, Some, None, Result, Ok, Err, sym, ap, refl, subst, arith, inl, inr}
 use Rattle.std.specs.Prelude.{unwrap_or}
 use Rattle.gm_syntax.specs.Words.{Word}
-use Rattle.gm_syntax.specs.Document.{Line, Whole, Faulty}
+use Rattle.gm_syntax.specs.Document.{Faulty, Finish, Line, Whole}
 use Rattle.gm_syntax.specs.LineViews.{plain_lines}
-use Rattle.gm_syntax.specs.Parsed.{IsParsedAs}
+use Rattle.gm_syntax.specs.Parsed.{IsParsedAs, IsText}
+use Rattle.gm_syntax.specs.Reader.{IsOnlyText}
+use Rattle.std.specs.Str.{IsUtf8}
 use Rattle.gm_syntax.specs.Tokens.{Placed}
 use Rattle.gm_syntax.specs.declared.fault.SyntaxFault.TheVariants as syntax
 use Rattle.gm_file.specs.Directives.{Strict}
@@ -18,10 +20,8 @@ use Rattle.gm_store_sums.specs.declared.sum_table.Sum.TheVariants.{Good, Unliste
 use Rattle.gm_file.specs.Main.{Main, IsMainFile, IsMainOf}
 use Rattle.gm_graph.specs.Reading.{IsFileReading, IsReadUnless, class_of_sum, sum_fault}
 use Rattle.gm_graph.specs.declared.cache.class.Class.{Class}
-use Rattle.gm_graph.specs.declared.cache.class.Class.TheVariants.{Malformed}
 use Rattle.gm_file.specs.declared.misreading.Misreading.{Misreading}
 use Rattle.gm_file.specs.declared.misreading.Misreading.TheVariants as misreading
-use Rattle.gm_graph.proofs.OneReading.{one_reading}
 use Rattle.gomod_run.specs.Reports.{FaultPlace, bad_sum_line}
 use Rattle.gomod_run.specs.Queries.{AreInvalidSums, AreSums}
 use Rattle.gm_file.specs.Misreading.{IsMisread}
@@ -45,92 +45,63 @@ same_lines content a b is other = (other.1.only (plain_lines a) Whole is.1.reads
 pub one_main : (content : List ℕ) (a b : Main) → IsMainFile content a → IsMainFile content b → a ≡ b
 one_main content a b (lines, (is, sound), says) (others, (other, whole), tells) = sym says ∙ ap main_by (same_lines content lines others is other) ∙ tells
 
--- the bytes are not a document, and this is wrong at this place
-abbrev IsBroken : List ℕ → FaultPlace → Type 0
-IsBroken content (number, misreading.TooMany) = (number ≡ 0) × IsParsedAs content (Err syntax.TooMany)
-IsBroken content (number, misreading.NotUtf8) = (number ≡ 0) × IsParsedAs content (Err syntax.NotUtf8)
-IsBroken content (number, misreading.Syntax kind) = IsParsedAs content (Err (syntax.Syntax number kind))
-IsBroken content (number, misreading.Directive kind) = ⊥
+-- what bytes are: too many, no text, or lines that end in a given state
+data Seen : Type 0 where
+  Long : Seen
+  Garbled : Seen
+  Ended : List (Line Word) → Finish → Seen
 
-abbrev place_of : Fault → FaultPlace
-place_of fault = (fault.0, misreading.Directive fault.1)
+abbrev IsSeen : List ℕ → Seen → Type 0
+IsSeen content Long = 16777216 < length content
+IsSeen content Garbled = (length content ≤ 16777216) × ¬ IsUtf8 content
+IsSeen content (Ended lines finish) = IsText content × IsOnlyText content lines finish
 
--- the bytes are a document, and this is the first fault of its directives
-abbrev IsFaulty : List ℕ → FaultPlace → Type 0
-IsFaulty content place = (lines : List (Line Placed)) × (fault : Fault) × IsParsedAs content (Ok lines)
-    × (fault_of Strict (plain_lines lines) ≡ Some fault) × (place ≡ place_of fault)
+one_seen : (content : List ℕ) (a b : Seen) → IsSeen content a → IsSeen content b → a ≡ b
+one_seen content Long Long is other = refl
+one_seen content Long Garbled is other = absurd (omega (arith, is, other.0))
+one_seen content Long (Ended lines finish) is other = absurd (omega (arith, is, other.0.0))
+one_seen content Garbled Long is other = absurd (omega (arith, is.0, other))
+one_seen content Garbled Garbled is other = refl
+one_seen content Garbled (Ended lines finish) is other = absurd (is.1 other.0.1)
+one_seen content (Ended lines finish) Long is other = absurd (omega (arith, is.0.0, other))
+one_seen content (Ended lines finish) Garbled is other = absurd (other.1 is.0.1)
+one_seen content (Ended lines finish) (Ended others end) is other = let same = is.1.only others end other.1.reads in cc
 
-misread_as : (content : List ℕ) (place : FaultPlace) → IsMisread Strict content place.0 place.1 → IsBroken content place ⊎ IsFaulty content place
-misread_as content (number, misreading.TooMany) is = inl is
-misread_as content (number, misreading.NotUtf8) is = inl is
-misread_as content (number, misreading.Syntax kind) is = inl is
-misread_as content (number, misreading.Directive kind) (lines, parsed, first) = inr (lines, (number, kind), parsed, first, refl)
+-- their lines as a main module's file, or where that is misread
+abbrev unless_faulty : List (Line Word) → Option Fault → Result (List (Line Word)) FaultPlace
+unless_faulty lines None = Ok lines
+unless_faulty lines (Some fault) = Err (fault.0, misreading.Directive fault.1)
 
-broken_or_lines : (content : List ℕ) (place : FaultPlace) (lines : List (Line Placed)) → IsBroken content place → IsParsedAs content (Ok lines) → ⊥
-broken_or_lines content (number, misreading.TooMany) lines is other = omega (arith, is.1, other.0.0)
-broken_or_lines content (number, misreading.NotUtf8) lines is other = is.1.1 other.0.1
-broken_or_lines content (number, misreading.Syntax kind) lines is other = let ends = (other.1.only is.1 (Faulty number kind) is.2.reads).1 in cc ends
-broken_or_lines content (number, misreading.Directive kind) lines is other = is
+abbrev reading_of : Seen → Result (List (Line Word)) FaultPlace
+reading_of Long = Err (0, misreading.TooMany)
+reading_of Garbled = Err (0, misreading.NotUtf8)
+reading_of (Ended lines Whole) = unless_faulty lines (fault_of Strict lines)
+reading_of (Ended lines (Faulty number kind)) = Err (number, misreading.Syntax kind)
 
--- Bytes that aren't too many read the same as a dependency's file, and that file is known to have exactly one reading.
-abbrev as_dependency : FaultPlace → Result Dependency Class
-as_dependency place = Err (Malformed place.0 place.1)
+abbrev AreReadAs : List ℕ → Result (List (Line Word)) FaultPlace → Type 0
+AreReadAs content reading = (seen : Seen) × IsSeen content seen × (reading_of seen ≡ reading)
 
-broken_reading : (content : List ℕ) (place : FaultPlace) → length content ≤ 16777216 → IsBroken content place
-    → IsFileReading None (folder_file []) (bytes content) (as_dependency place)
-broken_reading content (number, misreading.TooMany) few is = absurd (omega (arith, few, is.1))
-broken_reading content (number, misreading.NotUtf8) few is = is
-broken_reading content (number, misreading.Syntax kind) few is = is
-broken_reading content (number, misreading.Directive kind) few is = absurd is
+one_reading : (content : List ℕ) (a b : Result (List (Line Word)) FaultPlace) → AreReadAs content a → AreReadAs content b → a ≡ b
+one_reading content a b (seen, is, says) (other, be, tells) = sym says ∙ ap reading_of (one_seen content seen other is be) ∙ tells
 
--- the bytes are too many, and that is their place
-abbrev IsLong : List ℕ → FaultPlace → Type 0
-IsLong content place = (16777216 < length content) × (place ≡ (0, misreading.TooMany))
+misread_at : (number : ℕ) (kind : Misreading) → number ≡ 0 → ◌≡◌ {A = Result (List (Line Word)) FaultPlace} (Err (0, kind)) (Err (number, kind))
+misread_at number kind none = ap (λ (n : ℕ). Err (n, kind)) (sym none)
 
-few_or_long : (content : List ℕ) (place : FaultPlace) → IsBroken content place → (length content ≤ 16777216) ⊎ IsLong content place
-few_or_long content (number, misreading.TooMany) is = inr (is.1, ap (λ (n : ℕ). let place : FaultPlace = (n, misreading.TooMany) in place) is.0)
-few_or_long content (number, misreading.NotUtf8) is = inl is.1.0
-few_or_long content (number, misreading.Syntax kind) is = inl is.0.0
-few_or_long content (number, misreading.Directive kind) is = absurd is
-
-same_place : (here there : FaultPlace) → as_dependency here ≡ as_dependency there → here ≡ there
-same_place (number, kind) (other, sort) same = let numbers : number ≡ other = cc same in let kinds : kind ≡ sort =
-    cc same in ap₂ (λ (n : ℕ) (k : Misreading). let place : FaultPlace = (n, k) in place) numbers kinds
-
-same_fault : (content : List ℕ) (here there : FaultPlace) → IsFaulty content here → IsFaulty content there → here ≡ there
-same_fault content here there (lines, fault, parsed, first, is) (others, next, other, second, at) =
-    let found : Some fault ≡ Some next = sym first ∙ ap (fault_of Strict) (same_lines content lines others parsed other) ∙ second in
-    let faults : fault ≡ next = cc found in
-    is ∙ ap place_of faults ∙ sym at
-
-same_misreading : (content : List ℕ) (here there : FaultPlace) → IsBroken content here ⊎ IsFaulty content here
-    → IsBroken content there ⊎ IsFaulty content there → here ≡ there
-same_misreading content here there (inl is) (inl other) = by_length (few_or_long content here is) (few_or_long content there other)
-  where
-    by_length : (length content ≤ 16777216) ⊎ IsLong content here → (length content ≤ 16777216) ⊎ IsLong content there → here ≡ there
-    by_length (inl few) any =
-        same_place here there
-        (one_reading None (folder_file []) (bytes content) (as_dependency here) (as_dependency there)
-        (broken_reading content here few is) (broken_reading content there few other))
-    by_length (inr long) (inl few) = absurd (omega (arith, long.0, few))
-    by_length (inr long) (inr too) = long.1 ∙ sym too.1
-same_misreading content here there (inl is) (inr other) = absurd (broken_or_lines content here other.0 is other.2)
-same_misreading content here there (inr is) (inl other) = absurd (broken_or_lines content there is.0 other is.2)
-same_misreading content here there (inr is) (inr other) = same_fault content here there is other
+misread : (content : List ℕ) (place : FaultPlace) → IsMisread Strict content place.0 place.1 → AreReadAs content (Err place)
+misread content (number, misreading.TooMany) is = (Long, is.1, misread_at number misreading.TooMany is.0)
+misread content (number, misreading.NotUtf8) is = (Garbled, is.1, misread_at number misreading.NotUtf8 is.0)
+misread content (number, misreading.Syntax kind) is = (Ended is.1 (Faulty number kind), (is.0, is.2), refl)
+misread content (number, misreading.Directive kind) is = (Ended (plain_lines is.0) Whole, is.1, ap (unless_faulty (plain_lines is.0)) is.2)
 
 -- an invalid file has exactly one place that is reported
 pub one_place : (content : List ℕ) (a b : FaultPlace) → IsMisread Strict content a.0 a.1 → IsMisread Strict content b.0 b.1 → a ≡ b
-one_place content a b is other = same_misreading content a b (misread_as content a is) (misread_as content b other)
-
-misread_or_read : (content : List ℕ) (place : FaultPlace) (others : List (Line Placed))
-    → IsBroken content place ⊎ IsFaulty content place → IsMainOf content others → ⊥
-misread_or_read content place others (inl is) (parsed, sound) = broken_or_lines content place others is parsed
-misread_or_read content place others (inr (lines, fault, parsed, first, at)) (other, sound) =
-    let found : Some fault ≡ None = sym first ∙ ap (fault_of Strict) (same_lines content lines others parsed other) ∙ sound in cc found
+one_place content a b is other = let same = one_reading content (Err a) (Err b) (misread content a is) (misread content b other) in cc
 
 pub misread_or_lines : (content : List ℕ) (place : FaultPlace) (lines : List (Line Placed))
     → IsMisread Strict content place.0 place.1 → IsMainOf content lines → ⊥
-misread_or_lines content place lines is other = misread_or_read content place lines (misread_as content place is) other
+misread_or_lines content place lines is (parsed, sound) =
+    let read : AreReadAs content (Ok (plain_lines lines)) = (Ended (plain_lines lines) Whole, parsed, ap (unless_faulty (plain_lines lines)) sound) in
+    let same = one_reading content (Err place) (Ok (plain_lines lines)) (misread content place is) read in cc same
 
 pub misread_or_main : (content : List ℕ) (place : FaultPlace) (main : Main) → IsMisread Strict content place.0 place.1 → IsMainFile content main → ⊥
 misread_or_main content place main is (lines, other, says) = misread_or_lines content place lines is other
