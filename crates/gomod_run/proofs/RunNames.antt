@@ -1,5 +1,5 @@
 -- What a run finds is proper: names are names, and the number of a faulty line is one that a file can have.
-use Rattle.std.proofs.Common.{◌≡◌, ℕ, List, [], ◌∷◌, map, not, Option, Some, None, IfSome, Result, Ok, Err, Contains, refl, sym, subst, inl, inr}
+use Rattle.std.proofs.Common.{ℕ, List, [], map, not, Option, Some, None, IfSome, Result, Ok, Err, Contains, refl, sym, subst, inl, inr}
 use Rattle.std.specs.List.{AllByRecursion}
 use Rattle.std.proofs.lemmas.List.Elements.{All-contains, All-filter, All-from_recursion, Contains-push_cases}
 use Rattle.gm_name.specs.Path.{IsPath}
