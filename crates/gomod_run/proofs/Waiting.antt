@@ -8,34 +8,17 @@ use Rattle.gomod_run.proofs.Takings.{part_of_longer, took_both, took_nothing, to
 use Rattle.gomod_run.specs.Private.Giving.{IsGiven, IsEnded, WasGiven}
 use Rattle.gomod_run.specs.Taking.{Took, TookAll, TookPrefix}
 
--- nothing more was given
-pub gives_nothing : (a : SinkState) (waiting : List ℕ) → IsGiven {E = WriteFault} a waiting a waiting [] (Ok tt)
-gives_nothing a waiting before given was = subst (WasGiven before a waiting) (sym (append-nil given)) was
-
--- what fits the buffer waits there
-pub gives_room : (a : SinkState) (waiting piece : List ℕ) → IsGiven {E = WriteFault} a waiting a (waiting ++ piece) piece (Ok tt)
-gives_room a waiting piece before given was = record {
-  taken = was.taken;
-  parts = ap (λ (t : List ℕ). t ++ piece) was.parts ∙ append_assoc was.taken waiting piece;
-  took = was.took;
-}
-
 -- one text and then another
 pub gives_more : (a b c : SinkState) (w v u xs ys zs : List ℕ) (r : Result (Unit {0}) WriteFault) → zs ≡ xs ++ ys
     → IsGiven {E = WriteFault} a w b v xs (Ok tt) → IsGiven b v c u ys r → IsGiven a w c u zs r
-gives_more a b c w v u xs ys zs (Ok t) e one two = λ before given was.
-    subst (WasGiven before c u) (append_assoc given xs ys ∙ ap (λ (t : List ℕ). given ++ t) (sym e))
-    (two before (given ++ xs) (one before given was))
-gives_more a b c w v u xs ys zs (Err f) e one two = λ before given was.
-    subst (TookPrefix before c) (append_assoc given xs ys ∙ ap (λ (t : List ℕ). given ++ t) (sym e))
-    (two before (given ++ xs) (one before given was))
+gives_more a b c w v u xs ys zs (Ok t) e one two = λ before given was. rw (e, ← append_assoc given xs ys) (two before (given ++ xs) (one before given was))
+gives_more a b c w v u xs ys zs (Err f) e one two = λ before given was. rw (e, ← append_assoc given xs ys) (two before (given ++ xs) (one before given was))
 
 -- the sink failed before all was given
 pub gives_part : (a b : SinkState) (w v u xs ys zs : List ℕ) (f : WriteFault) → zs ≡ xs ++ ys
     → IsGiven a w b v xs (Err f) → IsGiven a w b u zs (Err f)
 gives_part a b w v u xs ys zs f e one before given was =
-    subst (TookPrefix before b) (append_assoc given xs ys ∙ ap (λ (t : List ℕ). given ++ t) (sym e))
-    (part_of_longer before b (given ++ xs) ys (one before given was))
+    rw (e, ← append_assoc given xs ys) (part_of_longer before b (given ++ xs) ys (one before given was))
 
 -- ---- what is written at once
 
@@ -117,15 +100,15 @@ around f (x ∷ xs) (suc i) d end less =
 
 -- ---- a whole text, from an empty buffer to the end
 
+none_given : (a : SinkState) (held : List ℕ) → held ≡ [] → WasGiven a a held []
+none_given a held empty = record { taken = []; parts = sym empty; took = took_nothing a }
+
 pub took_given : (a b c : SinkState) (held waiting text : List ℕ) (u : Unit {0}) (r : Result (Unit {0}) WriteFault)
     → held ≡ [] → IsGiven {E = WriteFault} a held b waiting text (Ok u) → IsEnded b waiting c r → Took a c text r
-took_given a b c held waiting text u (Ok t) empty one end =
-    end a text (one a [] (record { taken = []; parts = sym empty; took = took_nothing a }))
-took_given a b c held waiting text u (Err f) empty one end =
-    end a text (one a [] (record { taken = []; parts = sym empty; took = took_nothing a }))
+took_given a b c held waiting text u (Ok t) empty one end = end a text (one a [] (none_given a held empty))
+took_given a b c held waiting text u (Err f) empty one end = end a text (one a [] (none_given a held empty))
 
 pub took_part : (a b : SinkState) (held waiting text : List ℕ) (f : WriteFault) (r : Result (Unit {0}) WriteFault)
     → held ≡ [] → IsErr r → IsGiven a held b waiting text (Err f) → Took a b text r
 took_part a b held waiting text f (Ok t) empty failed one = let e : false ≡ true = failed in cc e
-took_part a b held waiting text f (Err g) empty failed one =
-    one a [] (record { taken = []; parts = sym empty; took = took_nothing a })
+took_part a b held waiting text f (Err g) empty failed one = one a [] (none_given a held empty)
