@@ -1,6 +1,5 @@
 -- A run that is done has an answer for every file that it needs.
 use Rattle.std.proofs.Common.{◌≡◌, ◌∙◌, ℕ, Bool, List, [], Option, Some, false, true, ap, arith, inl, inr, sym}
-use Rattle.std.proofs.lemmas.Option.{same_Some}
 use Rattle.gm_name.specs.Path.{is_fetchable}
 use Rattle.gm_store.specs.Asked.{Name, Reply, absent, answer_in, bytes, list_file, mod_file, too_long}
 use Rattle.gm_store_sums.specs.Sums.{Sums}
@@ -47,15 +46,15 @@ shown_answered path all answers shown are name (inl (fetchable, same)) =
     let (versions, is) = shown_listed path all answers shown are in (bytes is.list, ap answers same ∙ is.answered)
 shown_answered path all answers shown (all_listed is every) name (inr (versions, latest, same, needed)) =
     absurd (none_needed path all answers shown versions latest is every needed)
-shown_answered path all answers shown (not_retracted versions latest reply file intervals says retracted kept) name (inr (others, last, same, needed)) =
+shown_answered path all answers shown (not_retracted versions latest reply _ _ says _ _) name (inr (others, last, same, needed)) =
     (reply, ap answers (same ∙ ap (mod_file path) (one_latest path all answers others versions last latest needed says.chosen).1) ∙ says.answered)
 
 -- the report that there is no list has the status of a refusal
 pub refusal_status : (path : List ℕ) (fetchable : Bool) (answer : Option Reply) (outcome : Outcome)
     → list_refusal path fetchable answer ≡ Some outcome → outcome.status ≡ 1
-refusal_status path false answer outcome is = ap (λ (o : Outcome). o.status) (sym (same_Some _ outcome is))
-refusal_status path true (Some absent) outcome is = ap (λ (o : Outcome). o.status) (sym (same_Some _ outcome is))
-refusal_status path true (Some too_long) outcome is = ap (λ (o : Outcome). o.status) (sym (same_Some _ outcome is))
+refusal_status path false answer outcome is = cc
+refusal_status path true (Some absent) outcome is = cc
+refusal_status path true (Some too_long) outcome is = cc
 refusal_status path true answer outcome is = absurd (cc is)
 
 -- ---- runs that are done
@@ -68,13 +67,12 @@ query_done prints run outcome is done =
 versions_done : (path : List ℕ) (all : Bool) (answers : AnswersByName) (failed : List Name) (outcome : Outcome)
     → VersionsEnds path all answers failed outcome → outcome.status ≡ 0
     → AnsweredAll (VersionsNeed path all) answers
-versions_done path all answers failed outcome (device name need unanswered some says) done = let code =
-    ap (λ (o : Outcome). o.status) says in absurd (omega (arith, code, done))
+versions_done path all answers failed outcome (printed shown are none told) done = shown_answered path all answers shown are
 versions_done path all answers failed outcome (no_list refused none) done =
     let code = refusal_status path (is_fetchable path) (answers (list_file path)) outcome refused in absurd (omega (arith, code, done))
-versions_done path all answers failed outcome (bad_file versions latest reply class says none told) done = let code =
-    ap (λ (o : Outcome). o.status) told in absurd (omega (arith, code, done))
-versions_done path all answers failed outcome (printed shown are none told) done = shown_answered path all answers shown are
+versions_done path all answers failed outcome (device _ _ _ _ told) done = let code = ap (λ (o : Outcome). o.status) told in absurd (omega (arith, code, done))
+versions_done path all answers failed outcome (bad_file _ _ _ _ _ _ told) done =
+    let code = ap (λ (o : Outcome). o.status) told in absurd (omega (arith, code, done))
 
 -- a run of a command whose outcome has the status of a done run has all answers that it needs
 pub done_answers : (command : Command) (run : Given) (outcome : Outcome) → RunEnds command run outcome

@@ -1,10 +1,9 @@
 -- A command has one outcome over stores that answer alike.
-use Rattle.std.proofs.Common.{◌≡◌, ◌⊎◌, ◌∙◌, ◌∷◌, ℕ, Bool, true, false, List, [], Option, Some, None, Result, ap, refl, subst, sym, inl, inr}
+use Rattle.std.proofs.Common.{◌≡◌, ◌⊎◌, ◌∙◌, ◌∷◌, ℕ, Bool, true, false, List, [], Option, Some, None, Result, ap, refl, sym, inl, inr}
 use Rattle.gm_name.specs.Path.{is_fetchable}
 use Rattle.gm_file.specs.Fields.{Dependency}
 use Rattle.gm_graph.specs.declared.cache.class.Class.{Class}
 use Rattle.gm_store.specs.Asked.{Name, Reply, answer_in, bytes, list_file, mod_file}
-use Rattle.gomod_run.specs.Edit.{EditEnds}
 use Rattle.gomod_run.specs.QueryLaws.{AnswerAlike}
 use Rattle.gomod_run.specs.Queries.{Answers}
 use Rattle.gomod_run.specs.ChainQuery.{PrintsChain}
@@ -14,7 +13,6 @@ use Rattle.gomod_run.specs.Needs.{AnswersByName}
 use Rattle.gomod_run.specs.Outcome.{Outcome, failure_outcome}
 use Rattle.gomod_run.specs.Reports.{device_line}
 use Rattle.gomod_run.specs.Laws.{OneForStores, OneOutcome}
-use Rattle.gomod_run.specs.Fmt.{FmtEnds}
 use Rattle.gomod_run.specs.Versions.{AreShown, HasListed, LatestSays, VersionsEnds, VersionsNeed, all_listed, bad_file, device, list_refusal, no_list, not_retracted, printed}
 use Rattle.gomod_run.proofs.OneOutcome.{not_broken, one_end, one_failure}
 use Rattle.gomod_run.proofs.OneQueryStore.{itself}
@@ -57,14 +55,12 @@ module _ (path : List ℕ) (all : Bool) (told kept : AnswersByName)
     (keeps : (name : Name) (reply : Reply) → VersionsNeed path all told name → told name ≡ Some reply
     → kept name ≡ Some reply) where
   listed_kept : {versions : List (List ℕ)} → HasListed path told versions → HasListed path kept versions
-  listed_kept is =
-      record {
-        fetchable = is.fetchable;
-        list = is.list;
-        answered =
-            keeps (list_file path) (bytes is.list) (inl (is.fetchable, refl)) is.answered;
-        listed = is.listed;
-      }
+  listed_kept is = record {
+    fetchable = is.fetchable;
+    list = is.list;
+    answered = keeps (list_file path) (bytes is.list) (inl (is.fetchable, refl)) is.answered;
+    listed = is.listed;
+  }
 
   says_kept : {versions : List (List ℕ)} {latest : List ℕ} {reply : Reply} {reading : Result Dependency Class}
       → LatestSays path all told versions latest reply reading
@@ -75,18 +71,18 @@ module _ (path : List ℕ) (all : Bool) (told kept : AnswersByName)
     says = says.says;
   }
 
-  shown_kept : (shown : List (List ℕ)) → AreShown path all told shown → AreShown path all kept shown
-  shown_kept shown (all_listed is every) = all_listed (listed_kept is) every
-  shown_kept shown (not_retracted versions latest reply file intervals says retracted same) =
+  shown_kept : {shown : List (List ℕ)} → AreShown path all told shown → AreShown path all kept shown
+  shown_kept (all_listed is every) = all_listed (listed_kept is) every
+  shown_kept (not_retracted versions latest reply file intervals says retracted same) =
       not_retracted versions latest reply file intervals (says_kept says) retracted same
 
   pub kept_outcome : (outcome : Outcome) → VersionsEnds path all told [] outcome → VersionsEnds path all kept [] outcome
-  kept_outcome outcome (device name need unanswered failed says) = absurd (cc failed)
+  kept_outcome outcome (device _ _ _ failed _) = absurd (cc failed)
   kept_outcome outcome (no_list refused none) =
       no_list (refusal_kept path (is_fetchable path) (told (list_file path)) (kept (list_file path)) outcome
       (λ reply fetchable. keeps (list_file path) reply (inl (fetchable, refl))) refused) none
   kept_outcome outcome (bad_file versions latest reply class says none told) = bad_file versions latest reply class (says_kept says) none told
-  kept_outcome outcome (printed shown are none told) = printed shown (shown_kept shown are) none told
+  kept_outcome outcome (printed shown are none told) = printed shown (shown_kept are) none told
 
 -- ---- `versions` over two stores
 
@@ -95,17 +91,16 @@ abbrev EndsAtDevice : List Name → Outcome → Type 0
 EndsAtDevice failed outcome = (name : Name) × (failed ≡ name ∷ []) × (outcome ≡ failure_outcome (device_line name))
 
 -- it failed at a file, or all was answered
-by_failed : (path : List ℕ) (all : Bool) (answers : AnswersByName) (failed : List Name) (outcome : Outcome) → VersionsEnds path all answers failed outcome
+by_failed : {path : List ℕ} {all : Bool} {answers : AnswersByName} (failed : List Name) (outcome : Outcome) → VersionsEnds path all answers failed outcome
     → EndsAtDevice failed outcome ⊎ ((failed ≡ []) × VersionsEnds path all answers [] outcome)
-by_failed path all answers failed outcome (device name need unanswered some says) = inl (name, some, says)
-by_failed path all answers failed outcome (no_list refused none) = inr (none, no_list refused refl)
-by_failed path all answers failed outcome (bad_file versions latest reply class says none told) =
-    inr (none, bad_file versions latest reply class says refl told)
-by_failed path all answers failed outcome (printed shown are none told) = inr (none, printed shown are refl told)
+by_failed failed outcome (device name _ _ some says) = inl (name, some, says)
+by_failed failed outcome (no_list refused none) = inr (none, no_list refused refl)
+by_failed failed outcome (bad_file versions latest reply class says none told) = inr (none, bad_file versions latest reply class says refl told)
+by_failed failed outcome (printed shown are none told) = inr (none, printed shown are refl told)
 
 versions_alike : (path : List ℕ) (all : Bool) (told next : Answers) (a b : Outcome) → AnswerAlike told.asked next.asked → told.failed ≡ next.failed
     → VersionsEnds path all (answer_in told.asked) told.failed a → VersionsEnds path all (answer_in next.asked) next.failed b → a ≡ b
-versions_alike path all told next a b alike failing is be = by (by_failed path all one told.failed a is) (by_failed path all other next.failed b be)
+versions_alike path all told next a b alike failing is be = by (by_failed told.failed a is) (by_failed next.failed b be)
   where
     one : AnswersByName
     one = answer_in told.asked
@@ -128,9 +123,9 @@ versions_alike path all told next a b alike failing is be = by (by_failed path a
 -- ---- a command
 
 pub one_for_stores : OneForStores
-one_for_stores Fmt run next a b alike is be = fmt_once next.file a b (subst (λ (file : List ℕ). FmtEnds file a) alike.file is) be
+one_for_stores Fmt run next a b alike is be = fmt_once next.file a b (rw alike.file at is) be
 one_for_stores (Edit operations) run next a b alike is be =
-    edit_once (texts_in operations) next.file a b (subst (λ (file : List ℕ). EditEnds (texts_in operations) file a) alike.file is) be
+    edit_once (texts_in operations) next.file a b (rw alike.file at is) be
 one_for_stores (Versions path all) run next a b alike is be = versions_alike path all run.answers next.answers a b alike.answers alike.failed is be
 one_for_stores Graph run next a b alike is be = one_end PrintsGraph graph_once run next a b alike is be
 one_for_stores (Rows after limit) run next a b alike is be = one_end (PrintsList after limit) (list_once after limit) run next a b alike is be

@@ -89,7 +89,7 @@ fn list_of<'p, F: Asks>(
 ) -> Result<Vec<u8>, Report<'p>>
     requires { (F.state files.old).asked ≡ [] }
     ensures run { (all : Bool) → MatchResult result
-        (λ list. IsListAnswered path.now (F.state files.old) (F.state files.new) list.items)
+        (λ list. IsListAnswered path.now (F.state files.old) (F.state files.new) (bytes list.items))
         (λ told. IsVersionsRun path.now all (F.state files.old) (F.state files.new) (report_outcome told)) }
     ensures served { HasServed (F.may_answer files.old) (F.may_answer files.new)
         (F.state files.old) (F.state files.new) }

@@ -5,11 +5,11 @@ use Rattle.gm_file.specs.Directives.{VersionInterval}
 use Rattle.gm_file.specs.Shown.{shown_of}
 use Rattle.gm_file.specs.declared.dep_file.DepFile.{DepFile}
 use Rattle.gm_graph.specs.Run.{AskedInTurn}
-use Rattle.gm_store.specs.Asked.{Name, answer_in, bytes, list_file}
+use Rattle.gm_store.specs.Asked.{Name, Reply, answer_in, bytes, list_file}
 use Rattle.gm_store.specs.Listed.{AreListed}
 use Rattle.gm_store.specs.States.{StoreState}
 use Rattle.gomod_run.specs.declared.reports.report.Report.{Report}
-use Rattle.gomod_run.specs.Outcome.{OrNoMemory, Outcome, failure_outcome, report_outcome}
+use Rattle.gomod_run.specs.Outcome.{Outcome, failure_outcome, out_of_memory, report_outcome}
 use Rattle.gomod_run.specs.Reports.{device_line}
 use Rattle.gomod_run.specs.Versions.{AreShown, IsRefusedList, VersionsEnds, VersionsNeed}
 
@@ -17,26 +17,29 @@ use Rattle.gomod_run.specs.Versions.{AreShown, IsRefusedList, VersionsEnds, Vers
 -- is asked for once, when the answers need it; and that there is no list to read, or that the device failed, is
 -- reported.
 pub data IsVersionsRun (path : List ℕ) (all : Bool) (old new : StoreState) (outcome : Outcome) : Type 0 where
-  -- the device failed at no file
-  still_run : new.refused ≡ old.refused → AskedInTurn (VersionsNeed path all) new.asked
-      → ((other : Outcome) → IsRefusedList path (answer_in new.asked) other → outcome ≡ other)
-      → OrNoMemory (VersionsEnds path all (answer_in new.asked) []) outcome → IsVersionsRun path all old new outcome
-  -- it failed at a file that is needed
+  -- all that was asked for was answered
+  ended_run : new.refused ≡ old.refused → AskedInTurn (VersionsNeed path all) new.asked
+      → VersionsEnds path all (answer_in new.asked) [] outcome → IsVersionsRun path all old new outcome
+  -- memory ran out, and there is a list to read
+  memory_run : new.refused ≡ old.refused → AskedInTurn (VersionsNeed path all) new.asked
+      → ((other : Outcome) → ¬ (IsRefusedList path (answer_in new.asked) other)) → outcome ≡ out_of_memory
+      → IsVersionsRun path all old new outcome
+  -- the device failed at a file that is needed
   broken_run : (name : Name) → new.refused ≡ old.refused ++ name ∷ [] → AskedInTurn (VersionsNeed path all) new.asked
       → VersionsNeed path all (answer_in new.asked) name → answer_in new.asked name ≡ None
       → ((other : Outcome) → ¬ (IsRefusedList path (answer_in new.asked) other))
       → outcome ≡ failure_outcome (device_line name) → IsVersionsRun path all old new outcome
 
--- a proxy can have the module, and its list was asked for and answered, and nothing else
-pub record IsListAnswered (path : List ℕ) (old new : StoreState) (list : List ℕ) : Type 0 where
+-- a proxy can have the module, and its list was asked for and answered with this reply, and nothing else
+pub record IsListAnswered (path : List ℕ) (old new : StoreState) (reply : Reply) : Type 0 where
   pub fetchable : is_fetchable path ≡ true
-  pub alone : new.asked ≡ (list_file path, bytes list) ∷ []
+  pub alone : new.asked ≡ (list_file path, reply) ∷ []
   pub still : new.refused ≡ old.refused
 
--- the same, and the list names these versions
+-- the same with a list, which names these versions
 pub record AreVersionsAnswered (path : List ℕ) (old new : StoreState) (versions : List (List ℕ)) : Type 0 where
   pub list : List ℕ
-  pub answered : IsListAnswered path old new list
+  pub answered : IsListAnswered path old new (bytes list)
   pub listed : AreListed path list versions
 
 -- all that is needed was answered, and these versions are to be shown
