@@ -13,7 +13,7 @@ const MAIN: &str =
 /// The layout of a go.mod text.
 fn layout(alloc: Global, text: &str) -> Result<String, SyntaxFault> {
     let doc = Doc::parse(alloc, text.as_bytes())?;
-    Ok(doc.format()?)
+    doc.format().map_err(SyntaxFault::from)
 }
 
 /// Reads the go.mod of a main module.
@@ -37,42 +37,40 @@ fn edit(alloc: Global, file: &mut MainFile<'_>, operation: &str) -> anyhow::Resu
     file.apply(&op).map_err(anyhow::Error::from)
 }
 
-/// Prints the layout of the example.
-fn show_layout(rt: &impl Print, alloc: Global) -> anyhow::Result<()> {
-    let text = layout(alloc, MAIN)?;
-    print!(rt; "{text}")?;
-    Ok(())
-}
-
-/// Prints what is wrong with a go.mod in which a block isn't closed.
-fn show_fault(rt: &impl Print, alloc: Global) -> io::Result<()> {
-    if let Err(fault) = layout(alloc, "module example.com/hello\nrequire (\n") {
-        println!(rt; "{fault}")?;
+/// Prints the layout of a go.mod text, or what is wrong with it.
+fn show_layout(rt: &impl Print, alloc: Global, text: &str) -> io::Result<()> {
+    match layout(alloc, text) {
+        Ok(text) => print!(rt; "{text}"),
+        Err(fault) => println!(rt; "{fault}"),
     }
-    Ok(())
 }
 
-/// Edits a file, prints why a second operation is refused, and prints the file.
-fn show_edits(rt: &impl Print, alloc: Global, file: &mut MainFile<'_>) -> anyhow::Result<()> {
-    edit(alloc, file, "require=example.com/b@v1.3.0")?;
-    if let Err(fault) = edit(alloc, file, "require=example.com/b@v2.0.0") {
-        println!(rt; "{fault}")?;
+/// Edits a file, or prints why the operation is refused.
+fn show_edit(
+    rt: &impl Print,
+    alloc: Global,
+    file: &mut MainFile<'_>,
+    operation: &str,
+) -> io::Result<()> {
+    match edit(alloc, file, operation) {
+        Ok(()) => Ok(()),
+        Err(error) => println!(rt; "{error}"),
     }
-    let edited = file.doc().format()?;
-    print!(rt; "{edited}")?;
-    Ok(())
 }
 
-/// Prints what a file says, and edits it.
+/// Prints what a file says, edits it, and prints its layout.
 fn show_file(rt: &impl Print, alloc: Global, file: &mut MainFile<'_>) -> anyhow::Result<()> {
     print_file(rt, file)?;
-    show_edits(rt, alloc, file)
+    show_edit(rt, alloc, file, "require=example.com/b@v1.3.0")?;
+    show_edit(rt, alloc, file, "require=example.com/b@v2.0.0")?;
+    print!(rt; "{}", file.doc().format()?)?;
+    Ok(())
 }
 
 /// Formats, reads and edits the example.
 pub(crate) fn show(rt: &impl Print, alloc: Global) -> anyhow::Result<()> {
-    show_layout(rt, alloc)?;
-    show_fault(rt, alloc)?;
+    show_layout(rt, alloc, MAIN)?;
+    show_layout(rt, alloc, "module example.com/hello\nrequire (\n")?;
     let mut file = main_file(alloc, MAIN.as_bytes())?;
     show_file(rt, alloc, &mut file)
 }

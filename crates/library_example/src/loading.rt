@@ -6,7 +6,7 @@ use crate::files::main_file;
 use gm_file::MainFile;
 use gm_graph::{Fault, Loaded, Row, Step, load};
 use gm_name::ModPath;
-use gm_store::{FolderFiles, ProxyList, folder_of, read_limited};
+use gm_store::{FolderReader, ProxyList, folder_of, read_limited};
 use std::{fs, io};
 
 /// The main module's file.
@@ -15,7 +15,7 @@ const MAIN: &str = "go.mod";
 /// The bytes of a file, or the first `LIMIT + 1` if there are more: so many are refused when they are parsed.
 fn bytes_of(rt: HostRuntime, path: &str) -> anyhow::Result<Vec<u8>> {
     let mut file = fs::open(&rt, path)?;
-    Ok(read_limited(rt.alloc(), &mut file)?)
+    read_limited(rt.alloc(), &mut file).map_err(anyhow::Error::from)
 }
 
 /// Loads the graph of a main module from proxy folders, `,` or `|` between each two.
@@ -23,8 +23,8 @@ fn graph(rt: HostRuntime, main: &MainFile<'_>, proxies: &str) -> anyhow::Result<
     let alloc = rt.alloc();
     let folder = folder_of(alloc, MAIN)?;
     let proxies = ProxyList::read(alloc, proxies)?;
-    let mut store = FolderFiles::new(rt, alloc, folder, proxies);
-    Ok(load(alloc, main, &mut store, None)?)
+    let mut store = FolderReader::new(rt, alloc, folder, proxies);
+    load(alloc, main, &mut store, None).map_err(anyhow::Error::from)
 }
 
 /// Prints a step: the main module's path, or a path and a version.

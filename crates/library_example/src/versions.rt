@@ -2,7 +2,6 @@
 
 use gm_name::{ModPath, ModVersion, fits};
 use std::alloc::Global;
-use std::io;
 
 /// Versions in no order. The last doesn't fit the path of the example.
 const VERSIONS: [&str; 4] = ["v1.10.0", "v1.9.0", "v1.10.0-rc.1", "v2.0.0"];
@@ -20,18 +19,11 @@ fn ordered(alloc: Global, path: &ModPath, texts: &[&str]) -> anyhow::Result<Vec<
     Ok(versions)
 }
 
-/// Prints versions, one a line.
-fn print_versions(rt: &impl Print, versions: &[ModVersion]) -> io::Result<()> {
-    for version in versions {
-        println!(rt; "{version}")?;
-    }
-    Ok(())
-}
-
-/// Orders the versions of the example.
+/// Orders the versions of the example, and prints them, one a line.
 pub(crate) fn show(rt: &impl Print, alloc: Global) -> anyhow::Result<()> {
     let path = ModPath::parse(alloc, "example.com/p")?;
-    let versions = ordered(alloc, &path, &VERSIONS)?;
-    print_versions(rt, &versions)?;
+    for version in &ordered(alloc, &path, &VERSIONS)? {
+        println!(rt; "{version}")?;
+    }
     Ok(())
 }
