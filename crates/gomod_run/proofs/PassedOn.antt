@@ -1,17 +1,12 @@
 -- What `?` passes on to the outcome.
 use Rattle.std.proofs.lemmas.Result.{err_from_is_err_and}
-use Rattle.std.proofs.Common.{◌≡◌, ◌∙◌, Result, Ok, Err, ap, inl, inr}
+use Rattle.std.proofs.Common.{◌≡◌, ◌∙◌, Result, Ok, Err, ap}
 use Rattle.std.specs.Prelude.{String}
 use Rattle.std.specs.declared.alloc.Global.{Global}
 use Rattle.std.specs.Result.{IsErrAnd}
-use Rattle.gomod_run.specs.Outcome.{OrNoMemory, Outcome, out_of_memory, outcome_view, report_outcome}
+use Rattle.gomod_run.specs.Outcome.{Outcome, out_of_memory, outcome_view, report_outcome}
 use Rattle.gomod_run.specs.declared.reports.report.Report.{Report}
 use Rattle.gomod_run.specs.declared.reports.report.Report.TheVariants as report
-
--- what follows from such an outcome follows if memory may have run out
-pub or_memory : (one other : Outcome → Type 0) (outcome : Outcome) → (one outcome → other outcome) → OrNoMemory one outcome → OrNoMemory other outcome
-or_memory one other outcome wider (inl is) = inl (wider is)
-or_memory one other outcome wider (inr memory) = inr memory
 
 -- what holds of a report holds of what is passed on
 pub passed : (Is : Outcome → Type 0) (told : Report) (result : Result (String Global) Report)
