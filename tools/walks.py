@@ -21,7 +21,7 @@ WALKS = [
     ("list, from `load` to a requirement that is known", 14, """
         gm_graph/src/loading.rt load visit_all
         gm_graph/src/visiting.rt visit
-        gm_graph/src/cache.rt visit known_at read_file summarize
+        gm_graph/src/cache.rt visit known_at read_file read_reply
         gm_graph/src/cache/reading.rt read_answer
         gm_file/src/dep_file.rt read_listed
         gm_file/src/dep_lines.rt read_all read_simple_lines read_simple
@@ -31,7 +31,7 @@ WALKS = [
     ("list, from `load` to a new requirement", 14, """
         gm_graph/src/loading.rt load visit_all
         gm_graph/src/visiting.rt visit
-        gm_graph/src/cache.rt visit known_at read_file summarize
+        gm_graph/src/cache.rt visit known_at read_file read_reply
         gm_graph/src/cache/reading.rt read_answer
         gm_file/src/dep_file.rt read_listed
         gm_file/src/dep_lines.rt read_all read_simple_lines read_simple

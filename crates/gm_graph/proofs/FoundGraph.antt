@@ -12,18 +12,15 @@ use Rattle.gm_file.specs.Main.{Main, without_excluded}
 use Rattle.gm_graph.specs.declared.cache.Cache.{Cache}
 use Rattle.gm_graph.specs.declared.cache.class.Class.{Class}
 use Rattle.gm_graph.specs.declared.cache.parts.CacheParts.{CacheParts}
-use Rattle.gm_graph.specs.declared.cache.summary.Kept.{Kept}
-use Rattle.gm_graph.specs.declared.cache.summary.Kept.TheVariants.{Valid, Faulty}
 use Rattle.gm_graph.specs.declared.fault.Fault.{Fault}
 use Rattle.gm_graph.specs.declared.findings.Findings.{Findings}
 use Rattle.gm_graph.specs.declared.worklist.Worklist.{Worklist}
-use Rattle.gm_graph.specs.Cached.{kept_file, table_in}
+use Rattle.gm_graph.specs.Cached.{table_in}
 use Rattle.gm_graph.specs.Private.Cached.{ArePartsOf, module_numbered}
 use Rattle.gm_graph.specs.Private.Findings.{WasVisited, place_found}
 use Rattle.gm_graph.specs.Private.Gathering.{AreFaultsOf, AreFilePlaces, HasFaultOf, fault, has_file, gathered_sources, steps_by}
 use Rattle.gm_graph.specs.Run.{AreFaults, IsEdge, IsFault, IsOpened, Requires, Run, Says}
-use Rattle.gm_graph.specs.Summaries.{at_span}
-use Rattle.gm_graph.specs.Private.Summaries.{span_found}
+use Rattle.gm_graph.specs.Private.Summaries.{own_spans}
 use Rattle.gm_graph.specs.Private.Visiting.{IsOpenedIn}
 use Rattle.gm_graph_select.specs.declared.adjacency.Source.{Source}
 use Rattle.gm_graph_select.specs.declared.step.Edge.{Edge}
@@ -31,8 +28,8 @@ use Rattle.gm_graph_select.specs.declared.step.Step.{Step}
 use Rattle.gm_graph_select.specs.declared.step.Step.TheVariants.{Main as FromMain, Of}
 use Rattle.gm_graph_select.specs.Adjacency.{StepEdges, edges_of, left_by, list_at, sources_of as steps_left, step_edges, step_with}
 use Rattle.gm_graph_select.specs.Graph.{edge}
-use Rattle.gm_graph.proofs.Gathered.{faulty_list, file_source, lists_by, noted_has, source_is, source_there, used_list}
-use Rattle.gm_graph.proofs.Keeping.{file_there}
+use Rattle.gm_graph.proofs.Gathered.{file_source, lists_by, noted_has, source_is, source_there, used_list}
+use Rattle.gm_graph.proofs.SharedLists.{own_there}
 use Rattle.gm_graph_select.proofs.RankedLists.{edges_each, edges_only, from_mapped, in_mapped}
 use Rattle.gm_graph.proofs.Sayings.{file_same, not_both, one_said}
 
@@ -56,7 +53,7 @@ module _ {run : Run} {cache : Cache} {worklist : Worklist} {findings : Findings}
   pub found_places : AreFilePlaces parts places
   found_places number place e = (
     subst (λ (ms : List ModuleVersion). number < length ms) (sym are.modules) (opened.found.files number place e).below,
-    subst (λ fs. place < length fs.items) (sym are.files) (opened.lists number place e).within,
+    subst (λ fs. place < length fs.items) (sym are.files) (opened.lists number place e).sound.within,
   )
 
   pub found_faults : All (λ one. one.number < length modules) findings.faults.items
@@ -78,30 +75,18 @@ module _ {run : Run} {cache : Cache} {worklist : Worklist} {findings : Findings}
       ∙ cache.first_are
       ∙ ap (λ (main : Main). without_excluded main main.requirements) opened.main_is
 
-  kept_list : (number place : ℕ) → place_found findings number ≡ Some place → (kept : Kept)
-      → slice_get parts.files.items place ≡ Some kept
-      → modules_at modules (list_at lists (suc place)) ≡ at_span (modules_of cache.modules) (span_found (Some kept))
-  kept_list number place e (Valid summary) there =
-      ap (modules_at modules) (used_list parts.numbers.items (has_file places) parts.first parts.files.items place summary
-      (noted_has places number place e) there)
-      ∙ part_as modules (table_in cache) parts.numbers.items cache.modules.numbers summary.kept.start summary.kept.end
-      are.modules are.numbers
-  kept_list number place e (Faulty class) there =
-      ap (modules_at modules) (faulty_list parts.numbers.items (has_file places) parts.first parts.files.items place (Faulty class)
-      there (λ summary same. absurd (cc same)))
-
-  -- The list of a vertex's file is what the vertex requires.
+  -- The list at the place that was found is what the vertex requires.
   file_list : (number place : ℕ) (e : place_found findings number ≡ Some place)
-      → modules_at modules (list_at lists (place + 1)) ≡ without_excluded run.main (opened.lists number place e).file.requirements
+      → modules_at modules (list_at lists (place + 1)) ≡ without_excluded run.main (opened.lists number place e).sound.file.requirements
   file_list number place e =
       let here = opened.lists number place e in
-      let there = file_there parts.files.items place (found_places number place e).1 in
-      let same : ◌≡◌ {A = Option Kept} (Some there.0) (kept_file cache place) =
-      sym there.1 ∙ ap (λ fs. slice_get fs.items place) are.files in
+      let own = own_there cache.files.files.items place here.sound.span here.sound.own in
       let next : place + 1 ≡ suc place = omega arith in
       ap (λ (n : ℕ). modules_at modules (list_at lists n)) next
-      ∙ kept_list number place e there.0 there.1
-      ∙ ap (λ (o : Option Kept). at_span (modules_of cache.modules) (span_found o)) same
+      ∙ ap (modules_at modules) (used_list parts.numbers.items (has_file places) parts.first (own_spans parts.files.items) place here.sound.span
+      (noted_has places number place e) (ap (λ fs. slice_get (own_spans fs.items) place) are.files ∙ own))
+      ∙ part_as modules (table_in cache) parts.numbers.items cache.modules.numbers here.sound.span.start here.sound.span.end
+      are.modules are.numbers
       ∙ here.list
 
   -- ---- the edges
@@ -127,8 +112,8 @@ module _ {run : Run} {cache : Cache} {worklist : Worklist} {findings : Findings}
       subst (λ (s : Source). IsEdge run (step_with modules s.from) y) (sym is) (
         is_opened k (has_place k place e),
         (
-          here.file,
-          subst (λ (x : ModuleVersion). Says run x (Ok here.file)) (sym (number_module k)) here.says,
+          here.sound.file,
+          subst (λ (x : ModuleVersion). Says run x (Ok here.sound.file)) (sym (number_module k)) here.sound.says,
           subst (λ (xs : List ModuleVersion). Contains xs y) (file_list k place e)
               (subst (λ (s : Source). Contains (modules_at modules (list_at lists s.list)) y) is h),
         ),
@@ -151,7 +136,7 @@ module _ {run : Run} {cache : Cache} {worklist : Worklist} {findings : Findings}
       by_place None none some = absurd (false≢true some)
       by_place (Some place) e some =
           let here = opened.lists number place e in
-          let same : r.0 ≡ here.file = file_same r.1 (subst (λ (z : ModuleVersion). Says run z (Ok here.file)) is here.says) in
+          let same : r.0 ≡ here.sound.file = file_same r.1 (subst (λ (z : ModuleVersion). Says run z (Ok here.sound.file)) is here.sound.says) in
           let source = source_there 0 places number place number e (omega arith) in
           subst (λ (z : ModuleVersion). Contains (edges_of modules steps) (edge (Of z) y)) (number_module number ∙ is)
           (listed_edge (file_source number place) y (suc source.0, omega (arith, source.1), source.2)
@@ -223,7 +208,7 @@ module _ {run : Run} {cache : Cache} {worklist : Worklist} {findings : Findings}
           by_place None none some = absurd (false≢true some)
           by_place (Some place) e some =
               let here = opened.lists number place e in
-              absurd (not_both is.1 (subst (λ (z : ModuleVersion). Says run z (Ok here.file)) (sym (number_module number) ∙ at) here.says))
+              absurd (not_both is.1 (subst (λ (z : ModuleVersion). Says run z (Ok here.sound.file)) (sym (number_module number) ∙ at) here.sound.says))
       listed one is number (inr f) at =
           let there = of.each number f.0 f.1 in
           let says = (fault_is (module_at modules number) there.0 (of.only (fault (module_at modules number) there.0) there.1)).1 in

@@ -13,11 +13,10 @@ use Rattle.gm_name.specs.ModuleVersion.{ModuleVersion, module_at, pair_eq, pair_
 use Rattle.gm_name_table.specs.Listed.{AreModuleNumbers}
 use Rattle.gm_graph.specs.declared.cache.parts.CacheParts.{CacheParts}
 use Rattle.gm_graph.specs.declared.cache.summary.Kept.{Kept}
-use Rattle.gm_graph.specs.declared.cache.summary.Kept.TheVariants.{Valid, Faulty}
-use Rattle.gm_graph.specs.declared.cache.summary.Summary.{Summary}
+use Rattle.gm_graph.specs.declared.cache.summary.ListSpan.{ListSpan}
 use Rattle.gm_graph.specs.Private.Findings.{place_at}
 use Rattle.gm_graph.specs.Private.Gathering.{AreFilePlaces, has_file, sources_from, gathered_sources, span_after, spans_from, spans_of, steps_by}
-use Rattle.gm_graph.specs.Private.Summaries.{AreListsInOrder}
+use Rattle.gm_graph.specs.Private.Summaries.{AreSpansInOrder, own_spans}
 use Rattle.gm_graph_select.specs.declared.adjacency.Source.{Source}
 use Rattle.gm_graph_select.specs.declared.number_lists.Span.{Span}
 use Rattle.gm_graph_select.specs.Adjacency.{AreUsed, HaveNumbers, IsBelow, IsNumbered, StepEdges, by_step, left_by, list_at, same_step, step_edges}
@@ -115,29 +114,28 @@ module _ (modules : List ModuleVersion) (distinct : IsDistinct pair_eq modules) 
 
 -- ---- the spans
 
-past_end : (files : List Kept) (k : ℕ) → slice_get files k ≡ None → length files ≤ k
+past_end : (owns : List (Option ListSpan)) (k : ℕ) → slice_get owns k ≡ None → length owns ≤ k
 past_end [] k e = omega arith
-past_end (file ∷ files) zero e = absurd (cc e)
-past_end (file ∷ files) (suc k) e = omega (arith, past_end files k e)
+past_end (own ∷ owns) zero e = absurd (cc e)
+past_end (own ∷ owns) (suc k) e = omega (arith, past_end owns k e)
 
-pub spans_apart : (used : ℕ → Bool) (place from : ℕ) (files : List Kept) (to : ℕ) → AreListsInOrder from files to
-    → AreSpansApart from (spans_from used place from files) to
+pub spans_apart : (used : ℕ → Bool) (place from : ℕ) (owns : List (Option ListSpan)) (to : ℕ) → AreSpansInOrder from owns to
+    → AreSpansApart from (spans_from used place from owns) to
 spans_apart used place from [] to are = are
-spans_apart used place from (Faulty class ∷ files) to are =
-    elim (used place) as (λ b. AreSpansApart from (span_after from b (Faulty class)
-    ∷ spans_from used (suc place) (span_after from b (Faulty class)).end files) to) [
-      | true ↦ (omega arith, omega arith, spans_apart used (suc place) from files to are)
-      | false ↦ (omega arith, omega arith, spans_apart used (suc place) from files to are)
+spans_apart used place from (None ∷ owns) to are =
+    elim (used place) as (λ b. AreSpansApart from (span_after from b None
+    ∷ spans_from used (suc place) (span_after from b None).end owns) to) [
+      | true ↦ (omega arith, omega arith, spans_apart used (suc place) from owns to are)
+      | false ↦ (omega arith, omega arith, spans_apart used (suc place) from owns to are)
     ]
-spans_apart used place from (Valid summary ∷ files) to are =
-    elim (used place) as (λ b. AreSpansApart from (span_after from b (Valid summary)
-    ∷ spans_from used (suc place) (span_after from b (Valid summary)).end files) to) [
-      | true ↦ (are.0, are.1, spans_apart used (suc place) summary.kept.end files to are.2)
+spans_apart used place from (Some own ∷ owns) to are =
+    elim (used place) as (λ b. AreSpansApart from (span_after from b (Some own)
+    ∷ spans_from used (suc place) (span_after from b (Some own)).end owns) to) [
+      | true ↦ (are.0, are.1, spans_apart used (suc place) own.end owns to are.2)
       | false ↦ (
         omega arith,
         omega arith,
-        spans_apart used (suc place) from files to
-            (order_from from summary.kept.end files to (omega (arith, are.0, are.1)) are.2),
+        spans_apart used (suc place) from owns to (order_from from own.end owns to (omega (arith, are.0, are.1)) are.2),
       )
     ]
 
@@ -149,95 +147,82 @@ from_place files k one below is =
     drop-cons files k one below ∙ ap (λ (f : Kept). f ∷ drop (suc k) files) (sym is) ∙ ap (λ (n : ℕ). one ∷ drop n files) next
 
 -- one span more
-pub span_more : (used : ℕ → Bool) (place next end : ℕ) (span : Span) (one : Kept) (b : Bool) (files rest : List Kept) (old new whole : List Span)
-    → next ≡ suc place → b ≡ used place → span ≡ span_after end b one → files ≡ one ∷ rest → new ≡ old ++ span ∷ []
-    → old ++ spans_from used place end files ≡ whole → new ++ spans_from used next span.end rest ≡ whole
-span_more used place next end span one b files rest old new whole following same is at pushed held =
-    let here = span_after end (used place) one in
-    let span_is : span ≡ here = is ∙ ap (λ (c : Bool). span_after end c one) same in
+pub span_more : (used : ℕ → Bool) (place next end : ℕ) (span : Span) (own : Option ListSpan) (b : Bool) (owns rest : List (Option ListSpan))
+    (old new whole : List Span)
+    → next ≡ suc place → b ≡ used place → span ≡ span_after end b own → owns ≡ own ∷ rest → new ≡ old ++ span ∷ []
+    → old ++ spans_from used place end owns ≡ whole → new ++ spans_from used next span.end rest ≡ whole
+span_more used place next end span own b owns rest old new whole following same is at pushed held =
+    let here = span_after end (used place) own in
+    let span_is : span ≡ here = is ∙ ap (λ (c : Bool). span_after end c own) same in
     ap (λ (spans : List Span). spans ++ spans_from used next span.end rest) pushed
     ∙ append_assoc old (span ∷ []) (spans_from used next span.end rest)
     ∙ ap (λ (s : Span). old ++ s ∷ spans_from used next s.end rest) span_is
     ∙ ap (λ (n : ℕ). old ++ here ∷ spans_from used n here.end rest) following
-    ∙ ap (λ (fs : List Kept). old ++ spans_from used place end fs) (sym at)
+    ∙ ap (λ (os : List (Option ListSpan)). old ++ spans_from used place end os) (sym at)
     ∙ held
 
-pub spans_same : (used other : ℕ → Bool) → ((place : ℕ) → used place ≡ other place) → (place from : ℕ) (files : List Kept)
-    → spans_from used place from files ≡ spans_from other place from files
+pub spans_same : (used other : ℕ → Bool) → ((place : ℕ) → used place ≡ other place) → (place from : ℕ) (owns : List (Option ListSpan))
+    → spans_from used place from owns ≡ spans_from other place from owns
 spans_same used other same place from [] = refl
-spans_same used other same place from (kept ∷ files) =
-    ap (λ (b : Bool). span_after from b kept ∷ spans_from used (suc place) (span_after from b kept).end files) (same place)
-    ∙ ap (λ (rest : List Span). span_after from (other place) kept ∷ rest)
-    (spans_same used other same (suc place) (span_after from (other place) kept).end files)
+spans_same used other same place from (own ∷ owns) =
+    ap (λ (b : Bool). span_after from b own ∷ spans_from used (suc place) (span_after from b own).end owns) (same place)
+    ∙ ap (λ (rest : List Span). span_after from (other place) own ∷ rest)
+    (spans_same used other same (suc place) (span_after from (other place) own).end owns)
 
 module _ (numbers : List ℕ) (used : ℕ → Bool) where
   -- the list of a file, which has a span behind some place
-  list_of : (place from : ℕ) (files : List Kept) (k at : ℕ) (kept : Kept) → at ≡ place + k → slice_get files k ≡ Some kept
-      → (end : ℕ) × (list_at (lists_at numbers (spans_from used place from files)) k
-      ≡ part_at numbers (span_after end (used at) kept))
-  list_of place from [] k at kept is there = absurd (cc there)
-  list_of place from (file ∷ files) zero at kept is there =
+  list_of : (place from : ℕ) (owns : List (Option ListSpan)) (k at : ℕ) (own : Option ListSpan) → at ≡ place + k → slice_get owns k ≡ Some own
+      → (end : ℕ) × (list_at (lists_at numbers (spans_from used place from owns)) k
+      ≡ part_at numbers (span_after end (used at) own))
+  list_of place from [] k at own is there = absurd (cc there)
+  list_of place from (first ∷ owns) zero at own is there =
       let same : place ≡ at = omega (arith, is) in (
         from,
-        ap (λ (p : ℕ). part_at numbers (span_after from (used p) file)) same
-            ∙ ap (λ (f : Kept). part_at numbers (span_after from (used at) f)) (same_Some file kept there),
+        ap (λ (p : ℕ). part_at numbers (span_after from (used p) first)) same
+            ∙ ap (λ (o : Option ListSpan). part_at numbers (span_after from (used at) o)) (same_Some first own there),
       )
-  list_of place from (file ∷ files) (suc k) at kept is there =
-      list_of (suc place) (span_after from (used place) file).end files k at kept (omega (arith, is)) there
+  list_of place from (first ∷ owns) (suc k) at own is there =
+      list_of (suc place) (span_after from (used place) first).end owns k at own (omega (arith, is)) there
 
   -- There is nothing in a list past the end.
-  past_lists : (place from : ℕ) (files : List Kept) (k : ℕ) → length files ≤ k
-      → list_at (lists_at numbers (spans_from used place from files)) k ≡ []
+  past_lists : (place from : ℕ) (owns : List (Option ListSpan)) (k : ℕ) → length owns ≤ k
+      → list_at (lists_at numbers (spans_from used place from owns)) k ≡ []
   past_lists place from [] k past = refl
-  past_lists place from (file ∷ files) zero past = absurd (omega (arith, past))
-  past_lists place from (file ∷ files) (suc k) past =
-      past_lists (suc place) (span_after from (used place) file).end files k (omega (arith, past))
+  past_lists place from (own ∷ owns) zero past = absurd (omega (arith, past))
+  past_lists place from (own ∷ owns) (suc k) past =
+      past_lists (suc place) (span_after from (used place) own).end owns k (omega (arith, past))
 
-  unused_part : (end : ℕ) (b : Bool) (kept : Kept) → b ≡ false → part_at numbers (span_after end b kept) ≡ []
-  unused_part end true kept e = absurd (false≢true (sym e))
-  unused_part end false kept e = between_none numbers end
+  unused_part : (end : ℕ) (b : Bool) (own : Option ListSpan) → b ≡ false → part_at numbers (span_after end b own) ≡ []
+  unused_part end true own e = absurd (false≢true (sym e))
+  unused_part end false own e = between_none numbers end
 
   -- If the list of a file is not empty, the file is used.
-  pub list_used : (from : ℕ) (files : List Kept) (k : ℕ)
-      → (list_at (lists_at numbers (spans_from used 0 from files)) k ≡ [] → ⊥) → used k ≡ true
-  list_used from files k some = elim (cases_Bool (used k)) [
+  pub list_used : (from : ℕ) (owns : List (Option ListSpan)) (k : ℕ)
+      → (list_at (lists_at numbers (spans_from used 0 from owns)) k ≡ [] → ⊥) → used k ≡ true
+  list_used from owns k some = elim (cases_Bool (used k)) [
     | inl is ↦ is
-    | inr is_not ↦ absurd (some (by_file (slice_get files k) refl is_not))
+    | inr is_not ↦ absurd (some (by_own (slice_get owns k) refl is_not))
   ]
     where
-      by_file : (o : Option Kept) → slice_get files k ≡ o → used k ≡ false
-          → list_at (lists_at numbers (spans_from used 0 from files)) k ≡ []
-      by_file None none not_used = past_lists 0 from files k (past_end files k none)
-      by_file (Some kept) there not_used =
-          let (end, is) = list_of 0 from files k k kept (omega arith) there in
-          is ∙ unused_part end (used k) kept not_used
+      by_own : (o : Option (Option ListSpan)) → slice_get owns k ≡ o → used k ≡ false
+          → list_at (lists_at numbers (spans_from used 0 from owns)) k ≡ []
+      by_own None none not_used = past_lists 0 from owns k (past_end owns k none)
+      by_own (Some own) there not_used =
+          let (end, is) = list_of 0 from owns k k own (omega arith) there in
+          is ∙ unused_part end (used k) own not_used
 
-  used_part : (end : ℕ) (b : Bool) (summary : Summary) → b ≡ true
-      → part_at numbers (span_after end b (Valid summary)) ≡ between summary.kept.start summary.kept.end numbers
-  used_part end true summary e = refl
-  used_part end false summary e = absurd (false≢true e)
+  used_part : (end : ℕ) (b : Bool) (own : ListSpan) → b ≡ true
+      → part_at numbers (span_after end b (Some own)) ≡ between own.start own.end numbers
+  used_part end true own e = refl
+  used_part end false own e = absurd (false≢true e)
 
-  -- The list of a valid file that is used has the numbers of its requirements.
-  pub used_list : (from : ℕ) (files : List Kept) (k : ℕ) (summary : Summary) → used k ≡ true
-      → slice_get files k ≡ Some (Valid summary)
-      → list_at (lists_at numbers (spans_from used 0 from files)) k ≡ between summary.kept.start summary.kept.end numbers
-  used_list from files k summary is there =
-      let (end, list) = list_of 0 from files k k (Valid summary) (omega arith) there in
-      list ∙ used_part end (used k) summary is
-
-  faulty_part : (end : ℕ) (b : Bool) (kept : Kept) → ((summary : Summary) → kept ≡ Valid summary → ⊥)
-      → part_at numbers (span_after end b kept) ≡ []
-  faulty_part end true (Valid summary) not_valid = absurd (not_valid summary refl)
-  faulty_part end true (Faulty class) not_valid = between_none numbers end
-  faulty_part end false kept not_valid = between_none numbers end
-
-  -- That of a file with a fault is empty.
-  pub faulty_list : (from : ℕ) (files : List Kept) (k : ℕ) (kept : Kept) → slice_get files k ≡ Some kept
-      → ((summary : Summary) → kept ≡ Valid summary → ⊥)
-      → list_at (lists_at numbers (spans_from used 0 from files)) k ≡ []
-  faulty_list from files k kept there not_valid =
-      let (end, list) = list_of 0 from files k k kept (omega arith) there in
-      list ∙ faulty_part end (used k) kept not_valid
+  -- The list of a file that has its own, and is used, has the numbers of its requirements.
+  pub used_list : (from : ℕ) (owns : List (Option ListSpan)) (k : ℕ) (own : ListSpan) → used k ≡ true
+      → slice_get owns k ≡ Some (Some own)
+      → list_at (lists_at numbers (spans_from used 0 from owns)) k ≡ between own.start own.end numbers
+  used_list from owns k own is there =
+      let (end, list) = list_of 0 from owns k k (Some own) (omega arith) there in
+      list ∙ used_part end (used k) own is
 
 -- ---- files that vertices have
 
@@ -274,7 +259,7 @@ module _ (parts : CacheParts) (places : List (Option ℕ)) (are : AreFilePlaces 
   lists = lists_by parts places
 
   pub lists_apart : AreSpansApart 0 (spans_of parts.first parts.files.items (has_file places)) (length parts.numbers.items)
-  lists_apart = (omega arith, omega arith, spans_apart (has_file places) 0 parts.first parts.files.items (length parts.numbers.items) parts.in_order)
+  lists_apart = (omega arith, omega arith, spans_apart (has_file places) 0 parts.first (own_spans parts.files.items) (length parts.numbers.items) parts.in_order)
 
   pub steps_once : IsDistinct (same_step parts.modules.items) (steps_by parts places)
   steps_once = sources_once parts.modules.items parts.distinct lists places (λ k place e. (are k place e).0)
@@ -282,7 +267,7 @@ module _ (parts : CacheParts) (places : List (Option ℕ)) (are : AreFilePlaces 
   pub lists_used : AreUsed lists (gathered_sources places)
   lists_used zero some = (record { from = None; list = 0 }, (0, omega arith, refl), refl)
   lists_used (suc place) some =
-      let (k, there) = has_noted places place (list_used parts.numbers.items (has_file places) parts.first parts.files.items place some) in
+      let (k, there) = has_noted places place (list_used parts.numbers.items (has_file places) parts.first (own_spans parts.files.items) place some) in
       let source = source_there 0 places k place k there (omega arith) in
       (file_source k place, (suc source.0, omega (arith, source.1), source.2), omega arith)
 

@@ -1,7 +1,7 @@
 -- What stays when more is asked for, and when a cache returns requirements.
-use Rattle.std.proofs.Common.{◌≡◌, ◌∙◌, ◌<◌, ℕ, zero, suc, List, [], ◌∷◌, ◌++◌, Option, Some, None, Result, Ok, Err, append-nil, arith, inl, inr, length, length-append, sym, ap, ap₂, subst, refl}
-use Rattle.std.specs.Prelude.{IsErrAnd, OnErr, slice_get}
-use Rattle.std.specs.Option.{option_map}
+use Rattle.std.proofs.Common.{◌≡◌, ◌∙◌, ◌<◌, ℕ, List, [], ◌∷◌, ◌++◌, Option, Some, None, Result, Ok, Err, append-nil, arith, inl, inr, length, length-append, sym, ap, ap₂, subst, refl}
+use Rattle.std.specs.Prelude.{IsErrAnd, OnErr}
+use Rattle.std.specs.Option.{option_and_then, option_map}
 use Rattle.gm_store.specs.Asked.{Name, Reply}
 use Rattle.gm_store.specs.Requests.{refused_for}
 use Rattle.gm_store.specs.States.{StoreState}
@@ -15,13 +15,14 @@ use Rattle.gm_name_table.proofs.Listed.{begins_after}
 use Rattle.gm_graph.specs.declared.cache.Cache.{Cache}
 use Rattle.gm_graph.specs.declared.cache.file_table.FileTable.{FileTable}
 use Rattle.gm_graph.specs.declared.cache.summary.Kept.{Kept}
+use Rattle.gm_graph.specs.declared.cache.summary.ListSpan.{ListSpan}
 use Rattle.gm_file.specs.Main.{Main, main_of}
 use Rattle.gm_graph.specs.Reading.{IsFileReading, file_of}
 use Rattle.gm_graph.specs.FileTable.{kept_at}
 use Rattle.gm_graph.specs.Private.FileTable.{KeepsFiles}
-use Rattle.gm_graph.specs.Summaries.{IsKept, summary_reading}
+use Rattle.gm_graph.specs.Summaries.{IsKept, listed_span, own_span_at, summary_reading}
 use Rattle.gm_graph.specs.Private.Summaries.{Grows}
-use Rattle.gm_graph.specs.Cached.{HoldsSame, KeepsSound, Knows, LendsKept, LentSame, held_of, kept_file, main_in, run_in, summary_at, sums_in, table_in}
+use Rattle.gm_graph.specs.Cached.{HoldsSame, KeepsSound, Knows, LendsKept, LentSame, held_of, main_in, run_in, summary_at, sums_in, table_in}
 use Rattle.gm_graph.specs.Private.Cached.{HasMadeKnown, IsPlaceFor}
 use Rattle.gm_graph.specs.Run.{KeepsSayings, Run, Says, run_of}
 use Rattle.gm_graph.specs.Asking.{AsksFor}
@@ -30,7 +31,7 @@ use Rattle.gm_graph.specs.Private.Asking.{IsLoadFaultOf}
 use Rattle.gm_graph.specs.declared.cache.load_fault.LoadFault.{LoadFault}
 use Rattle.gm_graph.specs.declared.cache.load_fault.LoadFault.TheVariants as load
 use Rattle.gm_graph.proofs.Sayings.{says_more}
-use Rattle.gm_graph.proofs.PuttingPlaces.{front_stays}
+use Rattle.gm_graph.proofs.SharedLists.{own_still}
 use Rattle.gm_graph.specs.Held.{AreKept, held_under}
 use Rattle.gm_graph.proofs.HeldFiles.{grown_held, grown_lends}
 
@@ -58,10 +59,9 @@ says_still old new before after x lent (inr asked) =
 
 -- ---- places stay
 
-pub file_there : (files : List Kept) (place : ℕ) → place < length files → (one : Kept) × (slice_get files place ≡ Some one)
-file_there [] place within = absurd (omega arith)
-file_there (file ∷ files) zero within = (file, refl)
-file_there (file ∷ files) (suc place) within = file_there files place (omega arith)
+kept_there : (o : Option Kept) (span : ListSpan) → option_and_then listed_span o ≡ Some span → (one : Kept) × (o ≡ Some one)
+kept_there None span e = absurd (cc e)
+kept_there (Some one) span e = (one, refl)
 
 -- If the files are still where they were and what they were found by, and say what they said, what was found at a place
 -- is found there still.
@@ -70,13 +70,14 @@ pub sound_still : (old new : Cache) (earlier later : Run) → new.main.now ≡ o
     → KeepsSayings earlier later → KeepsSound old earlier new later
 sound_still old new earlier later main files stay keeps x place sound =
     let same : main_in new ≡ main_in old = ap main_of main in
-    let there = file_there old.files.files.items place sound.within in
-    let here : kept_file new place ≡ kept_file old place =
-    ap (λ (list : List Kept). slice_get list place) files.1 ∙ front_stays old.files.files.items files.0 place sound.within in
+    let one = kept_there (summary_at old (file_of (main_in old) x)) sound.span sound.listed in
     record {
       within = omega (arith, sound.within, ap length files.1, length-append old.files.files.items files.0);
-      kept = here ∙ there.1 ∙ sym (stay (file_of (main_in old) x) there.0 (sym sound.kept ∙ there.1))
-          ∙ ap (λ (m : Main). summary_at new (file_of m x)) (sym same);
+      span = sound.span;
+      own = ap (λ (list : List Kept). own_span_at list place) files.1
+          ∙ own_still old.files.files.items files.0 place sound.span sound.own;
+      listed = ap (λ (m : Main). option_and_then listed_span (summary_at new (file_of m x))) same
+          ∙ ap (option_and_then listed_span) (stay (file_of (main_in old) x) one.0 one.1 ∙ sym one.1) ∙ sound.listed;
       file = sound.file;
       says = keeps x (Ok sound.file) sound.says;
     }

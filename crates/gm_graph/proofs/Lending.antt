@@ -1,8 +1,9 @@
 -- What is found of a vertex, and which requirements are returned for it.
-use Rattle.std.proofs.Common.{◌≡◌, ◌<◌, ◌∙◌, ℕ, List, Option, Some, None, Result, Ok, Err, sym, ap, refl, subst}
+use Rattle.std.proofs.Common.{◌≡◌, ◌<◌, ◌∙◌, ℕ, List, Option, Some, None, Ok, Err, sym, ap, refl, subst}
 use Rattle.std.specs.Prelude.{IfSome}
 use Rattle.std.specs.List.{IsDistinct}
-use Rattle.std.specs.Option.{option_map}
+use Rattle.std.specs.Option.{option_and_then, option_map}
+use Rattle.std.proofs.lemmas.Option.{same_Some}
 use Rattle.std.proofs.Math.Logic.{∥∥₁_elim}
 use Rattle.std.proofs.Props.{props}
 use Rattle.gm_name.specs.ModuleVersion.{ModuleVersion, pair_eq}
@@ -23,16 +24,17 @@ use Rattle.gm_graph.specs.declared.cache.visit.Visit.TheVariants as visit
 use Rattle.gm_graph.specs.declared.cache.Cache.{Cache}
 use Rattle.gm_file.specs.Main.{Main, without_excluded}
 use Rattle.gm_graph.specs.Reading.{file_of}
-use Rattle.gm_graph.specs.Summaries.{IsKept, IsWithinList, at_span, summary_reading}
-use Rattle.gm_graph.specs.Private.Summaries.{span_found}
-use Rattle.gm_graph.specs.Cached.{AreRequirements, IsSound, KeepsSound, Knows, LendsKept, file_count, its_requirements, kept_file, main_in, no_requirements, run_in, table_in}
-use Rattle.gm_graph.specs.Private.Cached.{HasFileAt, IsLender, module_numbered, span_at}
+use Rattle.gm_graph.specs.declared.cache.summary.ListSpan.{ListSpan}
+use Rattle.gm_graph.specs.Summaries.{IsKept, IsWithinList, at_span, listed_span, summary_reading}
+use Rattle.gm_graph.specs.Cached.{AreRequirements, IsSound, KeepsSound, Knows, file_count, its_requirements, main_in, no_requirements, run_in, summary_at, table_in}
+use Rattle.gm_graph.specs.Private.Cached.{HasFileAt, IsLender, kept_file, module_numbered, span_at}
 use Rattle.gm_graph.specs.Private.CacheVisits.{Continues, IsSaid, IsVisit, IsVisitOf, LendsOver, file_said}
 use Rattle.gm_graph.specs.Lent.{lent_modules}
 use Rattle.gm_graph.specs.Private.Held.{lent_table}
 use Rattle.gm_graph.specs.Private.Visiting.{HasListAt}
-use Rattle.gm_graph.specs.Run.{FileSays, KeepsSayings, Run, Says}
+use Rattle.gm_graph.specs.Run.{FileSays, KeepsSayings, Says}
 use Rattle.gm_graph.proofs.Holding.{held_says, held_sound}
+use Rattle.gm_graph.proofs.SharedLists.{found_own, kept_listed}
 use Rattle.gm_graph.proofs.Spans.{span_within}
 
 -- What is kept at the place of a vertex's file is what the file says.
@@ -42,49 +44,45 @@ kept_says cache pairs x place one knows at there =
     held_says cache pairs knows (file_of (main_in cache) x) (summary_reading (modules_of cache.modules) one) at.askable
     (ap (option_map (summary_reading (modules_of cache.modules))) (sym at.kept ∙ there))
 
-lent_one : (main : Main) (modules : List ModuleVersion) (o : Option Kept) (file : Dependency) → ((one : Kept) → o ≡ Some one → IsKept main modules one)
-    → option_map (summary_reading modules) o ≡ Some (Ok file) → at_span modules (span_found o) ≡ without_excluded main file.requirements
-lent_one main modules None file is e = absurd cc
-lent_one main modules (Some (Faulty class)) file is e = absurd cc
-lent_one main modules (Some (Valid summary)) file is e =
+lent_one : (main : Main) (modules : List ModuleVersion) (o : Option Kept) (file : Dependency) (span : ListSpan)
+    → ((one : Kept) → o ≡ Some one → IsKept main modules one) → option_and_then listed_span o ≡ Some span
+    → option_map (summary_reading modules) o ≡ Some (Ok file) → at_span modules span ≡ without_excluded main file.requirements
+lent_one main modules None file span is listed e = absurd (cc e)
+lent_one main modules (Some (Faulty class)) file span is listed e = absurd (cc listed)
+lent_one main modules (Some (Valid summary)) file span is listed e =
     let same : with_requirements summary.file (at_span modules summary.all) ≡ file = cc in
-    (is (Valid summary) refl).without ∙ ap (λ (f : Dependency). without_excluded main f.requirements) same
+    ap (at_span modules) (sym (same_Some summary.kept span listed)) ∙ (is (Valid summary) refl).without
+    ∙ ap (λ (f : Dependency). without_excluded main f.requirements) same
 
--- If a vertex has no fault, what its file says is held of the file at its place.
-held_there : (cache : Cache) (pairs : List (Name × Reply)) (x : ModuleVersion) (place : ℕ) (file : Dependency) → Knows cache pairs
-    → IsSound cache (run_in cache pairs) x place → Says (run_in cache pairs) x (Ok file)
-    → option_map (summary_reading (modules_of cache.modules)) (kept_file cache place) ≡ Some (Ok file)
-held_there cache pairs x place file knows at says =
-    ap (option_map (summary_reading (modules_of cache.modules))) at.kept ∙ held_sound cache pairs knows x file says
+-- The list at a vertex's place is what the vertex requires.
+list_is : (cache : Cache) (pairs : List (Name × Reply)) (x : ModuleVersion) (place : ℕ) (file : Dependency) → Knows cache pairs
+    → (at : IsSound cache (run_in cache pairs) x place) → Says (run_in cache pairs) x (Ok file)
+    → at_span (modules_of cache.modules) at.span ≡ without_excluded (main_in cache) file.requirements
+list_is cache pairs x place file knows at says =
+    lent_one (main_in cache) (modules_of cache.modules) (summary_at cache (file_of (main_in cache) x)) file at.span
+    (λ one e. knows.lends (file_of (main_in cache) x) one e) at.listed (held_sound cache pairs knows x file says)
 
--- The list of the file at a vertex's place is what the vertex requires.
 pub list_there : (cache : Cache) (pairs : List (Name × Reply)) (x : ModuleVersion) (place : ℕ) → Knows cache pairs
     → IsSound cache (run_in cache pairs) x place → HasListAt cache (run_in cache pairs) x place
-list_there cache pairs x place knows at = record {
-  within = at.within;
-  file = at.file;
-  says = at.says;
-  list = lent_one (main_in cache) (modules_of cache.modules) (kept_file cache place) at.file
-      (λ one e. knows.lends (file_of (main_in cache) x) one (sym at.kept ∙ e)) (held_there cache pairs x place at.file knows at at.says);
-}
+list_there cache pairs x place knows at = record { sound = at; list = list_is cache pairs x place at.file knows at at.says }
 
 -- The requirements returned from the place of a vertex's file, or from none if the vertex has a fault, are its
 -- requirements.
 pub lent_kept : (cache : Cache) (pairs : List (Name × Reply)) (x : ModuleVersion) (place : Option ℕ) → Knows cache pairs
     → IsLender cache (run_in cache pairs) x place
     → AreRequirements (run_in cache pairs) x (at_span (modules_of cache.modules) (span_at cache place))
-unfolding list_there
 lent_kept cache pairs x None knows lender = no_requirements lender.1
 lent_kept cache pairs x (Some place) knows lender =
     subst (λ (xs : List ModuleVersion). AreRequirements (run_in cache pairs) x xs)
-    (sym (list_there cache pairs x place knows lender).list) (its_requirements lender.says)
+    (sym (ap (at_span (modules_of cache.modules)) (found_own (kept_file cache place) lender.span lender.own)
+    ∙ list_is cache pairs x place lender.file knows lender lender.says)) (its_requirements lender.says)
 
--- Where these requirements are is within the list of modules.
-pub lent_within : (cache : Cache) (run : Run) (x : ModuleVersion) (place : Option ℕ) → LendsKept cache → IsLender cache run x place
-    → IsWithinList (modules_of cache.modules) (span_at cache place)
-lent_within cache run x None lends lender = span_within (main_in cache) (modules_of cache.modules) None (λ one e. absurd (cc e))
-lent_within cache run x (Some place) lends lender =
-    span_within (main_in cache) (modules_of cache.modules) (kept_file cache place) (λ one e. lends (file_of (main_in cache) x) one (sym lender.kept ∙ e))
+-- Where requirements are is within the list of modules.
+pub lent_within : (cache : Cache) (place : Option ℕ) → IsWithinList (modules_of cache.modules) (span_at cache place)
+lent_within cache None = span_within (main_in cache) (modules_of cache.modules) None (λ one e. absurd (cc e))
+lent_within cache (Some place) =
+    span_within (main_in cache) (modules_of cache.modules) (kept_file cache place)
+    (λ one e. kept_listed (main_in cache) (modules_of cache.modules) cache.files.files.items place one cache.listed e)
 
 -- ---- what a visit gets
 
@@ -105,7 +103,6 @@ module _ (cache : Cache) (pairs : List (Name × Reply)) (number : ℕ) (d : Dept
       → IsSaid cache (run_in cache pairs) (module_numbered cache number) d says
       → lent_modules list ≡ at_span (modules_of cache.modules) (span_at cache (file_said says)) → lent_table list ≡ table_in cache
       → IsVisitOf says list got → IsVisit cache (run_in cache pairs) (module_numbered cache number) d got
-  unfolding list_there
   visit_got (said.Fault class) list (visit.Fault fault) knows is modules table of =
       subst (λ (c : Class). Says (run_in cache pairs) (module_numbered cache number) (Err c)) (sym of) is
   visit_got (said.Fault class) list (visit.Required required) knows is modules table of = absurd of
@@ -119,7 +116,8 @@ module _ (cache : Cache) (pairs : List (Name × Reply)) (number : ℕ) (d : Dept
           file = is.0.file;
           says = is.0.says;
           leads = is.1;
-          modules = modules ∙ (list_there cache pairs x file knows is.0).list;
+          modules = modules ∙ ap (at_span (modules_of cache.modules)) (found_own (kept_file cache file) is.0.span is.0.own)
+              ∙ list_is cache pairs x file is.0.file knows is.0 is.0.says;
         },
         table,
       )
@@ -128,26 +126,13 @@ module _ (cache : Cache) (pairs : List (Name × Reply)) (number : ℕ) (d : Dept
 
 -- Some answers are known, so what holds by all that the cache knows holds by some.
 module _ (cache : Cache) (x : ModuleVersion) where
-  pub lent_there : (place : Option ℕ) → ((pairs : List (Name × Reply)) → Knows cache pairs → IsLender cache (run_in cache pairs) x place)
-      → IsWithinList (modules_of cache.modules) (span_at cache place)
-  lent_there place is = ∥∥₁_elim cache.holds_some (hlevel props) (λ some. lent_within cache (run_in cache some.0) x place some.1.lends (is some.0 some.1))
-
   -- A place is that of a file.
   pub lender_there : (place : Option ℕ) → ((pairs : List (Name × Reply)) → Knows cache pairs → IsLender cache (run_in cache pairs) x place)
       → IfSome place (λ there. there < file_count cache)
   lender_there None is = tt
   lender_there (Some place) is = ∥∥₁_elim cache.holds_some (hlevel props) (λ some. (is some.0 some.1).within)
 
--- Vertices whose file is at one place have the same file.
-one_file_there : (cache : Cache) (pairs : List (Name × Reply)) (x y : ModuleVersion) (place : ℕ) (file other : Dependency) → Knows cache pairs
-    → IsSound cache (run_in cache pairs) x place → Says (run_in cache pairs) x (Ok file)
-    → IsSound cache (run_in cache pairs) y place → Says (run_in cache pairs) y (Ok other) → file ≡ other
-one_file_there cache pairs x y place file other knows at says there also =
-    let same : ◌≡◌ {A = Option (Result Dependency Class)} (Some (Ok file)) (Some (Ok other)) =
-    sym (held_there cache pairs x place file knows at says) ∙ held_there cache pairs y place other knows there also in
-    cc same
-
--- What a visit gets is what each vertex requires that had this file.
+-- What a visit gets is what each vertex requires that had this list.
 pub lends_over : (old new : Cache) (earlier pairs : List (Name × Reply)) (x : ModuleVersion) (d : Depth) (got : Visit) → Knows new pairs
     → Continues old new → KeepsSayings (run_in old earlier) (run_in new pairs) → KeepsSound old (run_in old earlier) new (run_in new pairs)
     → IsDistinct pair_eq (table_in new) → IsVisit new (run_in new pairs) x d got → LendsOver old (run_in old earlier) got
@@ -156,8 +141,9 @@ lends_over old new earlier pairs x d (visit.Required required) knows continues s
   begins = subst (λ (ms : List ModuleVersion). BeginsWith (table_in old) ms) (sym is.2) continues.numbered;
   distinct = subst (λ (ms : List ModuleVersion). IsDistinct pair_eq ms) (sym is.2) distinct;
   shared = λ y file at says.
-      let same : is.1.file ≡ file =
-      one_file_there new pairs x y required.file is.1.file file knows is.0 is.1.says (keeps y required.file at) (stays y (Ok file) says) in
-      is.1.modules ∙ ap (λ (f : Dependency). without_excluded (main_in new) f.requirements) same
+      let there = keeps y required.file at in
+      is.1.modules ∙ sym (list_is new pairs x required.file is.1.file knows is.0 is.1.says)
+      ∙ ap (at_span (modules_of new.modules)) (same_Some is.0.span there.span (sym is.0.own ∙ there.own))
+      ∙ list_is new pairs y required.file file knows there (stays y (Ok file) says)
       ∙ ap (λ (m : Main). without_excluded m file.requirements) continues.main;
 }

@@ -37,6 +37,8 @@ pub mod FilePlaces
 pub mod PuttingPlaces
 pub mod Replacements
 pub mod Spans
+pub mod SharedLists
+pub mod GrownCache
 pub mod Named
 pub mod FirstTurns
 pub mod FoundFiles

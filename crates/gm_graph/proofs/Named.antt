@@ -1,7 +1,7 @@
 -- The calls of a cache that name modules and files.
-use Rattle.std.proofs.Common.{◌≡◌, ◌∙◌, ◌∷◌, [], ℕ, List, Option, None, Some, Result, Ok, Err, ap, subst, sym}
+use Rattle.std.proofs.Common.{◌≡◌, ◌∙◌, ◌∷◌, [], ℕ, refl, List, Option, None, Some, Result, Ok, Err, ap, subst, sym}
 use Rattle.std.specs.Prelude.{MatchResult}
-use Rattle.std.specs.Option.{option_map}
+use Rattle.std.specs.Option.{option_and_then, option_map}
 use Rattle.gm_name.specs.ModuleVersion.{ModuleVersion}
 use Rattle.gm_name_table.specs.Listed.{NumberedList, modules_of}
 use Rattle.gm_store.specs.Asked.{Name, Reply}
@@ -11,12 +11,16 @@ use Rattle.gm_graph.specs.declared.cache.by_name.Known.TheVariants as known
 use Rattle.gm_graph.specs.declared.cache.depth.Turn.{Turn}
 use Rattle.gm_graph.specs.declared.cache.file_table.FileTable.{FileTable}
 use Rattle.gm_graph.specs.Held.{HoldsAnswers}
-use Rattle.gm_graph.specs.Cached.{HasMoreTurns, HasSoundFile, IsKnownAs, IsLenderNamed, Knows, KnowsLender, file_known, held_of, main_in, run_in, summary_at}
-use Rattle.gm_graph.specs.Private.Cached.{IsLender}
+use Rattle.gm_graph.specs.Cached.{HasMoreTurns, HasSoundFile, IsKnownAs, IsLenderNamed, IsSound, Knows, KnowsLender, file_known, held_of, main_in, run_in, summary_at}
+use Rattle.gm_graph.specs.Private.Cached.{kept_file}
+use Rattle.gm_graph.specs.declared.cache.summary.Kept.{Kept}
+use Rattle.gm_graph.specs.declared.cache.summary.Kept.TheVariants.{Valid, Faulty}
 use Rattle.gm_graph.specs.Private.FileTable.{IsPlaceOf}
 use Rattle.gm_graph.specs.Run.{Run}
 use Rattle.gm_graph.specs.Reading.{file_of}
-use Rattle.gm_graph.specs.Summaries.{summary_reading}
+use Rattle.gm_graph.specs.Summaries.{listed_span, summary_reading}
+use Rattle.gm_graph.specs.Private.Summaries.{list_place}
+use Rattle.gm_graph.proofs.SharedLists.{list_owned}
 use Rattle.gm_graph.proofs.Holding.{held_sound}
 use Rattle.gm_graph.proofs.Keeping.{same_run}
 
@@ -25,22 +29,35 @@ use Rattle.gm_graph.proofs.Keeping.{same_run}
 module _ (cache : Cache) (pairs : List (Name × Reply)) (x : ModuleVersion) (name : Name) (knows : Knows cache pairs)
     (is : HasSoundFile (run_in cache pairs) x name) where
   -- Something is kept of the file.
-  named_kept : summary_at cache name ≡ None → ⊥
+  pub named_kept : summary_at cache name ≡ None → ⊥
   named_kept none =
       let held : held_of cache (file_of (main_in cache) x) ≡ Some (Ok is.file) = held_sound cache pairs knows x is.file is.says in
       let empty : held_of cache name ≡ None = ap (option_map (summary_reading (modules_of cache.modules))) none in
       let here : held_of cache name ≡ Some (Ok is.file) = ap (held_of cache) is.name_is ∙ held in
       cc (sym empty ∙ here)
 
-  -- The place at which it is found is that of the vertex's file.
-  pub lender_named : (place : Option ℕ) → IsPlaceOf cache.files name place → IsLender cache (run_in cache pairs) x place
-  lender_named None none = absurd (named_kept none)
-  lender_named (Some place) at = record {
-    within = at.0;
-    kept = at.1 ∙ ap (summary_at cache) is.name_is;
-    file = is.file;
-    says = is.says;
-  }
+  -- The place of the file that has its list is where the vertex's requirements are.
+  pub lender_named : (place : ℕ) → IsPlaceOf cache.files name (Some place)
+      → IsSound cache (run_in cache pairs) x (list_place cache.files.files.items place)
+  lender_named place at = by (kept_file cache place) refl (ap (option_map (summary_reading (modules_of cache.modules))) (at.1 ∙ ap (summary_at cache) is.name_is)
+      ∙ held_sound cache pairs knows x is.file is.says)
+    where
+      by : (o : Option Kept) → kept_file cache place ≡ o
+          → option_map (summary_reading (modules_of cache.modules)) (kept_file cache place) ≡ Some (Ok is.file)
+          → IsSound cache (run_in cache pairs) x (list_place cache.files.files.items place)
+      by None here held = absurd (cc (sym (ap (option_map (summary_reading (modules_of cache.modules))) here) ∙ held))
+      by (Some (Faulty class)) here held =
+          absurd (cc (sym (ap (option_map (summary_reading (modules_of cache.modules))) here) ∙ held))
+      by (Some (Valid summary)) here held =
+          let owned = list_owned (main_in cache) (modules_of cache.modules) cache.files.files.items place summary cache.listed here in
+          record {
+            within = owned.0;
+            span = summary.kept;
+            own = owned.1;
+            listed = ap (option_and_then listed_span) (sym (at.1 ∙ ap (summary_at cache) is.name_is) ∙ here);
+            file = is.file;
+            says = is.says;
+          }
 
 -- The name that was given.
 pub name_here : {A : Type 0} (f : A → Name) (run : Run) (x : ModuleVersion) (o : Option A) (a : A) → o ≡ Some a

@@ -1,5 +1,5 @@
 -- The files of modules in a cache, and what was added of them.
-use Rattle.std.proofs.Common.{◌≡◌, ◌∙◌, ◌<◌, ℕ, cond, true, Bool, Option, None, Some, Result, Ok, Err, ap, ap₂, length, refl, sym}
+use Rattle.std.proofs.Common.{◌≡◌, ◌∙◌, ◌<◌, ◌∷◌, [], ℕ, List, zero, suc, arith, cond, true, Bool, Option, None, Some, Result, Ok, Err, ap, ap₂, length, refl, sym}
 use Rattle.std.specs.Prelude.{IfOk, OnErr, OnOk, slice_get}
 use Rattle.std.specs.Option.{option_and_then, option_or}
 use Rattle.std.proofs.lemmas.Option.{slice_get_within}
@@ -12,13 +12,12 @@ use Rattle.gm_store.specs.Asked.{Name}
 use Rattle.gm_graph.specs.declared.cache.file_table.FileTable.{FileTable}
 use Rattle.gm_graph.specs.declared.cache.summary.Kept.{Kept}
 use Rattle.gm_graph.specs.declared.cache.Cache.{Cache}
-use Rattle.gm_graph.specs.Cached.{kept_file, main_in, summary_at, table_in}
-use Rattle.gm_graph.specs.Private.Cached.{HasFileAt, module_numbered}
+use Rattle.gm_graph.specs.Cached.{main_in, summary_at, table_in}
+use Rattle.gm_graph.specs.Private.Cached.{HasFileAt, kept_file, module_numbered}
 use Rattle.gm_graph.specs.FileTable.{kept_at, place_of}
 use Rattle.gm_graph.specs.Private.FileTable.{PutsFile, IsFileOf, IsNewFile, IsPlacedAt, KeepsNoted, KeepsOthers, NotesFiles, NotesFor, noted_for, replacing_place}
 use Rattle.gm_graph.specs.Reading.{file_of, is_askable}
 use Rattle.gm_graph.proofs.FilePlaces.{place_by}
-use Rattle.gm_graph.proofs.Keeping.{file_there}
 use Rattle.gm_graph.proofs.PuttingPlaces.{notes_again, notes_kept}
 
 -- The file of a module, in a cache.
@@ -37,6 +36,11 @@ nothing_kept cache number name x distinct within named is nowhere none =
     (place_by (main_in cache) (table_in cache) cache.files number name
     (is_file_of cache number name distinct within (named ∙ ap (file_of (main_in cache)) is))
     ∙ ap₂ (λ (o p : Option ℕ). option_or o p) nowhere none)
+
+file_there : (files : List Kept) (place : ℕ) → place < length files → (one : Kept) × (slice_get files place ≡ Some one)
+file_there [] place within = absurd (omega arith)
+file_there (file ∷ files) zero within = (file, refl)
+file_there (file ∷ files) (suc place) within = file_there files place (omega arith)
 
 -- The name of a module's file, of which nothing was kept.
 pub new_file : (cache : Cache) (number : ℕ) (name : Name) → number < length (table_in cache)

@@ -61,7 +61,7 @@ span_within main modules (Some (Valid summary)) is = (is (Valid summary) refl).k
 -- If no requirement is excluded, all of them are also those that are not.
 pub summary_together : (main : Main) (modules : List ModuleVersion) (file : Head) (start end : ℕ) → start ≤ length modules → end ≡ length modules
     → list_any (is_excluded main) (part start end modules) ≡ false
-    → IsSummary main modules (record { file = file; all = record { start = start; end = end }; kept = record { start = start; end = end } })
+    → IsSummary main modules (record { file = file; all = record { start = start; end = end }; kept = record { start = start; end = end }; same_as = None })
 summary_together main modules file start end below is none =
     let within : IsWithinList modules (record { start = start; end = end }) = record { order = omega (arith, below, is); within = omega (arith, is) } in
     record { all_within = within; kept_within = within; without = all_others (is_excluded main) (part start end modules) none }

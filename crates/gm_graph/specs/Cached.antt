@@ -1,6 +1,6 @@
 -- What a cache holds, what it finds of a vertex, and which requirements it returns.
-use Rattle.std.specs.Prelude.{◌≡◌, ◌<◌, ℕ, List, [], ◌∷◌, ◌++◌, Option, Some, None, MatchResult, Result, Ok, Err, length, slice_get}
-use Rattle.std.specs.Option.{option_copied}
+use Rattle.std.specs.Prelude.{◌≡◌, ◌<◌, ℕ, List, [], ◌∷◌, ◌++◌, Option, Some, None, MatchResult, Result, Ok, Err, length}
+use Rattle.std.specs.Option.{option_and_then, option_copied}
 use Rattle.std.specs.Borrow.{Fml, MutBor}
 use Rattle.std.specs.Io.BufRead.{Rests}
 use Rattle.gm_name.specs.ModuleVersion.{ModuleVersion}
@@ -13,12 +13,14 @@ use Rattle.gm_graph.specs.declared.cache.by_name.Known.TheVariants as known
 use Rattle.gm_graph.specs.declared.cache.class.Class.{Class}
 use Rattle.gm_graph.specs.declared.cache.depth.Turn.{Turn}
 use Rattle.gm_graph.specs.declared.cache.summary.Kept.{Kept}
+use Rattle.gm_graph.specs.declared.cache.summary.ListSpan.{ListSpan}
 use Rattle.gm_graph.specs.declared.cache.Cache.{Cache}
 use Rattle.gm_file.specs.Main.{Main, main_of, without_excluded}
 use Rattle.gm_graph.specs.FileTable.{kept_at}
 use Rattle.gm_graph.specs.Held.{AreKept, HoldsAnswers, held_under}
 use Rattle.gm_graph.specs.Reading.{file_of}
 use Rattle.gm_graph.specs.Run.{Run, Says, run_of}
+use Rattle.gm_graph.specs.Summaries.{listed_span, own_span_at}
 use mir.Syntax.{named}
 use Rattle.gm_graph.specs.contracts.cache.Cache.{the_row}
 
@@ -42,12 +44,9 @@ table_in cache = cache.modules.modules
 abbrev pub summary_at : Cache → Name → Option Kept
 summary_at cache name = kept_at cache.files name
 
--- how many files are kept, and what is kept of the one at a place
+-- how many files are kept
 abbrev pub file_count : Cache → ℕ
 file_count cache = length cache.files.files.items
-
-abbrev pub kept_file : Cache → ℕ → Option Kept
-kept_file cache place = slice_get cache.files.files.items place
 
 -- what is held of the file of a name: its contents or its fault
 abbrev pub held_of : Cache → Name → Option (Result Dependency Class)
@@ -67,10 +66,12 @@ Knows cache pairs = HoldsAnswers (run_in cache pairs) cache.modules cache.files
 
 -- ---- what is found of a vertex
 
--- By this run the vertex has no fault, and what is kept at this place is what was read of its file.
+-- By this run the vertex has no fault, and the own list of the file at this place is that of the vertex's file.
 pub record IsSound (cache : Cache) (run : Run) (x : ModuleVersion) (place : ℕ) : Type 0 where
   pub within : place < file_count cache
-  pub kept : kept_file cache place ≡ summary_at cache (file_of (main_in cache) x)
+  pub span : ListSpan
+  pub own : own_span_at cache.files.files.items place ≡ Some span
+  pub listed : option_and_then listed_span (summary_at cache (file_of (main_in cache) x)) ≡ Some span
   pub file : Dependency
   pub says : Says run x (Ok file)
 

@@ -1,5 +1,6 @@
 -- What is kept of the files that were read.
-use Rattle.std.specs.Prelude.{◌≡◌, ◌≤◌, List, ⊤, Result, Ok, Err, length}
+use Rattle.std.specs.Prelude.{◌≡◌, ◌≤◌, ℕ, List, ⊤, None, Option, Result, Ok, Err, Some, length, slice_get}
+use Rattle.std.specs.Option.{option_and_then}
 use Rattle.gm_name.specs.ModuleVersion.{ModuleVersion}
 use Rattle.gm_name_table.specs.Listed.{part}
 use Rattle.gm_file.specs.Fields.{Dependency}
@@ -37,6 +38,25 @@ pub record IsWithinList (modules : List ModuleVersion) (span : ListSpan) : Type 
   pub within : span.end ≤ length modules
 
 -- ---- what is kept of a file
+
+-- where the requirements of a file are, without the excluded ones: nowhere if it has a fault
+abbrev pub listed_span : Kept → Option ListSpan
+listed_span (Valid summary) = Some summary.kept
+listed_span (Faulty class) = None
+
+-- where they are if no earlier file has the same
+abbrev pub span_unless : Option ℕ → ListSpan → Option ListSpan
+span_unless None span = Some span
+span_unless (Some place) span = None
+
+-- where the own list of a file is: a file with the requirements of an earlier one has none
+abbrev pub own_span : Kept → Option ListSpan
+own_span (Valid summary) = span_unless summary.same_as summary.kept
+own_span (Faulty class) = None
+
+-- where the own list of the file at a place is
+abbrev pub own_span_at : List Kept → ℕ → Option ListSpan
+own_span_at files place = option_and_then own_span (slice_get files place)
 
 -- what is kept of a file, as a reading
 abbrev pub summary_reading : List ModuleVersion → Kept → Result Dependency Class

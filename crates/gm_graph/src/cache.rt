@@ -17,6 +17,7 @@ pub(crate) mod class;
 pub(crate) mod depth;
 pub(crate) mod file_table;
 pub(crate) mod lent;
+pub(crate) mod list_index;
 pub(crate) mod load_fault;
 pub(crate) mod naming;
 pub(crate) mod parts;
@@ -27,9 +28,8 @@ pub(crate) mod summary;
 pub(crate) mod turn_history;
 pub(crate) mod visit;
 
-ghost use Rattle.std.specs.Prelude.{◌≡◌, ◌≤◌, ◌<◌, ◌+◌, ◌++◌, ◌∷◌, [], List, IfOk, IfSome, OnOk, OnErr, IsSome, None, Some, Err, length, take, true};
+ghost use Rattle.std.specs.Prelude.{◌≡◌, ◌≤◌, ◌<◌, ◌+◌, ◌++◌, ◌∷◌, [], List, IfOk, IfSome, OnOk, OnErr, IsSome, None, Some, Err, Ok, drop, length, take, true};
 ghost use Rattle.std.specs.Option.{option_and_then, option_copied};
-ghost use Rattle.gm_name.specs.ModuleVersion.{ModuleVersion};
 ghost use Rattle.gm_name_table.specs.OptionalPlaces.{place_in};
 ghost use Rattle.gm_name_table.specs.Listed.{modules_of};
 ghost use Rattle.gm_store.specs.Asked.{IsWithinLimit, Name, Reply, answer_in, name_of, reply_of};
@@ -43,22 +43,24 @@ ghost use Rattle.gm_graph.specs.Reading.{IsFileReading, file_of, is_askable as m
 ghost use Rattle.gm_graph.specs.Private.FileTable.{PutsFile, IsNewFile, NotesFiles, replacing_place};
 ghost use Rattle.gm_graph.specs.Private.Held.{HoldsSome};
 ghost use Rattle.gm_graph.specs.Lent.{lent_modules};
-ghost use Rattle.gm_graph.specs.Summaries.{IsKept, IsWithinList, at_span, summary_reading};
-ghost use Rattle.gm_graph.specs.Private.Summaries.{AreListsInOrder, order_is_fact, Grows};
+ghost use Rattle.gm_graph.specs.Summaries.{at_span, summary_reading};
+ghost use Rattle.gm_graph.specs.Private.Summaries.{AllStand, AreListsInOrder, GrowsFrom, KeptStands, listed_reading, order_is_fact, own_spans};
+ghost use Rattle.gm_graph.specs.declared.cache.summary.Kept.{Kept};
 
 use crate::cache::class::Class;
 use crate::cache::depth::Depth;
 use crate::cache::file_table::FileTable;
 use crate::cache::lent::Lent;
+use crate::cache::list_index::ListIndex;
 use crate::cache::load_fault::LoadFault;
 use crate::cache::naming::{file_name, is_askable};
 use crate::cache::parts::CacheParts;
 use crate::cache::paths::is_right_path;
 use crate::cache::reading::{ListedReading, read_answer};
-use crate::cache::summary::{Kept, ListSpan, summary_of};
+use crate::cache::summary::{Kept, ListSpan, Summary, summary_of};
 use crate::cache::turn_history::TurnHistory;
 use crate::cache::visit::{Said, Visit};
-use gm_file::MainFile;
+use gm_file::{ListedFile, MainFile};
 use gm_name::NoMemory;
 use gm_name_table::{KnownNames, ModuleList};
 use gm_store::{Answer, AskFault, Asks, FileName};
@@ -84,6 +86,8 @@ pub struct Cache<'a> {
     first: usize,
     /// What was read of each file, or what is wrong with it.
     files: FileTable,
+    /// The lists of these files, so that equal ones are kept once.
+    lists: ListIndex,
     /// The turns whose requirements were requested, in order.
     turns: TurnHistory,
     /// The name of the file of the last request that was refused.
@@ -94,7 +98,8 @@ pub struct Cache<'a> {
     ghost places_within: { length files.places.items ≤ length modules.modules },
     ghost holds_some: { ∥ HoldsSome (main_of main.now) (option_copied sums) modules files ∥₁ },
     ghost notes: { NotesFiles (main_of main.now) modules.modules files },
-    ghost in_order: { AreListsInOrder first files.files.items (length modules.numbers) } by { order_is_fact first files.files.items (length modules.numbers) },
+    ghost in_order: { AreListsInOrder first files.files.items (length modules.numbers) } by { order_is_fact first (own_spans files.files.items) (length modules.numbers) },
+    ghost listed: { AllStand (main_of main.now) (modules_of modules) files.files.items },
 }
 
 /// A table of names without a limit, which knows the paths that the main file requires.
@@ -120,37 +125,63 @@ fn first_modules(alloc: Global, main: &MainFile) -> Result<ModuleList, NoMemory>
     Ok(modules)
 }
 
-/// Expects the path of the module whose file has this name, since nearly all files declare it.
-fn expect_path(names: &mut KnownNames, name: &FileName) -> Result<(), NoMemory> {
-    match name {
-        FileName::Mod(path, _) => names.expect(path),
-        FileName::Folder(_) | FileName::List(_) => Ok(()),
-    }
-}
-
-/// What an answer says, without the excluded requirements, or what is wrong with it.
-fn summarize(
+/// The summary of a file whose requirements are those of the list from this place on. If an earlier file has the same,
+/// the list ends here again, and the summary has the places of that file's.
+fn shared_summary(
     alloc: Global,
-    names: &mut KnownNames,
+    lists: &mut ListIndex,
     modules: &mut ModuleList,
     main: &MainFile,
-    sums: Option<&SumTable>,
-    name: &FileName,
-    answer: &Answer,
-) -> Result<Kept, NoMemory>
-    ensures reading { IfOk result (λ kept. IsWithinLimit (reply_of answer.now)
-        → IsFileReading (option_copied sums.entry) (name_of name.now) (reply_of answer.now)
-        (summary_reading (modules_of modules.new) kept)) }
-    ensures kept { IfOk result (IsKept (main_of main.now) (modules_of modules.new)) }
-    ensures order { IfOk result (λ kept.
-        AreListsInOrder (length modules.old.numbers) (kept ∷ []) (length modules.new.numbers)) }
-    ensures grows { Grows modules.old modules.new }
+    files: &[Kept],
+    file: ListedFile,
+    start: usize,
+) -> Result<Summary, NoMemory>
+    requires few { length files.now < 4294967295 }
+    requires start { start ≤ length modules.old.numbers }
+    requires listed { AllStand (main_of main.now) (take start (modules_of modules.old)) files.now }
+    ensures reading { IfOk result (λ summary. summary_reading (modules_of modules.new) (Kept.Valid summary)
+        ≡ Ok (with_requirements file (drop start (modules_of modules.old)))) }
+    ensures listed { IfOk result (λ summary.
+        KeptStands (main_of main.now) (modules_of modules.new) files.now (Kept.Valid summary)) }
+    ensures order { IfOk result (λ summary.
+        AreListsInOrder start (Kept.Valid summary ∷ []) (length modules.new.numbers)) }
+    ensures grows { GrowsFrom start modules.old modules.new }
 {
-    expect_path(names, name)?;
-    let start = modules.len();
-    match read_answer(alloc, names, modules, sums, name, answer)? {
+    if let Some(same) = lists.find(modules, files, start)? {
+        modules.truncate(start);
+        return Ok(Summary {
+            file,
+            all: same.all,
+            kept: same.kept,
+            same_as: Some(same.place),
+        });
+    }
+    summary_of(alloc, modules, main, file, start)
+}
+
+/// What is kept of a file that was read: the requirements, without the excluded ones, of a valid file are those of the list
+/// from this place on.
+fn kept_of(
+    alloc: Global,
+    lists: &mut ListIndex,
+    modules: &mut ModuleList,
+    main: &MainFile,
+    files: &[Kept],
+    read: ListedReading,
+    start: usize,
+) -> Result<Kept, NoMemory>
+    requires few { length files.now < 4294967295 }
+    requires start { start ≤ length modules.old.numbers }
+    requires listed { AllStand (main_of main.now) (take start (modules_of modules.old)) files.now }
+    ensures reading { IfOk result (λ kept. summary_reading (modules_of modules.new) kept
+        ≡ listed_reading (drop start (modules_of modules.old)) read) }
+    ensures listed { IfOk result (KeptStands (main_of main.now) (modules_of modules.new) files.now) }
+    ensures order { IfOk result (λ kept. AreListsInOrder start (kept ∷ []) (length modules.new.numbers)) }
+    ensures grows { GrowsFrom start modules.old modules.new }
+{
+    match read {
         ListedReading::Valid(file) => {
-            let summary = summary_of(alloc, modules, main, file, start)?;
+            let summary = shared_summary(alloc, lists, modules, main, files, file, start)?;
             Ok(Kept::Valid(summary))
         }
         ListedReading::Faulty(class) => Ok(Kept::Faulty(class)),
@@ -159,15 +190,12 @@ fn summarize(
 
 impl<'a> Cache<'a> {
     ghost use Rattle.std.specs.Borrow.{sem};
-    ghost use Rattle.std.specs.List.{IsDistinct};
-    ghost use Rattle.gm_name.specs.ModuleVersion.{pair_eq};
     ghost use Rattle.gm_name_table.specs.Listed.{BeginsWith};
-    ghost use Rattle.gm_graph.specs.Cached.{HoldsSame, KeepsSound, Knows, LendsKept, LentSame, file_count, main_in, run_in, sums_in, table_in, turns_in};
-    ghost use Rattle.gm_graph.specs.Private.Cached.{ArePartsOf, HasFileAt, HasMadeKnown, IsPlaceFor, LendsTurns, module_numbered, span_at};
+    ghost use Rattle.gm_graph.specs.Cached.{HoldsSame, Knows, LendsKept, LentSame, file_count, main_in, run_in, sums_in, table_in, turns_in};
+    ghost use Rattle.gm_graph.specs.Private.Cached.{ArePartsOf, HasFileAt, HasMadeKnown, IsPlaceFor, CacheStays, LendsTurns, module_numbered, span_at};
     ghost use Rattle.gm_graph.specs.Private.Held.{lent_table};
     ghost use Rattle.gm_graph.specs.declared.cache.Cache.{Cache};
     ghost use Rattle.gm_graph.specs.Private.CacheVisits.{IsSaid, LendsOver, VisitEnds};
-    ghost use Rattle.gm_graph.specs.Run.{KeepsSayings};
 
     /// A cache for a main file, without files. If there is a go.sum, the files that come from proxies are checked
     /// against it. The only refusal is `NoMemory`.
@@ -195,38 +223,65 @@ impl<'a> Cache<'a> {
             modules,
             first,
             files,
+            lists: ListIndex::new(alloc),
             turns: TurnHistory::new(),
             failed: None,
         })
+    }
+
+    /// What is kept of an answer to a request for the file of a name. The only refusal is `NoMemory`. The cache holds the
+    /// same in any case; more modules may have numbers.
+    fn read_reply(&mut self, name: &FileName, answer: &Answer) -> Result<Kept, NoMemory>
+        requires lends { LendsKept self.old }
+        requires few { file_count self.old < 4294967295 }
+        ensures reading { IfOk result (λ kept. IsWithinLimit (reply_of answer.now)
+            → IsFileReading (sums_in self.old) (name_of name.now) (reply_of answer.now)
+            (summary_reading (modules_of self.new.modules) kept)) }
+        ensures listed { IfOk result
+            (KeptStands (main_in self.old) (modules_of self.new.modules) self.old.files.files.items) }
+        ensures order { IfOk result (λ kept. AreListsInOrder self.new.first (self.new.files.files.items ++ kept ∷ [])
+            (length self.new.modules.numbers)) }
+        ensures keeps { CacheStays self.old self.new }
+    {
+        let start = self.modules.len();
+        let read = read_answer(
+            self.alloc,
+            &mut self.names,
+            &mut self.modules,
+            self.sums,
+            name,
+            answer,
+        )?;
+        kept_of(
+            self.alloc,
+            &mut self.lists,
+            &mut self.modules,
+            self.main,
+            self.files.files(),
+            read,
+            start,
+        )
     }
 
     /// Asks for the file of a name that was not asked for, and reads it.
     fn read_file<F: Asks>(&mut self, files: &mut F, name: &FileName) -> Result<Kept, AskFault>
         requires fresh { answer_in (F.state files.old).asked (name_of name.now) ≡ None }
         requires lends { LendsKept self.old }
+        requires few { file_count self.old < 4294967295 }
         ensures reading { IfOk result (λ kept. (reply : Reply)
             × AddsAnswer (F.state files.old) (F.state files.new) (name_of name.now) reply
             × IsFileReading (sums_in self.old) (name_of name.now) reply
             (summary_reading (modules_of self.new.modules) kept)) }
-        ensures kept { IfOk result (IsKept (main_in self.old) (modules_of self.new.modules)) }
+        ensures listed { IfOk result
+            (KeptStands (main_in self.old) (modules_of self.new.modules) self.old.files.files.items) }
         ensures order { IfOk result (λ kept. AreListsInOrder self.new.first (self.new.files.files.items ++ kept ∷ [])
             (length self.new.modules.numbers)) }
-        ensures holds { HoldsSame self.old self.new }
-        ensures lent { LentSame self.old self.new }
-        ensures files { self.new.files ≡ self.old.files }
+        ensures keeps { CacheStays self.old self.new }
         ensures asks { AsksOne (λ n. n ≡ name_of name.now) (F.may_answer files.old) (F.may_answer files.new)
             (F.state files.old) (F.state files.new) (refused_for (name_of name.now) result) }
     {
         files.ask(name)?;
-        let kept = summarize(
-            self.alloc,
-            &mut self.names,
-            &mut self.modules,
-            self.main,
-            self.sums,
-            name,
-            files.last(),
-        )?;
+        let kept = self.read_reply(name, files.last())?;
         Ok(kept)
     }
 
@@ -237,7 +292,7 @@ impl<'a> Cache<'a> {
         requires few { file_count self.old < 4294967295 }
         requires reading { (reply : Reply) × IsFileReading (sums_in self.old) (name_of name.now) reply
             (summary_reading (modules_of self.old.modules) kept) }
-        requires kept { IsKept (main_in self.old) (modules_of self.old.modules) kept }
+        requires listed { KeptStands (main_in self.old) (modules_of self.old.modules) self.old.files.files.items kept }
         requires order { AreListsInOrder self.old.first (self.old.files.files.items ++ kept ∷ [])
             (length self.old.modules.numbers) }
         ensures count { file_count self.new ≤ file_count self.old + 1 }
@@ -336,7 +391,7 @@ impl<'a> Cache<'a> {
             Kept::Valid(summary) => {
                 if is_right_path(self.main, self.modules.module(number), &summary.file) {
                     Said::Sound {
-                        file,
+                        file: self.files.list_place(file),
                         leads: summary.leads_on(depth),
                     }
                 } else {
@@ -353,7 +408,6 @@ impl<'a> Cache<'a> {
     /// since a vertex itself may have none.
     pub(crate) fn lend_at(&mut self, place: Option<u32>, turn: TurnHistory) -> Lent<'_>
         requires place { IfSome place (λ place. place < file_count self.old) }
-        requires within { IsWithinList (modules_of self.old.modules) (span_at self.old place) }
         ensures modules { lent_modules result ≡ at_span (modules_of self.old.modules) (span_at self.old place) }
         ensures table { lent_table result ≡ table_in self.old }
         ensures* after { sem 𝓛 (LendsTurns self.entry turn.items) }

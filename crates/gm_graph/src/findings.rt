@@ -15,10 +15,10 @@ pub(crate) struct NumberedFault {
     pub(crate) class: Class,
 }
 
-/// What visits found: the places of files, and faults.
+/// What visits found: the places of lists, and faults.
 #[derive(Drop)]
 pub(crate) struct Findings {
-    /// For each module, by its number, the place of its file in the cache, if it was visited and has no fault. The last
+    /// For each module, by its number, the place of the file that has its list, if it was visited and has no fault. The last
     /// ones may be left out.
     pub(crate) places: Vec<Option<u32>>,
     /// The faults of the visited vertices that have one. That of a vertex that was visited twice comes twice.
@@ -39,7 +39,7 @@ impl Findings {
         }
     }
 
-    /// Notes that the vertex with a number has no fault, and the place of its file.
+    /// Notes that the vertex with a number has no fault, and the place of the file that has its list.
     pub(crate) fn note_file(&mut self, number: u32, file: u32) -> Result<(), AllocError>
         ensures put { OnOk result (place_found self.new number ≡ Some file) }
         ensures others { OnOk result ((n : ℕ) → n ≢ number → place_found self.new n ≡ place_found self.old n) }

@@ -1,6 +1,7 @@
-//! Files that were followed: what they require has turns at full depth.
+//! Lists that were followed: what is in them has turns at full depth.
 //!
-//! Both depths lead on at full depth, so one mark a file is enough, whatever vertices have it.
+//! A list is known by the place of the file that has it. Both depths lead on at full depth, so one mark a list is enough,
+//! whatever files and vertices have it.
 
 ghost use Rattle.std.specs.Prelude.{◌≡◌, ◌⊎◌, ◌++◌, ℕ, Contains, Err, OnOk, true};
 ghost use Rattle.gm_name.specs.ModuleVersion.{ModuleVersion};
@@ -17,10 +18,10 @@ use crate::places::put_at;
 use crate::worklist::{AddFault, Worklist};
 use std::alloc::{AllocError, Global};
 
-/// The files that were followed.
+/// The files whose lists were followed.
 #[derive(Drop)]
 pub(crate) struct Followed {
-    /// For each file, by its place in the cache, whether it was followed. The last ones may be left out.
+    /// For each file, by its place in the cache, whether its list was followed. The last ones may be left out.
     files: Vec<bool>,
 }
 
@@ -36,7 +37,7 @@ impl Followed {
         }
     }
 
-    /// Whether this file was followed.
+    /// Whether the list of this file was followed.
     fn has(&self, file: u32) -> bool
         ensures { result ≡ followed_at self.now file }
     {
@@ -54,7 +55,7 @@ impl Followed {
         put_at(&mut self.files, file, false, true)
     }
 
-    /// Adds a turn at full depth for each of these modules, which a file requires, unless the file was followed.
+    /// Adds a turn at full depth for each of these modules, which a file requires, unless its list was followed.
     pub(crate) fn follow(
         &mut self,
         worklist: &mut Worklist,

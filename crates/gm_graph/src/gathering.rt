@@ -8,7 +8,7 @@ ghost use Rattle.std.specs.BTreeMap as tree;
 ghost use Rattle.gm_name.specs.ModuleVersion.{ModuleVersion, module_at, pair_cmp};
 ghost use Rattle.gm_graph.specs.Private.Findings.{place_at};
 ghost use Rattle.gm_graph.specs.Private.Gathering.{AreFaultsOf, AreFilePlaces, HasFaultOf, fault, has_file, source_at, gathered_sources, span_after, spans_of, steps_by};
-ghost use Rattle.gm_graph.specs.Private.Summaries.{AreListsInOrder};
+ghost use Rattle.gm_graph.specs.Private.Summaries.{AreListsInOrder, AreSpansInOrder};
 ghost use Rattle.gm_graph_select.specs.Adjacency.{edges_of, sources_of as steps_left};
 ghost use Rattle.gm_graph_select.specs.declared.step.Step.TheVariants.{Of};
 ghost use Rattle.gm_graph_select.specs.Graph.{IsEdgeEnd, among, edge_cmp};
@@ -16,7 +16,7 @@ ghost use Rattle.gm_graph_select.specs.Order.{HaveSame, IsAscending};
 
 use crate::cache::class::Class;
 use crate::cache::parts::CacheParts;
-use crate::cache::summary::Kept;
+use crate::cache::summary::{Kept, ListSpan};
 use crate::fault::Fault;
 use crate::findings::NumberedFault;
 use gm_graph_select::{Graph, Source, Span};
@@ -25,7 +25,7 @@ use gm_name_table::MOST_PLACES;
 use std::alloc::{AllocError, Global};
 use std::collections::BTreeMap;
 
-/// Appends the source that the vertex with a number is, if this is the place of its file.
+/// Appends the source that the vertex with a number is, if this is the place of the file that has its list.
 fn push_source(
     sources: &mut Vec<Source>,
     number: usize,
@@ -61,7 +61,7 @@ fn source_list(alloc: Global, places: &[Option<u32>]) -> Result<Vec<Source>, All
     Ok(sources)
 }
 
-/// For each of so many files, by its place, whether a vertex has it.
+/// For each of so many files, by its place, whether a vertex has its list.
 fn used_files(alloc: Global, count: usize, places: &[Option<u32>]) -> Result<Vec<bool>, AllocError>
     requires { (number place : ℕ) → place_at places.now number ≡ Some place → place < count }
     ensures count { IfOk result (λ used. length used.items ≡ count) }
@@ -77,22 +77,22 @@ fn used_files(alloc: Global, count: usize, places: &[Option<u32>]) -> Result<Vec
     Ok(used)
 }
 
-/// Where the requirements of a file are, if a vertex has the file: otherwise an empty span at this place.
-fn span_after(end: u32, is_used: bool, kept: &Kept) -> Span
-    requires { AreListsInOrder end (kept.now ∷ []) 4294967295 }
-    ensures { result ≡ span_after end is_used kept.now }
+/// Where the list of a file is, if this is its own list and a vertex has that: otherwise an empty span at this place.
+fn span_after(end: u32, is_used: bool, own: Option<ListSpan>) -> Span
+    requires { AreSpansInOrder end (own ∷ []) 4294967295 }
+    ensures { result ≡ span_after end is_used own }
 {
-    match kept {
-        Kept::Valid(summary) if is_used => Span {
-            start: summary.kept.start as u32,
-            end: summary.kept.end as u32,
+    match own {
+        Some(span) if is_used => Span {
+            start: span.start as u32,
+            end: span.end as u32,
         },
         _ => Span { start: end, end },
     }
 }
 
-/// Where the lists are: that of the main file, whose requirements are so many at the front, and that of each file, which
-/// is empty if no vertex has the file.
+/// Where the lists are: that of the main file, whose requirements are so many at the front, and the own list of each
+/// file, which is empty if no vertex has it.
 fn span_list(
     alloc: Global,
     first: usize,
@@ -109,7 +109,7 @@ fn span_list(
     spans.push(Span { start: 0, end })?;
     let mut place = 0;
     for kept in files {
-        let span = span_after(end, used[place], kept);
+        let span = span_after(end, used[place], kept.own_span());
         spans.push(span)?;
         end = span.end;
         place += 1;

@@ -56,12 +56,13 @@ pub record SaysRequired (run : Run) (x : ModuleVersion) (d : Depth) (required : 
   pub leads : required.leads ≡ leads_on file d
   pub modules : required_by required ≡ without_excluded run.main file.requirements
 
--- What a cache says of a vertex: its fault, or the place of its file, and whether a visit to this depth leads on.
+-- What a cache says of a vertex: its fault, or the place of the file that has its list, and whether a visit to this
+-- depth leads on.
 abbrev pub IsSaid : Cache → Run → ModuleVersion → Depth → Said → Type 0
 IsSaid cache run x d (said.Fault class) = Says run x (Err class)
 IsSaid cache run x d (said.Sound file leads) = (sound : IsSound cache run x file) × (leads ≡ leads_on sound.file d)
 
--- the place of the vertex's file, if the vertex has no fault
+-- the place of the file that has the vertex's list, if the vertex has no fault
 abbrev pub file_said : Said → Option ℕ
 file_said (said.Fault class) = None
 file_said (said.Sound file leads) = Some file
@@ -74,13 +75,13 @@ IsVisitOf (said.Sound file leads) list (visit.Fault fault) = ⊥
 IsVisitOf (said.Sound file leads) list (visit.Required required) =
     required ≡ record { file = file; leads = leads; list = list }
 
--- What a visit to this depth gets of a vertex: its fault, or the place of its file and what that requires.
+-- What a visit to this depth gets of a vertex: its fault, or the place of the file that has its list, and the list.
 abbrev pub IsVisit : Cache → Run → ModuleVersion → Depth → Visit → Type 0
 IsVisit cache run x d (visit.Fault class) = Says run x (Err class)
 IsVisit cache run x d (visit.Required required) = IsSound cache run x required.file
     × SaysRequired run x d required × (table_of required ≡ table_in cache)
 
--- What was lent has the number of each module that had one, and is what each vertex requires that had this file by the
+-- What was lent has the number of each module that had one, and is what each vertex requires that had this list by the
 -- run before the visit.
 pub record LendsFile (old : Cache) (run : Run) (required : Required) : Type 0 where
   pub begins : BeginsWith (table_in old) (table_of required)

@@ -8,6 +8,7 @@ use Rattle.gm_name_table.specs.Listed.{BeginsWith}
 use Rattle.gm_store.specs.Asked.{Name, Reply}
 use Rattle.gm_graph.specs.declared.cache.class.Class.{Class}
 use Rattle.gm_graph.specs.declared.cache.depth.Turn.{Turn}
+use Rattle.gm_graph.specs.declared.cache.summary.Kept.{Kept}
 use Rattle.gm_graph.specs.declared.cache.summary.ListSpan.{ListSpan}
 use Rattle.gm_graph.specs.declared.cache.Cache.{Cache}
 use Rattle.gm_graph.specs.declared.cache.parts.CacheParts.{CacheParts}
@@ -16,11 +17,15 @@ use Rattle.gm_graph.specs.Run.{Run, Says}
 use Rattle.gm_graph.specs.Private.Summaries.{span_found}
 use mir.Syntax.{named}
 use Rattle.gm_graph.specs.contracts.cache.Cache.{the_row}
-use Rattle.gm_graph.specs.Cached.{HasMoreTurns, IsSound, KeepsSound, Knows, file_count, kept_file, main_in, run_in, summary_at, table_in}
+use Rattle.gm_graph.specs.Cached.{HasMoreTurns, HoldsSame, IsSound, KeepsSound, Knows, LentSame, file_count, main_in, run_in, summary_at, table_in}
 
 -- the module with a number
 abbrev pub module_numbered : Cache → ℕ → ModuleVersion
 module_numbered cache number = module_at (table_in cache) number
+
+-- what is kept of the file at a place
+abbrev pub kept_file : Cache → ℕ → Option Kept
+kept_file cache place = slice_get cache.files.files.items place
 
 -- where the requirements of the file at a place are in the list of modules, without the excluded ones: nowhere if there
 -- is no place, or the file has a fault
@@ -40,7 +45,8 @@ abbrev pub IsPlaceFor : Cache → ModuleVersion → Option ℕ → Type 0
 IsPlaceFor cache x None = is_askable (file_of (main_in cache) x) ≡ false
 IsPlaceFor cache x (Some place) = HasFileAt cache x place
 
--- The place at which a vertex's requirements are found: none if the vertex has a fault, otherwise that of its file.
+-- The place at which a vertex's requirements are found: none if the vertex has a fault, otherwise that of the file that
+-- has its list.
 abbrev pub IsLender : Cache → Run → ModuleVersion → Option ℕ → Type 0
 IsLender cache run x None = (class : Class) × Says run x (Err class)
 IsLender cache run x (Some place) = IsSound cache run x place
@@ -53,6 +59,12 @@ pub record ArePartsOf (cache : Cache) (parts : CacheParts) : Type 0 where
   pub files : parts.files ≡ cache.files.files
 
 -- ---- what changes
+
+-- The cache holds the same, and keeps the same files. More modules may have numbers.
+pub record CacheStays (old new : Cache) : Type 0 where
+  pub holds : HoldsSame old new
+  pub lent : LentSame old new
+  pub files : new.files ≡ old.files
 
 -- The file of a vertex was made known, and is kept at this place: the cache knows the answers, and what had a number
 -- or a place has it still.

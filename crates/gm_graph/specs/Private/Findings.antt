@@ -8,7 +8,7 @@ use Rattle.gm_graph.specs.Cached.{IsSound, table_in}
 use Rattle.gm_graph.specs.Private.Cached.{module_numbered}
 use Rattle.gm_graph.specs.Run.{Run, Says}
 
--- the place of the file of the vertex with a number, if that was visited and has no fault
+-- the place of the file that has the list of the vertex with a number, if that was visited and has no fault
 abbrev pub place_at : List (Option ℕ) → ℕ → Option ℕ
 place_at places number = slice_index_or places number None
 
@@ -24,7 +24,7 @@ abbrev pub WasVisited : Findings → ℕ → Type 0
 WasVisited findings number = IsSome (place_found findings number)
     ⊎ ((class : Class) × Contains findings.faults.items (numbered number class))
 
--- What was found of the vertex with a number is so: it has no fault, and this is the place of its file.
+-- What was found of the vertex with a number is so: it has no fault, and the file at this place has its list.
 pub record IsFileFound (cache : Cache) (run : Run) (number place : ℕ) : Type 0 where
   pub below : number < length (table_in cache)
   pub sound : IsSound cache run (module_numbered cache number) place

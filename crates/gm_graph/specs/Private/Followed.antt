@@ -1,4 +1,4 @@
--- The files that were followed: what they require has turns at full depth.
+-- The files whose lists were followed: what they require has turns at full depth.
 use Rattle.std.specs.Prelude.{◌≡◌, ◌⊎◌, ℕ, Bool, Contains, List, false, slice_index_or, true}
 use Rattle.gm_name.specs.ModuleVersion.{ModuleVersion}
 use Rattle.gm_graph.specs.declared.cache.Cache.{Cache}
@@ -22,7 +22,7 @@ abbrev pub FollowsFile : Followed → Followed → ℕ → List Turn → List Mo
 FollowsFile old new file turns xs = (f : ℕ) → followed_at new f ≡ true
     → (followed_at old f ≡ true) ⊎ ((file ≡ f) × ((y : ModuleVersion) → Contains xs y → Contains turns (turn y Deep)))
 
--- What the file at a place requires has turns at full depth: a vertex has that file.
+-- What the file at a place requires has turns at full depth: a vertex has its list.
 pub record IsFollowedIn (cache : Cache) (run : Run) (turns : List Turn) (file : ℕ) : Type 0 where
   pub vertex : ModuleVersion
   pub sound : IsSound cache run vertex file

@@ -6,10 +6,11 @@ use Rattle.gm_name.specs.ModuleVersion.{ModuleVersion, module_at, pair_cmp}
 use Rattle.gm_graph.specs.declared.cache.class.Class.{Class}
 use Rattle.gm_graph.specs.declared.cache.parts.CacheParts.{CacheParts}
 use Rattle.gm_graph.specs.declared.cache.summary.Kept.{Kept}
-use Rattle.gm_graph.specs.declared.cache.summary.Kept.TheVariants.{Valid}
+use Rattle.gm_graph.specs.declared.cache.summary.ListSpan.{ListSpan}
 use Rattle.gm_graph.specs.declared.fault.Fault.{Fault}
 use Rattle.gm_graph.specs.declared.findings.NumberedFault.{NumberedFault}
 use Rattle.gm_graph.specs.Private.Findings.{numbered, place_at}
+use Rattle.gm_graph.specs.Private.Summaries.{own_spans}
 use Rattle.gm_graph_select.specs.declared.adjacency.Source.{Source}
 use Rattle.gm_graph_select.specs.declared.number_lists.Span.{Span}
 use Rattle.gm_graph_select.specs.Adjacency.{StepEdges, by_step}
@@ -17,7 +18,7 @@ use Rattle.gm_graph_select.specs.Spans.{lists_at}
 
 -- ---- the sources: the main module, and each vertex that has a file
 
--- the source that the vertex with a number is, if this is the place of its file: the main file has the first list
+-- the source that the vertex with a number is, if the file at this place has its list: the main file has the first one
 abbrev pub source_at : ℕ → Option ℕ → List Source
 source_at number None = []
 source_at number (Some place) = record { from = Some number; list = place + 1 } ∷ []
@@ -30,30 +31,31 @@ sources_from number (place ∷ places) = source_at number place ++ sources_from 
 abbrev pub gathered_sources : List (Option ℕ) → List Source
 gathered_sources places = record { from = None; list = 0 } ∷ sources_from 0 places
 
--- ---- the lists: that of the main file, and that of each file, which is empty if no vertex has the file
+-- ---- the lists: that of the main file, and the own list of each file, which is empty if no vertex has it
 
 -- whether this is that place
 abbrev pub is_place : ℕ → Option ℕ → Bool
 is_place place None = false
 is_place place (Some other) = place == other
 
--- whether a vertex has the file at a place
+-- whether a vertex has the list of the file at a place
 abbrev pub has_file : List (Option ℕ) → ℕ → Bool
 has_file places place = list_any (is_place place) places
 
--- where the list of a file is: if it is not used, empty behind the one before
-abbrev pub span_after : ℕ → Bool → Kept → Span
-span_after from true (Valid summary) = record { start = summary.kept.start; end = summary.kept.end }
-span_after from _ kept = record { start = from; end = from }
+-- where the list of a file is, if this is where its own list is: empty behind the one before if it has none, or if no
+-- vertex has it
+abbrev pub span_after : ℕ → Bool → Option ListSpan → Span
+span_after from true (Some own) = record { start = own.start; end = own.end }
+span_after from _ own = record { start = from; end = from }
 
--- where the lists of the files from a place on are
-abbrev pub spans_from : (ℕ → Bool) → ℕ → ℕ → List Kept → List Span
+-- where the lists of the files from a place on are, if these are where their own lists are
+abbrev pub spans_from : (ℕ → Bool) → ℕ → ℕ → List (Option ListSpan) → List Span
 spans_from used place from [] = []
-spans_from used place from (kept ∷ files) =
-    let span = span_after from (used place) kept in span ∷ spans_from used (suc place) span.end files
+spans_from used place from (own ∷ others) =
+    let span = span_after from (used place) own in span ∷ spans_from used (suc place) span.end others
 
 abbrev pub spans_of : ℕ → List Kept → (ℕ → Bool) → List Span
-spans_of first files used = record { start = 0; end = first } ∷ spans_from used 0 first files
+spans_of first files used = record { start = 0; end = first } ∷ spans_from used 0 first (own_spans files)
 
 -- the edges that leave each source
 abbrev pub steps_by : CacheParts → List (Option ℕ) → List StepEdges

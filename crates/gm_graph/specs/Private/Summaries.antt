@@ -1,16 +1,21 @@
 -- What is kept of an answer, and where its requirements are.
-use Rattle.std.specs.Prelude.{◌≤◌, ◌∷◌, [], ℕ, List, Option, Some, None, Result, Ok, Err}
+use Rattle.std.specs.Prelude.{◌≡◌, ◌≤◌, ◌∷◌, [], ⊤, ℕ, List, Option, Some, None, Result, Ok, Err, length, map, slice_get, unwrap_or}
+use Rattle.std.specs.Option.{option_and_then}
 use Rattle.std.proofs.Math.Bridge.{le_prop}
 use Rattle.gm_name.specs.ModuleVersion.{ModuleVersion}
-use Rattle.gm_name_table.specs.Listed.{Appends, NumberedList}
+use Rattle.gm_name_table.specs.Listed.{Appends, NumberedList, part}
 use Rattle.gm_file.specs.Fields.{Dependency}
 use Rattle.gm_file.specs.Listed.{with_requirements}
+use Rattle.gm_file.specs.Main.{Main}
 use Rattle.gm_graph.specs.declared.cache.class.Class.{Class}
+use Rattle.gm_graph.specs.declared.cache.list_index.SameList.{SameList}
 use Rattle.gm_graph.specs.declared.cache.reading.ListedReading.{ListedReading}
 use Rattle.gm_graph.specs.declared.cache.reading.ListedReading.TheVariants as listed
 use Rattle.gm_graph.specs.declared.cache.summary.Kept.{Kept}
 use Rattle.gm_graph.specs.declared.cache.summary.Kept.TheVariants.{Valid, Faulty}
 use Rattle.gm_graph.specs.declared.cache.summary.ListSpan.{ListSpan}
+use Rattle.gm_graph.specs.declared.cache.summary.Summary.{Summary}
+use Rattle.gm_graph.specs.Summaries.{IsSummary, IsWithinList, own_span, own_span_at}
 
 -- what an answer says, as a reading, with the requirements that it put into the list of modules
 abbrev pub listed_reading : List ModuleVersion → ListedReading → Result Dependency Class
@@ -27,6 +32,10 @@ nowhere = record { start = 0; end = 0 }
 abbrev pub Grows : NumberedList → NumberedList → Type 0
 Grows old new = (more : List ModuleVersion) × Appends old new more
 
+-- If the old list is one of so many modules with others at its end, the new one is that with others at its end.
+abbrev pub GrowsFrom : ℕ → NumberedList → NumberedList → Type 0
+GrowsFrom count old new = (before : NumberedList) → count ≡ length before.numbers → Grows before old → Grows before new
+
 -- ---- what is kept of a file
 
 -- where the requirements of a file are: nowhere if it has a fault or nothing is kept of it
@@ -35,19 +44,66 @@ span_found None = nowhere
 span_found (Some (Valid summary)) = summary.kept
 span_found (Some (Faulty class)) = nowhere
 
--- The lists of files lie between these two places, and each begins at or after the end of the one before.
-abbrev pub AreListsInOrder : ℕ → List Kept → ℕ → Type 0
-AreListsInOrder from [] to = from ≤ to
-AreListsInOrder from (Valid summary ∷ files) to =
-    (from ≤ summary.kept.start) × (summary.kept.start ≤ summary.kept.end) × AreListsInOrder summary.kept.end files to
-AreListsInOrder from (Faulty class ∷ files) to = AreListsInOrder from files to
+-- where the own list of each file is
+abbrev pub own_spans : List Kept → List (Option ListSpan)
+own_spans files = map own_span files
+
+-- The spans lie between these two places, and each begins at or after the end of the one before.
+abbrev pub AreSpansInOrder : ℕ → List (Option ListSpan) → ℕ → Type 0
+AreSpansInOrder from [] to = from ≤ to
+AreSpansInOrder from (Some span ∷ spans) to =
+    (from ≤ span.start) × (span.start ≤ span.end) × AreSpansInOrder span.end spans to
+AreSpansInOrder from (None ∷ spans) to = AreSpansInOrder from spans to
 
 -- This is a fact: it has one proof at most.
-pub order_is_fact : (from : ℕ) (files : List Kept) (to : ℕ) → IsProp (AreListsInOrder from files to)
+pub order_is_fact : (from : ℕ) (spans : List (Option ListSpan)) (to : ℕ) → IsProp (AreSpansInOrder from spans to)
 order_is_fact from [] to = le_prop
-order_is_fact from (Valid summary ∷ files) to = λ a b. λ i. (
+order_is_fact from (Some span ∷ spans) to = λ a b. λ i. (
   le_prop a.0 b.0 i,
   le_prop a.1 b.1 i,
-  order_is_fact summary.kept.end files to a.2 b.2 i,
+  order_is_fact span.end spans to a.2 b.2 i,
 )
-order_is_fact from (Faulty class ∷ files) to = order_is_fact from files to
+order_is_fact from (None ∷ spans) to = order_is_fact from spans to
+
+-- The own lists of files are in order.
+abbrev pub AreListsInOrder : ℕ → List Kept → ℕ → Type 0
+AreListsInOrder from files to = AreSpansInOrder from (own_spans files) to
+
+-- The file at this place has the list that the summary says it has.
+abbrev pub SharesList : List Kept → Summary → Type 0
+SharesList files summary = (place : ℕ) → summary.same_as ≡ Some place → own_span_at files place ≡ Some summary.kept
+
+-- The requirements of a file are in the list of modules, and their list is its own or that of one of these files.
+abbrev pub SummaryStands : Main → List ModuleVersion → List Kept → Summary → Type 0
+SummaryStands main modules files summary = IsSummary main modules summary × SharesList files summary
+
+abbrev pub KeptStands : Main → List ModuleVersion → List Kept → Kept → Type 0
+KeptStands main modules files (Valid summary) = SummaryStands main modules files summary
+KeptStands main modules files (Faulty class) = ⊤
+
+abbrev pub AllStand : Main → List ModuleVersion → List Kept → Type 0
+AllStand main modules files = (place : ℕ) (summary : Summary) → slice_get files place ≡ Some (Valid summary)
+    → SummaryStands main modules files summary
+
+-- The requirements of each file are in the list of modules.
+abbrev pub AreWithinList : List ModuleVersion → List Kept → Type 0
+AreWithinList modules files = (place : ℕ) (summary : Summary) → slice_get files place ≡ Some (Valid summary)
+    → IsWithinList modules summary.all
+
+-- The own list of the file at this place has the modules with these numbers.
+pub record IsSameList (list : NumberedList) (files : List Kept) (numbers : List ℕ) (same : SameList) : Type 0 where
+  pub summary : Summary
+  pub there : slice_get files same.place ≡ Some (Valid summary)
+  pub own : summary.same_as ≡ None
+  pub all : same.all ≡ summary.all
+  pub kept : same.kept ≡ summary.kept
+  pub has : part summary.all.start summary.all.end list.numbers ≡ numbers
+
+-- the place of the earlier file with the same requirements, if there is one
+abbrev pub same_list : Kept → Option ℕ
+same_list (Valid summary) = summary.same_as
+same_list (Faulty class) = None
+
+-- the place of the file that has the list of the file at a place
+abbrev pub list_place : List Kept → ℕ → ℕ
+list_place files place = unwrap_or (option_and_then same_list (slice_get files place)) place

@@ -1,5 +1,5 @@
 -- What the visits of a worklist change: before the first, in one, and after the last.
-use Rattle.std.specs.Prelude.{◌≡◌, ◌<◌, ℕ, List, Some, Result, Ok}
+use Rattle.std.specs.Prelude.{◌≡◌, ◌<◌, ℕ, List, Some, Result}
 use Rattle.gm_name.specs.ModuleVersion.{ModuleVersion}
 use Rattle.gm_name_table.specs.Listed.{modules_of}
 use Rattle.gm_file.specs.Fields.{Dependency}
@@ -10,8 +10,8 @@ use Rattle.gm_graph.specs.declared.cache.depth.Depth.{Depth}
 use Rattle.gm_graph.specs.declared.cache.depth.Turn.{Turn}
 use Rattle.gm_graph.specs.declared.findings.Findings.{Findings}
 use Rattle.gm_graph.specs.declared.worklist.Worklist.{Worklist}
-use Rattle.gm_graph.specs.Cached.{file_count, main_in, table_in, turns_in}
-use Rattle.gm_graph.specs.Private.Cached.{module_numbered, span_at}
+use Rattle.gm_graph.specs.Cached.{IsSound, main_in, table_in, turns_in}
+use Rattle.gm_graph.specs.Private.Cached.{module_numbered}
 use Rattle.gm_graph.specs.Private.Findings.{AreFindings, WasVisited, place_found}
 use Rattle.gm_graph.specs.Run.{AreTurns, IsOpened, IsRead, Run, Says}
 use Rattle.gm_graph.specs.Summaries.{at_span}
@@ -27,13 +27,10 @@ pub record IsFirstWorklist (run : Run) (modules : List ModuleVersion) (worklist 
 abbrev pub OverflowsAt : Run → List Turn → ModuleVersion → Depth → Type 0
 OverflowsAt run turns x d = IsRead run × VisitOverflows run turns x d
 
--- The list of the file at this place is what the vertex requires.
+-- The own list of the file at this place is what the vertex requires.
 pub record HasListAt (cache : Cache) (run : Run) (x : ModuleVersion) (place : ℕ) : Type 0 where
-  pub within : place < file_count cache
-  pub file : Dependency
-  pub says : Says run x (Ok file)
-  pub list :
-      at_span (modules_of cache.modules) (span_at cache (Some place)) ≡ without_excluded run.main file.requirements
+  pub sound : IsSound cache run x place
+  pub list : at_span (modules_of cache.modules) sound.span ≡ without_excluded run.main sound.file.requirements
 
 -- The whole worklist was visited, and the cache's list of turns is the worklist's. The turns are those of the opened
 -- vertices; those are the vertices of which something was found, and each finding is what the run found.

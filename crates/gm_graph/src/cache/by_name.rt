@@ -35,9 +35,9 @@ pub enum Known {
 
 impl<'a> Cache<'a> {
     ghost use Rattle.std.specs.Borrow.{sem};
-    ghost use Rattle.std.specs.Prelude.{IfSome};
-    ghost use Rattle.gm_graph.specs.Cached.{AreRequirements, HoldsSame, IsKnownAs, Knows, KnowsLender, LendsKept, LendsNamed, LentSame, file_count, file_known, main_in, run_in, table_in};
+    ghost use Rattle.gm_graph.specs.Cached.{AreRequirements, HasSoundFile, HoldsSame, IsKnownAs, Knows, KnowsLender, LendsKept, LendsNamed, LentSame, file_count, file_known, main_in, run_in, table_in};
     ghost use Rattle.gm_graph.specs.Private.Cached.{IsLender, IsPlaceFor, module_numbered};
+    ghost use Rattle.gm_graph.specs.Private.FileTable.{IsPlaceOf};
     ghost use Rattle.gm_graph.specs.Run.{KeepsSayings};
 
     /// The number of a module, which gets one if it has none. The only refusal is `NoMemory`.
@@ -101,13 +101,12 @@ impl<'a> Cache<'a> {
         }
     }
 
-    /// The place of the file with this name, which is that of a vertex, or `None` if the vertex has a fault.
-    fn lender(&self, vertex: &ModVer, name: Option<&FileName>) -> Option<u32>
-        requires { KnowsLender self.now vertex.now (option_map (λ n. name_of n.now) name) }
+    /// The place of the file with this name, which is that of a vertex without a fault.
+    fn place_named(&self, vertex: &ModVer, name: &FileName) -> Option<u32>
         ensures { (pairs : List (Name × Reply)) → Knows self.now pairs
-            → IsLender self.now (run_in self.now pairs) vertex.now result }
+            → HasSoundFile (run_in self.now pairs) vertex.now (name_of name.now)
+            → IsPlaceOf self.now.files (name_of name.now) result }
     {
-        let name = name?;
         match self.modules.find(vertex) {
             Some(number) => {
                 // By this no module has two numbers, so the file is found by this one.
@@ -117,6 +116,17 @@ impl<'a> Cache<'a> {
             // A module's own file is kept by its number, so this is the file of a replacement.
             None => self.files.replacing_place(name),
         }
+    }
+
+    /// The place of the file that has the list of the file with this name, which is that of a vertex, or `None` if the
+    /// vertex has a fault.
+    fn lender(&self, vertex: &ModVer, name: Option<&FileName>) -> Option<u32>
+        requires { KnowsLender self.now vertex.now (option_map (λ n. name_of n.now) name) }
+        ensures { (pairs : List (Name × Reply)) → Knows self.now pairs
+            → IsLender self.now (run_in self.now pairs) vertex.now result }
+    {
+        let place = self.place_named(vertex, name?)?;
+        Some(self.files.list_place(place))
     }
 
     /// Returns the requirements of a vertex, without the excluded ones, and appends the vertex and the depth to the

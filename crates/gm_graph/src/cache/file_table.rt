@@ -41,7 +41,7 @@ impl FileTable {
     ghost use Rattle.gm_name.specs.ModuleVersion.{ModuleVersion};
     ghost use Rattle.gm_name_table.specs.OptionalPlaces.{place_in};
     ghost use Rattle.gm_name_table.specs.declared.place.OptionalPlace.{OptionalPlace};
-    ghost use Rattle.gm_graph.specs.Private.Summaries.{span_found};
+    ghost use Rattle.gm_graph.specs.Private.Summaries.{list_place, span_found};
 
     /// No files, for a main file with these replacements. The only refusal is `NoMemory`.
     pub(crate) fn new(alloc: Global, main: &MainFile) -> Result<FileTable, NoMemory>
@@ -117,7 +117,24 @@ impl FileTable {
         }
     }
 
+    /// The place of the file that has the list of the file at a place: this, or that of an earlier file.
+    pub(crate) fn list_place(&self, place: u32) -> u32
+        ensures { result ≡ list_place self.now.files.items place }
+    {
+        match self.files.get(place as usize) {
+            Some(kept) => kept.same_list().unwrap_or(place),
+            None => place,
+        }
+    }
+
     /// What is kept of each file, in the order in which they were read.
+    pub(crate) fn files(&self) -> &[Kept]
+        ensures { result.now ≡ self.now.files.items }
+    {
+        &self.files
+    }
+
+    /// What is kept of each file, in the order in which they were read. The rest is dropped.
     pub(crate) fn into_files(self) -> Vec<Kept>
         ensures { result ≡ self.files }
     {

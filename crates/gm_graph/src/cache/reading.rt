@@ -95,6 +95,14 @@ fn class_of_fault(fault: BytesFault) -> Result<Class, NoMemory>
     }
 }
 
+/// Expects the path of the module whose file has this name, since nearly all files declare it.
+fn expect_path(names: &mut KnownNames, name: &FileName) -> Result<(), NoMemory> {
+    match name {
+        FileName::Mod(path, _) => names.expect(path),
+        FileName::Folder(_) | FileName::List(_) => Ok(()),
+    }
+}
+
 /// What an answer says, or what is wrong with it. The requirements go to the end of the list of modules. No store's
 /// answer is over the limit.
 pub(crate) fn read_answer(
@@ -110,6 +118,7 @@ pub(crate) fn read_answer(
         (listed_reading (drop (length modules.old.numbers) (modules_of modules.new)) read)) }
     ensures grows { Grows modules.old modules.new }
 {
+    expect_path(names, name)?;
     match answer {
         Answer::Absent => Ok(ListedReading::Faulty(Class::Missing)),
         Answer::TooLong => Ok(ListedReading::Faulty(Class::TooLong)),

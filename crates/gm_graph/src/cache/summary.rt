@@ -3,15 +3,15 @@
 //! The requirements of all files are in one list of modules, since files name the same modules again and again. A
 //! summary says where those of its file are.
 
-ghost use Rattle.std.specs.Prelude.{◌≡◌, ◌≤◌, List, IfOk, OnOk, Some, drop, length};
+ghost use Rattle.std.specs.Prelude.{◌≡◌, ◌≤◌, List, IfOk, None, OnOk, Some, drop, length};
 ghost use Rattle.std.specs.List.{list_any};
 ghost use Rattle.gm_name.specs.ModuleVersion.{ModuleVersion};
 ghost use Rattle.gm_name_table.specs.Listed.{Appends, modules_of};
 ghost use Rattle.gm_file.specs.Listed.{with_requirements};
 ghost use Rattle.gm_file.specs.Main.{is_excluded, without_excluded, main_of};
 ghost use Rattle.gm_graph.specs.Private.Turns.{leads_on};
-ghost use Rattle.gm_graph.specs.Summaries.{IsSummary, at_span};
-ghost use Rattle.gm_graph.specs.Private.Summaries.{Grows, nowhere, span_found};
+ghost use Rattle.gm_graph.specs.Summaries.{IsSummary, at_span, own_span};
+ghost use Rattle.gm_graph.specs.Private.Summaries.{Grows, nowhere, same_list, span_found};
 
 use crate::cache::class::Class;
 use crate::cache::depth::Depth;
@@ -48,6 +48,8 @@ pub(crate) struct Summary {
     /// Where its requirements without the excluded ones are: in the same place if none is excluded, so that most
     /// files have their requirements in the list once.
     pub(crate) kept: ListSpan,
+    /// The place of the earlier file with the same requirements, if there is one. Both are in its places then.
+    pub(crate) same_as: Option<u32>,
 }
 
 /// What the cache keeps of a file.
@@ -105,6 +107,7 @@ pub(crate) fn summary_of(
         at_span (modules_of modules.new) summary.all ≡ drop start (modules_of modules.old)) }
     ensures kept { IfOk result (IsSummary (main_of main.now) (modules_of modules.new)) }
     ensures begins { IfOk result (λ summary. start ≤ summary.kept.start) }
+    ensures own { IfOk result (λ summary. summary.same_as ≡ None) }
     ensures grows { Grows modules.old modules.new }
 {
     let end = modules.len();
@@ -114,6 +117,7 @@ pub(crate) fn summary_of(
             file,
             all,
             kept: all,
+            same_as: None,
         });
     }
     let others = copy_kept(alloc, main, modules.part(start, end))?;
@@ -122,7 +126,12 @@ pub(crate) fn summary_of(
         start: end,
         end: modules.len(),
     };
-    Ok(Summary { file, all, kept })
+    Ok(Summary {
+        file,
+        all,
+        kept,
+        same_as: None,
+    })
 }
 
 impl Summary {
@@ -148,6 +157,26 @@ impl Kept {
         match self {
             Kept::Valid(summary) => summary.kept,
             Kept::Faulty(_) => ListSpan::nowhere(),
+        }
+    }
+
+    /// Where the own list of the file is: a file with the requirements of an earlier one has none.
+    pub(crate) fn own_span(&self) -> Option<ListSpan>
+        ensures { result ≡ own_span self.now }
+    {
+        match self {
+            Kept::Valid(summary) if summary.same_as.is_none() => Some(summary.kept),
+            _ => None,
+        }
+    }
+
+    /// The place of the earlier file with the same requirements, if there is one.
+    pub(crate) fn same_list(&self) -> Option<u32>
+        ensures { result ≡ same_list self.now }
+    {
+        match self {
+            Kept::Valid(summary) => summary.same_as,
+            Kept::Faulty(_) => None,
         }
     }
 }

@@ -12,7 +12,7 @@ pub(crate) enum Said {
     Fault(Class),
     /// The vertex has no fault.
     Sound {
-        /// The place of its file in the cache.
+        /// The place in the cache of the file that has its list: its own, or an earlier one with the same requirements.
         file: u32,
         /// Whether the visit also opens what the vertex requires.
         leads: bool,
@@ -22,7 +22,7 @@ pub(crate) enum Said {
 impl Said {
     ghost use Rattle.gm_graph.specs.Private.CacheVisits.{file_said};
 
-    /// The place of the vertex's file, if the vertex has no fault.
+    /// The place of the file that has the vertex's list, if the vertex has no fault.
     pub(crate) fn file(self) -> Option<u32>
         ensures { result ≡ file_said self }
     {
@@ -36,7 +36,7 @@ impl Said {
 /// What a vertex without a fault requires.
 #[derive(Clone, Copy)]
 pub(crate) struct Required<'a> {
-    /// The place of its file in the cache.
+    /// The place in the cache of the file that has its list.
     pub(crate) file: u32,
     /// Whether the visit also opens what the vertex requires.
     pub(crate) leads: bool,

@@ -7,7 +7,10 @@ use Rattle.gm_store.specs.Asked.{Name, name_of}
 use Rattle.gm_store_sums.specs.Sums.{Sums}
 use Rattle.std.specs.Option.{option_and_then}
 use Rattle.gm_graph.specs.Private.FileTable.{replacing_place}
-use Rattle.gm_graph.specs.Summaries.{IsKept, summary_reading}
+use Rattle.gm_graph.specs.declared.cache.file_table.FileTable.{FileTable}
+use Rattle.gm_graph.specs.Summaries.{summary_reading}
+use Rattle.gm_graph.specs.Private.Summaries.{KeptStands}
+use Rattle.gm_graph.proofs.SharedLists.{listed_kept}
 use Rattle.gm_graph.specs.Cached.{main_in, table_in}
 use Rattle.gm_graph.specs.Private.Cached.{HasFileAt, module_numbered}
 use Rattle.gm_graph.specs.Reading.{IsFileReading, file_of, is_askable}
@@ -30,13 +33,13 @@ keep-requires-clause-new g c =
     let mid = c.read_file.new.self in
     let number = c.args.number in
     let name = name_of c.in_ok-name.name in
-    let numbered = c.read_file.ensures.holds.numbered in
+    let numbered = c.read_file.ensures.keeps.holds.numbered in
     new_file mid number name (number_below (table_in old) (table_in mid) number numbered c.requires.vertex)
     (c.in_ok-name.ensures ∙ ap (file_of (main_in old)) (c.module.ensures.module
     ∙ sym (number_stays (table_in old) (table_in mid) number numbered c.requires.vertex))
-    ∙ ap (λ m. file_of (main_of m) (module_numbered mid number)) (sym c.read_file.ensures.lent.main))
+    ∙ ap (λ m. file_of (main_of m) (module_numbered mid number)) (sym c.read_file.ensures.keeps.lent.main))
     (sym c.is_askable.ensures ∙ c.if-not-is_askable.false)
-    (none_still old mid name c.read_file.ensures.holds
+    (none_still old mid name c.read_file.ensures.keeps.holds
     (nothing_kept old number name c.module.result.now c.module.ensures.distinct c.requires.vertex
     c.in_ok-name.ensures c.module.ensures.module (sym c.in_default.ensures) (sym c.in_default-replacing_place.ensures)))
 
@@ -46,13 +49,15 @@ keep-requires-clause-reading g c =
     let mid = c.read_file.new.self in (
       read.0,
       subst (λ (s : Option Sums). IsFileReading s (name_of c.in_ok-name.name) read.0
-          (summary_reading (modules_of mid.modules) c.in-Ok.kept)) (sym c.read_file.ensures.lent.sums) read.2,
+          (summary_reading (modules_of mid.modules) c.in-Ok.kept)) (sym c.read_file.ensures.keeps.lent.sums) read.2,
     )
 
-pub keep-requires-clause-kept : goal.keep-requires-clause-kept
-keep-requires-clause-kept g c =
+pub keep-requires-clause-listed : goal.keep-requires-clause-listed
+keep-requires-clause-listed g c =
     let mid = c.read_file.new.self in
-    subst (λ (m : Main). IsKept m (modules_of mid.modules) c.in-Ok.kept) (sym (ap main_of c.read_file.ensures.lent.main)) c.in-Ok.ensures.kept
+    subst (λ (files : FileTable). KeptStands (main_in mid) (modules_of mid.modules) files.files.items c.in-Ok.kept) (sym c.read_file.ensures.keeps.files)
+    (subst (λ (m : Main). KeptStands m (modules_of mid.modules) c.args.self.now.files.files.items c.in-Ok.kept)
+    (sym (ap main_of c.read_file.ensures.keeps.lent.main)) c.in-Ok.ensures.listed)
 
 -- ---- memory ran out before anything was asked for
 
@@ -60,17 +65,17 @@ pub returns-in_err-name-clause-err : goal.returns-in_err-name-clause-err
 returns-in_err-name-clause-err g c = any_err c.from_residual.result (holds_itself c.args.self.now)
 
 pub returns-in_ok-keep-in-Ok-clause-lent : goal.returns-in_ok-keep-in-Ok-clause-lent
-returns-in_ok-keep-in-Ok-clause-lent g c = lent_after c.args.self.now c.read_file.new.self c.keep.new.self c.read_file.ensures.lent c.keep.ensures.lent
+returns-in_ok-keep-in-Ok-clause-lent g c = lent_after c.args.self.now c.read_file.new.self c.keep.new.self c.read_file.ensures.keeps.lent c.keep.ensures.lent
 
 -- ---- memory ran out when it was to be kept
 
 pub returns-in_err-keep-in-Ok-clause-lent : goal.returns-in_err-keep-in-Ok-clause-lent
-returns-in_err-keep-in-Ok-clause-lent g c = lent_after c.args.self.now c.read_file.new.self c.keep.new.self c.read_file.ensures.lent c.keep.ensures.lent
+returns-in_err-keep-in-Ok-clause-lent g c = lent_after c.args.self.now c.read_file.new.self c.keep.new.self c.read_file.ensures.keeps.lent c.keep.ensures.lent
 
 pub returns-in_err-keep-in-Ok-clause-err : goal.returns-in_err-keep-in-Ok-clause-err
 returns-in_err-keep-in-Ok-clause-err g c =
     any_err c.from_residual-in_err-keep-in-Ok.result (holds_after c.args.self.now c.read_file.new.self c.keep.new.self
-    c.read_file.ensures.holds c.in_err-keep-in-Ok.ensures.err)
+    c.read_file.ensures.keeps.holds c.in_err-keep-in-Ok.ensures.err)
 
 -- ---- the file is one of a replacement
 
@@ -84,7 +89,7 @@ note-requires-clause-place g c =
 -- ---- refusals
 
 pub returns-in-Err-clause-err : goal.returns-in-Err-clause-err
-returns-in-Err-clause-err g c = holds_failed c.args.self.now c.read_file.new.self _ c.read_file.ensures.holds refl refl refl refl
+returns-in-Err-clause-err g c = holds_failed c.args.self.now c.read_file.new.self _ c.read_file.ensures.keeps.holds refl refl refl refl
 
 pub note-requires-clause-askable : goal.note-requires-clause-askable
 note-requires-clause-askable g c =
@@ -95,7 +100,7 @@ note-requires-clause-askable g c =
 
 pub returns-in-Err-clause-lent : goal.returns-in-Err-clause-lent
 returns-in-Err-clause-lent g c =
-    let lent = c.read_file.ensures.lent in
+    let lent = c.read_file.ensures.keeps.lent in
     record { main = lent.main; sums = lent.sums; turns = lent.turns }
 
 -- ---- the file is made known
@@ -128,16 +133,17 @@ returns-in_ok-keep-in-Ok-clause-known g c =
     let pairs = (g.F.Asks.state c.read_file.new.files).asked in
     let name = name_of c.in_ok-name.name in
     let read = c.in-Ok.ensures.reading in
-    let begins = c.read_file.ensures.holds.numbered in
+    let begins = c.read_file.ensures.keeps.holds.numbered in
     let none = nothing_kept old c.args.number name c.module.result.now c.module.ensures.distinct c.requires.vertex
     c.in_ok-name.ensures c.module.ensures.module (sym c.in_default.ensures) (sym c.in_default-replacing_place.ensures) in
     record {
       knows = knows_read old mid new earlier pairs name read.0 c.in-Ok.kept
-          c.requires.knows c.read_file.ensures.holds c.keep.ensures.lent c.keep.ensures.modules none
-          c.in_ok-keep-in-Ok.ensures.adds read.1 read.2 c.in-Ok.ensures.kept;
+          c.requires.knows c.read_file.ensures.keeps.holds c.keep.ensures.lent c.keep.ensures.modules none
+          c.in_ok-keep-in-Ok.ensures.adds read.1 read.2
+          (listed_kept (main_in old) (modules_of mid.modules) old.files.files.items c.in-Ok.kept c.in-Ok.ensures.listed);
       place_is = subst (λ (v : ModuleVersion). HasFileAt new v c.in_ok-keep-in-Ok.field-0)
           (number_stays (table_in old) (table_in mid) c.args.number begins c.requires.vertex) c.in_ok-keep-in-Ok.ensures.place;
       numbered = (begins.0, ap (λ (list : NumberedList). list.modules) c.keep.ensures.modules ∙ begins.1);
-      sound = sound_read old mid new earlier pairs name read.0 c.in-Ok.kept c.read_file.ensures.holds c.keep.ensures.lent
+      sound = sound_read old mid new earlier pairs name read.0 c.in-Ok.kept c.read_file.ensures.keeps.holds c.keep.ensures.lent
           c.keep.ensures.modules none c.in_ok-keep-in-Ok.ensures.adds c.keep.ensures.files read.1;
     }

@@ -2,14 +2,11 @@ use Rattle.std.proofs.Common.{List, refl, subst, sym}
 use Rattle.gm_name.specs.ModuleVersion.{ModuleVersion}
 use Rattle.gm_graph.specs.declared.cache.depth.Turn.{Turn}
 use Rattle.gm_graph.specs.Cached.{AreRequirements, HasMoreTurns, run_in}
-use Rattle.gm_graph.proofs.Lending.{lender_there, lent_kept, lent_there}
+use Rattle.gm_graph.proofs.Lending.{lender_there, lent_kept}
 use Rattle.gm_graph.proofs.cache.Cache.lend.Goals as goal
 
-pub lend_at-requires-clause-place : goal.lend_at-requires-clause-place
-lend_at-requires-clause-place c = lender_there c.args.self.now c.args.vertex.now c.lender-place.result c.lender-place.ensures
-
-pub lend_at-requires-clause-within : goal.lend_at-requires-clause-within
-lend_at-requires-clause-within c = lent_there c.args.self.now c.args.vertex.now c.lender-place.result c.lender-place.ensures
+pub lend_at-requires : goal.lend_at-requires
+lend_at-requires c = record { place = lender_there c.args.self.now c.args.vertex.now c.lender-place.result c.lender-place.ensures }
 
 pub returns : goal.returns
 returns c =

@@ -3,11 +3,13 @@ use Rattle.gm_name_table.specs.Listed.{modules_of}
 use Rattle.gm_graph.specs.declared.cache.summary.ListSpan.{ListSpan}
 use Rattle.gm_graph.specs.Summaries.{IsWithinList, at_span}
 use Rattle.gm_graph.proofs.Keeping.{holds_listed}
+use Rattle.gm_graph.proofs.Lending.{lent_within}
 use Rattle.gm_graph.proofs.cache.Cache.lend_at.Goals as goal
 
 pub at-requires : goal.at-requires
 at-requires c =
-    subst (λ (span : ListSpan). IsWithinList (modules_of c.args.self.now.modules) span) (sym c.span_of-span.ensures) c.requires.within
+    subst (λ (span : ListSpan). IsWithinList (modules_of c.args.self.now.modules) span) (sym c.span_of-span.ensures)
+    (lent_within c.args.self.now c.args.place)
 
 pub returns : goal.returns
 returns c =

@@ -1,4 +1,5 @@
 use Rattle.std.proofs.Common.{◌∙◌, List, ap, arith, length, subst, sym}
+use Rattle.std.specs.Prelude.{slice_get}
 use Rattle.std.specs.Option.{option_copied, option_map}
 use Rattle.gm_name_table.specs.Listed.{modules_of}
 use Rattle.gm_file.specs.Main.{main_of}
@@ -20,6 +21,10 @@ invariant_of-result-clause-in_order c =
     let count = length c.in_ok-modules.modules.numbers in
     subst (λ (files : List Kept). AreListsInOrder c.len-first.result files count) (sym c.in_ok-files.ensures.files)
     (omega (arith, c.len-first.ensures.len))
+
+pub invariant_of-result-clause-listed : goal.invariant_of-result-clause-listed
+invariant_of-result-clause-listed c = λ place one there.
+    absurd (cc (sym (ap (λ (files : List Kept). slice_get files place) c.in_ok-files.ensures.files) ∙ there))
 
 pub returns-clause-knows : goal.returns-clause-knows
 returns-clause-knows c =

@@ -1,12 +1,13 @@
 use Rattle.std.proofs.Common.{◌∙◌, [], Global, List, Vec, ap, append-nil, length, refl, subst, sym}
 use Rattle.gm_name_table.specs.declared.place.OptionalPlace.{OptionalPlace}
+use Rattle.gm_name_table.specs.Listed.{modules_of}
 use Rattle.gm_store.specs.Asked.{Name}
 use Rattle.gm_graph.specs.declared.cache.summary.Kept.{Kept}
 use Rattle.gm_graph.specs.Cached.{main_in, sums_in, table_in}
 use Rattle.gm_graph.specs.Private.Cached.{module_numbered}
 use Rattle.gm_graph.specs.Places.{place_among}
 use Rattle.gm_graph.specs.Reading.{file_of}
-use Rattle.gm_graph.specs.Private.Summaries.{AreListsInOrder}
+use Rattle.gm_graph.specs.Private.Summaries.{AllStand, AreListsInOrder}
 use Rattle.gm_graph.proofs.HeldFiles.{kept_some}
 use Rattle.gm_graph.proofs.Keeping.{holds_listed}
 use Rattle.gm_graph.proofs.OwnFiles.{has_placed, noted_again, replacing_at}
@@ -28,6 +29,12 @@ invariant_of-self-clause-in_order c =
     let cache = c.args.self.now in
     subst (λ (files : Vec Kept Global). AreListsInOrder cache.first files.items (length cache.modules.numbers))
     (sym c.note.ensures.others.files) cache.in_order
+
+pub invariant_of-self-clause-listed : goal.invariant_of-self-clause-listed
+invariant_of-self-clause-listed c =
+    let cache = c.args.self.now in
+    subst (λ (files : Vec Kept Global). AllStand (main_in cache) (modules_of cache.modules) files.items)
+    (sym c.note.ensures.others.files) cache.listed
 
 pub invariant_of-self-clause-notes : goal.invariant_of-self-clause-notes
 invariant_of-self-clause-notes c =

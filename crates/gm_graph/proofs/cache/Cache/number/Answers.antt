@@ -2,18 +2,23 @@ use Rattle.std.proofs.Common.{◌≡◌, ℕ, List, Some, [], length, refl, subs
 use Rattle.std.specs.Prelude.{slice_get}
 use Rattle.std.proofs.lemmas.Option.{get_or_from_slice_get}
 use Rattle.std.proofs.lemmas.Result.{IfOk-weaker}
-use Rattle.gm_name.specs.ModuleVersion.{module_at}
+use Rattle.gm_name.specs.ModuleVersion.{ModuleVersion, module_at}
 use Rattle.gm_graph.specs.Cached.{main_in, sums_in, table_in}
 use Rattle.gm_graph.proofs.HeldFiles.{grown_some, numbered_more}
 use Rattle.gm_graph.proofs.Keeping.{holds_grown}
 use Rattle.gm_graph.proofs.PuttingPlaces.{notes_if_more}
-use Rattle.gm_graph.specs.Private.Summaries.{AreListsInOrder}
+use Rattle.gm_graph.specs.Private.Summaries.{AllStand, AreListsInOrder}
 use Rattle.gm_graph.proofs.cache.Cache.number.Goals as goal
 
 pub invariant_of-self-clause-in_order : goal.invariant_of-self-clause-in_order
 invariant_of-self-clause-in_order c =
     let old = c.args.self.now in
     subst (λ (numbers : List ℕ). AreListsInOrder old.first old.files.files.items (length numbers)) (sym c.number.ensures.numbers) old.in_order
+
+pub invariant_of-self-clause-listed : goal.invariant_of-self-clause-listed
+invariant_of-self-clause-listed c =
+    let old = c.args.self.now in
+    subst (λ (ms : List ModuleVersion). AllStand (main_in old) ms old.files.files.items) (sym c.number.ensures.list) old.listed
 
 pub returns-clause-module : goal.returns-clause-module
 returns-clause-module c =

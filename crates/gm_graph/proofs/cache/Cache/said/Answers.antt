@@ -4,12 +4,16 @@ use Rattle.gm_name_table.specs.Listed.{modules_of}
 use Rattle.gm_file.specs.Listed.{with_requirements}
 use Rattle.gm_graph.specs.declared.cache.summary.Kept.{Kept}
 use Rattle.gm_graph.specs.declared.cache.summary.Kept.TheVariants.{Valid}
-use Rattle.gm_graph.specs.Cached.{main_in}
+use Rattle.std.specs.Option.{option_and_then}
+use Rattle.gm_graph.specs.declared.cache.visit.Said.TheVariants as said
+use Rattle.gm_graph.specs.Cached.{main_in, run_in}
+use Rattle.gm_graph.specs.Private.CacheVisits.{IsSaid}
 use Rattle.gm_graph.specs.Private.Cached.{HasFileAt, IsPlaceFor, module_numbered}
 use Rattle.gm_file.specs.Main.{replacement_in}
 use Rattle.gm_graph.specs.Reading.{is_right_path}
 use Rattle.gm_graph.specs.Run.{faulty, sound, unaskable, wrong_path}
-use Rattle.gm_graph.specs.Summaries.{at_span}
+use Rattle.gm_graph.specs.Summaries.{at_span, listed_span}
+use Rattle.gm_graph.proofs.SharedLists.{list_owned}
 use Rattle.gm_graph.proofs.Lending.{kept_says}
 use Rattle.gm_graph.proofs.cache.Cache.said.Goals as goal
 
@@ -52,7 +56,17 @@ returns-then-is_right_path c = λ pairs knows.
     let at : HasFileAt cache x c.in-Some.file = subst (λ (p : Option ℕ). IsPlaceFor cache x p) c.in-Some.is c.requires.place in
     let says = sound (kept_says cache pairs x c.in-Some.file (Valid summary) knows at (c.at.ensures ∙ ap (λ (kept : Kept). Some kept) c.in-Valid.is))
     (subst (λ (v : ModuleVersion). is_right_path v (replacement_in main v) file.declared ≡ true) c.module.ensures.module
-    (sym c.is_right_path.ensures ∙ c.if-is_right_path.true)) in (
-      record { within = at.within; kept = at.kept; file = file; says = says },
+    (sym c.is_right_path.ensures ∙ c.if-is_right_path.true)) in
+    let there = c.at.ensures ∙ ap (λ (kept : Kept). Some kept) c.in-Valid.is in
+    let owned = list_owned main (modules_of cache.modules) cache.files.files.items c.in-Some.file summary cache.listed there in
+    subst (λ (place : ℕ). IsSaid cache (run_in cache pairs) x c.args.depth (said.Sound place c.leads_on.result)) (sym c.list_place.ensures) (
+      record {
+        within = owned.0;
+        span = summary.kept;
+        own = owned.1;
+        listed = ap (option_and_then listed_span) (sym at.kept ∙ there);
+        file = file;
+        says = says;
+      },
       c.leads_on.ensures all,
     )

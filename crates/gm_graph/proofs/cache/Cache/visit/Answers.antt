@@ -5,32 +5,24 @@ use Rattle.gm_name.specs.ModuleVersion.{ModuleVersion, pair_eq}
 use Rattle.gm_name_table.specs.Listed.{NumberedList, modules_of}
 use Rattle.gm_graph.specs.declared.cache.depth.Turn.{Turn}
 use Rattle.gm_graph.specs.declared.cache.file_table.FileTable.{FileTable}
-use Rattle.gm_graph.specs.Cached.{file_count, main_in, run_in}
+use Rattle.gm_graph.specs.Cached.{file_count, main_in}
 use Rattle.gm_graph.specs.Private.Cached.{module_numbered, span_at}
-use Rattle.gm_graph.specs.Private.CacheVisits.{file_said}
-use Rattle.gm_graph.specs.Summaries.{IsWithinList, at_span}
+use Rattle.gm_graph.specs.Summaries.{at_span}
 use Rattle.gm_graph.specs.Turns.{turn}
 use Rattle.gm_graph.proofs.AskedFile.{asks_for}
 use Rattle.gm_graph.proofs.Caching.{continues_both, has_visited, visit_still}
 use Rattle.gm_graph.proofs.Keeping.{holds_listed, says_still}
-use Rattle.gm_graph.proofs.Lending.{lender_said, lends_over, lent_within, place_said, visit_got}
+use Rattle.gm_graph.proofs.Lending.{lends_over, place_said, visit_got}
 use Rattle.gm_graph.proofs.cache.Cache.visit.Goals as goal
 
-pub lend_at-list-requires-clause-place : goal.lend_at-list-requires-clause-place
-lend_at-list-requires-clause-place g c =
+pub lend_at-list-requires : goal.lend_at-list-requires
+lend_at-list-requires g c =
     let mid = c.known_at.new.self in
     let pairs = (g.F.Asks.state c.known_at.new.files).asked in
-    subst (λ (p : Option ℕ). IfSome p (λ place. place < file_count mid)) (sym c.file.ensures)
-    (place_said mid pairs c.args.number c.args.depth c.said-said.result (c.said-said.ensures pairs c.in_ok-place.ensures.known.knows))
-
-pub lend_at-list-requires-clause-within : goal.lend_at-list-requires-clause-within
-lend_at-list-requires-clause-within g c =
-    let mid = c.known_at.new.self in
-    let pairs = (g.F.Asks.state c.known_at.new.files).asked in
-    let knows = c.in_ok-place.ensures.known.knows in
-    subst (λ (p : Option ℕ). IsWithinList (modules_of mid.modules) (span_at mid p)) (sym c.file.ensures)
-    (lent_within mid (run_in mid pairs) (module_numbered mid c.args.number) (file_said c.said-said.result) knows.lends
-    (lender_said mid pairs c.args.number c.args.depth c.said-said.result (c.said-said.ensures pairs knows)))
+    record {
+      place = subst (λ (p : Option ℕ). IfSome p (λ place. place < file_count mid)) (sym c.file.ensures)
+          (place_said mid pairs c.args.number c.args.depth c.said-said.result (c.said-said.ensures pairs c.in_ok-place.ensures.known.knows));
+    }
 
 pub returns : goal.returns
 returns g c =

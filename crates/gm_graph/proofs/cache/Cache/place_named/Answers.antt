@@ -1,0 +1,36 @@
+use Rattle.std.proofs.Common.{◌≡◌, ◌∙◌, [], Some, ap, sym}
+use Rattle.std.specs.Prelude.{slice_get}
+use Rattle.std.proofs.lemmas.Option.{get_or_from_slice_get, slice_get_within}
+use Rattle.gm_store.specs.Asked.{name_of}
+use Rattle.gm_graph.specs.Cached.{main_in, table_in}
+use Rattle.gm_graph.specs.Private.Cached.{module_numbered}
+use Rattle.gm_graph.specs.Reading.{file_of}
+use Rattle.gm_graph.proofs.FilePlaces.{place_by_absent, place_found}
+use Rattle.gm_graph.proofs.OwnFiles.{is_file_of}
+use Rattle.gm_graph.proofs.cache.Cache.place_named.Goals as goal
+
+pub module-requires : goal.module-requires
+module-requires c =
+    slice_get_within (table_in c.args.self.now) c.in-Some.number c.args.vertex.now ((c.find.ensures c.in-Some.number).0 c.in-Some.is)
+
+pub returns-in-Some : goal.returns-in-Some
+returns-in-Some c = λ pairs knows named.
+    let cache = c.args.self.now in
+    let x = c.args.vertex.now in
+    let number = c.in-Some.number in
+    let name = name_of c.args.name.now in
+    let there : slice_get (table_in cache) number ≡ Some x = (c.find.ensures number).0 c.in-Some.is in
+    let is : module_numbered cache number ≡ x = get_or_from_slice_get (table_in cache) number x ([], []) there in
+    c.place_of.ensures (main_in cache) (table_in cache)
+    (is_file_of cache number name c.module.ensures.distinct (slice_get_within (table_in cache) number x there)
+    (named.name_is ∙ ap (file_of (main_in cache)) (sym is)))
+
+pub returns-in-None : goal.returns-in-None
+returns-in-None c = λ pairs knows named.
+    let cache = c.args.self.now in
+    let x = c.args.vertex.now in
+    let name = name_of c.args.name.now in
+    place_found cache.files name c.replacing_place.result
+    (place_by_absent (main_in cache) (table_in cache) cache.files cache.notes x name
+    (λ number there. cc (sym ((c.find.ensures number).1 there) ∙ c.in-None.is)) named.name_is
+    ∙ sym c.replacing_place.ensures)

@@ -1,0 +1,44 @@
+use Rattle.std.proofs.Common.{◌∙◌, List, Option, ap, length, subst, sym}
+use Rattle.std.specs.Prelude.{IfSome, Ok}
+use Rattle.gm_name.specs.ModuleVersion.{ModuleVersion}
+use Rattle.gm_name_table.specs.Listed.{modules_of, part}
+use Rattle.gm_file.specs.Listed.{with_requirements}
+use Rattle.gm_file.specs.Main.{main_of}
+use Rattle.gm_graph.specs.declared.cache.list_index.SameList.{SameList}
+use Rattle.gm_graph.specs.Summaries.{IsSummary, IsWithinList}
+use Rattle.gm_graph.specs.declared.cache.summary.ListSpan.{ListSpan}
+use Rattle.gm_graph.specs.Private.Summaries.{IsSameList}
+use Rattle.gm_graph.proofs.SharedLists.{all_within, cut_front, cut_grows, cut_same, front, same_listed}
+use Rattle.gm_graph.proofs.cache.shared_summary.Goals as goal
+
+pub find-requires-clause-within : goal.find-requires-clause-within
+find-requires-clause-within c =
+    all_within (main_of c.args.main.now) c.args.modules.now c.args.start c.args.files.now c.requires.listed
+
+pub returns-in-Some-clause-reading : goal.returns-in-Some-clause-reading
+returns-in-Some-clause-reading c =
+    let same = c.in-Some.same in
+    let list = c.args.modules.now in
+    let has : IsSameList list c.args.files.now (part c.args.start (length list.numbers) list.numbers) c.in-Some.same =
+    subst (λ (found : Option SameList). IfSome found (IsSameList list c.args.files.now (part c.args.start (length list.numbers) list.numbers)))
+    c.in-Some.is c.in_ok-same.ensures in
+    let was : IsSummary (main_of c.args.main.now) (front list c.args.start) has.summary =
+    (c.requires.listed same.place _ has.there).0 in
+    ap (λ (xs : List ModuleVersion). Ok (with_requirements c.args.file xs))
+    (cut_same list c.args.start c.truncate.new.self c.truncate.ensures.modules c.truncate.ensures.numbers same.all c.requires.start
+    (subst (λ (s : ListSpan). IsWithinList (front list c.args.start) s) (sym has.all) was.all_within)
+    (ap (λ (s : ListSpan). part s.start s.end list.numbers) has.all ∙ has.has))
+
+pub returns-in-Some-clause-listed : goal.returns-in-Some-clause-listed
+returns-in-Some-clause-listed c =
+    let list = c.args.modules.now in
+    let has : IsSameList list c.args.files.now (part c.args.start (length list.numbers) list.numbers) c.in-Some.same =
+    subst (λ (found : Option SameList). IfSome found (IsSameList list c.args.files.now (part c.args.start (length list.numbers) list.numbers)))
+    c.in-Some.is c.in_ok-same.ensures in
+    same_listed (main_of c.args.main.now) c.args.modules.now (front c.args.modules.now c.args.start) (modules_of c.truncate.new.self)
+    c.args.files.now _ c.args.file c.in-Some.same c.requires.listed
+    (cut_front c.args.modules.now c.args.start c.truncate.new.self c.truncate.ensures.modules c.truncate.ensures.numbers) has
+
+pub returns-in-Some-clause-grows : goal.returns-in-Some-clause-grows
+returns-in-Some-clause-grows c =
+    cut_grows c.args.modules.now c.args.start c.truncate.new.self c.truncate.ensures.modules c.truncate.ensures.numbers

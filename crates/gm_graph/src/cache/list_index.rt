@@ -1,0 +1,139 @@
+//! Files with the same requirements, so that a list that comes again is kept once.
+//!
+//! Many names may lead to one file: a main file can replace each version of a module by another spelling of one folder,
+//! and a proxy's folder can have links. Each name is asked for, and its file read. If each kept its list, the lists could
+//! take memory in proportion to the square of what the main file and the files have.
+//!
+//! A list is looked up by a tag of its numbers, and compared in full. What finds its tag taken by another list goes to an
+//! ordered map, so lists that were made up to have one tag are found, too.
+
+ghost use Rattle.std.specs.Prelude.{◌≤◌, ◌<◌, IfOk, IfSome, length};
+ghost use Rattle.gm_name_table.specs.Listed.{modules_of, part};
+ghost use Rattle.gm_graph.specs.Private.Summaries.{AreWithinList, IsSameList};
+
+use crate::cache::summary::{Kept, ListSpan};
+use gm_name::NoMemory;
+use gm_name_table::{ModuleList, TagIndex};
+use std::alloc::Global;
+use std::collections::BTreeMap;
+
+/// Lists with fewer modules are kept each for itself: to look one up would cost more than it takes.
+const SHORT: usize = 8;
+
+/// What the numbers of a list are multiplied by in turn, so that the tags are spread evenly: 2^32 divided by the golden
+/// ratio.
+const SPREAD: u32 = 0x9E37_79B1;
+
+/// A tag of the numbers of a list.
+fn tag_of(numbers: &[u32]) -> u32 {
+    let mut tag: u32 = 0;
+    for number in numbers {
+        tag = (tag.rotate_left(5) ^ *number).wrapping_mul(SPREAD);
+    }
+    tag
+}
+
+/// The own list of a file, which has the same modules as another.
+#[derive(Clone, Copy)]
+pub(crate) struct SameList {
+    /// The place of the file.
+    pub(crate) place: u32,
+    /// Where its requirements are.
+    pub(crate) all: ListSpan,
+    /// Where they are without the excluded ones.
+    pub(crate) kept: ListSpan,
+}
+
+/// The own list of the file at a place, if it has the modules with these numbers.
+fn list_at(modules: &ModuleList, files: &[Kept], place: u32, numbers: &[u32]) -> Option<SameList>
+    requires { AreWithinList (modules_of modules.now) files.now }
+    ensures { IfSome result (IsSameList modules.now files.now numbers.now) }
+{
+    match files.get(place as usize)? {
+        Kept::Valid(summary) if summary.same_as.is_none() => {
+            let span = summary.all;
+            if modules.numbers(span.start, span.end) != numbers {
+                return None;
+            }
+            Some(SameList {
+                place,
+                all: span,
+                kept: summary.kept,
+            })
+        }
+        _ => None,
+    }
+}
+
+/// The places of the files whose own lists were kept. They are guesses, which `find` tests: after a refusal a place may
+/// be that of another file, or of none.
+#[derive(Drop)]
+pub(crate) struct ListIndex {
+    /// The allocator of the lists whose tag is taken.
+    alloc: Global,
+    /// The place of a file under the tag of its list.
+    by_tag: TagIndex,
+    /// The places of the files whose list has the tag of another.
+    others: BTreeMap<Vec<u32>, u32>,
+}
+
+impl ListIndex {
+    /// No lists. Allocates no memory before the first one.
+    pub(crate) fn new(alloc: Global) -> ListIndex {
+        ListIndex {
+            alloc,
+            by_tag: TagIndex::new(alloc),
+            others: BTreeMap::new(alloc),
+        }
+    }
+
+    /// The file with the modules from a place of the list on, if their tag is that of other modules, too. Otherwise the
+    /// next file is noted for them.
+    #[cold]
+    fn find_other(
+        &mut self,
+        modules: &ModuleList,
+        files: &[Kept],
+        numbers: &[u32],
+    ) -> Result<Option<SameList>, NoMemory>
+        requires few { length files.now < 4294967295 }
+        requires within { AreWithinList (modules_of modules.now) files.now }
+        ensures { IfOk result (λ found. IfSome found (IsSameList modules.now files.now numbers.now)) }
+    {
+        let list = Vec::from_slice(self.alloc, numbers)?;
+        if let Some(place) = self.others.get(&list) {
+            return Ok(list_at(modules, files, *place, numbers));
+        }
+        self.others.insert(list, files.len() as u32)?;
+        Ok(None)
+    }
+
+    /// The file that has the modules from a place of the list on as its own list, unless they are few. If there is none,
+    /// the next file is noted for them. The only refusal is `NoMemory`.
+    pub(crate) fn find(
+        &mut self,
+        modules: &ModuleList,
+        files: &[Kept],
+        start: usize,
+    ) -> Result<Option<SameList>, NoMemory>
+        requires few { length files.now < 4294967295 }
+        requires within { AreWithinList (modules_of modules.now) files.now }
+        requires start { start ≤ length modules.now.numbers }
+        ensures { IfOk result (λ found. IfSome found (IsSameList modules.now files.now
+            (part start (length modules.now.numbers) modules.now.numbers))) }
+    {
+        let numbers = modules.numbers(start, modules.len());
+        if numbers.len() < SHORT {
+            return Ok(None);
+        }
+        let tag = tag_of(numbers);
+        let Some(place) = self.by_tag.get(tag) else {
+            self.by_tag.put(tag, files.len() as u32)?;
+            return Ok(None);
+        };
+        match list_at(modules, files, place, numbers) {
+            Some(same) => Ok(Some(same)),
+            None => self.find_other(modules, files, numbers),
+        }
+    }
+}
