@@ -24,6 +24,10 @@ MOST = 2.4
 LARGER, RUNS = 16, 5
 # how many seconds a run has
 LIMIT = 120
+# what `tag_of` multiplies by, and what undoes that; of how many numbers the lists of one tag are
+SPREAD = 0x9E3779B1
+UNSPREAD = pow(SPREAD, -1, 1 << 32)
+NUMBERS = 16_384
 COUNTED = re.compile(r"I\s+refs:\s+([\d,]+)")
 
 
@@ -91,6 +95,44 @@ def retracted(count):
     }
 
 
+def turned(number, left):
+    """A number of 32 bits, turned left by so many."""
+    return (number << left | number >> (32 - left)) & 0xFFFFFFFF
+
+
+def lists_of_one_tag(count, base):
+    """So many lists of eight of the numbers from `base` on that have one tag, as `tag_of` of gm_graph makes it: six
+    numbers are chosen, and of the other two the sum of what they must be is looked up."""
+    before_last = {}
+    for last in range(base, base + NUMBERS):
+        needed = turned(last, 27) * UNSPREAD & 0xFFFFFFFF
+        before_last.setdefault(needed // NUMBERS, []).append((needed, last))
+    lists, tried = [], 0
+    while len(lists) < count:
+        front = [base + at * 1024 + (tried >> at * 10 & 1023) for at in range(6)]
+        tag = 0
+        for number in front:
+            tag = (turned(tag, 5) ^ number) * SPREAD & 0xFFFFFFFF
+        tag, tried = turned(tag, 5), tried + 1
+        for block in range(base // NUMBERS, (base + NUMBERS - 1) // NUMBERS + 1):
+            for needed, last in before_last.get(tag // NUMBERS ^ block, []):
+                whole = [*front, tag ^ needed, last]
+                if base <= whole[6] < base + NUMBERS and len(set(whole)) == 8:
+                    lists.append(whole)
+    return lists[:count]
+
+
+def one_tag(count):
+    """The files of a main module that requires so many. The first requires many modules, which gives them numbers, and
+    the lists of the others have one tag."""
+    all_modules = block("require", numbered(NUMBERS, "b.c/{} v1.0.0"))
+    files = {"proxy/a.c/0/@v/v1.0.0.mod": "module a.c/0\n\ngo 1.17\n\n" + all_modules}
+    for at, one in enumerate(lists_of_one_tag(count - 1, count), 1):
+        required = [f"b.c/{number - count} v1.0.0" for number in one]
+        files[f"proxy/a.c/{at}/@v/v1.0.0.mod"] = f"module a.c/{at}\n\ngo 1.17\n\n" + block("require", required)
+    return {"go.mod": main_of(numbered(count), go="1.17")} | files
+
+
 class Row(NamedTuple):
     """What grows, its first size, the command line, its files with `stdin` among them, and its status. A word that
     begins with `*` stands there as often as the size says, and so does what is in braces in a word."""
@@ -130,6 +172,7 @@ ROWS = [
     Row("modules with sums", 200, f"list {PROXY} --sum go.sum --limit 1", wide),
     Row("missing modules", 500, f"list {PROXY}", lines, 1),
     Row("requirements of a dependency", 2000, f"list {PROXY}", pruned),
+    Row("lists of one tag", 500, f"list {PROXY}", one_tag),
     Row("excludes and replaces", 1000, f"list {PROXY}", replaced),
     Row("sums", 2000, f"list {PROXY} --sum go.sum", summed),
     Row("proxy folders", 500, "list --proxy {p,}proxy", lambda n: wide(4)),
