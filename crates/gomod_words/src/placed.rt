@@ -59,9 +59,10 @@ pub(crate) fn place_all<'a>(
         All (λ each. Becomes (is_over_file command) each.item each.row) placed.items) }
 {
     let whole = whole_of(command, items);
+    let mut seen = Vec::new(alloc);
     let mut placed = Vec::new(alloc);
     for item in items {
-        let row = settled(placed.as_slice(), whole, command, *item);
+        let row = settled(&mut seen, whole, command, *item)?;
         placed.push(Placed { item: *item, row })?;
     }
     Ok(placed)
@@ -90,25 +91,32 @@ fn is_list(row: Row<'_>) -> bool {
     matches!(row, Row::Part(Slot::Proxy, _))
 }
 
-/// What becomes of an item after these. A part that there is already is left out, and so are what can't be done with the
-/// output if the file is standard input, and `--proxy` without a folder beside another.
-fn settled<'a>(placed: &[Placed<'_>], whole: Whole, command: CommandName, item: Item<'a>) -> Row<'a>
-    ensures { Becomes (is_over_file command) item.entry result }
+/// What becomes of an item after those that have filled these slots. A part that there is already is left out, and so
+/// are what can't be done with the output if the file is standard input, and `--proxy` without a folder beside another.
+fn settled<'a>(
+    seen: &mut Vec<Slot>,
+    whole: Whole,
+    command: CommandName,
+    item: Item<'a>,
+) -> Result<Row<'a>, AllocError>
+    ensures { IfOk result (λ row. Becomes (is_over_file command) item.entry row) }
 {
     let row = row_of(command, item);
     match slot_of(row) {
-        Some(slot) => if is_free(placed, whole, slot) {
-            row
+        Some(slot) => if is_free(seen.as_slice(), whole, slot) {
+            seen.push(slot)?;
+            Ok(row)
         } else {
-            Row::LeftOut
+            Ok(Row::LeftOut)
         },
-        None => row,
+        None => Ok(row),
     }
 }
 
-/// Whether there is a place for this slot after these items.
-fn is_free(placed: &[Placed<'_>], whole: Whole, slot: Slot) -> bool {
-    !is_void(whole, slot) && !has(placed, slot)
+/// Whether there is a place for this slot, after those that are filled: each once, so that few are looked at, however many
+/// items there are.
+fn is_free(seen: &[Slot], whole: Whole, slot: Slot) -> bool {
+    !is_void(whole, slot) && !seen.iter().any(|filled| *filled == slot)
 }
 
 /// Whether all items together leave nothing for this slot.

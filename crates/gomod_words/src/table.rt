@@ -156,7 +156,8 @@ pub(crate) fn has_value(option: OptionName) -> bool
 {
     match option {
         OptionName::Retracted => false,
-        _ => true,
+        OptionName::Proxy | OptionName::Mod | OptionName::Sum => true,
+        OptionName::After | OptionName::Limit => true,
     }
 }
 

@@ -18,8 +18,8 @@ loop-item-preserved c =
     record {
       all =
           ap (map (λ (each : Placed). each.item)) c.in_ok-push.ensures.items
-          ∙ map_push (λ (each : Placed). each.item) placed (record { item = item; row = c.settled-row.result })
+          ∙ map_push (λ (each : Placed). each.item) placed (record { item = item; row = c.in_ok-row.row })
           ∙ ap (λ (front : List Item). front ++ item ∷ []) c.loop-item.invariant.all
           ∙ sym (take_more items i none c.loop-item-test.true);
-      each = subst (All may) (sym c.in_ok-push.ensures.items) (All-push may placed _ c.loop-item.invariant.each c.settled-row.ensures);
+      each = subst (All may) (sym c.in_ok-push.ensures.items) (All-push may placed _ c.loop-item.invariant.each c.in_ok-row.ensures);
     }
