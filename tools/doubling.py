@@ -24,9 +24,9 @@ MOST = 2.4
 LARGER, RUNS = 16, 5
 # how many seconds a run has
 LIMIT = 120
-# what `tag_of` multiplies by, and what undoes that; of how many numbers the lists of one tag are
-SPREAD = 0x9E3779B1
-UNSPREAD = pow(SPREAD, -1, 1 << 32)
+# where gm_graph makes tags of lists, and how; from how many numbers the lists of one tag are made
+TAGS = os.path.join(os.path.dirname(os.path.abspath(__file__)), "../crates/gm_graph/src/cache/list_index.rt")
+TAG_STEP = "tag = (tag.rotate_left(5) ^ *number).wrapping_mul(SPREAD);"
 NUMBERS = 16_384
 COUNTED = re.compile(r"I\s+refs:\s+([\d,]+)")
 
@@ -100,22 +100,34 @@ def turned(number, left):
     return (number << left | number >> (32 - left)) & 0xFFFFFFFF
 
 
+def spread():
+    """What the tag of a list is multiplied by after each number."""
+    with open(TAGS, encoding="utf-8") as file:
+        text = file.read()
+    found = re.search(r"const SPREAD: u32 = (0x[0-9A-F_]+);", text)
+    if not found or TAG_STEP not in text:
+        sys.exit("doubling: list_index.rt no longer makes tags as lists_of_one_tag does")
+    return int(found[1].replace("_", ""), 16)
+
+
 def lists_of_one_tag(count, base):
-    """So many lists of eight of the numbers from `base` on that have one tag, as `tag_of` of gm_graph makes it: six
-    numbers are chosen, and of the other two the sum of what they must be is looked up."""
+    """So many lists of eight of the numbers from `base` on whose tag is 0, as `tag_of` of gm_graph makes it. Six are
+    chosen; the last two must cancel what these leave, and are looked up by their exclusive or."""
+    factor = spread()
+    inverse = pow(factor, -1, 1 << 32)
     before_last = {}
     for last in range(base, base + NUMBERS):
-        needed = turned(last, 27) * UNSPREAD & 0xFFFFFFFF
+        needed = turned(last, 27) * inverse & 0xFFFFFFFF
         before_last.setdefault(needed // NUMBERS, []).append((needed, last))
     lists, tried = [], 0
     while len(lists) < count:
         front = [base + at * 1024 + (tried >> at * 10 & 1023) for at in range(6)]
         tag = 0
         for number in front:
-            tag = (turned(tag, 5) ^ number) * SPREAD & 0xFFFFFFFF
+            tag = (turned(tag, 5) ^ number) * factor & 0xFFFFFFFF
         tag, tried = turned(tag, 5), tried + 1
-        for block in range(base // NUMBERS, (base + NUMBERS - 1) // NUMBERS + 1):
-            for needed, last in before_last.get(tag // NUMBERS ^ block, []):
+        for part in range(base // NUMBERS, (base + NUMBERS - 1) // NUMBERS + 1):
+            for needed, last in before_last.get(tag // NUMBERS ^ part, []):
                 whole = [*front, tag ^ needed, last]
                 if base <= whole[6] < base + NUMBERS and len(set(whole)) == 8:
                     lists.append(whole)
@@ -172,7 +184,7 @@ ROWS = [
     Row("modules with sums", 200, f"list {PROXY} --sum go.sum --limit 1", wide),
     Row("missing modules", 500, f"list {PROXY}", lines, 1),
     Row("requirements of a dependency", 2000, f"list {PROXY}", pruned),
-    Row("lists of one tag", 500, f"list {PROXY}", one_tag),
+    Row("lists of one tag", 1000, f"list {PROXY}", one_tag),
     Row("excludes and replaces", 1000, f"list {PROXY}", replaced),
     Row("sums", 2000, f"list {PROXY} --sum go.sum", summed),
     Row("proxy folders", 500, "list --proxy {p,}proxy", lambda n: wide(4)),

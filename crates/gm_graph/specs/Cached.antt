@@ -107,7 +107,7 @@ pub data AreRequirements (run : Run) (x : ModuleVersion) : List ModuleVersion �
   its_requirements : {file : Dependency} → Says run x (Ok file)
       → AreRequirements run x (without_excluded run.main file.requirements)
 
--- Each file is at the place at which it was.
+-- The list of each vertex is at the place at which it was.
 abbrev pub KeepsSound : Cache → Run → Cache → Run → Type 0
 KeepsSound old earlier new later = (x : ModuleVersion) (place : ℕ) → IsSound old earlier x place
     → IsSound new later x place

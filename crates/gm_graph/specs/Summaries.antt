@@ -44,12 +44,12 @@ abbrev pub listed_span : Kept → Option ListSpan
 listed_span (Valid summary) = Some summary.kept
 listed_span (Faulty class) = None
 
--- where they are if no earlier file has the same
+-- where they are, unless they are in the list of the earlier file at a place
 abbrev pub span_unless : Option ℕ → ListSpan → Option ListSpan
 span_unless None span = Some span
 span_unless (Some place) span = None
 
--- where the own list of a file is: a file with the requirements of an earlier one has none
+-- where the own list of a file is: a file that shares the list of an earlier one has none
 abbrev pub own_span : Kept → Option ListSpan
 own_span (Valid summary) = span_unless summary.same_as summary.kept
 own_span (Faulty class) = None

@@ -126,7 +126,7 @@ fn first_modules(alloc: Global, main: &MainFile) -> Result<ModuleList, NoMemory>
 }
 
 /// The summary of a file whose requirements are those of the list from this place on. If an earlier file has the same,
-/// the list ends here again, and the summary has the places of that file's.
+/// these are cut off again, and the summary says where the earlier file's are.
 fn shared_summary(
     alloc: Global,
     lists: &mut ListIndex,
@@ -159,8 +159,7 @@ fn shared_summary(
     summary_of(alloc, modules, main, file, start)
 }
 
-/// What is kept of a file that was read: the requirements, without the excluded ones, of a valid file are those of the list
-/// from this place on.
+/// What is kept of a file that was read. The requirements of a valid one are those of the list from this place on.
 fn kept_of(
     alloc: Global,
     lists: &mut ListIndex,

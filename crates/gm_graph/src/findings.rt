@@ -18,8 +18,8 @@ pub(crate) struct NumberedFault {
 /// What visits found: the places of lists, and faults.
 #[derive(Drop)]
 pub(crate) struct Findings {
-    /// For each module, by its number, the place of the file that has its list, if it was visited and has no fault. The last
-    /// ones may be left out.
+    /// For each module, by its number, the place of the file that has its list, if it was visited and has no fault. The
+    /// last ones may be left out.
     pub(crate) places: Vec<Option<u32>>,
     /// The faults of the visited vertices that have one. That of a vertex that was visited twice comes twice.
     pub(crate) faults: Vec<NumberedFault>,

@@ -40,8 +40,8 @@ fn add_fault(findings: &mut Findings, one: NumberedTurn, class: Class) -> Result
     Ok(())
 }
 
-/// Notes which file has the list of a vertex without a fault, and, if the visit leads further, adds the turns of what the vertex
-/// requires to the worklist.
+/// Notes which file has the list of a vertex without a fault, and, if the visit leads further, adds the turns of what the
+/// vertex requires to the worklist.
 fn add_requirements(
     worklist: &mut Worklist,
     followed: &mut Followed,

@@ -9,15 +9,15 @@ use Rattle.gm_graph.specs.Cached.{IsSound}
 use Rattle.gm_graph.specs.Run.{Requires, Run}
 use Rattle.gm_graph.specs.Turns.{turn}
 
--- Whether the file at a place was followed.
+-- Whether the list of the file at a place was followed.
 abbrev pub followed_at : Followed → ℕ → Bool
 followed_at followed file = slice_index_or followed.files.items file false
 
--- No files were added but this one.
+-- No lists were added but that of this file.
 abbrev pub AddsFollowed : Followed → Followed → ℕ → Type 0
 AddsFollowed old new file = (f : ℕ) → followed_at new f ≡ true → (followed_at old f ≡ true) ⊎ (file ≡ f)
 
--- No files were added but this one, and if it was, these modules, which it requires, have turns at full depth.
+-- No lists were added but that of this file, and if it was, these modules, which it has, have turns at full depth.
 abbrev pub FollowsFile : Followed → Followed → ℕ → List Turn → List ModuleVersion → Type 0
 FollowsFile old new file turns xs = (f : ℕ) → followed_at new f ≡ true
     → (followed_at old f ≡ true) ⊎ ((file ≡ f) × ((y : ModuleVersion) → Contains xs y → Contains turns (turn y Deep)))
@@ -28,7 +28,7 @@ pub record IsFollowedIn (cache : Cache) (run : Run) (turns : List Turn) (file : 
   pub sound : IsSound cache run vertex file
   pub each : (y : ModuleVersion) → Requires run vertex y → Contains turns (turn y Deep)
 
--- The files were followed.
+-- The lists of the files were followed.
 abbrev pub AreFollowedIn : Cache → Run → List Turn → Followed → Type 0
 AreFollowedIn cache run turns followed = (file : ℕ) → followed_at followed file ≡ true
     → IsFollowedIn cache run turns file

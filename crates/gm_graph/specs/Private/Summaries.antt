@@ -77,6 +77,7 @@ SharesList files summary = (place : ℕ) → summary.same_as ≡ Some place → 
 abbrev pub SummaryStands : Main → List ModuleVersion → List Kept → Summary → Type 0
 SummaryStands main modules files summary = IsSummary main modules summary × SharesList files summary
 
+-- The same of what is kept of a file, which may be a fault, and of all files.
 abbrev pub KeptStands : Main → List ModuleVersion → List Kept → Kept → Type 0
 KeptStands main modules files (Valid summary) = SummaryStands main modules files summary
 KeptStands main modules files (Faulty class) = ⊤
@@ -99,7 +100,7 @@ pub record IsSameList (list : NumberedList) (files : List Kept) (numbers : List 
   pub kept : same.kept ≡ summary.kept
   pub has : part summary.all.start summary.all.end list.numbers ≡ numbers
 
--- the place of the earlier file with the same requirements, if there is one
+-- the place of the earlier file whose list it shares, if it shares one
 abbrev pub same_list : Kept → Option ℕ
 same_list (Valid summary) = summary.same_as
 same_list (Faulty class) = None

@@ -20,8 +20,7 @@ use std::collections::BTreeMap;
 /// Lists with fewer modules are kept each for itself: to look one up would cost more than it takes.
 const SHORT: usize = 8;
 
-/// What the numbers of a list are multiplied by in turn, so that the tags are spread evenly: 2^32 divided by the golden
-/// ratio.
+/// What the tag is multiplied by after each number, so that tags are spread evenly: 2^32 divided by the golden ratio.
 const SPREAD: u32 = 0x9E37_79B1;
 
 /// A tag of the numbers of a list.

@@ -48,7 +48,7 @@ pub(crate) struct Summary {
     /// Where its requirements without the excluded ones are: in the same place if none is excluded, so that most
     /// files have their requirements in the list once.
     pub(crate) kept: ListSpan,
-    /// The place of the earlier file with the same requirements, if there is one. Both are in its places then.
+    /// The place of the earlier file whose list this one shares, if it shares one: `all` and `kept` are that file's then.
     pub(crate) same_as: Option<u32>,
 }
 
@@ -160,7 +160,7 @@ impl Kept {
         }
     }
 
-    /// Where the own list of the file is: a file with the requirements of an earlier one has none.
+    /// Where the own list of the file is: a file that shares the list of an earlier one has none.
     pub(crate) fn own_span(&self) -> Option<ListSpan>
         ensures { result ≡ own_span self.now }
     {
@@ -170,7 +170,7 @@ impl Kept {
         }
     }
 
-    /// The place of the earlier file with the same requirements, if there is one.
+    /// The place of the earlier file whose list it shares, if it shares one.
     pub(crate) fn same_list(&self) -> Option<u32>
         ensures { result ≡ same_list self.now }
     {
