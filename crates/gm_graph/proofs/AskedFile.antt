@@ -31,7 +31,7 @@ module _ {before after : Name → Option Reply → Type 0} (old new : StoreState
       }
   asked_one (Err fault) is = record {
     asks = inl is.unanswered;
-    device = λ n e. let same : name ≡ n = only_refused fault n e in (is.unanswered, sym same, subst (λ (m : Name). answer_in old.asked m ≡ None) same fresh);
+    device = λ n e. let same : name ≡ n = only_refused fault n e in (is.unanswered, sym same, rw same at fresh);
     refused = is.refused;
     served = request_served before after old new name (Err fault) is;
   }
@@ -56,15 +56,13 @@ module _ {A : Name → Type 0} {before after : Name → Option Reply → Type 0}
   }
 
   pub asks_by : {failed names : List Name} → failed ≡ names → AsksOne A before after old new failed → AsksOne A before after old new names
-  asks_by e one = subst (λ (ns : List Name). AsksOne A before after old new ns) e one
+  asks_by e one = rw e at one
 
   -- A refusal is passed on.
   pub asks_passed : (S : Type 0) {T : Type 0} (name : Name) (fault : AskFault) (result : Result T AskFault) → IsErrAnd result (λ f. f ≡ fault)
       → AsksOne A before after old new (refused_for {T = S} name (Err fault)) → AsksOne A before after old new (refused_for name result)
   asks_passed S name fault (Ok value) given one = absurd given
-  asks_passed S {T} name fault (Err f) given one = subst
-      (λ (e : AskFault). AsksOne A before after old new (refused_for {T = T} name (Err e))) (sym given)
-      (same_for fault one)
+  asks_passed S {T} name fault (Err f) given one = rw given (same_for fault one)
     where
       same_for : (e : AskFault) → AsksOne A before after old new (refused_for {T = S} name (Err e))
           → AsksOne A before after old new (refused_for {T = T} name (Err e))
@@ -75,7 +73,7 @@ module _ {A : Name → Type 0} {before after : Name → Option Reply → Type 0}
   pub asks_still : {T : Type 0} (name : Name) (result : Result T AskFault) → IsErrAnd result (λ fault. fault ≡ ask.NoMemory)
       → AsksOne A before after old new [] → AsksOne A before after old new (refused_for name result)
   asks_still name (Ok value) given one = absurd given
-  asks_still {T} name (Err fault) given one = asks_by (ap (λ (f : AskFault). refused_for {T = T} name (Err f)) (sym given)) one
+  asks_still name (Err fault) given one = rw given one
 
 -- It is that of an equal vertex's file.
 pub asks_same : {before after : Name → Option Reply → Type 0} {old new : StoreState} {failed names : List Name}
@@ -91,9 +89,9 @@ module _ {before after : Name → Option Reply → Type 0} {old new : StoreState
   asks_for = elim one.asks [
     | inl same ↦ inl same
     | inr asked ↦ inr (
-      sym (ap is_askable asked.1.0) ∙ asked.1.1,
-      sym (ap (answer_in old.asked) asked.1.0) ∙ asked.2,
-      (asked.3.0, subst (λ (n : Name). AddsAnswer old new n asked.3.0) asked.1.0 asked.3.1),
+      rw asked.1.0 at asked.1.1,
+      rw asked.1.0 at asked.2,
+      (asked.3.0, rw asked.1.0 at asked.3.1),
     )
   ]
 

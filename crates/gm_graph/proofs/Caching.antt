@@ -31,16 +31,15 @@ module _ (old mid new : Cache) (lent : LentSame old mid) (numbered_by : BeginsWi
 
   module _ (earlier pairs : List (Name × Reply)) where
     stays_both : KeepsSayings (run_in old earlier) (run_in mid pairs) → KeepsSayings (run_in old earlier) (run_in new pairs)
-    stays_both stays = subst (λ (r : Run). KeepsSayings (run_in old earlier) r) (sym (same_run mid new pairs holds.main holds.sums)) stays
+    stays_both stays = rw (holds.main, holds.sums) stays
 
     sound_both : KeepsSound old (run_in old earlier) mid (run_in mid pairs) → KeepsSound old (run_in old earlier) new (run_in new pairs)
-    sound_both keeps = subst (λ (r : Run). KeepsSound old (run_in old earlier) new r) (sym (same_run mid new pairs holds.main holds.sums))
-        (λ x place at. holds.sound (run_in mid pairs) x place (keeps x place at))
+    sound_both keeps = rw (same_run mid new pairs holds.main holds.sums) (λ x place at. holds.sound (run_in mid pairs) x place (keeps x place at))
 
     -- What a visit gets of a cache is what it gets of one that holds the same.
     pub visit_still : (x : ModuleVersion) (d : Depth) (got : Visit) → IsVisit mid (run_in mid pairs) x d got → IsVisit new (run_in new pairs) x d got
     visit_still x d got is =
-        subst (λ (r : Run). IsVisit new r x d got) (sym (same_run mid new pairs holds.main holds.sums)) (by_visit got is)
+        rw (same_run mid new pairs holds.main holds.sums) (by_visit got is)
       where
         by_visit : (v : Visit) → IsVisit mid (run_in mid pairs) x d v → IsVisit new (run_in mid pairs) x d v
         by_visit (visit.Fault class) got_is = got_is
@@ -54,13 +53,12 @@ module _ (old mid new : Cache) (lent : LentSame old mid) (numbered_by : BeginsWi
     has_visited number d got below knows stays keeps count files turns distinct is =
         let same : module_numbered mid number ≡ module_numbered old number = number_stays (table_in old) (table_in mid) number numbered_by below in
         record {
-          knows = knows_still mid new pairs holds knows;
+          knows = knows_still pairs holds knows;
           continues = continues_both;
           stays = stays_both stays;
           distinct = distinct;
           sound = sound_both keeps;
           count = omega (arith, files, count);
-          turns = turns ∙ ap (λ (ts : List Turn). ts ++ turn (module_numbered mid number) d ∷ []) lent.turns
-              ∙ ap (λ (v : ModuleVersion). turns_in old ++ turn v d ∷ []) same;
-          visit_is = subst (λ (v : ModuleVersion). IsVisit new (run_in new pairs) v d got) same is;
+          turns = rw (lent.turns, same) at turns;
+          visit_is = rw same at is;
         }

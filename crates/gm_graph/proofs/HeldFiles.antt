@@ -33,7 +33,7 @@ none_some main sums list files none = ∣ (
   [],
   record {
     kept = λ name reply e. absurd (cc e);
-    only = λ name e. ap (option_map (summary_reading (modules_of list))) (none name);
+    only = λ name e. rw (none name) refl;
     lends = λ name one e. absurd (cc (sym (none name) ∙ e));
   },
 ) ∣₁
@@ -86,7 +86,7 @@ record IsAnswerOf (sums : Option Sums) (name : Name) (answer : Option Reply) (he
 one_answer : (sums : Option Sums) (name : Name) (reply : Reply) (reading : Result Dependency Class) → IsFileReading sums name reply reading
     → IsAnswerOf sums name (Some reply) (Some reading)
 one_answer sums name reply reading reads = record {
-  kept = λ other e. (reading, refl, subst (λ (r : Reply). IsFileReading sums name r reading) (same_Some reply other e) reads);
+  kept = λ other e. (reading, refl, rw (same_Some reply other e) at reads);
   only = λ e. absurd (cc e);
 }
 
@@ -97,7 +97,7 @@ map_cond f false v r = refl
 kept_with : (b : Bool) (main : Main) (modules : List ModuleVersion) (o : Option Kept) (one some : Kept)
     → ((any : Kept) → o ≡ Some any → IsKept main modules any) → IsKept main modules one
     → cond b (Some one) o ≡ Some some → IsKept main modules some
-kept_with true main modules o one some were is e = let same : one ≡ some = cc in subst (λ (x : Kept). IsKept main modules x) same is
+kept_with true main modules o one some were is e = rw (same_Some one some e) at is
 kept_with false main modules o one some were is e = were some e
 
 -- ---- a file that was added
@@ -107,7 +107,7 @@ answer_put : (b : Bool) (sums : Option Sums) (name other : Name) (reply : Reply)
     (held : Option (Result Dependency Class)) → b ≡ same_name other name → IsFileReading sums name reply reading → IsAnswerOf sums other answer held
     → IsAnswerOf sums other (cond b (Some reply) answer) (cond b (Some reading) held)
 answer_put true sums name other reply reading answer held is reads before =
-    subst (λ (n : Name). IsAnswerOf sums n (Some reply) (Some reading)) (sym (names_equal other name (sym is))) (one_answer sums name reply reading reads)
+    rw (names_equal other name (sym is)) (one_answer sums name reply reading reads)
 answer_put false sums name other reply reading answer held is reads before = before
 
 module _ (main : Main) (sums : Option Sums) (list : NumberedList) (old new : FileTable) where
@@ -115,19 +115,17 @@ module _ (main : Main) (sums : Option Sums) (list : NumberedList) (old new : Fil
       (reads : IsFileReading sums name reply (summary_reading (modules_of list) one)) (is : IsKept main (modules_of list) one) where
     put_held : (other : Name) → held_under list new other
         ≡ cond (same_name other name) (Some (summary_reading (modules_of list) one)) (held_under list old other)
-    put_held other = ap (option_map (summary_reading (modules_of list))) (puts other)
-        ∙ map_cond (summary_reading (modules_of list)) (same_name other name) one (kept_at old other)
+    put_held other = rw (puts other)
+        (map_cond (summary_reading (modules_of list)) (same_name other name) one (kept_at old other))
 
     module _ (pairs all : List (Name × Reply))
         (more : (other : Name) → answer_in all other ≡ cond (same_name other name) (Some reply) (answer_in pairs other))
         (holds : HoldsAnswers (run_of main sums pairs) list old) where
       put_answers : (other : Name) → IsAnswerOf sums other (answer_in all other) (held_under list new other)
       put_answers other =
-          subst (λ (answer : Option Reply). IsAnswerOf sums other answer (held_under list new other)) (sym (more other))
-          (subst (λ (held : Option (Result Dependency Class)). IsAnswerOf sums other (cond (same_name other name) (Some reply) (answer_in pairs other)) held)
-          (sym (put_held other))
+          rw (more other, put_held other)
           (answer_put (same_name other name) sums name other reply (summary_reading (modules_of list) one)
-          (answer_in pairs other) (held_under list old other) refl reads (record { kept = holds.kept other; only = holds.only other })))
+          (answer_in pairs other) (held_under list old other) refl reads (record { kept = holds.kept other; only = holds.only other }))
 
       pub put_holds : HoldsAnswers (run_of main sums all) list new
       put_holds = record {
@@ -141,8 +139,8 @@ module _ (main : Main) (sums : Option Sums) (list : NumberedList) (old new : Fil
       → HoldsAnswers (run_of main sums pairs) list new
   same_holds pairs keeps holds = record {
     kept = λ name reply e.
-        let got = holds.kept name reply e in (got.0, ap (option_map (summary_reading (modules_of list))) (keeps name) ∙ got.1, got.2);
-    only = λ name e. ap (option_map (summary_reading (modules_of list))) (keeps name) ∙ holds.only name e;
+        let got = holds.kept name reply e in (got.0, rw (keeps name) got.1, got.2);
+    only = λ name e. rw (keeps name) (holds.only name e);
     lends = λ name one e. holds.lends name one (sym (keeps name) ∙ e);
   }
 

@@ -32,7 +32,7 @@ module _ (cache : Cache) (pairs : List (Name × Reply)) (knows : Knows cache pai
       by_answer (Some reply) at =
           let got = knows.kept name reply at in
           let same : got.0 ≡ said = cc (sym got.1 ∙ held) in
-          answered reply askable at (subst (λ (r : Result Dependency Class). IsFileReading (sums_in cache) name reply r) same got.2)
+          answered reply askable at (rw same at got.2)
 
   says_held : {name : Name} {said : Result Dependency Class} → FileSays (run_in cache pairs) name said → is_askable name ≡ true
       → held_of cache name ≡ Some said

@@ -40,14 +40,13 @@ use Rattle.gm_graph.proofs.HeldFiles.{grown_held, grown_lends}
 -- A cache with the same main file and the same go.sum has the same runs.
 pub same_run : (old new : Cache) (pairs : List (Name × Reply)) → new.main.now ≡ old.main.now → sums_in new ≡ sums_in old
     → run_in new pairs ≡ run_in old pairs
-same_run old new pairs main sums = ap₂ (λ (m : Main) (s : Option Sums). run_of m s pairs) (ap main_of main) sums
+same_run old new pairs main sums = rw (main, sums) refl
 
 -- If more is asked for, each file still says what it said.
 pub says_later : (old new : Cache) (pairs more all : List (Name × Reply)) → new.main.now ≡ old.main.now → sums_in new ≡ sums_in old
     → all ≡ pairs ++ more → KeepsSayings (run_in old pairs) (run_in new all)
 says_later old new pairs more all main sums asked x said says =
-    subst (λ (run : Run). Says run x said) (sym (same_run old new all main sums))
-    (subst (λ (ps : List (Name × Reply)). Says (run_in old ps) x said) (sym asked) (says_more (main_in old) (sums_in old) pairs more x said says))
+    rw (main, sums, asked) (says_more (main_in old) (sums_in old) pairs more x said says)
 
 -- So it does after the file of a vertex was asked for, or nothing.
 pub says_still : (old new : Cache) (before after : StoreState) (x : ModuleVersion) → LentSame old new → AsksFor (main_in old) before after x
@@ -88,15 +87,12 @@ pub main_same : (old new : Cache) → HoldsSame old new → main_in new ≡ main
 main_same old new same = ap main_of same.main
 
 -- A cache that holds the same knows the same.
-pub knows_still : (old new : Cache) (pairs : List (Name × Reply)) → HoldsSame old new → Knows old pairs → Knows new pairs
-knows_still old new pairs same knows =
-    record {
-      kept = λ name reply e.
-          let got = knows.kept name reply e in
-          (got.0, same.held name ∙ got.1, subst (λ (s : Option Sums). IsFileReading s name reply got.0) (sym same.sums) got.2);
-      only = λ name e. same.held name ∙ knows.only name e;
-      lends = same.lends knows.lends;
-    }
+pub knows_still : {old new : Cache} (pairs : List (Name × Reply)) → HoldsSame old new → Knows old pairs → Knows new pairs
+knows_still pairs same knows = record {
+  kept = λ name reply e. let got = knows.kept name reply e in (got.0, same.held name ∙ got.1, rw same.sums got.2);
+  only = λ name e. same.held name ∙ knows.only name e;
+  lends = same.lends knows.lends;
+}
 
 -- A cache with the same files holds the same, if its list of modules only grew.
 pub holds_grown : (old new : Cache) → new.main.now ≡ old.main.now → sums_in new ≡ sums_in old → new.files ≡ old.files
@@ -108,9 +104,7 @@ holds_grown old new main sums files grows lends =
       sums = sums;
       held = λ name. ap (λ (kept : FileTable). held_under new.modules kept name) files
           ∙ grown_held (main_in old) old.modules new.modules old.files grows lends name;
-      lends = λ _. subst (λ (m : Main). AreKept m new.modules new.files) (ap main_of (sym main))
-          (subst (λ (kept : FileTable). AreKept (main_in old) new.modules kept) (sym files)
-          (grown_lends (main_in old) old.modules new.modules old.files grows lends));
+      lends = λ _. rw (main, files) (grown_lends (main_in old) old.modules new.modules old.files grows lends);
       numbered = grows.1.numbered;
       sound = λ run. sound_still old new run run main ([], ap (λ (kept : FileTable). kept.files.items) files ∙ sym (append-nil old.files.files.items))
           (λ name one e. found name ∙ e) (λ x said says. says);
@@ -135,8 +129,8 @@ holds_listed old new main sums keeps files modules =
     }
 
 -- The same cache holds the same.
-pub holds_itself : (cache : Cache) → HoldsSame cache cache
-holds_itself cache = record {
+pub holds_itself : {cache : Cache} → HoldsSame cache cache
+holds_itself {cache} = record {
   main = refl;
   sums = refl;
   held = λ name. refl;
@@ -145,8 +139,8 @@ holds_itself cache = record {
   sound = λ run x place sound. sound;
 }
 
-pub holds_after : (old mid new : Cache) → HoldsSame old mid → HoldsSame mid new → HoldsSame old new
-holds_after old mid new one two = record {
+pub holds_after : {old mid new : Cache} → HoldsSame old mid → HoldsSame mid new → HoldsSame old new
+holds_after {old} {mid} {new} one two = record {
   main = two.main ∙ one.main;
   sums = two.sums ∙ one.sums;
   held = λ name. two.held name ∙ one.held name;
@@ -158,25 +152,25 @@ holds_after old mid new one two = record {
 -- What was found at a place is found there by the same answers.
 pub sound_same : (old new : Cache) (pairs : List (Name × Reply)) → HoldsSame old new → KeepsSound old (run_in old pairs) new (run_in new pairs)
 sound_same old new pairs same =
-    subst (λ (r : Run). KeepsSound old (run_in old pairs) new r) (sym (same_run old new pairs same.main same.sums)) (same.sound (run_in old pairs))
+    rw (same_run old new pairs same.main same.sums) (same.sound (run_in old pairs))
 
 -- The file was known already, or none may be asked for.
-pub known_same : (old new : Cache) (pairs : List (Name × Reply)) (x : ModuleVersion) (place : Option ℕ) → HoldsSame old new → Knows old pairs
-    → IsPlaceFor new x place → HasMadeKnown old pairs new pairs x place
-known_same old new pairs x place same knows is = record {
-  knows = knows_still old new pairs same knows;
+pub known_same : {old new : Cache} {pairs : List (Name × Reply)} {x : ModuleVersion} {place : Option ℕ} → HoldsSame old new
+    → Knows old pairs → IsPlaceFor new x place → HasMadeKnown old pairs new pairs x place
+known_same {old} {new} {pairs} same knows is = record {
+  knows = knows_still pairs same knows;
   place_is = is;
   numbered = same.numbered;
   sound = sound_same old new pairs same;
 }
 
-pub lent_after : (old mid new : Cache) → LentSame old mid → LentSame mid new → LentSame old new
-lent_after old mid new one two = record { main = two.main ∙ one.main; sums = two.sums ∙ one.sums; turns = two.turns ∙ one.turns }
+pub lent_after : {old mid new : Cache} → LentSame old mid → LentSame mid new → LentSame old new
+lent_after one two = record { main = two.main ∙ one.main; sums = two.sums ∙ one.sums; turns = two.turns ∙ one.turns }
 
 -- So does a cache that differs in what was refused alone.
-pub holds_failed : (old mid new : Cache) → HoldsSame old mid → new.main.now ≡ mid.main.now → sums_in new ≡ sums_in mid
+pub holds_failed : {old mid new : Cache} → HoldsSame old mid → new.main.now ≡ mid.main.now → sums_in new ≡ sums_in mid
     → new.files ≡ mid.files → new.modules ≡ mid.modules → HoldsSame old new
-holds_failed old mid new same main sums files modules = holds_after old mid new same
+holds_failed {mid = mid} {new = new} same main sums files modules = holds_after same
     (holds_listed mid new main sums (λ name. ap (λ (kept : FileTable). kept_at kept name) files)
     ([], ap (λ (kept : FileTable). kept.files.items) files ∙ sym (append-nil mid.files.files.items)) modules)
 
@@ -186,23 +180,11 @@ pub any_err : {T E P : Type 0} (result : Result T E) → P → OnErr result P
 any_err (Ok value) p = tt
 any_err (Err fault) p = p
 
-names_none : (fault : LoadFault) → fault ≡ load.NoMemory → refused_names fault ≡ []
-names_none fault is = ap refused_names is
-
 -- Where memory runs out, no name is refused.
 pub none_refused : {T : Type 0} (result : Result T LoadFault) (old new : List Name)
     → IsErrAnd result (λ fault. fault ≡ load.NoMemory) → new ≡ old → new ≡ old ++ refused_in result
 none_refused (Ok value) old new given same = absurd given
-none_refused (Err fault) old new given same = same ∙ sym (append-nil old) ∙ ap (λ (names : List Name). old ++ names) (sym (names_none fault given))
-
-names_for_none : (T : Type 0) (name : Name) (fault : AskFault) → fault ≡ ask.NoMemory → refused_for {T = T} name (Err fault) ≡ []
-names_for_none T name fault is = ap (λ (f : AskFault). refused_for {T = T} name (Err f)) is
-
-pub none_refused_for : (T : Type 0) (result : Result T AskFault) (old new : List Name) (name : Name)
-    → IsErrAnd result (λ fault. fault ≡ ask.NoMemory) → new ≡ old → new ≡ old ++ refused_for name result
-none_refused_for T (Ok value) old new name given same = absurd given
-none_refused_for T (Err fault) old new name given same =
-    same ∙ sym (append-nil old) ∙ ap (λ (names : List Name). old ++ names) (sym (names_for_none T name fault given))
+none_refused (Err fault) old new given same = same ∙ sym (append-nil old) ∙ ap (λ fault. old ++ refused_names fault) (sym given)
 
 pub never_many : (fault : AskFault) (failed : Option FileName) (result : LoadFault) → IsLoadFaultOf fault failed result → result ≡ load.TooMany → ⊥
 never_many ask.NoMemory failed result is e = cc (sym is ∙ e)

@@ -73,9 +73,8 @@ pub lent_kept : (cache : Cache) (pairs : List (Name × Reply)) (x : ModuleVersio
     → AreRequirements (run_in cache pairs) x (at_span (modules_of cache.modules) (span_at cache place))
 lent_kept cache pairs x None knows lender = no_requirements lender.1
 lent_kept cache pairs x (Some place) knows lender =
-    subst (λ (xs : List ModuleVersion). AreRequirements (run_in cache pairs) x xs)
-    (sym (ap (at_span (modules_of cache.modules)) (found_own (kept_file cache place) lender.span lender.own)
-    ∙ list_is cache pairs x place lender.file knows lender lender.says)) (its_requirements lender.says)
+    rw (found_own (kept_file cache place) lender.span lender.own, list_is cache pairs x place lender.file knows lender lender.says)
+    (its_requirements lender.says)
 
 -- Where requirements are is within the list of modules.
 pub lent_within : (cache : Cache) (place : Option ℕ) → IsWithinList (modules_of cache.modules) (span_at cache place)
@@ -104,20 +103,18 @@ module _ (cache : Cache) (pairs : List (Name × Reply)) (number : ℕ) (d : Dept
       → lent_modules list ≡ at_span (modules_of cache.modules) (span_at cache (file_said says)) → lent_table list ≡ table_in cache
       → IsVisitOf says list got → IsVisit cache (run_in cache pairs) (module_numbered cache number) d got
   visit_got (said.Fault class) list (visit.Fault fault) knows is modules table of =
-      subst (λ (c : Class). Says (run_in cache pairs) (module_numbered cache number) (Err c)) (sym of) is
+      rw of is
   visit_got (said.Fault class) list (visit.Required required) knows is modules table of = absurd of
   visit_got (said.Sound file leads) list (visit.Fault fault) knows is modules table of = absurd of
   visit_got (said.Sound file leads) list (visit.Required required) knows is modules table of =
-      let x = module_numbered cache number in
-      let run = run_in cache pairs in
-      subst (λ (r : Required). IsVisit cache run x d (visit.Required r)) (sym of) (
+      rw of (
         is.0,
         record {
           file = is.0.file;
           says = is.0.says;
           leads = is.1;
           modules = modules ∙ ap (at_span (modules_of cache.modules)) (found_own (kept_file cache file) is.0.span is.0.own)
-              ∙ list_is cache pairs x file is.0.file knows is.0 is.0.says;
+              ∙ list_is cache pairs (module_numbered cache number) file is.0.file knows is.0 is.0.says;
         },
         table,
       )
@@ -138,12 +135,12 @@ pub lends_over : (old new : Cache) (earlier pairs : List (Name × Reply)) (x : M
     → IsDistinct pair_eq (table_in new) → IsVisit new (run_in new pairs) x d got → LendsOver old (run_in old earlier) got
 lends_over old new earlier pairs x d (visit.Fault class) knows continues stays keeps distinct is = tt
 lends_over old new earlier pairs x d (visit.Required required) knows continues stays keeps distinct is = record {
-  begins = subst (λ (ms : List ModuleVersion). BeginsWith (table_in old) ms) (sym is.2) continues.numbered;
-  distinct = subst (λ (ms : List ModuleVersion). IsDistinct pair_eq ms) (sym is.2) distinct;
+  begins = rw is.2 continues.numbered;
+  distinct = rw is.2 distinct;
   shared = λ y file at says.
       let there = keeps y required.file at in
       is.1.modules ∙ sym (list_is new pairs x required.file is.1.file knows is.0 is.1.says)
       ∙ ap (at_span (modules_of new.modules)) (same_Some is.0.span there.span (sym is.0.own ∙ there.own))
       ∙ list_is new pairs y required.file file knows there (stays y (Ok file) says)
-      ∙ ap (λ (m : Main). without_excluded m file.requirements) continues.main;
+      ∙ ap (λ m. without_excluded m file.requirements) continues.main;
 }

@@ -7,7 +7,7 @@ use Rattle.std.proofs.lemmas.List.{length-drop, length-map, take-append-drop, ta
 use Rattle.std.proofs.lemmas.Option.{same_Some, slice_get_within}
 use Rattle.gm_name.specs.ModuleVersion.{ModuleVersion, module_at}
 use Rattle.gm_name_table.specs.Listed.{BeginsWith, NumberedList, modules_at, modules_of, part}
-use Rattle.gm_name_table.proofs.Listed.{appends_after, part_as}
+use Rattle.gm_name_table.proofs.Listed.{part_as}
 use Rattle.gm_file.specs.Listed.{Head}
 use Rattle.gm_file.specs.Main.{Main, without_excluded}
 use Rattle.gm_graph.specs.declared.cache.list_index.SameList.{SameList}
@@ -90,7 +90,7 @@ module _ (main : Main) (modules : List ModuleVersion) where
   listed_push files last are is = λ place summary e.
       let was : SummaryStands main modules files summary = elim (push_cases files last place (Valid summary) e) [
         | inl there ↦ are place summary there
-        | inr same ↦ subst (λ (k : Kept). KeptStands main modules files k) same is
+        | inr same ↦ rw same at is
       ] in
       (was.0, λ p shared. own_still files (last ∷ []) p summary.kept (was.1 p shared))
 
@@ -103,18 +103,9 @@ module _ (main : Main) (modules : List ModuleVersion) where
       by : (o : Option ℕ) → summary.same_as ≡ o
           → (list_place files place < length files) × (own_span_at files (list_place files place) ≡ Some summary.kept)
       by None e =
-          let here : place ≡ list_place files place =
-          sym (ap (λ (k : Option Kept). unwrap_or (option_and_then same_list k) place) there ∙ ap (λ (s : Option ℕ). unwrap_or s place) e) in
-          let own : own_span_at files place ≡ Some summary.kept =
-          ap (λ (k : Option Kept). option_and_then own_span k) there ∙ ap (λ (s : Option ℕ). span_unless s summary.kept) e in
-          subst (λ (p : ℕ). (p < length files) × (own_span_at files p ≡ Some summary.kept)) here
-          (slice_get_within files place (Valid summary) there, own)
+          rw (there, e) (slice_get_within files place (Valid summary) there, rw (there, e) refl)
       by (Some earlier) e =
-          let here : earlier ≡ list_place files place =
-          sym (ap (λ (k : Option Kept). unwrap_or (option_and_then same_list k) place) there ∙ ap (λ (s : Option ℕ). unwrap_or s place) e) in
-          let own = (are place summary there).1 earlier e in
-          subst (λ (p : ℕ). (p < length files) × (own_span_at files p ≡ Some summary.kept)) here
-          (own_within files earlier summary.kept own, own)
+          let own = (are place summary there).1 earlier e in rw (there, e) (own_within files earlier summary.kept own, own)
 
 -- ---- the list of modules, as it grows and is cut
 
@@ -123,18 +114,11 @@ front_is : {T : Type 0} (xs more : List T) (whole : List T) (count : ℕ) → wh
     → take count whole ≡ xs
 front_is xs more whole count is same = ap (take count) is ∙ take_at xs more count (sym same)
 
--- More at the end is more at the end of all that the list began with.
-pub grows_on : (start : ℕ) (old new : NumberedList) → Grows old new → GrowsFrom start old new
-grows_on start old new grows = λ before same first.
-    (first.0 ++ grows.0, appends_after before old new first.0 grows.0 first.1 grows.1)
-
 -- Files that are listed are listed in what the list has at its front.
 pub listed_front : (main : Main) (old mid : NumberedList) (files : List Kept) (start : ℕ) → start ≡ length old.numbers
     → Grows old mid → AllStand main (modules_of old) files → AllStand main (take start (modules_of mid)) files
 listed_front main old mid files start same grows are =
-    subst (λ (ms : List ModuleVersion). AllStand main ms files)
-    (sym (front_is (modules_of old) grows.0 (modules_of mid) start grows.1.listed
-    (same ∙ sym (length-map old.numbers (module_at old.modules))))) are
+    rw (front_is (modules_of old) grows.0 (modules_of mid) start grows.1.listed (same ∙ sym (length-map old.numbers (module_at old.modules)))) are
 
 module _ (old : NumberedList) (start : ℕ) where
   abbrev pub front : List ModuleVersion
@@ -145,8 +129,7 @@ module _ (old : NumberedList) (start : ℕ) where
 
   module _ (new : NumberedList) (modules : new.modules ≡ old.modules) (numbers : new.numbers ≡ take start old.numbers) where
     pub cut_front : modules_of new ≡ front
-    cut_front = ap (λ (ms : List ModuleVersion). modules_at ms new.numbers) modules
-        ∙ ap (modules_at old.modules) numbers ∙ sym (take-map (module_at old.modules) start old.numbers)
+    cut_front = rw (modules, numbers) (sym (take-map (module_at old.modules) start old.numbers))
 
     -- A list that was cut to what was before has nothing at its end.
     pub cut_grows : GrowsFrom start old new
@@ -183,16 +166,13 @@ pub same_listed : (main : Main) (old : NumberedList) (front new : List ModuleVer
     (same : SameList) → AllStand main front files → new ≡ front → IsSameList old files numbers same
     → KeptStands main new files (Valid (record { file = file; all = same.all; kept = same.kept; same_as = Some same.place }))
 same_listed main old front new files numbers file same are cut has =
-    subst (λ (ms : List ModuleVersion). KeptStands main ms files (Valid (record { file = file; all = same.all; kept = same.kept; same_as = Some same.place })))
-    (sym cut) (
+    rw cut (
       record {
-        all_within = subst (λ (s : ListSpan). IsWithinList front s) (sym has.all) was.all_within;
-        kept_within = subst (λ (s : ListSpan). IsWithinList front s) (sym has.kept) was.kept_within;
-        without = ap (at_span front) has.kept ∙ was.without ∙ ap (λ (s : ListSpan). without_excluded main (at_span front s)) (sym has.all);
+        all_within = rw has.all was.all_within;
+        kept_within = rw has.kept was.kept_within;
+        without = rw (has.kept, has.all) was.without;
       },
-      λ place e. subst (λ (p : ℕ). own_span_at files p ≡ Some same.kept) (same_Some same.place place e)
-          (ap (option_and_then own_span) has.there ∙ ap (λ (o : Option ℕ). span_unless o has.summary.kept) has.own
-          ∙ ap Some (sym has.kept)),
+      λ place e. rw (← same_Some same.place place e, has.there, has.own, has.kept) refl,
     )
   where
     was : IsSummary main front has.summary

@@ -23,10 +23,8 @@ within_still old new span begins is = record { order = is.order; within = omega 
 -- A span within the old list has the same modules in the new one.
 pub span_still : (old new : List ModuleVersion) (span : ListSpan) → BeginsWith old new → IsWithinList old span → at_span new span ≡ at_span old span
 span_still old new span begins is =
-    let size = span.end - span.start in
-    ap (λ (xs : List ModuleVersion). take size (drop span.start xs)) begins.1
-    ∙ ap (λ (xs : List ModuleVersion). take size xs) (drop-append-le span.start old begins.0 (omega (arith, is.order, is.within)))
-    ∙ take-append-le size (drop span.start old) begins.0 (omega (arith, is.order, is.within, length-drop span.start old))
+    rw (begins.1, drop-append-le span.start old begins.0 (omega (arith, is.order, is.within)))
+    (take-append-le (span.end - span.start) (drop span.start old) begins.0 (omega (arith, is.order, is.within, length-drop span.start old)))
 
 -- What is kept of a file stays the same.
 pub kept_still : (main : Main) (old new : List ModuleVersion) (one : Kept) → BeginsWith old new → IsKept main old one → IsKept main new one
@@ -34,14 +32,14 @@ kept_still main old new (Valid summary) begins is = record {
   all_within = within_still old new summary.all begins is.all_within;
   kept_within = within_still old new summary.kept begins is.kept_within;
   without = span_still old new summary.kept begins is.kept_within ∙ is.without
-      ∙ sym (ap (λ (xs : List ModuleVersion). without_excluded main xs) (span_still old new summary.all begins is.all_within));
+      ∙ rw (span_still old new summary.all begins is.all_within) refl;
 }
 kept_still main old new (Faulty class) begins is = tt
 
 reading_still : (main : Main) (old new : List ModuleVersion) (one : Kept) → BeginsWith old new → IsKept main old one
     → summary_reading new one ≡ summary_reading old one
 reading_still main old new (Valid summary) begins is =
-    ap (λ (xs : List ModuleVersion). Ok (with_requirements summary.file xs)) (span_still old new summary.all begins is.all_within)
+    rw (span_still old new summary.all begins is.all_within) refl
 reading_still main old new (Faulty class) begins is = refl
 
 pub readings_still : (main : Main) (old new : List ModuleVersion) (o : Option Kept) → BeginsWith old new → ((one : Kept) → o ≡ Some one → IsKept main old one)

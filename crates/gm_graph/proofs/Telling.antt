@@ -53,12 +53,10 @@ pub knows_read : (old mid new : Cache) (pairs all : List (Name × Reply)) (name 
     → Knows new all
 knows_read old mid new pairs all name reply one knows same lent modules none adds e reads is =
     let holds = put_holds (main_in mid) (sums_in mid) mid.modules mid.files new.files name reply one adds
-    (subst (λ (s : Option Sums). IsFileReading s name reply (summary_reading (modules_of mid.modules) one)) (sym same.sums) reads)
-    (subst (λ (m : Main). IsKept m (modules_of mid.modules) one) (sym (main_same old mid same)) is) pairs all
-    (λ other. ap (λ (ps : List (Name × Reply)). answer_in ps other) e ∙ answer_more pairs name other reply (not_asked old pairs name knows none))
-    (knows_still old mid pairs same knows) in
-    subst (λ (run : Run). HoldsAnswers run new.modules new.files) (sym (same_run mid new all lent.main lent.sums))
-    (subst (λ (list : NumberedList). HoldsAnswers (run_in mid all) list new.files) (sym modules) holds)
+    (rw same.sums reads) (rw same.main is) pairs all
+    (λ other. rw e (answer_more pairs name other reply (not_asked old pairs name knows none)))
+    (knows_still pairs same knows) in
+    rw (lent.main, lent.sums, modules) holds
 
 stays : {R : Type 0} (b : Bool) (v r : R) (old new : Option R) → new ≡ cond b (Some v) old → (b ≡ true → old ≡ None) → old ≡ Some r → new ≡ Some r
 stays true v r old new is none e = let never = sym (none refl) ∙ e in absurd (cc never)

@@ -19,22 +19,16 @@ pub returns-in-Some-clause-reading : goal.returns-in-Some-clause-reading
 returns-in-Some-clause-reading c =
     let same = c.in-Some.same in
     let list = c.args.modules.now in
-    let has : IsSameList list c.args.files.now (part c.args.start (length list.numbers) list.numbers) c.in-Some.same =
-    subst (λ (found : Option SameList). IfSome found (IsSameList list c.args.files.now (part c.args.start (length list.numbers) list.numbers)))
-    c.in-Some.is c.in_ok-same.ensures in
+    let has = rw c.in-Some.is at c.in_ok-same.ensures in
     let was : IsSummary (main_of c.args.main.now) (front list c.args.start) has.summary =
     (c.requires.listed same.place _ has.there).0 in
-    ap (λ (xs : List ModuleVersion). Ok (with_requirements c.args.file xs))
+    ap (λ xs. Ok (with_requirements c.args.file xs))
     (cut_same list c.args.start c.truncate.new.self c.truncate.ensures.modules c.truncate.ensures.numbers same.all c.requires.start
-    (subst (λ (s : ListSpan). IsWithinList (front list c.args.start) s) (sym has.all) was.all_within)
-    (ap (λ (s : ListSpan). part s.start s.end list.numbers) has.all ∙ has.has))
+    (rw has.all was.all_within) (rw has.all has.has))
 
 pub returns-in-Some-clause-listed : goal.returns-in-Some-clause-listed
 returns-in-Some-clause-listed c =
-    let list = c.args.modules.now in
-    let has : IsSameList list c.args.files.now (part c.args.start (length list.numbers) list.numbers) c.in-Some.same =
-    subst (λ (found : Option SameList). IfSome found (IsSameList list c.args.files.now (part c.args.start (length list.numbers) list.numbers)))
-    c.in-Some.is c.in_ok-same.ensures in
+    let has = rw c.in-Some.is at c.in_ok-same.ensures in
     same_listed (main_of c.args.main.now) c.args.modules.now (front c.args.modules.now c.args.start) (modules_of c.truncate.new.self)
     c.args.files.now _ c.args.file c.in-Some.same c.requires.listed
     (cut_front c.args.modules.now c.args.start c.truncate.new.self c.truncate.ensures.modules c.truncate.ensures.numbers) has

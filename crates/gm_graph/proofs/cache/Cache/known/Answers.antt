@@ -14,18 +14,16 @@ use Rattle.gm_graph.proofs.Keeping.{holds_after, knows_still, lent_after, never_
 use Rattle.gm_graph.proofs.Named.{named_known}
 use Rattle.gm_graph.proofs.cache.Cache.known.Given.{Over}
 use Rattle.gm_graph.proofs.cache.Cache.known.Goals as goal
+use Rattle.gm_graph.proofs.cache.Cache.known.Goals.{After-known_by}
 
 pub known_at-requires-clause-knows : goal.known_at-requires-clause-knows
-known_at-requires-clause-knows g c = knows_still c.args.self.now c.number.new.self
-    (g.F.Asks.state c.args.files.now).asked c.number.ensures.holds c.requires.knows
+known_at-requires-clause-knows g c = knows_still _ c.number.ensures.holds c.requires.knows
 
 pub returns-in-Err-clause-lent : goal.returns-in-Err-clause-lent
-returns-in-Err-clause-lent g c =
-    lent_after c.args.self.now c.number.new.self c.known_at.new.self c.number.ensures.lent c.known_at.ensures.lent
+returns-in-Err-clause-lent g c = lent_after c.number.ensures.lent c.known_at.ensures.lent
 
 pub returns-in-Err-clause-err : goal.returns-in-Err-clause-err
-returns-in-Err-clause-err g c =
-    holds_after c.args.self.now c.number.new.self c.known_at.new.self c.number.ensures.holds c.in-Err.ensures.err
+returns-in-Err-clause-err g c = holds_after c.number.ensures.holds c.in-Err.ensures.err
 
 -- ---- what was asked for
 
@@ -62,43 +60,36 @@ returns-in-Err-clause-refused g c = (asked g c).refused
 
 pub returns-in_err-number-clause-stays : goal.returns-in_err-number-clause-stays
 returns-in_err-number-clause-stays g c =
-    says_still c.args.self.now c.number.new.self (g.F.Asks.state c.args.files.now) (g.F.Asks.state c.args.files.now)
-    c.args.vertex.now c.number.ensures.lent (inl refl)
+    let now = g.F.Asks.state c.args.files.now in says_still _ _ now now c.args.vertex.now c.number.ensures.lent (inl refl)
 
 pub returns-in_err-name-clause-stays : goal.returns-in_err-name-clause-stays
 returns-in_err-name-clause-stays g c =
-    says_still c.args.self.now c.number.new.self (g.F.Asks.state c.args.files.now) (g.F.Asks.state c.args.files.now)
-    c.args.vertex.now c.number.ensures.lent (inl refl)
+    let now = g.F.Asks.state c.args.files.now in says_still _ _ now now c.args.vertex.now c.number.ensures.lent (inl refl)
 
 pub returns-in-Ok-clause-stays : goal.returns-in-Ok-clause-stays
 returns-in-Ok-clause-stays g c =
-    says_still c.args.self.now c.known_at.new.self (g.F.Asks.state c.args.files.now) (g.F.Asks.state c.known_at.new.files) c.args.vertex.now
-    (lent_after c.args.self.now c.number.new.self c.known_at.new.self c.number.ensures.lent c.known_at.ensures.lent) (returns-in-Ok-clause-asks g c)
+    says_still _ _ (g.F.Asks.state c.args.files.now) (g.F.Asks.state c.known_at.new.files) c.args.vertex.now
+    (lent_after c.number.ensures.lent c.known_at.ensures.lent) (returns-in-Ok-clause-asks g c)
 
 pub returns-in-Err-clause-stays : goal.returns-in-Err-clause-stays
 returns-in-Err-clause-stays g c =
-    says_still c.args.self.now c.known_at.new.self (g.F.Asks.state c.args.files.now) (g.F.Asks.state c.known_at.new.files) c.args.vertex.now
+    says_still _ _ (g.F.Asks.state c.args.files.now) (g.F.Asks.state c.known_at.new.files) c.args.vertex.now
     (returns-in-Err-clause-lent g c) (returns-in-Err-clause-asks g c)
+
+-- the number of the vertex is still its own
+numbered : (g : Over) (c : After-known_by g) → module_numbered c.known_at.new.self c.in_ok-number.number ≡ c.args.vertex.now
+numbered g c = number_stays (table_in c.number.new.self) (table_in c.known_at.new.self) c.in_ok-number.number c.in-Ok.ensures.known.numbered c.in_ok-number.ensures.number
+    ∙ c.in_ok-number.ensures.module
 
 pub returns-in-Ok-clause-known : goal.returns-in-Ok-clause-known
 returns-in-Ok-clause-known g c =
-    let new = c.known_at.new.self in
-    let number = c.in_ok-number.number in
-    let pairs = (g.F.Asks.state c.known_at.new.files).asked in
-    subst (λ (v : ModuleVersion). IsKnownAs (run_in new pairs) v c.known_by.result)
-    (number_stays (table_in c.number.new.self) (table_in new) number c.in-Ok.ensures.known.numbered c.in_ok-number.ensures.number
-    ∙ c.in_ok-number.ensures.module)
-    (c.known_by.ensures pairs c.in-Ok.ensures.known.knows)
+    rw (numbered g (goal.at.returns-in-Ok-clause-known g c).After-known_by) at
+    (c.known_by.ensures (g.F.Asks.state c.known_at.new.files).asked c.in-Ok.ensures.known.knows)
 
 pub returns-in-Ok-clause-lender : goal.returns-in-Ok-clause-lender
 returns-in-Ok-clause-lender g c = λ pairs knows.
-    let new = c.known_at.new.self in
-    let number = c.in_ok-number.number in
-    named_known (run_in new pairs) c.args.vertex.now c.known_by.result
-    (subst (λ (v : ModuleVersion). IsKnownAs (run_in new pairs) v c.known_by.result)
-    (number_stays (table_in c.number.new.self) (table_in new) number c.in-Ok.ensures.known.numbered c.in_ok-number.ensures.number
-    ∙ c.in_ok-number.ensures.module)
-    (c.known_by.ensures pairs knows))
+    named_known (run_in c.known_at.new.self pairs) c.args.vertex.now c.known_by.result
+    (rw (numbered g (goal.at.returns-in-Ok-clause-lender g c).After-known_by) at (c.known_by.ensures pairs knows))
 
 pub known_by-requires-clause-name : goal.known_by-requires-clause-name
 known_by-requires-clause-name g c =
@@ -116,10 +107,8 @@ known_by-requires-clause-vertex g c =
 
 pub known_by-requires-clause-place : goal.known_by-requires-clause-place
 known_by-requires-clause-place g c =
-    subst (λ (v : ModuleVersion). IsPlaceFor c.known_at.new.self v c.in-Ok.place)
-    (sym (number_stays (table_in c.number.new.self) (table_in c.known_at.new.self) c.in_ok-number.number
-    c.in-Ok.ensures.known.numbered c.in_ok-number.ensures.number))
-    c.in-Ok.ensures.known.place_is
+    rw (number_stays (table_in c.number.new.self) (table_in c.known_at.new.self) c.in_ok-number.number
+    c.in-Ok.ensures.known.numbered c.in_ok-number.ensures.number) c.in-Ok.ensures.known.place_is
 
 pub returns-in-Err-clause-not_too_many : goal.returns-in-Err-clause-not_too_many
 returns-in-Err-clause-not_too_many g c = λ e.

@@ -10,7 +10,7 @@ use Rattle.gm_graph.proofs.cache.Cache.read_file.Goals as goal
 
 pub returns-in_err-ask-clause-keeps : goal.returns-in_err-ask-clause-keeps
 returns-in_err-ask-clause-keeps g c = record {
-  holds = holds_itself c.args.self.now;
+  holds = holds_itself;
   lent = record { main = refl; sums = refl; turns = refl };
   files = refl;
 }
@@ -18,14 +18,8 @@ returns-in_err-ask-clause-keeps g c = record {
 pub returns-clause-reading : goal.returns-clause-reading
 returns-clause-reading g c =
     let (reply, _, _, adds) = c.in_ok-ask.ensures.answered in
-    let cache = c.args.self.now in
-    let name = name_of c.args.name.now in
-    let same : reply_of c.last.result.now ≡ reply = c.last.ensures.value (g.F.Asks.state c.args.files.now).asked (name, reply) adds in (
-      reply,
-      adds,
-      subst (λ (r : Reply). IsFileReading (sums_in cache) name r (summary_reading (modules_of c.read_reply.new.self.modules) c.in_ok-kept.kept)) same
-          (c.in_ok-kept.ensures.reading c.last.ensures.within_limit),
-    )
+    let same = c.last.ensures.value (g.F.Asks.state c.args.files.now).asked (name_of c.args.name.now, reply) adds in
+    (reply, adds, rw same at (c.in_ok-kept.ensures.reading c.last.ensures.within_limit))
 
 pub returns-in_err-ask-clause-asks : goal.returns-in_err-ask-clause-asks
 returns-in_err-ask-clause-asks g c =

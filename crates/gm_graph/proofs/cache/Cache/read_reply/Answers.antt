@@ -17,23 +17,25 @@ use Rattle.gm_graph.proofs.cache.Cache.read_reply.Goals as goal
 pub kept_of-requires-clause-listed : goal.kept_of-requires-clause-listed
 kept_of-requires-clause-listed c =
     let cache = c.args.self.now in
-    subst (λ (files : List Kept). AllStand (main_in cache) (take c.len-start.result (modules_of c.read_answer.new.modules)) files)
-    (sym c.files.ensures)
+    rw c.files.ensures
     (listed_front (main_in cache) cache.modules c.read_answer.new.modules cache.files.files.items c.len-start.result
     c.len-start.ensures.len c.read_answer.ensures.grows cache.listed)
 
 -- ---- the answer was read, and memory ran out
 
 pub invariant_of-self : goal.invariant_of-self
-invariant_of-self c = record {
-  first_within = first_grown c.args.self.now c.read_answer.new.modules c.read_answer.ensures.grows;
-  first_are = firsts_grown c.args.self.now c.read_answer.new.modules c.read_answer.ensures.grows;
-  places_within = places_grown c.args.self.now c.read_answer.new.modules c.read_answer.ensures.grows;
-  holds_some = some_grown c.args.self.now c.read_answer.new.modules c.read_answer.ensures.grows;
-  notes = notes_grown c.args.self.now c.read_answer.new.modules c.read_answer.ensures.grows;
-  in_order = order_grown c.args.self.now c.read_answer.new.modules c.read_answer.ensures.grows;
-  listed = all_grown c.args.self.now c.read_answer.new.modules c.read_answer.ensures.grows;
-}
+invariant_of-self c =
+    let cache = c.args.self.now in
+    let list = c.read_answer.new.modules in
+    let grows = c.read_answer.ensures.grows in record {
+      first_within = first_grown cache list grows;
+      first_are = firsts_grown cache list grows;
+      places_within = places_grown cache list grows;
+      holds_some = some_grown cache list grows;
+      notes = notes_grown cache list grows;
+      in_order = order_grown cache list grows;
+      listed = all_grown cache list grows;
+    }
 
 pub returns-in_err-read-clause-keeps : goal.returns-in_err-read-clause-keeps
 returns-in_err-read-clause-keeps c = record {
@@ -72,13 +74,13 @@ returns-clause-order c =
     let old = c.args.self.now in
     IfOk-weaker c.kept_of.result _ _
     (λ kept order. order_push old.first old.files.files.items (length old.modules.numbers) kept _ old.in_order
-    (subst (λ (start : ℕ). AreListsInOrder start (kept ∷ []) (length c.kept_of.new.modules.numbers)) c.len-start.ensures.len order))
+    (rw c.len-start.ensures.len at order))
     c.kept_of.ensures.order
 
 pub returns-clause-reading : goal.returns-clause-reading
 returns-clause-reading c =
     IfOk-weaker c.kept_of.result _ _
-    (λ kept is within. subst (λ (said : Result Dependency Class). IsFileReading (sums_in c.args.self.now) (name_of c.args.name.now) (reply_of c.args.answer.now) said)
-    (ap (λ (start : ℕ). listed_reading (drop start (modules_of c.read_answer.new.modules)) c.in_ok-read.read) (sym c.len-start.ensures.len) ∙ sym is)
+    (λ kept is within. subst (λ said. IsFileReading (sums_in c.args.self.now) (name_of c.args.name.now) (reply_of c.args.answer.now) said)
+    (ap (λ start. listed_reading (drop start (modules_of c.read_answer.new.modules)) c.in_ok-read.read) (sym c.len-start.ensures.len) ∙ sym is)
     (c.in_ok-read.ensures.reading within))
     c.kept_of.ensures.reading

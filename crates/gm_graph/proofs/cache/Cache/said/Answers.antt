@@ -21,13 +21,13 @@ use Rattle.gm_graph.proofs.cache.Cache.said.Goals as goal
 
 pub returns-in_default : goal.returns-in_default
 returns-in_default c = λ pairs knows.
-    faulty (unaskable (subst (λ (p : Option ℕ). IsPlaceFor c.args.self.now (module_numbered c.args.self.now c.args.number) p) c.in_default.is c.requires.place))
+    faulty (unaskable (rw c.in_default.is at c.requires.place))
 
 pub returns-in-Faulty : goal.returns-in-Faulty
 returns-in-Faulty c = λ pairs knows.
     let cache = c.args.self.now in
     let x = module_numbered cache c.args.number in
-    let at : HasFileAt cache x c.in-Some.file = subst (λ (p : Option ℕ). IsPlaceFor cache x p) c.in-Some.is c.requires.place in
+    let at : HasFileAt cache x c.in-Some.file = rw c.in-Some.is at c.requires.place in
     faulty (kept_says cache pairs x c.in-Some.file _ knows at (c.at.ensures ∙ ap (λ (kept : Kept). Some kept) c.in-Faulty.is))
 
 pub returns-else-is_right_path : goal.returns-else-is_right_path
@@ -37,10 +37,10 @@ returns-else-is_right_path c = λ pairs knows.
     let x = module_numbered cache c.args.number in
     let summary = c.in-Valid.summary in
     let file = with_requirements summary.file (at_span (modules_of cache.modules) summary.all) in
-    let at : HasFileAt cache x c.in-Some.file = subst (λ (p : Option ℕ). IsPlaceFor cache x p) c.in-Some.is c.requires.place in
+    let at : HasFileAt cache x c.in-Some.file = rw c.in-Some.is at c.requires.place in
     let says = kept_says cache pairs x c.in-Some.file (Valid summary) knows at (c.at.ensures ∙ ap (λ (kept : Kept). Some kept) c.in-Valid.is) in
     wrong_path file says
-    (subst (λ (v : ModuleVersion). is_right_path v (replacement_in main v) file.declared ≡ false) c.module.ensures.module
+    (subst (λ v. is_right_path v (replacement_in main v) file.declared ≡ false) c.module.ensures.module
     (sym c.is_right_path.ensures ∙ c.if-is_right_path.false))
 
 -- ---- it has none
@@ -53,13 +53,13 @@ returns-then-is_right_path c = λ pairs knows.
     let summary = c.in-Valid.summary in
     let all = at_span (modules_of cache.modules) summary.all in
     let file = with_requirements summary.file all in
-    let at : HasFileAt cache x c.in-Some.file = subst (λ (p : Option ℕ). IsPlaceFor cache x p) c.in-Some.is c.requires.place in
+    let at : HasFileAt cache x c.in-Some.file = rw c.in-Some.is at c.requires.place in
     let says = sound (kept_says cache pairs x c.in-Some.file (Valid summary) knows at (c.at.ensures ∙ ap (λ (kept : Kept). Some kept) c.in-Valid.is))
-    (subst (λ (v : ModuleVersion). is_right_path v (replacement_in main v) file.declared ≡ true) c.module.ensures.module
+    (subst (λ v. is_right_path v (replacement_in main v) file.declared ≡ true) c.module.ensures.module
     (sym c.is_right_path.ensures ∙ c.if-is_right_path.true)) in
     let there = c.at.ensures ∙ ap (λ (kept : Kept). Some kept) c.in-Valid.is in
     let owned = list_owned main (modules_of cache.modules) cache.files.files.items c.in-Some.file summary cache.listed there in
-    subst (λ (place : ℕ). IsSaid cache (run_in cache pairs) x c.args.depth (said.Sound place c.leads_on.result)) (sym c.list_place.ensures) (
+    rw c.list_place.ensures (
       record {
         within = owned.0;
         span = summary.kept;

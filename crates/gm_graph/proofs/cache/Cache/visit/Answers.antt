@@ -20,7 +20,7 @@ lend_at-list-requires g c =
     let mid = c.known_at.new.self in
     let pairs = (g.F.Asks.state c.known_at.new.files).asked in
     record {
-      place = subst (λ (p : Option ℕ). IfSome p (λ place. place < file_count mid)) (sym c.file.ensures)
+      place = rw c.file.ensures
           (place_said mid pairs c.args.number c.args.depth c.said-said.result (c.said-said.ensures pairs c.in_ok-place.ensures.known.knows));
     }
 
@@ -48,7 +48,7 @@ returns g c =
         has_visited old mid end known.lent made.numbered has.holds table before.asked after.asked number d c.of.result c.requires.vertex
             made.knows stays made.sound known.count (ap (λ (files : FileTable). length files.files.items) has.files)
             (has.turns ∙ ap (λ (ts : List Turn). mid.turns.items ++ ts) (c.of-turn.ensures ∙ ap (λ (x : ModuleVersion). turn x d ∷ []) c.module.ensures.module))
-            (subst (λ (ms : List ModuleVersion). IsDistinct pair_eq ms) (sym table) c.module.ensures.distinct)
+            (rw table c.module.ensures.distinct)
             (visit_still old mid end known.lent made.numbered has.holds table before.asked after.asked (module_numbered mid number) d c.of.result got),
       ),
       record {
