@@ -1,10 +1,10 @@
 -- What is asked for is the file of a vertex.
-use Rattle.std.proofs.Common.{◌≡◌, ◌∙◌, List, [], ◌∷◌, Option, None, Some, Result, Ok, Err, ap, ap₂, refl, sym, subst, inl, inr}
+use Rattle.std.proofs.Common.{◌≡◌, ◌∙◌, List, [], ◌∷◌, Option, None, Some, Result, Ok, Err, ap, ap₂, refl, sym, inl, inr}
 use Rattle.std.specs.Prelude.{IsErrAnd, IsSome}
 use Rattle.gm_name.specs.ModuleVersion.{ModuleVersion}
 use Rattle.gm_store.specs.Asked.{Name, Reply, answer_in}
 use Rattle.gm_store.specs.Requests.{IsRequest, refused_for}
-use Rattle.gm_store.specs.States.{AddsAnswer, StoreState}
+use Rattle.gm_store.specs.States.{StoreState}
 use Rattle.gm_store.specs.declared.files.AskFault.{AskFault}
 use Rattle.gm_store.specs.declared.files.AskFault.TheVariants as ask
 use Rattle.gm_store.specs.declared.files.FileName.{FileName}
@@ -14,7 +14,7 @@ use Rattle.gm_graph.specs.Private.Asking.{AsksOne, HasName, IsAskableFile, IsLoa
 use Rattle.gm_graph.specs.Refusals.{refused_names}
 use Rattle.gm_graph.specs.declared.cache.load_fault.LoadFault.{LoadFault}
 use Rattle.gm_file.specs.Main.{Main}
-use Rattle.gm_graph.specs.Reading.{file_of, is_askable}
+use Rattle.gm_graph.specs.Reading.{file_of}
 
 -- ---- a call that asks for a name
 

@@ -1,19 +1,18 @@
 -- A cache after a visit.
-use Rattle.std.proofs.Common.{◌≡◌, ◌<◌, ◌≤◌, ◌+◌, ◌++◌, ◌∷◌, [], ℕ, List, ap, arith, length, ◌∙◌, sym, subst}
+use Rattle.std.proofs.Common.{◌≡◌, ◌<◌, ◌≤◌, ◌+◌, ◌++◌, ◌∷◌, [], ℕ, List, ap, arith, length, ◌∙◌, sym}
 use Rattle.std.specs.List.{IsDistinct}
 use Rattle.gm_name.specs.ModuleVersion.{ModuleVersion, pair_eq}
 use Rattle.gm_name_table.specs.Listed.{BeginsWith}
 use Rattle.gm_store.specs.Asked.{Name, Reply}
 use Rattle.gm_graph.specs.declared.cache.Cache.{Cache}
 use Rattle.gm_graph.specs.declared.cache.depth.Depth.{Depth}
-use Rattle.gm_graph.specs.declared.cache.depth.Turn.{Turn}
 use Rattle.gm_graph.specs.declared.cache.visit.Visit.{Visit}
 use Rattle.gm_graph.specs.declared.cache.visit.Visit.TheVariants as visit
 use Rattle.gm_graph.specs.Cached.{HoldsSame, KeepsSound, Knows, LentSame, file_count, run_in, table_in, turns_in}
 use Rattle.gm_graph.specs.Private.Cached.{module_numbered}
 use Rattle.gm_file.specs.Main.{main_of}
 use Rattle.gm_graph.specs.Private.CacheVisits.{Continues, HasVisited, IsVisit}
-use Rattle.gm_graph.specs.Run.{KeepsSayings, Run}
+use Rattle.gm_graph.specs.Run.{KeepsSayings}
 use Rattle.gm_graph.specs.Turns.{turn}
 use Rattle.gm_graph.proofs.Growing.{number_stays}
 use Rattle.gm_graph.proofs.Keeping.{knows_still, main_same, same_run}

@@ -1,12 +1,12 @@
 -- What a cache holds is what the answers say that it knows.
-use Rattle.std.proofs.Common.{◌≡◌, ◌∙◌, true, List, Option, None, Some, Result, Ok, ap, refl, subst, sym}
+use Rattle.std.proofs.Common.{◌≡◌, ◌∙◌, true, List, Option, None, Some, Result, Ok, ap, refl, sym}
 use Rattle.std.proofs.lemmas.Bool.{false≢true}
 use Rattle.gm_name.specs.ModuleVersion.{ModuleVersion}
 use Rattle.gm_file.specs.Fields.{Dependency}
 use Rattle.gm_store.specs.Asked.{Name, Reply, answer_in}
 use Rattle.gm_graph.specs.declared.cache.class.Class.{Class}
 use Rattle.gm_graph.specs.declared.cache.Cache.{Cache}
-use Rattle.gm_graph.specs.Reading.{IsFileReading, file_of, is_askable}
+use Rattle.gm_graph.specs.Reading.{file_of, is_askable}
 use Rattle.gm_graph.specs.Cached.{Knows, held_of, main_in, run_in, sums_in}
 use Rattle.gm_graph.specs.Run.{FileSays, IsRead, KeepsSayings, Run, Says, answered, faulty, sound, unaskable, wrong_path}
 use Rattle.gm_graph.proofs.OneReading.{one_reading}

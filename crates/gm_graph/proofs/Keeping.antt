@@ -1,30 +1,27 @@
 -- What stays when more is asked for, and when a cache returns requirements.
-use Rattle.std.proofs.Common.{◌≡◌, ◌∙◌, ◌<◌, ℕ, List, [], ◌∷◌, ◌++◌, Option, Some, None, Result, Ok, Err, append-nil, arith, inl, inr, length, length-append, sym, ap, ap₂, subst, refl}
+use Rattle.std.proofs.Common.{◌≡◌, ◌∙◌, ℕ, List, [], ◌∷◌, ◌++◌, Option, Some, None, Result, Ok, Err, append-nil, arith, inl, inr, length, length-append, sym, ap, refl}
 use Rattle.std.specs.Prelude.{IsErrAnd, OnErr}
-use Rattle.std.specs.Option.{option_and_then, option_map}
+use Rattle.std.specs.Option.{option_and_then}
 use Rattle.gm_store.specs.Asked.{Name, Reply}
-use Rattle.gm_store.specs.Requests.{refused_for}
 use Rattle.gm_store.specs.States.{StoreState}
 use Rattle.gm_store.specs.declared.files.AskFault.{AskFault}
 use Rattle.gm_store.specs.declared.files.AskFault.TheVariants as ask
 use Rattle.gm_store.specs.declared.files.FileName.{FileName}
-use Rattle.gm_store_sums.specs.Sums.{Sums}
 use Rattle.gm_name.specs.ModuleVersion.{ModuleVersion}
-use Rattle.gm_name_table.specs.Listed.{BeginsWith, NumberedList, modules_of}
+use Rattle.gm_name_table.specs.Listed.{BeginsWith}
 use Rattle.gm_name_table.proofs.Listed.{begins_after}
 use Rattle.gm_graph.specs.declared.cache.Cache.{Cache}
-use Rattle.gm_graph.specs.declared.cache.file_table.FileTable.{FileTable}
 use Rattle.gm_graph.specs.declared.cache.summary.Kept.{Kept}
 use Rattle.gm_graph.specs.declared.cache.summary.ListSpan.{ListSpan}
 use Rattle.gm_file.specs.Main.{Main, main_of}
-use Rattle.gm_graph.specs.Reading.{IsFileReading, file_of}
+use Rattle.gm_graph.specs.Reading.{file_of}
 use Rattle.gm_graph.specs.FileTable.{kept_at}
 use Rattle.gm_graph.specs.Private.FileTable.{KeepsFiles}
-use Rattle.gm_graph.specs.Summaries.{IsKept, listed_span, own_span_at, summary_reading}
+use Rattle.gm_graph.specs.Summaries.{listed_span}
 use Rattle.gm_graph.specs.Private.Summaries.{Grows}
-use Rattle.gm_graph.specs.Cached.{HoldsSame, KeepsSound, Knows, LendsKept, LentSame, held_of, main_in, run_in, summary_at, sums_in, table_in}
+use Rattle.gm_graph.specs.Cached.{HoldsSame, KeepsSound, Knows, LendsKept, LentSame, main_in, run_in, summary_at, sums_in, table_in}
 use Rattle.gm_graph.specs.Private.Cached.{HasMadeKnown, IsPlaceFor}
-use Rattle.gm_graph.specs.Run.{KeepsSayings, Run, Says, run_of}
+use Rattle.gm_graph.specs.Run.{KeepsSayings, Run}
 use Rattle.gm_graph.specs.Asking.{AsksFor}
 use Rattle.gm_graph.specs.Refusals.{refused_in, refused_names}
 use Rattle.gm_graph.specs.Private.Asking.{IsLoadFaultOf}
@@ -32,7 +29,6 @@ use Rattle.gm_graph.specs.declared.cache.load_fault.LoadFault.{LoadFault}
 use Rattle.gm_graph.specs.declared.cache.load_fault.LoadFault.TheVariants as load
 use Rattle.gm_graph.proofs.Sayings.{says_more}
 use Rattle.gm_graph.proofs.SharedLists.{own_still}
-use Rattle.gm_graph.specs.Held.{AreKept, held_under}
 use Rattle.gm_graph.proofs.HeldFiles.{grown_held, grown_lends}
 
 -- ---- the runs of a cache
@@ -73,8 +69,7 @@ sound_still old new earlier later main files stay keeps x place sound =
     record {
       within = omega (arith, sound.within, ap length files.1, length-append old.files.files.items files.0);
       span = sound.span;
-      own = ap (λ (list : List Kept). own_span_at list place) files.1
-          ∙ own_still old.files.files.items files.0 place sound.span sound.own;
+      own = rw files.1 (own_still old.files.files.items files.0 place sound.span sound.own);
       listed = ap (λ (m : Main). option_and_then listed_span (summary_at new (file_of m x))) same
           ∙ ap (option_and_then listed_span) (stay (file_of (main_in old) x) one.0 one.1 ∙ sym one.1) ∙ sound.listed;
       file = sound.file;
@@ -98,16 +93,14 @@ knows_still pairs same knows = record {
 pub holds_grown : (old new : Cache) → new.main.now ≡ old.main.now → sums_in new ≡ sums_in old → new.files ≡ old.files
     → Grows old.modules new.modules → LendsKept old → HoldsSame old new
 holds_grown old new main sums files grows lends =
-    let found : (name : Name) → summary_at new name ≡ summary_at old name = λ name. ap (λ (kept : FileTable). kept_at kept name) files in
     record {
       main = main;
       sums = sums;
-      held = λ name. ap (λ (kept : FileTable). held_under new.modules kept name) files
-          ∙ grown_held (main_in old) old.modules new.modules old.files grows lends name;
+      held = λ name. rw files (grown_held (main_in old) old.modules new.modules old.files grows lends name);
       lends = λ _. rw (main, files) (grown_lends (main_in old) old.modules new.modules old.files grows lends);
       numbered = grows.1.numbered;
-      sound = λ run. sound_still old new run run main ([], ap (λ (kept : FileTable). kept.files.items) files ∙ sym (append-nil old.files.files.items))
-          (λ name one e. found name ∙ e) (λ x said says. says);
+      sound = λ run. sound_still old new run run main ([], ap (λ kept. kept.files.items) files ∙ sym (append-nil old.files.files.items))
+          (λ name one e. rw files e) (λ x said says. says);
     }
 
 -- So does one with the same list of modules, whose files begin with the old ones.
@@ -115,17 +108,13 @@ pub holds_listed : (old new : Cache) → new.main.now ≡ old.main.now → sums_
     → KeepsFiles old.files new.files → BeginsWith old.files.files.items new.files.files.items
     → new.modules ≡ old.modules → HoldsSame old new
 holds_listed old new main sums keeps files modules =
-    let held : (name : Name) → held_of new name ≡ held_of old name =
-    λ name. ap (λ (list : NumberedList). option_map (summary_reading (modules_of list)) (summary_at new name)) modules
-    ∙ ap (option_map (summary_reading (modules_of old.modules))) (keeps name) in
     record {
       main = main;
       sums = sums;
-      held = held;
-      numbered = ([], ap (λ (list : NumberedList). list.modules) modules ∙ sym (append-nil (table_in old)));
+      held = λ name. rw (modules, keeps name) refl;
+      numbered = ([], ap (λ list. list.modules) modules ∙ sym (append-nil (table_in old)));
       sound = λ run. sound_still old new run run main files (λ name one e. keeps name ∙ e) (λ x said says. says);
-      lends = λ lends name one e. subst (λ (m : Main). IsKept m (modules_of new.modules) one) (ap main_of (sym main))
-          (subst (λ (list : NumberedList). IsKept (main_in old) (modules_of list) one) (sym modules) (lends name one (sym (keeps name) ∙ e)));
+      lends = λ lends name one e. rw (main, modules) (lends name one (sym (keeps name) ∙ e));
     }
 
 -- The same cache holds the same.
@@ -171,8 +160,8 @@ lent_after one two = record { main = two.main ∙ one.main; sums = two.sums ∙ 
 pub holds_failed : {old mid new : Cache} → HoldsSame old mid → new.main.now ≡ mid.main.now → sums_in new ≡ sums_in mid
     → new.files ≡ mid.files → new.modules ≡ mid.modules → HoldsSame old new
 holds_failed {mid = mid} {new = new} same main sums files modules = holds_after same
-    (holds_listed mid new main sums (λ name. ap (λ (kept : FileTable). kept_at kept name) files)
-    ([], ap (λ (kept : FileTable). kept.files.items) files ∙ sym (append-nil mid.files.files.items)) modules)
+    (holds_listed mid new main sums (λ name. ap (λ kept. kept_at kept name) files)
+    ([], ap (λ kept. kept.files.items) files ∙ sym (append-nil mid.files.files.items)) modules)
 
 -- ---- refusals
 

@@ -56,7 +56,7 @@ one_seen content Garbled (Ended lines finish) is other = absurd (is.1 other.0.1)
 one_seen content (Ended lines finish) Garbled is other = absurd (other.1 is.0.1)
 one_seen content (Ended lines finish) (Ended others end) is other =
     let same = is.1.only others end other.1.reads in
-    sym (ap (λ (ls : List (Line Word)). Ended ls end) same.0 ∙ ap (Ended lines) same.1)
+    rw (same.0, same.1) refl
 
 one_content : (content : List ℕ) (a b : Result Dependency Class) → IsContentReading content a → IsContentReading content b → a ≡ b
 one_content content a b is other =

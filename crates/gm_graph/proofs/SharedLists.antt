@@ -1,6 +1,6 @@
 -- Files with the requirements of an earlier one.
-use Rattle.std.proofs.Common.{◌≡◌, ◌∙◌, ◌<◌, ◌≤◌, ◌-◌, ◌⊎◌, ◌++◌, ◌∷◌, [], ℕ, zero, suc, Bool, true, List, None, Option, Some, ap, append-nil, arith, drop, false, inl, inr, length, refl, subst, sym, take}
-use Rattle.std.specs.Prelude.{is_some, nat_eq, not, slice_get, unwrap_or}
+use Rattle.std.proofs.Common.{◌≡◌, ◌∙◌, ◌<◌, ◌≤◌, ◌-◌, ◌⊎◌, ◌++◌, ◌∷◌, [], ℕ, zero, suc, Bool, true, List, None, Option, Some, ap, append-nil, arith, drop, false, inl, inr, length, refl, sym, take}
+use Rattle.std.specs.Prelude.{is_some, nat_eq, not, slice_get}
 use Rattle.std.specs.Cmp.Lexicographic.{pointwise, same_text}
 use Rattle.std.specs.Option.{option_and_then}
 use Rattle.std.proofs.lemmas.List.{length-drop, length-map, take-append-drop, take-map, take_all, take_at}
@@ -9,14 +9,14 @@ use Rattle.gm_name.specs.ModuleVersion.{ModuleVersion, module_at}
 use Rattle.gm_name_table.specs.Listed.{BeginsWith, NumberedList, modules_at, modules_of, part}
 use Rattle.gm_name_table.proofs.Listed.{part_as}
 use Rattle.gm_file.specs.Listed.{Head}
-use Rattle.gm_file.specs.Main.{Main, without_excluded}
+use Rattle.gm_file.specs.Main.{Main}
 use Rattle.gm_graph.specs.declared.cache.list_index.SameList.{SameList}
 use Rattle.gm_graph.specs.declared.cache.summary.Kept.{Kept}
 use Rattle.gm_graph.specs.declared.cache.summary.Kept.TheVariants.{Valid, Faulty}
 use Rattle.gm_graph.specs.declared.cache.summary.ListSpan.{ListSpan}
 use Rattle.gm_graph.specs.declared.cache.summary.Summary.{Summary}
 use Rattle.gm_graph.specs.Summaries.{IsKept, IsSummary, IsWithinList, at_span, own_span, own_span_at, span_unless}
-use Rattle.gm_graph.specs.Private.Summaries.{AllStand, AreWithinList, Grows, GrowsFrom, IsSameList, SummaryStands, KeptStands, list_place, own_spans, same_list, span_found}
+use Rattle.gm_graph.specs.Private.Summaries.{AllStand, AreWithinList, Grows, GrowsFrom, IsSameList, SummaryStands, KeptStands, list_place, own_spans, span_found}
 use Rattle.gm_graph.proofs.Spans.{kept_still, span_still, within_still}
 
 -- ---- own lists

@@ -1,15 +1,15 @@
 -- Spans of a list of modules that grew at its end.
-use Rattle.std.proofs.Common.{◌≡◌, ◌∙◌, ◌≤◌, ◌-◌, ℕ, List, Option, Some, None, Ok, arith, ap, drop, false, length, length-append, refl, sym, take}
+use Rattle.std.proofs.Common.{◌≡◌, ◌∙◌, ◌≤◌, ◌-◌, ℕ, List, Option, Some, None, arith, ap, drop, false, length, length-append, refl}
 use Rattle.std.proofs.lemmas.List.{drop-append-le, length-drop, take-append-le}
 use Rattle.std.specs.List.{list_any}
 use Rattle.std.specs.Option.{option_map}
 use Rattle.gm_name.specs.ModuleVersion.{ModuleVersion}
 use Rattle.gm_name_table.specs.Listed.{BeginsWith, part}
-use Rattle.gm_file.specs.Listed.{Head, with_requirements}
+use Rattle.gm_file.specs.Listed.{Head}
 use Rattle.gm_graph.specs.declared.cache.summary.Kept.{Kept}
 use Rattle.gm_graph.specs.declared.cache.summary.Kept.TheVariants.{Valid, Faulty}
 use Rattle.gm_graph.specs.declared.cache.summary.ListSpan.{ListSpan}
-use Rattle.gm_file.specs.Main.{Main, is_excluded, without_excluded}
+use Rattle.gm_file.specs.Main.{Main, is_excluded}
 use Rattle.gm_graph.specs.Summaries.{IsKept, IsSummary, IsWithinList, at_span, summary_reading}
 use Rattle.gm_graph.specs.Private.Summaries.{span_found}
 use Rattle.gm_graph.proofs.Excluding.{all_others}

@@ -1,20 +1,16 @@
 -- A cache that keeps one more file knows one more answer.
-use Rattle.std.proofs.Common.{◌≡◌, ◌∙◌, Bool, true, false, cond, List, [], ◌∷◌, ◌++◌, Option, Some, None, sym, ap, subst, refl}
+use Rattle.std.proofs.Common.{◌≡◌, ◌∙◌, Bool, true, false, cond, List, [], ◌∷◌, ◌++◌, Option, Some, None, sym, ap, refl}
 use Rattle.std.specs.Option.{option_map, option_or}
 use Rattle.gm_name.specs.ModuleVersion.{ModuleVersion}
 use Rattle.gm_store.specs.Asked.{Name, Reply, answer_in, same_name}
-use Rattle.gm_store_sums.specs.Sums.{Sums}
 use Rattle.gm_store.proofs.NameOrder.{names_equal}
-use Rattle.gm_name_table.specs.Listed.{BeginsWith, NumberedList, modules_of}
+use Rattle.gm_name_table.specs.Listed.{BeginsWith, modules_of}
 use Rattle.gm_graph.specs.declared.cache.summary.Kept.{Kept}
 use Rattle.gm_graph.specs.declared.cache.Cache.{Cache}
-use Rattle.gm_file.specs.Main.{Main}
 use Rattle.gm_graph.specs.Reading.{IsFileReading}
-use Rattle.gm_graph.specs.Run.{Run}
-use Rattle.gm_graph.specs.Held.{HoldsAnswers}
 use Rattle.gm_graph.specs.Private.FileTable.{PutsFile}
 use Rattle.gm_graph.proofs.HeldFiles.{put_holds}
-use Rattle.gm_graph.proofs.Keeping.{knows_still, main_same, same_run, says_later, sound_still}
+use Rattle.gm_graph.proofs.Keeping.{knows_still, says_later, sound_still}
 use Rattle.gm_graph.proofs.Sayings.{answer_append}
 use Rattle.gm_graph.specs.Summaries.{IsKept, summary_reading}
 use Rattle.gm_graph.specs.Cached.{HoldsSame, KeepsSound, Knows, LentSame, main_in, run_in, summary_at, sums_in}

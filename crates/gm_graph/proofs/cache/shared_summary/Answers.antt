@@ -1,13 +1,9 @@
-use Rattle.std.proofs.Common.{◌∙◌, List, Option, ap, length, subst, sym}
-use Rattle.std.specs.Prelude.{IfSome, Ok}
-use Rattle.gm_name.specs.ModuleVersion.{ModuleVersion}
-use Rattle.gm_name_table.specs.Listed.{modules_of, part}
+use Rattle.std.proofs.Common.{ap}
+use Rattle.std.specs.Prelude.{Ok}
+use Rattle.gm_name_table.specs.Listed.{modules_of}
 use Rattle.gm_file.specs.Listed.{with_requirements}
 use Rattle.gm_file.specs.Main.{main_of}
-use Rattle.gm_graph.specs.declared.cache.list_index.SameList.{SameList}
-use Rattle.gm_graph.specs.Summaries.{IsSummary, IsWithinList}
-use Rattle.gm_graph.specs.declared.cache.summary.ListSpan.{ListSpan}
-use Rattle.gm_graph.specs.Private.Summaries.{IsSameList}
+use Rattle.gm_graph.specs.Summaries.{IsSummary}
 use Rattle.gm_graph.proofs.SharedLists.{all_within, cut_front, cut_grows, cut_same, front, same_listed}
 use Rattle.gm_graph.proofs.cache.shared_summary.Goals as goal
 

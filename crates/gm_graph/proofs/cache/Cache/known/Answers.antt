@@ -1,12 +1,11 @@
-use Rattle.std.proofs.Common.{◌≡◌, ◌∙◌, ℕ, Option, Some, ap, inl, refl, subst, sym}
-use Rattle.gm_name.specs.ModuleVersion.{ModuleVersion}
+use Rattle.std.proofs.Common.{◌≡◌, ◌∙◌, ℕ, Option, Some, ap, inl, refl, sym}
 use Rattle.gm_store.specs.Asked.{name_of}
 use Rattle.gm_graph.specs.declared.cache.load_fault.LoadFault.TheVariants as load
 use Rattle.gm_graph.specs.Private.Asking.{AsksOne, IsAskableFile}
 use Rattle.gm_graph.specs.Refusals.{refused_names}
 use Rattle.gm_graph.proofs.AskedFile.{asks_for, asks_same, lacks_still, refused_failed}
-use Rattle.gm_graph.specs.Cached.{IsKnownAs, main_in, run_in, table_in}
-use Rattle.gm_graph.specs.Private.Cached.{IsPlaceFor, module_numbered}
+use Rattle.gm_graph.specs.Cached.{main_in, run_in, table_in}
+use Rattle.gm_graph.specs.Private.Cached.{module_numbered}
 use Rattle.gm_file.specs.Main.{main_of}
 use Rattle.gm_graph.specs.Reading.{file_of}
 use Rattle.gm_graph.proofs.Growing.{number_below, number_stays}

@@ -1,19 +1,14 @@
-use Rattle.std.proofs.Common.{◌≡◌, ◌∙◌, Option, None, Some, sym, ap, refl, subst}
-use Rattle.gm_name.specs.ModuleVersion.{ModuleVersion}
+use Rattle.std.proofs.Common.{◌≡◌, ◌∙◌, None, sym, ap, refl}
 use Rattle.gm_name_table.specs.OptionalPlaces.{place_in}
 use Rattle.gm_name_table.specs.Listed.{NumberedList, modules_of}
-use Rattle.gm_file.specs.Main.{Main, main_of}
+use Rattle.gm_file.specs.Main.{main_of}
 use Rattle.gm_store.specs.Asked.{Name, name_of}
-use Rattle.gm_store_sums.specs.Sums.{Sums}
 use Rattle.std.specs.Option.{option_and_then}
 use Rattle.gm_graph.specs.Private.FileTable.{replacing_place}
-use Rattle.gm_graph.specs.declared.cache.file_table.FileTable.{FileTable}
-use Rattle.gm_graph.specs.Summaries.{summary_reading}
-use Rattle.gm_graph.specs.Private.Summaries.{KeptStands}
 use Rattle.gm_graph.proofs.SharedLists.{listed_kept}
 use Rattle.gm_graph.specs.Cached.{main_in, summary_at, table_in}
-use Rattle.gm_graph.specs.Private.Cached.{HasFileAt, module_numbered}
-use Rattle.gm_graph.specs.Reading.{IsFileReading, file_of, is_askable}
+use Rattle.gm_graph.specs.Private.Cached.{module_numbered}
+use Rattle.gm_graph.specs.Reading.{file_of, is_askable}
 use Rattle.gm_graph.proofs.Growing.{number_below, number_stays}
 use Rattle.gm_graph.proofs.Keeping.{any_err, holds_after, holds_failed, holds_itself, known_same, lent_after}
 use Rattle.gm_graph.proofs.OwnFiles.{has_noted, new_file, nothing_kept}

@@ -1,9 +1,5 @@
-use Rattle.std.proofs.Common.{◌≡◌, Ok, Err, refl, subst}
-use Rattle.gm_name_table.specs.Listed.{modules_of}
-use Rattle.gm_store.specs.Asked.{Reply, name_of, reply_of}
-use Rattle.gm_graph.specs.Cached.{sums_in}
-use Rattle.gm_graph.specs.Reading.{IsFileReading}
-use Rattle.gm_graph.specs.Summaries.{summary_reading}
+use Rattle.std.proofs.Common.{Ok, Err, refl}
+use Rattle.gm_store.specs.Asked.{name_of}
 use Rattle.gm_graph.proofs.AskedFile.{asked_one, asks_passed, asks_still}
 use Rattle.gm_graph.proofs.Keeping.{holds_itself}
 use Rattle.gm_graph.proofs.cache.Cache.read_file.Goals as goal

@@ -1,13 +1,10 @@
-use Rattle.std.proofs.Common.{◌∙◌, ◌∷◌, [], ℕ, List, Result, ap, drop, length, refl, subst, sym, take}
+use Rattle.std.proofs.Common.{◌∙◌, ap, drop, length, refl, subst, sym}
 use Rattle.std.proofs.lemmas.Result.{IfOk-weaker}
 use Rattle.gm_name_table.specs.Listed.{modules_of}
-use Rattle.gm_file.specs.Fields.{Dependency}
 use Rattle.gm_store.specs.Asked.{name_of, reply_of}
-use Rattle.gm_graph.specs.declared.cache.class.Class.{Class}
-use Rattle.gm_graph.specs.declared.cache.summary.Kept.{Kept}
 use Rattle.gm_graph.specs.Cached.{main_in, sums_in}
 use Rattle.gm_graph.specs.Reading.{IsFileReading}
-use Rattle.gm_graph.specs.Private.Summaries.{AllStand, AreListsInOrder, listed_reading}
+use Rattle.gm_graph.specs.Private.Summaries.{listed_reading}
 use Rattle.gm_graph.proofs.GrownCache.{all_grown, first_grown, firsts_grown, notes_grown, order_grown, places_grown, some_grown}
 use Rattle.gm_graph.proofs.Keeping.{holds_grown}
 use Rattle.gm_graph.proofs.Ordered.{order_push}

@@ -1,14 +1,10 @@
-use Rattle.std.proofs.Common.{◌≡◌, ◌∙◌, ℕ, false, true, Option, Some, ap, subst, sym}
-use Rattle.gm_name.specs.ModuleVersion.{ModuleVersion}
+use Rattle.std.proofs.Common.{◌≡◌, ◌∙◌, false, true, Some, ap, subst, sym}
 use Rattle.gm_name_table.specs.Listed.{modules_of}
 use Rattle.gm_file.specs.Listed.{with_requirements}
-use Rattle.gm_graph.specs.declared.cache.summary.Kept.{Kept}
 use Rattle.gm_graph.specs.declared.cache.summary.Kept.TheVariants.{Valid}
 use Rattle.std.specs.Option.{option_and_then}
-use Rattle.gm_graph.specs.declared.cache.visit.Said.TheVariants as said
-use Rattle.gm_graph.specs.Cached.{main_in, run_in}
-use Rattle.gm_graph.specs.Private.CacheVisits.{IsSaid}
-use Rattle.gm_graph.specs.Private.Cached.{HasFileAt, IsPlaceFor, module_numbered}
+use Rattle.gm_graph.specs.Cached.{main_in}
+use Rattle.gm_graph.specs.Private.Cached.{HasFileAt, module_numbered}
 use Rattle.gm_file.specs.Main.{replacement_in}
 use Rattle.gm_graph.specs.Reading.{is_right_path}
 use Rattle.gm_graph.specs.Run.{faulty, sound, unaskable, wrong_path}
@@ -28,7 +24,7 @@ returns-in-Faulty c = λ pairs knows.
     let cache = c.args.self.now in
     let x = module_numbered cache c.args.number in
     let at : HasFileAt cache x c.in-Some.file = rw c.in-Some.is at c.requires.place in
-    faulty (kept_says cache pairs x c.in-Some.file _ knows at (c.at.ensures ∙ ap (λ (kept : Kept). Some kept) c.in-Faulty.is))
+    faulty (kept_says cache pairs x c.in-Some.file _ knows at (c.at.ensures ∙ ap Some c.in-Faulty.is))
 
 pub returns-else-is_right_path : goal.returns-else-is_right_path
 returns-else-is_right_path c = λ pairs knows.
@@ -38,7 +34,7 @@ returns-else-is_right_path c = λ pairs knows.
     let summary = c.in-Valid.summary in
     let file = with_requirements summary.file (at_span (modules_of cache.modules) summary.all) in
     let at : HasFileAt cache x c.in-Some.file = rw c.in-Some.is at c.requires.place in
-    let says = kept_says cache pairs x c.in-Some.file (Valid summary) knows at (c.at.ensures ∙ ap (λ (kept : Kept). Some kept) c.in-Valid.is) in
+    let says = kept_says cache pairs x c.in-Some.file (Valid summary) knows at (c.at.ensures ∙ ap Some c.in-Valid.is) in
     wrong_path file says
     (subst (λ v. is_right_path v (replacement_in main v) file.declared ≡ false) c.module.ensures.module
     (sym c.is_right_path.ensures ∙ c.if-is_right_path.false))
@@ -54,10 +50,10 @@ returns-then-is_right_path c = λ pairs knows.
     let all = at_span (modules_of cache.modules) summary.all in
     let file = with_requirements summary.file all in
     let at : HasFileAt cache x c.in-Some.file = rw c.in-Some.is at c.requires.place in
-    let says = sound (kept_says cache pairs x c.in-Some.file (Valid summary) knows at (c.at.ensures ∙ ap (λ (kept : Kept). Some kept) c.in-Valid.is))
+    let says = sound (kept_says cache pairs x c.in-Some.file (Valid summary) knows at (c.at.ensures ∙ ap Some c.in-Valid.is))
     (subst (λ v. is_right_path v (replacement_in main v) file.declared ≡ true) c.module.ensures.module
     (sym c.is_right_path.ensures ∙ c.if-is_right_path.true)) in
-    let there = c.at.ensures ∙ ap (λ (kept : Kept). Some kept) c.in-Valid.is in
+    let there = c.at.ensures ∙ ap Some c.in-Valid.is in
     let owned = list_owned main (modules_of cache.modules) cache.files.files.items c.in-Some.file summary cache.listed there in
     rw c.list_place.ensures (
       record {

@@ -1,11 +1,9 @@
-use Rattle.std.proofs.Common.{◌<◌, ◌∙◌, ◌++◌, ◌∷◌, [], ℕ, List, Option, ap, append-nil, length, refl, subst, sym}
-use Rattle.std.specs.Prelude.{IfSome}
-use Rattle.std.specs.List.{IsDistinct}
-use Rattle.gm_name.specs.ModuleVersion.{ModuleVersion, pair_eq}
+use Rattle.std.proofs.Common.{◌∙◌, ◌++◌, ◌∷◌, [], ℕ, List, Option, ap, append-nil, length, refl, sym}
+use Rattle.gm_name.specs.ModuleVersion.{ModuleVersion}
 use Rattle.gm_name_table.specs.Listed.{NumberedList, modules_of}
 use Rattle.gm_graph.specs.declared.cache.depth.Turn.{Turn}
 use Rattle.gm_graph.specs.declared.cache.file_table.FileTable.{FileTable}
-use Rattle.gm_graph.specs.Cached.{file_count, main_in}
+use Rattle.gm_graph.specs.Cached.{main_in}
 use Rattle.gm_graph.specs.Private.Cached.{module_numbered, span_at}
 use Rattle.gm_graph.specs.Summaries.{at_span}
 use Rattle.gm_graph.specs.Turns.{turn}
