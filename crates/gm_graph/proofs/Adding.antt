@@ -1,5 +1,5 @@
 -- One more turn, of a known vertex or a new one.
-use Rattle.std.proofs.Common.{◌≡◌, ◌≤◌, ◌<◌, true, false, List, [], ◌∷◌, ◌++◌, length, Contains, ap, sym, subst, inl, inr, arith, length-append}
+use Rattle.std.proofs.Common.{◌≡◌, ◌≤◌, ◌<◌, true, false, List, [], ◌∷◌, ◌++◌, length, Contains, ap, inl, inr, arith, length-append}
 use Rattle.std.specs.List.{list_any, IsDistinct}
 use Rattle.std.proofs.lemmas.Map.Keys.{IsDistinct-push}
 use Rattle.std.proofs.lemmas.Map.Views.{Contains-from_any}
@@ -35,7 +35,7 @@ module _ (vertices : List ModuleVersion) (turns : List Turn) (x : ModuleVersion)
         (one.0, Contains-append_left turns (turn x d ∷ []) (turn y one.0) one.1);
     has_vertex = λ one h. elim (Contains-push_cases turns (turn x d) one h) [
       | inl there ↦ old.has_vertex one there
-      | inr e ↦ subst (λ (o : Turn). Contains vertices o.vertex) e (Contains-from_any pair-same x vertices known)
+      | inr e ↦ rw⁻¹ e (Contains-from_any pair-same x vertices known)
     ];
   }
 
@@ -52,13 +52,13 @@ module _ (vertices : List ModuleVersion) (turns : List Turn) (x : ModuleVersion)
           (one.0, Contains-append_left turns (turn x d ∷ []) (turn y one.0) one.1))
       | inr e ↦ (
         d,
-        subst (λ (z : ModuleVersion). Contains (turns ++ turn x d ∷ []) (turn z d)) e
+        rw⁻¹ e
             (Contains-push turns (turn x d)),
       )
     ];
     has_vertex = λ one h. elim (Contains-push_cases turns (turn x d) one h) [
       | inl there ↦ Contains-append_left vertices (x ∷ []) one.vertex (old.has_vertex one there)
-      | inr e ↦ subst (λ (o : Turn). Contains (vertices ++ x ∷ []) o.vertex) e (Contains-push vertices x)
+      | inr e ↦ rw⁻¹ e (Contains-push vertices x)
     ];
   }
 
@@ -86,7 +86,7 @@ overflow_later turns more d xs ys zs adds in_xs in_ys over = (
   (λ y h. elim (over.3 y h) [
     | inl one ↦ elim (adds.only (turn y one.0) one.1) [
       | inl old ↦ inl (one.0, old)
-      | inr found ↦ inr (subst (λ (m : ModuleVersion). Contains zs m) (sym (ap (λ (t : Turn). t.vertex) found.2))
+      | inr found ↦ inr (rw (ap (λ (t : Turn). t.vertex) found.2)
           (in_xs found.0 found.1))
     ]
     | inr new ↦ inr (in_ys y new)

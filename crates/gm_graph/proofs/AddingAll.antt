@@ -1,5 +1,5 @@
 -- Adding several turns.
-use Rattle.std.proofs.Common.{◌≡◌, ◌+◌, ◌≤◌, ◌<◌, ℕ, List, [], ◌∷◌, ◌++◌, length, map, take, get_or, Contains, ap, ◌∙◌, sym, refl, subst, inl, inr, arith, length-append, append_assoc, append-nil, zero, suc, drop}
+use Rattle.std.proofs.Common.{◌≡◌, ◌+◌, ◌≤◌, ◌<◌, ℕ, List, [], ◌∷◌, ◌++◌, length, map, take, get_or, Contains, ap, ◌∙◌, sym, refl, inl, inr, arith, append_assoc, append-nil, zero, suc}
 use Rattle.std.proofs.lemmas.List.{get_or_default, map_more, take-append-drop}
 use Rattle.std.proofs.lemmas.List.Elements.{Contains-append_left, Contains-append_right, Contains-push, Contains-push_cases, Contains-append_cases}
 use Rattle.gm_name.specs.ModuleVersion.{ModuleVersion, module_at}
@@ -9,9 +9,6 @@ use Rattle.gm_graph.proofs.Adding.{overflow_later}
 use Rattle.gm_graph_select.proofs.RankedLists.{from_mapped, in_mapped}
 use Rattle.gm_graph.specs.Turns.{turn}
 use Rattle.gm_graph.specs.Private.Turns.{AppendsTurnIfNew, AddsAll, OverflowsWith}
-
-pub no_shorter : (old new more : List Turn) → new ≡ old ++ more → length old ≤ length new
-no_shorter old new more e = omega (arith, ap length e, length-append old more)
 
 -- first these, then those
 adds_both : (old mid new : List Turn) (xs ys : List ModuleVersion) (d : Depth) → AddsAll old mid xs d
@@ -23,8 +20,8 @@ adds_both old mid new xs ys d first then' = record {
         ∙ append_assoc old first.extends.0 then'.extends.0,
   );
   each = λ z c. elim (Contains-append_cases xs ys z c) [
-    | inl in_xs ↦ subst (λ (t : List Turn). Contains t (turn z d)) (sym then'.extends.1)
-        (Contains-append_left mid then'.extends.0 (turn z d) (first.each z in_xs))
+    | inl in_xs ↦ rw then'.extends.1
+        (Contains-append_left mid _ _ (first.each z in_xs))
     | inr in_ys ↦ then'.each z in_ys
   ];
   only = λ one c. elim (then'.only one c) [
@@ -44,16 +41,16 @@ adds_turn : (old new : List Turn) (y : ModuleVersion) (d : Depth) → AppendsTur
     → AddsAll old new (y ∷ []) d
 adds_turn old new y d (inr (same, there)) = record {
   extends = ([], same ∙ sym (append-nil old));
-  each = λ z h. subst (λ (t : List Turn). Contains t (turn z d)) (sym same)
-      (subst (λ (m : ModuleVersion). Contains old (turn m d)) (only_one y z h) there);
-  only = λ one h. inl (subst (λ (t : List Turn). Contains t one) same h);
+  each = λ z h. rw same
+      (rw⁻¹ (only_one y z h) there);
+  only = λ one h. inl (rw⁻¹ same h);
 }
 adds_turn old new y d (inl more) = record {
   extends = (turn y d ∷ [], more);
-  each = λ z h. subst (λ (t : List Turn). Contains t (turn z d)) (sym more)
-      (subst (λ (m : ModuleVersion). Contains (old ++ turn y d ∷ []) (turn m d)) (only_one y z h)
+  each = λ z h. rw more
+      (rw⁻¹ (only_one y z h)
       (Contains-push old (turn y d)));
-  only = λ one h. elim (Contains-push_cases old (turn y d) one (subst (λ (t : List Turn). Contains t one) more h)) [
+  only = λ one h. elim (Contains-push_cases old (turn y d) one (rw⁻¹ more h)) [
     | inl in_old ↦ inl in_old
     | inr e ↦ inr (y, (0, omega arith, refl), sym e)
   ];
@@ -66,12 +63,12 @@ pub adds_number : (modules : List ModuleVersion) (old mid new : List Turn) (numb
     → AddsAll old new (map (module_at modules) (take (i + 1) numbers)) d
 adds_number modules old mid new numbers i d below before one =
     let x = module_at modules (get_or numbers i 0) in
-    subst (λ (xs : List ModuleVersion). AddsAll old new xs d) (sym (map_more (module_at modules) numbers i 0 below))
+    rw (map_more (module_at modules) numbers i 0 below)
     (adds_both old mid new (map (module_at modules) (take i numbers)) (x ∷ []) d before (adds_turn mid new x d one))
 
 front_of : (numbers : List ℕ) (i number : ℕ) → Contains (take i numbers) number → Contains numbers number
-front_of numbers i number h = subst (λ (l : List ℕ). Contains l number) (take-append-drop i numbers)
-    (Contains-append_left (take i numbers) (drop i numbers) number h)
+front_of numbers i number h = rw⁻¹ (take-append-drop i numbers)
+    (Contains-append_left _ _ _ h)
 
 -- One of them is too many.
 pub overflow_at : (modules : List ModuleVersion) (old mid : List Turn) (numbers : List ℕ) (i : ℕ) (d : Depth)
@@ -84,9 +81,9 @@ overflow_at modules old mid numbers i d below adds over =
     (map (module_at modules) numbers) adds
     (λ y h.
     let (number, there, e) = from_mapped (module_at modules) (take i numbers) y h in
-    subst (λ (z : ModuleVersion). Contains (map (module_at modules) numbers) z) e
+    rw⁻¹ e
     (in_mapped (module_at modules) numbers number (front_of numbers i number there)))
-    (λ y h. subst (λ (z : ModuleVersion). Contains (map (module_at modules) numbers) z) (only_one x y h)
+    (λ y h. rw⁻¹ (only_one x y h)
     (in_mapped (module_at modules) numbers (get_or numbers i 0)
     (i, below, get_or_default numbers i (get_or numbers i 0) 0 below)))
     over

@@ -42,7 +42,7 @@ follows_adds run old new x d file says leads adds = record {
     said = Ok file;
     says = says;
     followed = λ y to. adds.each y
-        (subst (λ (f : Dependency). Contains (without_excluded run.main f.requirements) y) (file_same to.says says) to.requires);
+        (rw⁻¹ (file_same to.says says) to.requires);
   };
   only = λ next h. elim (adds.only next h) [
     | inl there ↦ inl there
@@ -101,8 +101,8 @@ module _ {main : Main} {sums : Option Sums} (pairs longer : List (Name × Reply)
       record {
         file = file;
         says = says;
-        leads = subst (λ (f : Dependency). leads_on f one.depth ≡ true) same to.leads;
-        requires = subst (λ (f : Dependency). Contains (without_excluded main f.requirements) y) same to.requires;
+        leads = rw⁻¹ same to.leads;
+        requires = rw⁻¹ same to.requires;
       }
 
   pub IsDone-kept : (turns : List Turn) (one : Turn) → IsDone earlier turns one → IsDone later turns one

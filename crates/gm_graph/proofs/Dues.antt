@@ -1,5 +1,5 @@
 -- What is asked for while a worklist is visited.
-use Rattle.std.proofs.Common.{◌≡◌, ◌⊎◌, ◌+◌, ◌<◌, ℕ, true, List, [], ◌∷◌, ◌++◌, length, take, get_or, Option, None, Result, Ok, Err, ap, ◌∙◌, sym, refl, subst, inl, inr, arith}
+use Rattle.std.proofs.Common.{◌≡◌, ◌⊎◌, ◌+◌, ◌<◌, ℕ, true, List, [], ◌∷◌, ◌++◌, length, take, get_or, Option, None, Result, Ok, Err, ap, ◌∙◌, sym, refl, inl, inr, arith}
 use Rattle.std.specs.Result.{IsErr}
 use Rattle.std.proofs.lemmas.List.{take_more, take-append-le}
 use Rattle.gm_name.specs.ModuleVersion.{ModuleVersion}
@@ -12,15 +12,15 @@ use Rattle.gm_file.specs.Main.{Main}
 use Rattle.gm_graph.specs.Cached.{Knows}
 use Rattle.gm_graph.specs.Reading.{file_of, is_askable}
 use Rattle.gm_graph.specs.Refusals.{refused_names, refused_in}
-use Rattle.gm_graph.specs.Run.{AskedInTurn, KeepsSayings, Says, nothing, run_of}
+use Rattle.gm_graph.specs.Run.{AskedInTurn, KeepsSayings, nothing, run_of}
 use Rattle.gm_graph.proofs.Sayings.{says_more}
 
 -- Nothing was asked for.
 pub none_in_turn : (needs : (Name → Option Reply) → Name → Type 0) (pairs : List (Name × Reply)) → pairs ≡ [] → AskedInTurn needs pairs
-none_in_turn needs pairs e = subst (λ (ps : List (Name × Reply)). AskedInTurn needs ps) (sym e) nothing
+none_in_turn needs pairs e = rw e nothing
 
 pub knows_nothing : (cache : Cache) (pairs : List (Name × Reply)) → pairs ≡ [] → Knows cache [] → Knows cache pairs
-knows_nothing cache pairs e knows = subst (λ (ps : List (Name × Reply)). Knows cache ps) (sym e) knows
+knows_nothing cache pairs e knows = rw e knows
 
 -- Nothing was asked for, or only the file of this vertex: `AsksFor` of the pairs of two stores.
 abbrev pub AddsFile : Main → List (Name × Reply) → List (Name × Reply) → ModuleVersion → Type 0
@@ -32,9 +32,9 @@ AddsFile main old new x = (new ≡ old)
 pub says_still : (main : Main) (sums : Option Sums) (old new : List (Name × Reply)) (x : ModuleVersion) → AddsFile main old new x
     → KeepsSayings (run_of main sums old) (run_of main sums new)
 says_still main sums old new x (inl same) = λ y said says.
-    subst (λ (ps : List (Name × Reply)). Says (run_of main sums ps) y said) (sym same) says
+    rw same says
 says_still main sums old new x (inr asked) = λ y said says.
-    subst (λ (ps : List (Name × Reply)). Says (run_of main sums ps) y said) (sym asked.2.1)
+    rw asked.2.1
     (says_more main sums old ((file_of main x, asked.2.0) ∷ []) y said says)
 
 -- ---- the refused names of a refusal that is passed on

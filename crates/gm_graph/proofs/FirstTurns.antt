@@ -1,5 +1,5 @@
 -- The worklist that loading starts with: nothing but turns of what the main module requires.
-use Rattle.std.proofs.Common.{◌≡◌, [], List, ap, map, subst}
+use Rattle.std.proofs.Common.{◌≡◌, [], List, ap, map}
 use Rattle.gm_name.specs.ModuleVersion.{ModuleVersion}
 use Rattle.gm_graph.specs.declared.cache.depth.Depth.{Depth}
 use Rattle.gm_graph.specs.declared.cache.depth.Turn.{Turn}
@@ -25,8 +25,8 @@ module _ (run : Run) (modules xs : List ModuleVersion) (none : Worklist) (no_tur
   -- So what holds of them holds of no turns and of the vertices that the main file requires.
   none_added : (P : List Turn → List ModuleVersion → Type 0) → P (turns_of modules none) xs → P [] (required_in run.main)
   none_added P holds =
-      subst (λ (ts : List Turn). P ts (required_in run.main)) none_turned
-      (subst (λ (ys : List ModuleVersion). P (turns_of modules none) ys) are holds)
+      rw⁻¹ none_turned
+      (rw⁻¹ are holds)
 
   -- They are too many.
   pub too_many_first : OverflowsWith (turns_of modules none) xs → OverflowsWith [] (required_in run.main)
@@ -39,6 +39,6 @@ module _ (run : Run) (modules xs : List ModuleVersion) (none : Worklist) (no_tur
   is_first made depth by adds worklist = record {
     worklist_is = worklist;
     turns = first_turns run (turns_of modules made)
-        (subst (λ (d : Depth). AddsAll [] (turns_of modules made) (required_in run.main) d) by
+        (rw⁻¹ by
         (none_added (λ ts ys. AddsAll ts (turns_of modules made) ys depth) adds));
   }

@@ -1,5 +1,5 @@
 -- The files that were followed, as the cache and the worklist grow.
-use Rattle.std.proofs.Common.{◌≡◌, [], Contains, List, Ok, ℕ, inl, inr, subst, sym, true, append-nil}
+use Rattle.std.proofs.Common.{◌≡◌, [], Contains, List, Ok, ℕ, inl, inr, sym, true, append-nil}
 use Rattle.std.proofs.lemmas.List.Elements.{Contains-append_left}
 use Rattle.gm_name.specs.ModuleVersion.{ModuleVersion}
 use Rattle.gm_name_table.specs.Listed.{BeginsWith}
@@ -9,7 +9,7 @@ use Rattle.gm_graph.specs.declared.cache.depth.Depth.TheVariants.{Deep}
 use Rattle.gm_graph.specs.declared.cache.depth.Turn.{Turn}
 use Rattle.gm_graph.specs.declared.cache.visit.Required.{Required}
 use Rattle.gm_graph.specs.declared.cache.visit.Visit.TheVariants as visit
-use Rattle.gm_graph.specs.Cached.{IsSound, KeepsSound, table_in}
+use Rattle.gm_graph.specs.Cached.{KeepsSound, table_in}
 use Rattle.gm_graph.specs.Run.{KeepsSayings, Run}
 use Rattle.gm_graph.specs.Turns.{turn}
 use Rattle.gm_graph.specs.Private.Turns.{AddsAll}
@@ -50,8 +50,8 @@ pub has_its_turns : (old : Cache) (run : Run) (worklist : Worklist) (followed : 
 has_its_turns old run worklist followed required is lends are by = λ y h.
     let one = are required.file by in
     let shared = lends.shared one.vertex one.sound.file one.sound one.sound.says in
-    subst (λ (ts : List Turn). Contains ts (turn y Deep)) (sym (turns_over (table_in old) (table_of required) worklist is lends.begins))
-    (one.each y (one.sound.file, one.sound.says, subst (λ (xs : List ModuleVersion). Contains xs y) shared h))
+    rw (turns_over (table_in old) (table_of required) worklist is lends.begins)
+    (one.each y (one.sound.file, one.sound.says, rw⁻¹ shared h))
 
 -- More turns.
 followed_longer : (cache : Cache) (run : Run) (old new : List Turn) (followed : Followed) → BeginsWith old new
@@ -61,7 +61,7 @@ followed_longer cache run old new followed longer are = λ f is.
     record {
       vertex = one.vertex;
       sound = one.sound;
-      each = λ y r. subst (λ (ts : List Turn). Contains ts (turn y Deep)) (sym longer.1)
+      each = λ y r. rw longer.1
           (Contains-append_left old longer.0 (turn y Deep) (one.each y r));
     }
 
@@ -74,8 +74,8 @@ followed_more cache run old new before after x d required is longer are files = 
   | inl was ↦ followed_longer cache run old new before longer are f was
   | inr here ↦ record {
     vertex = x;
-    sound = subst (λ (p : ℕ). IsSound cache run x p) here.0 is.0;
-    each = λ y r. here.1 y (subst (λ (xs : List ModuleVersion). Contains xs y) (sym is.1.modules)
+    sound = rw⁻¹ here.0 is.0;
+    each = λ y r. here.1 y (rw is.1.modules
         ((required_of run x is.1.file is.1.says y).0 r));
   }
 ]
@@ -90,6 +90,6 @@ followed_known old new earlier later worklist followed is continues main stays k
     record {
       vertex = one.vertex;
       sound = keeps one.vertex f one.sound;
-      each = λ y r. subst (λ (ts : List Turn). Contains ts (turn y Deep)) (sym (turns_over (table_in old) (table_in new) worklist is continues.numbered))
+      each = λ y r. rw (turns_over (table_in old) (table_in new) worklist is continues.numbered)
           (one.each y (requires_before earlier later main stays one.vertex y (Ok one.sound.file) one.sound.says r));
     }

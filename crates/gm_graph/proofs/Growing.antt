@@ -1,5 +1,5 @@
 -- A list of modules that grows at its end: the numbers stand for the same modules.
-use Rattle.std.proofs.Common.{◌≡◌, ◌<◌, ◌++◌, ◌∷◌, ◌∙◌, [], ℕ, All, List, ap, ap₂, arith, length, length-append, map, refl, subst, sym}
+use Rattle.std.proofs.Common.{◌≡◌, ◌<◌, ◌++◌, ◌∷◌, ◌∙◌, [], ℕ, All, List, ap, ap₂, arith, length, length-append, map, refl}
 use Rattle.std.specs.List.{IsDistinct}
 use Rattle.std.proofs.lemmas.List.{get_or_append_left}
 use Rattle.std.proofs.lemmas.List.Elements.{All-head, All-tail, All-weaker}
@@ -7,7 +7,6 @@ use Rattle.gm_name.specs.ModuleVersion.{ModuleVersion, module_at, pair_eq}
 use Rattle.gm_name_table.specs.Listed.{BeginsWith}
 use Rattle.gm_graph.specs.declared.cache.depth.Turn.{Turn}
 use Rattle.gm_graph.specs.Turns.{turn}
-use Rattle.gm_graph.specs.Private.Turns.{AreTurnsOf}
 use Rattle.gm_graph.specs.declared.worklist.Worklist.{Worklist}
 use Rattle.gm_graph.specs.declared.worklist.NumberedTurn.{NumberedTurn}
 use Rattle.gm_graph.specs.Private.Worklists.{IsWorklist, turn_of, turns_of}
@@ -50,10 +49,10 @@ module _ (old new : List ModuleVersion) (worklist : Worklist) (is : IsWorklist o
   pub worklist_over : IsDistinct pair_eq new → IsWorklist new worklist
   worklist_over distinct = record {
     distinct = distinct;
-    turned = All-weaker (IsOneBelow (length old)) (IsOneBelow (length new)) (λ one below. number_below old new one.number begins below)
+    turned = All-weaker _ _ (λ one below. number_below old new one.number begins below)
         worklist.turns.items is.turned;
     marks = is.marks;
     opened = is.opened;
-    turns = subst (λ (ts : List Turn). AreTurnsOf is.opened ts) (sym turns_over) is.turns;
+    turns = rw turns_over is.turns;
     counted = is.counted;
   }

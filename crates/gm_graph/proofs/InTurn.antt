@@ -1,5 +1,5 @@
 -- What loading asks a store for and what it visits, turn by turn.
-use Rattle.std.proofs.Common.{◌≡◌, ◌∙◌, ◌+◌, ◌<◌, ◌++◌, ◌∷◌, [], ℕ, true, Contains, List, Option, ap, append-nil, get_or, inl, inr, length, refl, subst, sym}
+use Rattle.std.proofs.Common.{◌≡◌, ◌∙◌, ◌+◌, ◌<◌, ◌++◌, ◌∷◌, [], ℕ, true, List, Option, ap, append-nil, get_or, inl, inr, length, refl, subst, sym}
 use Rattle.std.proofs.lemmas.List.Elements.{Contains-push_cases}
 use Rattle.gm_name.specs.ModuleVersion.{ModuleVersion}
 use Rattle.gm_store.specs.Asked.{Name, Reply}
@@ -47,9 +47,9 @@ module _ {main other : Main} {sums others : Option Sums} {before after : Name �
   pub in_turn_by : {failed names : List Name} → main ≡ other → sums ≡ others → failed ≡ names → AsksInTurn main sums before after old new failed
       → AsksInTurn other others before after old new names
   in_turn_by {failed} {names} same sums_same is asks =
-      subst (λ (m : Main). AsksInTurn m others before after old new names) same
-      (subst (λ (s : Option Sums). AsksInTurn main s before after old new names) sums_same
-      (subst (λ (ns : List Name). AsksInTurn main sums before after old new ns) is asks))
+      rw⁻¹ same
+      (rw⁻¹ sums_same
+      (rw⁻¹ is asks))
 
 -- ---- one more turn
 
@@ -86,7 +86,7 @@ module _ {main : Main} {sums : Option Sums} {cache : Cache} {worklist : Worklist
   }
 
   adds_file : AddsFile main old.asked new.asked vertex
-  adds_file = subst (λ (m : Main). AddsFile m old.asked new.asked vertex) state.main_is (asks_for (main_in cache) vertex asks)
+  adds_file = rw⁻¹ state.main_is (asks_for (main_in cache) vertex asks)
 
   keeps : KeepsSayings earlier later
   keeps = says_still main sums old.asked new.asked vertex adds_file
@@ -96,15 +96,15 @@ module _ {main : Main} {sums : Option Sums} {cache : Cache} {worklist : Worklist
 
   asked_more : AskedInTurn (LoadingNeeds main sums) old.asked → AskedInTurn (LoadingNeeds main sums) new.asked
   asked_more before = elim adds_file [
-    | inl same ↦ subst (λ (ps : List (Name × Reply)). AskedInTurn (LoadingNeeds main sums) ps) (sym same) before
-    | inr asked ↦ subst (λ (ps : List (Name × Reply)). AskedInTurn (LoadingNeeds main sums) ps) (sym asked.2.1)
+    | inl same ↦ rw same before
+    | inr asked ↦ rw asked.2.1
         (more asked.2.0 before (called (file_of main vertex) refl asked.0) asked.1)
   ]
 
   due_here : (name : Name) → failed ≡ name ∷ [] → IsDue later name
   due_here name e =
       let lacks = lacks_still (main_in cache) vertex asks name e in
-      subst (λ (ps : List (Name × Reply)). IsDue (run_of main sums ps) name) (sym lacks.0) (record {
+      rw lacks.0 (record {
         calls = called name (sym (lacks.1 ∙ ap (λ (m : Main). file_of m vertex) state.main_is)) lacks.2;
         unasked = lacks.3;
       })
@@ -139,7 +139,7 @@ module _ {main : Main} {sums : Option Sums} {cache : Cache} {worklist : Worklist
         → (number < length (table_in end)) × IsOpened later (module_numbered end number)
     opened_still number lower opened = (
       number_below (table_in cache) (table_in end) number is.continues.numbered lower,
-      subst (λ (x : ModuleVersion). IsOpened later x) (same_module cache end number is.continues lower) opened,
+      rw⁻¹ (same_module cache end number is.continues lower) opened,
     )
 
     main_is : main_in end ≡ main
@@ -151,10 +151,8 @@ module _ {main : Main} {sums : Option Sums} {cache : Cache} {worklist : Worklist
     visits : Visits later turns after_it (turn vertex one.depth)
     visits =
         by_run (λ (run : Run). Visits run turns after_it (turn vertex one.depth)) end new.asked main_is sums_are
-        (subst (λ (x : ModuleVersion). Visits (run_in end new.asked) turns after_it (turn x one.depth))
-        (sym (same_module cache end one.number is.continues within))
-        (subst (λ (ts : List Turn). Visits (run_in end new.asked) ts after_it (turn (module_numbered end one.number) one.depth))
-        (turns_over (table_in cache) (table_in end) worklist state.worklist_is is.continues.numbered) is.adds.follows))
+        (rw (same_module cache end one.number is.continues within)
+        (rw⁻¹ (turns_over (table_in cache) (table_in end) worklist state.worklist_is is.continues.numbered) is.adds.follows))
 
     found_more : AreFound end later found
     found_more = record {
@@ -165,7 +163,7 @@ module _ {main : Main} {sums : Option Sums} {cache : Cache} {worklist : Worklist
             (opened_still one.number within (opened_from later vertex one.depth still_takes))
       ];
       each = λ next in_end.
-          elim (Contains-push_cases (turns_in cache) (turn vertex one.depth) next (subst (λ (ts : List Turn). Contains ts next) is.turns in_end)) [
+          elim (Contains-push_cases (turns_in cache) (turn vertex one.depth) next (rw⁻¹ is.turns in_end)) [
             | inl was ↦ (let (number, before_it, of) = state.found.each next was in (
               number,
               is.adds.finds.stay number before_it,

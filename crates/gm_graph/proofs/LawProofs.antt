@@ -5,7 +5,6 @@ use Rattle.gm_name.specs.ModuleVersion.{ModuleVersion, pair_cmp, pair_total}
 use Rattle.gm_file.specs.Main.{is_pruned_by}
 use Rattle.gm_graph_select.specs.declared.step.Step.{Step}
 use Rattle.gm_graph_select.specs.declared.step.Step.TheVariants.{Main as FromMain, Of}
-use Rattle.gm_graph_select.specs.BuildList.{IsBuildList}
 use Rattle.gm_graph_select.specs.Graph.{among, edge}
 use Rattle.gm_graph_select.specs.Private.StepOrder.{edge_total}
 use Rattle.gm_graph_select.proofs.Ascending as ascending
@@ -17,16 +16,13 @@ use Rattle.gm_graph.specs.Laws.{EarlierSayingsStay, FirstAnswersSaySomething, Is
 use Rattle.gm_graph.proofs.Sayings.{answer_stays, one_said, says_more}
 
 pub rows_are_required : RowsAreRequired
-rows_are_required run asked loaded is x right there = (lawful.row_selected run.main.path run.main.replaces (IsEdge run)
+rows_are_required run asked loaded is x right there = (lawful.row_selected _ _ (IsEdge run)
     loaded.rows is.rows x right there).is_end
 
 pub rows_satisfy : RowsSatisfyRequirements
 rows_satisfy run asked loaded is from y to other =
     let same : AreSame (among loaded.edges) (IsEdge run) = λ s z. is.edges.each (edge s z) in
-    let list : IsBuildList run.main.path run.main.replaces (among loaded.edges) loaded.rows =
-    same_build_list run.main.path run.main.replaces (IsEdge run) (among loaded.edges) loaded.rows
-    (same_back (among loaded.edges) (IsEdge run) same) is.rows in
-    lawful.rows_satisfy run.main.path run.main.replaces loaded.edges loaded.rows list y (from, (same from y).1 to) other
+    lawful.rows_satisfy _ _ loaded.edges loaded.rows (same_build_list _ _ (IsEdge run) (among loaded.edges) _ (same_back _ _ same) is.rows) y (from, (same from y).1 to) other
 
 module _ (run : Run) (unpruned : is_pruned_by run.main.go ≡ false) where
   deep_reached : {x : ModuleVersion} → IsDeep run x → IsTransitivelyRequired run x
@@ -67,7 +63,7 @@ pub one_answer : OneAnswer
 one_answer run asked a b is other = (
   ascending.same_lists faults_total a.faults b.faults is.faults.ascending other.faults.ascending (λ z. both (is.faults.each z) (other.faults.each z)),
   ascending.same_lists edge_total a.edges b.edges is.edges.ascending other.edges.ascending (λ z. both (is.edges.each z) (other.edges.each z)),
-  lawful.same_build_lists run.main.path run.main.replaces (IsEdge run) a.rows b.rows is.rows other.rows,
+  lawful.same_build_lists _ _ (IsEdge run) a.rows b.rows is.rows other.rows,
 )
 
 -- ---- what modules say

@@ -1,5 +1,5 @@
 -- The marks of vertices in a worklist.
-use Rattle.std.proofs.Common.{◌≡◌, ◌+◌, ◌<◌, ◌≤◌, ◌&&◌, ◌||◌, ◌++◌, ◌∷◌, ◌∙◌, [], ℕ, Bool, true, false, All, List, Contains, ap, ap₂, arith, inl, if◌then◌else◌, inr, length, length-append, map, refl, subst, sym}
+use Rattle.std.proofs.Common.{◌≡◌, ◌+◌, ◌<◌, ◌≤◌, ◌&&◌, ◌||◌, ◌++◌, ◌∷◌, ◌∙◌, [], ℕ, Bool, true, false, All, List, Contains, ap, ap₂, arith, inl, if◌then◌else◌, inr, length, length-append, map, refl, sym}
 use Rattle.std.specs.Prelude.{◌==◌}
 use Rattle.std.specs.List.{IsDistinct, list_any}
 use Rattle.std.specs.Cmp.{both_ways}
@@ -34,11 +34,11 @@ pub no_worklist : (modules : List ModuleVersion) (made : Worklist) → IsDistinc
     → made.marks.items ≡ [] → made.turns.items ≡ [] → made.opened ≡ 0 → IsWorklist modules made
 no_worklist modules made distinct marks turns opened = record {
   distinct = distinct;
-  turned = subst (λ (ts : List NumberedTurn). All (λ one. one.number < length modules) ts) (sym turns)
-      (All-nil (λ (one : NumberedTurn). one.number < length modules));
+  turned = rw turns
+      (All-nil _);
   marks = λ number d. ap (λ (ms : List Marks). is_marked (marks_at ms number) d) marks ∙ unmarked d ∙ sym (ap (list_any (is_turn number d)) turns);
   opened = [];
-  turns = subst (λ (ts : List Turn). AreTurnsOf [] ts) (sym (ap (map (turn_of modules)) turns)) no_turns;
+  turns = rw (ap (map (turn_of modules)) turns) no_turns;
   counted = opened;
 }
 
@@ -47,7 +47,7 @@ no_worklist modules made distinct marks turns opened = record {
 module _ (modules : List ModuleVersion) (distinct : IsDistinct pair_eq modules) (number : ℕ) (below : number < length modules) where
   same_number : (other : ℕ) → other < length modules → (number == other) ≡ pair_eq (module_at modules number) (module_at modules other)
   same_number other within = both_ways (number == other) (pair_eq (module_at modules number) (module_at modules other))
-      (λ e. subst (λ (n : ℕ). pair_eq (module_at modules number) (module_at modules n) ≡ true) ((Decides-eqb number other).0 e)
+      (λ e. rw⁻¹ ((Decides-eqb number other).0 e)
       (pairs-equivalence.refl (module_at modules number)))
       (λ e. (Decides-eqb number other).1
       (number_same modules distinct number other below within (pair-same (module_at modules number) (module_at modules other) e)))
@@ -161,8 +161,7 @@ module _ {modules : List ModuleVersion} {old : Worklist} {number : ℕ} {marks :
         → is_marked (marks_at new.marks.items q) d ≡ (list_any (is_turn q d) old.turns.items || list_any (is_turn q d) (one ∷ []))
     mark_with q d = elim (cases_eq q number) [
       | inl same ↦
-          subst (λ (n : ℕ). is_marked (marks_at new.marks.items n) d ≡ (list_any (is_turn n d) old.turns.items || list_any (is_turn n d) (one ∷ [])))
-          (sym same)
+          rw same
           (ap (λ (m : Marks). is_marked m d) put ∙ with' d ∙ ap (λ (b : Bool). same_depth d depth || b) (numbered d)
           ∙ equal_or (number == number) (same_depth d depth) (list_any (is_turn number d) old.turns.items) ((Decides-eqb number number).1 refl))
       | inr other ↦
@@ -188,10 +187,10 @@ module _ {modules : List ModuleVersion} {old : Worklist} {number : ℕ} {marks :
       ∙ map-append (turn_of modules) old.turns.items (one ∷ []) in
       record {
         distinct = is.distinct;
-        turned = subst (λ (ts : List NumberedTurn). All (λ one. one.number < length modules) ts) (sym turns)
+        turned = rw turns
             (All-push (λ (one : NumberedTurn). one.number < length modules) old.turns.items one is.turned below);
-        marks = subst (λ (ts : List NumberedTurn). AreMarks new.marks.items ts) (sym turns) (marks_with new more put others with');
+        marks = rw turns (marks_with new more put others with');
         opened = list;
-        turns = subst (λ (ts : List Turn). AreTurnsOf list ts) (sym turns') are;
+        turns = rw turns' are;
         counted = counted;
       }

@@ -1,5 +1,5 @@
 -- A worklist whose first turns are done.
-use Rattle.std.proofs.Common.{List, [], ◌∷◌, ◌++◌, Option, sym, subst, inl, inr, arith}
+use Rattle.std.proofs.Common.{List, [], ◌∷◌, ◌++◌, Option, inl, inr, arith}
 use Rattle.std.proofs.lemmas.List.Elements.{Contains-push_cases}
 use Rattle.gm_name.specs.ModuleVersion.{ModuleVersion}
 use Rattle.gm_file.specs.Main.{Main, is_pruned_by, without_excluded}
@@ -49,13 +49,13 @@ module _ {main : Main} {sums : Option Sums} (pairs longer : List (Name × Reply)
       tops = λ y t. along old new (turn y (depth_by (is_pruned_by main.go))) follows.extends (visited.first.tops y t);
       valid = λ next there. elim (follows.only next there) [
         | inl in_old ↦ IsValidTurn-kept pairs longer keeps next.vertex next.depth (visited.first.valid next in_old)
-        | inr found ↦ subst (λ (t : Turn). TakesTurn later t.vertex t.depth) (sym found.2)
+        | inr found ↦ rw found.2
             (leads_to_deep later x depth found.0 takes found.1)
       ];
     };
     done = λ next there. elim (Contains-push_cases front (turn x depth) next there) [
       | inl was ↦ done_along later old new next follows.extends (IsDone-kept pairs longer keeps old next (visited.done next was))
-      | inr same ↦ subst (λ (t : Turn). IsDone later new t) same follows.done
+      | inr same ↦ rw⁻¹ same follows.done
     ];
   }
 

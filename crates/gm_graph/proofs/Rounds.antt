@@ -1,5 +1,5 @@
 -- Turns that are all done.
-use Rattle.std.proofs.Common.{◌≡◌, ◌↔◌, ◌+◌, ◌≤◌, Bool, true, false, List, [], ◌++◌, length, Contains, map, sym, refl, subst, inl, inr, arith, length-append, Result}
+use Rattle.std.proofs.Common.{◌≡◌, ◌↔◌, ◌+◌, ◌≤◌, Bool, true, false, List, [], ◌++◌, length, Contains, map, refl, subst, inl, inr, arith, length-append, Result}
 use Rattle.std.proofs.lemmas.List.{length-map}
 use Rattle.std.proofs.lemmas.Map.Made.{length-le_from_is_member, is_member-Decides}
 use Rattle.std.proofs.lemmas.List.Elements.{Contains-append_left, Contains-append_right}
@@ -39,9 +39,9 @@ length-both_turns : (vertices : List ModuleVersion) → length (both_turns verti
 unfolding both_turns
 length-both_turns vertices = simp (length-append, length-map)
 
-pub few_turns : (vertices : List ModuleVersion) (turns : List Turn) → AreTurnsOf vertices turns
+pub few_turns : {vertices : List ModuleVersion} {turns : List Turn} → AreTurnsOf vertices turns
     → length turns ≤ 131072
-few_turns vertices turns are =
+few_turns {vertices} {turns} are =
     let most : length turns ≤ length (both_turns vertices) = length-le_from_is_member turns_equivalence turns (both_turns vertices) are.turns_once
     (λ q h. let there = (is_member-Decides same_turn-Decides turns q).0 h in
     (is_member-Decides same_turn-Decides (both_turns vertices) q).1
@@ -51,7 +51,7 @@ few_turns vertices turns are =
     omega arith
 
 pub along : (old new : List Turn) (one : Turn) → BeginsWith old new → Contains old one → Contains new one
-along old new one (more, e) h = subst (λ (t : List Turn). Contains t one) (sym e) (Contains-append_left old more one h)
+along old new one (more, e) h = rw e (Contains-append_left old more one h)
 
 pub opened_from : (run : Run) (x : ModuleVersion) (d : Depth) → TakesTurn run x d → IsOpened run x
 opened_from run x Top h = inl h.1
@@ -94,6 +94,6 @@ first_turns run turns adds = record {
   tops = adds.each;
   valid = λ one h. elim (adds.only one h) [
     | inl there ↦ absurd (omega (arith, there.1))
-    | inr found ↦ subst (λ (t : Turn). TakesTurn run t.vertex t.depth) (sym found.2) (takes_first run found.0 found.1)
+    | inr found ↦ rw found.2 (takes_first run found.0 found.1)
   ];
 }

@@ -1,13 +1,12 @@
 -- Two runs, perhaps of two main files: what modules say in the one they say in the other, and what the one opens the
 -- other opens. Runs of one main file that agree on what they open have the same edges, faults and needed files.
-use Rattle.std.proofs.Common.{◌≡◌, ◌||◌, ◌∙◌, ◌∷◌, Bool, true, false, List, [], Option, None, Some, IsSome, Result, Ok, Err, Contains, ap, refl, subst, inl, inr}
+use Rattle.std.proofs.Common.{◌≡◌, ◌||◌, ◌∙◌, ◌∷◌, Bool, true, false, List, [], Option, None, Some, IsSome, Result, Ok, Err, Contains, ap, refl, inl, inr}
 use Rattle.std.specs.Prelude.{if◌then◌else◌, is_some}
 use Rattle.std.specs.Cmp.{IsEquivalence, decided}
 use Rattle.std.specs.List.{list_any}
 use Rattle.std.proofs.lemmas.Map.Views.{list_any-from_Contains}
 use Rattle.std.proofs.lemmas.Bool.{false≢true}
 use Rattle.gm_name.specs.ModuleVersion.{ModuleVersion}
-use Rattle.gm_file.specs.Directives.{Right}
 use Rattle.gm_file.specs.Fields.{Dependency}
 use Rattle.gm_file.specs.Main.{Main, is_pruned_by, replacement_in, without_excluded}
 use Rattle.gm_store.specs.Asked.{Name, Reply, answer_in, names_in, same_name}
@@ -44,7 +43,7 @@ module _ (one other : Run) (same : ReplaceAlike one.main other.main) (alike : Sa
   right_too : (x : ModuleVersion) (file : Dependency) (b : Bool)
       → is_right_path x (replacement_in one.main x) file.declared ≡ b
       → is_right_path x (replacement_in other.main x) file.declared ≡ b
-  right_too x file b is = subst (λ (right : Option Right). is_right_path x right file.declared ≡ b) (same x) is
+  right_too x file b is = rw⁻¹ (same x) is
 
   heard_too : (x : ModuleVersion) {said : Result Dependency Class} → IsOpened other x
       → FileSays one (file_of other.main x) said → FileSays other (file_of other.main x) said
@@ -55,7 +54,7 @@ module _ (one other : Run) (same : ReplaceAlike one.main other.main) (alike : Sa
 
   file_too : (x : ModuleVersion) (said : Result Dependency Class) → IsOpened other x
       → FileSays one (file_of one.main x) said → FileSays other (file_of other.main x) said
-  file_too x said opened is = heard_too x opened (subst (λ (name : Name). FileSays one name said) (ap (file_named x) (same x)) is)
+  file_too x said opened is = heard_too x opened (rw⁻¹ (ap (file_named x) (same x)) is)
 
   pub says_too : SaysToo one other
   says_too x opened said (faulty {class} is) = faulty (file_too x (Err class) opened is)
@@ -122,14 +121,14 @@ keeps_agree one other same keeps = record { main_is = same; says = λ x opened s
 
 module _ (one other : Run) (agrees : Agrees one other) where
   unpruned_too : is_pruned_by one.main.go ≡ false → is_pruned_by other.main.go ≡ false
-  unpruned_too e = subst (λ (m : Main). is_pruned_by m.go ≡ false) agrees.main_is e
+  unpruned_too e = rw⁻¹ agrees.main_is e
 
   top : (x : ModuleVersion) → IsTop one x → IsTop other x
-  top x is = subst (λ (m : Main). Contains (without_excluded m m.requirements) x) agrees.main_is is
+  top x is = rw⁻¹ agrees.main_is is
 
   requires_too : RequiresToo one other
   requires_too x y file is be says there =
-      (agrees.says x be (Ok file) says, subst (λ (m : Main). Contains (without_excluded m file.requirements) y) agrees.main_is there)
+      (agrees.says x be (Ok file) says, rw⁻¹ agrees.main_is there)
 
   pub deep : {x : ModuleVersion} → IsDeep one x → IsDeep other x
   deep is = deep_too one other unpruned_too (λ y t. inl (top y t)) requires_too is
@@ -144,7 +143,7 @@ module _ (one other : Run) (agrees : Agrees one other) where
   fault f (is, says) = let too = opened f.vertex is in (too, agrees.says f.vertex too (Err f.class) says)
 
   pub needed : (name : Name) → IsNeeded one name → IsNeeded other name
-  needed name (x, is, named, askable) = (x, opened x is, subst (λ (m : Main). file_of m x ≡ name) agrees.main_is named, askable)
+  needed name (x, is, named, askable) = (x, opened x is, rw⁻¹ agrees.main_is named, askable)
 
   pub too_many : AreTooMany one → AreTooMany other
   too_many many = many_too one other unpruned_too (λ y t. inl (top y t)) requires_too many

@@ -1,5 +1,5 @@
 -- Vertices and turns that compare as the same are equal.
-use Rattle.std.proofs.Common.{◌≡◌, true, ap₂, refl, subst}
+use Rattle.std.proofs.Common.{◌≡◌, true, ap₂, refl}
 use Rattle.std.specs.Bool.{Decides}
 use Rattle.std.specs.Cmp.{IsEquivalence, decided}
 use Rattle.std.proofs.lemmas.Bool.{and_parts}
@@ -29,7 +29,7 @@ exact_turn a b h =
 pub same_turn-Decides : (a b : Turn) → Decides (same_turn a b) (a ≡ b)
 same_turn-Decides a b = (
   exact_turn a b,
-  λ e. subst (λ (t : Turn). same_turn a t ≡ true) e (both_true (pair-self a.vertex) (same_depth-refl a.depth)),
+  λ e. rw⁻¹ e (both_true (pair-self a.vertex) (same_depth-refl a.depth)),
 )
 
 pub turns_equivalence : IsEquivalence same_turn

@@ -1,5 +1,5 @@
 -- What modules' files say: one thing, which stays when more is asked for.
-use Rattle.std.proofs.Common.{◌≡◌, ◌↔◌, ◌∙◌, ◌++◌, ◌∷◌, [], cond, true, false, List, Option, Some, Result, Ok, Err, Contains, ap, refl, subst, sym}
+use Rattle.std.proofs.Common.{◌≡◌, ◌↔◌, ◌∙◌, ◌++◌, ◌∷◌, [], cond, true, false, List, Option, Some, Result, Ok, Err, Contains, ap, refl, sym}
 use Rattle.std.specs.Option.{option_or}
 use Rattle.std.proofs.lemmas.Bool.{false≢true}
 use Rattle.std.proofs.lemmas.Option.{same_Some}
@@ -9,7 +9,7 @@ use Rattle.gm_file.specs.Main.{Main, replacement_in, without_excluded}
 use Rattle.gm_store.specs.Asked.{Name, Reply, answer_in, same_name}
 use Rattle.gm_store_sums.specs.Sums.{Sums}
 use Rattle.gm_graph.specs.declared.cache.class.Class.{Class}
-use Rattle.gm_graph.specs.Reading.{IsFileReading, file_of, is_right_path}
+use Rattle.gm_graph.specs.Reading.{file_of, is_right_path}
 use Rattle.gm_graph.specs.Run.{FileSays, KeepsSayings, Requires, Run, Says, answered, faulty, run_of, sound, unaskable, wrong_path}
 use Rattle.gm_graph.proofs.OneReading.{one_reading}
 
@@ -22,7 +22,7 @@ one_file (unaskable e) (answered reply ask is reads) = absurd (false≢true (sym
 one_file (answered reply ask is reads) (unaskable f) = absurd (false≢true (sym f ∙ ask))
 one_file {run} {name} {a} {b} (answered reply ask is reads) (answered other may at says) =
     one_reading run.sums name reply a b reads
-    (subst (λ (r : Reply). IsFileReading run.sums name r b) (same_Some other reply (sym at ∙ is)) says)
+    (rw⁻¹ (same_Some other reply (sym at ∙ is)) says)
 
 pub same_file : (f g : Dependency) → ◌≡◌ {A = Result Dependency Class} (Ok f) (Ok g) → f ≡ g
 same_file f g e = cc e
@@ -59,7 +59,7 @@ not_both is other = absurd (cc (one_said is other))
 pub required_of : (run : Run) (x : ModuleVersion) (file : Dependency) → Says run x (Ok file)
     → (y : ModuleVersion) → Requires run x y ↔ Contains (without_excluded run.main file.requirements) y
 required_of run x file says y = (
-  (λ r. subst (λ (f : Dependency). Contains (without_excluded run.main f.requirements) y) (file_same r.1 says) r.2),
+  (λ r. rw⁻¹ (file_same r.1 says) r.2),
   (λ h. (file, says, h)),
 )
 
@@ -100,7 +100,6 @@ module _ (a b : Run) (main : b.main ≡ a.main) (keeps : KeepsSayings a b) where
   requires_before x y (Ok file) says (other, reads, there) = (
     file,
     says,
-    subst (λ (m : Main). Contains (without_excluded m file.requirements) y) main
-        (subst (λ (f : Dependency). Contains (without_excluded b.main f.requirements) y)
-        (file_same reads (keeps x (Ok file) says)) there),
+    rw⁻¹ main
+        (rw⁻¹ (file_same reads (keeps x (Ok file) says)) there),
   )

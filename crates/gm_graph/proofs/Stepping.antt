@@ -68,13 +68,12 @@ pub record IsAt (main : Main) (sums : Option Sums) (cache : Cache) (pairs : List
 -- What a cache's run is, if its main file and its go.sum are these.
 pub read_by : (main : Main) (sums : Option Sums) (cache : Cache) (pairs : List (Name × Reply)) → sums_in cache ≡ sums → Knows cache pairs
     → IsRead (run_of main sums pairs)
-read_by main sums cache pairs sums_are knows = subst (λ (s : Option Sums). IsRead (run_of main s pairs)) sums_are (answers_read cache pairs knows)
+read_by main sums cache pairs sums_are knows = rw⁻¹ sums_are (answers_read cache pairs knows)
 
 pub by_run : (P : Run → Type 0) {main : Main} {sums : Option Sums} (cache : Cache) (pairs : List (Name × Reply)) → main_in cache ≡ main
     → sums_in cache ≡ sums → P (run_in cache pairs) → P (run_of main sums pairs)
 by_run P {main} {sums} cache pairs main_is sums_are holds =
-    subst (λ (m : Main). P (run_of m sums pairs)) main_is
-    (subst (λ (s : Option Sums). P (run_of (main_in cache) s pairs)) sums_are holds)
+    rw⁻¹ main_is (rw⁻¹ sums_are holds)
 
 none_there : (cache : Cache) → turns_in cache ≡ [] → (one : Turn) → Contains (turns_in cache) one → ⊥
 none_there cache none one there = let in_none = subst (λ (ts : List Turn). Contains ts one) none there in absurd (omega (arith, in_none.1))
@@ -84,7 +83,7 @@ pub first_step : (cache : Cache) (pairs : List (Name × Reply)) (worklist : Work
     → ((number : ℕ) → WasVisited findings number → ⊥) → IsAt (main_in cache) (sums_in cache) cache pairs worklist findings 0
 first_step cache pairs worklist findings none knows lent nothing unvisited =
     let first : IsFirstWorklist (run_in cache pairs) (table_in cache) worklist =
-    subst (λ (ps : List (Name × Reply)). IsFirstWorklist (run_in cache ps) (table_in cache) worklist) (sym none) nothing in
+    rw none nothing in
     record {
       worklist_is = first.worklist_is;
       main_is = refl;
@@ -96,10 +95,10 @@ first_step cache pairs worklist findings none knows lent nothing unvisited =
     }
 
 -- All turns were visited.
-pub last_step : (main : Main) (sums : Option Sums) (cache : Cache) (pairs : List (Name × Reply)) (worklist : Worklist)
-    (findings : Findings) (at : ℕ) → IsAt main sums cache pairs worklist findings at → AreFindings cache (run_in cache pairs) findings
+pub last_step : {main : Main} {sums : Option Sums} {cache : Cache} {pairs : List (Name × Reply)} {worklist : Worklist}
+    {findings : Findings} {at : ℕ} → IsAt main sums cache pairs worklist findings at → AreFindings cache (run_in cache pairs) findings
     → length (turns_of (table_in cache) worklist) ≤ at → IsOpenedIn (run_of main sums pairs) cache worklist findings
-last_step main sums cache pairs worklist findings at is found past =
+last_step {main} {sums} {cache} {pairs} {worklist} {findings} {at} is found past =
     let run = run_of main sums pairs in
     let turns = turns_of (table_in cache) worklist in
     let of = is.worklist_is.turns in

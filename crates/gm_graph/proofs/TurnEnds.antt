@@ -1,15 +1,13 @@
 -- How the visit of one turn ends.
-use Rattle.std.proofs.Common.{◌≡◌, ◌∙◌, true, false, List, Result, Ok, Err, ap, subst, sym}
+use Rattle.std.proofs.Common.{◌≡◌, ◌∙◌, ◌<◌, true, false, List, Result, Ok, Err, ap, length, subst, sym}
 use Rattle.std.specs.Prelude.{MatchResult, OnOk, ℕ}
 use Rattle.gm_name.specs.ModuleVersion.{ModuleVersion}
-use Rattle.gm_file.specs.Main.{without_excluded}
 use Rattle.gm_store.specs.Asked.{Name, Reply}
 use Rattle.gm_store.specs.declared.files.AskFault.{AskFault}
 use Rattle.gm_graph.specs.declared.cache.Cache.{Cache}
 use Rattle.gm_graph.specs.declared.cache.class.Class.{Class}
 use Rattle.gm_graph.specs.declared.cache.depth.Depth.{Depth}
 use Rattle.gm_graph.specs.declared.cache.depth.Depth.TheVariants.{Deep}
-use Rattle.gm_graph.specs.declared.cache.depth.Turn.{Turn}
 use Rattle.gm_graph.specs.declared.cache.load_fault.LoadFault.{LoadFault}
 use Rattle.gm_graph.specs.declared.cache.visit.Required.{Required}
 use Rattle.gm_graph.specs.declared.cache.visit.Visit.{Visit}
@@ -32,8 +30,8 @@ use Rattle.gm_graph.specs.Private.Visiting.{OverflowsAt}
 use Rattle.gm_graph.specs.Private.Worklists.{IsWorklist, turns_of}
 use Rattle.gm_graph.proofs.Deepening.{faulty_stops, follows_adds, follows_nothing, stops_there}
 use Rattle.gm_graph.proofs.FollowedFiles.{followed_known, followed_more, follows_file, follows_none}
-use Rattle.gm_graph.proofs.FoundFiles.{findings_known}
-use Rattle.gm_graph.proofs.Growing.{turns_over, worklist_over}
+use Rattle.gm_graph.proofs.FoundFiles.{findings_known, same_module}
+use Rattle.gm_graph.proofs.Growing.{number_below, turns_over, worklist_over}
 use Rattle.gm_graph.proofs.Holding.{answers_read}
 use Rattle.gm_graph.proofs.Stepping.{by_run}
 
@@ -43,7 +41,7 @@ pub got : {old new : Cache} {earlier pairs : List (Name × Reply)} {number : ℕ
     → MatchResult result (λ one. HasVisited old earlier new pairs number d one) (λ fault. KeptTurns old new number fault)
     → HasVisited old earlier new pairs number d v
 got {old} {new} {earlier} {pairs} {number} {d} is same ends =
-    subst (λ (one : Visit). HasVisited old earlier new pairs number d one) same
+    rw⁻¹ same
     (subst (λ (r : Result Visit AskFault). MatchResult r (λ one. HasVisited old earlier new pairs number d one)
     (λ fault. KeptTurns old new number fault)) is ends)
 
@@ -73,17 +71,16 @@ module _ {old : Cache} {earlier : List (Name × Reply)} {worklist : Worklist} {m
       let same : turns_of (table_of required) worklist ≡ turns =
       ap (λ (ms : List ModuleVersion). turns_of ms worklist) has.visit_is.2
       ∙ turns_over (table_in old) (table_in new) worklist ready.worklist_is has.continues.numbered in
-      let holds : OverflowsAt run turns x d = (
+      by_run (λ (r : Run). OverflowsAt r turns x d) new pairs has.continues.main has.continues.sums (
         answers_read new pairs has.knows,
         (
           says.file,
           says.says,
           sym says.leads ∙ leads,
-          subst (λ (ts : List Turn). OverflowsWith ts (without_excluded run.main says.file.requirements)) same
-              (subst (λ (xs : List ModuleVersion). OverflowsWith (turns_of (table_of required) worklist) xs) says.modules over),
+          rw⁻¹ same
+              (rw⁻¹ says.modules over),
         ),
-      ) in
-      by_run (λ (r : Run). OverflowsAt r turns x d) new pairs has.continues.main has.continues.sums holds
+      )
 
 -- ---- what the visit of a turn adds
 
@@ -100,66 +97,66 @@ fault_added {cache} {run} {worklist} {one = one} {class = class} ready says foun
     }
 
 -- What a visit leads to was added to the worklist, if it leads further.
-pub record LeadsOn (run : Run) (modules : List ModuleVersion) (old new : Worklist) (before after : Followed) (x : ModuleVersion)
-    (d : Depth) (file : ℕ) (xs : List ModuleVersion) : Type 0 where
-  pub worklist_is : IsWorklist modules new
-  pub follows : Visits run (turns_of modules old) (turns_of modules new) (turn x d)
-  pub files : FollowsFile before after file (turns_of modules new) xs
+pub record LeadsOn (cache : Cache) (run : Run) (one : NumberedTurn) (required : Required) (old new : Worklist) (before after : Followed) : Type 0 where
+  pub worklist_is : IsWorklist (table_of required) new
+  pub follows : Visits run (turns_of (table_of required) old) (turns_of (table_of required) new) (turn (module_numbered cache one.number) one.depth)
+  pub files : FollowsFile before after required.file (turns_of (table_of required) new) (required_by required)
 
-module _ (cache : Cache) (run : Run) (old : Worklist) (marks : Followed) (one : NumberedTurn) (required : Required)
+module _ {cache : Cache} {run : Run} {old : Worklist} {marks : Followed} (one : NumberedTurn) (required : Required)
     (is : IsVisit cache run (module_numbered cache one.number) one.depth (visit.Required required)) where
-  abbrev x : ModuleVersion
-  x = module_numbered cache one.number
-
-  abbrev table : List ModuleVersion
-  table = table_of required
-
   -- it leads further
-  pub leads_further : (new : Worklist) (after : Followed) → required.leads ≡ true → IsWorklist table new
-      → AddsAll (turns_of table old) (turns_of table new) (required_by required) Deep → AddsFollowed marks after required.file
-      → LeadsOn run table old new marks after x one.depth required.file (required_by required)
-  leads_further new after leads made adds files =
+  pub leads_further : {new : Worklist} {after : Followed} → required.leads ≡ true → IsWorklist (table_of required) new
+      → AddsAll (turns_of (table_of required) old) (turns_of (table_of required) new) (required_by required) Deep
+      → AddsFollowed marks after required.file → LeadsOn cache run one required old new marks after
+  leads_further {after = after} leads made adds files =
       let says = is.1 in
       record {
         worklist_is = made;
-        follows = follows_adds run (turns_of table old) (turns_of table new) x one.depth says.file says.says (sym says.leads ∙ leads)
-            (subst (λ (xs : List ModuleVersion). AddsAll (turns_of table old) (turns_of table new) xs Deep) says.modules adds);
-        files = follows_file marks after required.file (turns_of table old) (turns_of table new) (required_by required) files adds;
+        follows = follows_adds run _ _ _ one.depth says.file says.says (sym says.leads ∙ leads) (rw⁻¹ says.modules adds);
+        files = follows_file marks after required.file _ _ _ files adds;
       }
 
   -- it does not
-  pub leads_nowhere : required.leads ≡ false → IsWorklist table old
-      → LeadsOn run table old old marks marks x one.depth required.file (required_by required)
+  pub leads_nowhere : required.leads ≡ false → IsWorklist (table_of required) old → LeadsOn cache run one required old old marks marks
   leads_nowhere stops made =
       let says = is.1 in
       record {
         worklist_is = made;
-        follows = follows_nothing run (turns_of table old) x one.depth (Ok says.file) says.says
-            (stops_there run x one.depth says.file says.says (sym says.leads ∙ stops));
-        files = follows_none marks required.file (turns_of table old) (required_by required);
+        follows = follows_nothing run _ _ one.depth (Ok says.file) says.says (stops_there run _ one.depth says.file says.says (sym says.leads ∙ stops));
+        files = follows_none marks required.file _ _;
       }
 
-  pub required_added : (new : Worklist) (after : Followed) (found more : Findings) → IsReady cache run old marks found
-      → LeadsOn run table old new marks after x one.depth required.file (required_by required)
-      → AreFindings cache run more → FindsOne found more one.number → AddsTurn cache run old new after found more one
-  required_added new after found more ready leads are finds = record {
+  pub required_added : {new : Worklist} {after : Followed} {found more : Findings} → IsReady cache run old marks found
+      → LeadsOn cache run one required old new marks after → AreFindings cache run more → FindsOne found more one.number
+      → AddsTurn cache run old new after found more one
+  required_added {new} {after} ready leads are finds = record {
     ready = record {
-      worklist_is = subst (λ (ms : List ModuleVersion). IsWorklist ms new) is.2 leads.worklist_is;
+      worklist_is = rw⁻¹ is.2 leads.worklist_is;
       followed = subst (λ (ms : List ModuleVersion). AreFollowedIn cache run (turns_of ms new) after) is.2
-          (followed_more cache run (turns_of table old) (turns_of table new) marks after x one.depth required is leads.follows.extends
+          (followed_more cache run _ _ marks after _ one.depth required is leads.follows.extends
           (subst (λ (ms : List ModuleVersion). AreFollowedIn cache run (turns_of ms old) marks) (sym is.2) ready.followed) leads.files);
       found = are;
     };
-    follows = subst (λ (ms : List ModuleVersion). Visits run (turns_of ms old) (turns_of ms new) (turn x one.depth)) is.2 leads.follows;
+    follows = subst (λ (ms : List ModuleVersion). Visits run (turns_of ms old) (turns_of ms new) (turn (module_numbered cache one.number) one.depth))
+        is.2 leads.follows;
     finds = finds;
   }
 
 -- So the turn was visited.
-pub turn_visited : {old new : Cache} {earlier pairs : List (Name × Reply)} (before after : Worklist) (marks : Followed)
-    (found more : Findings) {one : NumberedTurn} {seen : Visit} (result : Result (Unit {0}) LoadFault)
+pub turn_visited : {old new : Cache} {earlier pairs : List (Name × Reply)} {before : Worklist} (after : Worklist) {was : Followed} (is : Followed)
+    {found : Findings} (more : Findings) {one : NumberedTurn} {seen : Visit} (result : Result (Unit {0}) LoadFault)
+    → IsReady old (run_in old earlier) before was found → one.number < length (table_in old)
     → HasVisited old earlier new pairs one.number one.depth seen
-    → OnOk result (AddsTurn new (run_in new pairs) before after marks found more one)
-    → OnOk result (IsTurnVisited old new earlier pairs before after marks found more one)
-turn_visited before after marks found more (Err fault) has adds = tt
-turn_visited before after marks found more (Ok u) has adds =
-    record { knows = has.knows; count = has.count; continues = has.continues; turns = has.turns; adds = adds }
+    → (IsReady new (run_in new pairs) before was found → one.number < length (table_in new)
+    → IsVisit new (run_in new pairs) (module_numbered new one.number) one.depth seen
+    → OnOk result (AddsTurn new (run_in new pairs) before after is found more one))
+    → OnOk result (IsTurnVisited old new earlier pairs before after is found more one)
+turn_visited after is more (Err fault) ready below has adds = tt
+turn_visited {old} {new} {earlier} {pairs} after is more {one = one} {seen = seen} (Ok u) ready below has adds = record {
+  knows = has.knows;
+  count = has.count;
+  continues = has.continues;
+  turns = has.turns;
+  adds = adds (ready_after ready has) (number_below (table_in old) (table_in new) one.number has.continues.numbered below)
+      (subst (λ (x : ModuleVersion). IsVisit new (run_in new pairs) x one.depth seen) (same_module old new one.number has.continues below) has.visit_is);
+}

@@ -1,6 +1,5 @@
 use Rattle.std.proofs.Common.{Err, ap, arith, refl, sym}
-use Rattle.gm_graph.specs.Private.Worklists.{turns_of}
-use Rattle.gm_graph.specs.Cached.{main_in, run_in, sums_in, table_in}
+use Rattle.gm_graph.specs.Cached.{table_in}
 use Rattle.gm_graph.proofs.Dues.{refused_same}
 use Rattle.gm_graph.proofs.FoundFiles.{nothing_found, nothing_visited}
 use Rattle.gm_graph.proofs.InTurn.{asked_in_turn, in_turn_by, many_in_turn, nothing_asked, stepped}
@@ -10,19 +9,17 @@ use Rattle.gm_graph.proofs.loading.visit_all.Goals as goal
 
 pub turns-init : goal.turns-init
 turns-init g c =
-    let cache = c.args.cache.now in
-    let asked = (g.F.Asks.state c.args.files.now).asked in
     let places = c.new-findings.ensures.places in
     let faults = c.new-findings.ensures.faults in
     record {
-      state = first_step cache asked c.args.worklist.now c.new-findings.result c.requires.asked c.requires.knows c.requires.lent c.requires.first
+      state = first_step _ _ _ _ c.requires.asked c.requires.knows c.requires.lent c.requires.first
           (nothing_visited c.new-findings.result places faults);
       ready = record {
         worklist_is = c.requires.first.worklist_is;
         followed = λ file by. absurd (c.new-followed.ensures file by);
-        found = nothing_found c.new-findings.result places faults cache (run_in cache asked);
+        found = nothing_found c.new-findings.result places faults _ _;
       };
-      asks = nothing_asked (main_in cache) (sums_in cache) _ (g.F.Asks.state c.args.files.now) c.requires.asked;
+      asks = nothing_asked _ _ _ _ c.requires.asked;
       few = omega (arith, c.requires.none);
     }
 
@@ -30,7 +27,7 @@ pub turns-smaller : goal.turns-smaller
 turns-smaller g c =
     let modules = table_in c.turns.cache in
     let below = turn_below modules c.turns.worklist c.turns.at (omega arith) in
-    let few = few_turns c.turns.invariant.state.worklist_is.opened (turns_of modules c.turns.worklist) c.turns.invariant.state.worklist_is.turns in
+    let few = few_turns c.turns.invariant.state.worklist_is.turns in
     omega arith
 
 pub turns-preserved : goal.turns-preserved
@@ -47,9 +44,7 @@ turns-preserved g c =
 
 pub returns-clause-opened : goal.returns-clause-opened
 returns-clause-opened g c =
-    last_step (main_in c.args.cache.now) (sums_in c.args.cache.now) c.turns.cache (g.F.Asks.state c.turns.files).asked c.turns.worklist
-    c.turns.findings c.turns.at c.turns.invariant.state c.turns.invariant.ready.found
-    (past_all (table_in c.turns.cache) c.turns.worklist c.turns.at (omega arith))
+    last_step c.turns.invariant.state c.turns.invariant.ready.found (past_all (table_in c.turns.cache) c.turns.worklist c.turns.at (omega arith))
 
 pub returns-clause-asks : goal.returns-clause-asks
 returns-clause-asks g c = c.turns.invariant.asks
@@ -59,7 +54,7 @@ visit-requires g c =
     let modules = table_in c.turns.cache in
     let state = c.turns.invariant.state in
     let below = turn_below modules c.turns.worklist c.turns.at (omega arith) in
-    let turns = few_turns state.worklist_is.opened (turns_of modules c.turns.worklist) state.worklist_is.turns in
+    let turns = few_turns state.worklist_is.turns in
     record {
       knows = state.knows;
       ready = c.turns.invariant.ready;

@@ -1,19 +1,16 @@
-use Rattle.std.proofs.Common.{◌≡◌, Err, subst, sym}
-use Rattle.gm_name.specs.ModuleVersion.{ModuleVersion}
+use Rattle.std.proofs.Common.{◌≡◌, subst, sym}
 use Rattle.gm_graph.specs.declared.cache.load_fault.LoadFault.TheVariants as load
 use Rattle.gm_graph.specs.declared.cache.visit.Visit.{Visit}
 use Rattle.gm_graph.specs.declared.cache.visit.Visit.TheVariants as visit
 use Rattle.gm_graph.specs.Cached.{main_in, run_in, table_in}
 use Rattle.gm_graph.specs.Private.Cached.{module_numbered}
-use Rattle.gm_graph.specs.Private.CacheVisits.{IsVisit, IsRefusedVisit, LendsOver, table_of}
+use Rattle.gm_graph.specs.Private.CacheVisits.{IsRefusedVisit, LendsOver, table_of}
 use Rattle.gm_graph.specs.Reading.{file_of}
-use Rattle.gm_graph.specs.Run.{Says}
 use Rattle.gm_graph.proofs.AskedFile.{asks_by, has_some, refused_failed}
 use Rattle.gm_graph.proofs.FollowedFiles.{has_its_turns}
-use Rattle.gm_graph.proofs.FoundFiles.{same_module}
-use Rattle.gm_graph.proofs.Growing.{number_below, worklist_over}
+use Rattle.gm_graph.proofs.Growing.{worklist_over}
 use Rattle.gm_graph.proofs.Keeping.{never_many}
-use Rattle.gm_graph.proofs.TurnEnds.{got, overflows_at, ready_after, turn_visited}
+use Rattle.gm_graph.proofs.TurnEnds.{got, overflows_at, turn_visited}
 use Rattle.gm_graph.proofs.visiting.visit.Goals as goal
 
 -- ---- the vertex has no fault
@@ -32,17 +29,10 @@ add_requirements-requires g c =
 
 pub returns-in-Ok-Required-clause-visited : goal.returns-in-Ok-Required-clause-visited
 returns-in-Ok-Required-clause-visited g c =
-    let old = c.args.cache.now in
-    let end = c.visit.follows.lender-at-none in
-    let run = run_in end (g.F.Asks.state c.visit.new.files).asked in
-    let one = c.args.one in
-    let has = got c.in-Ok-Required.is c.in-Ok-Required.field-0-is c.visit.follows.holds-at-none in
-    turn_visited c.args.worklist.now c.add_requirements.new.worklist c.add_requirements.new.followed c.args.findings.now
-    c.add_requirements.new.findings c.add_requirements.result has
-    (c.add_requirements.ensures.adds end run (ready_after c.requires.ready has)
-    (number_below (table_in old) (table_in end) one.number has.continues.numbered c.requires.below)
-    (subst (λ (x : ModuleVersion). IsVisit end run x one.depth (visit.Required c.in-Ok-Required.required))
-    (same_module old end one.number has.continues c.requires.below) has.visit_is))
+    turn_visited c.add_requirements.new.worklist c.add_requirements.new.followed c.add_requirements.new.findings c.add_requirements.result
+    c.requires.ready c.requires.below
+    (got c.in-Ok-Required.is c.in-Ok-Required.field-0-is c.visit.follows.holds-at-none)
+    (λ ready below is. c.add_requirements.ensures.adds _ _ ready below is)
 
 pub returns-in-Ok-Required-clause-too_many : goal.returns-in-Ok-Required-clause-too_many
 returns-in-Ok-Required-clause-too_many g c = λ e.
@@ -57,15 +47,9 @@ returns-in-Ok-Required-clause-asks g c = asks_by (sym c.add_requirements.ensures
 
 pub returns-in-Ok-Fault-clause-visited : goal.returns-in-Ok-Fault-clause-visited
 returns-in-Ok-Fault-clause-visited g c =
-    let old = c.args.cache.now in
-    let end = c.visit.follows.lender-at-none in
-    let run = run_in end (g.F.Asks.state c.visit.new.files).asked in
-    let one = c.args.one in
-    let has = got c.in-Ok-Fault.is c.in-Ok-Fault.field-0-is c.visit.follows.holds-at-none in
-    turn_visited c.args.worklist.now c.args.worklist.now c.args.followed.now c.args.findings.now c.add_fault.new.findings c.add_fault.result has
-    (c.add_fault.ensures.adds end run c.args.worklist.now c.args.followed.now (ready_after c.requires.ready has)
-    (number_below (table_in old) (table_in end) one.number has.continues.numbered c.requires.below)
-    (subst (λ (x : ModuleVersion). Says run x (Err c.in-Ok-Fault.class)) (same_module old end one.number has.continues c.requires.below) has.visit_is))
+    turn_visited c.args.worklist.now c.args.followed.now c.add_fault.new.findings c.add_fault.result c.requires.ready c.requires.below
+    (got c.in-Ok-Fault.is c.in-Ok-Fault.field-0-is c.visit.follows.holds-at-none)
+    (λ ready below says. c.add_fault.ensures.adds _ _ _ _ ready below says)
 
 pub returns-in-Ok-Fault-clause-too_many : goal.returns-in-Ok-Fault-clause-too_many
 returns-in-Ok-Fault-clause-too_many g c = λ e. absurd (c.add_fault.ensures.not_too_many e)

@@ -1,8 +1,6 @@
-use Rattle.std.proofs.Common.{[], Err, List, append-nil, ap, arith, inl, subst, sym}
-use Rattle.gm_name.specs.ModuleVersion.{ModuleVersion}
+use Rattle.std.proofs.Common.{[], Err, List, append-nil, ap, arith, inl, sym}
 use Rattle.gm_graph.specs.Private.Held.{lent_table}
-use Rattle.gm_graph.specs.Private.Worklists.{turns_of}
-use Rattle.gm_graph.specs.Private.Turns.{AddsAll, OverflowsWith}
+use Rattle.gm_graph.specs.Private.Turns.{AddsAll}
 use Rattle.gm_graph.specs.declared.cache.depth.Depth.{Depth}
 use Rattle.gm_graph.specs.declared.cache.depth.Turn.{Turn}
 use Rattle.gm_graph.proofs.AddingAll.{adds_number, overflow_at}
@@ -19,33 +17,28 @@ adds_none turns d = record {
 pub loop-number-init : goal.loop-number-init
 loop-number-init c = record {
   worklist = c.requires;
-  adds = adds_none (turns_of (lent_table c.args.list) c.args.self.now) c.args.depth;
+  adds = adds_none _ _;
 }
 
 pub loop-number-preserved : goal.loop-number-preserved
 loop-number-preserved c =
     let modules = lent_table c.args.list in
-    let old = c.args.self.now in
-    let mid = c.loop-number.self in
-    let new = c.add.new.self in
     let held = c.loop-number.invariant in
     let added = c.in_ok-add.ensures in
     let below = c.numbers-number-items.ensures.below c.loop-number.number-index 0 (omega arith) in
     record {
       worklist = added.worklist modules held.worklist below;
-      adds = adds_number modules (turns_of modules old) (turns_of modules mid) (turns_of modules new)
-          c.numbers-number-items.result.now c.loop-number.number-index c.args.depth (omega arith) held.adds
+      adds = adds_number modules _ _ _ c.numbers-number-items.result.now c.loop-number.number-index c.args.depth (omega arith) held.adds
           (added.adds modules held.worklist below);
     }
 
 pub returns-in_err-add-clause-too_many : goal.returns-in_err-add-clause-too_many
 returns-in_err-add-clause-too_many c = λ e.
     let modules = lent_table c.args.list in
-    let old = turns_of modules c.args.self.now in
     let held = c.loop-number.invariant in
     let below = c.numbers-number-items.ensures.below c.loop-number.number-index 0 (omega arith) in
     let many = ap Err (sym (rw e at c.from_residual.ensures.1)) in
-    subst (λ (xs : List ModuleVersion). OverflowsWith old xs) c.numbers-number-items.ensures.modules
-    (overflow_at modules old (turns_of modules c.loop-number.self) c.numbers-number-items.result.now
+    rw⁻¹ c.numbers-number-items.ensures.modules
+    (overflow_at modules _ _ c.numbers-number-items.result.now
     c.loop-number.number-index c.args.depth (omega arith) held.adds
     (c.in_err-add.ensures.too_many many modules held.worklist below))
