@@ -1,5 +1,5 @@
 -- The places of files: of their names, and noted for the numbers of modules.
-use Rattle.std.proofs.Common.{◌≡◌, ◌∙◌, ℕ, List, [], Option, Some, None, ap, ap₂, refl, subst, sym}
+use Rattle.std.proofs.Common.{◌≡◌, ◌∙◌, ℕ, List, [], Option, Some, None, ap, ap₂, refl, sym}
 use Rattle.std.specs.Option.{IsSome, option_and_then, option_or}
 use Rattle.std.specs.Prelude.{slice_get}
 use Rattle.std.proofs.lemmas.Option.{slice_get-get_or}
@@ -20,11 +20,8 @@ use Rattle.gm_graph.proofs.NumberedModules.{number_same}
 
 module _ (main : Main) (modules : List ModuleVersion) (files : FileTable) (notes : NotesFiles main modules files) where
   own_file : (x : ModuleVersion) → replacing_place files (file_of main x) ≡ None → file_of main x ≡ mod_file x.0 x.1
-  own_file x none = by (replacement_in main x) never
+  own_file x none = by (replacement_in main x) (λ some. let there = rw none at (notes.has_replacing x some) in cc)
     where
-      never : IsSome (replacement_in main x) → ⊥
-      never some = let there = subst (λ (o : Option OptionalPlace). IsSome o) none (notes.has_replacing x some) in cc
-
       by : (o : Option Right) → (IsSome o → ⊥) → file_named x o ≡ mod_file x.0 x.1
       by None never = refl
       by (Some right) never = absurd (never refl)

@@ -1,23 +1,20 @@
 -- The calls of a cache that name modules and files.
-use Rattle.std.proofs.Common.{◌≡◌, ◌∙◌, ◌∷◌, [], ℕ, refl, List, Option, None, Some, Result, Ok, Err, ap, subst, sym}
+use Rattle.std.proofs.Common.{◌≡◌, ◌∙◌, ◌∷◌, [], ℕ, refl, List, Option, None, Some, Result, Ok, Err, ap, sym}
 use Rattle.std.specs.Prelude.{MatchResult}
 use Rattle.std.specs.Option.{option_and_then, option_map}
 use Rattle.gm_name.specs.ModuleVersion.{ModuleVersion}
-use Rattle.gm_name_table.specs.Listed.{NumberedList, modules_of}
+use Rattle.gm_name_table.specs.Listed.{modules_of}
 use Rattle.gm_store.specs.Asked.{Name, Reply}
 use Rattle.gm_graph.specs.declared.cache.Cache.{Cache}
 use Rattle.gm_graph.specs.declared.cache.by_name.Known.{Known}
 use Rattle.gm_graph.specs.declared.cache.by_name.Known.TheVariants as known
 use Rattle.gm_graph.specs.declared.cache.depth.Turn.{Turn}
-use Rattle.gm_graph.specs.declared.cache.file_table.FileTable.{FileTable}
-use Rattle.gm_graph.specs.Held.{HoldsAnswers}
 use Rattle.gm_graph.specs.Cached.{HasMoreTurns, HasSoundFile, IsKnownAs, IsLenderNamed, IsSound, Knows, KnowsLender, file_known, held_of, main_in, run_in, summary_at}
 use Rattle.gm_graph.specs.Private.Cached.{kept_file}
 use Rattle.gm_graph.specs.declared.cache.summary.Kept.{Kept}
 use Rattle.gm_graph.specs.declared.cache.summary.Kept.TheVariants.{Valid, Faulty}
 use Rattle.gm_graph.specs.Private.FileTable.{IsPlaceOf}
 use Rattle.gm_graph.specs.Run.{Run}
-use Rattle.gm_graph.specs.Reading.{file_of}
 use Rattle.gm_graph.specs.Summaries.{listed_span, summary_reading}
 use Rattle.gm_graph.specs.Private.Summaries.{list_place}
 use Rattle.gm_graph.proofs.SharedLists.{list_owned}
@@ -31,23 +28,18 @@ module _ (cache : Cache) (pairs : List (Name × Reply)) (x : ModuleVersion) (nam
   -- Something is kept of the file.
   pub named_kept : summary_at cache name ≡ None → ⊥
   named_kept none =
-      let held : held_of cache (file_of (main_in cache) x) ≡ Some (Ok is.file) = held_sound cache pairs knows x is.file is.says in
-      let empty : held_of cache name ≡ None = ap (option_map (summary_reading (modules_of cache.modules))) none in
-      let here : held_of cache name ≡ Some (Ok is.file) = ap (held_of cache) is.name_is ∙ held in
-      cc (sym empty ∙ here)
+      let held : held_of cache name ≡ Some (Ok is.file) = rw is.name_is (held_sound cache pairs knows x is.file is.says) in
+      cc (rw none at held)
 
   -- The place of the file that has its list is where the vertex's requirements are.
   pub lender_named : (place : ℕ) → IsPlaceOf cache.files name (Some place)
       → IsSound cache (run_in cache pairs) x (list_place cache.files.files.items place)
-  lender_named place at = by (kept_file cache place) refl (ap (option_map (summary_reading (modules_of cache.modules))) (at.1 ∙ ap (summary_at cache) is.name_is)
-      ∙ held_sound cache pairs knows x is.file is.says)
+  lender_named place at = by (kept_file cache place) refl (rw at.1 (rw is.name_is (held_sound cache pairs knows x is.file is.says)))
     where
-      by : (o : Option Kept) → kept_file cache place ≡ o
-          → option_map (summary_reading (modules_of cache.modules)) (kept_file cache place) ≡ Some (Ok is.file)
+      by : (o : Option Kept) → kept_file cache place ≡ o → option_map (summary_reading (modules_of cache.modules)) o ≡ Some (Ok is.file)
           → IsSound cache (run_in cache pairs) x (list_place cache.files.files.items place)
-      by None here held = absurd (cc (sym (ap (option_map (summary_reading (modules_of cache.modules))) here) ∙ held))
-      by (Some (Faulty class)) here held =
-          absurd (cc (sym (ap (option_map (summary_reading (modules_of cache.modules))) here) ∙ held))
+      by None here held = absurd (cc held)
+      by (Some (Faulty class)) here held = absurd (cc held)
       by (Some (Valid summary)) here held =
           let owned = list_owned (main_in cache) (modules_of cache.modules) cache.files.files.items place summary cache.listed here in
           record {
@@ -59,17 +51,6 @@ module _ (cache : Cache) (pairs : List (Name × Reply)) (x : ModuleVersion) (nam
             says = is.says;
           }
 
--- The name that was given.
-pub name_here : {A : Type 0} (f : A → Name) (run : Run) (x : ModuleVersion) (o : Option A) (a : A) → o ≡ Some a
-    → IsLenderNamed run x (option_map f o) → HasSoundFile run x (f a)
-name_here f run x None a e named = absurd (cc e)
-name_here f run x (Some b) a e named = let same : b ≡ a = cc e in subst (λ v. HasSoundFile run x (f v)) same named
-
--- No name was given.
-pub no_name : {A : Type 0} (f : A → Name) (run : Run) (x : ModuleVersion) (o : Option A) → o ≡ None → IsLenderNamed run x (option_map f o)
-    → IsLenderNamed run x None
-no_name f run x o e named = subst (λ v. IsLenderNamed run x (option_map f v)) e named
-
 -- What is known of a vertex gives the name.
 pub named_known : (run : Run) (x : ModuleVersion) (found : Known) → IsKnownAs run x found → IsLenderNamed run x (file_known found)
 named_known run x (known.Fault class) is = (class, is)
@@ -77,18 +58,14 @@ named_known run x (known.Sound name) is = is
 
 -- ---- what stays
 
-lender_by : (old new : Cache) (more : List Turn) (x : ModuleVersion) (name : Option Name) → HasMoreTurns old new more → KnowsLender old x name
+lender_by : {old new : Cache} {more : List Turn} (x : ModuleVersion) (name : Option Name) → HasMoreTurns old new more → KnowsLender old x name
     → KnowsLender new x name
-lender_by old new more x name has lender pairs knows =
+lender_by {old} {new} x name has lender pairs knows =
     let run : run_in new pairs ≡ run_in old pairs = same_run old new pairs has.holds.main has.holds.sums in
-    let before : Knows old pairs =
-    subst (λ (files : FileTable). HoldsAnswers (run_in old pairs) old.modules files) has.files
-    (subst (λ (list : NumberedList). HoldsAnswers (run_in old pairs) list new.files) has.modules
-    (subst (λ (r : Run). HoldsAnswers r new.modules new.files) run knows)) in
-    subst (λ (r : Run). IsLenderNamed r x name) (sym run) (lender pairs before)
+    rw run (lender pairs (rw has.files at (rw has.modules at (rw run at knows))))
 
 -- What is named is named still after requirements were lent, or refused.
 pub lender_still : {T E : Type 0} (result : Result T E) (old new : Cache) (one : Turn) (x : ModuleVersion) (name : Option Name)
     → MatchResult result (λ _. HasMoreTurns old new (one ∷ [])) (λ _. HasMoreTurns old new []) → KnowsLender old x name → KnowsLender new x name
-lender_still (Ok lent) old new one x name has lender = lender_by old new (one ∷ []) x name has lender
-lender_still (Err fault) old new one x name has lender = lender_by old new [] x name has lender
+lender_still (Ok lent) old new one x name has lender = lender_by x name has lender
+lender_still (Err fault) old new one x name has lender = lender_by x name has lender

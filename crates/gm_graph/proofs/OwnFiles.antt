@@ -1,8 +1,8 @@
 -- The files of modules in a cache, and what was added of them.
-use Rattle.std.proofs.Common.{◌≡◌, ◌∙◌, ◌<◌, ◌∷◌, [], ℕ, List, zero, suc, arith, cond, true, Bool, Option, None, Some, Result, Ok, Err, ap, ap₂, length, refl, sym}
+use Rattle.std.proofs.Common.{◌≡◌, ◌∙◌, ◌<◌, ◌∷◌, [], ℕ, arith, true, Option, None, Some, Result, Ok, Err, ap, inl, inr, length, refl, sym}
 use Rattle.std.specs.Prelude.{IfOk, OnErr, OnOk, slice_get}
-use Rattle.std.specs.Option.{option_and_then, option_or}
-use Rattle.std.proofs.lemmas.Option.{slice_get_within}
+use Rattle.std.specs.Option.{option_and_then}
+use Rattle.std.proofs.lemmas.Option.{slice_get_cases, slice_get_within}
 use Rattle.std.specs.List.{IsDistinct}
 use Rattle.gm_name.specs.ModuleVersion.{ModuleVersion, pair_eq}
 use Rattle.gm_name_table.specs.OptionalPlaces.{place_in}
@@ -15,16 +15,10 @@ use Rattle.gm_graph.specs.declared.cache.Cache.{Cache}
 use Rattle.gm_graph.specs.Cached.{main_in, summary_at, table_in}
 use Rattle.gm_graph.specs.Private.Cached.{HasFileAt, kept_file, module_numbered}
 use Rattle.gm_graph.specs.FileTable.{kept_at, place_of}
-use Rattle.gm_graph.specs.Private.FileTable.{PutsFile, IsFileOf, IsNewFile, IsPlacedAt, KeepsNoted, KeepsOthers, NotesFiles, NotesFor, noted_for, replacing_place}
+use Rattle.gm_graph.specs.Private.FileTable.{PutsFile, IsNewFile, IsPlacedAt, KeepsNoted, KeepsOthers, NotesFiles, NotesFor, noted_for, replacing_place}
 use Rattle.gm_graph.specs.Reading.{file_of, is_askable}
 use Rattle.gm_graph.proofs.FilePlaces.{place_by}
 use Rattle.gm_graph.proofs.PuttingPlaces.{notes_again, notes_kept}
-
--- The file of a module, in a cache.
-pub is_file_of : (cache : Cache) (number : ℕ) (name : Name) → IsDistinct pair_eq (table_in cache)
-    → number < length (table_in cache) → name ≡ file_of (main_in cache) (module_numbered cache number)
-    → IsFileOf (main_in cache) (table_in cache) cache.files number name
-is_file_of cache number name distinct within named = record { distinct = distinct; within = within; named = named; notes = cache.notes }
 
 -- Nothing is kept of a module's file if no place is noted for the module, and none for a replacement's file with that name.
 pub nothing_kept : (cache : Cache) (number : ℕ) (name : Name) (x : ModuleVersion) → IsDistinct pair_eq (table_in cache)
@@ -32,15 +26,8 @@ pub nothing_kept : (cache : Cache) (number : ℕ) (name : Name) (x : ModuleVersi
     → noted_for cache.files number ≡ None → option_and_then place_in (replacing_place cache.files name) ≡ None
     → summary_at cache name ≡ None
 nothing_kept cache number name x distinct within named is nowhere none =
-    ap (option_and_then (slice_get cache.files.files.items))
-    (place_by (main_in cache) (table_in cache) cache.files number name
-    (is_file_of cache number name distinct within (named ∙ ap (file_of (main_in cache)) is))
-    ∙ ap₂ (λ (o p : Option ℕ). option_or o p) nowhere none)
-
-file_there : (files : List Kept) (place : ℕ) → place < length files → (one : Kept) × (slice_get files place ≡ Some one)
-file_there [] place within = absurd (omega arith)
-file_there (file ∷ files) zero within = (file, refl)
-file_there (file ∷ files) (suc place) within = file_there files place (omega arith)
+    rw (place_by (main_in cache) (table_in cache) cache.files number name
+    (record { distinct = distinct; within = within; named = named ∙ ap (file_of (main_in cache)) is; notes = cache.notes })) (rw nowhere (rw none refl))
 
 -- The name of a module's file, of which nothing was kept.
 pub new_file : (cache : Cache) (number : ℕ) (name : Name) → number < length (table_in cache)
@@ -52,13 +39,14 @@ new_file cache number name within named askable none =
     by : (o : Option ℕ) → ((place : ℕ) → o ≡ Some place → place < length cache.files.files.items)
         → option_and_then (slice_get cache.files.files.items) o ≡ None → o ≡ None
     by None within none = refl
-    by (Some place) within none =
-        let there = file_there cache.files.files.items place (within place refl) in
-        absurd (cc (sym none ∙ there.1))
+    by (Some place) within none = elim (slice_get_cases cache.files.files.items place).1 [
+      | inl there ↦ absurd (cc (sym none ∙ there.2))
+      | inr past ↦ (let below = within place refl in absurd (omega (arith, below, past.0)))
+    ]
 
 -- What was added is kept of its file.
 pub added_there : (old new : FileTable) (name : Name) (one : Kept) → PutsFile old new name one → kept_at new name ≡ Some one
-added_there old new name one adds = adds name ∙ ap (λ (b : Bool). cond b (Some one) (kept_at old name)) (name_itself name)
+added_there old new name one adds = adds name ∙ rw (name_itself name) refl
 
 -- A vertex's file is at its place.
 pub has_placed : (cache : Cache) (x : ModuleVersion) (place : ℕ) → IsPlacedAt (main_in cache) cache.files x place → HasFileAt cache x place
@@ -71,7 +59,7 @@ has_placed cache x place is = record {
 -- So it is at the place that is noted for its number.
 pub has_noted : (cache : Cache) (number place : ℕ) → noted_for cache.files number ≡ Some place
     → HasFileAt cache (module_numbered cache number) place
-has_noted cache number place noted = has_placed cache (module_numbered cache number) place (cache.notes.modules_noted number place noted)
+has_noted cache number place noted = has_placed cache _ place (cache.notes.modules_noted number place noted)
 
 -- What is kept under a vertex's file name at a place.
 pub has_file : (cache : Cache) (x : ModuleVersion) (name : Name) (one : Kept) (place : ℕ)
@@ -91,11 +79,6 @@ if_ok_both (Err e) f p q = tt
 
 -- ---- the place of a replacement's file is noted for a module
 
--- What follows both if a call succeeds and if it is refused.
-on_either : {T E P Q R : Type 0} (r : Result T E) → (P → R) → (Q → R) → OnOk r P → OnErr r Q → R
-on_either (Ok t) f g p q = f p
-on_either (Err e) f g p q = g q
-
 -- The place of a file that is noted for a replacement is that of its name.
 pub replacing_at : (cache : Cache) (name : Name) (place : ℕ) → option_and_then place_in (replacing_place cache.files name) ≡ Some place
     → place_of cache.files name ≡ Some place
@@ -109,7 +92,5 @@ replacing_at cache name place at = by (replacing_place cache.files name) refl at
 pub noted_again : {T E : Type 0} (cache : Cache) (new : FileTable) (number place : ℕ) (r : Result T E)
     → IsPlacedAt (main_in cache) cache.files (module_numbered cache number) place → KeepsOthers cache.files new
     → OnOk r (NotesFor cache.files new number place) → OnErr r (KeepsNoted cache.files new) → NotesFiles (main_in cache) (table_in cache) new
-noted_again cache new number place r is others ok err = on_either r
-    (λ notes. notes_again (main_in cache) (table_in cache) cache.files new others number place notes is cache.notes)
-    (λ noted. notes_kept (main_in cache) (table_in cache) cache.files new others noted cache.notes)
-    ok err
+noted_again cache new number place (Ok t) is others ok err = notes_again others number place ok is cache.notes
+noted_again cache new number place (Err e) is others ok err = notes_kept others err cache.notes

@@ -1,17 +1,18 @@
 -- What changes of the places of files, and of what is kept, if a place is noted.
-use Rattle.std.proofs.Common.{◌≡◌, ◌∙◌, ◌⊎◌, ◌<◌, ◌≤◌, ℕ, zero, suc, Bool, true, false, cond, List, [], ◌∷◌, ◌++◌, Option, Some, None, length, nat_eq, get_or, ap, ap₂, arith, inl, inr, refl, subst, sym}
+use Rattle.std.proofs.Common.{◌≡◌, ◌∙◌, ◌⊎◌, ◌<◌, ◌≤◌, ℕ, zero, suc, Bool, true, false, cond, List, [], ◌∷◌, ◌++◌, Option, Some, None, length, get_or, ap, arith, inl, inr, refl, sym}
 use Rattle.std.specs.Map.{lookup, set_value}
 use Rattle.std.specs.Option.{IsSome, option_and_then, option_map}
 use Rattle.std.specs.Ordering.{is_eq}
 use Rattle.std.specs.Prelude.{slice_get}
-use Rattle.std.proofs.lemmas.Bool.{cases_Bool, cond-false, cond-true}
+use Rattle.std.proofs.lemmas.Bool.{cases_Bool}
 use Rattle.std.proofs.lemmas.Bool.Decides.{Decides-eqb, eqb_tells}
 use Rattle.std.proofs.lemmas.Option.{same_Some}
 use Rattle.gm_name.specs.ModuleVersion.{ModuleVersion, module_at}
 use Rattle.gm_name_table.specs.OptionalPlaces.{no_place, place_in}
 use Rattle.gm_name_table.specs.declared.place.OptionalPlace.{OptionalPlace}
 use Rattle.gm_name_table.specs.Listed.{BeginsWith}
-use Rattle.gm_store.proofs.NameOrder.{names_equal, same_from_equal, same_name_from_cmp}
+use Rattle.gm_name_table.proofs.Buckets.{before, last as last_one}
+use Rattle.gm_store.proofs.NameOrder.{name_itself, names_equal, same_name_from_cmp}
 use Rattle.gm_store.specs.Asked.{Name, name_of, same_name}
 use Rattle.gm_store.specs.contracts.files.FileNameOrd.TheImpl.{cmp-value}
 use Rattle.gm_store.specs.declared.files.FileName.{FileName}
@@ -20,23 +21,19 @@ use Rattle.gm_graph.specs.declared.cache.file_table.FileTable.{FileTable}
 use Rattle.gm_graph.specs.declared.cache.summary.Kept.{Kept}
 use Rattle.gm_graph.specs.FileTable.{place_of}
 use Rattle.gm_graph.specs.Private.FileTable.{IsNewFile, IsPlacedAt, KeepsFiles, KeepsNoted, KeepsOthers, NotesFiles, NotesFor, PutsFile, PutsReplacing, noted_for, replacing_place}
-use Rattle.gm_graph.specs.Places.{place_among}
 use Rattle.gm_graph.specs.Private.Places.{AreWithin}
 use Rattle.gm_file.specs.Main.{Main}
-use Rattle.gm_graph.specs.Reading.{file_of, is_askable}
+use Rattle.gm_graph.specs.Reading.{file_of}
 
 -- ---- a place is noted for one number
 
 module _ (old new : FileTable) (number place : ℕ) (notes : NotesFor old new number place) where
-  noted_here : noted_for new number ≡ Some place
-  noted_here = notes number ∙ cond-true (nat_eq number number) (Some place) (noted_for old number) ((Decides-eqb number number).1 refl)
-
   -- What is noted for a number is this place, or what was noted.
   noted_cases : (k : ℕ) → ((number ≡ k) × (noted_for new k ≡ Some place)) ⊎ (noted_for new k ≡ noted_for old k)
-  noted_cases k = elim (eqb_tells number k) [
-    | inl here ↦ inl (here.1, notes k ∙ cond-true (nat_eq number k) (Some place) (noted_for old k) here.0)
-    | inr other ↦ inr (notes k ∙ cond-false (nat_eq number k) (Some place) (noted_for old k) other.0)
-  ]
+  noted_cases k = rw (notes k) (elim (eqb_tells number k) [
+    | inl here ↦ inl (here.1, rw here.0 refl)
+    | inr other ↦ inr (rw other.0 refl)
+  ])
 
   -- What is not noted was not.
   noted_before : (k : ℕ) → noted_for new k ≡ None → noted_for old k ≡ None
@@ -51,7 +48,7 @@ pub place_put : (old new : FileTable) (name : Name) (place : ℕ) (put : Optiona
     → new.names.items ≡ (name, put) ∷ old.names.items
     → (other : Name) → place_of new other ≡ cond (same_name other name) (Some place) (place_of old other)
 place_put old new name place put at names other =
-    ap (λ (entries : List (Name × OptionalPlace)). place_among entries other) names ∙ by (same_name other name)
+    rw names (by (same_name other name))
   where
     by : (b : Bool) → option_and_then place_in (cond b (Some put) (lookup (same_name other) old.names.items)) ≡ cond b (Some place) (place_of old other)
     by true = at
@@ -70,89 +67,68 @@ some_put b None put some = absurd (cc some)
 some_put true (Some place) put some = refl
 some_put false (Some place) put some = refl
 
-is_put : (r : Option OptionalPlace) (put held : OptionalPlace) → option_map (λ (_ : OptionalPlace). put) r ≡ Some held → put ≡ held
-is_put None put held e = absurd (cc e)
-is_put (Some place) put held e = same_Some put held e
+is_put : (r : Option OptionalPlace) {put held : OptionalPlace} → option_map (λ (_ : OptionalPlace). put) r ≡ Some held → put ≡ held
+is_put None e = absurd (cc e)
+is_put (Some place) e = same_Some _ _ e
 
-module _ (main : Main) (modules : List ModuleVersion) (old new : FileTable) (number : ℕ) (name : Name) (place : ℕ) (put : OptionalPlace)
+module _ {main : Main} {modules : List ModuleVersion} {old : FileTable} (new : FileTable) {number : ℕ} {name : Name} (place : ℕ) (put : OptionalPlace)
     (is : IsNewFile main modules old number name) (notes : NotesFor old new number place) (puts : PutsReplacing old new name put)
     (at : place_in put ≡ Some place) (names : new.names.items ≡ (name, put) ∷ old.names.items) where
   placed : (other : Name) → place_of new other ≡ cond (same_name other name) (Some place) (place_of old other)
   placed = place_put old new name place put at names
 
-  placed_here : (other : Name) → same_name other name ≡ true → place_of new other ≡ Some place
-  placed_here other same = placed other ∙ cond-true (same_name other name) (Some place) (place_of old other) same
-
-  placed_there : (other : Name) → same_name other name ≡ false → place_of new other ≡ place_of old other
-  placed_there other apart = placed other ∙ cond-false (same_name other name) (Some place) (place_of old other) apart
-
-  replacing_here : (other : Name) → same_name other name ≡ true → replacing_place new other ≡ option_map (λ _. put) (replacing_place old other)
-  replacing_here other same =
-      puts other ∙ cond-true (same_name other name) (option_map (λ _. put) (replacing_place old other)) (replacing_place old other) same
-
-  replacing_there : (other : Name) → same_name other name ≡ false → replacing_place new other ≡ replacing_place old other
-  replacing_there other apart =
-      puts other ∙ cond-false (same_name other name) (option_map (λ _. put) (replacing_place old other)) (replacing_place old other) apart
+  -- It is this name, or nothing changes for the other one.
+  put_cases : (other : Name)
+      → ((other ≡ name) × (place_of new other ≡ Some place) × (replacing_place new other ≡ option_map (λ _. put) (replacing_place old other)))
+      ⊎ ((place_of new other ≡ place_of old other) × (replacing_place new other ≡ replacing_place old other))
+  put_cases other = elim (cases_Bool (same_name other name)) [
+    | inl same ↦ inl (names_equal other name same, placed other ∙ rw same refl, puts other ∙ rw same refl)
+    | inr apart ↦ inr (placed other ∙ rw apart refl, puts other ∙ rw apart refl)
+  ]
 
   -- Each place that is noted is that of the file, and each place is noted.
   pub notes_put : NotesFiles main modules old → NotesFiles main modules new
   notes_put were = record {
-    has_replacing = λ x some.
-        subst (λ (r : Option OptionalPlace). IsSome r) (sym (puts (file_of main x)))
-        (some_put (same_name (file_of main x) name) (replacing_place old (file_of main x)) put (were.has_replacing x some));
+    has_replacing = λ x some. rw (puts (file_of main x)) (some_put _ _ put (were.has_replacing x some));
     modules_noted = λ k there e. elim (noted_cases old new number place notes k) [
-      | inl here ↦ subst (λ (n : ℕ). IsPlacedAt main new (module_at modules n) there) here.0 record {
-        placed = placed_here (file_of main (module_at modules number)) (same_from_equal (file_of main (module_at modules number)) name (sym is.named))
-            ∙ sym here.1 ∙ e;
-        askable = ap is_askable (sym is.named) ∙ is.askable;
-      }
+      | inl here ↦ rw (sym here.0) (record {
+        placed = rw (sym is.named) (placed name ∙ rw (name_itself name) (sym here.1 ∙ e));
+        askable = rw (sym is.named) is.askable;
+      })
       | inr same ↦ (let one = were.modules_noted k there (sym same ∙ e) in record {
-        placed = stays (file_of main (module_at modules k)) there one.placed;
+        placed = elim (put_cases (file_of main (module_at modules k))) [
+          | inl here ↦ absurd (cc (sym is.none ∙ ap (place_of old) (sym here.0) ∙ one.placed))
+          | inr stays ↦ stays.0 ∙ one.placed
+        ];
         askable = one.askable;
       })
     ];
-    replacing_noted = λ other held e. elim (cases_Bool (same_name other name)) [
-      | inl same ↦
-          (let here = is_put (replacing_place old other) put held (sym (replacing_here other same) ∙ e) in
-          ap place_in (sym here) ∙ at ∙ sym (placed_here other same))
-      | inr apart ↦ were.replacing_noted other held (sym (replacing_there other apart) ∙ e) ∙ sym (placed_there other apart)
+    replacing_noted = λ other held e. elim (put_cases other) [
+      | inl here ↦ ap place_in (sym (is_put _ (sym here.2 ∙ e))) ∙ at ∙ sym here.1
+      | inr stays ↦ were.replacing_noted other held (sym stays.1 ∙ e) ∙ sym stays.0
     ];
-    others_noted = λ other unnoted none. elim (cases_Bool (same_name other name)) [
-      | inl same ↦ absurd (cc (sym (noted_here old new number place notes) ∙ unnoted number is.within (names_equal other name same ∙ is.named)))
-      | inr apart ↦
-          placed_there other apart
-          ∙ were.others_noted other (λ k below named. noted_before old new number place notes k (unnoted k below named))
-          (sym (replacing_there other apart) ∙ none)
+    others_noted = λ other unnoted none. elim (put_cases other) [
+      | inl here ↦ (
+          let noted : noted_for new number ≡ Some place = notes number ∙ rw ((Decides-eqb number number).1 refl) refl in
+          absurd (cc (sym noted ∙ unnoted number is.within (here.0 ∙ is.named))))
+      | inr stays ↦ stays.0 ∙ were.others_noted other (λ k below named. noted_before old new number place notes k (unnoted k below named)) (sym stays.1 ∙ none)
     ];
   }
-    where
-      stays : (other : Name) (there : ℕ) → place_of old other ≡ Some there → place_of new other ≡ Some there
-      stays other there was = elim (cases_Bool (same_name other name)) [
-        | inl same ↦ absurd (cc (sym is.none ∙ ap (place_of old) (sym (names_equal other name same)) ∙ was))
-        | inr apart ↦ placed_there other apart ∙ was
-      ]
 
 -- ---- the files stay
 
-module _ (main : Main) (modules : List ModuleVersion) (old new : FileTable) (others : KeepsOthers old new) where
-  same_place : (name : Name) → place_of new name ≡ place_of old name
-  same_place name = ap (λ (entries : List (Name × OptionalPlace)). place_among entries name) others.names
+pub same_files : {old new : FileTable} → KeepsOthers old new → KeepsFiles old new
+same_files others name = rw others.files (rw others.names refl)
 
-  same_replacing : (name : Name) → replacing_place new name ≡ replacing_place old name
-  same_replacing name = ap (λ map. lookup (λ file. same_name name (name_of file)) map.entries) others.replacing
-
-  pub same_files : KeepsFiles old new
-  same_files name = ap₂ (λ files (place : Option ℕ). option_and_then (slice_get files.items) place) others.files (same_place name)
-
+module _ {main : Main} {modules : List ModuleVersion} {old new : FileTable} (others : KeepsOthers old new) where
   notes_by : ((k at : ℕ) → noted_for new k ≡ Some at → IsPlacedAt main old (module_at modules k) at)
       → ((k : ℕ) → noted_for new k ≡ None → noted_for old k ≡ None) → NotesFiles main modules old → NotesFiles main modules new
   notes_by noted before were = record {
-    has_replacing = λ x some. subst (λ (r : Option OptionalPlace). IsSome r) (sym (same_replacing (file_of main x))) (were.has_replacing x some);
-    modules_noted = λ k at e.
-        let one = noted k at e in record { placed = same_place (file_of main (module_at modules k)) ∙ one.placed; askable = one.askable };
-    replacing_noted = λ name held e. were.replacing_noted name held (sym (same_replacing name) ∙ e) ∙ sym (same_place name);
+    has_replacing = λ x some. rw others.replacing (were.has_replacing x some);
+    modules_noted = λ k at e. let one = noted k at e in record { placed = rw others.names one.placed; askable = one.askable };
+    replacing_noted = λ name held e. rw others.names (were.replacing_noted name held (rw others.replacing at e));
     others_noted = λ name unnoted none.
-        same_place name ∙ were.others_noted name (λ k below named. before k (unnoted k below named)) (sym (same_replacing name) ∙ none);
+        rw others.names (were.others_noted name (λ k below named. before k (unnoted k below named)) (rw others.replacing at none));
   }
 
   pub notes_kept : KeepsNoted old new → NotesFiles main modules old → NotesFiles main modules new
@@ -163,8 +139,7 @@ module _ (main : Main) (modules : List ModuleVersion) (old new : FileTable) (oth
       → NotesFiles main modules old → NotesFiles main modules new
   notes_again number place notes is were = notes_by
       (λ k at e. elim (noted_cases old new number place notes k) [
-        | inl here ↦ subst (λ (n : ℕ). IsPlacedAt main old (module_at modules n) at) here.0
-            (subst (λ (p : ℕ). IsPlacedAt main old (module_at modules number) p) (same_Some place at (sym here.1 ∙ e)) is)
+        | inl here ↦ rw (sym here.0) (rw (same_Some place at (sym here.1 ∙ e)) at is)
         | inr same ↦ were.modules_noted k at (sym same ∙ e)
       ])
       (noted_before old new number place notes) were
@@ -181,8 +156,7 @@ pub notes_if_more : (main : Main) (old new : List ModuleVersion) (files : FileTa
 notes_if_more main old new files begins within were = record {
   has_replacing = were.has_replacing;
   modules_noted = λ k at e.
-      subst (λ (x : ModuleVersion). IsPlacedAt main files x at)
-      (sym (number_stays old new k begins (omega (arith, noted_below files.places.items k at e, within)))) (were.modules_noted k at e);
+      rw (number_stays old new k begins (omega (arith, noted_below files.places.items k at e, within))) (were.modules_noted k at e);
   replacing_noted = were.replacing_noted;
   others_noted = λ name unnoted none. were.others_noted name
       (λ k below named. unnoted k (number_below old new k begins below) (named ∙ ap (file_of main) (sym (number_stays old new k begins below)))) none;
@@ -190,39 +164,26 @@ notes_if_more main old new files begins within were = record {
 
 -- ---- what is kept, if there is one file more
 
-pub front_stays : (files more : List Kept) (place : ℕ) → place < length files
-    → slice_get (files ++ more) place ≡ slice_get files place
-front_stays [] more place within = absurd (omega arith)
-front_stays (file ∷ files) more zero within = refl
-front_stays (file ∷ files) more (suc place) within = front_stays files more place (omega arith)
-
-pub at_end : (files : List Kept) (kept : Kept) → slice_get (files ++ kept ∷ []) (length files) ≡ Some kept
-at_end [] kept = refl
-at_end (file ∷ files) kept = at_end files kept
-
 still_there : (files : List Kept) (kept : Kept) (place : Option ℕ) → ((number : ℕ) → place ≡ Some number → number < length files)
     → option_and_then (slice_get (files ++ kept ∷ [])) place ≡ option_and_then (slice_get files) place
 still_there files kept None within = refl
-still_there files kept (Some number) within = front_stays files (kept ∷ []) number (within number refl)
+still_there files kept (Some number) within = before files kept number (within number refl)
 
 pub files_kept : (old new : FileTable) (kept : Kept) → new.files.items ≡ old.files.items ++ kept ∷ [] → new.names.items ≡ old.names.items
     → KeepsFiles old new
-files_kept old new kept more names = λ name.
-    ap₂ (λ (files : List Kept) (entries : List (Name × OptionalPlace)). option_and_then (slice_get files) (place_among entries name)) more names
-    ∙ still_there old.files.items kept (place_of old name) (old.within name)
+files_kept old new kept more names = λ name. rw more (rw names (still_there old.files.items kept (place_of old name) (old.within name)))
 
 pub file_added : (old new : FileTable) (name : Name) (kept : Kept) (place : ℕ) (put : OptionalPlace)
     → new.files.items ≡ old.files.items ++ kept ∷ [] → place ≡ length old.files.items → place_in put ≡ Some place
     → new.names.items ≡ (name, put) ∷ old.names.items → PutsFile old new name kept
 file_added old new name kept noted put more last at names = λ other.
-    ap₂ (λ (files : List Kept) (place : Option ℕ). option_and_then (slice_get files) place) more (place_put old new name noted put at names other)
-    ∙ by (same_name other name) (place_of old other) (old.within other)
+    rw more (rw (place_put old new name noted put at names other) (by (same_name other name) (place_of old other) (old.within other)))
   where
     by : (b : Bool) (place : Option ℕ) → ((number : ℕ) → place ≡ Some number → number < length old.files.items)
         → option_and_then (slice_get (old.files.items ++ kept ∷ [])) (cond b (Some noted) place)
         ≡ cond b (Some kept) (option_and_then (slice_get old.files.items) place)
-    by true place is = ap (slice_get (old.files.items ++ kept ∷ [])) last ∙ at_end old.files.items kept
-    by false place is = still_there old.files.items kept place is
+    by true = λ place is. rw last (last_one old.files.items kept)
+    by false = still_there old.files.items kept
 
 -- ---- the files of replacements
 
@@ -251,12 +212,8 @@ set_found {K} at found b (entry ∷ entries) place here same = by (at entry.0) r
     by : (t : Bool) → at entry.0 ≡ t → lookup found (set_value at entries place) ≡ cond b (option_map (λ _. place) rest) rest
         → lookup found (cond t ((entry.0, place) ∷ entries) (entry ∷ set_value at entries place))
         ≡ cond b (option_map (λ _. place) (cond (found entry.0) (Some entry.1) rest)) (cond (found entry.0) (Some entry.1) rest)
-    by true is ih =
-        subst (λ (c : Bool). cond c (Some place) rest ≡ cond b (option_map (λ _. place) (cond c (Some entry.1) rest)) (cond c (Some entry.1) rest))
-        (sym (here entry.0 is)) (first b)
-    by false is ih =
-        ap (λ (o : Option OptionalPlace). cond (found entry.0) (Some entry.1) o) ih
-        ∙ further b (found entry.0) (λ so. same entry.0 so ∙ is)
+    by true is ih = rw (here entry.0 is) (first b)
+    by false is ih = rw ih (further b (found entry.0) (λ so. same entry.0 so ∙ is))
 
 -- The place of the file of this name was set, if it had one.
 pub replacing_set : (entries : List (FileName × OptionalPlace)) (name : FileName) (place : OptionalPlace) (other : Name)
@@ -274,13 +231,7 @@ pub none_set : (entries : List (FileName × OptionalPlace)) (name : Name) (place
     → lookup (λ file. same_name other (name_of file)) entries
     ≡ cond (same_name other name) (option_map (λ _. place) (lookup (λ file. same_name other (name_of file)) entries))
     (lookup (λ file. same_name other (name_of file)) entries)
-none_set entries name place other none = by (same_name other name) refl
-  where
-    found : Option OptionalPlace
-    found = lookup (λ file. same_name other (name_of file)) entries
-
-    by : (b : Bool) → same_name other name ≡ b → found ≡ cond b (option_map (λ _. place) found) found
-    by false apart = refl
-    by true same =
-        let nothing : found ≡ None = ap (λ (n : Name). lookup (λ file. same_name n (name_of file)) entries) (names_equal other name same) ∙ none in
-        nothing ∙ ap (option_map (λ _. place)) (sym nothing)
+none_set entries name place other none = elim (cases_Bool (same_name other name)) [
+  | inl same ↦ rw same (rw (names_equal other name same) (rw none refl))
+  | inr apart ↦ rw apart refl
+]

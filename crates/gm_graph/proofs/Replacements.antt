@@ -9,7 +9,7 @@ use Rattle.gm_name.specs.ModuleVersion.{ModuleVersion}
 use Rattle.gm_name_table.specs.declared.place.OptionalPlace.{OptionalPlace}
 use Rattle.gm_file.specs.Directives.{Left, Replacing, Right, left_with, left_without}
 use Rattle.gm_file.specs.Faults.{is_same_left}
-use Rattle.gm_file.specs.Fields.{replacement_of, right_for}
+use Rattle.gm_file.specs.Fields.{right_for}
 use Rattle.gm_file.specs.Views.{replace_view, replace_views, right_view}
 use Rattle.gm_file.specs.declared.replace.Replace.{Replace}
 use Rattle.gm_store.proofs.NameOrder.{held_inserted, same_from_equal}
@@ -34,22 +34,19 @@ HasLine entries line = HasRight entries (right_view line.right)
 -- ---- one more name
 
 -- What was found is found still, if one place more is put.
-pub some_still : (b : Bool) (r : Option OptionalPlace) (place : OptionalPlace) → IsSome r → IsSome (cond b (Some place) r)
+some_still : (b : Bool) (r : Option OptionalPlace) (place : OptionalPlace) → IsSome r → IsSome (cond b (Some place) r)
 some_still true r place some = refl
 some_still false r place some = some
 
 has_still : (entries : List (FileName × OptionalPlace)) (key : FileName) (place : OptionalPlace) (name : Name) → HasName entries name
     → HasName (insert_entry cmp-value.it entries key place) name
 has_still entries key place name has =
-    subst (λ (r : Option OptionalPlace). IsSome r) (sym (held_inserted entries key place name))
-    (some_still (same_name name (name_of key)) (lookup (λ file. same_name name (name_of file)) entries) place has)
+    rw (held_inserted entries key place name) (some_still _ _ place has)
 
 has_itself : (entries : List (FileName × OptionalPlace)) (key : FileName) (place : OptionalPlace) (name : Name) → name_of key ≡ name
     → HasName (insert_entry cmp-value.it entries key place) name
 has_itself entries key place name is =
-    subst (λ (r : Option OptionalPlace). IsSome r) (sym (held_inserted entries key place name))
-    (subst (λ (b : Bool). IsSome (cond b (Some place) (lookup (λ file. same_name name (name_of file)) entries)))
-    (sym (same_from_equal name (name_of key) (sym is))) refl)
+    rw (held_inserted entries key place name) (rw (same_from_equal name (name_of key) (sym is)) refl)
 
 pub one_more_line : (entries : List (FileName × OptionalPlace)) (lines : List Replace) (i : ℕ) (line : Replace) (key : FileName) (place : OptionalPlace)
     → i < length lines → line ≡ get_or lines i line → ((x : ModuleVersion) → name_of key ≡ file_named x (Some (right_view line.right)))
@@ -85,7 +82,5 @@ named entries x (Some right) has some = has x
 pub has_replacing : (main : Main) (entries : List (FileName × OptionalPlace)) (lines : List Replace) → replace_views lines ≡ main.replaces
     → All (HasLine entries) lines → (x : ModuleVersion) → IsSome (replacement_in main x) → HasName entries (file_of main x)
 has_replacing main entries lines is all x =
-    subst (λ (rs : List Replacing). IsSome (replacement_of rs x) → HasName entries (file_named x (replacement_of rs x))) is
-    (named entries x (replacement_of (replace_views lines) x)
-    (either (HasRight entries) (right_for (replace_views lines) (left_with x.0 x.1)) (right_for (replace_views lines) (left_without x.0))
+    rw (sym is) (named entries x _ (either (HasRight entries) _ _
     (found_right (HasRight entries) lines (left_with x.0 x.1) all) (found_right (HasRight entries) lines (left_without x.0) all)))

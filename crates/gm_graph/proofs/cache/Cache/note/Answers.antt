@@ -1,13 +1,7 @@
-use Rattle.std.proofs.Common.{◌∙◌, [], Global, List, Vec, ap, append-nil, length, refl, subst, sym}
-use Rattle.gm_name_table.specs.declared.place.OptionalPlace.{OptionalPlace}
-use Rattle.gm_name_table.specs.Listed.{modules_of}
-use Rattle.gm_store.specs.Asked.{Name}
-use Rattle.gm_graph.specs.declared.cache.summary.Kept.{Kept}
+use Rattle.std.proofs.Common.{◌∙◌, [], append-nil, length, refl, sym}
 use Rattle.gm_graph.specs.Cached.{main_in, sums_in, table_in}
 use Rattle.gm_graph.specs.Private.Cached.{module_numbered}
-use Rattle.gm_graph.specs.Places.{place_among}
 use Rattle.gm_graph.specs.Reading.{file_of}
-use Rattle.gm_graph.specs.Private.Summaries.{AllStand, AreListsInOrder}
 use Rattle.gm_graph.proofs.HeldFiles.{kept_some}
 use Rattle.gm_graph.proofs.Keeping.{holds_listed}
 use Rattle.gm_graph.proofs.OwnFiles.{has_placed, noted_again, replacing_at}
@@ -26,15 +20,11 @@ invariant_of-self-clause-places_within c =
 
 pub invariant_of-self-clause-in_order : goal.invariant_of-self-clause-in_order
 invariant_of-self-clause-in_order c =
-    let cache = c.args.self.now in
-    subst (λ (files : Vec Kept Global). AreListsInOrder cache.first files.items (length cache.modules.numbers))
-    (sym c.note.ensures.others.files) cache.in_order
+    rw c.note.ensures.others.files c.args.self.now.in_order
 
 pub invariant_of-self-clause-listed : goal.invariant_of-self-clause-listed
 invariant_of-self-clause-listed c =
-    let cache = c.args.self.now in
-    subst (λ (files : Vec Kept Global). AllStand (main_in cache) (modules_of cache.modules) files.items)
-    (sym c.note.ensures.others.files) cache.listed
+    rw c.note.ensures.others.files c.args.self.now.listed
 
 pub invariant_of-self-clause-notes : goal.invariant_of-self-clause-notes
 invariant_of-self-clause-notes c =
@@ -51,13 +41,13 @@ pub invariant_of-self-clause-holds_some : goal.invariant_of-self-clause-holds_so
 invariant_of-self-clause-holds_some c =
     let cache = c.args.self.now in
     kept_some (main_in cache) (sums_in cache) cache.modules cache.files c.note.new.self
-    (same_files (main_in cache) (table_in cache) cache.files c.note.new.self c.note.ensures.others) cache.holds_some
+    (same_files c.note.ensures.others) cache.holds_some
 
 pub returns-clause-holds : goal.returns-clause-holds
 returns-clause-holds c =
     let cache = c.args.self.now in
-    holds_listed cache _ refl refl (same_files (main_in cache) (table_in cache) cache.files c.note.new.self c.note.ensures.others)
-    ([], ap (λ (files : Vec Kept Global). files.items) c.note.ensures.others.files ∙ sym (append-nil cache.files.files.items)) refl
+    holds_listed cache _ refl refl (same_files c.note.ensures.others)
+    ([], rw c.note.ensures.others.files (sym (append-nil cache.files.files.items))) refl
 
 pub returns-clause-place : goal.returns-clause-place
 returns-clause-place c =
@@ -65,7 +55,6 @@ returns-clause-place c =
     let x = module_numbered cache c.args.number in
     has_placed _ x c.args.place
     (record {
-      placed = ap (λ (entries : List (Name × OptionalPlace)). place_among entries (file_of (main_in cache) x)) c.note.ensures.others.names
-          ∙ replacing_at cache (file_of (main_in cache) x) c.args.place c.requires.place;
+      placed = rw c.note.ensures.others.names (replacing_at cache (file_of (main_in cache) x) c.args.place c.requires.place);
       askable = c.requires.askable;
     })

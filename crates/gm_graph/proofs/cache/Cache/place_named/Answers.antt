@@ -6,7 +6,6 @@ use Rattle.gm_graph.specs.Cached.{main_in, table_in}
 use Rattle.gm_graph.specs.Private.Cached.{module_numbered}
 use Rattle.gm_graph.specs.Reading.{file_of}
 use Rattle.gm_graph.proofs.FilePlaces.{place_by_absent, place_found}
-use Rattle.gm_graph.proofs.OwnFiles.{is_file_of}
 use Rattle.gm_graph.proofs.cache.Cache.place_named.Goals as goal
 
 pub module-requires : goal.module-requires
@@ -18,12 +17,15 @@ returns-in-Some c = λ pairs knows named.
     let cache = c.args.self.now in
     let x = c.args.vertex.now in
     let number = c.in-Some.number in
-    let name = name_of c.args.name.now in
     let there : slice_get (table_in cache) number ≡ Some x = (c.find.ensures number).0 c.in-Some.is in
-    let is : module_numbered cache number ≡ x = get_or_from_slice_get (table_in cache) number x ([], []) there in
+    let is : module_numbered cache number ≡ x = get_or_from_slice_get _ number x ([], []) there in
     c.place_of.ensures (main_in cache) (table_in cache)
-    (is_file_of cache number name c.module.ensures.distinct (slice_get_within (table_in cache) number x there)
-    (named.name_is ∙ ap (file_of (main_in cache)) (sym is)))
+    (record {
+      distinct = c.module.ensures.distinct;
+      within = slice_get_within _ number x there;
+      named = named.name_is ∙ ap (file_of (main_in cache)) (sym is);
+      notes = cache.notes;
+    })
 
 pub returns-in-None : goal.returns-in-None
 returns-in-None c = λ pairs knows named.
@@ -31,6 +33,6 @@ returns-in-None c = λ pairs knows named.
     let x = c.args.vertex.now in
     let name = name_of c.args.name.now in
     place_found cache.files name c.replacing_place.result
-    (place_by_absent (main_in cache) (table_in cache) cache.files cache.notes x name
+    (place_by_absent _ _ _ cache.notes x name
     (λ number there. cc (sym ((c.find.ensures number).1 there) ∙ c.in-None.is)) named.name_is
     ∙ sym c.replacing_place.ensures)

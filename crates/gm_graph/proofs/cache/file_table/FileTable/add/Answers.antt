@@ -1,22 +1,21 @@
-use Rattle.std.proofs.Common.{◌∙◌, ℕ, Global, List, Vec, ap, ap₂}
-use Rattle.std.specs.Prelude.{slice_get}
+use Rattle.std.proofs.Common.{◌∙◌}
 use Rattle.gm_store.specs.Asked.{name_of}
+use Rattle.gm_name_table.proofs.Buckets.{last}
 use Rattle.gm_graph.proofs.Keeping.{any_err}
-use Rattle.gm_graph.proofs.PuttingPlaces.{at_end, file_added, files_kept}
-use Rattle.gm_graph.specs.declared.cache.summary.Kept.{Kept}
+use Rattle.gm_graph.proofs.PuttingPlaces.{file_added, files_kept}
 use Rattle.gm_graph.proofs.cache.file_table.FileTable.add.Goals as goal
 
 pub returns-in_err-put-clause-err : goal.returns-in_err-put-clause-err
 returns-in_err-put-clause-err c =
-    any_err c.from_residual-in_err-put.result (files_kept c.args.self.now c.put.new.self c.args.kept
-    (ap (λ (files : Vec Kept Global). files.items) c.put.ensures.files ∙ c.in_ok-push.ensures.items) c.in_err-put.ensures.err)
+    any_err c.from_residual-in_err-put.result
+    (files_kept c.args.self.now c.put.new.self c.args.kept (rw c.put.ensures.files c.in_ok-push.ensures.items) c.in_err-put.ensures.err)
 
 pub returns-clause-adds : goal.returns-clause-adds
 returns-clause-adds c =
     let old = c.args.self.now in
     let (noted, at, names) = c.in_ok-put.ensures.names in
     file_added old c.put.new.self (name_of c.args.name.now) c.args.kept c.len-place.result noted
-    (ap (λ (files : Vec Kept Global). files.items) c.put.ensures.files ∙ c.in_ok-push.ensures.items)
+    (rw c.put.ensures.files c.in_ok-push.ensures.items)
     (c.len-place.ensures ∙ old.files.ok.0) at names
 
 pub returns-clause-notes : goal.returns-clause-notes
@@ -41,8 +40,5 @@ returns-in_err-put-clause-notes c = λ main modules is were.
 
 pub returns-clause-place : goal.returns-clause-place
 returns-clause-place c =
-    let old = c.args.self.now in
-    ap₂ (λ (files : List Kept) (place : ℕ). slice_get files place)
-    (ap (λ (files : Vec Kept Global). files.items) c.in_ok-put.ensures.files ∙ c.in_ok-push.ensures.items)
-    (c.len-place.ensures ∙ old.files.ok.0)
-    ∙ at_end old.files.items c.args.kept
+    rw c.in_ok-put.ensures.files (rw c.in_ok-push.ensures.items (rw (c.len-place.ensures ∙ c.args.self.now.files.ok.0)
+    (last c.args.self.now.files.items c.args.kept)))

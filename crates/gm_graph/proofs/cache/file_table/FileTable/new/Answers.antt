@@ -1,5 +1,4 @@
-use Rattle.std.proofs.Common.{◌≡◌, ◌∙◌, Bool, false, true, cond, ℕ, List, [], ◌∷◌, Some, ap, length, sym}
-use Rattle.std.specs.Prelude.{slice_index_or}
+use Rattle.std.proofs.Common.{◌≡◌, ◌∙◌, Bool, false, true, cond, List, [], ◌∷◌, Some, ap, refl, sym}
 use Rattle.std.specs.List.{All}
 use Rattle.std.specs.Map.{lookup, values_of}
 use Rattle.std.proofs.lemmas.List.Elements.{All-head, All-tail}
@@ -10,15 +9,8 @@ use Rattle.gm_store.specs.contracts.files.FileNameOrd.TheImpl.{cmp-value}
 use Rattle.gm_file.specs.Main.{main_of}
 use Rattle.gm_name_table.specs.OptionalPlaces.{no_place, place_in}
 use Rattle.gm_name_table.specs.declared.place.OptionalPlace.{OptionalPlace}
-use Rattle.gm_store.specs.Asked.{Name, name_of, same_name}
-use Rattle.gm_graph.specs.Places.{place_among}
 use Rattle.gm_graph.proofs.Replacements.{has_replacing, one_more_line}
 use Rattle.gm_graph.proofs.cache.file_table.FileTable.new.Goals as goal
-
-nothing_noted : (places : List OptionalPlace) (number place : ℕ) → length places ≡ 0
-    → place_in (slice_index_or places number no_place) ≡ Some place → ⊥
-nothing_noted [] number place none e = cc e
-nothing_noted (first ∷ places) number place none e = cc none
 
 none_found : {K : Type 0} (entries : List (K × OptionalPlace)) (test : K → Bool) (place : OptionalPlace)
     → All (λ held. held ≡ no_place) (values_of entries) → lookup test entries ≡ Some place → place ≡ no_place
@@ -32,11 +24,9 @@ none_found (entry ∷ entries) test place nowhere =
 pub loop-replace-preserved : goal.loop-replace-preserved
 loop-replace-preserved c = record {
   nowhere = rw c.in_ok-insert.ensures.entries
-      (All-values-insert_entry cmp-value.it c.in_ok-right_name.field-0 c.none.result (λ place. place ≡ no_place) c.loop-replace.replacing.entries
-      c.loop-replace.invariant.nowhere c.none.ensures);
+      (All-values-insert_entry cmp-value.it _ _ (λ place. place ≡ no_place) _ c.loop-replace.invariant.nowhere c.none.ensures);
   named = rw c.in_ok-insert.ensures.entries
-      (one_more_line c.loop-replace.replacing.entries c.replaces-replace-items.result.now c.loop-replace.replace-index c.replace-item.result
-      c.in_ok-right_name.field-0 c.none.result c.loop-replace-test.true c.replace-item.is c.in_ok-right_name.ensures c.loop-replace.invariant.named);
+      (one_more_line _ _ _ _ _ _ c.loop-replace-test.true c.replace-item.is c.in_ok-right_name.ensures c.loop-replace.invariant.named);
 }
 
 pub returns-clause-notes : goal.returns-clause-notes
@@ -45,8 +35,7 @@ returns-clause-notes c = λ modules.
     record {
       has_replacing = has_replacing (main_of c.args.main.now) entries c.replaces-replace-items.result.now c.replaces-replace-items.ensures
           (rw (take_all c.loop-replace.replace-index c.replaces-replace-items.result.now c.loop-replace-test.false) at c.loop-replace.invariant.named);
-      modules_noted = λ number place e. absurd (nothing_noted c.new-places.result.items number place (ap length c.new-places.ensures.items) e);
-      replacing_noted = λ name place e. ap place_in (none_found entries (λ file. same_name name (name_of file)) place c.loop-replace.invariant.nowhere e)
-          ∙ sym (ap (λ (names : List (Name × OptionalPlace)). place_among names name) c.new-names.ensures);
-      others_noted = λ name unnoted none. ap (λ (names : List (Name × OptionalPlace)). place_among names name) c.new-names.ensures;
+      modules_noted = λ number place e. absurd (cc (rw c.new-places.ensures.items at e));
+      replacing_noted = λ name place e. rw c.new-names.ensures (ap place_in (none_found entries _ place c.loop-replace.invariant.nowhere e));
+      others_noted = λ name unnoted none. rw c.new-names.ensures refl;
     }
