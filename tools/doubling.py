@@ -189,6 +189,7 @@ ROWS = [
     Row("sums", 2000, f"list {PROXY} --sum go.sum", summed),
     Row("proxy folders", 500, "list --proxy {p,}proxy", lambda n: wide(4)),
     Row("words that are left out", 500, f"list {PROXY} *x", lambda n: {}, 2),
+    Row("words and options that are left out", 500, f"list {PROXY} *x *--json", lambda n: {}, 2),
     Row("modules in a ring", 200, f"graph {PROXY}", ring),
     Row("requirements of a dependency", 2000, f"graph {PROXY}", pruned),
     Row("modules in a ring", 200, f"chain a.c/1 {PROXY}", ring),
