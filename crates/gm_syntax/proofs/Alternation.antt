@@ -1,55 +1,20 @@
 -- Openings and closings alternate in a document, so the numbers of them before a line say whether a block is
 -- open there.
-use Rattle.std.proofs.Common.{◌≡◌, ℕ, ◌+◌, ◌≤◌, Bool, true, false, cond, List, [], ◌∷◌, ◌++◌, Option, Some, None, Ok, refl, sym, ap, subst, ◌∙◌, append_assoc, arith, inl, inr}
+use Rattle.std.proofs.Common.{◌≡◌, ℕ, ◌+◌, ◌≤◌, Bool, true, false, cond, List, [], ◌∷◌, ◌++◌, refl, sym, ap, subst, ◌∙◌, append_assoc, arith}
 use Rattle.std.specs.Prelude.{⊤, nat_lt}
-use Rattle.std.proofs.lemmas.Bool.{cases_Bool, lt-ltb, le-ltb}
+use Rattle.std.proofs.lemmas.Bool.{lt-ltb, le-ltb}
 use Rattle.std.proofs.lemmas.List.{append-nil}
-use Rattle.gm_syntax.specs.declared.fault.SyntaxKind.TheVariants.{StrayClose, NestedOpen}
 use Rattle.gm_syntax.specs.Words.{Word}
-use Rattle.gm_syntax.specs.Document.{Line, Blank, Comment, Open, Close, Entry, ends_open, opens_block, begins_close, class_of, inside_after, inside_after_all, IsLineAt, IsValidLine, IsDocument, start}
+use Rattle.gm_syntax.specs.Document.{Line, Blank, Comment, Open, Close, Entry, inside_after, inside_after_all, IsValidLine, IsDocument, start}
 use Rattle.gm_syntax.specs.Documents.{openings, closings, is_open_after, AreInTurn, AreValidInPlace}
-use Rattle.gm_syntax.proofs.Stable.{line_ok, not_ok}
-use Rattle.gm_syntax.proofs.Changes.{AreValidFrom, lines_stand, standing_lines, stand_parts, stand_together, no_open}
+use Rattle.gm_syntax.proofs.Stable.{Fits, line_fits}
+use Rattle.gm_syntax.proofs.Changes.{AreValidFrom, lines_stand, standing_lines, stand_parts, stand_together}
 
 -- ---- openings outside blocks, closings inside
-
--- the line may be there: an opening outside blocks, a closing inside one, other lines anywhere
-abbrev pub Fits : Bool → Line Word → Type 0
-Fits inside Blank = ⊤
-Fits inside (Comment text) = ⊤
-Fits inside (Open verb suffix) = inside ≡ false
-Fits inside (Close suffix) = inside ≡ true
-Fits inside (Entry words suffix) = ⊤
 
 abbrev pub FitFrom : Bool → List (Line Word) → Type 0
 FitFrom inside [] = ⊤
 FitFrom inside (line ∷ lines) = Fits inside line × FitFrom (inside_after inside line) lines
-
-no_close : (words : List Word) (comment : Option (List ℕ)) (suffix : Option (List ℕ))
-    → class_of false words comment ≡ Ok (Close suffix) → ⊥
-unfolding class_of
-no_close [] None suffix e = cc
-no_close [] (Some text) suffix e = cc
-no_close (w ∷ ws) comment suffix e =
-    elim (cases_Bool (opens_block (w ∷ ws))) [
-      | inl o ↦ let f : line_ok (Open w comment) ≡ line_ok (Close suffix) = sym (rw o refl) ∙ e in cc
-      | inr o ↦ elim (cases_Bool (ends_open (w ∷ ws))) [
-        | inl n ↦ not_ok NestedOpen (Close suffix) (sym (rw (o, n) refl) ∙ e)
-        | inr n ↦ elim (cases_Bool (begins_close (w ∷ ws))) [
-          | inl c ↦ not_ok StrayClose (Close suffix) (sym (rw (o, n, c) refl) ∙ e)
-          | inr c ↦ let f : line_ok (Entry (w ∷ ws) comment) ≡ line_ok (Close suffix) = sym (rw (o, n, c) refl) ∙ e in cc
-        ]
-      ]
-    ]
-
-pub line_fits : (inside : Bool) (text : List ℕ) (line : Line Word) → IsLineAt inside text line → Fits inside line
-line_fits inside text Blank at = tt
-line_fits inside text (Comment other) at = tt
-line_fits false text (Open verb suffix) at = refl
-line_fits true text (Open verb suffix) at = absurd (no_open at.words at.comment verb suffix at.classed)
-line_fits false text (Close suffix) at = absurd (no_close at.words at.comment suffix at.classed)
-line_fits true text (Close suffix) at = refl
-line_fits inside text (Entry words suffix) at = tt
 
 pub valid_fit : (inside : Bool) (lines : List (Line Word)) → AreValidFrom inside lines → FitFrom inside lines
 valid_fit inside [] v = tt

@@ -4,12 +4,11 @@ use Rattle.std.specs.Prelude.{◌≢◌, ⊤, insert, slice_range}
 use Rattle.std.specs.List.{list_all}
 use Rattle.std.proofs.lemmas.Bool.{cases_Bool, true≢false}
 use Rattle.std.proofs.lemmas.List.{take-append-drop, drop-drop}
-use Rattle.gm_syntax.specs.declared.fault.SyntaxKind.TheVariants.{StrayClose, NestedOpen}
 use Rattle.gm_syntax.specs.Words.{Word}
 use Rattle.gm_syntax.specs.Spelling.{IsSuffix}
-use Rattle.gm_syntax.specs.Document.{Line, Blank, Comment, Open, Close, Entry, is_alone, ends_open, opens_block, begins_close, class_of, is_bare, is_mark, inside_after, inside_after_all, is_level, IsValidLine, IsEntry, AreLines, IsDocument, start, after, without, Place}
+use Rattle.gm_syntax.specs.Document.{Line, Blank, Comment, Open, Close, Entry, ends_open, opens_block, begins_close, class_of, is_bare, is_mark, inside_after, inside_after_all, is_level, IsValidLine, IsEntry, AreLines, IsDocument, start, after, without, Place}
 use Rattle.gm_syntax.proofs.Classing.{class_blank, class_comment, class_inside_entry, class_entry}
-use Rattle.gm_syntax.proofs.Stable.{line_ok, same_ok, not_ok, and_both, after_inside, words_are_spelled, good_parts, from_words}
+use Rattle.gm_syntax.proofs.Stable.{and_both, after_inside, words_are_spelled, spelled_are_words, from_words, class_is, line_fits}
 
 -- each line is valid at its place
 abbrev pub AreValidFrom : Bool → List (Line Word) → Type 0
@@ -20,15 +19,12 @@ pub lines_stand : (at : Place) (lines : List (Line Word)) → AreLines at lines 
 lines_stand at [] h = (tt, h)
 lines_stand at (l ∷ ls) h =
     let r = lines_stand (after at l) ls h.1 in
-    ((h.0, subst (λ (b : Bool). AreValidFrom b ls) (after_inside at l) r.0), subst (λ (b : Bool). inside_after_all b ls ≡ false) (after_inside at l) r.1)
+    ((h.0, rw (after_inside at l) at r.0), rw (after_inside at l) at r.1)
 
 pub standing_lines : (at : Place) (lines : List (Line Word)) → AreValidFrom at.inside lines → inside_after_all at.inside lines ≡ false → AreLines at lines
 standing_lines at [] s e = e
-standing_lines at (l ∷ ls) s e = (
-  s.0,
-  standing_lines (after at l) ls (subst (λ (b : Bool). AreValidFrom b ls) (sym (after_inside at l)) s.1)
-      (subst (λ (b : Bool). inside_after_all b ls ≡ false) (sym (after_inside at l)) e),
-)
+standing_lines at (l ∷ ls) s e =
+    (s.0, standing_lines (after at l) ls (rw (after_inside at l) s.1) (rw (after_inside at l) e))
 
 pub stand_parts : (b : Bool) (xs ys : List (Line Word)) → AreValidFrom b (xs ++ ys) → AreValidFrom b xs × AreValidFrom (inside_after_all b xs) ys
 stand_parts b [] ys s = (tt, s)
@@ -53,7 +49,7 @@ pub inside_after_all-level : (b : Bool) (lines : List (Line Word)) → list_all 
 inside_after_all-level b [] e = refl
 inside_after_all-level b (l ∷ ls) e =
     let p = and_both (is_level l) (list_all is_level ls) e in
-    ap (λ (x : Bool). inside_after_all x ls) (inside_after-level b l p.0) ∙ inside_after_all-level b ls p.1
+    rw (inside_after-level b l p.0) (inside_after_all-level b ls p.1)
 
 -- ---- removing lines
 
@@ -64,36 +60,19 @@ lines_go_out front middle back d e =
     let all = lines_stand start (front ++ (middle ++ back)) d in
     let parts = stand_parts false front (middle ++ back) all.0 in
     let more = stand_parts (inside_after_all false front) middle back parts.1 in
-    let ended : inside_after_all (inside_after_all false front) back ≡ false =
-    ap (λ (b : Bool). inside_after_all b back) (sym e) ∙ sym
-    (inside_after_all-append (inside_after_all false front) middle back)
-    ∙ sym (inside_after_all-append false front (middle ++ back)) ∙ all.1 in
-    standing_lines start (front ++ back) (stand_together false front back parts.0
-    (subst (λ (b : Bool). AreValidFrom b back) e more.1)) (inside_after_all-append false front back ∙ ended)
+    standing_lines start (front ++ back) (stand_together false front back parts.0 (rw e at more.1)) (rw (
+      inside_after_all-append false front back,
+      ← e,
+      ← inside_after_all-append (inside_after_all false front) middle back,
+      ← inside_after_all-append false front (middle ++ back),
+    ) all.1)
 
 pub level_lines_go_out : (front middle back : List (Line Word)) → IsDocument (front ++ (middle ++ back))
     → list_all is_level middle ≡ true → IsDocument (front ++ back)
 level_lines_go_out front middle back d e = lines_go_out front middle back d (inside_after_all-level (inside_after_all false front) middle e)
 
-pub no_open : (words : List Word) (comment : Option (List ℕ)) (verb : Word) (suffix : Option (List ℕ)) → class_of true words comment ≡ Ok (Open verb suffix) → ⊥
-unfolding class_of
-no_open [] None verb suffix e = cc
-no_open [] (Some text) verb suffix e = cc
-no_open (w ∷ ws) comment verb suffix e =
-    elim (cases_Bool (begins_close (w ∷ ws))) [
-      | inl c ↦ elim (cases_Bool (is_alone ws)) [
-        | inl a ↦ let f : line_ok (Close comment) ≡ line_ok (Open verb suffix) = sym (rw (c, a) refl) ∙ e in cc
-        | inr a ↦ not_ok StrayClose (Open verb suffix) (sym (rw (c, a) refl) ∙ e)
-      ]
-      | inr c ↦ elim (cases_Bool (ends_open (w ∷ ws))) [
-        | inl n ↦ not_ok NestedOpen (Open verb suffix) (sym (rw (c, n) refl) ∙ e)
-        | inr n ↦ let f : line_ok (Entry (w ∷ ws) comment) ≡ line_ok (Open verb suffix) = sym (rw (c, n) refl) ∙ e in cc
-      ]
-    ]
-
 pub open_outside : (b : Bool) (verb : Word) (suffix : Option (List ℕ)) → IsValidLine b (Open verb suffix) → b ≡ false
-open_outside false verb suffix s = refl
-open_outside true verb suffix (text, plain, at) = absurd (no_open at.words at.comment verb suffix at.classed)
+open_outside b verb suffix s = line_fits b s.0 (Open verb suffix) s.2
 
 slice_parts : (lines : List (Line Word)) (from to : ℕ) → from ≤ to → lines ≡ take from lines ++ (slice_range lines from to ++ drop to lines)
 slice_parts lines from to le =
@@ -140,36 +119,10 @@ block_goes_out_at lines inner behind from to verb suffix last le d is e f =
 
 -- ---- inserting lines
 
-not_level : (l m : Line Word) → line_ok l ≡ line_ok m → is_level l ≡ false → is_level m ≡ true → ⊥
-not_level l m e n k = true≢false (sym k ∙ sym (ap is_level (same_ok l m e)) ∙ n)
-
 -- the words of a level line neither end in an opening parenthesis nor begin with a closing one
 level_tests : (inside : Bool) (words : List Word) (suffix : Option (List ℕ)) (l : Line Word)
     → class_of inside words suffix ≡ Ok l → is_level l ≡ true → (ends_open words ≡ false) × (begins_close words ≡ false)
-unfolding class_of
-level_tests inside [] suffix l e k = (refl, refl)
-level_tests false (w ∷ ws) suffix l e k =
-    elim (cases_Bool (opens_block (w ∷ ws))) [
-      | inl o ↦ absurd (not_level (Open w suffix) l (sym (rw o refl) ∙ e) refl k)
-      | inr o ↦ elim (cases_Bool (ends_open (w ∷ ws))) [
-        | inl n ↦ absurd (not_ok NestedOpen l (sym (rw (o, n) refl) ∙ e))
-        | inr n ↦ elim (cases_Bool (begins_close (w ∷ ws))) [
-          | inl c ↦ absurd (not_ok StrayClose l (sym (rw (o, n, c) refl) ∙ e))
-          | inr c ↦ (n, c)
-        ]
-      ]
-    ]
-level_tests true (w ∷ ws) suffix l e k =
-    elim (cases_Bool (begins_close (w ∷ ws))) [
-      | inl c ↦ elim (cases_Bool (is_alone ws)) [
-        | inl a ↦ absurd (not_level (Close suffix) l (sym (rw (c, a) refl) ∙ e) refl k)
-        | inr a ↦ absurd (not_ok StrayClose l (sym (rw (c, a) refl) ∙ e))
-      ]
-      | inr c ↦ elim (cases_Bool (ends_open (w ∷ ws))) [
-        | inl n ↦ absurd (not_ok NestedOpen l (sym (rw (c, n) refl) ∙ e))
-        | inr n ↦ (n, c)
-      ]
-    ]
+level_tests inside words suffix l e k = (rw e at (class_is inside words suffix)).2 k
 
 opens_ends : (words : List Word) → opens_block words ≡ true → ends_open words ≡ true
 opens_ends [] e = absurd cc
@@ -216,15 +169,14 @@ level_line_goes_in front back line inside d k s =
     let b : Bool = inside_after_all false front in
     let same : inside_after b line ≡ b = inside_after-level b line k in
     standing_lines start (front ++ line ∷ back)
-    (stand_together false front (line ∷ back) parts.0 (valid_anywhere inside b line k s, subst (λ (x : Bool). AreValidFrom x back) (sym same) parts.1))
-    (inside_after_all-append false front (line ∷ back) ∙ ap (λ (x : Bool). inside_after_all x back) same
-    ∙ sym (inside_after_all-append false front back) ∙ all.1)
+    (stand_together false front (line ∷ back) parts.0 (valid_anywhere inside b line k s, rw same parts.1))
+    (rw (inside_after_all-append false front (line ∷ back), same, ← inside_after_all-append false front back) all.1)
 
 -- the same, by index
 pub level_line_goes_in_at : (lines : List (Line Word)) (at : ℕ) (line : Line Word) (inside : Bool) → IsDocument lines
     → is_level line ≡ true → IsValidLine inside line → IsDocument (insert lines at line)
-level_line_goes_in_at lines at line inside d k s = level_line_goes_in (take at lines) (drop at lines) line inside
-    (subst IsDocument (sym (take-append-drop at lines)) d) k s
+level_line_goes_in_at lines at line inside d k s =
+    level_line_goes_in (take at lines) (drop at lines) line inside (rw (take-append-drop at lines) d) k s
 
 -- ---- lines made by edits
 
@@ -256,12 +208,12 @@ filled_length (w ∷ words) h = omega arith
 pub standing_entry : (inside : Bool) (words : List Word) (suffix : Option (List ℕ)) → IsValidLine inside (Entry words suffix) → IsEntry words suffix
 standing_entry inside words suffix (text, plain, at) =
     let f = from_words inside at.words at.comment (Entry words suffix) at.classed in
-    let g = good_parts inside text (Entry words suffix) plain at words suffix f.0 f.1 in
+    let g = rw (f.0, f.1) at (spelled_are_words text at.words at.comment plain at.spelled) in
     let t = level_tests inside at.words at.comment (Entry words suffix) at.classed refl in
     record {
       are_words = g.0;
       is_suffix = g.1;
       filled = filled_length words f.2;
-      opens_nothing = ap ends_open (sym f.0) ∙ t.0;
-      closes_nothing = ap begins_close (sym f.0) ∙ t.1;
+      opens_nothing = rw f.0 at t.0;
+      closes_nothing = rw f.0 at t.1;
     }

@@ -9,20 +9,19 @@ use Rattle.gm_syntax.specs.Words.{Word}
 use Rattle.gm_syntax.specs.Document.{Line, Blank, inside_after}
 use Rattle.gm_syntax.specs.Layout.{line_text, is_open, is_close, is_blank_line, state_after, layout_from, layout, initial_state, filled_lines, lines_text, begins_blank, ends_blank, gap_between, AreLaidOut, IsLayout, LayoutState}
 use Rattle.gm_syntax.proofs.LayoutLines.{gap_lines, layout_lines}
-use Rattle.gm_syntax.proofs.Laying.{layout_from_blank, layout_from_other, layout_from_none}
-use Rattle.gm_syntax.proofs.Stable.{and_both, layout_lines_blank, layout_lines_other, layout_lines_none, filled_blank, filled_other, filled_gap, filled_again}
+use Rattle.gm_syntax.proofs.Stable.{and_both, filled_blank, filled_other, filled_gap, filled_again}
 
 filled_none : filled_lines [] ≡ []
 unfolding filled_lines
 filled_none = refl
 
 filled-append : (xs ys : List (Line Word)) → filled_lines (xs ++ ys) ≡ filled_lines xs ++ filled_lines ys
-filled-append [] ys = ap (λ (l : List (Line Word)). l ++ filled_lines ys) (sym filled_none)
+unfolding filled_lines
+filled-append [] ys = refl
 filled-append (x ∷ xs) ys =
     elim (cases_Bool (is_blank_line x)) [
-      | inl k ↦ filled_blank x (xs ++ ys) k ∙ filled-append xs ys ∙ ap (λ (l : List (Line Word)). l ++ filled_lines ys) (sym (filled_blank x xs k))
-      | inr k ↦ filled_other x (xs ++ ys) k ∙ ap (λ (l : List (Line Word)). x ∷ l) (filled-append xs ys)
-          ∙ ap (λ (l : List (Line Word)). l ++ filled_lines ys) (sym (filled_other x xs k))
+      | inl k ↦ rw (k, filled-append xs ys) refl
+      | inr k ↦ rw (k, filled-append xs ys) refl
     ]
 
 filled_blanks : (blanks : List (Line Word)) → list_all is_blank_line blanks ≡ true → filled_lines blanks ≡ []
@@ -34,18 +33,17 @@ filled_blanks (b ∷ blanks) h = let p = and_both (is_blank_line b) (list_all is
 laid_text_by : (c : Bool) (inside : Bool) (l : Line Word) (rest : List ℕ) (ls : List (Line Word))
     → rest ≡ lines_text (inside_after inside l) ls → ((cond c (10 ∷ []) [] ++ line_text inside l) ++ 10 ∷ []) ++ rest
     ≡ lines_text inside (cond c (Blank ∷ []) [] ++ l ∷ ls)
-laid_text_by true inside l rest ls e = ap (λ (t : List ℕ). 10 ∷ t)
-    (append_assoc (line_text inside l) (10 ∷ []) rest ∙ ap (λ (t : List ℕ). line_text inside l ++ 10 ∷ t) e)
-laid_text_by false inside l rest ls e = append_assoc (line_text inside l) (10 ∷ []) rest ∙ ap (λ (t : List ℕ). line_text inside l ++ 10 ∷ t) e
+laid_text_by true inside l rest ls e = rw (append_assoc (line_text inside l) (10 ∷ []) rest, e) refl
+laid_text_by false inside l rest ls e = rw (append_assoc (line_text inside l) (10 ∷ []) rest, e) refl
 
 laid_text : (b : LayoutState) (ls : List (Line Word)) → layout_from b ls ≡ lines_text b.inside (layout_lines b ls)
-laid_text b [] = layout_from_none b ∙ sym (ap (lines_text b.inside) (layout_lines_none b))
+unfolding layout_lines layout_from
+laid_text b [] = refl
 laid_text b (l ∷ ls) =
     elim (cases_Bool (is_blank_line l)) [
-      | inl k ↦ layout_from_blank b l ls k ∙ laid_text (record b { gap_pending = true }) ls ∙ sym (ap (lines_text b.inside) (layout_lines_blank b l ls k))
-      | inr k ↦ layout_from_other b l ls k ∙ laid_text_by (b.gap_pending && (b.gap_allowed && not (is_close l)))
-          b.inside l (layout_from (state_after b l) ls) (layout_lines (state_after b l) ls)
-          (laid_text (state_after b l) ls) ∙ sym (ap (lines_text b.inside) (layout_lines_other b l ls k))
+      | inl k ↦ rw k (laid_text (record b { gap_pending = true }) ls)
+      | inr k ↦ rw k (laid_text_by (b.gap_pending && (b.gap_allowed && not (is_close l))) b.inside l
+          (layout_from (state_after b l) ls) (layout_lines (state_after b l) ls) (laid_text (state_after b l) ls))
     ]
 
 -- ---- the lines of the layout are laid out
@@ -55,14 +53,12 @@ no_gap true d = refl
 no_gap false d = refl
 
 first_filled : (b : LayoutState) (ls : List (Line Word)) → b.gap_allowed ≡ false → begins_blank (layout_lines b ls) ≡ false
-first_filled b [] e = ap begins_blank (layout_lines_none b)
+unfolding layout_lines
+first_filled b [] e = refl
 first_filled b (l ∷ ls) e =
     elim (cases_Bool (is_blank_line l)) [
-      | inl k ↦ ap begins_blank (layout_lines_blank b l ls k) ∙ first_filled (record b { gap_pending = true }) ls e
-      | inr k ↦
-          ap begins_blank (layout_lines_other b l ls k)
-          ∙ ap (λ (c : Bool). begins_blank (cond (b.gap_pending && (c && not (is_close l))) (Blank ∷ []) [] ++ l ∷ layout_lines (state_after b l) ls)) e
-          ∙ ap (λ (c : Bool). begins_blank (cond c (Blank ∷ []) [] ++ l ∷ layout_lines (state_after b l) ls)) (no_gap b.gap_pending (not (is_close l))) ∙ k
+      | inl k ↦ rw k (first_filled (record b { gap_pending = true }) ls e)
+      | inr k ↦ rw (k, e, no_gap b.gap_pending (not (is_close l))) k
     ]
 
 last_past : (c : Bool) (l : Line Word) (ls : List (Line Word)) → is_blank_line l ≡ false → ends_blank ls ≡ false
@@ -73,13 +69,13 @@ last_past false l [] k e = k
 last_past false l (m ∷ ls) k e = e
 
 last_filled : (b : LayoutState) (ls : List (Line Word)) → ends_blank (layout_lines b ls) ≡ false
-last_filled b [] = ap ends_blank (layout_lines_none b)
+unfolding layout_lines
+last_filled b [] = refl
 last_filled b (l ∷ ls) =
     elim (cases_Bool (is_blank_line l)) [
-      | inl k ↦ ap ends_blank (layout_lines_blank b l ls k) ∙ last_filled (record b { gap_pending = true }) ls
-      | inr k ↦ ap ends_blank (layout_lines_other b l ls k)
-          ∙ last_past (b.gap_pending && (b.gap_allowed && not (is_close l))) l (layout_lines (state_after b l) ls) k
-          (last_filled (state_after b l) ls)
+      | inl k ↦ rw k (last_filled (record b { gap_pending = true }) ls)
+      | inr k ↦ rw k (last_past (b.gap_pending && (b.gap_allowed && not (is_close l))) l (layout_lines (state_after b l) ls) k
+          (last_filled (state_after b l) ls))
     ]
 
 -- what follows a line that is not blank is laid out by itself, from some state on
@@ -90,41 +86,30 @@ record Split (b : LayoutState) (front rest : List (Line Word)) (line : Line Word
   pub same : filled_lines before ≡ filled_lines front
 
 gap_filled : (c : Bool) → filled_lines (cond c (Blank ∷ []) []) ≡ []
-gap_filled true = filled_blank Blank [] refl ∙ filled_none
-gap_filled false = filled_none
+unfolding filled_lines
+gap_filled true = refl
+gap_filled false = refl
 
 layout_lines_split : (b : LayoutState) (front rest : List (Line Word)) (line : Line Word) → is_blank_line line ≡ false → Split b front rest line
+unfolding layout_lines filled_lines
 layout_lines_split b [] rest line k = record {
   before = gap_lines b line;
   behind = b;
-  parts =
-      layout_lines_other b line rest k;
-  same = gap_filled (b.gap_pending && (b.gap_allowed && not (is_close line)))
-      ∙ sym filled_none;
+  parts = rw k refl;
+  same = gap_filled (b.gap_pending && (b.gap_allowed && not (is_close line)));
 }
 layout_lines_split b (l ∷ front) rest line k =
     elim (cases_Bool (is_blank_line l)) [
       | inl j ↦
           let s = layout_lines_split (record b { gap_pending = true }) front rest line k in
-          record {
-            before = s.before;
-            behind = s.behind;
-            parts =
-                layout_lines_blank b l (front ++ line ∷ rest) j ∙ s.parts;
-            same = s.same ∙ sym (filled_blank l front j);
-          }
+          record { before = s.before; behind = s.behind; parts = rw j s.parts; same = rw j s.same }
       | inr j ↦
           let s = layout_lines_split (state_after b l) front rest line k in
-          let whole : gap_lines b l ++ l ∷ (s.before ++ line ∷ layout_lines (state_after s.behind line) rest)
-          ≡ (gap_lines b l ++ l ∷ s.before) ++ line ∷ layout_lines (state_after s.behind line) rest =
-          sym (append_assoc (gap_lines b l) (l ∷ s.before)
-          (line ∷ layout_lines (state_after s.behind line) rest)) in
           record {
             before = gap_lines b l ++ l ∷ s.before;
             behind = s.behind;
-            parts = layout_lines_other b l (front ++ line ∷ rest) j ∙ ap (λ (t : List (Line Word)). gap_lines b l ++ l ∷ t) s.parts ∙ whole;
-            same = filled_gap (b.gap_pending && (b.gap_allowed && not (is_close l))) l s.before j
-                ∙ ap (λ (t : List (Line Word)). l ∷ t) s.same ∙ sym (filled_other l front j);
+            parts = rw (j, s.parts) (sym (append_assoc (gap_lines b l) (l ∷ s.before) (line ∷ layout_lines (state_after s.behind line) rest)));
+            same = filled_gap (b.gap_pending && (b.gap_allowed && not (is_close l))) l s.before j ∙ rw (j, s.same) refl;
           }
     ]
 
@@ -133,10 +118,10 @@ place may gap_pending inside = record { gap_allowed = may; gap_pending = gap_pen
 
 skip_blanks : (may inside : Bool) (blanks rest : List (Line Word)) → list_all is_blank_line blanks ≡ true
     → layout_lines (place may true inside) (blanks ++ rest) ≡ layout_lines (place may true inside) rest
+unfolding layout_lines
 skip_blanks may inside [] rest h = refl
 skip_blanks may inside (x ∷ blanks) rest h =
-    let p = and_both (is_blank_line x) (list_all is_blank_line blanks) h in
-    layout_lines_blank (place may true inside) x (blanks ++ rest) p.0 ∙ skip_blanks may inside blanks rest p.1
+    let p = and_both (is_blank_line x) (list_all is_blank_line blanks) h in rw p.0 (skip_blanks may inside blanks rest p.1)
 
 abbrev one_blank : List (Line Word)
 one_blank = Blank ∷ []
@@ -149,19 +134,15 @@ same_gap false false = refl
 gap_is : (line next : Line Word) (blanks back : List (Line Word)) (inside : Bool) → list_all is_blank_line blanks ≡ true → is_blank_line next ≡ false
     → (after : List (Line Word)) × (layout_lines (place (not (is_open line)) false inside) (blanks ++ next ∷ back)
     ≡ gap_between line blanks next ++ next ∷ after) × (filled_lines after ≡ filled_lines back)
+unfolding layout_lines
 gap_is line next [] back inside h k =
-    let b = place (not (is_open line)) false inside in
-    (layout_lines (state_after b next) back, layout_lines_other b next back k, filled_again (state_after b next) back)
+    let b = state_after (place (not (is_open line)) false inside) next in (layout_lines b back, rw k refl, filled_again b back)
 gap_is line next (x ∷ blanks) back inside h k =
     let p = and_both (is_blank_line x) (list_all is_blank_line blanks) h in
-    let b = place (not (is_open line)) true inside in
-    let after : List (Line Word) = layout_lines (state_after b next) back in (
-      after,
-      layout_lines_blank (place (not (is_open line)) false inside) x (blanks ++ next ∷ back) p.0
-          ∙ skip_blanks (not (is_open line)) inside blanks (next ∷ back) p.1
-          ∙ layout_lines_other b next back k
-          ∙ ap (λ (g : List (Line Word)). g ++ next ∷ after) (same_gap (is_open line) (is_close next)),
-      filled_again (state_after b next) back,
+    let b = state_after (place (not (is_open line)) true inside) next in (
+      layout_lines b back,
+      rw (p.0, skip_blanks (not (is_open line)) inside blanks (next ∷ back) p.1, k, same_gap (is_open line) (is_close next)) refl,
+      filled_again b back,
     )
 
 are_laid_out : (lines : List (Line Word)) → AreLaidOut lines (layout_lines initial_state lines)
@@ -172,40 +153,24 @@ are_laid_out lines = record {
   between = λ front blanks back line next k h j e.
       let s = layout_lines_split initial_state front (blanks ++ next ∷ back) line k in
       let g = gap_is line next blanks back (inside_after s.behind.inside line) h j in
-      (s.before, g.0, ap (layout_lines initial_state) e ∙ s.parts ∙ ap (λ (t : List (Line Word)). s.before ++ line ∷ t) g.1, s.same, g.2);
+      (s.before, g.0, rw (e, s.parts, g.1) refl, s.same, g.2);
 }
 
 -- ---- no other lines are
 
 -- a line that is not blank, with the same lines before it, is at only one place of a list
 same_split : (f g x y : List (Line Word)) (a : Line Word) → is_blank_line a ≡ false → f ++ a ∷ x ≡ g ++ a ∷ y → filled_lines f ≡ filled_lines g → x ≡ y
+unfolding filled_lines
 same_split [] [] x y a k e h = cc
-same_split [] (m ∷ g) x y a k e h =
-    let same : a ≡ m = cc in
-    let none : filled_lines [] ≡ m ∷ filled_lines g = h ∙ filled_other m g (ap is_blank_line (sym same) ∙ k) in
-    absurd (nil_not_cons m (filled_lines g) (sym filled_none ∙ none))
-  where
-    nil_not_cons : (m : Line Word) (l : List (Line Word)) → [] ≡ m ∷ l → ⊥
-    nil_not_cons m l e = cc
-same_split (l ∷ f) [] x y a k e h =
-    let same : l ≡ a = cc in
-    let none : l ∷ filled_lines f ≡ filled_lines [] = sym (filled_other l f (ap is_blank_line same ∙ k)) ∙ h in
-    absurd (cons_not_nil l (filled_lines f) (none ∙ filled_none))
-  where
-    cons_not_nil : (m : Line Word) (l : List (Line Word)) → m ∷ l ≡ [] → ⊥
-    cons_not_nil m l e = cc
+same_split [] (m ∷ g) x y a k e h = let same : a ≡ m = cc in let none = rw (← same, k) at h in cc
+same_split (l ∷ f) [] x y a k e h = let same : l ≡ a = cc in let none = rw (same, k) at h in cc
 same_split (l ∷ f) (m ∷ g) x y a k e h =
     let same : l ≡ m = cc in
     let rest : f ++ a ∷ x ≡ g ++ a ∷ y = cc in
     elim (cases_Bool (is_blank_line l)) [
-      | inl j ↦ same_split f g x y a k rest (sym (filled_blank l f j) ∙ h ∙ filled_blank m g (ap is_blank_line (sym same) ∙ j))
-      | inr j ↦
-          let both : l ∷ filled_lines f ≡ m ∷ filled_lines g = sym (filled_other l f j) ∙ h ∙ filled_other m g (ap is_blank_line (sym same) ∙ j) in
-          same_split f g x y a k rest (tails l m (filled_lines f) (filled_lines g) both)
+      | inl j ↦ same_split f g x y a k rest (rw (← same, j) at h)
+      | inr j ↦ let both = rw (← same, j) at h in same_split f g x y a k rest cc
     ]
-  where
-    tails : (l m : Line Word) (xs ys : List (Line Word)) → l ∷ xs ≡ m ∷ ys → xs ≡ ys
-    tails l m xs ys e = cc
 
 ends_blank-append : (xs ys : List (Line Word)) (y : Line Word) → ends_blank (xs ++ y ∷ ys) ≡ ends_blank (y ∷ ys)
 ends_blank-append [] ys y = refl
@@ -214,14 +179,12 @@ ends_blank-append (x ∷ z ∷ xs) ys y = ends_blank-append (z ∷ xs) ys y
 
 -- if no line is kept, all lines are blank
 blank_front : (l : Line Word) (ls : List (Line Word)) → filled_lines (l ∷ ls) ≡ [] → (is_blank_line l ≡ true) × (filled_lines ls ≡ [])
+unfolding filled_lines
 blank_front l ls e =
     elim (cases_Bool (is_blank_line l)) [
-      | inl k ↦ (k, sym (filled_blank l ls k) ∙ e)
-      | inr k ↦ absurd (cons_not_nil l (filled_lines ls) (sym (filled_other l ls k) ∙ e))
+      | inl k ↦ (k, rw k at e)
+      | inr k ↦ let none = rw k at e in absurd cc
     ]
-  where
-    cons_not_nil : (m : Line Word) (l : List (Line Word)) → m ∷ l ≡ [] → ⊥
-    cons_not_nil m l e = cc
 
 blanks_end : (l : Line Word) (ls : List (Line Word)) → filled_lines (l ∷ ls) ≡ [] → ends_blank (l ∷ ls) ≡ true
 blanks_end l [] e = (blank_front l [] e).0
@@ -263,85 +226,61 @@ module _ (lines laid : List (Line Word)) (h : AreLaidOut lines laid) where
       → is_blank_line line ≡ false → list_all is_blank_line blanks ≡ true
       → lines ≡ front ++ line ∷ (blanks ++ rest) → laid ≡ before ++ line ∷ tail → filled_lines before ≡ filled_lines front
       → tail ≡ layout_lines (place (not (is_open line)) (is_some_line blanks) inside) rest
+  unfolding layout_lines
   tail_is [] front blanks before tail line inside k b e f same =
-      let left : filled_lines laid ≡ filled_lines front ++ line ∷ filled_lines tail =
-      ap filled_lines f ∙ filled-append before (line ∷ tail)
-      ∙ ap (λ (t : List (Line Word)). filled_lines before ++ t) (filled_other line tail k)
-      ∙ ap (λ (t : List (Line Word)). t ++ line ∷ filled_lines tail) same in
-      let none : filled_lines (blanks ++ []) ≡ [] = ap filled_lines (append-nil blanks) ∙ filled_blanks blanks b in
-      let right : filled_lines lines ≡ filled_lines front ++ line ∷ [] =
-      ap filled_lines e ∙ filled-append front (line ∷ (blanks ++ []))
-      ∙ ap (λ (t : List (Line Word)). filled_lines front ++ t)
-      (filled_other line (blanks ++ []) k ∙ ap (λ (t : List (Line Word)). line ∷ t) none) in
-      let ends : line ∷ filled_lines tail ≡ line ∷ [] = append_cancel_left (filled_lines front)
-      (line ∷ filled_lines tail) (line ∷ []) (sym left ∙ h.kept ∙ right) in
-      no_tail before tail line (tails line (filled_lines tail) [] ends) (ap ends_blank (sym f) ∙ h.no_blank_last)
-      ∙ sym (layout_lines_none (place (not (is_open line)) (is_some_line blanks) inside))
-    where
-      tails : (l : Line Word) (xs ys : List (Line Word)) → l ∷ xs ≡ l ∷ ys → xs ≡ ys
-      tails l xs ys e = cc
+      let kept = rw (
+        f,
+        e,
+        filled-append before (line ∷ tail),
+        filled-append front (line ∷ (blanks ++ [])),
+        same,
+        filled_other line tail k,
+        filled_other line (blanks ++ []) k,
+        append-nil blanks,
+        filled_blanks blanks b,
+      ) at h.kept in
+      let ends = append_cancel_left (filled_lines front) (line ∷ filled_lines tail) (line ∷ []) kept in
+      no_tail before tail line (cc) (rw f at h.no_blank_last)
   tail_is (l ∷ ls) front blanks before tail line inside k b e f same =
       elim (cases_Bool (is_blank_line l)) [
-        | inl j ↦
-            let more = tail_is ls front (blanks ++ l ∷ []) before tail line inside k (all_push blanks l b j)
-            (e ∙ ap (λ (t : List (Line Word)). front ++ line ∷ t) (sym (append_assoc blanks (l ∷ []) ls))) f same in
-            more ∙ ap (λ (p : Bool). layout_lines (place (not (is_open line)) p inside) ls) (some_push blanks l)
-            ∙ sym (layout_lines_blank (place (not (is_open line)) (is_some_line blanks) inside) l ls j)
+        | inl j ↦ rw j (rw (some_push blanks l) at (tail_is ls front (blanks ++ l ∷ []) before tail line inside k
+            (all_push blanks l b j) (rw (append_assoc blanks (l ∷ []) ls) e) f same))
         | inr j ↦
             let p = h.between front blanks ls line l k b j e in
             let gap : List (Line Word) = gap_between line blanks l in
             let here : tail ≡ gap ++ l ∷ p.1 = same_split before p.0 tail (gap ++ l ∷ p.1) line k (sym f ∙ p.2) (same ∙ sym p.3) in
-            let lines_at : lines ≡ (front ++ line ∷ blanks) ++ l ∷ ([] ++ ls) = e ∙ sym (append_assoc front (line ∷ blanks) (l ∷ ls)) in
-            let laid_at : laid ≡ (before ++ line ∷ gap) ++ l ∷ p.1 =
-            f ∙ ap (λ (t : List (Line Word)). before ++ line ∷ t) here
-            ∙ sym (append_assoc before (line ∷ gap) (l ∷ p.1)) in
-            let before_at : filled_lines (before ++ line ∷ gap) ≡ filled_lines (front ++ line ∷ blanks) =
-            filled-append before (line ∷ gap) ∙ ap (λ (t : List (Line Word)). filled_lines before ++ t)
-            (filled_other line gap k ∙ ap (λ (t : List (Line Word)). line ∷ t) (gap_none line l blanks))
-            ∙ ap (λ (t : List (Line Word)). t ++ line ∷ []) same
-            ∙ sym (filled-append front (line ∷ blanks) ∙ ap (λ (t : List (Line Word)). filled_lines front ++ t)
-            (filled_other line blanks k ∙ ap (λ (t : List (Line Word)). line ∷ t) (filled_blanks blanks b))) in
-            let past = tail_is ls (front ++ line ∷ blanks) [] (before ++ line ∷ gap) p.1 l (inside_after inside l) j refl lines_at laid_at before_at in
-            here ∙ ap (λ (t : List (Line Word)). gap ++ l ∷ t) past
-            ∙ ap (λ (t : List (Line Word)). t ++ l ∷ layout_lines
-            (place (not (is_open l)) false (inside_after inside l)) ls) (sym (gap_same line l blanks))
-            ∙ sym (layout_lines_other (place (not (is_open line)) (is_some_line blanks) inside) l ls j)
+            let past = tail_is ls (front ++ line ∷ blanks) [] (before ++ line ∷ gap) p.1 l (inside_after inside l) j refl
+            (rw (append_assoc front (line ∷ blanks) (l ∷ ls)) e) (rw (append_assoc before (line ∷ gap) (l ∷ p.1), ← here) f)
+            (rw (
+              filled-append before (line ∷ gap),
+              filled-append front (line ∷ blanks),
+              filled_other line gap k,
+              filled_other line blanks k,
+              gap_none line l blanks,
+              filled_blanks blanks b,
+              same,
+            ) refl) in
+            rw (here, j, gap_same line l blanks) (ap (λ t. gap ++ l ∷ t) past)
       ]
 
   all_is : (rest blanks : List (Line Word)) (gap_pending : Bool) → list_all is_blank_line blanks ≡ true
       → lines ≡ blanks ++ rest → laid ≡ layout_lines (place false gap_pending false) rest
-  all_is [] blanks gap_pending b e =
-      no_lines laid (h.kept ∙ ap filled_lines (e ∙ append-nil blanks) ∙ filled_blanks blanks b) h.no_blank_first
-      ∙ sym (layout_lines_none (place false gap_pending false))
+  unfolding layout_lines
+  all_is [] blanks gap_pending b e = no_lines laid (rw (e, append-nil blanks, filled_blanks blanks b) at h.kept) h.no_blank_first
   all_is (l ∷ ls) blanks gap_pending b e =
       elim (cases_Bool (is_blank_line l)) [
-        | inl j ↦ all_is ls (blanks ++ l ∷ []) true (all_push blanks l b j) (e ∙ sym (append_assoc blanks (l ∷ []) ls))
-            ∙ sym (layout_lines_blank (place false gap_pending false) l ls j)
-        | inr j ↦
-            let keeps : filled_lines laid ≡ l ∷ filled_lines ls =
-            h.kept ∙ ap filled_lines e ∙ filled-append blanks (l ∷ ls)
-            ∙ ap (λ (t : List (Line Word)). t ++ filled_lines (l ∷ ls)) (filled_blanks blanks b)
-            ∙ filled_other l ls j in
-            by_first laid keeps h.no_blank_first j refl
+        | inl j ↦ rw j (all_is ls (blanks ++ l ∷ []) true (all_push blanks l b j) (rw (append_assoc blanks (l ∷ []) ls) e))
+        | inr j ↦ by_first laid (rw (e, filled-append blanks (l ∷ ls), filled_blanks blanks b, filled_other l ls j) at h.kept) h.no_blank_first j refl
       ]
     where
       by_first : (all : List (Line Word)) → filled_lines all ≡ l ∷ filled_lines ls → begins_blank all ≡ false
           → is_blank_line l ≡ false → laid ≡ all → laid ≡ layout_lines (place false gap_pending false) (l ∷ ls)
-      by_first [] keeps first j f = absurd (nil_not_cons l (filled_lines ls) (sym filled_none ∙ keeps))
-        where
-          nil_not_cons : (m : Line Word) (l : List (Line Word)) → [] ≡ m ∷ l → ⊥
-          nil_not_cons m l e = cc
+      by_first [] keeps first j f = let none = rw filled_none at keeps in cc
       by_first (m ∷ all) keeps first j f =
-          let same : m ≡ l = heads m l (filled_lines all) (filled_lines ls) (sym (filled_other m all first) ∙ keeps) in
-          let at : laid ≡ l ∷ all = f ∙ ap (λ (x : Line Word). x ∷ all) same in
-          let past = tail_is ls blanks [] [] all l (inside_after false l) j refl e at (filled_none ∙ sym (filled_blanks blanks b)) in
-          at ∙ ap (λ (t : List (Line Word)). l ∷ t) past
-          ∙ ap (λ (c : Bool). cond c (Blank ∷ []) [] ++ l ∷ layout_lines
-          (place (not (is_open l)) false (inside_after false l)) ls) (sym (no_gap gap_pending (not (is_close l))))
-          ∙ sym (layout_lines_other (place false gap_pending false) l ls j)
-        where
-          heads : (x y : Line Word) (xs ys : List (Line Word)) → x ∷ xs ≡ y ∷ ys → x ≡ y
-          heads x y xs ys e = cc
+          let both = rw (filled_other m all first) at keeps in
+          let same : m ≡ l = cc in
+          let past = tail_is ls blanks [] [] all l (inside_after false l) j refl e (rw (← same) f) (filled_none ∙ sym (filled_blanks blanks b)) in
+          rw (f, same, j, no_gap gap_pending (not (is_close l))) (ap (λ t. l ∷ t) past)
 
 -- the layout of lines, stated without the algorithm
 pub is_layout : (lines : List (Line Word)) → IsLayout lines (layout lines)

@@ -3,19 +3,19 @@ use Rattle.std.proofs.Common.{◌≡◌, ℕ, Bool, true, false, List, [], ◌�
 use Rattle.std.specs.Prelude.{◌⊎◌, slice_get}
 use Rattle.std.proofs.lemmas.Bool.{cases_Bool, true≢false}
 use Rattle.gm_syntax.specs.declared.fault.SyntaxKind.{SyntaxKind}
-use Rattle.gm_syntax.specs.declared.fault.SyntaxKind.TheVariants.{StrayClose, NestedOpen, OpenBlock}
+use Rattle.gm_syntax.specs.declared.fault.SyntaxKind.TheVariants.{OpenBlock}
 use Rattle.gm_syntax.specs.declared.fault.SyntaxFault.{SyntaxFault}
 use Rattle.gm_syntax.specs.declared.fault.SyntaxFault.TheVariants as faults
 use Rattle.gm_syntax.specs.Words.{Word}
 use Rattle.gm_syntax.specs.Tokens.{Placed}
 use Rattle.gm_syntax.specs.Lines.{lines_of}
 use Rattle.gm_syntax.specs.Spelling.{Fault, Reads, IsSpelledBy}
-use Rattle.gm_syntax.specs.Document.{Line, Open, Close, Entry, ends_open, opens_block, begins_close, is_alone, Finish, Whole, Faulty, class_of, IsLineAt, HasLineFault, ReadsLines, start, after, Place}
+use Rattle.gm_syntax.specs.Document.{Line, Finish, Whole, Faulty, class_of, IsLineAt, HasLineFault, ReadsLines, start, after, Place}
 use Rattle.gm_syntax.specs.LineViews.{plain_lines}
 use Rattle.gm_syntax.specs.Parsed.{IsParsedAs}
 use Rattle.gm_syntax.specs.Reader.{IsOnlyText}
 use Rattle.gm_syntax.specs.Documents.{is_open_after, HaveNoFault, IsNeverClosed, IsReading, IsReadingResult}
-use Rattle.gm_syntax.proofs.Stable.{line_ok, line_err, same_ok, not_ok}
+use Rattle.gm_syntax.proofs.Stable.{line_ok, line_err, same_ok, not_ok, class_is}
 use Rattle.gm_syntax.proofs.OneReading.{one_spelling, one_fault, never_both, spelled_or_faulty}
 use Rattle.gm_syntax.proofs.TextPieces.{pieces_lines}
 use Rattle.gm_syntax.proofs.Readings.{reading_of, reads_as, some_same}
@@ -85,31 +85,7 @@ no_open_block_lexical before text (w ∷ words) r = no_open_block_lexical (Some 
 
 no_open_block_class : (inside : Bool) (words : List Word) (comment : Option (List ℕ))
     → class_of inside words comment ≡ Err OpenBlock → ⊥
-unfolding class_of
-no_open_block_class inside [] None e = cc
-no_open_block_class inside [] (Some text) e = cc
-no_open_block_class false (w ∷ ws) comment e =
-    elim (cases_Bool (opens_block (w ∷ ws))) [
-      | inl o ↦ err_not_ok OpenBlock (Open w comment) (sym (rw o refl) ∙ e)
-      | inr o ↦ elim (cases_Bool (ends_open (w ∷ ws))) [
-        | inl n ↦ let f : line_err NestedOpen ≡ line_err OpenBlock = sym (rw (o, n) refl) ∙ e in cc
-        | inr n ↦ elim (cases_Bool (begins_close (w ∷ ws))) [
-          | inl c ↦ let f : line_err StrayClose ≡ line_err OpenBlock = sym (rw (o, n, c) refl) ∙ e in cc
-          | inr c ↦ err_not_ok OpenBlock (Entry (w ∷ ws) comment) (sym (rw (o, n, c) refl) ∙ e)
-        ]
-      ]
-    ]
-no_open_block_class true (w ∷ ws) comment e =
-    elim (cases_Bool (begins_close (w ∷ ws))) [
-      | inl c ↦ elim (cases_Bool (is_alone ws)) [
-        | inl a ↦ err_not_ok OpenBlock (Close comment) (sym (rw (c, a) refl) ∙ e)
-        | inr a ↦ let f : line_err StrayClose ≡ line_err OpenBlock = sym (rw (c, a) refl) ∙ e in cc
-      ]
-      | inr c ↦ elim (cases_Bool (ends_open (w ∷ ws))) [
-        | inl n ↦ let f : line_err NestedOpen ≡ line_err OpenBlock = sym (rw (c, n) refl) ∙ e in cc
-        | inr n ↦ err_not_ok OpenBlock (Entry (w ∷ ws) comment) (sym (rw (c, n) refl) ∙ e)
-      ]
-    ]
+no_open_block_class inside words comment e = (rw e at (class_is inside words comment)) refl
 
 pub no_open_block_at : (inside : Bool) (text : List ℕ) → ¬ HasLineFault inside text OpenBlock
 no_open_block_at inside text f =

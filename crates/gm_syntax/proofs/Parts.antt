@@ -6,7 +6,7 @@ use Rattle.gm_syntax.specs.Words.{Word}
 use Rattle.gm_syntax.specs.Document.{Line, Blank, Comment, Open, Close, Entry, inside_after_all, IsValidLine, IsDocument, start}
 use Rattle.gm_syntax.specs.Documents.{Part, Single, Block, part_lines, IsLooseLine, IsPart, ConsistOfParts}
 use Rattle.gm_syntax.proofs.Changes.{AreValidFrom, lines_stand, standing_lines, stand_together, inside_after_all-append, inside_after-level, open_outside}
-use Rattle.gm_syntax.proofs.Alternation.{line_fits}
+use Rattle.gm_syntax.proofs.Stable.{line_fits}
 
 -- ---- the lines of parts are a document
 

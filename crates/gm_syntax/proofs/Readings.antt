@@ -10,10 +10,10 @@ use Rattle.gm_syntax.specs.Words.{Word}
 use Rattle.gm_syntax.specs.Lines.{lines_of}
 use Rattle.gm_syntax.specs.Document.{Line, Blank, Comment, Open, Close, Entry, Finish, Whole, Faulty, is_level, inside_after, inside_after_all, IsLineAt, HasLineFault, Finishes, ReadsLines, start, after, Place}
 use Rattle.gm_syntax.specs.Documents.{openings, closings, is_open_after, IsLastOpening, EndsAfter, IsReading}
-use Rattle.gm_syntax.proofs.Stable.{and_both, after_inside}
+use Rattle.gm_syntax.proofs.Stable.{and_both, after_inside, Fits, line_fits}
 use Rattle.gm_syntax.proofs.Changes.{inside_after_all-append, inside_after_all-level}
 use Rattle.gm_syntax.proofs.Texts.{number_after}
-use Rattle.gm_syntax.proofs.Alternation.{Fits, FitFrom, line_fits, fit_push, open_after, counts_closed, closed_by_counts}
+use Rattle.gm_syntax.proofs.Alternation.{FitFrom, fit_push, open_after, counts_closed, closed_by_counts}
 use Rattle.gm_syntax.proofs.TextPieces.{pieces_lines, lines_pieces}
 
 -- ---- the place after some lines
