@@ -75,22 +75,22 @@ alternate lines d = (
     last_closed = counts_closed lines (valid_fit false lines all.0) all.1;
   },
   λ front back line e.
-      let parts = stand_parts false front (line ∷ back) (subst (AreValidFrom false) e all.0) in
-      subst (λ (b : Bool). IsValidLine b line) (sym (open_after front (valid_fit false front parts.0))) parts.1.0,
+      let parts = stand_parts false front (line ∷ back) (rw (← e) all.0) in
+      rw (open_after front (valid_fit false front parts.0)) parts.1.0,
 )
   where
     all : AreValidFrom false lines × (inside_after_all false lines ≡ false)
     all = lines_stand start lines d
 
     front_fits : (front back : List (Line Word)) → lines ≡ front ++ back → FitFrom false front
-    front_fits front back e = valid_fit false front (stand_parts false front back (subst (AreValidFrom false) e all.0)).0
+    front_fits front back e = valid_fit false front (stand_parts false front back (rw (← e) all.0)).0
 
 valid_on : (lines front back : List (Line Word)) → AreValidInPlace lines → lines ≡ front ++ back
     → AreValidFrom false front → AreValidFrom false lines
-valid_on lines front [] v e f = subst (AreValidFrom false) (sym (e ∙ append-nil front)) f
+valid_on lines front [] v e f = rw (e ∙ append-nil front) f
 valid_on lines front (l ∷ back) v e f =
     let here : IsValidLine (inside_after_all false front) l =
-    subst (λ (b : Bool). IsValidLine b l) (open_after front (valid_fit false front f)) (v front back l e) in
+    rw (← (open_after front (valid_fit false front f))) (v front back l e) in
     valid_on lines (front ++ l ∷ []) back v (e ∙ sym (append_assoc front (l ∷ []) back)) (stand_together false front (l ∷ []) f (here, tt))
 
 pub alternating : (lines : List (Line Word)) → AreInTurn lines × AreValidInPlace lines → IsDocument lines

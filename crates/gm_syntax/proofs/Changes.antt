@@ -77,10 +77,10 @@ open_outside b verb suffix s = line_fits b s.0 (Open verb suffix) s.2
 slice_parts : (lines : List (Line Word)) (from to : ℕ) → from ≤ to → lines ≡ take from lines ++ (slice_range lines from to ++ drop to lines)
 slice_parts lines from to le =
     let middle : List (Line Word) = slice_range lines from to in
-    let past : drop (to - from) (drop from lines) ≡ drop to lines = drop-drop (to - from) from lines ∙ ap (λ (n : ℕ). drop n lines) (omega arith) in
+    let past : drop (to - from) (drop from lines) ≡ drop to lines = drop-drop (to - from) from lines ∙ ap (λ n. drop n lines) (omega arith) in
     let tail : drop from lines ≡ middle ++ drop to lines =
-    sym (take-append-drop (to - from) (drop from lines)) ∙ ap (λ (l : List (Line Word)). middle ++ l) past in
-    sym (take-append-drop from lines) ∙ ap (λ (l : List (Line Word)). take from lines ++ l) tail
+    sym (take-append-drop (to - from) (drop from lines)) ∙ ap (λ l. middle ++ l) past in
+    sym (take-append-drop from lines) ∙ ap (λ l. take from lines ++ l) tail
 
 -- the same, by index
 pub lines_go_out_at : (lines : List (Line Word)) (from to : ℕ) → from ≤ to → IsDocument lines
@@ -89,14 +89,14 @@ pub lines_go_out_at : (lines : List (Line Word)) (from to : ℕ) → from ≤ to
 lines_go_out_at lines from to le d e =
     let middle : List (Line Word) = slice_range lines from to in
     let whole = slice_parts lines from to le in
-    let upto : take to lines ≡ take from lines ++ middle = ap (λ (n : ℕ). take n lines) (omega arith) ∙ take-add from (to - from) lines in
-    lines_go_out (take from lines) middle (drop to lines) (subst IsDocument whole d)
+    let upto : take to lines ≡ take from lines ++ middle = ap (λ n. take n lines) (omega arith) ∙ take-add from (to - from) lines in
+    lines_go_out (take from lines) middle (drop to lines) (rw (← whole) d)
     (sym (inside_after_all-append false (take from lines) middle) ∙ ap (inside_after_all false) (sym upto) ∙ e)
 
 pub level_lines_go_out_at : (lines : List (Line Word)) (from to : ℕ) → from ≤ to → IsDocument lines
     → list_all is_level (slice_range lines from to) ≡ true → IsDocument (without lines from to)
 level_lines_go_out_at lines from to le d e =
-    let upto : take to lines ≡ take from lines ++ slice_range lines from to = ap (λ (n : ℕ). take n lines) (omega arith) ∙ take-add from (to - from) lines in
+    let upto : take to lines ≡ take from lines ++ slice_range lines from to = ap (λ n. take n lines) (omega arith) ∙ take-add from (to - from) lines in
     lines_go_out_at lines from to le d (ap (inside_after_all false) upto
     ∙ inside_after_all-append false (take from lines) (slice_range lines from to)
     ∙ inside_after_all-level (inside_after_all false (take from lines)) (slice_range lines from to) e)
@@ -109,13 +109,13 @@ pub block_goes_out_at : (lines inner behind : List (Line Word)) (from to : ℕ) 
 block_goes_out_at lines inner behind from to verb suffix last le d is e f =
     let front : List (Line Word) = take from lines in
     let block : List (Line Word) = Open verb suffix ∷ (inner ++ Close last ∷ behind) in
-    let whole : lines ≡ front ++ (block ++ drop to lines) = slice_parts lines from to le ∙ ap (λ (l : List (Line Word)). front ++ (l ++ drop to lines)) is in
-    let all = lines_stand start (front ++ (block ++ drop to lines)) (subst IsDocument whole d) in
+    let whole : lines ≡ front ++ (block ++ drop to lines) = slice_parts lines from to le ∙ ap (λ l. front ++ (l ++ drop to lines)) is in
+    let all = lines_stand start (front ++ (block ++ drop to lines)) (rw (← whole) d) in
     let opening = (stand_parts false front (block ++ drop to lines) all.0).1.0 in
     let outside : inside_after_all false front ≡ false = open_outside (inside_after_all false front) verb suffix opening in
     let closed : inside_after_all true (inner ++ Close last ∷ behind) ≡ false =
     inside_after_all-append true inner (Close last ∷ behind) ∙ inside_after_all-level false behind f in
-    lines_go_out front block (drop to lines) (subst IsDocument whole d) (closed ∙ sym outside)
+    lines_go_out front block (drop to lines) (rw (← whole) d) (closed ∙ sym outside)
 
 -- ---- inserting lines
 

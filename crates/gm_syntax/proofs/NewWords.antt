@@ -39,7 +39,7 @@ escape-by b rest false false eq es = unescaped-plain b rest (sym es)
 pub unescaped-escaped : (value : List ℕ) → unescaped_bytes (escaped_value value) ≡ value
 unescaped-escaped [] = refl
 unescaped-escaped (b ∷ value) =
-    escape-by b (escaped_value value) (b == 34) (b == 92) refl refl ∙ ap (λ (t : List ℕ). b ∷ t) (unescaped-escaped value)
+    escape-by b (escaped_value value) (b == 34) (b == 92) refl refl ∙ ap (λ t. b ∷ t) (unescaped-escaped value)
 
 string_is : (text value : List ℕ) → IsString text value → string_value text ≡ value
 string_is text value (inl e) = ap string_value e ∙ ap unescaped_bytes (last-cut (escaped_value value) 34) ∙ unescaped-escaped value
@@ -89,14 +89,14 @@ new_value value plain =
     ]
 
 pub new_word_stands : (value : List ℕ) (t : Placed) → HasNoLineFeed value → IsNewWord value t → IsWord t.word × HasValue t.word value
-new_word_stands value t plain h = subst (λ (p : Placed). IsWord p.word × HasValue p.word value) (sym (new_word_is value t h)) (new_value value plain)
+new_word_stands value t plain h = rw (new_word_is value t h) (new_value value plain)
 
 pub no_mark : (b : ℕ) (value : List ℕ) → is_mark b (new_word value) ≡ false
 no_mark b value = elim (cases_Bool (can_be_bare value)) [ inl e ↦ rw e refl | inr e ↦ rw e refl ]
 
 -- a new word is not punctuation
 pub new_word_no_mark : (b : ℕ) (value : List ℕ) (t : Placed) → IsNewWord value t → is_mark b t.word ≡ false
-new_word_no_mark b value t h = ap (λ (p : Placed). is_mark b p.word) (new_word_is value t h) ∙ no_mark b value
+new_word_no_mark b value t h = ap (λ p. is_mark b p.word) (new_word_is value t h) ∙ no_mark b value
 
 pub mark_stands : (punct : Punct) → IsWord (record { kind = Mark; spelling = mark_text punct })
 unfolding is_bracket_or_comma

@@ -30,8 +30,8 @@ module _ (inside : Bool) (text : List ℕ) (words : List Word) where
         → class_of inside others other ≡ answer
     class_is answer is others other spelled =
         let same = so.only others (ending_of other) spelled in
-        subst (λ (ws : List Word). class_of inside ws other ≡ answer) (sym same.0)
-        (subst (λ (c : Option (List ℕ)). class_of inside words c ≡ answer) (sym (one_comment other comment same.1)) is)
+        rw same.0
+        (rw (one_comment other comment same.1) is)
 
     no_lexical : (kind : SyntaxKind) (others : List Word) → Reads None text others (Fault kind) → ⊥
     no_lexical kind others reads = fault_no_ending comment kind (so.only others (Fault kind) reads).1

@@ -33,7 +33,7 @@ class_same : (inside : Bool) (text : List ℕ) (words others : List Word) (comme
     → class_of inside words comment ≡ class_of inside others other
 class_same inside text words others comment other s t =
     let e = one_spelling text words others comment other s t in
-    ap (λ (ws : List Word). class_of inside ws comment) e.0 ∙ ap (class_of inside others) e.1
+    ap (λ ws. class_of inside ws comment) e.0 ∙ ap (class_of inside others) e.1
 
 pub one_line_at : (inside : Bool) (text : List ℕ) (line other : Line Word) → IsLineAt inside text line
     → IsLineAt inside text other → line ≡ other
@@ -115,19 +115,19 @@ one_walk at [] [] [] Whole Whole r s = (refl, refl)
 one_walk at [] [] [] Whole (Faulty n k) r s = absurd (true≢false (sym s.0 ∙ r))
 one_walk at [] [] [] (Faulty n k) Whole r s = absurd (true≢false (sym r.0 ∙ s))
 one_walk at [] [] [] (Faulty n k) (Faulty m j) r s =
-    (refl, ap (λ (x : ℕ). Faulty x j) (s.1 ∙ sym r.1) ∙ ap (Faulty n) (s.2 ∙ sym r.2))
+    (refl, ap (λ x. Faulty x j) (s.1 ∙ sym r.1) ∙ ap (Faulty n) (s.2 ∙ sym r.2))
 one_walk at [] [] (m ∷ others) f g r s = absurd s
 one_walk at [] (l ∷ lines) others f g r s = absurd r
 one_walk at (t ∷ ts) [] others Whole g r s = absurd r
 one_walk at (t ∷ ts) lines [] f Whole r s = absurd s
 one_walk at (t ∷ ts) [] [] (Faulty n k) (Faulty m j) r s =
-    (refl, ap (λ (x : ℕ). Faulty x j) (s.0 ∙ sym r.0) ∙ ap (Faulty n) (one_fault_at at.inside t j k s.1 r.1))
+    (refl, ap (λ x. Faulty x j) (s.0 ∙ sym r.0) ∙ ap (Faulty n) (one_fault_at at.inside t j k s.1 r.1))
 one_walk at (t ∷ ts) [] (m ∷ others) (Faulty n k) g r s = absurd (not_both_at at.inside t m k s.0 r.1)
 one_walk at (t ∷ ts) (l ∷ lines) [] f (Faulty m j) r s = absurd (not_both_at at.inside t l j r.0 s.1)
 one_walk at (t ∷ ts) (l ∷ lines) (m ∷ others) f g r s =
     let same : m ≡ l = one_line_at at.inside t m l s.0 r.0 in
-    let more = one_walk (after at l) ts lines others f g r.1 (subst (λ (x : Line Word). ReadsLines (after at x) ts others g) same s.1) in
-    (ap (λ (x : Line Word). x ∷ others) same ∙ ap (λ (xs : List (Line Word)). l ∷ xs) more.0, more.1)
+    let more = one_walk (after at l) ts lines others f g r.1 (rw (← same) s.1) in
+    (ap (λ x. x ∷ others) same ∙ ap (λ xs. l ∷ xs) more.0, more.1)
 
 pub some_reading : (text : List ℕ) → (lines : List (Line Word)) × (f : Finish) × IsReading text lines f
 some_reading text = let w = some_walk start (lines_of text) in (w.0, w.1, reading_of text w.0 w.1 w.2)
@@ -144,10 +144,10 @@ pub no_fault_before : (text : List ℕ) (lines : List (Line Word)) (f : Finish) 
 no_fault_before text lines f r front back line piece kind e at =
     let h = r.are_lines front back line e in
     let here : slice_get (lines_of text) (length front) ≡ Some h.0 =
-    ap (λ (ts : List (List ℕ)). slice_get ts (length front)) (sym (pieces_lines text r.pieces r.are_pieces))
+    ap (λ ts. slice_get ts (length front)) (sym (pieces_lines text r.pieces r.are_pieces))
     ∙ h.1 in
     not_both_at (is_open_after front) piece line kind
-    (subst (λ (t : List ℕ). IsLineAt (is_open_after front) t line) (some_same h.0 piece (sym here ∙ at)) h.2)
+    (rw (← (some_same h.0 piece (sym here ∙ at))) h.2)
 
 pub never_closed : (text : List ℕ) (lines : List (Line Word)) (number : ℕ)
     → IsReading text lines (Faulty number OpenBlock) → IsNeverClosed (lines_of text) lines number

@@ -16,22 +16,22 @@ loose_valid inside [] a = (tt, refl)
 loose_valid inside (l ∷ ls) a =
     let same = inside_after-level inside l a.0.0 in
     let more = loose_valid inside ls a.1 in
-    ((a.0.1, subst (λ (b : Bool). AreValidFrom b ls) (sym same) more.0), ap (λ (b : Bool). inside_after_all b ls) same ∙ more.1)
+    ((a.0.1, rw same more.0), ap (λ b. inside_after_all b ls) same ∙ more.1)
 
 abbrev AreClosed : List (Line Word) → Type 0
 AreClosed lines = AreValidFrom false lines × (inside_after_all false lines ≡ false)
 
 closed_together : (xs ys : List (Line Word)) → AreClosed xs → AreClosed ys → AreClosed (xs ++ ys)
 closed_together xs ys a b = (
-  stand_together false xs ys a.0 (subst (λ (c : Bool). AreValidFrom c ys) (sym a.1) b.0),
-  inside_after_all-append false xs ys ∙ ap (λ (c : Bool). inside_after_all c ys) a.1 ∙ b.1,
+  stand_together false xs ys a.0 (rw a.1 b.0),
+  inside_after_all-append false xs ys ∙ ap (λ c. inside_after_all c ys) a.1 ∙ b.1,
 )
 
 part_closed : (part : Part) → IsPart part → AreClosed (part_lines part)
 part_closed (Single line) p = ((p.1, tt), inside_after-level false line p.0)
 part_closed (Block verb suffix inner last) p =
     let loose = loose_valid true inner p.1 in
-    let closing : AreValidFrom (inside_after_all true inner) (Close last ∷ []) = (subst (λ (b : Bool). IsValidLine b (Close last)) (sym loose.1) p.2, tt) in
+    let closing : AreValidFrom (inside_after_all true inner) (Close last ∷ []) = (rw loose.1 p.2, tt) in
     ((p.0, stand_together true inner (Close last ∷ []) loose.0 closing), inside_after_all-append true inner (Close last ∷ []))
 
 parts_closed : (parts : List Part) → AllByRecursion IsPart parts → AreClosed (flat_map part_lines parts)
@@ -42,7 +42,7 @@ parts_closed (p ∷ parts) a =
 pub parts_document : (lines : List (Line Word)) → ConsistOfParts lines → IsDocument lines
 parts_document lines h =
     let all = parts_closed h.parts h.are_parts in
-    subst IsDocument (sym h.all_lines) (standing_lines start (flat_map part_lines h.parts) all.0 all.1)
+    rw h.all_lines (standing_lines start (flat_map part_lines h.parts) all.0 all.1)
 
 -- ---- a document has parts
 
@@ -63,15 +63,15 @@ PartsFrom true lines = RestOfBlock lines
 single : (line : Line Word) (lines : List (Line Word)) → IsLooseLine false line → ConsistOfParts lines
     → ConsistOfParts (line ∷ lines)
 single line lines loose h =
-    record { parts = Single line ∷ h.parts; are_parts = (loose, h.are_parts); all_lines = ap (λ (t : List (Line Word)). line ∷ t) h.all_lines }
+    record { parts = Single line ∷ h.parts; are_parts = (loose, h.are_parts); all_lines = ap (λ t. line ∷ t) h.all_lines }
 
 block : (verb : Word) (suffix : Option (List ℕ)) (lines : List (Line Word)) → IsValidLine false (Open verb suffix)
     → RestOfBlock lines → ConsistOfParts (Open verb suffix ∷ lines)
 block verb suffix lines valid r = record {
   parts = Block verb suffix r.inner r.last ∷ r.more.parts;
   are_parts = ((valid, r.loose, r.closing), r.more.are_parts);
-  all_lines = ap (λ (t : List (Line Word)). Open verb suffix ∷ t)
-      (r.split ∙ ap (λ (t : List (Line Word)). r.inner ++ Close r.last ∷ t) r.more.all_lines
+  all_lines = ap (λ t. Open verb suffix ∷ t)
+      (r.split ∙ ap (λ t. r.inner ++ Close r.last ∷ t) r.more.all_lines
       ∙ sym (append_assoc r.inner (Close r.last ∷ []) (flat_map part_lines r.more.parts)));
 }
 
@@ -83,7 +83,7 @@ in_block line lines loose r = record {
   others = r.others;
   loose = (loose, r.loose);
   closing = r.closing;
-  split = ap (λ (t : List (Line Word)). line ∷ t) r.split;
+  split = ap (λ t. line ∷ t) r.split;
   more = r.more;
 }
 

@@ -41,7 +41,7 @@ opening_stays lines line number k o = record {
   verb = o.verb;
   suffix = o.suffix;
   inner = o.inner ++ line ∷ [];
-  split = ap (λ (t : List (Line Word)). t ++ line ∷ []) o.split ∙ append_assoc o.front (Open o.verb o.suffix ∷ o.inner) (line ∷ []);
+  split = ap (λ t. t ++ line ∷ []) o.split ∙ append_assoc o.front (Open o.verb o.suffix ∷ o.inner) (line ∷ []);
   never_closed = level_push o.inner line o.never_closed k;
   numbered = o.numbered;
 }
@@ -62,9 +62,9 @@ opening_after lines at (Entry words suffix) p e = opening_stays lines (Entry wor
 place_step : (lines : List (Line Word)) (at : Place) (line : Line Word) → IsPlaceAfter lines at
     → Fits at.inside line → IsPlaceAfter (lines ++ line ∷ []) (after at line)
 place_step lines at line p f = record {
-  fit = fit_push false lines line p.fit (subst (λ (b : Bool). Fits b line) p.inside f);
+  fit = fit_push false lines line p.fit (rw (← p.inside) f);
   number = omega (arith, number_after at line, p.number, length-append lines (line ∷ []));
-  inside = after_inside at line ∙ ap (λ (b : Bool). inside_after b line) p.inside ∙ sym (inside_after_all-append false lines (line ∷ []));
+  inside = after_inside at line ∙ ap (λ b. inside_after b line) p.inside ∙ sym (inside_after_all-append false lines (line ∷ []));
   opened = opening_after lines at line p;
 }
 
@@ -78,11 +78,11 @@ line_at : (at : Place) (before front back : List (Line Word)) (line : Line Word)
     → (piece : List ℕ) × (slice_get texts (length front) ≡ Some piece) × IsLineAt (is_open_after (before ++ front)) piece line
 line_at at before [] back line [] f p r = absurd r
 line_at at before [] back line (t ∷ ts) f p r =
-    (t, refl, subst (λ (b : Bool). IsLineAt b t line) (place_open before at p ∙ ap is_open_after (sym (append-nil before))) r.0)
+    (t, refl, rw (← (place_open before at p ∙ ap is_open_after (sym (append-nil before)))) r.0)
 line_at at before (l ∷ front) back line [] f p r = absurd r
 line_at at before (l ∷ front) back line (t ∷ ts) f p r =
     let more = line_at (after at l) (before ++ l ∷ []) front back line ts f (place_step before at l p (line_fits at.inside t l r.0)) r.1 in
-    (more.0, more.1, subst (λ (ls : List (Line Word)). IsLineAt (is_open_after ls) more.0 line) (append_assoc before (l ∷ []) front) more.2)
+    (more.0, more.1, rw (← (append_assoc before (l ∷ []) front)) more.2)
 
 -- the place after all lines, and the texts that are left there
 record WalksTo (all : List (Line Word)) (count : ℕ) (texts : List (List ℕ)) (f : Finish) : Type 0 where
@@ -98,7 +98,7 @@ walk : (at : Place) (before lines : List (Line Word)) (texts : List (List ℕ)) 
     → ReadsLines at texts lines f → WalksTo (before ++ lines) (length lines) texts f
 walk at before [] texts f p r = record {
   end = at;
-  place = subst (λ (ls : List (Line Word)). IsPlaceAfter ls at) (sym (append-nil before)) p;
+  place = rw (append-nil before) p;
   front = [];
   rest = texts;
   split = refl;
@@ -110,10 +110,10 @@ walk at before (l ∷ ls) (t ∷ ts) f p r =
     let w = walk (after at l) (before ++ l ∷ []) ls ts f (place_step before at l p (line_fits at.inside t l r.0)) r.1 in
     record {
       end = w.end;
-      place = subst (λ (xs : List (Line Word)). IsPlaceAfter xs w.end) (append_assoc before (l ∷ []) ls) w.place;
+      place = rw (← (append_assoc before (l ∷ []) ls)) w.place;
       front = t ∷ w.front;
       rest = w.rest;
-      split = ap (λ (xs : List (List ℕ)). t ∷ xs) w.split;
+      split = ap (λ xs. t ∷ xs) w.split;
       as_many = ap suc w.as_many;
       finishes = w.finishes;
     }
@@ -129,12 +129,12 @@ ends_by lines texts front [] end Whole p e n h =
     (omega (arith, n, ap length e, length-append front []), counts_closed lines p.fit (sym p.inside ∙ h))
 ends_by lines texts front (t ∷ rest) end Whole p e n h = absurd h
 ends_by lines texts front [] end (Faulty number kind) p e n h =
-    inr ((omega (arith, n, ap length e, length-append front []), subst (IsLastOpening lines) (sym h.1) (p.opened h.0)), h.2)
+    inr ((omega (arith, n, ap length e, length-append front []), rw h.1 (p.opened h.0)), h.2)
 ends_by lines texts front (t ∷ rest) end (Faulty number kind) p e n h =
     inl (record {
       piece = t;
-      is_next = ap (slice_get texts) (sym n) ∙ ap (λ (ts : List (List ℕ)). slice_get ts (length front)) e ∙ get_next front rest t;
-      has_fault = subst (λ (b : Bool). HasLineFault b t kind) (place_open lines end p) h.1;
+      is_next = ap (slice_get texts) (sym n) ∙ ap (λ ts. slice_get ts (length front)) e ∙ get_next front rest t;
+      has_fault = rw (← (place_open lines end p)) h.1;
       numbered = h.0 ∙ p.number;
     })
 
@@ -146,7 +146,7 @@ reading_of text lines f r =
       pieces = lines_of text;
       are_pieces = lines_pieces text;
       are_lines = λ front back line e. line_at start [] front back line (lines_of text) f place_start
-          (subst (λ (ls : List (Line Word)). ReadsLines start (lines_of text) ls f) e r);
+          (rw (← e) r);
       ends = ends_by lines (lines_of text) w.front w.rest w.end f w.place w.split w.as_many w.finishes;
     }
 
@@ -237,8 +237,8 @@ finish_by at all (t ∷ ts) (Faulty number kind) p h =
     elim h [
       | inl s ↦ (
         s.numbered ∙ sym p.number,
-        subst (λ (x : List ℕ). HasLineFault at.inside x kind) (sym (some_same t s.piece s.is_next))
-            (subst (λ (b : Bool). HasLineFault b s.piece kind) (sym (place_open all at p)) s.has_fault),
+        rw (some_same t s.piece s.is_next)
+            (rw (place_open all at p) s.has_fault),
       )
       | inr s ↦ absurd (omega (arith, s.0))
     ]
@@ -251,20 +251,20 @@ walk_by : (at : Place) (before lines : List (Line Word)) (texts : List (List ℕ
     → IsPlaceAfter before at → AreLinesFrom before texts lines → EndsFrom (before ++ lines) (length lines) texts f
     → ReadsLines at texts lines f
 walk_by at before [] texts f p each ends =
-    finish_by at before texts f p (subst (λ (ls : List (Line Word)). EndsFrom ls 0 texts f) (append-nil before) ends)
+    finish_by at before texts f p (rw (← (append-nil before)) ends)
 walk_by at before (l ∷ ls) [] f p each ends =
     let h = each [] ls l refl in absurd (none_not_some h.0 (slice_get [] 0) refl h.1)
 walk_by at before (l ∷ ls) (t ∷ ts) f p each ends =
     let h = each [] ls l refl in
     let inside : is_open_after (before ++ []) ≡ at.inside = ap is_open_after (append-nil before) ∙ sym (place_open before at p) in
-    let here : IsLineAt at.inside t l = subst (λ (x : List ℕ). IsLineAt at.inside x l) (sym (some_same t h.0 h.1))
-    (subst (λ (b : Bool). IsLineAt b h.0 l) inside h.2) in (
+    let here : IsLineAt at.inside t l = rw (some_same t h.0 h.1)
+    (rw (← inside) h.2) in (
       here,
       walk_by (after at l) (before ++ l ∷ []) ls ts f (place_step before at l p (line_fits at.inside t l here))
           (λ front back line e.
-          let m = each (l ∷ front) back line (ap (λ (xs : List (Line Word)). l ∷ xs) e) in
-          (m.0, m.1, subst (λ (xs : List (Line Word)). IsLineAt (is_open_after xs) m.0 line) (sym (append_assoc before (l ∷ []) front)) m.2))
-          (subst (λ (xs : List (Line Word)). EndsFrom xs (length ls) ts f) (sym (append_assoc before (l ∷ []) ls))
+          let m = each (l ∷ front) back line (ap (λ xs. l ∷ xs) e) in
+          (m.0, m.1, rw (append_assoc before (l ∷ []) front) m.2))
+          (rw (append_assoc before (l ∷ []) ls)
           (ends_more (before ++ l ∷ ls) (length ls) t ts f ends)),
     )
 
@@ -280,5 +280,5 @@ ends_start lines texts (Faulty number kind) h =
 pub reads_as : (text : List ℕ) (lines : List (Line Word)) (f : Finish) → IsReading text lines f
     → ReadsLines start (lines_of text) lines f
 reads_as text lines f h =
-    subst (λ (ts : List (List ℕ)). ReadsLines start ts lines f) (pieces_lines text h.pieces h.are_pieces)
+    rw (← (pieces_lines text h.pieces h.are_pieces))
     (walk_by start [] lines h.pieces f place_start h.are_lines (ends_start lines h.pieces f h.ends))

@@ -20,7 +20,7 @@ ended_lines [] rest p = refl
 ended_lines (t ∷ front) rest p =
     let whole : (with_line_feed t ++ joined front) ++ rest ≡ t ++ 10 ∷ (joined front ++ rest) =
     append_assoc (with_line_feed t) (joined front) rest ∙ append_assoc t (10 ∷ []) (joined front ++ rest) in
-    ap lines_of whole ∙ ended_line t (joined front ++ rest) p.0 ∙ ap (λ (ts : List (List ℕ)). t ∷ ts) (ended_lines front rest p.1)
+    ap lines_of whole ∙ ended_line t (joined front ++ rest) p.0 ∙ ap (λ ts. t ∷ ts) (ended_lines front rest p.1)
 
 last_line : (last : List ℕ) → last ≢ [] → HasNoLineFeed last → lines_of last ≡ last ∷ []
 last_line [] n p = absurd (n refl)
@@ -37,10 +37,10 @@ pub pieces_lines : (text : List ℕ) (pieces : List (List ℕ)) → ArePieces te
 pieces_lines text pieces h =
     elim h.joined [
       | inl e ↦ sym (ap lines_of (e ∙ sym (append-nil (joined pieces))) ∙ ended_lines pieces [] h.no_line_feed
-          ∙ ap (λ (t : List (List ℕ)). pieces ++ t) lines_nil ∙ append-nil pieces)
+          ∙ ap (λ t. pieces ++ t) lines_nil ∙ append-nil pieces)
       | inr s ↦
-          let plain = plain_parts s.0 (s.1 ∷ []) (subst (AllByRecursion HasNoLineFeed) s.2 h.no_line_feed) in
-          s.2 ∙ sym (ap lines_of s.4 ∙ ended_lines s.0 s.1 plain.0 ∙ ap (λ (t : List (List ℕ)). s.0 ++ t) (last_line s.1 s.3 plain.1.0))
+          let plain = plain_parts s.0 (s.1 ∷ []) (rw (← s.2) h.no_line_feed) in
+          s.2 ∙ sym (ap lines_of s.4 ∙ ended_lines s.0 s.1 plain.0 ∙ ap (λ t. s.0 ++ t) (last_line s.1 s.3 plain.1.0))
     ]
 
 -- ---- the lines are pieces
@@ -49,8 +49,8 @@ cut_piece : (text : List ℕ) (pieces : List (List ℕ)) → ArePieces text piec
 cut_piece text pieces h = record {
   no_line_feed = (tt, h.no_line_feed);
   joined = elim h.joined [
-    | inl e ↦ inl (ap (λ (t : List ℕ). 10 ∷ t) e)
-    | inr s ↦ inr ([] ∷ s.0, s.1, ap (λ (t : List (List ℕ)). [] ∷ t) s.2, s.3, ap (λ (t : List ℕ). 10 ∷ t) s.4)
+    | inl e ↦ inl (ap (λ t. 10 ∷ t) e)
+    | inr s ↦ inr ([] ∷ s.0, s.1, ap (λ t. [] ∷ t) s.2, s.3, ap (λ t. 10 ∷ t) s.4)
   ];
 }
 
@@ -66,14 +66,14 @@ more_piece : (b : ℕ) (text : List ℕ) (pieces : List (List ℕ)) → b ≢ 10
 more_piece b text [] n h = record {
   no_line_feed = ((n, tt), tt);
   joined = elim h.joined [
-    | inl e ↦ inr ([], b ∷ [], refl, not_empty b [], ap (λ (t : List ℕ). b ∷ t) e)
+    | inl e ↦ inr ([], b ∷ [], refl, not_empty b [], ap (λ t. b ∷ t) e)
     | inr s ↦ absurd (no_split s.0 s.1 s.2)
   ];
 }
 more_piece b text (piece ∷ pieces) n h = record {
   no_line_feed = ((n, h.no_line_feed.0), h.no_line_feed.1);
   joined = elim h.joined [
-    | inl e ↦ inl (ap (λ (t : List ℕ). b ∷ t) e)
+    | inl e ↦ inl (ap (λ t. b ∷ t) e)
     | inr s ↦ inr (by_front s.0 s.1 s.2 s.3 s.4)
   ];
 }
@@ -92,31 +92,31 @@ more_piece b text (piece ∷ pieces) n h = record {
         let none : pieces ≡ [] = others last pieces [] parts in (
           [],
           b ∷ last,
-          ap (λ (t : List ℕ). (b ∷ t) ∷ pieces) same ∙ ap (λ (ts : List (List ℕ)). (b ∷ last) ∷ ts) none,
+          ap (λ t. (b ∷ t) ∷ pieces) same ∙ ap (λ ts. (b ∷ last) ∷ ts) none,
           not_empty b last,
-          ap (λ (t : List ℕ). b ∷ t) e,
+          ap (λ t. b ∷ t) e,
         )
     by_front (t ∷ front) last parts filled e =
         let same : piece ≡ t = firsts t pieces (front ++ last ∷ []) parts in
         let more : pieces ≡ front ++ last ∷ [] = others t pieces (front ++ last ∷ []) parts in (
           (b ∷ t) ∷ front,
           last,
-          ap (λ (x : List ℕ). (b ∷ x) ∷ pieces) same
-              ∙ ap (λ (ts : List (List ℕ)). (b ∷ t) ∷ ts) more,
+          ap (λ x. (b ∷ x) ∷ pieces) same
+              ∙ ap (λ ts. (b ∷ t) ∷ ts) more,
           filled,
-          ap (λ (x : List ℕ). b ∷ x) e,
+          ap (λ x. b ∷ x) e,
         )
 
 pub lines_pieces : (text : List ℕ) → ArePieces text (lines_of text)
 lines_pieces [] =
-    record { no_line_feed = subst (AllByRecursion HasNoLineFeed) (sym lines_nil) tt; joined = inl (sym (ap joined lines_nil)) }
+    record { no_line_feed = rw lines_nil tt; joined = inl (sym (ap joined lines_nil)) }
 lines_pieces (b ∷ bytes) =
     elim (cases_eq b 10) [
-      | inl e ↦ subst (ArePieces (b ∷ bytes)) (sym (lines_cut b bytes e))
-          (subst (λ (c : ℕ). ArePieces (c ∷ bytes) ([] ∷ lines_of bytes)) (sym e)
+      | inl e ↦ rw (lines_cut b bytes e)
+          (rw e
           (cut_piece bytes (lines_of bytes) (lines_pieces bytes)))
-      | inr n ↦ subst (ArePieces (b ∷ bytes)) (sym (lines_more b bytes n)) (more_piece b bytes (lines_of bytes) n (lines_pieces bytes))
+      | inr n ↦ rw (lines_more b bytes n) (more_piece b bytes (lines_of bytes) n (lines_pieces bytes))
     ]
 
 pub pieces_are_lines : (text : List ℕ) (pieces : List (List ℕ)) → pieces ≡ lines_of text → ArePieces text pieces
-pieces_are_lines text pieces e = subst (ArePieces text) (sym e) (lines_pieces text)
+pieces_are_lines text pieces e = rw e (lines_pieces text)
