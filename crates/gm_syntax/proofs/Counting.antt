@@ -40,36 +40,36 @@ module _ {source : List ℕ} {from number : ℕ} {text rest : List ℕ} {t : Pla
   word_counted : t.line ≡ number → IsLineCounted source t
   word_counted is =
       let inner : text ++ s.tail ≡ n.blanks ++ ((t.word.spelling ++ rest) ++ s.tail) =
-      ap (λ (l : List ℕ). l ++ s.tail) n.parts ∙ append_assoc n.blanks (t.word.spelling ++ rest) s.tail in
+      ap (λ l. l ++ s.tail) n.parts ∙ append_assoc n.blanks (t.word.spelling ++ rest) s.tail in
       let whole : source ≡ (s.front ++ n.blanks) ++ ((t.word.spelling ++ rest) ++ s.tail) =
-      s.parts ∙ ap (λ (l : List ℕ). s.front ++ l) inner ∙ sym
+      s.parts ∙ ap (λ l. s.front ++ l) inner ∙ sym
       (append_assoc s.front n.blanks ((t.word.spelling ++ rest) ++ s.tail)) in
       let len : span.first ≡ length (s.front ++ n.blanks) = omega (arith, n.first, s.offset, length-append s.front n.blanks) in
       let before : take span.first source ≡ s.front ++ n.blanks =
       ap (take span.first) whole ∙ take_at (s.front ++ n.blanks) ((t.word.spelling ++ rest) ++ s.tail) span.first
       (sym len) in
-      let plain = (plain_parts n.blanks (t.word.spelling ++ rest) (subst HasNoLineFeed n.parts s.plain)).0 in
+      let plain = (plain_parts n.blanks (t.word.spelling ++ rest) (rw (← n.parts) s.plain)).0 in
       let feeds : line_feeds (take span.first source) ≡ line_feeds s.front =
       ap line_feeds before ∙ feeds-append s.front n.blanks
-      ∙ ap (λ (k : ℕ). line_feeds s.front + k) (no_feeds n.blanks plain) ∙ omega arith in
-      (span, n.placed, is ∙ s.count ∙ ap (λ (k : ℕ). 1 + k) (sym feeds))
+      ∙ ap (λ k. line_feeds s.front + k) (no_feeds n.blanks plain) ∙ omega arith in
+      (span, n.placed, is ∙ s.count ∙ ap (λ k. 1 + k) (sym feeds))
 
   word_past : Stands source span.after number rest
   word_past =
-      let plains = plain_parts n.blanks (t.word.spelling ++ rest) (subst HasNoLineFeed n.parts s.plain) in
+      let plains = plain_parts n.blanks (t.word.spelling ++ rest) (rw (← n.parts) s.plain) in
       let last = plain_parts t.word.spelling rest plains.1 in
       let head : List ℕ = n.blanks ++ t.word.spelling in
       let text_parts : text ≡ head ++ rest = n.parts ∙ sym (append_assoc n.blanks t.word.spelling rest) in
-      let inner : text ++ s.tail ≡ head ++ (rest ++ s.tail) = ap (λ (l : List ℕ). l ++ s.tail) text_parts ∙ append_assoc head rest s.tail in
+      let inner : text ++ s.tail ≡ head ++ (rest ++ s.tail) = ap (λ l. l ++ s.tail) text_parts ∙ append_assoc head rest s.tail in
       let feeds : line_feeds (s.front ++ head) ≡ line_feeds s.front =
-      feeds-append s.front head ∙ ap (λ (k : ℕ). line_feeds s.front + k)
+      feeds-append s.front head ∙ ap (λ k. line_feeds s.front + k)
       (no_feeds head (plain_append n.blanks t.word.spelling plains.0 last.0)) ∙ omega arith in
       record {
         front = s.front ++ head;
         tail = s.tail;
-        parts = s.parts ∙ ap (λ (l : List ℕ). s.front ++ l) inner ∙ sym (append_assoc s.front head (rest ++ s.tail));
+        parts = s.parts ∙ ap (λ l. s.front ++ l) inner ∙ sym (append_assoc s.front head (rest ++ s.tail));
         offset = omega (arith, n.after, n.first, s.offset, length-append s.front head, length-append n.blanks t.word.spelling);
-        count = s.count ∙ ap (λ (k : ℕ). 1 + k) (sym feeds);
+        count = s.count ∙ ap (λ k. 1 + k) (sym feeds);
         plain = last.1;
       }
 
@@ -106,7 +106,7 @@ after_first : (source front first after : List ℕ) (number : ℕ) (ls : List (L
     → FillLines (length past) (lines_of rest) ls → AllByRecursion (IsLineCounted source) (all_tokens ls))
     → AllByRecursion (IsLineCounted source) (all_tokens ls)
 after_first source front first [] number ls plain ended parts count f again =
-    none_left ls (subst (λ (ts : List (List ℕ)). FillLines (length front + length first + 1) ts ls) lines_nil f)
+    none_left ls (rw (← lines_nil) f)
   where
     none_left : (ls : List (Line Placed)) → FillLines (length front + length first + 1) [] ls → AllByRecursion (IsLineCounted source) (all_tokens ls)
     none_left [] f = tt
@@ -114,13 +114,13 @@ after_first source front first [] number ls plain ended parts count f again =
 after_first source front first (b ∷ after) number ls plain ended parts count f again =
     let past : List ℕ = front ++ (first ++ b ∷ []) in
     let inner : first ++ b ∷ after ≡ (first ++ b ∷ []) ++ after = sym (append_assoc first (b ∷ []) after) in
-    let whole : source ≡ past ++ after = parts ∙ ap (λ (l : List ℕ). front ++ l) inner ∙ sym (append_assoc front (first ++ b ∷ []) after) in
+    let whole : source ≡ past ++ after = parts ∙ ap (λ l. front ++ l) inner ∙ sym (append_assoc front (first ++ b ∷ []) after) in
     let len : length front + length first + 1 ≡ length past = omega (arith, length-append front (first ++ b ∷ []), length-append first (b ∷ [])) in
     let feeds : line_feeds past ≡ line_feeds front + (0 + 1) =
-    feeds-append front (first ++ b ∷ []) ∙ ap (λ (k : ℕ). line_feeds front + k)
-    (feeds-append first (b ∷ []) ∙ ap (λ (k : ℕ). k + line_feeds (b ∷ [])) (no_feeds first plain)
-    ∙ ap (λ (k : ℕ). 0 + k) (one_feed b ended)) in
-    again past after whole (omega (arith, count, feeds)) (subst (λ (n : ℕ). FillLines n (lines_of after) ls) len f)
+    feeds-append front (first ++ b ∷ []) ∙ ap (λ k. line_feeds front + k)
+    (feeds-append first (b ∷ []) ∙ ap (λ k. k + line_feeds (b ∷ [])) (no_feeds first plain)
+    ∙ ap (λ k. 0 + k) (one_feed b ended)) in
+    again past after whole (omega (arith, count, feeds)) (rw (← len) f)
 
 pub lines_counted : (source front rest : List ℕ) (number : ℕ) (ls : List (Line Placed)) → source ≡ front ++ rest
     → number ≡ 1 + line_feeds front → FillLines (length front) (lines_of rest) ls → AreLinesNumbered number ls
@@ -133,7 +133,7 @@ lines_counted source front (b ∷ bytes) number (l ∷ ls) parts count f h =
     let s : Stands source (length front) number first.line = record {
       front = front;
       tail = first.after;
-      parts = parts ∙ ap (λ (x : List ℕ). front ++ x) first.parts;
+      parts = parts ∙ ap (λ x. front ++ x) first.parts;
       offset = refl;
       count = count;
       plain = first.no_line_feed;

@@ -21,7 +21,7 @@ use Rattle.gm_syntax.proofs.Stable.{mark, FromWords, from_words}
 fill_blank : (at : ℕ) (b : ℕ) (rest : List ℕ) (ts : List Placed) (comment : Option (List ℕ)) → is_blank b ≡ true
     → FillText (at + 1) rest ts comment → FillText at (b ∷ rest) ts comment
 fill_blank at b rest [] None blank f = (blank, f)
-fill_blank at b rest [] (Some comment) blank f = (f.0, b ∷ f.1, f.2, (blank, f.3), f.4, ap (λ (l : List ℕ). b ∷ l) f.5)
+fill_blank at b rest [] (Some comment) blank f = (f.0, b ∷ f.1, f.2, (blank, f.3), f.4, ap (λ l. b ∷ l) f.5)
 fill_blank at b rest (t ∷ ts) comment blank f =
     let n = f.2 in (
       f.0,
@@ -29,7 +29,7 @@ fill_blank at b rest (t ∷ ts) comment blank f =
       record {
         blanks = b ∷ n.blanks;
         are_blank = (blank, n.are_blank);
-        parts = ap (λ (l : List ℕ). b ∷ l) n.parts;
+        parts = ap (λ l. b ∷ l) n.parts;
         placed = n.placed;
         first = omega (arith, n.first);
         after = n.after;
@@ -47,7 +47,7 @@ fill_word at n rest t ts comment is text len f = (
   record {
     blanks = [];
     are_blank = tt;
-    parts = sym (ap (λ (l : List ℕ). l ++ drop n rest) text ∙ take-append-drop n rest);
+    parts = sym (ap (λ l. l ++ drop n rest) text ∙ take-append-drop n rest);
     placed = is;
     first = omega arith;
     after = omega (arith, len);
@@ -84,19 +84,19 @@ module _ (first : ℕ) (line : List ℕ) (words : List Placed) (rest : List ℕ)
   fills_word n t fits is text len more comment f =
       let at : first + (length line - length (drop n rest)) ≡ first + (length line - length rest) + n = omega (arith, le, fits, length-drop n rest) in
       let g = fill_word (first + (length line - length rest)) n rest t more comment is text len
-      (subst (λ (k : ℕ). FillText k (drop n rest) more comment) at f) in
-      subst (λ (ts : List Placed). FillText first line ts comment) (sym (append_assoc words (t ∷ []) more)) (p (t ∷ more) comment g)
+      (rw (← at) f) in
+      rw (append_assoc words (t ∷ []) more) (p (t ∷ more) comment g)
 
   whole : (comment : Option (List ℕ)) → IsTail rest comment → FillText first line words comment
-  whole comment tail = subst (λ (ts : List Placed). FillText first line ts comment) (append-nil words) (p [] comment tail)
+  whole comment tail = rw (← (append-nil words)) (p [] comment tail)
 
   pub fills_end : rest ≡ [] → FillText first line words None
-  fills_end e = whole None (subst AllBlank (sym e) tt)
+  fills_end e = whole None (rw e tt)
 
   pub fills_comment : (text : List ℕ) → IsComment text → text ≡ trim_end rest → FillText first line words (Some text)
   fills_comment text is e =
       let t = trim_parts rest in
-      whole (Some text) (is, [], t.blanks, tt, t.are_blank, t.parts ∙ ap (λ (l : List ℕ). l ++ t.blanks) (sym e))
+      whole (Some text) (is, [], t.blanks, tt, t.are_blank, t.parts ∙ ap (λ l. l ++ t.blanks) (sym e))
 
 -- what is read as a comment is one
 pub read_comment : (before : Option Word) (text : List ℕ) (words : List Word) (comment : List ℕ)
@@ -112,7 +112,7 @@ one_word : (v : Placed) (ts : List Placed) (w : Word) (ws : List Word) → v ∷
 one_word v [] w ws same e = absurd cc
 one_word v (t ∷ ts) w ws same e =
     let here : v ≡ t = cc in
-    (ts, ap (λ (x : Placed). x ∷ ts) (sym here), ap (drop 1) e)
+    (ts, ap (λ x. x ∷ ts) (sym here), ap (drop 1) e)
 
 one_left : (ts : List Placed) (w : Word) → words_of ts ≡ w ∷ [] → (t : Placed) × (ts ≡ t ∷ []) × (t.word ≡ w)
 one_left [] w e = absurd cc
@@ -126,7 +126,7 @@ pub line_filled : (inside : Bool) (first : ℕ) (text : List ℕ) (ts : List Pla
 line_filled inside first text ts comment l classed same f = by_line l (from_words inside (words_of ts) comment (plain l) classed) same
   where
     fill_as : (us : List Placed) (c : Option (List ℕ)) → ts ≡ us → comment ≡ c → FillText first text us c
-    fill_as us c e d = subst (λ (x : Option (List ℕ)). FillText first text us x) d (subst (λ (x : List Placed). FillText first text x comment) e f)
+    fill_as us c e d = rw (← d) (rw (← e) f)
 
     none : (us : List Placed) → words_of us ≡ [] → us ≡ []
     none [] e = refl
@@ -138,10 +138,10 @@ line_filled inside first text ts comment l classed same f = by_line l (from_word
     by_line (Open verb suffix) w same =
         let o = one_word verb ts verb.word (mark 40 ∷ []) same w.0 in
         let k = one_left o.0 (mark 40) o.2 in
-        (k.0, ap (λ (x : Word). x.spelling) k.2, fill_as (verb ∷ k.0 ∷ []) suffix (o.1 ∙ ap (λ (x : List Placed). verb ∷ x) k.1) w.1)
+        (k.0, ap (λ x. x.spelling) k.2, fill_as (verb ∷ k.0 ∷ []) suffix (o.1 ∙ ap (λ x. verb ∷ x) k.1) w.1)
     by_line (Close suffix) w same =
         let k = one_left ts (mark 41) w.0 in
-        (k.0, ap (λ (x : Word). x.spelling) k.2, fill_as (k.0 ∷ []) suffix k.1 w.1)
+        (k.0, ap (λ x. x.spelling) k.2, fill_as (k.0 ∷ []) suffix k.1 w.1)
     by_line (Entry words suffix) w same =
         let len : length ts ≡ length words = sym (length-map ts (λ (t : Placed). t.word)) ∙ ap length w.0 ∙ length-map words (λ (t : Placed). t.word) in
         fill_as words suffix (sym (same ∙ take_all (length words) ts (omega (arith, len)))) w.1
@@ -160,20 +160,20 @@ pub lines_fill_more : (text rest front next : List ℕ) (lines : List (Line Plac
 lines_fill_more text rest front next lines l le p cut feed filled more f =
     let at : ℕ = length text - length rest in
     let here : FillLines (at + length front + 1) (lines_of next) more = next_lines next cut feed f in
-    subst (λ (ls : List (Line Placed)). FillLines 0 (lines_of text) ls) (sym (append_assoc lines (l ∷ []) more))
-    (p (l ∷ more) (subst (λ (ts : List (List ℕ)). FillLines at ts (l ∷ more)) (sym cut) (filled, here)))
+    rw (append_assoc lines (l ∷ []) more)
+    (p (l ∷ more) (rw cut (filled, here)))
   where
     next_lines : (next : List ℕ) → lines_of rest ≡ front ∷ lines_of next
         → (0 < length next → length rest ≡ length front + 1 + length next)
         → FillLines (length text - length next) (lines_of next) more
         → FillLines (length text - length rest + length front + 1) (lines_of next) more
-    next_lines [] cut feed f = subst (λ (ts : List (List ℕ)). FillLines (length text - length rest + length front + 1) ts more) (sym lines_nil)
+    next_lines [] cut feed f = rw lines_nil
         (no_lines (length text - 0) (length text - length rest + length front + 1) more
-        (subst (λ (ts : List (List ℕ)). FillLines (length text - 0) ts more) lines_nil f))
+        (rw (← lines_nil) f))
     next_lines (b ∷ next) cut feed f =
         let same : length text - length (b ∷ next) ≡ length text - length rest + length front + 1 = omega (arith, le, feed (omega arith)) in
-        subst (λ (n : ℕ). FillLines n (lines_of (b ∷ next)) more) same f
+        rw (← same) f
 
 pub lines_fill_end : (text rest : List ℕ) (lines : List (Line Placed)) → LinesFillUpTo text lines rest → lines_of rest ≡ [] → FillLines 0 (lines_of text) lines
-lines_fill_end text rest lines p none = subst (λ (ls : List (Line Placed)). FillLines 0 (lines_of text) ls) (append-nil lines)
-    (p [] (subst (λ (ts : List (List ℕ)). FillLines (length text - length rest) ts []) (sym none) tt))
+lines_fill_end text rest lines p none = rw (← (append-nil lines))
+    (p [] (rw none tt))

@@ -207,9 +207,9 @@ some_push [] l = refl
 some_push (m ∷ ls) l = refl
 
 all_push : (ls : List (Line Word)) (l : Line Word) → list_all is_blank_line ls ≡ true → is_blank_line l ≡ true → list_all is_blank_line (ls ++ l ∷ []) ≡ true
-all_push [] l h k = ap (λ (b : Bool). b && true) k
+all_push [] l h k = ap (λ b. b && true) k
 all_push (m ∷ ls) l h k = let p = and_both (is_blank_line m) (list_all is_blank_line ls) h in
-    ap (λ (b : Bool). b && list_all is_blank_line (ls ++ l ∷ [])) p.0 ∙ all_push ls l p.1 k
+    ap (λ b. b && list_all is_blank_line (ls ++ l ∷ [])) p.0 ∙ all_push ls l p.1 k
 
 gap_same : (line next : Line Word) (blanks : List (Line Word))
     → cond (is_some_line blanks && (not (is_open line) && not (is_close next))) (Blank ∷ []) []

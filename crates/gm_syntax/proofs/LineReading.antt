@@ -37,14 +37,14 @@ module _ {left : Unread} {lines : List (Line Placed)} (so : HasRead left lines) 
       → HasRead (unread left.source next at) (lines ++ l ∷ [])
   read_more front next l at is_after cut no_feed shorter within begins is_rest feed only stands numbers fills = record {
     is_text = so.is_text;
-    progress = subst (λ (ls : List (Line Word)). TextProgress left.source ls at next) (sym (map_push plain lines l))
-        (subst (λ (p : Place). TextProgress left.source (plain_lines lines ++ plain l ∷ []) p next) (sym is_after)
+    progress = rw (map_push plain lines l)
+        (rw is_after
         (text_line so.progress front next (plain l) cut no_feed only));
     fits = omega (arith, shorter, so.fits);
     suffix = suffix_of_suffix left.source left.rest next so.fits (omega (arith, shorter)) so.suffix is_rest;
-    counted = omega (arith, ap (λ (p : Place). p.number) is_after, number_after left.at (plain l), so.counted, length-append lines (l ∷ []));
+    counted = omega (arith, ap (λ p. p.number) is_after, number_after left.at (plain l), so.counted, length-append lines (l ∷ []));
     placed = line_stands left.source left.rest front next lines l so.fits within so.suffix begins so.placed stands;
-    numbered = lines_numbered_push 1 lines l so.numbered (subst (λ (n : ℕ). AreNumbered n (tokens_of l)) so.counted numbers);
+    numbered = lines_numbered_push 1 lines l so.numbered (rw (← so.counted) numbers);
     filled = lines_fill_more left.source left.rest front next lines l so.fits so.filled cut feed fills;
   }
 

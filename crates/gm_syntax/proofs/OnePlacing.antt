@@ -51,7 +51,7 @@ same_blanks b (x ∷ xs) (y ∷ ys) us vs solid p q e =
     (omega (arith, r.0), r.1)
 
 same_span : (s r : Span) → s.first ≡ r.first → s.after ≡ r.after → s ≡ r
-same_span s r e f = ap (λ (n : ℕ). span_at n s.after) e ∙ ap (span_at r.first) f
+same_span s r e f = ap (λ n. span_at n s.after) e ∙ ap (span_at r.first) f
   where
     span_at : ℕ → ℕ → Span
     span_at n m = record { first = n; after = m }
@@ -63,15 +63,15 @@ module _ (from : ℕ) (text : List ℕ) (t u : Placed) (s r : Span) (rest other 
   pub one_next : (s ≡ r) × (rest ≡ other)
   one_next =
       let p = shape_solid t.word.kind t.word.spelling shaped.0 shaped.1 in
-      let spelling : u.word.spelling ≡ t.word.spelling = ap (λ (w : Word). w.spelling) (sym same) in
-      let here : text ≡ n.blanks ++ (p.byte ∷ (p.more ++ rest)) = n.parts ∙ ap (λ (l : List ℕ). n.blanks ++ (l ++ rest)) p.parts in
-      let there : text ≡ m.blanks ++ (p.byte ∷ (p.more ++ other)) = m.parts ∙ ap (λ (l : List ℕ). m.blanks ++ (l ++ other)) (spelling ∙ p.parts) in
+      let spelling : u.word.spelling ≡ t.word.spelling = ap (λ w. w.spelling) (sym same) in
+      let here : text ≡ n.blanks ++ (p.byte ∷ (p.more ++ rest)) = n.parts ∙ ap (λ l. n.blanks ++ (l ++ rest)) p.parts in
+      let there : text ≡ m.blanks ++ (p.byte ∷ (p.more ++ other)) = m.parts ∙ ap (λ l. m.blanks ++ (l ++ other)) (spelling ∙ p.parts) in
       let b = same_blanks p.byte n.blanks m.blanks (p.more ++ rest) (p.more ++ other) p.solid n.are_blank m.are_blank (sym here ∙ there) in
       let first : s.first ≡ r.first = omega (arith, n.first, m.first, b.0) in
       (same_span s r first (omega (arith, n.after, m.after, first, ap length spelling)), append_cancel_left p.more rest other b.1)
 
 same_placed : (t u : Placed) → t.word ≡ u.word → t.line ≡ u.line → t.span ≡ u.span → t ≡ u
-same_placed t u e f g = ap (λ (w : Word). placed_at w t.line t.span) e ∙ ap (λ (n : ℕ). placed_at u.word n t.span) f ∙ ap (placed_at u.word u.line) g
+same_placed t u e f g = ap (λ w. placed_at w t.line t.span) e ∙ ap (λ n. placed_at u.word n t.span) f ∙ ap (placed_at u.word u.line) g
   where
     placed_at : Word → ℕ → Option Span → Placed
     placed_at w n s = record { word = w; line = n; span = s }
@@ -82,9 +82,9 @@ same_some s r e = cc
 one_word : (source : List ℕ) (t u : Placed) (s r : Span) → t.word ≡ u.word → t.span ≡ Some s → u.span ≡ Some r → s ≡ r
     → IsLineCounted source t → IsLineCounted source u → t ≡ u
 one_word source t u s r word at that same p q =
-    let spans : t.span ≡ u.span = at ∙ ap (λ (x : Span). Some x) same ∙ sym that in
+    let spans : t.span ≡ u.span = at ∙ ap (λ x. Some x) same ∙ sym that in
     let counted : p.0 ≡ q.0 = same_some p.0 q.0 (sym p.1 ∙ spans ∙ q.1) in
-    same_placed t u word (p.2 ∙ ap (λ (x : Span). 1 + line_feeds (take x.first source)) counted ∙ sym q.2) spans
+    same_placed t u word (p.2 ∙ ap (λ x. 1 + line_feeds (take x.first source)) counted ∙ sym q.2) spans
 
 -- ---- the words of a line
 
@@ -100,9 +100,9 @@ words_same source from text (t ∷ ts) (u ∷ us) c d shaped e f g p q =
     let words : words_of ts ≡ words_of us = cc in
     let o = one_next from text t u f.0 g.0 f.1 g.1 shaped.0 word f.2 g.2 in
     let here : t ≡ u = one_word source t u f.0 g.0 word f.2.placed g.2.placed o.0 p.0 q.0 in
-    let there : FillText f.0.after f.1 us d = subst (λ (x : Span). FillText x.after f.1 us d) (sym o.0)
-    (subst (λ (l : List ℕ). FillText g.0.after l us d) (sym o.1) g.3) in
-    ap (λ (x : Placed). x ∷ ts) here ∙ ap (λ (xs : List Placed). u ∷ xs) (words_same source f.0.after f.1 ts us c d shaped.1 words f.3 there p.1 q.1)
+    let there : FillText f.0.after f.1 us d = rw o.0
+    (rw o.1 g.3) in
+    ap (λ x. x ∷ ts) here ∙ ap (λ xs. u ∷ xs) (words_same source f.0.after f.1 ts us c d shaped.1 words f.3 there p.1 q.1)
 
 reads_shaped : (before : Option Word) (text : List ℕ) (words : List Word) (e : Ending) → Reads before text words e → AllByRecursion IsShaped words
 reads_shaped before text [] e r = tt
@@ -117,7 +117,7 @@ line_shaped inside text (Open verb suffix) h =
 line_shaped inside text (Close suffix) h = tt
 line_shaped inside text (Entry words suffix) h =
     let w = from_words inside h.words h.comment (Entry (words_of words) suffix) h.classed in
-    subst (AllByRecursion IsShaped) w.0 (reads_shaped None text h.words (ending_of h.comment) h.spelled)
+    rw (← w.0) (reads_shaped None text h.words (ending_of h.comment) h.spelled)
 
 module _ (source : List ℕ) (from : ℕ) (text : List ℕ) where
   line_same : (l m : Line Placed) → AllByRecursion IsShaped (words_of (tokens_of l)) → plain l ≡ plain m → FillsLine from text l → FillsLine from text m
@@ -139,13 +139,13 @@ module _ (source : List ℕ) (from : ℕ) (text : List ℕ) where
       let suffix : c ≡ d = cc in
       let o = one_next from text t u f.2.0 g.2.0 f.2.1 g.2.1 shaped.0 word f.2.2 g.2.2 in
       let here : t ≡ u = one_word source t u f.2.0 g.2.0 word f.2.2.placed g.2.2.placed o.0 p.0 q.0 in
-      ap (λ (x : Placed). Open x c) here ∙ ap (λ (x : Option (List ℕ)). Open u x) suffix
+      ap (λ x. Open x c) here ∙ ap (λ x. Open u x) suffix
   line_same (Open t c) (Close d) shaped e f g p q = absurd cc
   line_same (Open t c) (Entry us d) shaped e f g p q = absurd cc
   line_same (Close c) Blank shaped e f g p q = absurd cc
   line_same (Close c) (Comment d) shaped e f g p q = absurd cc
   line_same (Close c) (Open u d) shaped e f g p q = absurd cc
-  line_same (Close c) (Close d) shaped e f g p q = let suffix : c ≡ d = cc in ap (λ (x : Option (List ℕ)). Close x) suffix
+  line_same (Close c) (Close d) shaped e f g p q = let suffix : c ≡ d = cc in ap (λ x. Close x) suffix
   line_same (Close c) (Entry us d) shaped e f g p q = absurd cc
   line_same (Entry ts c) Blank shaped e f g p q = absurd cc
   line_same (Entry ts c) (Comment d) shaped e f g p q = absurd cc
@@ -154,7 +154,7 @@ module _ (source : List ℕ) (from : ℕ) (text : List ℕ) where
   line_same (Entry ts c) (Entry us d) shaped e f g p q =
       let words : words_of ts ≡ words_of us = cc in
       let suffix : c ≡ d = cc in
-      ap (λ (x : List Placed). Entry x c) (words_same source from text ts us c d shaped words f g p q) ∙ ap (λ (x : Option (List ℕ)). Entry us x) suffix
+      ap (λ x. Entry x c) (words_same source from text ts us c d shaped words f g p q) ∙ ap (λ x. Entry us x) suffix
 
 -- ---- the lines of a document
 
@@ -173,7 +173,7 @@ lines_same source at from (text ∷ texts) (l ∷ ls) (m ∷ ms) f r e a b p q =
     let qs = all_split source (tokens_of m) (all_tokens ms) q in
     let here : l ≡ m = line_same source from text l m (line_shaped at.inside text l r.0) first a.0 b.0 ps.0 qs.0 in
     let there : ls ≡ ms = lines_same source (after at (plain l)) (from + length text + 1) texts ls ms f r.1 others a.1 b.1 ps.1 qs.1 in
-    ap (λ (x : Line Placed). x ∷ ls) here ∙ ap (λ (xs : List (Line Placed)). m ∷ xs) there
+    ap (λ x. x ∷ ls) here ∙ ap (λ xs. m ∷ xs) there
 
 pub one_placing : (source : List ℕ) (doc other : List (Line Placed)) → IsParsedAs source (Ok doc)
     → IsParsedAs source (Ok other) → IsPlacedIn source doc → IsPlacedIn source other → doc ≡ other

@@ -54,14 +54,14 @@ pub one_more_blank : (text rest next : List ℕ) → IsAfterBlanks text rest →
 one_more_blank text rest next (blanks, are, parts) (b, more, e, blank) is = (
   blanks ++ b ∷ [],
   push_blank blanks b are blank,
-  parts ∙ ap (λ (l : List ℕ). blanks ++ l) (e ∙ ap (λ (l : List ℕ). b ∷ l) (sym (is ∙ ap (drop 1) e))) ∙ sym (append_assoc blanks (b ∷ []) next),
+  parts ∙ ap (λ l. blanks ++ l) (e ∙ ap (λ l. b ∷ l) (sym (is ∙ ap (drop 1) e))) ∙ sym (append_assoc blanks (b ∷ []) next),
 )
 
 -- the end of an opening parenthesis that a text begins with is a character boundary
 pub parenthesis_first : (text : List ℕ) → IsUtf8 text → ((more : List ℕ) × (text ≡ 40 ∷ more)) → IsCharBoundary text 1
 parenthesis_first text utf8 (more, e) =
     let positive : 0 < length text = omega (arith, ap length e) in
-    let ascii : get_or text 0 0 < 128 = subst (λ (x : ℕ). x < 128) (sym (ap (λ (t : List ℕ). get_or t 0 0) e)) (omega arith) in
+    let ascii : get_or text 0 0 < 128 = rw (ap (λ (t : List ℕ). get_or t 0 0) e) (omega arith) in
     (beside_ascii text 0 utf8 positive ascii).1
 
 -- a text as long as what follows its blanks has none
@@ -77,7 +77,7 @@ BeginsPlain text = (b : ℕ) × (more : List ℕ) × (text ≡ b ∷ more) × Is
 
 pub plain_begins_word : (text : List ℕ) (t : Bool) → BeginsPlain text → piece_of t text ≡ piece.Word Bare (bare_len text)
 plain_begins_word text t (b, more, e, plain) =
-    subst (λ (l : List ℕ). piece_of t l ≡ piece.Word Bare (bare_len l)) (sym e) (plain_piece t b more plain)
+    rw e (plain_piece t b more plain)
 
 pub plain_word_bare : (text : List ℕ) → BeginsPlain text → IsBare (take (bare_len text) text)
 plain_word_bare text begins =
@@ -95,7 +95,7 @@ abbrev pub Sofar : List ℕ → List Word → List ℕ → Type 0
 Sofar line words rest = (t : Bool) × Progress line words t rest
 
 pub sofar_blanks : (line : List ℕ) (words : List Word) (text rest : List ℕ) → Sofar line words text → IsAfterBlanks text rest → Sofar line words rest
-sofar_blanks line words text rest (t, p) (blanks, are, parts) = by_blanks blanks t are (subst (λ (l : List ℕ). Progress line words t l) parts p)
+sofar_blanks line words text rest (t, p) (blanks, are, parts) = by_blanks blanks t are (rw (← parts) p)
   where
     by_blanks : (blanks : List ℕ) (t : Bool) → AllBlank blanks → Progress line words t (blanks ++ rest) → Sofar line words rest
     by_blanks [] t are p = (t, p)
@@ -111,8 +111,8 @@ sofar_word line words text word rest (t, p) piece (blanks, are, parts) =
     let front : take (length word) text ≡ word = ap (take (length word)) parts ∙ take_at word after (length word) refl in
     let back : drop (length word) text ≡ after = ap (drop (length word)) parts ∙ drop_at word after (length word) refl in
     let past : Progress line (words ++ bare_word word ∷ []) true after =
-    subst (λ (w : List ℕ). Progress line (words ++ bare_word w ∷ []) true after) front
-    (subst (λ (l : List ℕ). Progress line (words ++ make_word Bare (take (length word) text) ∷ []) true l) back
+    rw (← front)
+    (rw (← back)
     (progress_word p Bare (length word) (piece t))) in
     sofar_blanks line (words ++ bare_word word ∷ []) after rest (true, past) (blanks, are, refl)
 
@@ -135,7 +135,7 @@ bracket_closing = refl
 sofar_mark : (line : List ℕ) (words : List Word) (text : List ℕ) (byte : ℕ) (rest : List ℕ) → Sofar line words text
     → is_bracket_or_comma byte ≡ true → text ≡ byte ∷ rest → Sofar line (words ++ mark_word byte ∷ []) rest
 sofar_mark line words text byte rest (t, p) bracket parts =
-    let here : Progress line words t (byte ∷ rest) = subst (Progress line words t) parts p in
+    let here : Progress line words t (byte ∷ rest) = rw (← parts) p in
     (false, progress_word here Mark 1 (piece_bracket t byte rest bracket))
 
 -- the line ends after these words
@@ -162,8 +162,8 @@ record PlacedWords (first number : ℕ) (text : List ℕ) (words : List Word) (c
   pub fill : FillText first text tokens comment
 
 tail_of : (before : Option Word) (text : List ℕ) (comment : Option (List ℕ)) → EndsLine before text (ending_of comment) → IsTail text comment
-tail_of before text None r = subst AllBlank (sym (r.parts ∙ ap (λ (l : List ℕ). r.blanks ++ l) r.ends ∙ append-nil r.blanks)) r.are_blank
-tail_of before text (Some c) r = (r.ends.1, r.blanks, r.ends.2, r.are_blank, r.ends.3, r.parts ∙ ap (λ (l : List ℕ). r.blanks ++ l) r.ends.4)
+tail_of before text None r = rw (r.parts ∙ ap (λ (l : List ℕ). r.blanks ++ l) r.ends ∙ append-nil r.blanks) r.are_blank
+tail_of before text (Some c) r = (r.ends.1, r.blanks, r.ends.2, r.are_blank, r.ends.3, r.parts ∙ ap (λ l. r.blanks ++ l) r.ends.4)
 
 abbrev place_words : (first number : ℕ) (before : Option Word) (text : List ℕ) (words : List Word)
     (comment : Option (List ℕ)) → Reads before text words (ending_of comment)
@@ -175,7 +175,7 @@ place_words first number before text (w ∷ words) comment (rest, b, others) =
     let more = place_words past number (Some w) rest words comment others in
     record {
       tokens = record { word = w; line = number; span = Some (record { first = at; after = past }) } ∷ more.tokens;
-      are = ap (λ (ws : List Word). w ∷ ws) more.are;
+      are = ap (λ ws. w ∷ ws) more.are;
       numbered = (refl, more.numbered);
       fill = (
         record { first = at; after = past },
@@ -201,17 +201,17 @@ stand_filled source from text after [] comment f whole = omega arith
 stand_filled source from text after (t ∷ ts) comment (span, rest, n, f) whole =
     let word = t.word.spelling in
     let parts : text ++ after ≡ n.blanks ++ (word ++ (rest ++ after)) =
-    ap (λ (l : List ℕ). l ++ after) n.parts ∙ append_assoc n.blanks (word ++ rest) after ∙ ap (λ (l : List ℕ). n.blanks ++ l) (append_assoc word rest after) in
+    ap (λ l. l ++ after) n.parts ∙ append_assoc n.blanks (word ++ rest) after ∙ ap (λ l. n.blanks ++ l) (append_assoc word rest after) in
     let here : drop span.first source ≡ word ++ (rest ++ after) =
-    ap (λ (k : ℕ). drop k source) n.first ∙ sym (drop-drop (length n.blanks) from source)
+    ap (λ k. drop k source) n.first ∙ sym (drop-drop (length n.blanks) from source)
     ∙ ap (drop (length n.blanks)) (whole ∙ parts) ∙ drop_at n.blanks (word ++ (rest ++ after)) (length n.blanks)
     refl in
     let past : drop span.after source ≡ rest ++ after =
-    ap (λ (k : ℕ). drop k source) n.after ∙ sym (drop-drop (length word) span.first source)
+    ap (λ k. drop k source) n.after ∙ sym (drop-drop (length word) span.first source)
     ∙ ap (drop (length word)) here ∙ drop_at word (rest ++ after) (length word) refl in
     let width : span.after - span.first ≡ length word = omega (arith, n.after) in
     let slice : take (span.after - span.first) (drop span.first source) ≡ word =
-    ap (λ (k : ℕ). take k (drop span.first source)) width ∙ ap (take (length word)) here ∙ take_at word (rest ++ after) (length word) refl in
+    ap (λ k. take k (drop span.first source)) width ∙ ap (take (length word)) here ∙ take_at word (rest ++ after) (length word) refl in
     let end : span.after + length rest ≡ from + length text =
     omega (
       arith,
@@ -226,7 +226,7 @@ stand_filled source from text after (t ∷ ts) comment (span, rest, n, f) whole 
       omega (arith, n.first),
       n.after,
       slice,
-      subst (λ (k : ℕ). AreSlicesBetween source span.after k ts) end
+      rw (← end)
           (stand_filled source span.after rest after ts comment f past),
     )
 
@@ -238,7 +238,7 @@ no_blanks word rest [] other bare e are = refl
 no_blanks [] rest (x ∷ blanks) other bare e are = absurd (bare.filled refl)
 no_blanks (b ∷ word) rest (x ∷ blanks) other bare e are =
     let same : b ≡ x = cc e in
-    absurd (true≢false (sym (subst (λ (y : ℕ). is_word_byte y ≡ true) same bare.word_bytes.0) ∙ word_not_blank x are.0))
+    absurd (true≢false (sym (rw (← same) bare.word_bytes.0) ∙ word_not_blank x are.0))
 
 record OpeningFilled (first number : ℕ) (text verb : List ℕ) (comment : Option (List ℕ)) : Type 0 where
   pub opening : Placed
@@ -263,7 +263,7 @@ opening_filled first number text verb rest comment begins (more, b, others) =
         record {
           blanks = [];
           are_blank = tt;
-          parts = b.parts ∙ ap (λ (l : List ℕ). l ++ (verb ++ more)) none;
+          parts = b.parts ∙ ap (λ l. l ++ (verb ++ more)) none;
           placed = refl;
           first = omega arith;
           after = refl;
@@ -317,9 +317,9 @@ module _ (left : Unread) (lines : List (Line Placed)) (front next : List ℕ) (s
   words_read words comment at is class reading =
       let w = place_words offset left.at.number None front words comment reading.reads in
       let l : Line Placed = Entry w.tokens comment in
-      let same : plain l ≡ Entry words comment = ap (λ (ws : List Word). Entry ws comment) w.are in
+      let same : plain l ≡ Entry words comment = ap (λ ws. Entry ws comment) w.are in
       let only : IsOnlyLine left.at.inside front (Ok (plain l)) =
-      subst (λ (x : Line Word). IsOnlyLine left.at.inside front (Ok x)) (sym same)
+      rw same
       (one_line left.at.inside front words comment reading (Entry words comment) class) in (
         l,
         comment,
@@ -354,10 +354,10 @@ module _ (left : Unread) (lines : List (Line Placed)) (front next : List ℕ) (s
       let l : Line Placed = Open t comment in
       let ts : List Placed = t ∷ f.opening ∷ [] in
       let only : IsOnlyLine left.at.inside front (Ok (Open (bare_word verb) comment)) =
-      subst (λ (i : Bool). IsOnlyLine i front (Ok (Open (bare_word verb) comment))) (sym outside)
+      rw outside
       (one_line false front words comment reading (Open (bare_word verb) comment) (opening_class verb comment)) in (
         comment,
-        subst (λ (v : Placed). HasRead (unread left.source next at) (lines ++ Open v comment ∷ [])) (sym placed)
+        rw placed
             (read_more so front next l at is cut.lines cut.no_line_feed cut.shorter cut.in_range cut.front_is cut.suffix
             cut.line_feed only
             (λ source more whole. stand_take source offset (offset + length front) 1 ts
@@ -377,7 +377,7 @@ module _ (left : Unread) (lines : List (Line Placed)) (front next : List ℕ) (s
       let at_mark : ℕ = offset + length reading.reads.1.blanks in
       let mark : Placed = record { word = mark_word 41; line = left.at.number; span = Some (record { first = at_mark; after = at_mark + 1 }) } in
       let only : IsOnlyLine left.at.inside front (Ok (Close None)) =
-      subst (λ (i : Bool). IsOnlyLine i front (Ok (Close None))) (sym inside) (one_line true front words None reading (Close None) closing_class) in
+      rw inside (one_line true front words None reading (Close None) closing_class) in
       read_more so front next (Close None) at is cut.lines cut.no_line_feed cut.shorter cut.in_range cut.front_is
       cut.suffix cut.line_feed only (λ source more whole. omega arith) tt (mark, refl, w.fill)
 
@@ -388,7 +388,7 @@ module _ (left : Unread) (lines : List (Line Placed)) (front next : List ℕ) (s
       one_line left.at.inside front [] None (progress_end (progress_start front)
       (ap (piece_of false) empty ∙ piece_end false)) Blank (class_blank left.at.inside) in
       read_more so front next Blank at is cut.lines cut.no_line_feed cut.shorter cut.in_range cut.front_is cut.suffix
-      cut.line_feed only (λ source more whole. omega arith) tt (subst AllBlank (sym empty) tt)
+      cut.line_feed only (λ source more whole. omega arith) tt (rw empty tt)
 
   -- after a simple line
   pub simple_read : (verb : List ℕ) (line : SimpleLine) (at : Place) → at ≡ after_simple left.at line → IsSimpleText left.at offset front verb line
@@ -397,5 +397,5 @@ module _ (left : Unread) (lines : List (Line Placed)) (front next : List ℕ) (s
   simple_read verb (simple.Pair first second) at is text = pair_read first.now second.now at is text
   simple_read verb (simple.PairAfter first second) at is text = triple_read verb first.now second.now at is text
   simple_read verb (simple.Opening token) at is (outside, placed, text) =
-      (ap (λ (t : Placed). t.word.spelling) placed, opening_read verb token at outside is placed text)
+      (ap (λ t. t.word.spelling) placed, opening_read verb token at outside is placed text)
   simple_read verb simple.Closing at is (inside, text) = closing_read at inside is text

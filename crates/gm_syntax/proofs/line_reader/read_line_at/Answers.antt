@@ -19,7 +19,7 @@ returns-in-Ok-clause-read c = one_line c.args.place.inside c.args.text.now (word
 
 pub returns-in-Ok-clause-placed : goal.returns-in-Ok-clause-placed
 returns-in-Ok-clause-placed c = λ source after whole.
-    subst (AreSlicesBetween source c.args.first (c.args.first + length c.args.text.now)) (sym c.in-Ok.ensures.tokens)
+    rw c.in-Ok.ensures.tokens
     (stand_take source c.args.first (c.args.first + length c.args.text.now) (length (tokens_of (line_of c.in-Ok.line)))
     c.in_ok-parts.parts.words.items (c.in_ok-parts.ensures.placed source after whole))
 

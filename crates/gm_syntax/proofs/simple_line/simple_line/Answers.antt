@@ -23,8 +23,8 @@ returns-in_default-split_word c =
     IfSome_then c.opening_line.result c.opening_line.ensures (λ made so.
     let whole = sofar_opening line (bare_word first ∷ []) c.in-Some.after_first.now one so.1 in
     let opens : IsOpeningText line first = (parts.0 ++ c.in-Some.after_first.now, begins, whole.0, whole.1) in
-    subst (IsSimpleText c.args.place c.args.offset line c.args.verb.now) (sym so.2)
-    (so.0, ap (bare_at c.args.offset c.args.place.number) same, subst (IsOpeningText line) same opens))
+    rw so.2
+    (so.0, ap (bare_at c.args.offset c.args.place.number) same, rw (← same) opens))
 
 pub returns-then-ends_line : goal.returns-then-ends_line
 returns-then-ends_line c =
@@ -61,4 +61,4 @@ returns c =
     let whole : IsTripleText line first second third = sofar_end line words c.in_ok-third.after_third.now three
     (rw c.as_bytes-2.ensures.value at c.ends_line-2.ensures c.if-not-ends_line.false) in
     let same : first ≡ c.args.verb.now = (bytes_eq-Decides first c.args.verb.now).0 (not-false _ (sym c.ne-2.ensures ∙ c.if-ne-2.false)) in
-    subst (λ (v : List ℕ). IsTripleText line v second third) same whole
+    rw (← same) whole

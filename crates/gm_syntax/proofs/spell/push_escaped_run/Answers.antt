@@ -14,17 +14,16 @@ len_is c = c.plain_len.ensures.value ∙ ap plain_len c.as_bytes.ensures.value
 
 parts : (c : After-split_at) → escaped_value c.args.rest.now ≡ c.split_at.result.0.now ++ escaped_value c.split_at.result.1.now
 parts c = escaped_parts c.args.rest.now c.split_at.result.0.now c.split_at.result.1.now
-    (c.split_at.ensures.front ∙ ap (λ (n : ℕ). take n c.args.rest.now) (len_is c))
-    (c.split_at.ensures.back ∙ ap (λ (n : ℕ). drop n c.args.rest.now) (len_is c))
+    (c.split_at.ensures.front ∙ ap (λ n. take n c.args.rest.now) (len_is c))
+    (c.split_at.ensures.back ∙ ap (λ n. drop n c.args.rest.now) (len_is c))
 
 marked : (c : After-split_at) → BeginsMark c.split_at.result.1.now
 marked c = after_marked c.args.rest.now c.split_at.result.0.now c.split_at.result.1.now
-    (c.split_at.ensures.front ∙ ap (λ (n : ℕ). take n c.args.rest.now) (len_is c))
-    (c.split_at.ensures.back ∙ ap (λ (n : ℕ). drop n c.args.rest.now) (len_is c))
+    (c.split_at.ensures.front ∙ ap (λ n. take n c.args.rest.now) (len_is c))
+    (c.split_at.ensures.back ∙ ap (λ n. drop n c.args.rest.now) (len_is c))
 
 pub split_at-requires : goal.split_at-requires
-split_at-requires c = subst (IsCharBoundary c.args.rest.now)
-    (sym (c.plain_len.ensures.value ∙ ap plain_len c.as_bytes.ensures.value))
+split_at-requires c = rw (c.plain_len.ensures.value ∙ ap plain_len c.as_bytes.ensures.value)
     (plain_boundary c.args.rest.now c.utf8.rest)
 
 pub returns-then-is_empty-clause-pushed : goal.returns-then-is_empty-clause-pushed
@@ -38,7 +37,7 @@ pub split_at-requires-2 : goal.split_at-requires-2
 split_at-requires-2 c =
     let k = (goal.at.split_at-requires-2 c).After-split_at in
     let boundary : IsCharBoundary c.args.rest.now c.plain_len.result =
-    subst (IsCharBoundary c.args.rest.now) (sym (len_is k)) (plain_boundary c.args.rest.now c.utf8.rest) in
+    rw (len_is k) (plain_boundary c.args.rest.now c.utf8.rest) in
     mark_boundary c.split_at.result.1.now (rw c.split_at.ensures.back
     (cut c.args.rest.now c.plain_len.result c.utf8.rest boundary).1)
     (omega (arith, eqb-false _ 0 (sym c.is_empty.ensures ∙ c.if-is_empty.false))) (marked k)
@@ -56,12 +55,12 @@ returns-clause-pushed c =
     c.in_ok-push_str-3.ensures.bytes ∙ ap (λ l. l ++ mark) (c.in_ok-push_str-2.ensures.bytes ∙ ap (λ l. l ++ slash) c.in_ok-push_str.ensures.bytes) in
     let filled : 0 < length after = omega (arith, eqb-false _ 0 (sym c.is_empty.ensures ∙ c.if-is_empty.false)) in
     let escape : slash ++ (mark ++ escaped_value next) ≡ escaped_value after =
-    ap (λ (m : List ℕ). slash ++ (m ++ escaped_value next)) c.split_at-2.ensures.front
-    ∙ ap (λ (n : List ℕ). slash ++ (take 1 after ++ escaped_value n)) c.split_at-2.ensures.back
+    ap (λ m. slash ++ (m ++ escaped_value next)) c.split_at-2.ensures.front
+    ∙ ap (λ n. slash ++ (take 1 after ++ escaped_value n)) c.split_at-2.ensures.back
     ∙ sym (escaped_mark after filled (marked k)) in
     ap (λ l. l ++ escaped_value next) pushed
     ∙ append_assoc ((old ++ plain) ++ slash) mark (escaped_value next)
     ∙ append_assoc (old ++ plain) slash (mark ++ escaped_value next)
     ∙ append_assoc old plain (slash ++ (mark ++ escaped_value next))
-    ∙ ap (λ (l : List ℕ). old ++ (plain ++ l)) escape
-    ∙ ap (λ (l : List ℕ). old ++ l) (sym (parts k))
+    ∙ ap (λ l. old ++ (plain ++ l)) escape
+    ∙ ap (λ l. old ++ l) (sym (parts k))

@@ -15,23 +15,22 @@ len_is c = c.plain_len.ensures.value ∙ ap plain_len c.as_bytes.ensures.value
 
 marked : (c : After-split_at) → BeginsMark c.split_at.result.1.now
 marked c = after_marked c.args.rest.now c.split_at.result.0.now c.split_at.result.1.now
-    (c.split_at.ensures.front ∙ ap (λ (n : ℕ). take n c.args.rest.now) (len_is c))
-    (c.split_at.ensures.back ∙ ap (λ (n : ℕ). drop n c.args.rest.now) (len_is c))
+    (c.split_at.ensures.front ∙ ap (λ n. take n c.args.rest.now) (len_is c))
+    (c.split_at.ensures.back ∙ ap (λ n. drop n c.args.rest.now) (len_is c))
 
 escape : (c : After-split_at) (value : List ℕ) → c.args.rest.now ≡ escaped_value value → EscapeAt value c.split_at.result.0.now c.split_at.result.1.now
 escape c value e = escape_at c.args.rest.now c.split_at.result.0.now c.split_at.result.1.now
-    (c.split_at.ensures.front ∙ ap (λ (n : ℕ). take n c.args.rest.now) (len_is c))
-    (c.split_at.ensures.back ∙ ap (λ (n : ℕ). drop n c.args.rest.now) (len_is c)) value e
+    (c.split_at.ensures.front ∙ ap (λ n. take n c.args.rest.now) (len_is c))
+    (c.split_at.ensures.back ∙ ap (λ n. drop n c.args.rest.now) (len_is c)) value e
 
 pub split_at-requires : goal.split_at-requires
-split_at-requires c = subst (IsCharBoundary c.args.rest.now)
-    (sym (c.plain_len.ensures.value ∙ ap plain_len c.as_bytes.ensures.value))
+split_at-requires c = rw (c.plain_len.ensures.value ∙ ap plain_len c.as_bytes.ensures.value)
     (plain_boundary c.args.rest.now c.utf8.rest)
 
 after_utf8 : (c : After-split_at) → IsUtf8 c.split_at.result.1.now
 after_utf8 c =
     let boundary : IsCharBoundary c.args.rest.now c.plain_len.result =
-    subst (IsCharBoundary c.args.rest.now) (sym (len_is c)) (plain_boundary c.args.rest.now c.utf8.rest) in
+    rw (len_is c) (plain_boundary c.args.rest.now c.utf8.rest) in
     rw c.split_at.ensures.back (cut c.args.rest.now c.plain_len.result c.utf8.rest boundary).1
 
 pub returns-then-is_empty-clause-pushed : goal.returns-then-is_empty-clause-pushed

@@ -19,9 +19,8 @@ returns-then-is_inside-clause-next c = λ lines so.
     (nil_from_length c.self.inside.rest.now (eqb-true _ 0 (sym c.is_empty.ensures ∙ c.if-is_empty.true)))
     ∙ lines_nil in
     let old : HasRead (unread c.self.inside.text.now c.self.inside.rest.now c.self.inside.place) lines =
-    subst (λ (u : Unread). HasRead u lines) (sym c.self.view_is) so in
-    rw c.opened.ensures (inl (subst (λ (u : Unread). IsParsedAs u.source
-    (Err (Syntax c.self.inside.place.opened OpenBlock))) c.self.view_is
+    rw c.self.view_is so in
+    rw c.opened.ensures (inl (rw (← c.self.view_is)
     (read_open old none (sym c.is_inside.ensures ∙ c.if-is_inside.true))))
 
 pub returns-then-is_empty-clause-next : goal.returns-then-is_empty-clause-next
@@ -30,13 +29,13 @@ returns-then-is_empty-clause-next c = λ lines so.
     (nil_from_length c.self.inside.rest.now (eqb-true _ 0 (sym c.is_empty.ensures ∙ c.if-is_empty.true)))
     ∙ lines_nil in
     let old : HasRead (unread c.self.inside.text.now c.self.inside.rest.now c.self.inside.place) lines =
-    subst (λ (u : Unread). HasRead u lines) (sym c.self.view_is) so in
-    subst (λ (u : Unread). IsReadDocument u.source lines) c.self.view_is (read_end old none (sym c.is_inside.ensures ∙ c.if-is_inside.false))
+    rw c.self.view_is so in
+    rw (← c.self.view_is) (read_end old none (sym c.is_inside.ensures ∙ c.if-is_inside.false))
 
 pub returns-in-Ok-clause-next : goal.returns-in-Ok-clause-next
 returns-in-Ok-clause-next c = λ lines so.
     let old : HasRead (unread c.self.inside.text.now c.self.inside.rest.now c.self.inside.place) lines =
-    subst (λ (u : Unread). HasRead u lines) (sym c.self.view_is) so in
+    rw c.self.view_is so in
     let cut = c.split_first_line.ensures in
     read_more old c.split_first_line.result.0.now c.split_first_line.result.1.now (line_of c.in-Ok.line)
     c.after-self-inside.result c.after-self-inside.ensures cut.lines cut.no_line_feed cut.shorter cut.in_range
@@ -46,7 +45,6 @@ returns-in-Ok-clause-next c = λ lines so.
 pub returns-in-Err-clause-next : goal.returns-in-Err-clause-next
 returns-in-Err-clause-next c = λ lines so.
     let old : HasRead (unread c.self.inside.text.now c.self.inside.rest.now c.self.inside.place) lines =
-    subst (λ (u : Unread). HasRead u lines) (sym c.self.view_is) so in
-    subst (λ (f : SyntaxFault). IsFaultOrNoMemory c.self.inside.text.now f)
-    (sym (c.at_line.ensures ∙ ap (λ (n : ℕ). fault_at n c.in-Err.fault) c.number.ensures))
+    rw c.self.view_is so in
+    rw (c.at_line.ensures ∙ ap (λ (n : ℕ). fault_at n c.in-Err.fault) c.number.ensures)
     (read_fault old c.split_first_line.result.0.now c.split_first_line.result.1.now c.in-Err.fault c.split_first_line.ensures.lines c.in-Err.ensures.read)

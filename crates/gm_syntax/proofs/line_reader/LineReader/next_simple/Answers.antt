@@ -7,7 +7,7 @@ use Rattle.gm_syntax.proofs.line_reader.LineReader.next_simple.Goals as goal
 pub returns-clause-read : goal.returns-clause-read
 returns-clause-read c = λ lines so.
     let left : Unread = unread c.self.inside.text.now c.self.inside.rest.now c.self.inside.place in
-    let old : HasRead left lines = subst (λ (u : Unread). HasRead u lines) (sym c.self.view_is) so in
+    let old : HasRead left lines = rw c.self.view_is so in
     let e = c.split_first_line.ensures in
     let cut : IsCut left c.split_first_line.result.0.now c.split_first_line.result.1.now =
     record {
