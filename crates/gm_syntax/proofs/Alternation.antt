@@ -1,6 +1,6 @@
 -- Openings and closings alternate in a document, so the numbers of them before a line say whether a block is
 -- open there.
-use Rattle.std.proofs.Common.{◌≡◌, ℕ, ◌+◌, ◌≤◌, Bool, true, false, cond, List, [], ◌∷◌, ◌++◌, refl, sym, ap, subst, ◌∙◌, append_assoc, arith}
+use Rattle.std.proofs.Common.{◌≡◌, ℕ, ◌+◌, ◌≤◌, Bool, true, false, cond, List, [], ◌∷◌, ◌++◌, refl, sym, ap, ◌∙◌, append_assoc, arith}
 use Rattle.std.specs.Prelude.{⊤, nat_lt}
 use Rattle.std.proofs.lemmas.Bool.{lt-ltb, le-ltb}
 use Rattle.std.proofs.lemmas.List.{append-nil}
@@ -37,10 +37,10 @@ counts_from inside [] f = refl
 counts_from inside (Blank ∷ ls) f = counts_from inside ls f.1
 counts_from inside (Comment text ∷ ls) f = counts_from inside ls f.1
 counts_from inside (Open verb suffix ∷ ls) f =
-    let before : as_number inside ≡ 0 = ap as_number f.0 in
+    let before : as_number inside ≡ 0 = rw f.0 refl in
     omega (arith, before, counts_from true ls f.1)
 counts_from inside (Close suffix ∷ ls) f =
-    let before : as_number inside ≡ 1 = ap as_number f.0 in
+    let before : as_number inside ≡ 1 = rw f.0 refl in
     omega (arith, before, counts_from false ls f.1)
 counts_from inside (Entry words suffix ∷ ls) f = counts_from inside ls f.1
 

@@ -1,5 +1,5 @@
 -- Inserting lines into a document, or removing some, leaves a document.
-use Rattle.std.proofs.Common.{◌≡◌, ℕ, ◌-◌, ◌<◌, ◌≤◌, Bool, true, false, List, [], ◌∷◌, ◌++◌, length, take, drop, take-add, Option, Some, None, Ok, refl, sym, ap, subst, ◌∙◌, arith, inl, inr}
+use Rattle.std.proofs.Common.{◌≡◌, ℕ, ◌-◌, ◌<◌, ◌≤◌, Bool, true, false, List, [], ◌∷◌, ◌++◌, length, take, drop, take-add, Option, Some, None, Ok, refl, sym, ap, ◌∙◌, arith, inl, inr}
 use Rattle.std.specs.Prelude.{◌≢◌, ⊤, insert, slice_range}
 use Rattle.std.specs.List.{list_all}
 use Rattle.std.proofs.lemmas.Bool.{cases_Bool, true≢false}
@@ -41,8 +41,8 @@ inside_after_all-append b (x ∷ xs) ys = inside_after_all-append (inside_after 
 pub inside_after-level : (b : Bool) (line : Line Word) → is_level line ≡ true → inside_after b line ≡ b
 inside_after-level b Blank e = refl
 inside_after-level b (Comment text) e = refl
-inside_after-level b (Open verb suffix) e = absurd cc
-inside_after-level b (Close suffix) e = absurd cc
+inside_after-level b (Open verb suffix) e = cc
+inside_after-level b (Close suffix) e = cc
 inside_after-level b (Entry words suffix) e = refl
 
 pub inside_after_all-level : (b : Bool) (lines : List (Line Word)) → list_all is_level lines ≡ true → inside_after_all b lines ≡ b
@@ -76,9 +76,9 @@ open_outside b verb suffix s = line_fits b s.0 (Open verb suffix) s.2
 
 slice_parts : (lines : List (Line Word)) (from to : ℕ) → from ≤ to → lines ≡ take from lines ++ (slice_range lines from to ++ drop to lines)
 slice_parts lines from to le =
-    let middle : List (Line Word) = slice_range lines from to in
-    let past : drop (to - from) (drop from lines) ≡ drop to lines = drop-drop (to - from) from lines ∙ ap (λ n. drop n lines) (omega arith) in
-    let tail : drop from lines ≡ middle ++ drop to lines =
+    let middle = slice_range lines from to in
+    let past = drop-drop (to - from) from lines ∙ ap (λ n. drop n lines) (omega arith) in
+    let tail =
     sym (take-append-drop (to - from) (drop from lines)) ∙ ap (λ l. middle ++ l) past in
     sym (take-append-drop from lines) ∙ ap (λ l. take from lines ++ l) tail
 
@@ -87,19 +87,17 @@ pub lines_go_out_at : (lines : List (Line Word)) (from to : ℕ) → from ≤ to
     → inside_after_all false (take to lines) ≡ inside_after_all false (take from lines)
     → IsDocument (without lines from to)
 lines_go_out_at lines from to le d e =
-    let middle : List (Line Word) = slice_range lines from to in
+    let middle = slice_range lines from to in
     let whole = slice_parts lines from to le in
-    let upto : take to lines ≡ take from lines ++ middle = ap (λ n. take n lines) (omega arith) ∙ take-add from (to - from) lines in
+    let upto = ap (λ n. take n lines) (omega arith) ∙ take-add from (to - from) lines in
     lines_go_out (take from lines) middle (drop to lines) (rw (← whole) d)
-    (sym (inside_after_all-append false (take from lines) middle) ∙ ap (inside_after_all false) (sym upto) ∙ e)
+    (rw (← inside_after_all-append false (take from lines) middle, ← upto) e)
 
 pub level_lines_go_out_at : (lines : List (Line Word)) (from to : ℕ) → from ≤ to → IsDocument lines
     → list_all is_level (slice_range lines from to) ≡ true → IsDocument (without lines from to)
 level_lines_go_out_at lines from to le d e =
     let upto : take to lines ≡ take from lines ++ slice_range lines from to = ap (λ n. take n lines) (omega arith) ∙ take-add from (to - from) lines in
-    lines_go_out_at lines from to le d (ap (inside_after_all false) upto
-    ∙ inside_after_all-append false (take from lines) (slice_range lines from to)
-    ∙ inside_after_all-level (inside_after_all false (take from lines)) (slice_range lines from to) e)
+    lines_go_out_at lines from to le d (rw (upto, inside_after_all-append false (take from lines) (slice_range lines from to)) (inside_after_all-level (inside_after_all false (take from lines)) (slice_range lines from to) e))
 
 -- an opening, the level lines in its block, the closing, and level lines after it
 pub block_goes_out_at : (lines inner behind : List (Line Word)) (from to : ℕ) (verb : Word)
@@ -107,13 +105,13 @@ pub block_goes_out_at : (lines inner behind : List (Line Word)) (from to : ℕ) 
     → slice_range lines from to ≡ Open verb suffix ∷ (inner ++ Close last ∷ behind) → list_all is_level inner ≡ true
     → list_all is_level behind ≡ true → IsDocument (without lines from to)
 block_goes_out_at lines inner behind from to verb suffix last le d is e f =
-    let front : List (Line Word) = take from lines in
-    let block : List (Line Word) = Open verb suffix ∷ (inner ++ Close last ∷ behind) in
-    let whole : lines ≡ front ++ (block ++ drop to lines) = slice_parts lines from to le ∙ ap (λ l. front ++ (l ++ drop to lines)) is in
+    let front = take from lines in
+    let block = Open verb suffix ∷ (inner ++ Close last ∷ behind) in
+    let whole = slice_parts lines from to le ∙ ap (λ l. front ++ (l ++ drop to lines)) is in
     let all = lines_stand start (front ++ (block ++ drop to lines)) (rw (← whole) d) in
     let opening = (stand_parts false front (block ++ drop to lines) all.0).1.0 in
-    let outside : inside_after_all false front ≡ false = open_outside (inside_after_all false front) verb suffix opening in
-    let closed : inside_after_all true (inner ++ Close last ∷ behind) ≡ false =
+    let outside = open_outside (inside_after_all false front) verb suffix opening in
+    let closed =
     inside_after_all-append true inner (Close last ∷ behind) ∙ inside_after_all-level false behind f in
     lines_go_out front block (drop to lines) (rw (← whole) d) (closed ∙ sym outside)
 
@@ -125,10 +123,10 @@ level_tests : (inside : Bool) (words : List Word) (suffix : Option (List ℕ)) (
 level_tests inside words suffix l e k = (rw e at (class_is inside words suffix)).2 k
 
 opens_ends : (words : List Word) → opens_block words ≡ true → ends_open words ≡ true
-opens_ends [] e = absurd cc
-opens_ends (v ∷ []) e = absurd cc
+opens_ends [] e = cc
+opens_ends (v ∷ []) e = cc
 opens_ends (v ∷ w ∷ []) e = (and_both (is_bare v.kind) (is_mark 40 w) e).1
-opens_ends (v ∷ w ∷ x ∷ words) e = absurd cc
+opens_ends (v ∷ w ∷ x ∷ words) e = cc
 
 class_anywhere : (inside : Bool) (words : List Word) (suffix : Option (List ℕ)) → 0 < length words
     → ends_open words ≡ false → begins_close words ≡ false → class_of inside words suffix ≡ Ok (Entry words suffix)
@@ -166,8 +164,8 @@ pub level_line_goes_in : (front back : List (Line Word)) (line : Line Word) (ins
 level_line_goes_in front back line inside d k s =
     let all = lines_stand start (front ++ back) d in
     let parts = stand_parts false front back all.0 in
-    let b : Bool = inside_after_all false front in
-    let same : inside_after b line ≡ b = inside_after-level b line k in
+    let b = inside_after_all false front in
+    let same = inside_after-level b line k in
     standing_lines start (front ++ line ∷ back)
     (stand_together false front (line ∷ back) parts.0 (valid_anywhere inside b line k s, rw same parts.1))
     (rw (inside_after_all-append false front (line ∷ back), same, ← inside_after_all-append false front back) all.1)

@@ -40,19 +40,16 @@ module _ {source : List ℕ} {from number : ℕ} {text rest : List ℕ} {t : Pla
   word_counted : t.line ≡ number → IsLineCounted source t
   word_counted is =
       let inner : text ++ s.tail ≡ n.blanks ++ ((t.word.spelling ++ rest) ++ s.tail) =
-      ap (λ l. l ++ s.tail) n.parts ∙ append_assoc n.blanks (t.word.spelling ++ rest) s.tail in
+      rw n.parts (append_assoc n.blanks (t.word.spelling ++ rest) s.tail) in
       let whole : source ≡ (s.front ++ n.blanks) ++ ((t.word.spelling ++ rest) ++ s.tail) =
-      s.parts ∙ ap (λ l. s.front ++ l) inner ∙ sym
-      (append_assoc s.front n.blanks ((t.word.spelling ++ rest) ++ s.tail)) in
+      rw (s.parts, inner, append_assoc s.front n.blanks ((t.word.spelling ++ rest) ++ s.tail)) refl in
       let len : span.first ≡ length (s.front ++ n.blanks) = omega (arith, n.first, s.offset, length-append s.front n.blanks) in
       let before : take span.first source ≡ s.front ++ n.blanks =
-      ap (take span.first) whole ∙ take_at (s.front ++ n.blanks) ((t.word.spelling ++ rest) ++ s.tail) span.first
-      (sym len) in
+      rw whole (take_at (s.front ++ n.blanks) ((t.word.spelling ++ rest) ++ s.tail) span.first (sym len)) in
       let plain = (plain_parts n.blanks (t.word.spelling ++ rest) (rw (← n.parts) s.plain)).0 in
       let feeds : line_feeds (take span.first source) ≡ line_feeds s.front =
-      ap line_feeds before ∙ feeds-append s.front n.blanks
-      ∙ ap (λ k. line_feeds s.front + k) (no_feeds n.blanks plain) ∙ omega arith in
-      (span, n.placed, is ∙ s.count ∙ ap (λ k. 1 + k) (sym feeds))
+      rw (before, feeds-append s.front n.blanks, no_feeds n.blanks plain) (omega arith) in
+      (span, n.placed, rw (is, s.count, feeds) refl)
 
   word_past : Stands source span.after number rest
   word_past =
@@ -60,16 +57,15 @@ module _ {source : List ℕ} {from number : ℕ} {text rest : List ℕ} {t : Pla
       let last = plain_parts t.word.spelling rest plains.1 in
       let head : List ℕ = n.blanks ++ t.word.spelling in
       let text_parts : text ≡ head ++ rest = n.parts ∙ sym (append_assoc n.blanks t.word.spelling rest) in
-      let inner : text ++ s.tail ≡ head ++ (rest ++ s.tail) = ap (λ l. l ++ s.tail) text_parts ∙ append_assoc head rest s.tail in
+      let inner : text ++ s.tail ≡ head ++ (rest ++ s.tail) = rw text_parts (append_assoc head rest s.tail) in
       let feeds : line_feeds (s.front ++ head) ≡ line_feeds s.front =
-      feeds-append s.front head ∙ ap (λ k. line_feeds s.front + k)
-      (no_feeds head (plain_append n.blanks t.word.spelling plains.0 last.0)) ∙ omega arith in
+      rw (feeds-append s.front head, no_feeds head (plain_append n.blanks t.word.spelling plains.0 last.0)) (omega arith) in
       record {
         front = s.front ++ head;
         tail = s.tail;
-        parts = s.parts ∙ ap (λ l. s.front ++ l) inner ∙ sym (append_assoc s.front head (rest ++ s.tail));
+        parts = rw (s.parts, inner, append_assoc s.front head (rest ++ s.tail)) refl;
         offset = omega (arith, n.after, n.first, s.offset, length-append s.front head, length-append n.blanks t.word.spelling);
-        count = s.count ∙ ap (λ k. 1 + k) (sym feeds);
+        count = rw (s.count, feeds) refl;
         plain = last.1;
       }
 
@@ -112,14 +108,12 @@ after_first source front first [] number ls plain ended parts count f again =
     none_left [] f = tt
     none_left (l ∷ ls) f = absurd f
 after_first source front first (b ∷ after) number ls plain ended parts count f again =
-    let past : List ℕ = front ++ (first ++ b ∷ []) in
-    let inner : first ++ b ∷ after ≡ (first ++ b ∷ []) ++ after = sym (append_assoc first (b ∷ []) after) in
-    let whole : source ≡ past ++ after = parts ∙ ap (λ l. front ++ l) inner ∙ sym (append_assoc front (first ++ b ∷ []) after) in
+    let past = front ++ (first ++ b ∷ []) in
+    let inner = sym (append_assoc first (b ∷ []) after) in
+    let whole : source ≡ past ++ after = rw (parts, inner, append_assoc front (first ++ b ∷ []) after) refl in
     let len : length front + length first + 1 ≡ length past = omega (arith, length-append front (first ++ b ∷ []), length-append first (b ∷ [])) in
     let feeds : line_feeds past ≡ line_feeds front + (0 + 1) =
-    feeds-append front (first ++ b ∷ []) ∙ ap (λ k. line_feeds front + k)
-    (feeds-append first (b ∷ []) ∙ ap (λ k. k + line_feeds (b ∷ [])) (no_feeds first plain)
-    ∙ ap (λ k. 0 + k) (one_feed b ended)) in
+    rw (feeds-append front (first ++ b ∷ []), feeds-append first (b ∷ []), no_feeds first plain, one_feed b ended) refl in
     again past after whole (omega (arith, count, feeds)) (rw (← len) f)
 
 pub lines_counted : (source front rest : List ℕ) (number : ℕ) (ls : List (Line Placed)) → source ≡ front ++ rest

@@ -2,7 +2,7 @@
 use Rattle.std.proofs.Common.{◌≡◌, ℕ, ◌+◌, ◌-◌, ◌<◌, ◌≤◌, Bool, true, List, [], ◌∷◌, ◌++◌, length, take, drop, Option, Some, None, Ok, refl, sym, ap, subst, ◌∙◌, append_assoc, arith}
 use Rattle.std.proofs.lemmas.List.{append-nil, take-append-drop, length-drop, length-map, take_all}
 use Rattle.gm_syntax.specs.Bytes.{is_blank}
-use Rattle.gm_syntax.specs.Words.{Word, AllBlank}
+use Rattle.gm_syntax.specs.Words.{Word}
 use Rattle.gm_syntax.specs.Lines.{lines_of}
 use Rattle.gm_syntax.specs.Tokens.{Placed, words_of}
 use Rattle.gm_syntax.specs.Spelling.{Comment as CommentEnd, IsComment, Reads}
@@ -21,7 +21,7 @@ use Rattle.gm_syntax.proofs.Stable.{mark, FromWords, from_words}
 fill_blank : (at : ℕ) (b : ℕ) (rest : List ℕ) (ts : List Placed) (comment : Option (List ℕ)) → is_blank b ≡ true
     → FillText (at + 1) rest ts comment → FillText at (b ∷ rest) ts comment
 fill_blank at b rest [] None blank f = (blank, f)
-fill_blank at b rest [] (Some comment) blank f = (f.0, b ∷ f.1, f.2, (blank, f.3), f.4, ap (λ l. b ∷ l) f.5)
+fill_blank at b rest [] (Some comment) blank f = (f.0, b ∷ f.1, f.2, (blank, f.3), f.4, rw f.5 refl)
 fill_blank at b rest (t ∷ ts) comment blank f =
     let n = f.2 in (
       f.0,
@@ -29,7 +29,7 @@ fill_blank at b rest (t ∷ ts) comment blank f =
       record {
         blanks = b ∷ n.blanks;
         are_blank = (blank, n.are_blank);
-        parts = ap (λ l. b ∷ l) n.parts;
+        parts = rw n.parts refl;
         placed = n.placed;
         first = omega (arith, n.first);
         after = n.after;
@@ -66,9 +66,9 @@ module _ (first : ℕ) (line : List ℕ) (words : List Placed) (rest : List ℕ)
   pub fills_blank : ((b : ℕ) × (bytes : List ℕ) × (rest ≡ b ∷ bytes) × (is_blank b ≡ true))
       → FillsUpTo first line words (first + (length line - length (drop 1 rest))) (drop 1 rest)
   fills_blank (b, bytes, e, blank) more comment f =
-      let past : drop 1 rest ≡ bytes = ap (drop 1) e in
+      let past : drop 1 rest ≡ bytes = rw e refl in
       let at : first + (length line - length (drop 1 rest)) ≡ first + (length line - length rest) + 1 = omega (arith, le, ap length e, ap length past) in
-      let g : FillText (first + (length line - length rest) + 1) bytes more comment =
+      let g =
       subst (λ (l : List ℕ). FillText (first + (length line - length rest) + 1) l more comment) past
       (subst (λ (n : ℕ). FillText n (drop 1 rest) more comment) at f) in
       p more comment (subst (λ (l : List ℕ). FillText (first + (length line - length rest)) l more comment) (sym e)
@@ -109,13 +109,13 @@ read_comment before text (w ∷ words) comment (rest, b, others) = read_comment 
 -- the words of a line that stores its first words
 one_word : (v : Placed) (ts : List Placed) (w : Word) (ws : List Word) → v ∷ [] ≡ take 1 ts → words_of ts ≡ w ∷ ws
     → (rest : List Placed) × (ts ≡ v ∷ rest) × (words_of rest ≡ ws)
-one_word v [] w ws same e = absurd cc
+one_word v [] w ws same e = cc
 one_word v (t ∷ ts) w ws same e =
     let here : v ≡ t = cc in
-    (ts, ap (λ x. x ∷ ts) (sym here), ap (drop 1) e)
+    (ts, rw here refl, ap (drop 1) e)
 
 one_left : (ts : List Placed) (w : Word) → words_of ts ≡ w ∷ [] → (t : Placed) × (ts ≡ t ∷ []) × (t.word ≡ w)
-one_left [] w e = absurd cc
+one_left [] w e = cc
 one_left (t ∷ []) w e = (t, refl, cc)
 one_left (t ∷ u ∷ ts) w e = absurd (omega (arith, ap length e))
 
@@ -130,7 +130,7 @@ line_filled inside first text ts comment l classed same f = by_line l (from_word
 
     none : (us : List Placed) → words_of us ≡ [] → us ≡ []
     none [] e = refl
-    none (u ∷ us) e = absurd cc
+    none (u ∷ us) e = cc
 
     by_line : (l : Line Placed) → FromWords (plain l) (words_of ts) comment → tokens_of l ≡ take (length (tokens_of l)) ts → FillsLine first text l
     by_line Blank w same = fill_as [] None (none ts w.0) w.1
@@ -138,12 +138,12 @@ line_filled inside first text ts comment l classed same f = by_line l (from_word
     by_line (Open verb suffix) w same =
         let o = one_word verb ts verb.word (mark 40 ∷ []) same w.0 in
         let k = one_left o.0 (mark 40) o.2 in
-        (k.0, ap (λ x. x.spelling) k.2, fill_as (verb ∷ k.0 ∷ []) suffix (o.1 ∙ ap (λ x. verb ∷ x) k.1) w.1)
+        (k.0, rw k.2 refl, fill_as (verb ∷ k.0 ∷ []) suffix (o.1 ∙ ap (λ x. verb ∷ x) k.1) w.1)
     by_line (Close suffix) w same =
         let k = one_left ts (mark 41) w.0 in
-        (k.0, ap (λ x. x.spelling) k.2, fill_as (k.0 ∷ []) suffix k.1 w.1)
+        (k.0, rw k.2 refl, fill_as (k.0 ∷ []) suffix k.1 w.1)
     by_line (Entry words suffix) w same =
-        let len : length ts ≡ length words = sym (length-map ts (λ (t : Placed). t.word)) ∙ ap length w.0 ∙ length-map words (λ (t : Placed). t.word) in
+        let len : length ts ≡ length words = rw (← length-map ts (λ (t : Placed). t.word), w.0) (length-map words (λ (t : Placed). t.word)) in
         fill_as words suffix (sym (same ∙ take_all (length words) ts (omega (arith, len)))) w.1
 
 -- ---- the lines of a text
@@ -158,8 +158,8 @@ pub lines_fill_more : (text rest front next : List ℕ) (lines : List (Line Plac
     → (0 < length next → length rest ≡ length front + 1 + length next) → FillsLine (length text - length rest) front l
     → LinesFillUpTo text (lines ++ l ∷ []) next
 lines_fill_more text rest front next lines l le p cut feed filled more f =
-    let at : ℕ = length text - length rest in
-    let here : FillLines (at + length front + 1) (lines_of next) more = next_lines next cut feed f in
+    let at = length text - length rest in
+    let here = next_lines next cut feed f in
     rw (append_assoc lines (l ∷ []) more)
     (p (l ∷ more) (rw cut (filled, here)))
   where

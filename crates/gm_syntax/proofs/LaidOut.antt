@@ -183,7 +183,7 @@ unfolding filled_lines
 blank_front l ls e =
     elim (cases_Bool (is_blank_line l)) [
       | inl k ↦ (k, rw k at e)
-      | inr k ↦ let none = rw k at e in absurd cc
+      | inr k ↦ let none = rw k at e in cc
     ]
 
 blanks_end : (l : Line Word) (ls : List (Line Word)) → filled_lines (l ∷ ls) ≡ [] → ends_blank (l ∷ ls) ≡ true
@@ -207,7 +207,7 @@ some_push [] l = refl
 some_push (m ∷ ls) l = refl
 
 all_push : (ls : List (Line Word)) (l : Line Word) → list_all is_blank_line ls ≡ true → is_blank_line l ≡ true → list_all is_blank_line (ls ++ l ∷ []) ≡ true
-all_push [] l h k = ap (λ b. b && true) k
+all_push [] l h k = rw k refl
 all_push (m ∷ ls) l h k = let p = and_both (is_blank_line m) (list_all is_blank_line ls) h in
     ap (λ b. b && list_all is_blank_line (ls ++ l ∷ [])) p.0 ∙ all_push ls l p.1 k
 
@@ -218,7 +218,7 @@ gap_same line next [] = refl
 gap_same line next (x ∷ blanks) = same_gap (is_open line) (is_close next)
 
 gap_none : (line next : Line Word) (blanks : List (Line Word)) → filled_lines (gap_between line blanks next) ≡ []
-gap_none line next blanks = ap filled_lines (sym (gap_same line next blanks)) ∙ gap_filled (is_some_line blanks && (not (is_open line) && not (is_close next)))
+gap_none line next blanks = rw (← gap_same line next blanks) (gap_filled (is_some_line blanks && (not (is_open line) && not (is_close next))))
 
 module _ (lines laid : List (Line Word)) (h : AreLaidOut lines laid) where
   -- after a kept line, laid has the same lines as the layout
@@ -247,8 +247,8 @@ module _ (lines laid : List (Line Word)) (h : AreLaidOut lines laid) where
             (all_push blanks l b j) (rw (append_assoc blanks (l ∷ []) ls) e) f same))
         | inr j ↦
             let p = h.between front blanks ls line l k b j e in
-            let gap : List (Line Word) = gap_between line blanks l in
-            let here : tail ≡ gap ++ l ∷ p.1 = same_split before p.0 tail (gap ++ l ∷ p.1) line k (sym f ∙ p.2) (same ∙ sym p.3) in
+            let gap = gap_between line blanks l in
+            let here = same_split before p.0 tail (gap ++ l ∷ p.1) line k (sym f ∙ p.2) (same ∙ sym p.3) in
             let past = tail_is ls (front ++ line ∷ blanks) [] (before ++ line ∷ gap) p.1 l (inside_after inside l) j refl
             (rw (append_assoc front (line ∷ blanks) (l ∷ ls)) e) (rw (append_assoc before (line ∷ gap) (l ∷ p.1), ← here) f)
             (rw (
@@ -260,7 +260,7 @@ module _ (lines laid : List (Line Word)) (h : AreLaidOut lines laid) where
               filled_blanks blanks b,
               same,
             ) refl) in
-            rw (here, j, gap_same line l blanks) (ap (λ t. gap ++ l ∷ t) past)
+            rw (here, j, gap_same line l blanks) (rw past refl)
       ]
 
   all_is : (rest blanks : List (Line Word)) (gap_pending : Bool) → list_all is_blank_line blanks ≡ true
@@ -280,7 +280,7 @@ module _ (lines laid : List (Line Word)) (h : AreLaidOut lines laid) where
           let both = rw (filled_other m all first) at keeps in
           let same : m ≡ l = cc in
           let past = tail_is ls blanks [] [] all l (inside_after false l) j refl e (rw (← same) f) (filled_none ∙ sym (filled_blanks blanks b)) in
-          rw (f, same, j, no_gap gap_pending (not (is_close l))) (ap (λ t. l ∷ t) past)
+          rw (f, same, j, no_gap gap_pending (not (is_close l))) (rw past refl)
 
 -- the layout of lines, stated without the algorithm
 pub is_layout : (lines : List (Line Word)) → IsLayout lines (layout lines)

@@ -1,5 +1,5 @@
 -- The words made by edits, and the values of words.
-use Rattle.std.proofs.Common.{◌≡◌, ℕ, ◌-◌, ◌==◌, Bool, true, false, List, [], ◌∷◌, ◌++◌, length, None, refl, sym, ap, subst, ◌∙◌, arith, inl, inr, length-append}
+use Rattle.std.proofs.Common.{◌≡◌, ℕ, ◌-◌, ◌==◌, Bool, true, false, List, [], ◌∷◌, ◌++◌, length, None, refl, sym, ◌∙◌, arith, inl, inr, length-append}
 use Rattle.std.specs.Prelude.{◌||◌, ◌↔◌, if◌then◌else◌}
 use Rattle.std.proofs.lemmas.Bool.{cases_Bool, true≢false}
 use Rattle.std.proofs.lemmas.List.{take_at}
@@ -39,11 +39,11 @@ escape-by b rest false false eq es = unescaped-plain b rest (sym es)
 pub unescaped-escaped : (value : List ℕ) → unescaped_bytes (escaped_value value) ≡ value
 unescaped-escaped [] = refl
 unescaped-escaped (b ∷ value) =
-    escape-by b (escaped_value value) (b == 34) (b == 92) refl refl ∙ ap (λ t. b ∷ t) (unescaped-escaped value)
+    rw (escape-by b (escaped_value value) (b == 34) (b == 92) refl refl, unescaped-escaped value) refl
 
 string_is : (text value : List ℕ) → IsString text value → string_value text ≡ value
-string_is text value (inl e) = ap string_value e ∙ ap unescaped_bytes (last-cut (escaped_value value) 34) ∙ unescaped-escaped value
-string_is text value (inr e) = ap string_value e.0 ∙ last-cut value 96
+string_is text value (inl e) = rw (e, last-cut (escaped_value value) 34) (unescaped-escaped value)
+string_is text value (inr e) = rw e.0 (last-cut value 96)
 
 shape_is : (kind : Kind) (text value : List ℕ) → HasShape kind text value → value_of_kind kind text ≡ value
 shape_is Bare text value h = sym h.1
@@ -96,7 +96,7 @@ no_mark b value = elim (cases_Bool (can_be_bare value)) [ inl e ↦ rw e refl | 
 
 -- a new word is not punctuation
 pub new_word_no_mark : (b : ℕ) (value : List ℕ) (t : Placed) → IsNewWord value t → is_mark b t.word ≡ false
-new_word_no_mark b value t h = ap (λ p. is_mark b p.word) (new_word_is value t h) ∙ no_mark b value
+new_word_no_mark b value t h = rw (new_word_is value t h) (no_mark b value)
 
 pub mark_stands : (punct : Punct) → IsWord (record { kind = Mark; spelling = mark_text punct })
 unfolding is_bracket_or_comma

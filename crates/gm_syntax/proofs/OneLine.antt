@@ -1,5 +1,5 @@
 -- A text that has one reading is one line, or has one fault.
-use Rattle.std.proofs.Common.{◌≡◌, Bool, List, ℕ, Option, Some, None, Result, Ok, Err, inl, inr, refl, sym, ap, subst, ◌∙◌}
+use Rattle.std.proofs.Common.{◌≡◌, Bool, List, ℕ, Option, Some, None, Result, Ok, Err, inl, inr, refl, sym, ap, ◌∙◌}
 use Rattle.gm_syntax.specs.declared.fault.SyntaxKind.{SyntaxKind}
 use Rattle.gm_syntax.specs.declared.fault.LineSyntaxFault.{LineSyntaxFault}
 use Rattle.gm_syntax.specs.declared.fault.LineSyntaxFault.TheVariants as faults
@@ -11,8 +11,8 @@ use Rattle.gm_syntax.specs.Private.Reader.{IsOnlyReading, IsOnlyLine, IsReadAs, 
 -- an ending that is no fault says which comment it has
 pub one_comment : (c d : Option (List ℕ)) → ending_of c ≡ ending_of d → c ≡ d
 one_comment None None e = refl
-one_comment None (Some text) e = absurd cc
-one_comment (Some text) None e = absurd cc
+one_comment None (Some text) e = cc
+one_comment (Some text) None e = cc
 one_comment (Some text) (Some other) e = cc
 
 fault_no_ending : (c : Option (List ℕ)) (kind : SyntaxKind) → Fault kind ≡ ending_of c → ⊥

@@ -1,5 +1,5 @@
 -- A document has one placing in its source.
-use Rattle.std.proofs.Common.{◌≡◌, ℕ, ◌+◌, Bool, false, List, [], ◌∷◌, ◌++◌, length, take, Option, Some, None, Ok, refl, sym, ap, subst, ◌∙◌, arith, inl, inr}
+use Rattle.std.proofs.Common.{◌≡◌, ℕ, ◌+◌, Bool, false, List, [], ◌∷◌, ◌++◌, length, Option, Some, None, Ok, refl, sym, ap, subst, ◌∙◌, arith, inl, inr}
 use Rattle.std.specs.List.{AllByRecursion}
 use Rattle.std.proofs.lemmas.Bool.{true≢false}
 use Rattle.std.proofs.lemmas.List.{append_cancel_left}
@@ -14,7 +14,7 @@ use Rattle.gm_syntax.specs.Spelling.{Ending, Reads, ending_of}
 use Rattle.gm_syntax.specs.Document.{Line, Blank, Comment, Open, Close, Entry, Finish, Whole, IsLineAt, ReadsLines, start, after, Place}
 use Rattle.gm_syntax.specs.LineViews.{plain, plain_lines, tokens_of, all_tokens}
 use Rattle.gm_syntax.specs.Parsed.{IsParsedAs}
-use Rattle.gm_syntax.specs.Placing.{IsNextWord, FillText, FillsLine, FillLines, line_feeds, IsLineCounted, IsPlacedIn}
+use Rattle.gm_syntax.specs.Placing.{IsNextWord, FillText, FillsLine, FillLines, IsLineCounted, IsPlacedIn}
 use Rattle.gm_syntax.proofs.Classes.{bracket_not_blank, quote_not_others, word_not_others, equals_word, quote_quote, grave_quote}
 use Rattle.gm_syntax.proofs.Stable.{from_words}
 use Rattle.gm_syntax.proofs.Counting.{all_split}
@@ -42,16 +42,16 @@ same_blanks : (b : ℕ) (xs ys us vs : List ℕ) → is_blank b ≡ false → Al
 same_blanks b [] [] us vs solid p q e = (refl, cc)
 same_blanks b [] (y ∷ ys) us vs solid p q e =
     let same : b ≡ y = cc in
-    absurd (true≢false (sym q.0 ∙ ap is_blank (sym same) ∙ solid))
+    absurd (true≢false (rw (← q.0, ← same) solid))
 same_blanks b (x ∷ xs) [] us vs solid p q e =
     let same : x ≡ b = cc in
-    absurd (true≢false (sym p.0 ∙ ap is_blank same ∙ solid))
+    absurd (true≢false (rw (← p.0, same) solid))
 same_blanks b (x ∷ xs) (y ∷ ys) us vs solid p q e =
     let r = same_blanks b xs ys us vs solid p.1 q.1 cc in
     (omega (arith, r.0), r.1)
 
 same_span : (s r : Span) → s.first ≡ r.first → s.after ≡ r.after → s ≡ r
-same_span s r e f = ap (λ n. span_at n s.after) e ∙ ap (span_at r.first) f
+same_span s r e f = rw (e, f) refl
   where
     span_at : ℕ → ℕ → Span
     span_at n m = record { first = n; after = m }
@@ -63,15 +63,15 @@ module _ (from : ℕ) (text : List ℕ) (t u : Placed) (s r : Span) (rest other 
   pub one_next : (s ≡ r) × (rest ≡ other)
   one_next =
       let p = shape_solid t.word.kind t.word.spelling shaped.0 shaped.1 in
-      let spelling : u.word.spelling ≡ t.word.spelling = ap (λ w. w.spelling) (sym same) in
-      let here : text ≡ n.blanks ++ (p.byte ∷ (p.more ++ rest)) = n.parts ∙ ap (λ l. n.blanks ++ (l ++ rest)) p.parts in
-      let there : text ≡ m.blanks ++ (p.byte ∷ (p.more ++ other)) = m.parts ∙ ap (λ l. m.blanks ++ (l ++ other)) (spelling ∙ p.parts) in
+      let spelling : u.word.spelling ≡ t.word.spelling = rw same refl in
+      let here = n.parts ∙ ap (λ l. n.blanks ++ (l ++ rest)) p.parts in
+      let there = m.parts ∙ ap (λ l. m.blanks ++ (l ++ other)) (spelling ∙ p.parts) in
       let b = same_blanks p.byte n.blanks m.blanks (p.more ++ rest) (p.more ++ other) p.solid n.are_blank m.are_blank (sym here ∙ there) in
       let first : s.first ≡ r.first = omega (arith, n.first, m.first, b.0) in
       (same_span s r first (omega (arith, n.after, m.after, first, ap length spelling)), append_cancel_left p.more rest other b.1)
 
 same_placed : (t u : Placed) → t.word ≡ u.word → t.line ≡ u.line → t.span ≡ u.span → t ≡ u
-same_placed t u e f g = ap (λ w. placed_at w t.line t.span) e ∙ ap (λ n. placed_at u.word n t.span) f ∙ ap (placed_at u.word u.line) g
+same_placed t u e f g = rw (e, f, g) refl
   where
     placed_at : Word → ℕ → Option Span → Placed
     placed_at w n s = record { word = w; line = n; span = s }
@@ -82,9 +82,9 @@ same_some s r e = cc
 one_word : (source : List ℕ) (t u : Placed) (s r : Span) → t.word ≡ u.word → t.span ≡ Some s → u.span ≡ Some r → s ≡ r
     → IsLineCounted source t → IsLineCounted source u → t ≡ u
 one_word source t u s r word at that same p q =
-    let spans : t.span ≡ u.span = at ∙ ap (λ x. Some x) same ∙ sym that in
-    let counted : p.0 ≡ q.0 = same_some p.0 q.0 (sym p.1 ∙ spans ∙ q.1) in
-    same_placed t u word (p.2 ∙ ap (λ x. 1 + line_feeds (take x.first source)) counted ∙ sym q.2) spans
+    let spans : t.span ≡ u.span = rw (at, same, that) refl in
+    let counted = same_some p.0 q.0 (sym p.1 ∙ spans ∙ q.1) in
+    same_placed t u word (rw (p.2, counted, q.2) refl) spans
 
 -- ---- the words of a line
 
@@ -93,13 +93,13 @@ words_same : (source : List ℕ) (from : ℕ) (text : List ℕ) (ts us : List Pl
     → FillText from text us d
     → AllByRecursion (IsLineCounted source) ts → AllByRecursion (IsLineCounted source) us → ts ≡ us
 words_same source from text [] [] c d shaped e f g p q = refl
-words_same source from text [] (u ∷ us) c d shaped e f g p q = absurd cc
-words_same source from text (t ∷ ts) [] c d shaped e f g p q = absurd cc
+words_same source from text [] (u ∷ us) c d shaped e f g p q = cc
+words_same source from text (t ∷ ts) [] c d shaped e f g p q = cc
 words_same source from text (t ∷ ts) (u ∷ us) c d shaped e f g p q =
     let word : t.word ≡ u.word = cc in
     let words : words_of ts ≡ words_of us = cc in
     let o = one_next from text t u f.0 g.0 f.1 g.1 shaped.0 word f.2 g.2 in
-    let here : t ≡ u = one_word source t u f.0 g.0 word f.2.placed g.2.placed o.0 p.0 q.0 in
+    let here = one_word source t u f.0 g.0 word f.2.placed g.2.placed o.0 p.0 q.0 in
     let there : FillText f.0.after f.1 us d = rw o.0
     (rw o.1 g.3) in
     ap (λ x. x ∷ ts) here ∙ ap (λ xs. u ∷ xs) (words_same source f.0.after f.1 ts us c d shaped.1 words f.3 there p.1 q.1)
@@ -123,34 +123,34 @@ module _ (source : List ℕ) (from : ℕ) (text : List ℕ) where
   line_same : (l m : Line Placed) → AllByRecursion IsShaped (words_of (tokens_of l)) → plain l ≡ plain m → FillsLine from text l → FillsLine from text m
       → AllByRecursion (IsLineCounted source) (tokens_of l) → AllByRecursion (IsLineCounted source) (tokens_of m) → l ≡ m
   line_same Blank Blank shaped e f g p q = refl
-  line_same Blank (Comment d) shaped e f g p q = absurd cc
-  line_same Blank (Open u d) shaped e f g p q = absurd cc
-  line_same Blank (Close d) shaped e f g p q = absurd cc
-  line_same Blank (Entry us d) shaped e f g p q = absurd cc
-  line_same (Comment c) Blank shaped e f g p q = absurd cc
+  line_same Blank (Comment d) shaped e f g p q = cc
+  line_same Blank (Open u d) shaped e f g p q = cc
+  line_same Blank (Close d) shaped e f g p q = cc
+  line_same Blank (Entry us d) shaped e f g p q = cc
+  line_same (Comment c) Blank shaped e f g p q = cc
   line_same (Comment c) (Comment d) shaped e f g p q = cc
-  line_same (Comment c) (Open u d) shaped e f g p q = absurd cc
-  line_same (Comment c) (Close d) shaped e f g p q = absurd cc
-  line_same (Comment c) (Entry us d) shaped e f g p q = absurd cc
-  line_same (Open t c) Blank shaped e f g p q = absurd cc
-  line_same (Open t c) (Comment d) shaped e f g p q = absurd cc
+  line_same (Comment c) (Open u d) shaped e f g p q = cc
+  line_same (Comment c) (Close d) shaped e f g p q = cc
+  line_same (Comment c) (Entry us d) shaped e f g p q = cc
+  line_same (Open t c) Blank shaped e f g p q = cc
+  line_same (Open t c) (Comment d) shaped e f g p q = cc
   line_same (Open t c) (Open u d) shaped e f g p q =
       let word : t.word ≡ u.word = cc in
       let suffix : c ≡ d = cc in
       let o = one_next from text t u f.2.0 g.2.0 f.2.1 g.2.1 shaped.0 word f.2.2 g.2.2 in
-      let here : t ≡ u = one_word source t u f.2.0 g.2.0 word f.2.2.placed g.2.2.placed o.0 p.0 q.0 in
+      let here = one_word source t u f.2.0 g.2.0 word f.2.2.placed g.2.2.placed o.0 p.0 q.0 in
       ap (λ x. Open x c) here ∙ ap (λ x. Open u x) suffix
-  line_same (Open t c) (Close d) shaped e f g p q = absurd cc
-  line_same (Open t c) (Entry us d) shaped e f g p q = absurd cc
-  line_same (Close c) Blank shaped e f g p q = absurd cc
-  line_same (Close c) (Comment d) shaped e f g p q = absurd cc
-  line_same (Close c) (Open u d) shaped e f g p q = absurd cc
+  line_same (Open t c) (Close d) shaped e f g p q = cc
+  line_same (Open t c) (Entry us d) shaped e f g p q = cc
+  line_same (Close c) Blank shaped e f g p q = cc
+  line_same (Close c) (Comment d) shaped e f g p q = cc
+  line_same (Close c) (Open u d) shaped e f g p q = cc
   line_same (Close c) (Close d) shaped e f g p q = let suffix : c ≡ d = cc in ap (λ x. Close x) suffix
-  line_same (Close c) (Entry us d) shaped e f g p q = absurd cc
-  line_same (Entry ts c) Blank shaped e f g p q = absurd cc
-  line_same (Entry ts c) (Comment d) shaped e f g p q = absurd cc
-  line_same (Entry ts c) (Open u d) shaped e f g p q = absurd cc
-  line_same (Entry ts c) (Close d) shaped e f g p q = absurd cc
+  line_same (Close c) (Entry us d) shaped e f g p q = cc
+  line_same (Entry ts c) Blank shaped e f g p q = cc
+  line_same (Entry ts c) (Comment d) shaped e f g p q = cc
+  line_same (Entry ts c) (Open u d) shaped e f g p q = cc
+  line_same (Entry ts c) (Close d) shaped e f g p q = cc
   line_same (Entry ts c) (Entry us d) shaped e f g p q =
       let words : words_of ts ≡ words_of us = cc in
       let suffix : c ≡ d = cc in
@@ -163,16 +163,16 @@ lines_same : (source : List ℕ) (at : Place) (from : ℕ) (texts : List (List �
     → FillLines from texts ms
     → AllByRecursion (IsLineCounted source) (all_tokens ls) → AllByRecursion (IsLineCounted source) (all_tokens ms) → ls ≡ ms
 lines_same source at from texts [] [] f r e a b p q = refl
-lines_same source at from texts [] (m ∷ ms) f r e a b p q = absurd cc
-lines_same source at from texts (l ∷ ls) [] f r e a b p q = absurd cc
+lines_same source at from texts [] (m ∷ ms) f r e a b p q = cc
+lines_same source at from texts (l ∷ ls) [] f r e a b p q = cc
 lines_same source at from [] (l ∷ ls) (m ∷ ms) f r e a b p q = absurd a
 lines_same source at from (text ∷ texts) (l ∷ ls) (m ∷ ms) f r e a b p q =
     let first : plain l ≡ plain m = cc in
     let others : plain_lines ls ≡ plain_lines ms = cc in
     let ps = all_split source (tokens_of l) (all_tokens ls) p in
     let qs = all_split source (tokens_of m) (all_tokens ms) q in
-    let here : l ≡ m = line_same source from text l m (line_shaped at.inside text l r.0) first a.0 b.0 ps.0 qs.0 in
-    let there : ls ≡ ms = lines_same source (after at (plain l)) (from + length text + 1) texts ls ms f r.1 others a.1 b.1 ps.1 qs.1 in
+    let here = line_same source from text l m (line_shaped at.inside text l r.0) first a.0 b.0 ps.0 qs.0 in
+    let there = lines_same source (after at (plain l)) (from + length text + 1) texts ls ms f r.1 others a.1 b.1 ps.1 qs.1 in
     ap (λ x. x ∷ ls) here ∙ ap (λ xs. m ∷ xs) there
 
 pub one_placing : (source : List ℕ) (doc other : List (Line Placed)) → IsParsedAs source (Ok doc)

@@ -1,5 +1,5 @@
 -- A text has one reading: each piece is one line or has one fault.
-use Rattle.std.proofs.Common.{◌≡◌, ℕ, Bool, true, false, List, [], ◌∷◌, length, Option, Some, None, Result, Ok, Err, refl, sym, ap, subst, ◌∙◌, inl, inr}
+use Rattle.std.proofs.Common.{◌≡◌, ℕ, Bool, List, [], ◌∷◌, length, Option, Some, None, Result, Ok, Err, refl, sym, ap, ◌∙◌, inl, inr}
 use Rattle.std.specs.Prelude.{◌⊎◌, slice_get}
 use Rattle.std.proofs.lemmas.Bool.{cases_Bool, true≢false}
 use Rattle.gm_syntax.specs.declared.fault.SyntaxKind.{SyntaxKind}
@@ -115,19 +115,19 @@ one_walk at [] [] [] Whole Whole r s = (refl, refl)
 one_walk at [] [] [] Whole (Faulty n k) r s = absurd (true≢false (sym s.0 ∙ r))
 one_walk at [] [] [] (Faulty n k) Whole r s = absurd (true≢false (sym r.0 ∙ s))
 one_walk at [] [] [] (Faulty n k) (Faulty m j) r s =
-    (refl, ap (λ x. Faulty x j) (s.1 ∙ sym r.1) ∙ ap (Faulty n) (s.2 ∙ sym r.2))
+    (refl, rw (s.1, r.1, s.2, r.2) refl)
 one_walk at [] [] (m ∷ others) f g r s = absurd s
 one_walk at [] (l ∷ lines) others f g r s = absurd r
 one_walk at (t ∷ ts) [] others Whole g r s = absurd r
 one_walk at (t ∷ ts) lines [] f Whole r s = absurd s
 one_walk at (t ∷ ts) [] [] (Faulty n k) (Faulty m j) r s =
-    (refl, ap (λ x. Faulty x j) (s.0 ∙ sym r.0) ∙ ap (Faulty n) (one_fault_at at.inside t j k s.1 r.1))
+    (refl, rw (s.0, r.0, one_fault_at at.inside t j k s.1 r.1) refl)
 one_walk at (t ∷ ts) [] (m ∷ others) (Faulty n k) g r s = absurd (not_both_at at.inside t m k s.0 r.1)
 one_walk at (t ∷ ts) (l ∷ lines) [] f (Faulty m j) r s = absurd (not_both_at at.inside t l j r.0 s.1)
 one_walk at (t ∷ ts) (l ∷ lines) (m ∷ others) f g r s =
-    let same : m ≡ l = one_line_at at.inside t m l s.0 r.0 in
+    let same = one_line_at at.inside t m l s.0 r.0 in
     let more = one_walk (after at l) ts lines others f g r.1 (rw (← same) s.1) in
-    (ap (λ x. x ∷ others) same ∙ ap (λ xs. l ∷ xs) more.0, more.1)
+    (rw (same, more.0) refl, more.1)
 
 pub some_reading : (text : List ℕ) → (lines : List (Line Word)) × (f : Finish) × IsReading text lines f
 some_reading text = let w = some_walk start (lines_of text) in (w.0, w.1, reading_of text w.0 w.1 w.2)
@@ -144,8 +144,7 @@ pub no_fault_before : (text : List ℕ) (lines : List (Line Word)) (f : Finish) 
 no_fault_before text lines f r front back line piece kind e at =
     let h = r.are_lines front back line e in
     let here : slice_get (lines_of text) (length front) ≡ Some h.0 =
-    ap (λ ts. slice_get ts (length front)) (sym (pieces_lines text r.pieces r.are_pieces))
-    ∙ h.1 in
+    rw (← pieces_lines text r.pieces r.are_pieces) h.1 in
     not_both_at (is_open_after front) piece line kind
     (rw (← (some_same h.0 piece (sym here ∙ at))) h.2)
 
@@ -154,7 +153,7 @@ pub never_closed : (text : List ℕ) (lines : List (Line Word)) (number : ℕ)
 never_closed text lines number r =
     elim r.ends [
       | inl s ↦ absurd (no_open_block_at (is_open_after lines) s.piece s.has_fault)
-      | inr s ↦ (s.0.0 ∙ ap length (pieces_lines text r.pieces r.are_pieces), s.0.1)
+      | inr s ↦ (rw (s.0.0, pieces_lines text r.pieces r.are_pieces) refl, s.0.1)
     ]
 
 -- ---- the results of reading bytes

@@ -1,5 +1,5 @@
 -- A document is a list of parts: single lines and blocks.
-use Rattle.std.proofs.Common.{◌≡◌, ℕ, Bool, true, false, List, [], ◌∷◌, ◌++◌, Option, refl, sym, ap, subst, ◌∙◌, append_assoc}
+use Rattle.std.proofs.Common.{◌≡◌, ℕ, Bool, true, false, List, [], ◌∷◌, ◌++◌, Option, refl, sym, ap, ◌∙◌, append_assoc}
 use Rattle.std.specs.List.{AllByRecursion, flat_map}
 use Rattle.std.proofs.lemmas.Bool.{true≢false}
 use Rattle.gm_syntax.specs.Words.{Word}
@@ -16,7 +16,7 @@ loose_valid inside [] a = (tt, refl)
 loose_valid inside (l ∷ ls) a =
     let same = inside_after-level inside l a.0.0 in
     let more = loose_valid inside ls a.1 in
-    ((a.0.1, rw same more.0), ap (λ b. inside_after_all b ls) same ∙ more.1)
+    ((a.0.1, rw same more.0), rw same more.1)
 
 abbrev AreClosed : List (Line Word) → Type 0
 AreClosed lines = AreValidFrom false lines × (inside_after_all false lines ≡ false)
@@ -63,16 +63,14 @@ PartsFrom true lines = RestOfBlock lines
 single : (line : Line Word) (lines : List (Line Word)) → IsLooseLine false line → ConsistOfParts lines
     → ConsistOfParts (line ∷ lines)
 single line lines loose h =
-    record { parts = Single line ∷ h.parts; are_parts = (loose, h.are_parts); all_lines = ap (λ t. line ∷ t) h.all_lines }
+    record { parts = Single line ∷ h.parts; are_parts = (loose, h.are_parts); all_lines = rw h.all_lines refl }
 
 block : (verb : Word) (suffix : Option (List ℕ)) (lines : List (Line Word)) → IsValidLine false (Open verb suffix)
     → RestOfBlock lines → ConsistOfParts (Open verb suffix ∷ lines)
 block verb suffix lines valid r = record {
   parts = Block verb suffix r.inner r.last ∷ r.more.parts;
   are_parts = ((valid, r.loose, r.closing), r.more.are_parts);
-  all_lines = ap (λ t. Open verb suffix ∷ t)
-      (r.split ∙ ap (λ t. r.inner ++ Close r.last ∷ t) r.more.all_lines
-      ∙ sym (append_assoc r.inner (Close r.last ∷ []) (flat_map part_lines r.more.parts)));
+  all_lines = rw (r.split, r.more.all_lines, append_assoc r.inner (Close r.last ∷ []) (flat_map part_lines r.more.parts)) refl;
 }
 
 in_block : (line : Line Word) (lines : List (Line Word)) → IsLooseLine true line → RestOfBlock lines
@@ -83,7 +81,7 @@ in_block line lines loose r = record {
   others = r.others;
   loose = (loose, r.loose);
   closing = r.closing;
-  split = ap (λ t. line ∷ t) r.split;
+  split = rw r.split refl;
   more = r.more;
 }
 

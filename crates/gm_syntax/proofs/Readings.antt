@@ -1,5 +1,5 @@
 -- Reading a text line by line, with the place carried along, gives what the pieces of the text are.
-use Rattle.std.proofs.Common.{◌≡◌, ℕ, suc, ◌+◌, Bool, true, false, List, [], ◌∷◌, ◌++◌, length, Option, Some, None, refl, sym, ap, subst, ◌∙◌, append_assoc, arith, inl, inr}
+use Rattle.std.proofs.Common.{◌≡◌, ℕ, suc, ◌+◌, true, false, List, [], ◌∷◌, ◌++◌, length, Option, Some, None, refl, sym, ap, ◌∙◌, append_assoc, arith, inl, inr}
 use Rattle.std.specs.Prelude.{◌⊎◌, slice_get}
 use Rattle.std.specs.List.{list_all}
 use Rattle.std.proofs.lemmas.Bool.{true≢false}
@@ -8,7 +8,7 @@ use Rattle.gm_syntax.specs.declared.fault.SyntaxKind.{SyntaxKind}
 use Rattle.gm_syntax.specs.declared.fault.SyntaxKind.TheVariants.{OpenBlock}
 use Rattle.gm_syntax.specs.Words.{Word}
 use Rattle.gm_syntax.specs.Lines.{lines_of}
-use Rattle.gm_syntax.specs.Document.{Line, Blank, Comment, Open, Close, Entry, Finish, Whole, Faulty, is_level, inside_after, inside_after_all, IsLineAt, HasLineFault, Finishes, ReadsLines, start, after, Place}
+use Rattle.gm_syntax.specs.Document.{Line, Blank, Comment, Open, Close, Entry, Finish, Whole, Faulty, is_level, inside_after_all, IsLineAt, HasLineFault, Finishes, ReadsLines, start, after, Place}
 use Rattle.gm_syntax.specs.Documents.{openings, closings, is_open_after, IsLastOpening, EndsAfter, IsReading}
 use Rattle.gm_syntax.proofs.Stable.{and_both, after_inside, Fits, line_fits}
 use Rattle.gm_syntax.proofs.Changes.{inside_after_all-append, inside_after_all-level}
@@ -41,7 +41,7 @@ opening_stays lines line number k o = record {
   verb = o.verb;
   suffix = o.suffix;
   inner = o.inner ++ line ∷ [];
-  split = ap (λ t. t ++ line ∷ []) o.split ∙ append_assoc o.front (Open o.verb o.suffix ∷ o.inner) (line ∷ []);
+  split = rw o.split (append_assoc o.front (Open o.verb o.suffix ∷ o.inner) (line ∷ []));
   never_closed = level_push o.inner line o.never_closed k;
   numbered = o.numbered;
 }
@@ -64,7 +64,7 @@ place_step : (lines : List (Line Word)) (at : Place) (line : Line Word) → IsPl
 place_step lines at line p f = record {
   fit = fit_push false lines line p.fit (rw (← p.inside) f);
   number = omega (arith, number_after at line, p.number, length-append lines (line ∷ []));
-  inside = after_inside at line ∙ ap (λ b. inside_after b line) p.inside ∙ sym (inside_after_all-append false lines (line ∷ []));
+  inside = rw (after_inside at line, p.inside, inside_after_all-append false lines (line ∷ [])) refl;
   opened = opening_after lines at line p;
 }
 
@@ -133,7 +133,7 @@ ends_by lines texts front [] end (Faulty number kind) p e n h =
 ends_by lines texts front (t ∷ rest) end (Faulty number kind) p e n h =
     inl (record {
       piece = t;
-      is_next = ap (slice_get texts) (sym n) ∙ ap (λ ts. slice_get ts (length front)) e ∙ get_next front rest t;
+      is_next = rw (← n, e) (get_next front rest t);
       has_fault = rw (← (place_open lines end p)) h.1;
       numbered = h.0 ∙ p.number;
     })
@@ -174,7 +174,7 @@ no_opening (x ∷ front) more w t a =
 no_later : (l m : Line Word) (inner others more : List (Line Word)) (w : Word) (t : Option (List ℕ))
     → l ∷ inner ≡ m ∷ at_opening others w t more → list_all is_level inner ≡ true → ⊥
 no_later l m inner others more w t e a =
-    no_opening others more w t (ap (list_all is_level) (sym (tails l m inner (at_opening others w t more) e)) ∙ a)
+    no_opening others more w t (rw (← tails l m inner (at_opening others w t more) e) a)
 
 -- a list is split at its last opening in one way
 one_last_opening : (front others inner more : List (Line Word)) (v w : Word) (s t : Option (List ℕ))
@@ -198,8 +198,7 @@ one_opening lines n m o p =
 
 opening_open : (lines : List (Line Word)) (n : ℕ) → IsLastOpening lines n → inside_after_all false lines ≡ true
 opening_open lines n o =
-    ap (inside_after_all false) o.split ∙ inside_after_all-append false o.front (Open o.verb o.suffix ∷ o.inner)
-    ∙ inside_after_all-level true o.inner o.never_closed
+    rw (o.split, inside_after_all-append false o.front (Open o.verb o.suffix ∷ o.inner)) (inside_after_all-level true o.inner o.never_closed)
 
 -- the end of the reading, as seen from some lines on
 record EndsAtFault (all : List (Line Word)) (count : ℕ) (texts : List (List ℕ)) (number : ℕ) (kind : SyntaxKind) : Type 0 where
@@ -256,13 +255,13 @@ walk_by at before (l ∷ ls) [] f p each ends =
     let h = each [] ls l refl in absurd (none_not_some h.0 (slice_get [] 0) refl h.1)
 walk_by at before (l ∷ ls) (t ∷ ts) f p each ends =
     let h = each [] ls l refl in
-    let inside : is_open_after (before ++ []) ≡ at.inside = ap is_open_after (append-nil before) ∙ sym (place_open before at p) in
+    let inside : is_open_after (before ++ []) ≡ at.inside = rw (append-nil before, place_open before at p) refl in
     let here : IsLineAt at.inside t l = rw (some_same t h.0 h.1)
     (rw (← inside) h.2) in (
       here,
       walk_by (after at l) (before ++ l ∷ []) ls ts f (place_step before at l p (line_fits at.inside t l here))
           (λ front back line e.
-          let m = each (l ∷ front) back line (ap (λ xs. l ∷ xs) e) in
+          let m = each (l ∷ front) back line (rw e refl) in
           (m.0, m.1, rw (append_assoc before (l ∷ []) front) m.2))
           (rw (append_assoc before (l ∷ []) ls)
           (ends_more (before ++ l ∷ ls) (length ls) t ts f ends)),

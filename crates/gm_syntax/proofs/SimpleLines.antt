@@ -1,16 +1,16 @@
 -- Lines that are read without a list of words.
-use Rattle.std.proofs.Common.{◌≡◌, ℕ, ◌+◌, ◌-◌, ◌<◌, ◌≤◌, Bool, true, false, List, [], ◌∷◌, ◌++◌, length, get_or, take, drop, Option, Some, None, Ok, inl, inr, IsUtf8, refl, sym, ap, subst, ◌∙◌, append_assoc, arith}
-use Rattle.std.specs.Prelude.{IsTrue}
+use Rattle.std.proofs.Common.{◌≡◌, ℕ, ◌+◌, ◌-◌, ◌<◌, ◌≤◌, Bool, true, false, List, [], ◌∷◌, ◌++◌, length, get_or, take, drop, Option, Some, None, Ok, inl, inr, IsUtf8, refl, sym, ap, ◌∙◌, append_assoc, arith}
+use Rattle.std.specs.Prelude.{IsTrue, ◌⊎◌}
 use Rattle.std.specs.Str.{IsCharBoundary}
 use Rattle.std.proofs.iter.FirstChar.{beside_ascii}
 use Rattle.std.proofs.lemmas.Bool.{true≢false}
 use Rattle.std.proofs.lemmas.List.{take_at, drop_at, drop-drop, append-nil, length-append}
 use Rattle.gm_syntax.specs.declared.scan.Piece.TheVariants as piece
 use Rattle.gm_syntax.specs.declared.word.Kind.TheVariants.{Bare, Mark}
-use Rattle.gm_syntax.specs.Bytes.{is_blank, is_bracket_or_comma, is_word_byte}
+use Rattle.gm_syntax.specs.Bytes.{is_blank, is_bracket_or_comma}
 use Rattle.gm_syntax.specs.Bare.{bare_len}
 use Rattle.gm_syntax.specs.Private.Scan.{is_plain, piece_of, trim_end}
-use Rattle.gm_syntax.specs.Words.{Word, AllBlank, IsBare, IsShaped}
+use Rattle.gm_syntax.specs.Words.{Word, AllBlank, IsBare}
 use Rattle.gm_syntax.specs.Lines.{lines_of, HasNoLineFeed}
 use Rattle.gm_syntax.specs.Tokens.{Placed, words_of, AreSlicesBetween, AreNumbered}
 use Rattle.gm_syntax.specs.Placing.{IsTail, FillText}
@@ -20,17 +20,18 @@ use Rattle.gm_syntax.specs.Document.{Line, Blank, Open, Close, Entry, class_of, 
 use Rattle.gm_syntax.specs.LineViews.{plain}
 use Rattle.gm_syntax.specs.LineReading.{Unread, HasRead}
 use Rattle.gm_syntax.specs.SimpleLines.{bare_word, pair_line, triple_line, IsPairRead, IsTripleRead, IsOpeningRead, IsSimpleRead}
-use Rattle.gm_syntax.specs.Private.SimpleLines.{mark_word, bare_at, IsLineEnd, IsPairText, IsTripleText, IsOpeningEnd, IsOpeningText, IsSimpleText, after_simple}
+use Rattle.gm_syntax.specs.Private.SimpleLines.{bare_at, IsWordsText, IsOpeningEnd, IsSimpleText, after_simple}
 use Rattle.gm_syntax.specs.declared.simple_line.SimpleLine.{SimpleLine}
 use Rattle.gm_syntax.specs.declared.simple_line.SimpleLine.TheVariants as simple
 use Rattle.gm_syntax.proofs.LineReading.{unread, read_more}
 use Rattle.gm_syntax.proofs.OneLine.{one_line}
 use Rattle.gm_syntax.proofs.Classes.{word_not_blank}
-use Rattle.gm_syntax.proofs.Pieces.{make_word, piece_end, piece_blank, piece_bracket, piece_comment}
+use Rattle.gm_syntax.proofs.Pieces.{piece_end, piece_blank, piece_bracket, piece_comment}
 use Rattle.gm_syntax.proofs.Places.{stand_take}
 use Rattle.gm_syntax.proofs.Progress.{Progress, progress_start, progress_blank, progress_word, progress_end, progress_comment, word_boundary, word_shaped, blank_boundary}
 use Rattle.gm_syntax.proofs.Steps.{plain_piece}
 use Rattle.gm_syntax.proofs.Classing.{class_blank}
+use Rattle.gm_syntax.proofs.Stable.{mark}
 
 -- ---- blanks
 
@@ -48,7 +49,7 @@ push_blank (x ∷ blanks) b h e = (h.0, push_blank blanks b h.1 e)
 
 pub blank_first : (text : List ℕ) → IsUtf8 text → BeginsBlank text → IsCharBoundary text 1
 blank_first text utf8 (b, more, e, blank) =
-    (blank_boundary (progress_start text) utf8 (ap (piece_of false) e ∙ piece_blank false b more blank)).0
+    (blank_boundary (progress_start text) utf8 (rw e (piece_blank false b more blank))).0
 
 pub one_more_blank : (text rest next : List ℕ) → IsAfterBlanks text rest → BeginsBlank rest → next ≡ drop 1 rest → IsAfterBlanks text next
 one_more_blank text rest next (blanks, are, parts) (b, more, e, blank) is = (
@@ -81,7 +82,7 @@ plain_begins_word text t (b, more, e, plain) =
 
 pub plain_word_bare : (text : List ℕ) → BeginsPlain text → IsBare (take (bare_len text) text)
 plain_word_bare text begins =
-    let shaped : IsShaped (make_word Bare (take (bare_len text) text)) =
+    let shaped =
     word_shaped (progress_start text) Bare (bare_len text) (plain_begins_word text false begins) in
     shaped.1.0
 
@@ -108,8 +109,8 @@ pub sofar_word : (line : List ℕ) (words : List Word) (text word rest : List �
     → Sofar line (words ++ bare_word word ∷ []) rest
 sofar_word line words text word rest (t, p) piece (blanks, are, parts) =
     let after = blanks ++ rest in
-    let front : take (length word) text ≡ word = ap (take (length word)) parts ∙ take_at word after (length word) refl in
-    let back : drop (length word) text ≡ after = ap (drop (length word)) parts ∙ drop_at word after (length word) refl in
+    let front : take (length word) text ≡ word = rw parts (take_at word after (length word) refl) in
+    let back : drop (length word) text ≡ after = rw parts (drop_at word after (length word) refl) in
     let past : Progress line (words ++ bare_word word ∷ []) true after =
     rw (← front)
     (rw (← back)
@@ -133,23 +134,23 @@ unfolding is_bracket_or_comma
 bracket_closing = refl
 
 sofar_mark : (line : List ℕ) (words : List Word) (text : List ℕ) (byte : ℕ) (rest : List ℕ) → Sofar line words text
-    → is_bracket_or_comma byte ≡ true → text ≡ byte ∷ rest → Sofar line (words ++ mark_word byte ∷ []) rest
+    → is_bracket_or_comma byte ≡ true → text ≡ byte ∷ rest → Sofar line (words ++ mark byte ∷ []) rest
 sofar_mark line words text byte rest (t, p) bracket parts =
     let here : Progress line words t (byte ∷ rest) = rw (← parts) p in
     (false, progress_word here Mark 1 (piece_bracket t byte rest bracket))
 
 -- the line ends after these words
-pub sofar_end : (line : List ℕ) (words : List Word) (rest : List ℕ) → Sofar line words rest → IsLineEnd rest
+pub sofar_end : (line : List ℕ) (words : List Word) (rest : List ℕ) → Sofar line words rest → (rest ≡ []) ⊎ ((more : List ℕ) × (rest ≡ 47 ∷ 47 ∷ more))
     → (comment : Option (List ℕ)) × IsOnlyReading line words (ending_of comment)
-sofar_end line words rest (t, p) (inl e) = (None, progress_end p (ap (piece_of t) e ∙ piece_end t))
-sofar_end line words rest (t, p) (inr (more, e)) = (Some (trim_end rest), progress_comment p (ap (piece_of t) e ∙ piece_comment t more))
+sofar_end line words rest (t, p) (inl e) = (None, progress_end p (rw e (piece_end t)))
+sofar_end line words rest (t, p) (inr (more, e)) = (Some (trim_end rest), progress_comment p (rw e (piece_comment t more)))
 
 -- an opening parenthesis ends the line
 pub sofar_opening : (line : List ℕ) (words : List Word) (text : List ℕ) → Sofar line words text → IsOpeningEnd text
-    → (comment : Option (List ℕ)) × IsOnlyReading line (words ++ mark_word 40 ∷ []) (ending_of comment)
+    → (comment : Option (List ℕ)) × IsOnlyReading line (words ++ mark 40 ∷ []) (ending_of comment)
 sofar_opening line words text so (blanks, rest, are, parts, ends) =
-    let all : List Word = words ++ mark_word 40 ∷ [] in
-    let past : Sofar line all (blanks ++ rest) = sofar_mark line words text 40 (blanks ++ rest) so bracket_opening parts in
+    let all = words ++ mark 40 ∷ [] in
+    let past = sofar_mark line words text 40 (blanks ++ rest) so bracket_opening parts in
     sofar_end line all rest (sofar_blanks line all (blanks ++ rest) rest past (blanks, are, refl)) ends
 
 -- ---- the words' places
@@ -163,19 +164,19 @@ record PlacedWords (first number : ℕ) (text : List ℕ) (words : List Word) (c
 
 tail_of : (before : Option Word) (text : List ℕ) (comment : Option (List ℕ)) → EndsLine before text (ending_of comment) → IsTail text comment
 tail_of before text None r = rw (r.parts ∙ ap (λ (l : List ℕ). r.blanks ++ l) r.ends ∙ append-nil r.blanks) r.are_blank
-tail_of before text (Some c) r = (r.ends.1, r.blanks, r.ends.2, r.are_blank, r.ends.3, r.parts ∙ ap (λ l. r.blanks ++ l) r.ends.4)
+tail_of before text (Some c) r = (r.ends.1, r.blanks, r.ends.2, r.are_blank, r.ends.3, rw (r.parts, r.ends.4) refl)
 
 abbrev place_words : (first number : ℕ) (before : Option Word) (text : List ℕ) (words : List Word)
     (comment : Option (List ℕ)) → Reads before text words (ending_of comment)
     → PlacedWords first number text words comment
 place_words first number before text [] comment r = record { tokens = []; are = refl; numbered = tt; fill = tail_of before text comment r }
 place_words first number before text (w ∷ words) comment (rest, b, others) =
-    let at : ℕ = first + length b.blanks in
-    let past : ℕ = at + length w.spelling in
+    let at = first + length b.blanks in
+    let past = at + length w.spelling in
     let more = place_words past number (Some w) rest words comment others in
     record {
       tokens = record { word = w; line = number; span = Some (record { first = at; after = past }) } ∷ more.tokens;
-      are = ap (λ ws. w ∷ ws) more.are;
+      are = rw more.are refl;
       numbered = (refl, more.numbered);
       fill = (
         record { first = at; after = past },
@@ -201,17 +202,14 @@ stand_filled source from text after [] comment f whole = omega arith
 stand_filled source from text after (t ∷ ts) comment (span, rest, n, f) whole =
     let word = t.word.spelling in
     let parts : text ++ after ≡ n.blanks ++ (word ++ (rest ++ after)) =
-    ap (λ l. l ++ after) n.parts ∙ append_assoc n.blanks (word ++ rest) after ∙ ap (λ l. n.blanks ++ l) (append_assoc word rest after) in
+    rw (n.parts, append_assoc n.blanks (word ++ rest) after, append_assoc word rest after) refl in
     let here : drop span.first source ≡ word ++ (rest ++ after) =
-    ap (λ k. drop k source) n.first ∙ sym (drop-drop (length n.blanks) from source)
-    ∙ ap (drop (length n.blanks)) (whole ∙ parts) ∙ drop_at n.blanks (word ++ (rest ++ after)) (length n.blanks)
-    refl in
+    rw (n.first, ← drop-drop (length n.blanks) from source, whole, parts) (drop_at n.blanks (word ++ (rest ++ after)) (length n.blanks) refl) in
     let past : drop span.after source ≡ rest ++ after =
-    ap (λ k. drop k source) n.after ∙ sym (drop-drop (length word) span.first source)
-    ∙ ap (drop (length word)) here ∙ drop_at word (rest ++ after) (length word) refl in
+    rw (n.after, ← drop-drop (length word) span.first source, here) (drop_at word (rest ++ after) (length word) refl) in
     let width : span.after - span.first ≡ length word = omega (arith, n.after) in
     let slice : take (span.after - span.first) (drop span.first source) ≡ word =
-    ap (λ k. take k (drop span.first source)) width ∙ ap (take (length word)) here ∙ take_at word (rest ++ after) (length word) refl in
+    rw (width, here) (take_at word (rest ++ after) (length word) refl) in
     let end : span.after + length rest ≡ from + length text =
     omega (
       arith,
@@ -246,14 +244,14 @@ record OpeningFilled (first number : ℕ) (text verb : List ℕ) (comment : Opti
   pub fill : FillText first text (bare_at first number verb ∷ opening ∷ []) comment
 
 opening_filled : (first number : ℕ) (text verb rest : List ℕ) (comment : Option (List ℕ)) → text ≡ verb ++ rest
-    → Reads None text (bare_word verb ∷ mark_word 40 ∷ []) (ending_of comment)
+    → Reads None text (bare_word verb ∷ mark 40 ∷ []) (ending_of comment)
     → OpeningFilled first number text verb comment
 opening_filled first number text verb rest comment begins (more, b, others) =
-    let none : b.blanks ≡ [] = no_blanks verb rest b.blanks (verb ++ more) b.shape.1.0 (sym begins ∙ b.parts) b.are_blank in
-    let past : ℕ = first + length verb in
-    let w = place_words past number (Some (bare_word verb)) more (mark_word 40 ∷ []) comment others in
-    let at : ℕ = past + length others.1.blanks in
-    let opening : Placed = record { word = mark_word 40; line = number; span = Some (record { first = at; after = at + 1 }) } in
+    let none = no_blanks verb rest b.blanks (verb ++ more) b.shape.1.0 (sym begins ∙ b.parts) b.are_blank in
+    let past = first + length verb in
+    let w = place_words past number (Some (bare_word verb)) more (mark 40 ∷ []) comment others in
+    let at = past + length others.1.blanks in
+    let opening : Placed = record { word = mark 40; line = number; span = Some (record { first = at; after = at + 1 }) } in
     record {
       opening = opening;
       spelled = refl;
@@ -263,7 +261,7 @@ opening_filled first number text verb rest comment begins (more, b, others) =
         record {
           blanks = [];
           are_blank = tt;
-          parts = b.parts ∙ ap (λ l. l ++ (verb ++ more)) none;
+          parts = rw (b.parts, none) refl;
           placed = refl;
           first = omega arith;
           after = refl;
@@ -287,11 +285,11 @@ unfolding class_of
 triple_class true first second third comment = refl
 triple_class false first second third comment = refl
 
-opening_class : (verb : List ℕ) (comment : Option (List ℕ)) → class_of false (bare_word verb ∷ mark_word 40 ∷ []) comment ≡ Ok (Open (bare_word verb) comment)
+opening_class : (verb : List ℕ) (comment : Option (List ℕ)) → class_of false (bare_word verb ∷ mark 40 ∷ []) comment ≡ Ok (Open (bare_word verb) comment)
 unfolding class_of
 opening_class verb comment = refl
 
-closing_class : class_of true (mark_word 41 ∷ []) None ≡ Ok (Close None)
+closing_class : class_of true (mark 41 ∷ []) None ≡ Ok (Close None)
 unfolding class_of
 closing_class = refl
 
@@ -317,7 +315,7 @@ module _ (left : Unread) (lines : List (Line Placed)) (front next : List ℕ) (s
   words_read words comment at is class reading =
       let w = place_words offset left.at.number None front words comment reading.reads in
       let l : Line Placed = Entry w.tokens comment in
-      let same : plain l ≡ Entry words comment = ap (λ ws. Entry ws comment) w.are in
+      let same : plain l ≡ Entry words comment = rw w.are refl in
       let only : IsOnlyLine left.at.inside front (Ok (plain l)) =
       rw same
       (one_line left.at.inside front words comment reading (Entry words comment) class) in (
@@ -331,13 +329,13 @@ module _ (left : Unread) (lines : List (Line Placed)) (front next : List ℕ) (s
 
   -- after a line that is two bare words
   pair_read : (first second : List ℕ) (at : Place) → at ≡ record left.at { number = left.at.number + 1 }
-      → IsPairText front first second → IsPairRead (unread left.source next at) lines first second
+      → IsWordsText front (bare_word first ∷ bare_word second ∷ []) → IsPairRead (unread left.source next at) lines first second
   pair_read first second at is (comment, reading) = words_read (bare_word first ∷ bare_word second ∷ []) comment at is
       (pair_class left.at.inside first second comment) reading
 
   -- after a line that is three bare words
   triple_read : (first second third : List ℕ) (at : Place) → at ≡ record left.at { number = left.at.number + 1 }
-      → IsTripleText front first second third → IsTripleRead (unread left.source next at) lines first second third
+      → IsWordsText front (bare_word first ∷ bare_word second ∷ bare_word third ∷ []) → IsTripleRead (unread left.source next at) lines first second third
   triple_read first second third at is (comment, reading) =
       words_read (bare_word first ∷ bare_word second ∷ bare_word third ∷ []) comment at is
       (triple_class left.at.inside first second third comment) reading
@@ -345,10 +343,10 @@ module _ (left : Unread) (lines : List (Line Placed)) (front next : List ℕ) (s
   -- after a line that opens a block
   opening_read : (verb : List ℕ) (token : Placed) (at : Place) → left.at.inside ≡ false
       → at ≡ record { number = left.at.number + 1; inside = true; opened = left.at.number }
-      → token ≡ bare_at offset left.at.number verb → IsOpeningText front verb
+      → token ≡ bare_at offset left.at.number verb → ((rest : List ℕ) × (front ≡ verb ++ rest) × IsWordsText front (bare_word verb ∷ mark 40 ∷ []))
       → IsOpeningRead (unread left.source next at) lines token
-  opening_read verb token at outside is placed (rest, begins, comment, reading) =
-      let words : List Word = bare_word verb ∷ mark_word 40 ∷ [] in
+  opening_read verb token at outside is placed (rest, begins, (comment, reading)) =
+      let words : List Word = bare_word verb ∷ mark 40 ∷ [] in
       let f = opening_filled offset left.at.number front verb rest comment begins reading.reads in
       let t : Placed = bare_at offset left.at.number verb in
       let l : Line Placed = Open t comment in
@@ -370,23 +368,23 @@ module _ (left : Unread) (lines : List (Line Placed)) (front next : List ℕ) (s
       ≡ record left.at { number = left.at.number + 1; inside = false } → front ≡ 41 ∷ []
       → HasRead (unread left.source next at) (lines ++ Close None ∷ [])
   closing_read at inside is closing =
-      let words : List Word = mark_word 41 ∷ [] in
+      let words : List Word = mark 41 ∷ [] in
       let so_far : Sofar front words [] = sofar_mark front [] front 41 [] (false, progress_start front) bracket_closing closing in
       let reading : IsOnlyReading front words (ending_of None) = progress_end so_far.1 (piece_end so_far.0) in
       let w = place_words offset left.at.number None front words None reading.reads in
       let at_mark : ℕ = offset + length reading.reads.1.blanks in
-      let mark : Placed = record { word = mark_word 41; line = left.at.number; span = Some (record { first = at_mark; after = at_mark + 1 }) } in
+      let closing_mark : Placed = record { word = mark 41; line = left.at.number; span = Some (record { first = at_mark; after = at_mark + 1 }) } in
       let only : IsOnlyLine left.at.inside front (Ok (Close None)) =
       rw inside (one_line true front words None reading (Close None) closing_class) in
       read_more so front next (Close None) at is cut.lines cut.no_line_feed cut.shorter cut.in_range cut.front_is
-      cut.suffix cut.line_feed only (λ source more whole. omega arith) tt (mark, refl, w.fill)
+      cut.suffix cut.line_feed only (λ source more whole. omega arith) tt (closing_mark, refl, w.fill)
 
   -- after an empty line
   blank_read : (at : Place) → at ≡ record left.at { number = left.at.number + 1 } → front ≡ [] → HasRead (unread left.source next at) (lines ++ Blank ∷ [])
   blank_read at is empty =
-      let only : IsOnlyLine left.at.inside front (Ok Blank) =
+      let only =
       one_line left.at.inside front [] None (progress_end (progress_start front)
-      (ap (piece_of false) empty ∙ piece_end false)) Blank (class_blank left.at.inside) in
+      (rw empty (piece_end false))) Blank (class_blank left.at.inside) in
       read_more so front next Blank at is cut.lines cut.no_line_feed cut.shorter cut.in_range cut.front_is cut.suffix
       cut.line_feed only (λ source more whole. omega arith) tt (rw empty tt)
 
@@ -396,6 +394,6 @@ module _ (left : Unread) (lines : List (Line Placed)) (front next : List ℕ) (s
   simple_read verb simple.Blank at is text = blank_read at is text
   simple_read verb (simple.Pair first second) at is text = pair_read first.now second.now at is text
   simple_read verb (simple.PairAfter first second) at is text = triple_read verb first.now second.now at is text
-  simple_read verb (simple.Opening token) at is (outside, placed, text) =
-      (ap (λ t. t.word.spelling) placed, opening_read verb token at outside is placed text)
+  simple_read verb (simple.Opening token) at is (outside, placed, rest, begins, words) =
+      (rw placed refl, opening_read verb token at outside is placed (rest, begins, words))
   simple_read verb simple.Closing at is (inside, text) = closing_read at inside is text

@@ -1,5 +1,5 @@
 -- The lines of a text are its pieces between line feeds.
-use Rattle.std.proofs.Common.{◌≡◌, ℕ, List, [], ◌∷◌, ◌++◌, refl, sym, ap, subst, ◌∙◌, append_assoc, inl, inr}
+use Rattle.std.proofs.Common.{◌≡◌, ℕ, List, [], ◌∷◌, ◌++◌, refl, sym, ap, ◌∙◌, append_assoc, inl, inr}
 use Rattle.std.specs.Prelude.{◌≢◌}
 use Rattle.std.specs.List.{AllByRecursion, flat_map}
 use Rattle.std.proofs.lemmas.Bool.{cases_eq}
@@ -24,9 +24,9 @@ ended_lines (t ∷ front) rest p =
 
 last_line : (last : List ℕ) → last ≢ [] → HasNoLineFeed last → lines_of last ≡ last ∷ []
 last_line [] n p = absurd (n refl)
-last_line (b ∷ []) n p = lines_more b [] p.0 ∙ ap (put_first b) lines_nil
+last_line (b ∷ []) n p = rw (lines_more b [] p.0, lines_nil) refl
 last_line (b ∷ c ∷ last) n p =
-    lines_more b (c ∷ last) p.0 ∙ ap (put_first b) (last_line (c ∷ last) (λ e. absurd cc) p.1)
+    rw (lines_more b (c ∷ last) p.0, last_line (c ∷ last) (λ e. absurd cc) p.1) refl
 
 plain_parts : (xs ys : List (List ℕ)) → AllByRecursion HasNoLineFeed (xs ++ ys)
     → AllByRecursion HasNoLineFeed xs × AllByRecursion HasNoLineFeed ys
@@ -36,11 +36,10 @@ plain_parts (x ∷ xs) ys p = let r = plain_parts xs ys p.1 in ((p.0, r.0), r.1)
 pub pieces_lines : (text : List ℕ) (pieces : List (List ℕ)) → ArePieces text pieces → pieces ≡ lines_of text
 pieces_lines text pieces h =
     elim h.joined [
-      | inl e ↦ sym (ap lines_of (e ∙ sym (append-nil (joined pieces))) ∙ ended_lines pieces [] h.no_line_feed
-          ∙ ap (λ t. pieces ++ t) lines_nil ∙ append-nil pieces)
+      | inl e ↦ rw (← append-nil pieces, ← lines_nil, ← ended_lines pieces [] h.no_line_feed, append-nil (joined pieces), ← e) refl
       | inr s ↦
           let plain = plain_parts s.0 (s.1 ∷ []) (rw (← s.2) h.no_line_feed) in
-          s.2 ∙ sym (ap lines_of s.4 ∙ ended_lines s.0 s.1 plain.0 ∙ ap (λ t. s.0 ++ t) (last_line s.1 s.3 plain.1.0))
+          s.2 ∙ sym (rw (s.4, ended_lines s.0 s.1 plain.0, last_line s.1 s.3 plain.1.0) refl)
     ]
 
 -- ---- the lines are pieces
@@ -49,8 +48,8 @@ cut_piece : (text : List ℕ) (pieces : List (List ℕ)) → ArePieces text piec
 cut_piece text pieces h = record {
   no_line_feed = (tt, h.no_line_feed);
   joined = elim h.joined [
-    | inl e ↦ inl (ap (λ t. 10 ∷ t) e)
-    | inr s ↦ inr ([] ∷ s.0, s.1, ap (λ t. [] ∷ t) s.2, s.3, ap (λ t. 10 ∷ t) s.4)
+    | inl e ↦ inl (rw e refl)
+    | inr s ↦ inr ([] ∷ s.0, s.1, rw s.2 refl, s.3, rw s.4 refl)
   ];
 }
 
@@ -66,14 +65,14 @@ more_piece : (b : ℕ) (text : List ℕ) (pieces : List (List ℕ)) → b ≢ 10
 more_piece b text [] n h = record {
   no_line_feed = ((n, tt), tt);
   joined = elim h.joined [
-    | inl e ↦ inr ([], b ∷ [], refl, not_empty b [], ap (λ t. b ∷ t) e)
+    | inl e ↦ inr ([], b ∷ [], refl, not_empty b [], rw e refl)
     | inr s ↦ absurd (no_split s.0 s.1 s.2)
   ];
 }
 more_piece b text (piece ∷ pieces) n h = record {
   no_line_feed = ((n, h.no_line_feed.0), h.no_line_feed.1);
   joined = elim h.joined [
-    | inl e ↦ inl (ap (λ t. b ∷ t) e)
+    | inl e ↦ inl (rw e refl)
     | inr s ↦ inr (by_front s.0 s.1 s.2 s.3 s.4)
   ];
 }
@@ -109,7 +108,7 @@ more_piece b text (piece ∷ pieces) n h = record {
 
 pub lines_pieces : (text : List ℕ) → ArePieces text (lines_of text)
 lines_pieces [] =
-    record { no_line_feed = rw lines_nil tt; joined = inl (sym (ap joined lines_nil)) }
+    record { no_line_feed = rw lines_nil tt; joined = inl (rw lines_nil refl) }
 lines_pieces (b ∷ bytes) =
     elim (cases_eq b 10) [
       | inl e ↦ rw (lines_cut b bytes e)

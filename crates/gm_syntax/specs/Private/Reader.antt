@@ -1,5 +1,6 @@
 -- What the reader of a line answers, and that no other reading is right.
 use Rattle.std.specs.Prelude.{ℕ, ◌≡◌, Bool, Result, Ok, Err, List, None, MatchResult, ⊤}
+use Rattle.std.specs.Result.{result_map_both}
 use Rattle.gm_syntax.specs.declared.fault.LineSyntaxFault.{LineSyntaxFault}
 use Rattle.gm_syntax.specs.declared.fault.LineSyntaxFault.TheVariants as faults
 use Rattle.gm_syntax.specs.declared.fault.SyntaxFault.{SyntaxFault}
@@ -20,9 +21,8 @@ fault_at number (faults.Syntax kind) = syntax.Syntax number kind
 
 -- the result is the class of these words and this comment
 abbrev pub IsClassed : Bool → LineParts → Result lines.Line SyntaxKind → Type 0
-IsClassed inside parts (Ok line) = class_of inside (words_of parts.words.items) (comment_of parts.comment)
-    ≡ Ok (plain (line_of line))
-IsClassed inside parts (Err kind) = class_of inside (words_of parts.words.items) (comment_of parts.comment) ≡ Err kind
+IsClassed inside parts answer = class_of inside (words_of parts.words.items) (comment_of parts.comment)
+    ≡ result_map_both (λ line. plain (line_of line)) (λ kind. kind) answer
 
 -- the line has this reading and no other
 pub record IsOnlyReading (line : List ℕ) (words : List Word) (ending : Ending) : Type 0 where

@@ -1,6 +1,6 @@
-use Rattle.std.proofs.Common.{◌+◌, length, sym, subst}
+use Rattle.std.proofs.Common.{◌+◌, length}
 use Rattle.std.proofs.lemmas.Result.{err_from_is_err_and}
-use Rattle.gm_syntax.specs.Tokens.{comment_of, words_of, AreSlicesBetween}
+use Rattle.gm_syntax.specs.Tokens.{comment_of, words_of}
 use Rattle.gm_syntax.specs.LineViews.{line_of, plain, tokens_of}
 use Rattle.gm_syntax.proofs.Places.{stand_take}
 use Rattle.gm_syntax.proofs.Filling.{line_filled}

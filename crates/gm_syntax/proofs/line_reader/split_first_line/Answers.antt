@@ -1,4 +1,4 @@
-use Rattle.std.proofs.Common.{◌≡◌, ℕ, List, [], ◌∷◌, ◌++◌, append_assoc, take, drop, ap, subst, sym, ◌∙◌, arith}
+use Rattle.std.proofs.Common.{◌≡◌, ◌∷◌, ◌++◌, append_assoc, take, drop, ap, sym, ◌∙◌, arith}
 use Rattle.std.specs.Str.{IsCharBoundary}
 use Rattle.std.proofs.iter.FirstChar.{cut}
 use Rattle.std.proofs.lemmas.List.{nil_from_length, take-append-drop}
@@ -23,7 +23,7 @@ split_at-requires c = rw (c.line_len.ensures ∙ ap line_len c.as_bytes.ensures.
 
 pub returns-then-is_empty-clause-lines : goal.returns-then-is_empty-clause-lines
 returns-then-is_empty-clause-lines c =
-    let empty : c.split_at.result.1.now ≡ [] = nil_from_length c.split_at.result.1.now (eqb-true _ 0 (sym c.is_empty.ensures ∙ c.if-is_empty.true)) in
+    let empty = nil_from_length c.split_at.result.1.now (eqb-true _ 0 (sym c.is_empty.ensures ∙ c.if-is_empty.true)) in
     (cut_is (goal.at.returns-then-is_empty-clause-lines c).After-split_at).lines
     ∙ ap (λ l. c.split_at.result.0.now ∷ lines_of (drop 1 l)) empty
     ∙ sym (ap (λ l. c.split_at.result.0.now ∷ lines_of l) empty)
@@ -55,7 +55,7 @@ pub returns-clause-suffix : goal.returns-clause-suffix
 returns-clause-suffix c =
     let parts = (cut_is (goal.at.returns-clause-suffix c).After-split_at).parts in
     let next = c.split_at-2.result.1.now in
-    let after : c.split_at.result.1.now ≡ take 1 c.split_at.result.1.now ++ next =
+    let after =
     sym (take-append-drop 1 c.split_at.result.1.now) ∙ ap (λ l. take 1 c.split_at.result.1.now ++ l)
     (sym c.split_at-2.ensures.back) in
     suffix_of c.args.text.now (c.split_at.result.0.now ++ take 1 c.split_at.result.1.now) next

@@ -1,11 +1,9 @@
-use Rattle.std.proofs.Common.{ℕ, List, [], ◌∷◌, ◌≡◌, ◌++◌, ap, sym, subst, ◌∙◌, arith}
+use Rattle.std.proofs.Common.{[], ◌∷◌, ◌≡◌, ◌++◌, sym, ◌∙◌, arith, refl}
 use Rattle.std.proofs.lemmas.Bool.{not-false}
 use Rattle.std.proofs.lemmas.Option.{IfSome_then}
 use Rattle.std.proofs.lemmas.Slice.Eq.{bytes_eq-Decides}
-use Rattle.gm_syntax.specs.Words.{Word}
 use Rattle.gm_syntax.specs.SimpleLines.{bare_word}
-use Rattle.gm_syntax.specs.Private.SimpleLines.{bare_at, IsTripleText, IsOpeningText, IsSimpleText}
-use Rattle.gm_syntax.proofs.SimpleLines.{Sofar, as_long, sofar_first, sofar_word, sofar_opening, sofar_end}
+use Rattle.gm_syntax.proofs.SimpleLines.{as_long, sofar_first, sofar_word, sofar_opening, sofar_end}
 use Rattle.gm_syntax.proofs.simple_line.simple_line.Goals as goal
 
 pub returns-in_default-split_word : goal.returns-in_default-split_word
@@ -14,27 +12,25 @@ returns-in_default-split_word c =
     let start = c.after_blanks-start.result.now in
     let first = c.in-Some.first.now in
     let parts = c.in-Some.ensures.parts in
-    let one : Sofar line (bare_word first ∷ []) c.in-Some.after_first.now =
+    let one =
     sofar_first line start first c.in-Some.after_first.now c.after_blanks-start.ensures c.in-Some.ensures.word
     parts in
-    let begins : line ≡ first ++ (parts.0 ++ c.in-Some.after_first.now) =
+    let begins =
     as_long line start c.after_blanks-start.ensures (omega (arith, c.if-start-text.false)) ∙ parts.2 in
     let same : first ≡ c.args.verb.now = (bytes_eq-Decides first c.args.verb.now).0 (not-false _ (sym c.ne.ensures ∙ c.if-ne.false)) in
     IfSome_then c.opening_line.result c.opening_line.ensures (λ made so.
     let whole = sofar_opening line (bare_word first ∷ []) c.in-Some.after_first.now one so.1 in
-    let opens : IsOpeningText line first = (parts.0 ++ c.in-Some.after_first.now, begins, whole.0, whole.1) in
-    rw so.2
-    (so.0, ap (bare_at c.args.offset c.args.place.number) same, rw (← same) opens))
+    rw (so.2, ← same) (so.0, refl, parts.0 ++ c.in-Some.after_first.now, begins, whole))
 
 pub returns-then-ends_line : goal.returns-then-ends_line
 returns-then-ends_line c =
     let line = c.args.text.now in
     let first = c.in-Some.first.now in
     let second = c.in-Some-split_word.second.now in
-    let one : Sofar line (bare_word first ∷ []) c.in-Some.after_first.now =
+    let one =
     sofar_first line c.after_blanks-start.result.now first c.in-Some.after_first.now c.after_blanks-start.ensures
     c.in-Some.ensures.word c.in-Some.ensures.parts in
-    let two : Sofar line (bare_word first ∷ bare_word second ∷ []) c.in-Some-split_word.after_second.now =
+    let two =
     sofar_word line (bare_word first ∷ []) c.in-Some.after_first.now second c.in-Some-split_word.after_second.now
     one c.in-Some-split_word.ensures.word c.in-Some-split_word.ensures.parts in
     sofar_end line (bare_word first ∷ bare_word second ∷ []) c.in-Some-split_word.after_second.now two
@@ -46,19 +42,17 @@ returns c =
     let first = c.in-Some.first.now in
     let second = c.in-Some-split_word.second.now in
     let third = c.in_ok-third.third.now in
-    let ones : List Word = bare_word first ∷ [] in
-    let twos : List Word = bare_word first ∷ bare_word second ∷ [] in
-    let words : List Word = bare_word first ∷ bare_word second ∷ bare_word third ∷ [] in
-    let one : Sofar line ones c.in-Some.after_first.now =
+    let ones = bare_word first ∷ [] in
+    let twos = bare_word first ∷ bare_word second ∷ [] in
+    let words = bare_word first ∷ bare_word second ∷ bare_word third ∷ [] in
+    let one =
     sofar_first line c.after_blanks-start.result.now first c.in-Some.after_first.now c.after_blanks-start.ensures
     c.in-Some.ensures.word c.in-Some.ensures.parts in
-    let two : Sofar line twos c.in-Some-split_word.after_second.now =
+    let two =
     sofar_word line ones c.in-Some.after_first.now second c.in-Some-split_word.after_second.now one
     c.in-Some-split_word.ensures.word c.in-Some-split_word.ensures.parts in
-    let three : Sofar line words c.in_ok-third.after_third.now =
+    let three =
     sofar_word line twos c.in-Some-split_word.after_second.now third c.in_ok-third.after_third.now two
     c.in_ok-third.ensures.word c.in_ok-third.ensures.parts in
-    let whole : IsTripleText line first second third = sofar_end line words c.in_ok-third.after_third.now three
-    (rw c.as_bytes-2.ensures.value at c.ends_line-2.ensures c.if-not-ends_line.false) in
     let same : first ≡ c.args.verb.now = (bytes_eq-Decides first c.args.verb.now).0 (not-false _ (sym c.ne-2.ensures ∙ c.if-ne-2.false)) in
-    rw (← same) whole
+    rw (← same) (sofar_end line words c.in_ok-third.after_third.now three (rw c.as_bytes-2.ensures.value at c.ends_line-2.ensures c.if-not-ends_line.false))

@@ -1,4 +1,4 @@
-use Rattle.std.proofs.Common.{◌≡◌, ℕ, List, [], ◌∷◌, ◌++◌, ◌<◌, length, take, drop, ap, subst, sym, ◌∙◌, append_assoc, arith}
+use Rattle.std.proofs.Common.{◌≡◌, ℕ, List, [], ◌∷◌, ◌++◌, ◌<◌, length, take, drop, ap, sym, ◌∙◌, append_assoc, arith}
 use Rattle.std.specs.Str.{IsCharBoundary}
 use Rattle.std.specs.String.{string_bytes}
 use Rattle.std.proofs.iter.FirstChar.{cut}
@@ -55,9 +55,7 @@ returns-clause-pushed c =
     c.in_ok-push_str-3.ensures.bytes ∙ ap (λ l. l ++ mark) (c.in_ok-push_str-2.ensures.bytes ∙ ap (λ l. l ++ slash) c.in_ok-push_str.ensures.bytes) in
     let filled : 0 < length after = omega (arith, eqb-false _ 0 (sym c.is_empty.ensures ∙ c.if-is_empty.false)) in
     let escape : slash ++ (mark ++ escaped_value next) ≡ escaped_value after =
-    ap (λ m. slash ++ (m ++ escaped_value next)) c.split_at-2.ensures.front
-    ∙ ap (λ n. slash ++ (take 1 after ++ escaped_value n)) c.split_at-2.ensures.back
-    ∙ sym (escaped_mark after filled (marked k)) in
+    rw (c.split_at-2.ensures.front, c.split_at-2.ensures.back) (sym (escaped_mark after filled (marked k))) in
     ap (λ l. l ++ escaped_value next) pushed
     ∙ append_assoc ((old ++ plain) ++ slash) mark (escaped_value next)
     ∙ append_assoc (old ++ plain) slash (mark ++ escaped_value next)

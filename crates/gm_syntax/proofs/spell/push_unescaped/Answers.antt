@@ -37,8 +37,8 @@ pub returns-then-is_empty-clause-pushed : goal.returns-then-is_empty-clause-push
 returns-then-is_empty-clause-pushed c = λ value e.
     let k = (goal.at.returns-then-is_empty-clause-pushed c).After-split_at in
     let old = string_bytes c.args.out.now in
-    let empty : c.split_at.result.1.now ≡ [] = nil_from_length c.split_at.result.1.now (eqb-true _ 0 (sym c.is_empty.ensures ∙ c.if-is_empty.true)) in
-    let whole : value ≡ c.split_at.result.0.now = subst (EscapeAt value c.split_at.result.0.now) empty (escape k value e) in
+    let empty = nil_from_length c.split_at.result.1.now (eqb-true _ 0 (sym c.is_empty.ensures ∙ c.if-is_empty.true)) in
+    let whole = subst (EscapeAt value c.split_at.result.0.now) empty (escape k value e) in
     ([], empty, append-nil (string_bytes c.push_str.new.self) ∙ c.in_ok-push_str.ensures.bytes ∙ ap (λ l. old ++ l) (sym whole))
 
 pub split_at-requires-2 : goal.split_at-requires-2

@@ -1,4 +1,4 @@
-use Rattle.std.proofs.Common.{◌≡◌, ℕ, ◌-◌, List, length, get_or, take, IsUtf8, refl, ap, sym, ◌∙◌}
+use Rattle.std.proofs.Common.{◌-◌, length, take, IsUtf8, refl, ap, sym, ◌∙◌}
 use Rattle.std.proofs.iter.FirstChar.{cut}
 use Rattle.gm_syntax.specs.Private.Scan.{plain_len}
 use Rattle.gm_syntax.proofs.Spelled.{Inside, inside_at, first_boundary, last_boundary, raw_string, in_quotes_of, quoted_string, plain_all}
@@ -21,24 +21,24 @@ split_at-requires-2 c =
 
 pub returns-then-as_bytes-eq96 : goal.returns-then-as_bytes-eq96
 returns-then-as_bytes-eq96 c = raw_string _ _ _ _ (whole (goal.at.returns-then-as_bytes-eq96 c).After-split_at-2)
-    (ap (λ t. get_or t 0 0) (sym c.as_bytes.ensures.value) ∙ c.if-as_bytes-eq96.true)
+    (rw (← c.as_bytes.ensures.value) c.if-as_bytes-eq96.true)
 
 pub returns-then-plain_len-inside : goal.returns-then-plain_len-inside
 returns-then-plain_len-inside c =
     let inside = c.split_at-2.result.0.now in
-    let plain : plain_len inside ≡ length inside = ap plain_len (sym c.as_bytes-2.ensures.value) ∙ sym c.plain_len.ensures.value ∙ c.if-plain_len-inside.true in
+    let plain = ap plain_len (sym c.as_bytes-2.ensures.value) ∙ sym c.plain_len.ensures.value ∙ c.if-plain_len-inside.true in
     quoted_string _ _ _ _ inside (whole (goal.at.returns-then-plain_len-inside c).After-split_at-2)
-    (λ e. c.if-as_bytes-eq96.false (ap (λ t. get_or t 0 0) c.as_bytes.ensures.value ∙ e))
+    (λ e. c.if-as_bytes-eq96.false (rw c.as_bytes.ensures.value e))
     (sym (plain_all inside plain))
 
 pub unescaped-requires : goal.unescaped-requires
 unescaped-requires c = (
   c.requires.0,
   in_quotes_of _ _ _ _ (whole (goal.at.unescaped-requires c).After-split_at-2)
-      (λ e. c.if-as_bytes-eq96.false (ap (λ t. get_or t 0 0) c.as_bytes.ensures.value ∙ e)),
+      (λ e. c.if-as_bytes-eq96.false (rw c.as_bytes.ensures.value e)),
 )
 
 pub returns : goal.returns
 returns c = quoted_string _ _ _ _ _ (whole (goal.at.returns c).After-split_at-2)
-    (λ e. c.if-as_bytes-eq96.false (ap (λ t. get_or t 0 0) c.as_bytes.ensures.value ∙ e))
+    (λ e. c.if-as_bytes-eq96.false (rw c.as_bytes.ensures.value e))
     c.in_ok-unescaped.ensures

@@ -1,23 +1,18 @@
-use Rattle.std.proofs.Common.{◌≡◌, ℕ, [], Err, inl, ap, sym, subst, ◌∙◌}
+use Rattle.std.proofs.Common.{◌≡◌, ℕ, [], inl, ap, sym, ◌∙◌}
 use Rattle.std.proofs.lemmas.List.{nil_from_length}
 use Rattle.std.proofs.lemmas.Bool.{eqb-true}
-use Rattle.gm_syntax.specs.declared.fault.SyntaxFault.{SyntaxFault}
-use Rattle.gm_syntax.specs.declared.fault.SyntaxFault.TheVariants.{Syntax}
-use Rattle.gm_syntax.specs.declared.fault.SyntaxKind.TheVariants.{OpenBlock}
 use Rattle.gm_syntax.specs.Lines.{lines_of}
 use Rattle.gm_syntax.specs.LineViews.{line_of}
-use Rattle.gm_syntax.specs.Parsed.{IsFaultOrNoMemory, IsParsedAs}
 use Rattle.gm_syntax.specs.Private.Reader.{fault_at}
-use Rattle.gm_syntax.specs.LineReading.{Unread, HasRead, IsReadDocument}
+use Rattle.gm_syntax.specs.LineReading.{HasRead}
 use Rattle.gm_syntax.proofs.Lines.{lines_nil}
 use Rattle.gm_syntax.proofs.LineReading.{unread, read_more, read_fault, read_end, read_open}
 use Rattle.gm_syntax.proofs.line_reader.LineReader.next.Goals as goal
 
 pub returns-then-is_inside-clause-next : goal.returns-then-is_inside-clause-next
 returns-then-is_inside-clause-next c = λ lines so.
-    let none : lines_of c.self.inside.rest.now ≡ [] = ap lines_of
-    (nil_from_length c.self.inside.rest.now (eqb-true _ 0 (sym c.is_empty.ensures ∙ c.if-is_empty.true)))
-    ∙ lines_nil in
+    let none : lines_of c.self.inside.rest.now ≡ [] = rw (nil_from_length c.self.inside.rest.now (eqb-true _ 0 (sym c.is_empty.ensures
+    ∙ c.if-is_empty.true))) lines_nil in
     let old : HasRead (unread c.self.inside.text.now c.self.inside.rest.now c.self.inside.place) lines =
     rw c.self.view_is so in
     rw c.opened.ensures (inl (rw (← c.self.view_is)
@@ -25,9 +20,8 @@ returns-then-is_inside-clause-next c = λ lines so.
 
 pub returns-then-is_empty-clause-next : goal.returns-then-is_empty-clause-next
 returns-then-is_empty-clause-next c = λ lines so.
-    let none : lines_of c.self.inside.rest.now ≡ [] = ap lines_of
-    (nil_from_length c.self.inside.rest.now (eqb-true _ 0 (sym c.is_empty.ensures ∙ c.if-is_empty.true)))
-    ∙ lines_nil in
+    let none : lines_of c.self.inside.rest.now ≡ [] = rw (nil_from_length c.self.inside.rest.now (eqb-true _ 0 (sym c.is_empty.ensures
+    ∙ c.if-is_empty.true))) lines_nil in
     let old : HasRead (unread c.self.inside.text.now c.self.inside.rest.now c.self.inside.place) lines =
     rw c.self.view_is so in
     rw (← c.self.view_is) (read_end old none (sym c.is_inside.ensures ∙ c.if-is_inside.false))

@@ -1,4 +1,3 @@
-use Rattle.std.proofs.Common.{sym, subst}
 use Rattle.gm_syntax.specs.LineReading.{Unread, HasRead}
 use Rattle.gm_syntax.proofs.LineReading.{unread}
 use Rattle.gm_syntax.proofs.SimpleLines.{IsCut, simple_read}

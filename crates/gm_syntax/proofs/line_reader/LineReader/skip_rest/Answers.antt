@@ -1,7 +1,7 @@
-use Rattle.std.proofs.Common.{[], ◌∷◌, ◌++◌, append_assoc, ap, sym, subst, ◌∙◌}
+use Rattle.std.proofs.Common.{[], ◌∷◌, ◌++◌, append_assoc}
 use Rattle.std.proofs.lemmas.Result.{err_from_is_err_and}
 use Rattle.gm_syntax.specs.LineViews.{line_of}
-use Rattle.gm_syntax.specs.LineReading.{Unread, HasRead}
+use Rattle.gm_syntax.specs.LineReading.{HasRead}
 use Rattle.gm_syntax.proofs.LineReading.{one_more, no_more}
 use Rattle.gm_syntax.proofs.line_reader.LineReader.skip_rest.Goals as goal
 
@@ -14,7 +14,7 @@ returns-in_err-line-clause-rest c = λ lines so.
 
 pub loop-line-preserved : goal.loop-line-preserved
 loop-line-preserved c = record {
-  source = ap (λ left. left.source) c.recycle.ensures ∙ c.in_ok-line.ensures.source ∙ c.loop-line.invariant.source;
+  source = rw (c.recycle.ensures, c.in_ok-line.ensures.source) c.loop-line.invariant.source;
   read = λ lines so.
       let read = c.loop-line.invariant.read lines so in
       let last = line_of c.in-Some.line ∷ [] in
