@@ -97,7 +97,9 @@ pub level_lines_go_out_at : (lines : List (Line Word)) (from to : ℕ) → from 
     → list_all is_level (slice_range lines from to) ≡ true → IsDocument (without lines from to)
 level_lines_go_out_at lines from to le d e =
     let upto : take to lines ≡ take from lines ++ slice_range lines from to = ap (λ n. take n lines) (omega arith) ∙ take-add from (to - from) lines in
-    lines_go_out_at lines from to le d (rw (upto, inside_after_all-append false (take from lines) (slice_range lines from to)) (inside_after_all-level (inside_after_all false (take from lines)) (slice_range lines from to) e))
+    lines_go_out_at lines from to le d
+    (rw (upto, inside_after_all-append false (take from lines) (slice_range lines from to))
+    (inside_after_all-level (inside_after_all false (take from lines)) (slice_range lines from to) e))
 
 -- an opening, the level lines in its block, the closing, and level lines after it
 pub block_goes_out_at : (lines inner behind : List (Line Word)) (from to : ℕ) (verb : Word)
