@@ -16,26 +16,26 @@ use Rattle.gm_file.specs.Faults.{is_go, is_module}
 use Rattle.gm_file_edit.specs.Holding.{directive_at, passes, is_there}
 use Rattle.gm_file_edit.specs.GoPlace.{GoFollowsModule, GoFollowsModuleBlock, IsFirstModule, is_loose}
 
-put-added : (edit : Edit) (entry : List ℕ × List Placed) (lines : List (Line Placed)) → new_entry edit ≡ Some entry
+put-added : (edit : Edit) {entry : List ℕ × List Placed} (lines : List (Line Placed)) → new_entry edit ≡ Some entry
     → put_in edit lines ≡ with_addition entry.0 entry.1 lines
 unfolding put_in
-put-added (Set (GoIs text)) entry lines is = absurd cc
-put-added edit entry lines is = ap (λ (o : Option (List ℕ × List Placed)). with_entry o lines) is
+put-added (Set (GoIs text)) lines is = absurd cc
+put-added edit lines is = ap (λ (o : Option (List ℕ × List Placed)). with_entry o lines) is
 
-pub edited-added : (edit : Edit) (entry : List ℕ × List Placed) (lines : List (Line Placed))
+pub edited-added : (edit : Edit) {entry : List ℕ × List Placed} (lines : List (Line Placed))
     → new_entry edit ≡ Some entry → list_any (about edit) (directives_of lines) ≡ false
     → lines_after edit lines ≡ with_addition entry.0 entry.1 lines
-edited-added edit entry lines adds none = by-edited (λ after. after ≡ with_addition entry.0 entry.1 lines) edit lines
+edited-added edit {entry} lines adds none = by-edited (λ after. after ≡ with_addition entry.0 entry.1 lines) edit lines
     (λ there. absurd (true≢false (sym there ∙ there-said (about edit) lines ∙ none)))
-    (λ absent. put-added edit entry lines adds)
+    (λ absent. put-added edit lines adds)
 
 pub addition-follows : AdditionFollowsItsVerb
 addition-follows edit verb arguments front back line adds none is =
-    edited-added edit (verb, arguments) (front ++ line ∷ back) adds none ∙ added-after-last verb arguments front back line is.is_of_verb is.none_later
+    edited-added edit (front ++ line ∷ back) adds none ∙ added-after-last verb arguments front back line is.is_of_verb is.none_later
 
 pub addition-last : AdditionOfANewVerbIsLast
 addition-last edit verb arguments lines adds none new =
-    edited-added edit (verb, arguments) lines adds none ∙ added-at-end verb arguments lines (there-said (has_verb verb) lines ∙ new)
+    edited-added edit lines adds none ∙ added-at-end verb arguments lines (there-said (has_verb verb) lines ∙ new)
 
 -- ---- a new go directive
 
@@ -50,16 +50,16 @@ first-behind test new block [] back line none hit =
     rw held refl
 first-behind test new block (x ∷ front) back line none hit =
     let parts = or_parts (passes test (directive_at block x)) (is_there test (block_after_line block x) front) none in
-    rw parts.0 (ap (λ (ls : List (Line Placed)). x ∷ ls) (first-behind test new (block_after_line block x) front back line parts.1 hit))
+    rw (parts.0, first-behind test new (block_after_line block x) front back line parts.1 hit)
 
 to-closing : (new inner back : List (Line Placed)) (last : Option (List ℕ)) → list_all is_loose inner ≡ true
     → after_closing new (inner ++ Close last ∷ back) ≡ inner ++ Close last ∷ (new ++ back)
 to-closing new [] back last e = refl
-to-closing new (Blank ∷ inner) back last e = ap (λ (ls : List (Line Placed)). Blank ∷ ls) (to-closing new inner back last e)
-to-closing new (Comment text ∷ inner) back last e = ap (λ (ls : List (Line Placed)). Comment text ∷ ls) (to-closing new inner back last e)
+to-closing new (Blank ∷ inner) back last e = rw (to-closing new inner back last e)
+to-closing new (Comment text ∷ inner) back last e = rw (to-closing new inner back last e)
 to-closing new (Open verb suffix ∷ inner) back last e = absurd cc
 to-closing new (Close suffix ∷ inner) back last e = absurd cc
-to-closing new (Entry words suffix ∷ inner) back last e = ap (λ (ls : List (Line Placed)). Entry words suffix ∷ ls) (to-closing new inner back last e)
+to-closing new (Entry words suffix ∷ inner) back last e = rw (to-closing new inner back last e)
 
 edited-go : (text : List ℕ) (lines : List (Line Placed)) → list_any is_go (directives_of lines) ≡ false
     → lines_after (Set (GoIs text)) lines ≡ after_first_of is_module (new_go text) None lines
@@ -68,19 +68,19 @@ edited-go text lines none =
     by-edited (λ after. after ≡ after_first_of is_module (new_go text) None lines) (Set (GoIs text)) lines
     (λ there. absurd (true≢false (sym there ∙ there-said is_go lines ∙ none))) (λ absent. refl)
 
-go-placed : (text : List ℕ) (front back : List (Line Placed)) (line : Line Placed) → IsFirstModule front line
+go-placed : (text : List ℕ) {front : List (Line Placed)} (back : List (Line Placed)) {line : Line Placed} → IsFirstModule front line
     → list_any is_go (directives_of (front ++ line ∷ back)) ≡ false
     → lines_after (Set (GoIs text)) (front ++ line ∷ back) ≡ front ++ line
     ∷ (if is_some (block_after_lines None front) then after_closing (new_go text) back else new_go text ++ back)
-go-placed text front back line first none = edited-go text (front ++ line ∷ back) none
+go-placed text {front} back {line} first none = edited-go text (front ++ line ∷ back) none
     ∙ first-behind is_module (new_go text) None front back line first.none_earlier first.is_module_line
 
 pub go-follows : GoFollowsModule
 go-follows text front back line first none outside =
-    go-placed text front back line first none ∙ ap (λ (b : Bool). front ++ line ∷ (if b then after_closing (new_go text) back else new_go text ++ back)) outside
+    go-placed text back first none ∙ ap (λ (b : Bool). front ++ line ∷ (if b then after_closing (new_go text) back else new_go text ++ back)) outside
 
 pub go-follows-block : GoFollowsModuleBlock
 go-follows-block text front inner back line last first none inside loose =
     let rest : List (Line Placed) = inner ++ Close last ∷ back in
-    go-placed text front rest line first none ∙ ap (λ (b : Bool). front ++ line ∷ (if b then after_closing (new_go text) rest else new_go text ++ rest)) inside
+    go-placed text rest first none ∙ ap (λ (b : Bool). front ++ line ∷ (if b then after_closing (new_go text) rest else new_go text ++ rest)) inside
     ∙ ap (λ (ls : List (Line Placed)). front ++ line ∷ ls) (to-closing (new_go text) inner back last loose)

@@ -18,13 +18,17 @@ use Rattle.gm_file.specs.Values.{argument}
 use Rattle.gm_file.proofs.Indexed.{same-version}
 use Rattle.gm_file_edit.specs.About.{about, excludes_pair, is_covered_by, is_replaced_by, replaces_left, requires_path, retracts_ends}
 use Rattle.gm_file_edit.specs.Edits.{Edit, Set, ModuleIs, GoIs, RequireAt, Drop, AnyRequire, Add, Exclude, AnyExclude, ReplaceWith, AnyReplace, Retract, AnyRetract}
-use Rattle.gm_file_edit.specs.Private.Keys.{AreAmong, IsValueIn, bits_with, optional_bits, target_texts, target_verb, texts_bits}
+use Rattle.gm_file_edit.specs.Private.Keys.{bits_with, IsValueIn, optional_bits, target_entry, texts_bits}
 use Rattle.gm_file_edit.proofs.Feeds.{both-are, map-some}
 
 -- ---- bits among others
 
+-- all of these bits are among others
+abbrev AreAmong : ℕ → ℕ → Type 0
+AreAmong others bits = (i : ℕ) → bit_at bits i ≤ bit_at others i
+
 -- bits among others add nothing to them
-pub or-among : (more bits : ℕ) → AreAmong more bits → bit_or more bits ≡ more
+or-among : (more bits : ℕ) → AreAmong more bits → bit_or more bits ≡ more
 or-among more bits among = same_from_bits (bit_or more bits) more (λ i. let e = bit_at_or more bits i in let x = among i in omega (arith, e, x))
 
 -- bits stay if words are added to them
@@ -53,48 +57,48 @@ AreValuesIn texts words = IsValueIn texts.0 words × IsValueIn texts.1 words
 
 -- the words have their bits
 pub values-have : (bits : ℕ) (texts : Option (List ℕ) × Option (List ℕ)) (words : List Word) → AreValuesIn texts words
-    → AreAmong (bits_with bits words) (texts_bits texts)
-values-have bits texts words are = λ i.
+    → bit_or (bits_with bits words) (texts_bits texts) ≡ bits_with bits words
+values-have bits texts words are = or-among (bits_with bits words) (texts_bits texts) (λ i.
     let e = bit_at_or (optional_bits texts.0) (optional_bits texts.1) i in
     let x = value-has bits texts.0 words are.0 i in
     let y = value-has bits texts.1 words are.1 i in
-    omega (arith, e, x, y)
+    omega (arith, e, x, y))
 
 -- ---- the texts that directives name
 
-pair-named : (words : List Word) (p : ModuleVersion) → pair_of words ≡ Some p → AreValuesIn (Some p.0, Some p.1) words
-pair-named [] p is = absurd cc
-pair-named (a ∷ []) p is = absurd cc
-pair-named (a ∷ b ∷ []) p is =
-    let parts = both-are pair (argument a) (argument b) p is in
+pair-named : (words : List Word) {p : ModuleVersion} → pair_of words ≡ Some p → AreValuesIn (Some p.0, Some p.1) words
+pair-named [] is = absurd cc
+pair-named (a ∷ []) is = absurd cc
+pair-named (a ∷ b ∷ []) is =
+    let parts = both-are pair (argument a) (argument b) is in
     (inl (parts.2 ∙ ap (λ (q : ModuleVersion). Some q.0) parts.4), inr (inl (parts.3 ∙ ap (λ (q : ModuleVersion). Some q.1) parts.4)))
-pair-named (a ∷ b ∷ c ∷ words) p is = absurd cc
+pair-named (a ∷ b ∷ c ∷ words) is = absurd cc
 
-ends-named : (words : List Word) (ends : VersionInterval) → ends_of words ≡ Some ends → AreValuesIn (Some ends.0, Some ends.1) words
-ends-named [] ends is = absurd cc
-ends-named (v ∷ []) ends is =
-    let one = map-some (λ (w : List ℕ). pair w w) (argument v) ends is in
+ends-named : (words : List Word) {ends : VersionInterval} → ends_of words ≡ Some ends → AreValuesIn (Some ends.0, Some ends.1) words
+ends-named [] is = absurd cc
+ends-named (v ∷ []) is =
+    let one = map-some (λ (w : List ℕ). pair w w) (argument v) is in
     (inl (one.1 ∙ ap (λ (e : VersionInterval). Some e.0) one.2), inl (one.1 ∙ ap (λ (e : VersionInterval). Some e.1) one.2))
-ends-named (a ∷ v ∷ []) ends is = absurd cc
-ends-named (a ∷ v ∷ b ∷ []) ends is = absurd cc
-ends-named (a ∷ v ∷ b ∷ w ∷ []) ends is = absurd cc
-ends-named (a ∷ v ∷ b ∷ w ∷ c ∷ []) ends is = elim (cases_Bool (is_mark 91 a && is_mark 44 b && is_mark 93 c)) [
+ends-named (a ∷ v ∷ []) is = absurd cc
+ends-named (a ∷ v ∷ b ∷ []) is = absurd cc
+ends-named (a ∷ v ∷ b ∷ w ∷ []) is = absurd cc
+ends-named (a ∷ v ∷ b ∷ w ∷ c ∷ []) {ends} is = elim (cases_Bool (is_mark 91 a && is_mark 44 b && is_mark 93 c)) [
   | inl brackets ↦
-      let parts = both-are pair (argument v) (argument w) ends (rw brackets at is) in
+      let parts = both-are pair (argument v) (argument w) (rw brackets at is) in
       (inr (inl (parts.2 ∙ ap (λ (e : VersionInterval). Some e.0) parts.4)), inr (inr (inr (inl (parts.3 ∙ ap (λ (e : VersionInterval). Some e.1) parts.4)))))
   | inr none ↦ let never : None ≡ Some ends = rw none at is in absurd cc
 ]
-ends-named (a ∷ v ∷ b ∷ w ∷ c ∷ e ∷ words) ends is = absurd cc
+ends-named (a ∷ v ∷ b ∷ w ∷ c ∷ e ∷ words) is = absurd cc
 
-left-named : (words : List Word) (left : Left) → left_of words ≡ Some left → AreValuesIn (Some left.path, left.version) words
-left-named [] left is = absurd cc
-left-named (a ∷ []) left is =
-    let made = map-some left_without (argument a) left is in
+left-named : (words : List Word) {left : Left} → left_of words ≡ Some left → AreValuesIn (Some left.path, left.version) words
+left-named [] is = absurd cc
+left-named (a ∷ []) is =
+    let made = map-some left_without (argument a) is in
     subst (λ (l : Left). AreValuesIn (Some l.path, l.version) (a ∷ [])) made.2 (inl made.1, tt)
-left-named (a ∷ b ∷ []) left is =
-    let made = both-are left_with (argument a) (argument b) left is in
+left-named (a ∷ b ∷ []) is =
+    let made = both-are left_with (argument a) (argument b) is in
     subst (λ (l : Left). AreValuesIn (Some l.path, l.version) (a ∷ b ∷ [])) made.4 (inl made.2, inr (inl made.3))
-left-named (a ∷ b ∷ c ∷ words) left is = absurd cc
+left-named (a ∷ b ∷ c ∷ words) is = absurd cc
 
 in-front : (n : ℕ) (text : Option (List ℕ)) (words : List Word) → IsValueIn text (take n words) → IsValueIn text words
 in-front n None words is = tt
@@ -103,10 +107,10 @@ in-front (suc n) (Some text) [] is = absurd is
 in-front (suc n) (Some text) (word ∷ words) (inl here) = inl here
 in-front (suc n) (Some text) (word ∷ words) (inr later) = inr (in-front n (Some text) words later)
 
-replaced-named : (words : List Word) (r : Replacing) → replacing_of words ≡ Some r → AreValuesIn (Some r.0.path, r.0.version) words
-replaced-named words r is =
-    let parts = both-are replacing (left_of (before_first is_arrow words)) (right_of (after_first is_arrow words)) r is in
-    let front = left-named (before_first is_arrow words) r.0 (parts.2 ∙ ap (λ (x : Replacing). Some x.0) parts.4) in
+replaced-named : (words : List Word) {r : Replacing} → replacing_of words ≡ Some r → AreValuesIn (Some r.0.path, r.0.version) words
+replaced-named words {r} is =
+    let parts = both-are replacing (left_of (before_first is_arrow words)) (right_of (after_first is_arrow words)) is in
+    let front = left-named (before_first is_arrow words) (parts.2 ∙ ap (λ (x : Replacing). Some x.0) parts.4) in
     let n : ℕ = position_or_len is_arrow words in
     (in-front n (Some r.0.path) words front.0, in-front n r.0.version words front.1)
 
@@ -120,24 +124,24 @@ same-pair a b e =
 requirement-has : (path : List ℕ) (words : List Word) (d : Directive) → option_map Requires (pair_of words) ≡ Some d
     → requires_path path d ≡ true → AreValuesIn (Some path, None) words
 requirement-has path words d is hit =
-    let made = map-some Requires (pair_of words) d is in
+    let made = map-some Requires (pair_of words) is in
     let same : made.0.0 ≡ path = bytes_eq-same made.0.0 path (ap (requires_path path) made.2 ∙ hit) in
-    (subst (λ (t : List ℕ). IsValueIn (Some t) words) same (pair-named words made.0 made.1).0, tt)
+    (subst (λ (t : List ℕ). IsValueIn (Some t) words) same (pair-named words made.1).0, tt)
 
 exclusion-has : (p : ModuleVersion) (words : List Word) (d : Directive) → option_map Excludes (pair_of words) ≡ Some d
     → excludes_pair p d ≡ true → AreValuesIn (Some p.0, Some p.1) words
 exclusion-has p words d is hit =
-    let made = map-some Excludes (pair_of words) d is in
+    let made = map-some Excludes (pair_of words) is in
     subst (λ (q : ModuleVersion). AreValuesIn (Some q.0, Some q.1) words)
-    (same-pair made.0 p (ap (excludes_pair p) made.2 ∙ hit)) (pair-named words made.0 made.1)
+    (same-pair made.0 p (ap (excludes_pair p) made.2 ∙ hit)) (pair-named words made.1)
 
 retraction-has : (ends : VersionInterval) (words : List Word) (d : Directive)
     → option_map Retracts (ends_of words) ≡ Some d → retracts_ends ends d ≡ true
     → AreValuesIn (Some ends.0, Some ends.1) words
 retraction-has ends words d is hit =
-    let made = map-some Retracts (ends_of words) d is in
+    let made = map-some Retracts (ends_of words) is in
     subst (λ (e : VersionInterval). AreValuesIn (Some e.0, Some e.1) words)
-    (same-pair made.0 ends (ap (retracts_ends ends) made.2 ∙ hit)) (ends-named words made.0 made.1)
+    (same-pair made.0 ends (ap (retracts_ends ends) made.2 ∙ hit)) (ends-named words made.1)
 
 -- a left side that is the same, or that the other supersedes
 same-left : (words : List Word) (one : Left) (path : List ℕ) (version : Option (List ℕ))
@@ -159,18 +163,18 @@ covered-left words own one (Some version) is hit are =
 replaced-has : (new : Left) (words : List Word) (d : Directive) → option_map Replaces (replacing_of words) ≡ Some d
     → is_replaced_by new d ≡ true → AreValuesIn (Some new.path, new.version) words
 replaced-has new words d is hit =
-    let made = map-some Replaces (replacing_of words) d is in
-    covered-left words new made.0.0 new.version refl (ap (is_replaced_by new) made.2 ∙ hit) (replaced-named words made.0 made.1)
+    let made = map-some Replaces (replacing_of words) is in
+    covered-left words new made.0.0 new.version refl (ap (is_replaced_by new) made.2 ∙ hit) (replaced-named words made.1)
 
 left-has : (left : Left) (words : List Word) (d : Directive) → option_map Replaces (replacing_of words) ≡ Some d
     → replaces_left left d ≡ true → AreValuesIn (Some left.path, left.version) words
 left-has left words d is hit =
-    let made = map-some Replaces (replacing_of words) d is in
-    same-left words made.0.0 left.path left.version (ap (replaces_left left) made.2 ∙ hit) (replaced-named words made.0 made.1)
+    let made = map-some Replaces (replacing_of words) is in
+    same-left words made.0.0 left.path left.version (ap (replaces_left left) made.2 ∙ hit) (replaced-named words made.1)
 
 -- the words of an entry whose directive an operation targets have the operation's texts
-pub target-has : (edit : Edit) (words : List Word) (d : Directive) → directive_of (target_verb edit) words ≡ Some d
-    → about edit d ≡ true → AreValuesIn (target_texts edit) words
+pub target-has : (edit : Edit) (words : List Word) (d : Directive) → directive_of (target_entry edit).0 words ≡ Some d
+    → about edit d ≡ true → AreValuesIn (target_entry edit).1 words
 unfolding directive_of
 target-has (Set (ModuleIs path)) words d is hit = (tt, tt)
 target-has (Set (GoIs text)) words d is hit = (tt, tt)

@@ -31,7 +31,7 @@ left-comments block behind (Some Blank ∷ fates) = elim (cases_Bool (is_in_gone
   | inl gone ↦ rw gone (left-comments block false fates)
   | inr stays ↦ rw stays (left-comments block false fates)
 ]
-left-comments block behind (Some (Comment text) ∷ fates) = ap (λ (ls : List (Line Placed)). Comment text ∷ ls) (left-comments block false fates)
+left-comments block behind (Some (Comment text) ∷ fates) = rw (left-comments block false fates)
 left-comments block behind (Some (Open verb suffix) ∷ fates) = elim (cases_Bool (is_emptied block suffix fates)) [
   | inl gone ↦ rw gone (left-comments (Some true) false fates)
   | inr stays ↦ rw stays (left-comments (Some false) false fates)
@@ -64,7 +64,7 @@ no-comment test new rewrites block (Close suffix) hit = absurd cc
 no-comment test new rewrites block (Entry words suffix) hit = (refl, rewrites block words suffix)
 
 behind-same : (line : Line Placed) (xs ys : List (Line Placed)) → comments xs ≡ comments ys → comments (line ∷ xs) ≡ comments (line ∷ ys)
-behind-same line xs ys e = ap (λ (ls : List (Line Placed)). if is_comment_line line then line ∷ ls else ls) e
+behind-same line xs ys e = rw e
 
 dropping-comments : (test : Directive → Bool) (block : Option Placed) (lines : List (Line Placed))
     → comments (kept_lines (dropping_from test block lines)) ≡ comments lines
@@ -107,9 +107,9 @@ gap-comments true false verb arguments lines = refl
 gap-comments false true verb arguments lines = refl
 gap-comments false false verb arguments lines = refl
 
-into-comments : (verb : List ℕ) (arguments : List Placed) (lines after : List (Line Placed))
+into-comments : {verb : List ℕ} {arguments : List Placed} {lines after : List (Line Placed)}
     → IsPutInto verb arguments lines after → comments after ≡ comments lines
-into-comments verb arguments lines after put =
+into-comments {verb} {arguments} put =
     ap comments put.is ∙ filter-append is_comment_line put.front (gap_lines put.gap ++ entry_at put.inside verb arguments ∷ put.back)
     ∙ ap (λ (ls : List (Line Placed)). comments put.front ++ ls) (gap-comments put.gap put.inside verb arguments put.back)
     ∙ sym (ap comments put.was ∙ filter-append is_comment_line put.front put.back)
@@ -130,7 +130,7 @@ changed-comments (Drop t) lines = dropped-comments (about (Drop t)) lines
 
 put-comments : (edit : Edit) (lines : List (Line Placed)) → comments (put_in edit lines) ≡ comments lines
 put-comments edit lines = by-put (λ other after. comments after ≡ comments lines) lines (λ path. refl)
-    (λ other entry after is put. into-comments entry.0 entry.1 lines after put) (λ t. refl) edit
+    (λ other entry after is put. into-comments put) (λ t. refl) edit
 
 pub pass-comments : (edit : Edit) (lines : List (Line Placed)) → filter is_comment_line (lines_after edit lines) ≡ filter is_comment_line lines
 pass-comments edit lines = by-edited (λ after. comments after ≡ comments lines) edit lines

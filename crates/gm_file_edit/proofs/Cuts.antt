@@ -29,9 +29,9 @@ cut-none b text e = let f : has_byte b text ≡ false = any-position b text
     ∙ (let g : nat_lt (position_or_len (λ c. c == b) text) (length text) ≡ false = grind (arith, nat_tests) in g) in
     rw f refl
 
-pub cut-some : (b : ℕ) (text front back : List ℕ) → position_or_len (λ c. c == b) text < length text
+pub cut-some : (b : ℕ) (text : List ℕ) {front back : List ℕ} → position_or_len (λ c. c == b) text < length text
     → front ≡ before_first (λ c. c == b) text → back ≡ after_first (λ c. c == b) text → Some (front, back) ≡ split_at_byte b text
-cut-some b text front back lt f g =
+cut-some b text lt f g =
     let there : has_byte b text ≡ true = any-position b text
     ∙ (let h : nat_lt (position_or_len (λ c. c == b) text) (length text) ≡ true = grind (arith, nat_tests) in h) in
     rw (there, f, g) refl
@@ -42,7 +42,7 @@ pub cut-is : (b : ℕ) (text : List ℕ) (r : Option (Bor (List ℕ) × Bor (Lis
     × (x.1.now ≡ after_first (λ c. c == b) text))
     → split_view r ≡ split_at_byte b text
 cut-is b text None e = rw (cut-none b text e) refl
-cut-is b text (Some x) is = cut-some b text x.0.now x.1.now is.0 is.1 is.2
+cut-is b text (Some x) is = cut-some b text is.0 is.1 is.2
 
 -- in a text in brackets, the end of the first byte and the start of the last are character boundaries
 pub open-boundary : (text : List ℕ) → IsUtf8 text → is_bracketed text ≡ true → IsCharBoundary text 1
@@ -56,8 +56,8 @@ open-boundary text utf8 e =
 
 -- ---- paths and versions, by the facts proved in gm_name
 
-pub path-there : (text : List ℕ) → IsPath text → path_in text ≡ Some text
-path-there text holds = rw ((path-tested text).1 holds) refl
+pub path-there : {text : List ℕ} → IsPath text → path_in text ≡ Some text
+path-there {text} holds = rw ((path-tested text).1 holds) refl
 
 pub path-none : (text : List ℕ) → ¬ (IsPath text) → path_in text ≡ None
 path-none text fails = rw (not-tested (is_path text) (IsPath text) (path-tested text) fails) refl

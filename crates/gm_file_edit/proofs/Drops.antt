@@ -29,33 +29,26 @@ dropping-right : (test : Directive → Bool) (block : Option Placed) (lines : Li
     → AreRightFrom block lines → AreRightTo block (kept_lines (dropping_from test block lines))
     (block_after_lines block lines)
 dropping-right test block [] right = (tt, refl)
-dropping-right test block (line ∷ lines) right =
-    let behind : Option Placed = block_after_line block line in
-    let rest = dropping-right test behind lines right.1 in
-    elim (cases_Bool (passes test (directive_at block line))) [
-      | inl hit ↦ rw hit (subst (λ (b : Option Placed). AreRightTo b (kept_lines (dropping_from test behind lines))
-          (block_after_lines behind lines)) (passing-level test block line hit) rest)
-      | inr miss ↦ rw miss ((right.0, rest.0), rest.1)
-    ]
+dropping-right test block (line ∷ lines) right = elim (cases_Bool (passes test (directive_at block line))) [
+  | inl hit ↦
+      let level = passing-level test block line hit in
+      rw (hit, level) (dropping-right test block lines (rw level at right.1))
+  | inr miss ↦ let rest = dropping-right test (block_after_line block line) lines right.1 in rw miss ((right.0, rest.0), rest.1)
+]
 
 renewing-right : (test : Directive → Bool) (said : Directive) (make : Option Placed → Line Placed → Line Placed)
     → Makes test said make → (block : Option Placed) (lines : List (Line Placed)) → AreRightFrom block lines
     → AreRightTo block (kept_lines (renewing_from test make block lines)) (block_after_lines block lines)
 renewing-right test said make makes block [] right = (tt, refl)
-renewing-right test said make makes block (line ∷ lines) right =
-    let behind : Option Placed = block_after_line block line in
-    elim (cases_Bool (passes test (directive_at block line))) [
-      | inl hit ↦
-          let h = held-some test (directive_at block line) hit in
-          let made = makes block line h.0 h.1 h.2 right.0.0 in
-          let left : List (Line Placed) = kept_lines (dropping_from test behind lines) in
-          let rest : AreRightTo block left (block_after_lines behind lines) =
-          subst (λ (b : Option Placed). AreRightTo b left (block_after_lines behind lines))
-          (passing-level test block line hit) (dropping-right test behind lines right.1) in
-          rw hit (subst (λ (l : Line Placed). AreRightTo block (l ∷ left) (block_after_lines behind lines))
-          (sym made.is_entry) (((made.stands, made.alone), rest.0), rest.1))
-      | inr miss ↦ let rest = renewing-right test said make makes behind lines right.1 in rw miss ((right.0, rest.0), rest.1)
-    ]
+renewing-right test said make makes block (line ∷ lines) right = elim (cases_Bool (passes test (directive_at block line))) [
+  | inl hit ↦
+      let h = held-some test (directive_at block line) hit in
+      let made = makes block line h.0 h.1 h.2 right.0.0 in
+      let level = passing-level test block line hit in
+      let rest = dropping-right test block lines (rw level at right.1) in
+      rw (hit, level, made.is_entry) (((made.stands, made.alone), rest.0), rest.1)
+  | inr miss ↦ let rest = renewing-right test said make makes (block_after_line block line) lines right.1 in rw miss ((right.0, rest.0), rest.1)
+]
 
 left-right : (fates : List Fate) → AreRightTo None (kept_lines fates) None → AreRightTo None (remaining fates) None
 left-right fates right = let left = remaining-left fates in (fewer-all IsRightLine left.0 right.0, left.1 right.1)
@@ -65,25 +58,25 @@ left-right fates right = let left = remaining-left fates in (fewer-all IsRightLi
 apart-filter : (q : Directive → Bool) (ds : List Directive) → AreApart ds → AreApart (filter q ds)
 apart-filter q [] apart = tt
 apart-filter q (d ∷ ds) apart = elim (cases_Bool (q d)) [
-  | inl hit ↦ subst AreApart (sym (filter-one q d ds hit)) (filter-any (do_clash d) q ds apart.0, apart-filter q ds apart.1)
-  | inr miss ↦ subst AreApart (sym (filter-none q d ds miss)) (apart-filter q ds apart.1)
+  | inl hit ↦ rw hit (filter-any (do_clash d) q ds apart.0, apart-filter q ds apart.1)
+  | inr miss ↦ rw miss (apart-filter q ds apart.1)
 ]
 
-or-front : (a b c x : Bool) → x ≡ (b || c) → (a || x) ≡ ((a || b) || c)
-or-front true b c x e = refl
-or-front false b c x e = e
+or-front : (a b c : Bool) {x : Bool} → x ≡ (b || c) → (a || x) ≡ ((a || b) || c)
+or-front true b c e = refl
+or-front false b c e = e
 
-or-middle : (a b c x : Bool) → x ≡ (b || c) → (a || x) ≡ (b || (a || c))
-or-middle true true c x e = refl
-or-middle true false c x e = refl
-or-middle false b c x e = e
+or-middle : (a b c : Bool) {x : Bool} → x ≡ (b || c) → (a || x) ≡ (b || (a || c))
+or-middle true true c e = refl
+or-middle true false c e = refl
+or-middle false b c e = e
 
 -- what passes is among the targeted or the others
 any-parts : (test p : Directive → Bool) (ds : List Directive) → list_any p ds ≡ (list_any p (filter test ds) || list_any p (filter (others test) ds))
 any-parts test p [] = refl
 any-parts test p (d ∷ ds) = elim (cases_Bool (test d)) [
-  | inl hit ↦ rw hit (or-front (p d) (list_any p (filter test ds)) (list_any p (filter (others test) ds)) (list_any p ds) (any-parts test p ds))
-  | inr miss ↦ rw miss (or-middle (p d) (list_any p (filter test ds)) (list_any p (filter (others test) ds)) (list_any p ds) (any-parts test p ds))
+  | inl hit ↦ rw hit (or-front (p d) (list_any p (filter test ds)) (list_any p (filter (others test) ds)) (any-parts test p ds))
+  | inr miss ↦ rw miss (or-middle (p d) (list_any p (filter test ds)) (list_any p (filter (others test) ds)) (any-parts test p ds))
 ]
 
 -- of the targeted directives there is the new one alone, and the others are apart
@@ -93,21 +86,16 @@ pub new-apart : (test : Directive → Bool) (new : Directive)
 new-apart test new mild [] alone apart = tt
 new-apart test new mild (d ∷ ds) alone apart = elim (cases_Bool (test d)) [
   | inl hit ↦
-      let whole : d ∷ filter test ds ≡ new ∷ [] = sym (filter-one test d ds hit) ∙ alone in
+      let whole : d ∷ filter test ds ≡ new ∷ [] = rw hit at alone in
       let same : d ≡ new = cc in
-      let none : filter test ds ≡ [] = cc in
-      let rest = only-others ds (none-any test ds none) in (
-        subst (λ (x : Directive). list_any (do_clash x) ds ≡ false) (sym same)
-            (fewer-any test (do_clash new) mild ds (none-any test ds none)),
-        subst AreApart rest (subst AreApart (filter-none (others test) d ds (ap not hit)) apart),
+      let none : filter test ds ≡ [] = cc in (
+        rw same (fewer-any test (do_clash new) mild ds (none-any test ds none)),
+        rw (hit, only-others ds (none-any test ds none)) at apart,
       )
   | inr miss ↦
-      let one : filter test ds ≡ new ∷ [] = sym (filter-none test d ds miss) ∙ alone in
-      let both : AreApart (d ∷ filter (others test) ds) = subst AreApart (filter-one (others test) d ds (ap not miss)) apart in
-      let fresh : do_clash d new ≡ false = clash-mutual d new ∙ mild d miss in (
-        any-parts test (do_clash d) ds ∙ or_from (list_any (do_clash d) (filter test ds))
-            (list_any (do_clash d) (filter (others test) ds)) (ap (list_any (do_clash d)) one
-            ∙ or_from (do_clash d new) false fresh refl) both.0,
+      let one : filter test ds ≡ new ∷ [] = rw miss at alone in
+      let both : AreApart (d ∷ filter (others test) ds) = rw miss at apart in (
+        rw (any-parts test (do_clash d) ds, one, clash-mutual d new, mild d miss) both.0,
         new-apart test new mild ds one both.1,
       )
 ]
@@ -115,14 +103,13 @@ new-apart test new mild (d ∷ ds) alone apart = elim (cases_Bool (test d)) [
     only-others : (es : List Directive) → list_any test es ≡ false → filter (others test) es ≡ es
     only-others [] none = refl
     only-others (e ∷ es) none = let parts = or_parts (test e) (list_any test es) none in
-        filter-one (others test) e es (ap not parts.0) ∙ ap (λ (xs : List Directive). e ∷ xs) (only-others es parts.1)
+        rw (parts.0, only-others es parts.1)
 
 -- if no targeted directive declares a module, one of the others does
 others-declared : (test : Directive → Bool) → ((d : Directive) → test d ≡ true → is_module d ≡ false)
     → (ds : List Directive) → list_any is_module ds ≡ true → list_any is_module (filter (others test) ds) ≡ true
 others-declared test other ds some =
-    ap (λ (b : Bool). b || list_any is_module (filter (others test) ds)) (sym (none-filtered is_module test other ds))
-    ∙ sym (any-parts test is_module ds) ∙ some
+    rw (any-parts test is_module ds, none-filtered is_module test other ds) at some
 
 -- ---- both
 
@@ -139,11 +126,10 @@ module _ (test : Directive → Bool) (lines : List (Line Placed)) (sound : IsSou
 
   pub dropped-sound : ((d : Directive) → test d ≡ true → is_module d ≡ false) → IsSound (without_targets test lines)
   dropped-sound other =
-      let held : held_from None (without_targets test lines) ≡ filter (others test) ds = dropped-held test lines in
+      let held = dropped-held test lines in
       let right = dropping-right test None lines sound.lines_are.right in
-      sound-by (without_targets test lines) (left-right (dropping_from test None lines)
-      (right.0, right.1 ∙ sound.closed)) (subst AreApart (sym held) rest-apart)
-      (ap (list_any is_module) held ∙ others-declared test other ds sound.lines_are.declared)
+      sound-by (without_targets test lines) (left-right (dropping_from test None lines) (right.0, right.1 ∙ sound.closed))
+      (rw held rest-apart) (rw held (others-declared test other ds sound.lines_are.declared))
 
   pub renewed-sound : (said : Directive) (make : Option Placed → Line Placed → Line Placed) → IsRenewal test said make
       → is_there test None lines ≡ true → IsSound (with_renewal test make lines)
@@ -152,10 +138,10 @@ module _ (test : Directive → Bool) (lines : List (Line Placed)) (sound : IsSou
       let rest : filter (others test) after ≡ filter (others test) ds = renewed-others test said make by.wanted.own by.made lines sound in
       let alone : filter test after ≡ said ∷ [] = renewed-alone test said make by.wanted.own by.made lines sound there in
       let right = renewing-right test said make by.made None lines sound.lines_are.right in
-      let some : ((is_module said || false) || list_any is_module (filter (others test) after)) ≡ true = elim (cases_Bool (is_module said)) [
-        | inl declares ↦ rw declares refl
-        | inr other ↦ rw other (ap (list_any is_module) rest ∙ others-declared test (λ d e. by.other d e ∙ other) ds sound.lines_are.declared)
+      let declared : list_any is_module after ≡ true = elim (cases_Bool (is_module said)) [
+        | inl declares ↦ rw (any-parts test is_module after, alone, declares)
+        | inr other ↦ rw (any-parts test is_module after, alone, other, rest)
+            (others-declared test (λ d e. by.other d e ∙ other) ds sound.lines_are.declared)
       ] in
       sound-by (with_renewal test make lines) (left-right (renewing_from test make None lines) (right.0, right.1 ∙ sound.closed))
-      (new-apart test said by.wanted.mild after alone (subst AreApart (sym rest) rest-apart))
-      (any-parts test is_module after ∙ ap (λ (es : List Directive). list_any is_module es || list_any is_module (filter (others test) after)) alone ∙ some)
+      (new-apart test said by.wanted.mild after alone (rw rest rest-apart)) declared

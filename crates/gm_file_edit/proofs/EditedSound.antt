@@ -34,14 +34,14 @@ use Rattle.gm_file_edit.proofs.Feeds.{byte-feed, go-feed, path-feed, version-fee
 use Rattle.gm_file_edit.proofs.Made.{AreArguments, begins-path, made-stands, made-value, one-are, open-behind}
 use Rattle.gm_file_edit.proofs.Renewals.{go-says, put_by, renewal, replace-are, replace-says, wanted}
 use Rattle.gm_file_edit.proofs.Pairs.{IsSound, document-sound, held_from, sound-document}
-use Rattle.gm_file_edit.specs.Private.Keys.{target_verb}
+use Rattle.gm_file_edit.specs.Private.Keys.{target_entry}
 use Rattle.gm_file_edit.proofs.Targets.{about-module}
 use Rattle.gm_file_edit.proofs.Untouched.{by-edited}
 
 -- ---- new entries
 
-entry-inside : (arguments : List Placed) → AreArguments arguments → IsValidLine true (plain (Entry arguments None))
-entry-inside arguments are = entry_stands true (words_of arguments) None (record {
+entry-inside : {arguments : List Placed} → AreArguments arguments → IsValidLine true (plain (Entry arguments None))
+entry-inside {arguments} are = entry_stands true (words_of arguments) None (record {
   are_words = are.words;
   is_suffix = tt;
   filled = are.filled;
@@ -49,8 +49,8 @@ entry-inside arguments are = entry_stands true (words_of arguments) None (record
   closes_nothing = are.closes_nothing;
 })
 
-entry-alone : (text : List ℕ) (arguments : List Placed) → HasNoLineFeed text → AreArguments arguments → IsValidLine false (plain (single text arguments))
-entry-alone text arguments plain_text are = entry_stands false (new_word text ∷ words_of arguments) None (record {
+entry-alone : (text : List ℕ) {arguments : List Placed} → HasNoLineFeed text → AreArguments arguments → IsValidLine false (plain (single text arguments))
+entry-alone text {arguments} plain_text are = entry_stands false (new_word text ∷ words_of arguments) None (record {
   are_words = (made-stands text plain_text, are.words);
   is_suffix = tt;
   filled = omega arith;
@@ -58,14 +58,14 @@ entry-alone text arguments plain_text are = entry_stands false (new_word text �
   closes_nothing = no_mark 41 text;
 })
 
-addition : (verb : List ℕ) (arguments : List Placed) (new : Directive) → has_byte 10 verb ≡ false
+addition : (verb : List ℕ) {arguments : List Placed} {new : Directive} → has_byte 10 verb ≡ false
     → main_verb (new_word verb).spelling ≡ main_verb verb → AreArguments arguments
     → directive_of (main_verb verb) (words_of arguments) ≡ Some new → IsAddition verb arguments new
-addition verb arguments new feed written are says =
+addition verb {arguments} feed written are says =
     record {
-      inside = entry-inside arguments are;
+      inside = entry-inside are;
       alone =
-          entry-alone verb arguments (byte-feed verb feed) are;
+          entry-alone verb (byte-feed verb feed) are;
       written = written;
       filled = are.no_block;
       says = says;
@@ -104,7 +104,7 @@ ends-says ends are =
     let low = made-value ends.0 (version-feed ends.0 are.0) in
     let high = made-value ends.1 (version-feed ends.1 are.1) in
     elim (cases_Bool (bytes_eq ends.0 ends.1)) [
-      | inl same ↦ let is : ends.0 ≡ ends.1 = (bytes_eq-Decides ends.0 ends.1).0 same in rw (same, low) (ap (λ (v : List ℕ). Some (Retracts (ends.0, v))) is)
+      | inl same ↦ let is : ends.0 ≡ ends.1 = (bytes_eq-Decides ends.0 ends.1).0 same in rw (same, low, is)
       | inr apart ↦ rw (apart, low, high) refl
     ]
 
@@ -121,33 +121,33 @@ entry-says (Set (GoIs text)) good = let plain = go-feed text good in
     record {
       new = DeclaresGo text;
       put = refl;
-      is = addition (codes "go") _ (DeclaresGo text) refl refl
+      is = addition (codes "go") refl refl
           (one-are text plain) (go-says text plain);
     }
 entry-says (Set (RequireAt p)) good = record {
   new = Requires p;
   put = refl;
   is =
-      addition (codes "require") (pair_words p) (Requires p) refl refl (pair-are p good) (require-says p good);
+      addition (codes "require") refl refl (pair-are p good) (require-says p good);
 }
 entry-says (Set (ReplaceWith r)) good =
     record {
       new = Replaces r;
       put = refl;
-      is = addition (codes "replace") (replace_words r) (Replaces r) refl refl
+      is = addition (codes "replace") refl refl
           (replace-are r good.0 good.1) (replace-says r good.0 good.1);
     }
 entry-says (Add (Exclude p)) good = record {
   new = Excludes p;
   put = refl;
   is =
-      addition (codes "exclude") (pair_words p) (Excludes p) refl refl (pair-are p good) (exclude-says p good);
+      addition (codes "exclude") refl refl (pair-are p good) (exclude-says p good);
 }
 entry-says (Add (Retract ends)) good = record {
   new = Retracts ends;
   put = refl;
   is =
-      addition (codes "retract") (interval_words ends) (Retracts ends) refl refl (ends-are ends good)
+      addition (codes "retract") refl refl (ends-are ends good)
       (ends-says ends good);
 }
 entry-says (Drop t) good = tt
@@ -157,14 +157,14 @@ says edit entry e good = subst (λ (o : Option (List ℕ × List Placed)). IfSom
 
 -- ---- the lines after an operation
 
-changed-sound : (edit : Edit) (lines : List (Line Placed)) → IsSoundEdit edit → is_fit edit ≡ true
+changed-sound : (edit : Edit) {lines : List (Line Placed)} → IsSoundEdit edit → is_fit edit ≡ true
     → is_there (about edit) None lines ≡ true → IsSound lines → IsSound (with_change edit lines)
 unfolding with_change
-changed-sound (Set s) lines good fit there sound = renewed-sound (about (Set s)) lines sound (directive_set s) (made_new (Set s)) (renewal s good fit) there
-changed-sound (Add a) lines good fit there sound = sound
-changed-sound (Drop t) lines good fit there sound = dropped-sound (about (Drop t)) lines sound (λ d e. about-module (Drop t) d e ∙ no-module t)
+changed-sound (Set s) {lines} good fit there sound = renewed-sound (about (Set s)) lines sound (directive_set s) (made_new (Set s)) (renewal s good fit) there
+changed-sound (Add a) good fit there sound = sound
+changed-sound (Drop t) {lines} good fit there sound = dropped-sound (about (Drop t)) lines sound (λ d e. about-module (Drop t) d e ∙ no-module t)
   where
-    no-module : (t : Target) → verb_eq ForModule (target_verb (Drop t)) ≡ false
+    no-module : (t : Target) → verb_eq ForModule (target_entry (Drop t)).0 ≡ false
     no-module (AnyRequire path) = refl
     no-module t = refl
 
@@ -181,15 +181,15 @@ put-sound lines sound = by-put (λ edit after. IsSoundEdit edit → is_fit edit 
     → is_there (about edit) None lines ≡ false → IsSound after) lines (λ path good fit none. sound)
     (λ edit entry after is put good fit none.
     let by = says edit entry is good in
-    into-sound entry.0 entry.1 by.new lines after by.is (put-new edit by.new lines by.put good fit none) sound put)
+    into-sound by.is (put-new edit by.new lines by.put good fit none) sound put)
     (λ t good fit none. sound)
 
 pub edited-sound : (edit : Edit) (lines : List (Line Placed)) → IsSoundEdit edit → is_fit edit ≡ true → IsSound lines → IsSound (lines_after edit lines)
 edited-sound edit lines good fit sound = by-edited IsSound edit lines
-    (λ there. changed-sound edit lines good fit there sound) (λ none. put-sound lines sound edit good fit none)
+    (λ there. changed-sound edit good fit there sound) (λ none. put-sound lines sound edit good fit none)
 
 pub edited-document : (edit : Edit) (lines : List (Line Placed)) → IsSoundEdit edit → is_fit edit ≡ true
     → IsDocument (plain_lines lines) → fault_of Strict (plain_lines lines) ≡ None
     → IsDocument (plain_lines (lines_after edit lines)) × (fault_of Strict (plain_lines (lines_after edit lines)) ≡ None)
-edited-document edit lines good fit document none = sound-document (lines_after edit lines)
+edited-document edit lines good fit document none = sound-document
     (edited-sound edit lines good fit (document-sound lines document none))

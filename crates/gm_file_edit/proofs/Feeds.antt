@@ -23,19 +23,19 @@ use Rattle.gm_file.specs.Values.{both}
 
 -- ---- options that hold a value
 
-pub map-some : {X Y : Type 0} (f : X → Y) (o : Option X) (y : Y) → option_map f o ≡ Some y → (x : X) × (o ≡ Some x) × (f x ≡ y)
-map-some f None y e = absurd cc
-map-some f (Some x) y e = (x, refl, cc)
+pub map-some : {X Y : Type 0} (f : X → Y) (o : Option X) {y : Y} → option_map f o ≡ Some y → (x : X) × (o ≡ Some x) × (f x ≡ y)
+map-some f None e = absurd cc
+map-some f (Some x) e = (x, refl, cc)
 
-pub then-some : {X Y : Type 0} (f : X → Option Y) (o : Option X) (y : Y) → option_and_then f o ≡ Some y → (x : X) × (o ≡ Some x) × (f x ≡ Some y)
-then-some f None y e = absurd cc
-then-some f (Some x) y e = (x, refl, e)
+pub then-some : {X Y : Type 0} (f : X → Option Y) (o : Option X) {y : Y} → option_and_then f o ≡ Some y → (x : X) × (o ≡ Some x) × (f x ≡ Some y)
+then-some f None e = absurd cc
+then-some f (Some x) e = (x, refl, e)
 
-pub both-are : {A B C : Type 0} (f : A → B → C) (a : Option A) (b : Option B) (c : C) → both f a b ≡ Some c
+pub both-are : {A B C : Type 0} (f : A → B → C) (a : Option A) (b : Option B) {c : C} → both f a b ≡ Some c
     → (x : A) × (y : B) × (a ≡ Some x) × (b ≡ Some y) × (f x y ≡ c)
-both-are f None b c e = absurd cc
-both-are f (Some x) None c e = absurd cc
-both-are f (Some x) (Some y) c e = (x, y, refl, refl, cc)
+both-are f None b e = absurd cc
+both-are f (Some x) None e = absurd cc
+both-are f (Some x) (Some y) e = (x, y, refl, refl, cc)
 
 -- a text whose bytes pass a test that a byte fails is without the byte
 pub has-no : (byte : ℕ) (test : ℕ → Bool) → test byte ≡ false → (text : List ℕ) → list_all test text ≡ true → AllByRecursion (λ b. b ≢ byte) text
@@ -65,13 +65,13 @@ byte-feed (b ∷ text) e =
 
 -- ---- go versions
 
-pub if-some : {X : Type 0} (b : Bool) (o : Option X) (x : X) → (if b then o else None) ≡ Some x → (b ≡ true) × (o ≡ Some x)
-if-some true o x e = (refl, e)
-if-some false o x e = absurd cc
+pub if-some : {X : Type 0} (b : Bool) (o : Option X) {x : X} → (if b then o else None) ≡ Some x → (b ≡ true) × (o ≡ Some x)
+if-some true o e = (refl, e)
+if-some false o e = absurd cc
 
-pub if-other : {X : Type 0} (b : Bool) (o : Option X) (x : X) → (if b then None else o) ≡ Some x → (b ≡ false) × (o ≡ Some x)
-if-other true o x e = absurd cc
-if-other false o x e = (refl, e)
+pub if-other : {X : Type 0} (b : Bool) (o : Option X) {x : X} → (if b then None else o) ≡ Some x → (b ≡ false) × (o ≡ Some x)
+if-other true o e = absurd cc
+if-other false o e = (refl, e)
 
 decimal-feed : (text : List ℕ) → is_decimal text ≡ true → HasNoLineFeed text
 decimal-feed text h = has-no 10 is_ascii_digit refl text (and_both (not (starts_as_no_number text)) (list_all is_ascii_digit text) h).1
@@ -79,12 +79,12 @@ decimal-feed text h = has-no 10 is_ascii_digit refl text (and_both (not (starts_
 small-feed : (text : List ℕ) (n : ℕ) → small_number text ≡ Some n → HasNoLineFeed text
 unfolding small_number
 small-feed text n e =
-    let test = if-some (is_decimal text && nat_lt (digits_value 10 text) 1000000000) (Some (digits_value 10 text)) n e in
+    let test = if-some (is_decimal text && nat_lt (digits_value 10 text) 1000000000) (Some (digits_value 10 text)) e in
     decimal-feed text (and_both (is_decimal text) (nat_lt (digits_value 10 text) 1000000000) test.0).0
 
 first-feed : (text : List ℕ) (n : ℕ) → first_number text ≡ Some n → HasNoLineFeed text
 unfolding first_number
-first-feed text n e = small-feed text n (if-other _ (small_number text) n e).1
+first-feed text n e = small-feed text n (if-other _ (small_number text) e).1
 
 cut-feed : (n : ℕ) (text : List ℕ) → HasNoLineFeed (take n text) → HasNoLineFeed (drop n text) → HasNoLineFeed text
 cut-feed n text front back = subst HasNoLineFeed (take-append-drop n text) (plain_append (take n text) (drop n text) front back)
@@ -116,12 +116,12 @@ suffix-feed text e =
       | inr rest ↦ behind-feed is_ascii_lowercase refl text (has-no 10 is_ascii_digit refl (drop (length letters) text) (and_both some digits rest).1)
     ]
 
-last-feed : (text : List ℕ) (n : ℕ) → last_number text ≡ Some n → HasNoLineFeed text
+last-feed : (text : List ℕ) {n : ℕ} → last_number text ≡ Some n → HasNoLineFeed text
 unfolding last_number
-last-feed text n e =
+last-feed text e =
     let digits : List ℕ = take_while is_ascii_digit text in
     behind-feed is_ascii_digit refl text (suffix-feed (drop (length digits) text)
-    (if-some (is_go_suffix (drop (length digits) text)) (small_number digits) n e).0)
+    (if-some (is_go_suffix (drop (length digits) text)) (small_number digits) e).0)
 
 dot-feed : (text : List ℕ) → HasNoLineFeed (before_dot text) → HasNoLineFeed (after_dot text) → HasNoLineFeed text
 dot-feed [] before after = tt
@@ -148,15 +148,15 @@ unfolding second_number
 second-feed text n e = elim (cases_Bool (has_dot text)) [
   | inl dot ↦
       let inner = rw dot at e in
-      let test = if-some (is_some (last_number (after_dot text))) (small_number (before_dot text)) n inner in
+      let test = if-some (is_some (last_number (after_dot text))) (small_number (before_dot text)) inner in
       let last = some-in (last_number (after_dot text)) test.0 in
-      dot-feed text (small-feed (before_dot text) n test.1) (last-feed (after_dot text) last.0 last.1)
-  | inr none ↦ last-feed text n (rw none at e)
+      dot-feed text (small-feed (before_dot text) n test.1) (last-feed (after_dot text) last.1)
+  | inr none ↦ last-feed text (rw none at e)
 ]
 
 pub go-feed : (text : List ℕ) → is_some (strict_go text) ≡ true → HasNoLineFeed text
 unfolding strict_go
 go-feed text e =
     let read = some-in (strict_go text) e in
-    let parts = both-are numbers (first_number (before_dot text)) (second_number (after_dot text)) read.0 read.1 in
+    let parts = both-are numbers (first_number (before_dot text)) (second_number (after_dot text)) read.1 in
     dot-feed text (first-feed (before_dot text) parts.0 parts.2) (second-feed (after_dot text) parts.1 parts.3)

@@ -15,14 +15,14 @@ filter-none p x xs e = rw e refl
 filter-filter : {X : Type 0} (p q : X → Bool) (xs : List X) → filter p (filter q xs) ≡ filter (λ x. q x && p x) xs
 filter-filter p q [] = refl
 filter-filter {X} p q (x ∷ xs) = elim (cases_Bool (q x)) [
-  | inl hit ↦ rw hit (ap (λ (ys : List X). if p x then x ∷ ys else ys) (filter-filter p q xs))
+  | inl hit ↦ rw (hit, filter-filter p q xs)
   | inr miss ↦ rw miss (filter-filter p q xs)
 ]
 
 any-filter : {X : Type 0} (p q : X → Bool) (xs : List X) → list_any p (filter q xs) ≡ list_any (λ x. q x && p x) xs
 any-filter p q [] = refl
 any-filter p q (x ∷ xs) = elim (cases_Bool (q x)) [
-  | inl hit ↦ rw hit (ap (λ (b : Bool). p x || b) (any-filter p q xs))
+  | inl hit ↦ rw (hit, any-filter p q xs)
   | inr miss ↦ rw miss (any-filter p q xs)
 ]
 

@@ -32,15 +32,15 @@ element-begins (b ∷ e) h =
     let byte = and_both (is_path_byte b) (list_all is_path_byte e) bytes.1 in
     record { byte = b; rest = e; is = refl; no_dot = or-left (b == 46) _ (not_true (has_outer_dot (b ∷ e)) parts.1); no_slash = path_byte-no_slash b byte.0 }
 
-more-begins : (text more : List ℕ) → BeginsAside text → BeginsAside (text ++ more)
-more-begins text more b =
+more-begins : {text : List ℕ} (more : List ℕ) → BeginsAside text → BeginsAside (text ++ more)
+more-begins more b =
     record { byte = b.byte; rest = b.rest ++ more; is = ap (λ (t : List ℕ). t ++ more) b.is; no_dot = b.no_dot; no_slash = b.no_slash }
 
 joined-begins : (es : List (List ℕ)) → 0 < length es → list_all is_element es ≡ true → BeginsAside (join_with_byte 47 es)
 joined-begins [] some all = absurd (omega arith)
 joined-begins (e ∷ []) some all = element-begins e (and_both (is_element e) true all).0
 joined-begins (e ∷ f ∷ es) some all =
-    more-begins e (47 ∷ join_with_byte 47 (f ∷ es)) (element-begins e (and_both (is_element e) (list_all is_element (f ∷ es)) all).0)
+    more-begins (47 ∷ join_with_byte 47 (f ∷ es)) (element-begins e (and_both (is_element e) (list_all is_element (f ∷ es)) all).0)
 
 aside-no-folder : (b : ℕ) (rest : List ℕ) → (b == 46) ≡ false → (b == 47) ≡ false → is_folder_path (b ∷ rest) ≡ false
 unfolding is_folder_path
@@ -52,7 +52,7 @@ aside-no-folder b rest dot slash =
 pub begins-no-folder : (path more : List ℕ) → IsPath path → is_folder_path (path ++ more) ≡ false
 begins-no-folder path more is =
     let first : BeginsAside path = subst BeginsAside (sym is.joined) (joined-begins is.elements is.some is.each) in
-    let b = more-begins path more first in
+    let b = more-begins more first in
     subst (λ (t : List ℕ). is_folder_path t ≡ false) (sym b.is) (aside-no-folder b.byte b.rest b.no_dot b.no_slash)
 
 pub path-no-folder : (text : List ℕ) → is_path text ≡ true → is_folder_path text ≡ false

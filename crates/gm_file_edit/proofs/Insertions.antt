@@ -91,9 +91,9 @@ pub record IsLast (test : Directive → Bool) (block : Option Placed) (lines : L
   pub hit : passes test (directive_at (block_after_lines block front) line) ≡ true
   pub later : is_there test (block_after_lines block (front ++ line ∷ [])) back ≡ false
 
-or-first : (a b : Bool) → b ≡ false → (a || b) ≡ true → a ≡ true
-or-first true b e f = refl
-or-first false b e f = absurd (true≢false (sym f ∙ e))
+or-first : (a : Bool) {b : Bool} → b ≡ false → (a || b) ≡ true → a ≡ true
+or-first true e f = refl
+or-first false e f = absurd (true≢false (sym f ∙ e))
 
 pub last-one : (test : Directive → Bool) (block : Option Placed) (lines : List (Line Placed)) → is_there test block lines ≡ true → IsLast test block lines
 last-one test block [] e = absurd cc
@@ -116,7 +116,7 @@ last-one test block (line ∷ lines) e = elim (cases_Bool (is_there test (block_
         back = lines;
         parts = refl;
         hit =
-            or-first (passes test (directive_at block line)) (is_there test (block_after_line block line) lines) none e;
+            or-first (passes test (directive_at block line)) none e;
         later = none;
       }
 ]
@@ -138,8 +138,7 @@ after-last-behind test text arguments block [] back line hit none =
     let held : passes test (directive_at block line) ≡ true = hit in
     let later : is_there test (block_after_line block line) back ≡ false = none in rw (held, later) refl
 after-last-behind test text arguments block (x ∷ front) back line hit none =
-    rw (there-behind test (block_after_line block x) front back line hit, and_right (passes test (directive_at block x)) false refl)
-    (ap (λ (ls : List (Line Placed)). x ∷ ls) (after-last-behind test text arguments (block_after_line block x) front back line hit none))
+    rw (there-behind test (block_after_line block x) front back line hit, and_right (passes test (directive_at block x)) false refl, after-last-behind test text arguments (block_after_line block x) front back line hit none)
 
 pub added-after-last : (verb : List ℕ) (arguments : List Placed) (front back : List (Line Placed)) (line : Line Placed)
     → passes (has_verb verb) (directive_at (block_after_lines None front) line) ≡ true
@@ -190,7 +189,7 @@ added-into v arguments lines = elim (cases_Bool (is_there (has_verb v) None line
         is =
             ap (with_addition v arguments) at.parts ∙ added-after-last v arguments at.front at.back at.line at.hit at.later
             ∙ sym (append_assoc at.front (at.line ∷ []) (entry_at (is_some block) v arguments ∷ at.back));
-        fits = λ closed. (ap is_some behind, subst (IsOfVerb v) (sym behind) (passing-verb v block at.line (directive_at block at.line) refl at.hit));
+        fits = λ closed. (ap is_some behind, rw behind (passing-verb v block at.line (directive_at block at.line) refl at.hit));
       }
   | inr none ↦ record {
     front = lines;
@@ -199,7 +198,7 @@ added-into v arguments lines = elim (cases_Bool (is_there (has_verb v) None line
     inside = false;
     was = sym (append-nil lines);
     is = added-at-end v arguments lines none;
-    fits = λ closed. (ap is_some closed, subst (IsOfVerb v) (sym closed) tt);
+    fits = λ closed. (ap is_some closed, rw closed tt);
   }
 ]
 
@@ -211,10 +210,10 @@ record IsPutOutside (more : List (Line Placed)) (block : Option Placed) (lines a
   is : after ≡ front ++ (more ++ back)
   outside : block_after_lines block lines ≡ None → block_after_lines block front ≡ None
 
-behind-line : (more : List (Line Placed)) (block : Option Placed) (line : Line Placed)
-    (lines after : List (Line Placed)) → IsPutOutside more (block_after_line block line) lines after
+behind-line : {more : List (Line Placed)} (block : Option Placed) (line : Line Placed)
+    {lines after : List (Line Placed)} → IsPutOutside more (block_after_line block line) lines after
     → IsPutOutside more block (line ∷ lines) (line ∷ after)
-behind-line more block line lines after put =
+behind-line block line put =
     record {
       front = line ∷ put.front;
       back = put.back;
@@ -226,18 +225,18 @@ behind-line more block line lines after put =
 
 behind-closing : (more : List (Line Placed)) (block : Option Placed) (lines : List (Line Placed)) → IsPutOutside more block lines (after_closing more lines)
 behind-closing more block [] = record { front = []; back = []; was = refl; is = sym (append-nil more); outside = λ closed. closed }
-behind-closing more block (Blank ∷ lines) = behind-line more block Blank lines _ (behind-closing more block lines)
-behind-closing more block (Comment text ∷ lines) = behind-line more block (Comment text) lines _ (behind-closing more block lines)
-behind-closing more block (Open verb suffix ∷ lines) = behind-line more block (Open verb suffix) lines _ (behind-closing more (Some verb) lines)
+behind-closing more block (Blank ∷ lines) = behind-line block Blank (behind-closing more block lines)
+behind-closing more block (Comment text ∷ lines) = behind-line block (Comment text) (behind-closing more block lines)
+behind-closing more block (Open verb suffix ∷ lines) = behind-line block (Open verb suffix) (behind-closing more (Some verb) lines)
 behind-closing more block (Close suffix ∷ lines) = record { front = Close suffix ∷ []; back = lines; was = refl; is = refl; outside = λ closed. refl }
-behind-closing more block (Entry words suffix ∷ lines) = behind-line more block (Entry words suffix) lines _ (behind-closing more block lines)
+behind-closing more block (Entry words suffix ∷ lines) = behind-line block (Entry words suffix) (behind-closing more block lines)
 
 behind-first : (test : Directive → Bool) (more : List (Line Placed)) (block : Option Placed)
     (lines : List (Line Placed)) → IsPutOutside more block lines (after_first_of test more block lines)
 behind-first test more block [] = behind-closing more block []
 behind-first test more block (line ∷ lines) = elim (cases_Bool (passes test (directive_at block line))) [
   | inl hit ↦ rw hit (elim (cases_Bool (is_some block)) [
-    | inl inside ↦ rw inside (behind-line more block line lines _ (behind-closing more (block_after_line block line) lines))
+    | inl inside ↦ rw inside (behind-line block line (behind-closing more (block_after_line block line) lines))
     | inr outside ↦ rw outside (record {
       front = line ∷ [];
       back = lines;
@@ -247,7 +246,7 @@ behind-first test more block (line ∷ lines) = elim (cases_Bool (passes test (d
           λ closed. passing-level test block line hit ∙ none-open block outside;
     })
   ])
-  | inr miss ↦ rw miss (behind-line more block line lines _ (behind-first test more (block_after_line block line) lines))
+  | inr miss ↦ rw miss (behind-line block line (behind-first test more (block_after_line block line) lines))
 ]
 
 pub after-first-into : (test : Directive → Bool) (v : List ℕ) (arguments : List Placed) (lines : List (Line Placed))
@@ -261,7 +260,7 @@ after-first-into test v arguments lines =
       inside = false;
       was = put.was;
       is = put.is;
-      fits = λ closed. (ap is_some (put.outside closed), subst (IsOfVerb v) (sym (put.outside closed)) tt);
+      fits = λ closed. (ap is_some (put.outside closed), rw (put.outside closed) tt);
     }
 
 -- ---- what an operation puts in
@@ -299,20 +298,17 @@ pub record Fits (block : Option Placed) (new : Directive) (line : Line Placed) :
 abbrev pub IsNewTo : List Directive → Directive → Type 0
 IsNewTo ds new = (directive_kinds Strict [] new ≡ []) × (list_any (do_clash new) ds ≡ false)
 
-item-alone : (item : Item) (new : Directive) → directive_in Strict item ≡ Some new → directive_kinds Strict [] new ≡ [] → item_kinds Strict [] item ≡ []
-item-alone Silent new e right = absurd cc
-item-alone (Opening text) new e right = absurd cc
-item-alone (Saying text arguments) new e right = ap (entry_kinds Strict [] (verb_in Strict text)) e ∙ right
+item-alone : (item : Item) {new : Directive} → directive_in Strict item ≡ Some new → directive_kinds Strict [] new ≡ [] → item_kinds Strict [] item ≡ []
+item-alone Silent e right = absurd cc
+item-alone (Opening text) e right = absurd cc
+item-alone (Saying text arguments) e right = ap (entry_kinds Strict [] (verb_in Strict text)) e ∙ right
 
 -- insertion between the lines of a file
 put-in : (new : Directive) (front back : List (Line Placed)) (line : Line Placed)
     → Fits (block_after_lines None front) new line → IsNewTo (held_from None (front ++ back)) new
     → IsSound (front ++ back) → IsSound (front ++ line ∷ back)
 put-in new front back line fits fresh sound =
-    let block : Option Placed = block_after_lines None front in
-    let clear : IsClear (directive_at block line) (held_in (with_blocks (front ++ back))) =
-    subst (λ (o : Option Directive). IsClear o (held_in (with_blocks (front ++ back)))) (sym fits.holds) fresh.1 in
-    put-line front back line (fits.stands, item-alone (item_of block line) new fits.holds fresh.0) fits.level clear sound
+    put-line front back line (fits.stands, item-alone (item_of (block_after_lines None front) line) fits.holds fresh.0) fits.level (rw fits.holds fresh.1) sound
 
 -- a blank line holds no directive, so it changes nothing
 with-gap : (gap : Bool) (front back : List (Line Placed)) → IsSound (front ++ back) → IsSound (front ++ (gap_lines gap ++ back))
@@ -330,43 +326,38 @@ pub record IsAddition (v : List ℕ) (arguments : List Placed) (new : Directive)
   pub filled : is_empty_block (words_of arguments) ≡ false
   pub says : directive_of (main_verb v) (words_of arguments) ≡ Some new
 
-single-holds : (text : List ℕ) (v : Verb) (arguments : List Placed) (new : Directive)
+single-holds : (text : List ℕ) {v : Verb} (arguments : List Placed) {new : Directive}
     → verb_in Strict (new_word text).spelling ≡ v → is_empty_block (words_of arguments) ≡ false
     → directive_of v (words_of arguments) ≡ Some new → directive_at None (single text arguments) ≡ Some new
 unfolding item_at
-single-holds text v arguments new named filled says = rw (filled, named) says
+single-holds text arguments named filled says = rw (filled, named) says
 
-pub entry-fits : (v : List ℕ) (arguments : List Placed) (new : Directive) (block : Option Placed) → IsOfVerb v block
+pub entry-fits : {v : List ℕ} {arguments : List Placed} {new : Directive} (block : Option Placed) → IsOfVerb v block
     → IsAddition v arguments new → Fits block new (entry_at (is_some block) v arguments)
 unfolding item_at
-entry-fits v arguments new None is so = record {
+entry-fits {v} {arguments} {new} None is so = record {
   stands = so.alone;
   holds =
-      single-holds v (main_verb v) arguments new so.written so.filled so.says;
+      single-holds v arguments so.written so.filled so.says;
   level = refl;
 }
-entry-fits v arguments new (Some t) is so = record {
+entry-fits {arguments} (Some t) is so = record {
   stands = so.inside;
   holds =
       ap (λ (x : Verb). directive_of x (words_of arguments)) is ∙ so.says;
   level = refl;
 }
 
-pub into-fits : (v : List ℕ) (arguments : List Placed) (new : Directive) (block : Option Placed) (inside : Bool)
+pub into-fits : (v : List ℕ) {arguments : List Placed} {new : Directive} (block : Option Placed) (inside : Bool)
     → IsAddition v arguments new → (is_some block ≡ inside) × IsOfVerb v block
     → Fits block new (entry_at inside v arguments)
-into-fits v arguments new block inside so fits = subst (λ (b : Bool). Fits block new (entry_at b v arguments)) fits.0
-    (entry-fits v arguments new block fits.1 so)
+into-fits v block inside so fits = rw (← fits.0) (entry-fits block fits.1 so)
 
 -- an entry that is put in
-pub into-sound : (v : List ℕ) (arguments : List Placed) (new : Directive) (lines after : List (Line Placed))
+pub into-sound : {v : List ℕ} {arguments : List Placed} {new : Directive} {lines after : List (Line Placed)}
     → IsAddition v arguments new → IsNewTo (held_from None lines) new
     → IsSound lines → IsPutInto v arguments lines after → IsSound after
-into-sound v arguments new lines after so fresh sound put =
-    let block : Option Placed = block_after_lines None put.front in
-    let fits : Fits block new (entry_at put.inside v arguments) = into-fits v arguments new block put.inside so (put.fits sound.closed) in
-    subst IsSound (sym put.is)
-    (with-gap put.gap put.front (entry_at put.inside v arguments ∷ put.back)
-    (put-in new put.front put.back (entry_at put.inside v arguments) fits
-    (subst (λ (ls : List (Line Placed)). IsNewTo (held_from None ls) new) put.was fresh)
-    (subst IsSound put.was sound)))
+into-sound {v} {arguments} {new} so fresh sound put =
+    let entry : Line Placed = entry_at put.inside v arguments in
+    let fits : Fits (block_after_lines None put.front) new entry = into-fits v (block_after_lines None put.front) put.inside so (put.fits sound.closed) in
+    rw put.is (with-gap put.gap put.front (entry ∷ put.back) (put-in new put.front put.back entry fits (rw put.was at fresh) (rw put.was at sound)))

@@ -73,14 +73,14 @@ made-value value plain =
       | inr e ↦ let quoted : string_value (in_quotes value) ≡ value = rw e at is in rw e (ap Some quoted)
     ]
 
-kind-no-mark : (b : ℕ) (kind : Kind) (text value : List ℕ) → argument_of_kind kind text ≡ Some value → is_mark_byte b kind text ≡ false
-kind-no-mark b Bare text value e = refl
-kind-no-mark b Text text value e = refl
-kind-no-mark b Mark text value e = absurd cc
+kind-no-mark : (b : ℕ) (kind : Kind) (text : List ℕ) {value : List ℕ} → argument_of_kind kind text ≡ Some value → is_mark_byte b kind text ≡ false
+kind-no-mark b Bare text e = refl
+kind-no-mark b Text text e = refl
+kind-no-mark b Mark text e = absurd cc
 
 -- a punctuation mark is not an argument
 pub no-mark : (b : ℕ) (w : Word) (value : List ℕ) → argument w ≡ Some value → is_mark b w ≡ false
-no-mark b w value e = kind-no-mark b w.kind w.spelling value e
+no-mark b w value e = kind-no-mark b w.kind w.spelling e
 
 -- ---- arguments
 
@@ -106,13 +106,13 @@ pub record IsHeldBy (block : Option Placed) (line : Line Placed) (d : Directive)
   pub at : IsFront block verb front
   pub says : directive_of (main_verb verb) (words_of arguments) ≡ Some d
 
-pub held-by : (block : Option Placed) (line : Line Placed) (d : Directive) → directive_at block line ≡ Some d → IsHeldBy block line d
+pub held-by : (block : Option Placed) (line : Line Placed) {d : Directive} → directive_at block line ≡ Some d → IsHeldBy block line d
 unfolding item_at
-held-by block Blank d e = absurd cc
-held-by block (Comment text) d e = absurd cc
-held-by block (Open verb suffix) d e = absurd cc
-held-by block (Close suffix) d e = absurd cc
-held-by (Some v) (Entry words suffix) d e = record {
+held-by block Blank e = absurd cc
+held-by block (Comment text) e = absurd cc
+held-by block (Open verb suffix) e = absurd cc
+held-by block (Close suffix) e = absurd cc
+held-by (Some v) (Entry words suffix) e = record {
   front = [];
   verb = v.word.spelling;
   arguments = words;
@@ -122,8 +122,8 @@ held-by (Some v) (Entry words suffix) d e = record {
   at = (refl, refl);
   says = e;
 }
-held-by None (Entry [] suffix) d e = absurd cc
-held-by None (Entry (w ∷ words) suffix) d e = elim (cases_Bool (is_empty_block (words_of words))) [
+held-by None (Entry [] suffix) e = absurd cc
+held-by None (Entry (w ∷ words) suffix) e = elim (cases_Bool (is_empty_block (words_of words))) [
   | inl holds ↦ let wrong = rw holds at e in absurd cc
   | inr fails ↦ record { front = w ∷ []; verb = w.word.spelling; arguments = words; suffix = suffix; is = refl; at = (w, refl, refl); says = rw fails at e }
 ]
@@ -139,9 +139,9 @@ pub open-behind : (w : Word) (ws : List Word) → 0 < length ws → ends_open (w
 open-behind w [] some = absurd (omega arith)
 open-behind w (v ∷ ws) some = refl
 
-new-entry : (block : Option Placed) (verb : List ℕ) (front old arguments : List Placed) (suffix : Option (List ℕ)) → IsFront block verb front
+new-entry : (block : Option Placed) (verb : List ℕ) (front old : List Placed) {arguments : List Placed} {suffix : Option (List ℕ)} → IsFront block verb front
     → IsEntry (words_of (front ++ old)) suffix → AreArguments arguments → IsEntry (words_of (front ++ arguments)) suffix
-new-entry None verb front old arguments suffix at entry are =
+new-entry None verb front old {arguments} {suffix} at entry are =
     let w : Placed = at.0 in
     let before : IsEntry (words_of (w ∷ old)) suffix = subst (λ (f : List Placed). IsEntry (words_of (f ++ old)) suffix) at.1 entry in
     let after : IsEntry (words_of (w ∷ arguments)) suffix = record {
@@ -152,7 +152,7 @@ new-entry None verb front old arguments suffix at entry are =
       closes_nothing = before.closes_nothing;
     } in
     subst (λ (f : List Placed). IsEntry (words_of (f ++ arguments)) suffix) (sym at.1) after
-new-entry (Some v) verb front old arguments suffix at entry are =
+new-entry (Some v) verb front old {arguments} {suffix} at entry are =
     let after : IsEntry (words_of arguments) suffix = record {
       are_words = are.words;
       is_suffix = entry.is_suffix;
@@ -163,17 +163,17 @@ new-entry (Some v) verb front old arguments suffix at entry are =
     subst (λ (f : List Placed). IsEntry (words_of (f ++ arguments)) suffix) (sym at.0) after
 
 -- an entry whose arguments are replaced says what the new ones say
-pub entry-made : (new was : Directive) (block : Option Placed) (line next : Line Placed) (h : IsHeldBy block line was) (arguments : List Placed)
+pub entry-made : {new was : Directive} {block : Option Placed} {line next : Line Placed} (h : IsHeldBy block line was) {arguments : List Placed}
     → next ≡ Entry (h.front ++ arguments) h.suffix → IsValidLine (is_some block) (plain line) → AreArguments arguments
     → directive_of (main_verb h.verb) (words_of arguments) ≡ Some new → directive_kinds Strict [] new ≡ []
     → IsMadeNew new block next
-entry-made new was block line next h arguments is stands are says kinds =
+entry-made {block} h {arguments} is stands are says kinds =
     let item : item_of block (Entry (h.front ++ arguments) h.suffix) ≡ Saying h.verb (words_of arguments) =
     new-item block h.verb h.front arguments h.suffix h.at are.no_block in
     let stood : IsValidLine (is_some block) (plain (Entry (h.front ++ h.arguments) h.suffix)) =
     subst (λ (l : Line Placed). IsValidLine (is_some block) (plain l)) h.is stands in
     let old : IsEntry (words_of (h.front ++ h.arguments)) h.suffix = standing_entry (is_some block) (words_of (h.front ++ h.arguments)) h.suffix stood in
-    let entry : IsEntry (words_of (h.front ++ arguments)) h.suffix = new-entry block h.verb h.front h.arguments arguments h.suffix h.at old are in
+    let entry : IsEntry (words_of (h.front ++ arguments)) h.suffix = new-entry block h.verb h.front h.arguments h.at old are in
     record {
       words = h.front ++ arguments;
       suffix = h.suffix;
@@ -191,27 +191,27 @@ without-last words last = take_at words (last ∷ []) (length (words ++ last ∷
 pub last-replaced : (value : List ℕ) (block : Option Placed) (words : List Placed) (last : Placed)
     (suffix : Option (List ℕ)) → with_last value block (Entry (words ++ last ∷ []) suffix)
     ≡ Entry (words ++ made_word value ∷ []) suffix
-last-replaced value block words last suffix = ap (λ (front : List Placed). Entry (front ++ made_word value ∷ []) suffix) (without-last words last)
+last-replaced value block words last suffix = rw (without-last words last)
 
-pub all-arguments : (block : Option Placed) (verb : List ℕ) (front old : List Placed) (line : Line Placed)
+pub all-arguments : (block : Option Placed) (verb : List ℕ) (front old : List Placed) {line : Line Placed}
     (suffix : Option (List ℕ)) (arguments : List Placed) → IsFront block verb front
     → line ≡ Entry (front ++ old) suffix → with_arguments arguments block line ≡ Entry (front ++ arguments) suffix
-all-arguments None verb front old line suffix arguments at is = rw (is, at.1) refl
-all-arguments (Some v) verb front old line suffix arguments at is = rw (is, at.0) refl
+all-arguments None verb front old suffix arguments at is = rw (is, at.1) refl
+all-arguments (Some v) verb front old suffix arguments at is = rw (is, at.0) refl
 
 -- ---- one argument or two
 
-pub one-argument : (words : List Placed) (v : List ℕ) → one_of (words_of words) ≡ Some v → (a : Placed) × (words ≡ a ∷ [])
-one-argument [] v e = absurd cc
-one-argument (a ∷ []) v e = (a, refl)
-one-argument (a ∷ b ∷ words) v e = absurd cc
+pub one-argument : (words : List Placed) {v : List ℕ} → one_of (words_of words) ≡ Some v → (a : Placed) × (words ≡ a ∷ [])
+one-argument [] e = absurd cc
+one-argument (a ∷ []) e = (a, refl)
+one-argument (a ∷ b ∷ words) e = absurd cc
 
 pub two-arguments : (words : List Placed) (p : ModuleVersion) → pair_of (words_of words) ≡ Some p
     → (a b : Placed) × (words ≡ a ∷ b ∷ []) × (argument a.word ≡ Some p.0)
 two-arguments [] p e = absurd cc
 two-arguments (a ∷ []) p e = absurd cc
 two-arguments (a ∷ b ∷ []) p e =
-    let parts = both-are pair (argument a.word) (argument b.word) p e in
+    let parts = both-are pair (argument a.word) (argument b.word) e in
     (a, b, refl, parts.2 ∙ ap (λ (q : ModuleVersion). Some q.0) parts.4)
 two-arguments (a ∷ b ∷ c ∷ words) p e = absurd cc
 

@@ -29,8 +29,7 @@ marks-count test block (line ∷ lines) = ap suc (marks-count test (block_after_
 marks-append : (test : Directive → Bool) (block : Option Placed) (xs ys : List (Line Placed))
     → marks_from test block (xs ++ ys) ≡ marks_from test block xs ++ marks_from test (block_after_lines block xs) ys
 marks-append test block [] ys = refl
-marks-append test block (line ∷ xs) ys = ap (λ (ms : List Bool). passes test (directive_at block line) ∷ ms)
-    (marks-append test (block_after_line block line) xs ys)
+marks-append test block (line ∷ xs) ys = rw (marks-append test (block_after_line block line) xs ys)
 
 -- Loop invariant: the first lines are marked, the block is the one that is open after them, and its verb is known.
 pub record AreMarkedTo (edit : Edit) (whole : List (Line Placed)) (n : ℕ) (block : Option Placed) (verb : Option Verb) (marks : List Bool) : Type 0 where
@@ -39,32 +38,37 @@ pub record AreMarkedTo (edit : Edit) (whole : List (Line Placed)) (n : ℕ) (blo
   pub front : marks ≡ marks_from (about edit) None (take n whole)
 
 -- a line that the test of keys and texts passes over has no mark
-pub unmarked : (mark may : Bool) → (mark ≡ true → may ≡ true) → may ≡ false → false ≡ mark
-unmarked true may gives fails = absurd (let holds = gives refl in cc)
-unmarked false may gives fails = refl
+pub unmarked : (mark : Bool) {may : Bool} → (mark ≡ true → may ≡ true) → may ≡ false → false ≡ mark
+unmarked true gives fails = absurd (let holds = gives refl in cc)
+unmarked false gives fails = refl
 
 -- one more line
-pub scan-more : (edit : Edit) (whole : List (Line Placed)) (n : ℕ) (block next_block : Option Placed)
-    (verb next_verb : Option Verb) (line : Line Placed) (key : Key) (marks next : List Bool) (mark : Bool)
+pub scan-more : (edit : Edit) {whole : List (Line Placed)} {n : ℕ} {block next_block : Option Placed}
+    {verb : Option Verb} (next_verb : Option Verb) {line : Line Placed} {key : Key} {marks next : List Bool} {mark : Bool}
     → n < length whole → line ≡ line_at whole n → key ≡ key_of (line_at whole n)
     → mark ≡ passes (about edit) (directive_at block line) → next ≡ marks ++ mark ∷ []
     → next_block ≡ block_after_line block line → StepsVerb verb key next_verb
     → AreMarkedTo edit whole n block verb marks → AreMarkedTo edit whole (n + 1) next_block next_verb next
-scan-more edit whole n block next_block verb next_verb line key marks next mark lt is key_is tested pushed stepped step so =
-    let here : Line Placed = line_at whole n in
-    let tested_so : mark ≡ passes (about edit) (directive_at (block_after_lines None (take n whole)) here) = tested ∙ rw (is, so.block_is) refl in
+scan-more edit {whole} {n} {verb} next_verb lt is key_is tested pushed stepped step so =
     record {
-      block_is = stepped ∙ rw (is, so.block_is) refl ∙ sym (block-next whole n lt);
-      verb_is = verb-more whole n verb next_verb key lt key_is step so.verb_is;
+      block_is = rw (block-next whole n lt, stepped, is, so.block_is);
+      verb_is = verb-more whole n verb next_verb lt key_is step so.verb_is;
       front =
-          pushed ∙ ap (λ (ms : List Bool). ms ++ mark ∷ []) so.front ∙ ap (λ (b : Bool). marks_from (about edit) None (take n whole) ++ b ∷ []) tested_so
-          ∙ sym (ap (marks_from (about edit) None) (take_more whole n Blank lt) ∙ marks-append (about edit) None (take n whole) (here ∷ []));
+          rw (
+            pushed,
+            so.front,
+            tested,
+            is,
+            so.block_is,
+            take_more whole n Blank lt,
+            marks-append (about edit) None (take n whole) (line_at whole n ∷ []),
+          );
     }
 
-pub scan-end : (edit : Edit) (whole : List (Line Placed)) (n : ℕ) (block : Option Placed) (verb : Option Verb)
-    (marks : List Bool) → length whole ≤ n → AreMarkedTo edit whole n block verb marks
+pub scan-end : {edit : Edit} {whole : List (Line Placed)} {n : ℕ} {block : Option Placed} {verb : Option Verb}
+    {marks : List Bool} → length whole ≤ n → AreMarkedTo edit whole n block verb marks
     → marks ≡ marks_from (about edit) None whole
-scan-end edit whole n block verb marks over so = so.front ∙ ap (marks_from (about edit) None) (take_all n whole over)
+scan-end {whole} {n} over so = rw (take_all n whole over) at so.front
 
 -- ---- the first mark
 
@@ -89,8 +93,7 @@ no-mark test block (line ∷ lines) le = elim (cases_Bool (passes test (directiv
 pub dropping-marked : (test : Directive → Bool) (block : Option Placed) (lines : List (Line Placed))
     → dropping_from test block lines ≡ fates_of (marks_from test block lines) lines
 dropping-marked test block [] = refl
-dropping-marked test block (line ∷ lines) =
-    ap (λ (fs : List Fate). fate_by (passes test (directive_at block line)) line ∷ fs) (dropping-marked test (block_after_line block line) lines)
+dropping-marked test block (line ∷ lines) = rw (dropping-marked test (block_after_line block line) lines)
 
 pub dropped-marked : (test : Directive → Bool) (lines : List (Line Placed))
     → without_targets test lines ≡ remaining (fates_of (marks_from test None lines) lines)
@@ -110,9 +113,8 @@ pub renewing-marked : (test : Directive → Bool) (new : Option Placed → Line 
     → renewing_from test new block lines ≡ fates_of (after_first (marks_from test block lines)) (rewritten new block (marks_from test block lines) lines)
 renewing-marked test new block [] lt = absurd (omega (arith, lt))
 renewing-marked test new block (line ∷ lines) lt = elim (cases_Bool (passes test (directive_at block line))) [
-  | inl holds ↦ rw holds (ap (λ (fs : List Fate). Some (new block line) ∷ fs) (dropping-marked test (block_after_line block line) lines))
-  | inr fails ↦ let less = rw fails at lt in rw fails (ap (λ (fs : List Fate). Some line ∷ fs)
-      (renewing-marked test new (block_after_line block line) lines (omega (arith, less))))
+  | inl holds ↦ rw (holds, dropping-marked test (block_after_line block line) lines)
+  | inr fails ↦ let less = rw fails at lt in rw (fails, renewing-marked test new (block_after_line block line) lines (omega (arith, less)))
 ]
 
 pub renewed-marked : (test : Directive → Bool) (new : Option Placed → Line Placed → Line Placed)
@@ -122,32 +124,27 @@ renewed-marked test new lines lt = ap (remaining) (renewing-marked test new None
 
 -- ---- the lines after an operation
 
-pub edited-there : (edit : Edit) (lines : List (Line Placed)) (marks : List Bool) (first : ℕ)
+pub edited-there : (edit : Edit) (lines : List (Line Placed)) (marks : List Bool) {first : ℕ}
     → marks ≡ marks_from (about edit) None lines → first ≡ length (take_while (λ mark. not mark) marks)
     → first < length lines → lines_after edit lines ≡ with_change edit lines
 unfolding lines_after
-edited-there edit lines marks first marks_are first_is lt =
+edited-there edit lines marks marks_are first_is lt =
     let at = first_is ∙ first-is marks ∙ ap first_of marks_are in
     rw (some-mark (about edit) None lines (omega (arith, at, lt))) refl
 
-pub edited-new : (edit : Edit) (lines : List (Line Placed)) (marks : List Bool) (first : ℕ)
+pub edited-new : (edit : Edit) (lines : List (Line Placed)) (marks : List Bool) {first : ℕ}
     → marks ≡ marks_from (about edit) None lines → first ≡ length (take_while (λ mark. not mark) marks)
     → length lines ≤ first → lines_after edit lines ≡ put_in edit lines
 unfolding lines_after
-edited-new edit lines marks first marks_are first_is le =
+edited-new edit lines marks marks_are first_is le =
     let at = first_is ∙ first-is marks ∙ ap first_of marks_are in
     rw (no-mark (about edit) None lines (omega (arith, at, le))) refl
 
 -- what is left of lines of which the first with a mark is rewritten
-pub renew-is : (edit : Edit) (lines new : List (Line Placed)) (marks others : List Bool) (first : ℕ) (line : Line Placed)
+pub renew-is : (edit : Edit) (lines new : List (Line Placed)) {marks : List Bool} (others : List Bool) {first : ℕ} {line : Line Placed}
     → marks ≡ marks_from (about edit) None lines → first ≡ length (take_while (λ mark. not mark) marks) → first < length lines
     → line ≡ made_new edit (block_after_lines None (take first lines)) (line_at lines first) → new ≡ set lines first line → others ≡ set marks first false
     → remaining (fates_of others new) ≡ with_renewal (about edit) (made_new edit) lines
-renew-is edit lines new marks others first line marks_are first_is lt line_is new_is others_are =
-    let all : List Bool = marks_from (about edit) None lines in
-    let f : first ≡ first_of all = first_is ∙ first-is marks ∙ ap first_of marks_are in
-    let others_so : others ≡ after_first all = others_are ∙ ap (λ (ms : List Bool). set ms first false) marks_are ∙ ap (λ (n : ℕ). set all n false) f in
-    let new_so : new ≡ rewritten (made_new edit) None all lines =
-    new_is ∙ ap (set lines first) line_is ∙ ap (λ (n : ℕ). set lines n (made_new edit (block_after_lines None (take n lines)) (line_at lines n))) f in
-    ap (λ (ms : List Bool). remaining (fates_of ms new)) others_so ∙ ap (λ (ls : List (Line Placed)). remaining (fates_of (after_first all) ls)) new_so
-    ∙ sym (renewed-marked (about edit) (made_new edit) lines (omega (arith, lt, f)))
+renew-is edit lines new {marks} others {first} marks_are first_is lt line_is new_is others_are =
+    let f : first ≡ first_of (marks_from (about edit) None lines) = first_is ∙ first-is marks ∙ ap first_of marks_are in
+    rw (others_are, new_is, line_is, marks_are, f) (sym (renewed-marked (about edit) (made_new edit) lines (omega (arith, lt, f))))

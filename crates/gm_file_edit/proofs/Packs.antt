@@ -4,10 +4,12 @@ use Rattle.std.specs.Prelude.{not, take_while}
 use Rattle.std.specs.List.{list_any, prefix_len, swap}
 use Rattle.std.proofs.lemmas.List.Edits.{swap_is}
 use Rattle.std.proofs.lemmas.List.{drop-drop, drop-set-lt, get_or_default, length-drop, length-set, length-take-le, take_all, take_more, take_more_set, take-set-le}
+use Rattle.gm_syntax.specs.Layout.{is_blank_line}
+use Rattle.gm_syntax.specs.LineViews.{plain}
 use Rattle.gm_syntax.specs.Tokens.{Placed}
 use Rattle.gm_syntax.specs.Document.{Line, Blank, Comment, Open, Close, Entry}
 use Rattle.gm_file_edit.specs.Fates.{Fate, empties, fate_by, kept_lines, remaining, widened_from}
-use Rattle.gm_file_edit.specs.Private.Marks.{is_blank_source_line, line_at, fates_of}
+use Rattle.gm_file_edit.specs.Private.Marks.{line_at, fates_of}
 use Rattle.gm_file_edit.proofs.Untouched.{all-lines-stay, all_stay}
 use Rattle.gm_file_edit.proofs.Walking.{drop-next, line-here}
 
@@ -16,24 +18,19 @@ use Rattle.gm_file_edit.proofs.Walking.{drop-next, line-here}
 pub swap-front : (lines : List (Line Placed)) (k n : ℕ) → k < n → n < length lines → take (k + 1) (swap lines k n) ≡ take k lines ++ line_at lines n ∷ []
 swap-front lines k n lt in_range =
     let low : k < length lines = omega (arith, lt, in_range) in
-    ap (take (k + 1)) (sym (swap_is lines k n Blank low in_range))
-    ∙ take-set-le (k + 1) (set lines k (line_at lines n)) n (line_at lines k) (omega (arith, lt))
-    ∙ take_more_set lines k (line_at lines n) low
+    rw (← swap_is lines k n Blank low in_range)
+    (take-set-le (k + 1) (set lines k (line_at lines n)) n (line_at lines k) (omega (arith, lt)) ∙ take_more_set lines k (line_at lines n) low)
 
 pub swap-rest : (lines : List (Line Placed)) (k n : ℕ) → k < n → n < length lines → drop (n + 1) (swap lines k n) ≡ drop (n + 1) lines
 swap-rest lines k n lt in_range =
-    ap (drop (n + 1)) (sym (swap_is lines k n Blank (omega (arith, lt, in_range)) in_range))
-    ∙ drop-set-lt (n + 1) (set lines k (line_at lines n)) n (line_at lines k) (omega arith)
-    ∙ drop-set-lt (n + 1) lines k (line_at lines n) (omega (arith, lt))
+    rw (← swap_is lines k n Blank (omega (arith, lt, in_range)) in_range)
+    (drop-set-lt (n + 1) (set lines k (line_at lines n)) n (line_at lines k) (omega arith)
+    ∙ drop-set-lt (n + 1) lines k (line_at lines n) (omega (arith, lt)))
 
 -- ---- lines at an index
 
-first-same : (xs ys : List (Line Placed)) (n : ℕ) → n < length xs → n < length ys → drop n xs ≡ drop n ys → line_at xs n ≡ line_at ys n
-first-same xs ys n in_xs in_ys same =
-    let e : line_at xs n ∷ drop (suc n) xs ≡ line_at ys n ∷ drop (suc n) ys = sym (drop-cons xs n Blank in_xs) ∙ same ∙ drop-cons ys n Blank in_ys in cc
-
 next-rest : {X : Type 0} (xs ys : List X) (n : ℕ) → drop n xs ≡ drop n ys → drop (n + 1) xs ≡ drop (n + 1) ys
-next-rest xs ys n same = sym (drop-drop 1 n xs) ∙ ap (drop 1) same ∙ drop-drop 1 n ys
+next-rest xs ys n same = rw (← drop-drop 1 n xs, same) (drop-drop 1 n ys)
 
 -- ---- the loop that keeps lines
 
@@ -49,32 +46,25 @@ pub record IsKeptTo (marks : List Bool) (whole : List (Line Placed)) (n count : 
 left-more : (mark : Bool) (front new : List (Line Placed)) (line : Line Placed) (fates : List Fate)
     → (mark ≡ true → new ≡ front) → (mark ≡ false → new ≡ front ++ line ∷ [])
     → new ++ kept_lines fates ≡ front ++ kept_lines (fate_by mark line ∷ fates)
-left-more true front new line fates gone stays = ap (λ (ls : List (Line Placed)). ls ++ kept_lines fates) (gone refl)
-left-more false front new line fates gone stays = ap (λ (ls : List (Line Placed)). ls ++ kept_lines fates) (stays refl)
-    ∙ append_assoc front (line ∷ []) (kept_lines fates)
+left-more true front new line fates gone stays = rw (gone refl)
+left-more false front new line fates gone stays = rw (stays refl) (append_assoc front (line ∷ []) (kept_lines fates))
 
-pub keep-more : (marks : List Bool) (whole : List (Line Placed)) (n count next : ℕ) (lines new : List (Line Placed)) (mark : Bool)
+pub keep-more : {marks : List Bool} {whole : List (Line Placed)} (n : ℕ) {count : ℕ} (next : ℕ) {lines : List (Line Placed)} (new : List (Line Placed)) {mark : Bool}
     → n < length marks → length marks ≡ length whole → mark ≡ get_or marks n mark → length new ≡ length lines
     → next ≤ n + 1 → drop (n + 1) new ≡ drop (n + 1) lines
     → (mark ≡ true → take next new ≡ take count lines) → (mark ≡ false
     → take next new ≡ take count lines ++ line_at lines n ∷ []) → IsKeptTo marks whole n count lines
     → IsKeptTo marks whole (n + 1) next new
-keep-more marks whole n count next lines new mark lt even is len bound same gone stays so =
+keep-more {marks} {whole} n {count} next {lines} new {mark} lt even is len bound same gone stays so =
     let c = so.len in
-    let there : drop n whole ≡ line_at lines n ∷ drop (n + 1) whole =
-    line-here whole n (omega (arith, lt, even)) ∙ ap (λ (l : Line Placed). l ∷ drop (n + 1) whole)
-    (sym (first-same lines whole n (omega (arith, lt, even, c)) (omega (arith, lt, even)) so.rest)) in
-    let marks_here : drop n marks ≡ mark ∷ drop (n + 1) marks = drop-next marks n mark lt is in
+    let there = rw (so.rest, next-rest lines whole n so.rest) at (line-here lines n (omega (arith, lt, even, c))) in
     record {
       len = len ∙ so.len;
       bound = bound;
       rest = same ∙ next-rest lines whole n so.rest;
       left =
           left-more mark (take count lines) (take next new) (line_at lines n) (fates_of (drop (n + 1) marks) (drop (n + 1) whole)) gone stays
-          ∙ ap (λ (fs : List Fate). take count lines ++ kept_lines fs)
-          (sym (ap (λ (ms : List Bool). fates_of ms (drop n whole)) marks_here
-          ∙ ap (fates_of (mark ∷ drop (n + 1) marks)) there))
-          ∙ so.left;
+          ∙ rw (drop-next marks n mark lt is, there) at so.left;
     }
 
 -- ---- the loop that widens marks
@@ -92,78 +82,68 @@ marked-more : (front : List Bool) (lines : List (Line Placed)) (mark : Bool) (li
 marked-more [] [] mark line even = refl
 marked-more [] (l ∷ lines) mark line even = absurd (omega (arith, even))
 marked-more (m ∷ front) [] mark line even = absurd (omega (arith, even))
-marked-more (m ∷ front) (l ∷ lines) mark line even = ap (λ (fs : List Fate). fate_by m l ∷ fs) (marked-more front lines mark line (omega (arith, even)))
+marked-more (m ∷ front) (l ∷ lines) mark line even = rw (marked-more front lines mark line (omega (arith, even)))
 
 -- one more line
-widen-more : (whole : List (Line Placed)) (old : List Bool) (n : ℕ) (block next_block : Option Bool)
-    (behind next_behind mark next_mark : Bool) (marks next : List Bool)
+widen-more : {whole : List (Line Placed)} {old : List Bool} (n : ℕ) {block : Option Bool} (next_block : Option Bool)
+    {behind : Bool} (next_behind : Bool) {mark : Bool} (next_mark : Bool) {marks : List Bool} (next : List Bool)
     → length old ≡ length whole → n < length whole → mark ≡ get_or marks n mark → length next ≡ length marks
     → drop (n + 1) next ≡ drop (n + 1) marks → take (n + 1) next ≡ take n marks ++ next_mark ∷ []
     → widened_from block behind (fate_by mark (line_at whole n) ∷ fates_of (drop (n + 1) old) (drop (n + 1) whole))
     ≡ fate_by next_mark (line_at whole n) ∷ widened_from next_block next_behind
     (fates_of (drop (n + 1) old) (drop (n + 1) whole))
     → IsWidenedTo whole old n block behind marks → IsWidenedTo whole old (n + 1) next_block next_behind next
-widen-more whole old n block next_block behind next_behind mark next_mark marks next even lt is same_size same_rest put step so =
-    let line : Line Placed = line_at whole n in
+widen-more {whole} {old} n {block} next_block {behind} next_behind {mark} next_mark {marks} next even lt is same_size same_rest put step so =
     let front : List Fate = fates_of (take n marks) (take n whole) in
     let after : List Fate = widened_from next_block next_behind (fates_of (drop (n + 1) old) (drop (n + 1) whole)) in
     let size = so.size in
     let rest : drop (n + 1) marks ≡ drop (n + 1) old = next-rest marks old n so.rest in
-    let mark_here : drop n old ≡ mark ∷ drop (n + 1) old =
-    sym so.rest ∙ drop-next marks n mark (omega (arith, size, even, lt)) is
-    ∙ ap (λ (ms : List Bool). mark ∷ ms) rest in
+    let mark_here = rw (so.rest, rest) at (drop-next marks n mark (omega (arith, size, even, lt)) is) in
     let taken : length (take n marks) ≡ length (take n whole) =
     length-take-le n marks (omega (arith, size, even, lt)) ∙ sym (length-take-le n whole (omega (arith, lt))) in
     record {
       size = same_size ∙ size;
       rest = same_rest ∙ rest;
       left =
-          ap (λ (ms : List Bool). fates_of ms (take (n + 1) whole) ++ after) put
-          ∙ ap (λ (ls : List (Line Placed)). fates_of (take n marks ++ next_mark ∷ []) ls ++ after)
-          (take_more whole n Blank lt)
-          ∙ ap (λ (fs : List Fate). fs ++ after) (marked-more (take n marks) (take n whole) next_mark line taken)
-          ∙ append_assoc front (fate_by next_mark line ∷ []) after ∙ ap (λ (fs : List Fate). front ++ fs) (sym step)
-          ∙ ap (λ (fs : List Fate). front ++ widened_from block behind fs)
-          (sym (ap (λ (ms : List Bool). fates_of ms (drop n whole)) mark_here
-          ∙ ap (fates_of (mark ∷ drop (n + 1) old)) (line-here whole n lt)))
-          ∙ so.left;
+          rw (
+            put,
+            take_more whole n Blank lt,
+            marked-more (take n marks) (take n whole) next_mark (line_at whole n) taken,
+            append_assoc front (fate_by next_mark (line_at whole n) ∷ []) after,
+          ) (rw (mark_here, line-here whole n lt, step) at so.left);
     }
 
 pub rest-of : {X : Type 0} (xs : List X) (n : ℕ) → take (length xs - n) (drop n xs) ≡ drop n xs
 rest-of xs n = let rest = length-drop n xs in take_all (length xs - n) (drop n xs) (omega (arith, rest))
 
 -- a line without a mark
-pub widen-line : (whole : List (Line Placed)) (old : List Bool) (n : ℕ) (block next_block : Option Bool)
-    (behind next_behind seen next_mark : Bool) (marks slice : List Bool)
+pub widen-line : {whole : List (Line Placed)} (old : List Bool) (n : ℕ) {block : Option Bool} (next_block : Option Bool)
+    {behind : Bool} (next_behind : Bool) {seen : Bool} (next_mark : Bool) {marks slice : List Bool}
     → length old ≡ length whole → n < length whole → seen ≡ get_or marks n seen → seen ≡ false → slice ≡ marks
     → widened_from block behind (Some (line_at whole n) ∷ fates_of (drop (n + 1) slice) (drop (n + 1) whole))
     ≡ fate_by next_mark (line_at whole n) ∷ widened_from next_block next_behind
     (fates_of (drop (n + 1) slice) (drop (n + 1) whole))
     → IsWidenedTo whole old n block behind marks → IsWidenedTo whole old (n + 1) next_block next_behind (set marks n next_mark)
-widen-line whole old n block next_block behind next_behind seen next_mark marks slice even lt seen_is unmarked same step so =
+widen-line {whole} old n {block} next_block {behind} next_behind next_mark {marks} {slice} even lt seen_is unmarked same step so =
     let size = so.size in
-    let rest : drop (n + 1) slice ≡ drop (n + 1) old = ap (drop (n + 1)) same ∙ next-rest marks old n so.rest in
-    widen-more whole old n block next_block behind next_behind false next_mark marks (set marks n next_mark) even lt
-    (sym unmarked ∙ seen_is ∙ ap (get_or marks n) unmarked) (length-set marks n next_mark)
+    let rest : drop (n + 1) slice ≡ drop (n + 1) old = rw same (next-rest marks old n so.rest) in
+    widen-more n next_block next_behind next_mark (set marks n next_mark) even lt
+    (rw unmarked at seen_is) (length-set marks n next_mark)
     (drop-set-lt (n + 1) marks n next_mark (omega arith)) (take_more_set marks n next_mark (omega (arith, size, even, lt)))
-    (subst (λ (ms : List Bool). widened_from block behind (Some (line_at whole n) ∷ fates_of ms (drop (n + 1) whole))
-    ≡ fate_by next_mark (line_at whole n) ∷ widened_from next_block next_behind (fates_of ms (drop (n + 1) whole)))
-    rest step) so
+    (rw rest at step) so
 
 -- a line with a mark
-pub widen-marked : (whole : List (Line Placed)) (old : List Bool) (n : ℕ) (block : Option Bool) (behind seen : Bool) (marks : List Bool)
+pub widen-marked : {whole : List (Line Placed)} (old : List Bool) (n : ℕ) {block : Option Bool} {behind seen : Bool} {marks : List Bool}
     → length old ≡ length whole → n < length whole → seen ≡ get_or marks n seen → seen ≡ true
     → IsWidenedTo whole old n block behind marks → IsWidenedTo whole old (n + 1) block behind marks
-widen-marked whole old n block behind seen marks even lt seen_is has_mark so =
+widen-marked old n {block} {behind} {marks} even lt seen_is has_mark so =
     let size = so.size in
-    let mark_is : true ≡ get_or marks n true = sym has_mark ∙ seen_is ∙ ap (get_or marks n) has_mark in
-    widen-more whole old n block block behind behind true true marks marks even lt mark_is refl refl
-    (take_more marks n true (omega (arith, size, even, lt))
-    ∙ ap (λ (m : Bool). take n marks ++ m ∷ []) (sym mark_is)) refl so
+    let mark_is = rw has_mark at seen_is in
+    widen-more n block behind true marks even lt mark_is refl refl (rw (← mark_is) at (take_more marks n true (omega (arith, size, even, lt)))) refl so
 
 -- ---- the loop that looks for the end of a block
 
-empties-blank : (lost : Bool) (line : Line Placed) (fates : List Fate) → is_blank_source_line line ≡ true
+empties-blank : (lost : Bool) (line : Line Placed) (fates : List Fate) → is_blank_line (plain line) ≡ true
     → empties lost (Some line ∷ fates) ≡ empties lost fates
 empties-blank lost Blank fates is = refl
 empties-blank lost (Comment text) fates is = absurd cc
@@ -172,25 +152,23 @@ empties-blank lost (Close suffix) fates is = absurd cc
 empties-blank lost (Entry words suffix) fates is = absurd cc
 
 -- the fates from an index on begin with that of the line there
-fates-here : (marks : List Bool) (lines : List (Line Placed)) (n : ℕ) (mark : Bool) → length marks ≡ length lines
+fates-here : (marks : List Bool) (lines : List (Line Placed)) (n : ℕ) {mark : Bool} → length marks ≡ length lines
     → n < length lines → get_or marks n false ≡ mark
     → fates_of (drop n marks) (drop n lines) ≡ fate_by mark (line_at lines n) ∷ fates_of (drop (n + 1) marks) (drop (n + 1) lines)
-fates-here marks lines n mark even lt is =
+fates-here marks lines n {mark} even lt is =
     let in_marks : n < length marks = omega (arith, even, lt) in
-    ap (λ (ms : List Bool). fates_of ms (drop n lines)) (drop-next marks n mark in_marks (sym is ∙ get_or_default marks n false mark in_marks))
-    ∙ ap (fates_of (mark ∷ drop (n + 1) marks)) (line-here lines n lt)
+    rw (drop-next marks n mark in_marks (sym is ∙ get_or_default marks n false mark in_marks), line-here lines n lt)
 
 pub look-marked : (marks : List Bool) (lines : List (Line Placed)) (n : ℕ) (lost : Bool) → length marks ≡ length lines
     → n < length lines → get_or marks n false ≡ true
     → empties lost (fates_of (drop n marks) (drop n lines)) ≡ empties true (fates_of (drop (n + 1) marks) (drop (n + 1) lines))
-look-marked marks lines n lost even lt is = ap (empties lost) (fates-here marks lines n true even lt is)
+look-marked marks lines n lost even lt is = ap (empties lost) (fates-here marks lines n even lt is)
 
 pub look-blank : (marks : List Bool) (lines : List (Line Placed)) (n : ℕ) (lost : Bool) → length marks ≡ length lines
     → n < length lines → get_or marks n false ≡ false
-    → is_blank_source_line (line_at lines n) ≡ true → empties lost (fates_of (drop n marks) (drop n lines))
+    → is_blank_line (plain (line_at lines n)) ≡ true → empties lost (fates_of (drop n marks) (drop n lines))
     ≡ empties lost (fates_of (drop (n + 1) marks) (drop (n + 1) lines))
-look-blank marks lines n lost even lt is blank = ap (empties lost) (fates-here marks lines n false even lt is)
-    ∙ empties-blank lost (line_at lines n) (fates_of (drop (n + 1) marks) (drop (n + 1) lines)) blank
+look-blank marks lines n lost even lt is blank = rw (fates-here marks lines n even lt is) (empties-blank lost (line_at lines n) _ blank)
 
 -- ---- no line with a mark
 
@@ -200,15 +178,15 @@ none-marked [] [] even none = refl
 none-marked [] (line ∷ lines) even none = absurd (omega (arith, even))
 none-marked (mark ∷ marks) [] even none = absurd (omega (arith, even))
 none-marked (true ∷ marks) (line ∷ lines) even none = absurd cc
-none-marked (false ∷ marks) (line ∷ lines) even none = ap (λ (fs : List Fate). Some line ∷ fs) (none-marked marks lines (omega (arith, even)) none)
+none-marked (false ∷ marks) (line ∷ lines) even none = rw (none-marked marks lines (omega (arith, even)) none)
 
 kept-all : (lines : List (Line Placed)) → kept_lines (all_stay lines) ≡ lines
 kept-all [] = refl
-kept-all (line ∷ lines) = ap (λ (ls : List (Line Placed)). line ∷ ls) (kept-all lines)
+kept-all (line ∷ lines) = rw (kept-all lines)
 
 pub all-kept : (marks : List Bool) (lines : List (Line Placed)) → length marks ≡ length lines
     → list_any (λ mark. mark) marks ≡ false → lines ≡ remaining (fates_of marks lines)
-all-kept marks lines even none = sym (ap remaining (none-marked marks lines even none) ∙ all-lines-stay lines)
+all-kept marks lines even none = rw (none-marked marks lines even none) (sym (all-lines-stay lines))
 
 -- ---- one line with a mark
 
@@ -223,7 +201,7 @@ first-is [] = refl
 first-is (true ∷ marks) = refl
 first-is (false ∷ marks) =
     let more : 1 + prefix_len (λ mark. not mark) marks ≡ suc (prefix_len (λ mark. not mark) marks) = omega arith in
-    ap (λ (n : ℕ). length (take n (false ∷ marks))) more ∙ ap suc (first-is marks)
+    rw (more, first-is marks)
 
 -- if no line after the first with a mark has one, that line alone goes
 pub one-removed : (marks : List Bool) (lines : List (Line Placed)) → length marks ≡ length lines
@@ -231,28 +209,22 @@ pub one-removed : (marks : List Bool) (lines : List (Line Placed)) → length ma
     → take (first_of marks) lines ++ drop (suc (first_of marks)) lines ≡ kept_lines (fates_of marks lines)
 one-removed [] lines even lt none = absurd (omega (arith, lt))
 one-removed (mark ∷ marks) [] even lt none = absurd (omega (arith, even))
-one-removed (true ∷ marks) (line ∷ lines) even lt none = sym (ap kept_lines (none-marked marks lines (omega (arith, even)) none) ∙ kept-all lines)
-one-removed (false ∷ marks) (line ∷ lines) even lt none =
-    ap (λ (ls : List (Line Placed)). line ∷ ls) (one-removed marks lines (omega (arith, even)) (omega (arith, lt)) none)
+one-removed (true ∷ marks) (line ∷ lines) even lt none = rw (none-marked marks lines (omega (arith, even)) none) (sym (kept-all lines))
+one-removed (false ∷ marks) (line ∷ lines) even lt none = rw (one-removed marks lines (omega (arith, even)) (omega (arith, lt)) none)
 
-pub removed-is : (marks : List Bool) (lines : List (Line Placed)) (n : ℕ) → length marks ≡ length lines
+pub removed-is : (marks : List Bool) (lines : List (Line Placed)) {n : ℕ} → length marks ≡ length lines
     → n ≡ length (take_while (λ mark. not mark) marks) → n < length marks
     → list_any (λ mark. mark) (take (length marks - (n + 1)) (drop (n + 1) marks)) ≡ false
     → take n lines ++ drop (n + 1) lines ≡ kept_lines (fates_of marks lines)
-removed-is marks lines n even is lt none =
+removed-is marks lines {n} even is lt none =
     let first : n ≡ first_of marks = is ∙ first-is marks in
     let next : n + 1 ≡ suc (first_of marks) = omega (arith, first) in
-    let rest : list_any (λ mark. mark) (drop (suc (first_of marks)) marks) ≡ false =
-    ap (λ (k : ℕ). list_any (λ mark. mark) (drop k marks)) (sym next)
-    ∙ ap (list_any (λ mark. mark)) (sym (rest-of marks (n + 1))) ∙ none in
-    ap (λ (k : ℕ). take k lines ++ drop (n + 1) lines) first
-    ∙ ap (λ (k : ℕ). take (first_of marks) lines ++ drop k lines) next
-    ∙ one-removed marks lines even (omega (arith, first, lt)) rest
+    rw (next, first) (one-removed marks lines even (omega (arith, first, lt)) (rw (rest-of marks (n + 1), next) at none))
 
 -- ---- all of it
 
-pub pack-is : (marks widened slice : List Bool) (lines : List (Line Placed)) → slice ≡ widened
+pub pack-is : (marks : List Bool) {widened slice : List Bool} (lines : List (Line Placed)) → slice ≡ widened
     → fates_of widened lines ≡ widened_from None false (fates_of marks lines)
     → kept_lines (fates_of slice lines) ≡ remaining (fates_of marks lines)
 unfolding remaining
-pack-is marks widened slice lines same are = ap (λ (ms : List Bool). kept_lines (fates_of ms lines)) same ∙ ap kept_lines are
+pack-is marks lines same are = rw (same, are)

@@ -69,13 +69,13 @@ block-plain block (Open verb suffix) = refl
 block-plain block (Close suffix) = refl
 block-plain block (Entry words suffix) = refl
 
-inside-plain : (inside : Bool) (block : Option Placed) (line : Line Placed) → inside ≡ is_some block
+inside-plain : {inside : Bool} (block : Option Placed) (line : Line Placed) → inside ≡ is_some block
     → inside_after inside (plain line) ≡ is_some (block_after_line block line)
-inside-plain inside block Blank e = e
-inside-plain inside block (Comment text) e = e
-inside-plain inside block (Open verb suffix) e = refl
-inside-plain inside block (Close suffix) e = refl
-inside-plain inside block (Entry words suffix) e = e
+inside-plain block Blank e = e
+inside-plain block (Comment text) e = e
+inside-plain block (Open verb suffix) e = refl
+inside-plain block (Close suffix) e = refl
+inside-plain block (Entry words suffix) e = e
 
 abbrev AreAlone : Option Word → List (Line Word) → Type 0
 AreAlone block lines = AllByRecursion IsRightAlone (with_blocks_from block lines)
@@ -84,58 +84,55 @@ plain-held : (block : Option Placed) (lines : List (Line Placed))
     → filter_map (directive_said Strict) (with_blocks_from (option_map word_of block) (plain_lines lines))
     ≡ held_in (with_blocks_from block lines)
 plain-held block [] = refl
-plain-held block (line ∷ lines) =
-    ap (λ (b : Option Word). cons_option (directive_at block line)
-    (filter_map (directive_said Strict) (with_blocks_from b (plain_lines lines)))) (block-plain block line)
-    ∙ ap (cons_option (directive_at block line)) (plain-held (block_after_line block line) lines)
+plain-held block (line ∷ lines) = rw (block-plain block line, plain-held (block_after_line block line) lines)
 
 -- the directives of a file
 pub file-held : (lines : List (Line Placed)) → directives Strict (plain_lines lines) ≡ held_from None lines
 file-held lines = plain-held None lines
 
-right-lines : (inside : Bool) (block : Option Placed) (lines : List (Line Placed)) → inside ≡ is_some block
+right-lines : {inside : Bool} (block : Option Placed) (lines : List (Line Placed)) → inside ≡ is_some block
     → AreValidFrom inside (plain_lines lines) → inside_after_all inside (plain_lines lines) ≡ false
     → AreAlone (option_map word_of block) (plain_lines lines) → AreRightFrom block lines × (block_after_lines block lines ≡ None)
-right-lines inside block [] at stand ends alone = (tt, none-open block (sym at ∙ ends))
-right-lines inside block (line ∷ lines) at stand ends alone =
-    let rest = right-lines (inside_after inside (plain line)) (block_after_line block line) lines (inside-plain inside block line at) stand.1 ends
-    (subst (λ (b : Option Word). AreAlone b (plain_lines lines)) (block-plain block line) alone.1) in
-    (((subst (λ (b : Bool). IsValidLine b (plain line)) at stand.0, alone.0), rest.0), rest.1)
+right-lines block [] same stand ends alone = (tt, none-open block (sym same ∙ ends))
+right-lines {inside} block (line ∷ lines) same stand ends alone =
+    let rest = right-lines (block_after_line block line) lines (inside-plain block line same) stand.1 ends
+    (rw (block-plain block line) at alone.1) in
+    (((rw same at stand.0, alone.0), rest.0), rest.1)
 
-lines-right : (inside : Bool) (block : Option Placed) (lines : List (Line Placed)) → inside ≡ is_some block
+lines-right : {inside : Bool} (block : Option Placed) (lines : List (Line Placed)) → inside ≡ is_some block
     → AreRightFrom block lines → block_after_lines block lines ≡ None
     → (AreValidFrom inside (plain_lines lines) × (inside_after_all inside (plain_lines lines) ≡ false))
     × AreAlone (option_map word_of block) (plain_lines lines)
-lines-right inside block [] at right closed = ((tt, at ∙ ap is_some closed), tt)
-lines-right inside block (line ∷ lines) at right closed =
-    let rest = lines-right (inside_after inside (plain line)) (block_after_line block line) lines (inside-plain inside block line at) right.1 closed in (
-      ((subst (λ (b : Bool). IsValidLine b (plain line)) (sym at) right.0.0, rest.0.0), rest.0.1),
-      (right.0.1, subst (λ (b : Option Word). AreAlone b (plain_lines lines)) (sym (block-plain block line)) rest.1),
+lines-right block [] same right closed = ((tt, same ∙ ap is_some closed), tt)
+lines-right {inside} block (line ∷ lines) same right closed =
+    let rest = lines-right (block_after_line block line) lines (inside-plain block line same) right.1 closed in (
+      ((rw same right.0.0, rest.0.0), rest.0.1),
+      (right.0.1, rw (block-plain block line) rest.1),
     )
 
 pub document-sound : (lines : List (Line Placed)) → IsDocument (plain_lines lines) → fault_of Strict (plain_lines lines) ≡ None → IsSound lines
 document-sound lines document none =
     let are : AreRightApart (with_blocks (plain_lines lines)) = faultless-apart (plain_lines lines) none in
     let stand = lines_stand start (plain_lines lines) document in
-    let right = right-lines false None lines refl stand.0 stand.1 are.alone in
+    let right = right-lines None lines refl stand.0 stand.1 are.alone in
     record {
       lines_are = record {
         right = right.0;
-        apart = subst AreApart (plain-held None lines) are.apart;
-        declared = sym (ap (list_any is_module) (plain-held None lines)) ∙ are.declared;
+        apart = rw (plain-held None lines) at are.apart;
+        declared = rw (plain-held None lines) at are.declared;
       };
       closed = right.1;
     }
 
-pub sound-document : (lines : List (Line Placed)) → IsSound lines → IsDocument (plain_lines lines) × (fault_of Strict (plain_lines lines) ≡ None)
-sound-document lines sound =
+pub sound-document : {lines : List (Line Placed)} → IsSound lines → IsDocument (plain_lines lines) × (fault_of Strict (plain_lines lines) ≡ None)
+sound-document {lines} sound =
     let are = sound.lines_are in
-    let plain_right = lines-right false None lines refl are.right sound.closed in (
+    let plain_right = lines-right None lines refl are.right sound.closed in (
       standing_lines start (plain_lines lines) plain_right.0.0 plain_right.0.1,
       apart-faultless (plain_lines lines) (record {
         alone = plain_right.1;
-        apart = subst AreApart (sym (plain-held None lines)) are.apart;
-        declared = ap (list_any is_module) (plain-held None lines) ∙ are.declared;
+        apart = rw (plain-held None lines) are.apart;
+        declared = rw (plain-held None lines) are.declared;
       }),
     )
 
@@ -164,12 +161,11 @@ pub with-line : (xs : List Seat) (seat : Seat) (ys : List Seat) → IsRightLine 
     → IsClear (held_at seat) (held_in xs ++ held_in ys) → AreSound (xs ++ ys) → AreSound (xs ++ seat ∷ ys)
 with-line xs seat ys right clear are =
     let without : held_in (xs ++ ys) ≡ held_in xs ++ held_in ys = filter_map-append held_at xs ys in
-    let whole : held_in xs ++ cons_option (held_at seat) (held_in ys) ≡ held_in (xs ++ seat ∷ ys) = sym (filter_map-append held_at xs (seat ∷ ys)) in
+    let whole : held_in (xs ++ seat ∷ ys) ≡ held_in xs ++ cons_option (held_at seat) (held_in ys) = filter_map-append held_at xs (seat ∷ ys) in
     record {
       right = right-with xs seat ys right are.right;
-      apart = subst AreApart whole (apart-put (held_in xs) (held_at seat) (held_in ys) clear (subst AreApart without are.apart));
-      declared = sym (ap (list_any is_module) whole) ∙ any-with is_module (held_in xs) (held_at seat) (held_in ys)
-          (sym (ap (list_any is_module) without) ∙ are.declared);
+      apart = rw whole (apart-put (held_in xs) (held_at seat) (held_in ys) clear (rw without at are.apart));
+      declared = rw whole (any-with is_module (held_in xs) (held_at seat) (held_in ys) (rw without at are.declared));
     }
 
 pub block-append : (block : Option Placed) (front back : List (Line Placed))
@@ -187,11 +183,8 @@ put-line front back line right level clear sound =
     let xs : List Seat = with_blocks_from None front in
     let ys : List Seat = with_blocks_from block back in
     let old : with_blocks (front ++ back) ≡ xs ++ ys = with_blocks-snoc None front back in
-    let new : xs ++ (block, line) ∷ ys ≡ with_blocks (front ++ line ∷ back) =
-    ap (λ (b : Option Placed). xs ++ (block, line) ∷ with_blocks_from b back) (sym level) ∙ sym (with_blocks-snoc None front (line ∷ back)) in
+    let new : with_blocks (front ++ line ∷ back) ≡ xs ++ (block, line) ∷ ys = rw level at (with_blocks-snoc None front (line ∷ back)) in
     record {
-      lines_are = subst AreSound new (with-line xs (block, line) ys right
-          (subst (IsClear (directive_at block line)) (ap held_in old ∙ filter_map-append held_at xs ys) clear) (subst AreSound old sound.lines_are));
-      closed = block-append None front (line ∷ back) ∙ ap (λ (b : Option Placed). block_after_lines b back) level
-          ∙ sym (block-append None front back) ∙ sound.closed;
+      lines_are = rw new (with-line xs (block, line) ys right (rw (old, filter_map-append held_at xs ys) at clear) (rw old at sound.lines_are));
+      closed = rw (block-append None front (line ∷ back), level, ← block-append None front back) sound.closed;
     }

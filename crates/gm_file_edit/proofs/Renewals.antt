@@ -56,32 +56,32 @@ unfolding directive_of
 go-says text plain = rw (made-value text plain) refl
 
 -- a directive of one argument
-one-made : (v : Verb) (make : List ℕ → Directive) → ((words : List Word)
+one-made : {v : Verb} (make : List ℕ → Directive) → ((words : List Word)
     → directive_of v words ≡ option_map make (one_of words)) → (text : List ℕ) → HasNoLineFeed text
     → directive_kinds Strict [] (make text) ≡ []
     → (block : Option Placed) (line : Line Placed) (d : Directive) → directive_at block line ≡ Some d
     → verb_of_directive d ≡ v → IsValidLine (is_some block) (plain line)
     → IsMadeNew (make text) block (with_last text block line)
-one-made v make reads text plain kinds block line d held named stands =
-    let by = held-by block line d held in
+one-made {v} make reads text plain kinds block line d held named stands =
+    let by = held-by block line held in
     let verb : main_verb by.verb ≡ v = sym (directive-verb (main_verb by.verb) (words_of by.arguments) d by.says) ∙ named in
     let said : directive_of v (words_of by.arguments) ≡ Some d = rw verb at by.says in
-    let one = map-some make (one_of (words_of by.arguments)) d (sym (reads (words_of by.arguments)) ∙ said) in
-    let a = one-argument by.arguments one.0 one.1 in
+    let one = map-some make (one_of (words_of by.arguments)) (sym (reads (words_of by.arguments)) ∙ said) in
+    let a = one-argument by.arguments one.1 in
     let is : line ≡ Entry (by.front ++ a.0 ∷ []) by.suffix = by.is ∙ ap (λ (ws : List Placed). Entry (by.front ++ ws) by.suffix) a.1 in
-    entry-made (make text) d block line (with_last text block line) by (made_word text ∷ [])
+    entry-made by
     (ap (with_last text block) is ∙ last-replaced text block by.front a.0 by.suffix) stands (one-are text plain)
     (ap (λ (x : Verb). directive_of x (words_of (made_word text ∷ []))) verb ∙ reads (words_of (made_word text ∷ []))
     ∙ ap (option_map make) (made-value text plain)) kinds
 
 module-made : (path : List ℕ) → is_path path ≡ true → Makes is_module (DeclaresModule path) (with_last path)
 unfolding directive_of
-module-made path h = λ block line d held e stands. one-made ForModule DeclaresModule (λ words. refl) path
+module-made path h = λ block line d held e stands. one-made DeclaresModule (λ words. refl) path
     (path-feed path h) (module-kinds path h) block line d held (about-verb (Set (ModuleIs path)) d e) stands
 
 go-made : (text : List ℕ) → is_some (strict_go text) ≡ true → Makes is_go (DeclaresGo text) (with_last text)
 unfolding directive_of
-go-made text h = λ block line d held e stands. one-made ForGo DeclaresGo (λ words. refl) text (go-feed text h)
+go-made text h = λ block line d held e stands. one-made DeclaresGo (λ words. refl) text (go-feed text h)
     (go-kinds text h) block line d held (about-verb (Set (GoIs text)) d e) stands
 
 -- ---- a requirement
@@ -100,7 +100,7 @@ require-says a p is plain = rw (is, made-value p.1 plain) refl
 
 held-pair : (words : List Word) (p : ModuleVersion) → directive_of ForRequire words ≡ Some (Requires p) → pair_of words ≡ Some p
 unfolding directive_of
-held-pair words p e = let m = map-some Requires (pair_of words) (Requires p) e in let same : m.0 ≡ p = cc in m.1 ∙ ap Some same
+held-pair words p e = let m = map-some Requires (pair_of words) e in let same : m.0 ≡ p = cc in m.1 ∙ ap Some same
 
 -- the words of an existing line are valid words
 kept-word : (block : Option Placed) (verb : List ℕ) (front others : List Placed) (suffix : Option (List ℕ)) (a : Placed)
@@ -121,14 +121,14 @@ require-made : (p : ModuleVersion) → IsPairOfNames p → does_fit p.0 p.1 ≡ 
     → IsMadeNew (Requires p) block (with_last p.1 block line)
 require-made p names fit block line (Requires q) held e stands =
     let plain_version = version-feed p.1 names.1 in
-    let by = held-by block line (Requires q) held in
+    let by = held-by block line held in
     let verb : main_verb by.verb ≡ ForRequire = sym (directive-verb (main_verb by.verb) (words_of by.arguments) (Requires q) by.says) in
     let two = two-arguments by.arguments q (held-pair (words_of by.arguments) q (rw verb at by.says)) in
     let same : q.0 ≡ p.0 = (bytes_eq-Decides q.0 p.0).0 e in
     let path : argument two.0.word ≡ Some p.0 = two.3 ∙ ap Some same in
     let is : line ≡ Entry (by.front ++ two.0 ∷ two.1 ∷ []) by.suffix = by.is ∙ ap (λ (ws : List Placed). Entry (by.front ++ ws) by.suffix) two.2 in
     let word : IsWord two.0.word = kept-word block by.verb by.front (two.1 ∷ []) by.suffix two.0 line by.at is stands in
-    entry-made (Requires p) (Requires q) block line (with_last p.1 block line) by (two.0 ∷ made_word p.1 ∷ [])
+    entry-made by
     (ap (with_last p.1 block) (is ∙ ap (λ (ws : List Placed). Entry ws by.suffix)
     (sym (append_assoc by.front (two.0 ∷ []) (two.1 ∷ []))))
     ∙ last-replaced p.1 block (by.front ++ two.0 ∷ []) two.1 by.suffix
@@ -233,10 +233,10 @@ replace-made : (r : Replacing) → IsSoundLeft r.0 → IsSoundRight r.1 → does
     → directive_at block line ≡ Some d → is_replaced_by r.0 d ≡ true → IsValidLine (is_some block) (plain line)
     → IsMadeNew (Replaces r) block (with_arguments (replace_words r) block line)
 replace-made r left right fit block line (Replaces q) held e stands =
-    let by = held-by block line (Replaces q) held in
+    let by = held-by block line held in
     let verb : main_verb by.verb ≡ ForReplace = sym (directive-verb (main_verb by.verb) (words_of by.arguments) (Replaces q) by.says) in
-    entry-made (Replaces r) (Replaces q) block line (with_arguments (replace_words r) block line) by (replace_words r)
-    (all-arguments block by.verb by.front by.arguments line by.suffix (replace_words r) by.at by.is) stands
+    entry-made by
+    (all-arguments block by.verb by.front by.arguments by.suffix (replace_words r) by.at by.is) stands
     (replace-are r left right) (rw verb (replace-says r left right))
     (replace-kinds r left right fit)
 replace-made r left right fit block line d held e stands = absurd cc

@@ -45,17 +45,13 @@ left-held fates = fewer-held (remaining-left fates).0
 dropping-held : (test : Directive → Bool) (block : Option Placed) (lines : List (Line Placed))
     → held_from block (kept_lines (dropping_from test block lines)) ≡ filter (others test) (held_from block lines)
 dropping-held test block [] = refl
-dropping-held test block (line ∷ lines) =
-    let behind : Option Placed = block_after_line block line in
-    let rest : List Directive = held_from behind lines in
-    elim (cases_Bool (passes test (directive_at block line))) [
-      | inl holds ↦
-          rw holds (ap (λ (b : Option Placed). held_from b (kept_lines (dropping_from test behind lines)))
-          (sym (passing-level test block line holds)) ∙ dropping-held test behind lines
-          ∙ sym (gone-held test (directive_at block line) rest holds))
-      | inr fails ↦ rw fails (ap (cons_option (directive_at block line)) (dropping-held test behind lines)
-          ∙ sym (stay-held test (directive_at block line) rest fails))
-    ]
+dropping-held test block (line ∷ lines) = elim (cases_Bool (passes test (directive_at block line))) [
+  | inl holds ↦ rw (holds, passing-level test block line holds)
+      (dropping-held test block lines ∙ sym (gone-held test (directive_at block line) (held_from block lines) holds))
+  | inr fails ↦
+      let behind : Option Placed = block_after_line block line in
+      rw (fails, dropping-held test behind lines) (sym (stay-held test (directive_at block line) (held_from behind lines) fails))
+]
 
 -- a drop leaves exactly the other directives
 pub dropped-held : (test : Directive → Bool) (lines : List (Line Placed))
@@ -68,9 +64,9 @@ pub held-some : (test : Directive → Bool) (held : Option Directive) → passes
 held-some test None e = absurd cc
 held-some test (Some d) e = (d, refl, e)
 
-made-held : (said : Directive) (block : Option Placed) (next : Line Placed) (back : List (Line Placed))
+made-held : {said : Directive} {block : Option Placed} {next : Line Placed} (back : List (Line Placed))
     → IsMadeNew said block next → held_from block (next ∷ back) ≡ said ∷ held_from block back
-made-held said block next back made =
+made-held {block} back made =
     ap (λ (l : Line Placed). held_from block (l ∷ back)) made.is_entry ∙ ap (λ (o : Option Directive). cons_option o (held_from block back)) made.holds
 
 -- the first matching entry is rewritten, and the later ones are removed
@@ -81,10 +77,8 @@ first-held : (test : Directive → Bool) (said : Directive) (make : Option Place
     ∷ filter (others test) (held_from (block_after_line block line) lines)
 first-held test said make makes block line lines holds stands =
     let h = held-some test (directive_at block line) holds in
-    let behind : Option Placed = block_after_line block line in
-    made-held said block (make block line) (kept_lines (dropping_from test behind lines)) (makes block line h.0 h.1 h.2 stands)
-    ∙ ap (λ (b : Option Placed). said ∷ held_from b (kept_lines (dropping_from test behind lines))) (sym (passing-level test block line holds))
-    ∙ ap (λ (ds : List Directive). said ∷ ds) (dropping-held test behind lines)
+    rw (passing-level test block line holds)
+    (made-held (kept_lines (dropping_from test block lines)) (makes block line h.0 h.1 h.2 stands) ∙ rw (dropping-held test block lines))
 
 module _ (test : Directive → Bool) (said : Directive) (make : Option Placed → Line Placed → Line Placed)
     (own : test said ≡ true) (makes : Makes test said make) where
@@ -122,13 +116,12 @@ module _ (test : Directive → Bool) (said : Directive) (make : Option Placed �
       ]
 
   pub renewed-others : (lines : List (Line Placed)) → IsSound lines
-      → filter (others test) (held_from None (with_renewal test make lines))
-      ≡ filter (others test) (held_from None lines)
-  renewed-others lines sound = ap (filter (others test)) (left-held (renewing_from test make None lines)) ∙ renewing-others None lines sound.lines_are.right
+      → filter (others test) (held_from None (with_renewal test make lines)) ≡ filter (others test) (held_from None lines)
+  renewed-others lines sound = rw (left-held (renewing_from test make None lines)) (renewing-others None lines sound.lines_are.right)
 
   pub renewed-alone : (lines : List (Line Placed)) → IsSound lines → is_there test None lines ≡ true
       → filter test (held_from None (with_renewal test make lines)) ≡ said ∷ []
-  renewed-alone lines sound there = ap (filter test) (left-held (renewing_from test make None lines)) ∙ renewing-alone None lines sound.lines_are.right there
+  renewed-alone lines sound there = rw (left-held (renewing_from test make None lines)) (renewing-alone None lines sound.lines_are.right there)
 
 -- ---- what is said after an entry is put in
 
@@ -139,9 +132,9 @@ pub record IsPutIn (new : Directive) (before after : List Directive) : Type 0 wh
   pub was : before ≡ front ++ back
   pub is : after ≡ front ++ new ∷ back
 
-fits-held : (new : Directive) (block : Option Placed) (line : Line Placed) (back : List (Line Placed))
+fits-held : (new : Directive) {block : Option Placed} {line : Line Placed} (back : List (Line Placed))
     → Fits block new line → held_from block (line ∷ back) ≡ new ∷ held_from block back
-fits-held new block line back fits =
+fits-held new {block} {line} back fits =
     ap (λ (o : Option Directive). cons_option o (held_from (block_after_line block line) back)) fits.holds
     ∙ ap (λ (b : Option Placed). new ∷ held_from b back) fits.level
 
@@ -150,10 +143,10 @@ unfolding item_at
 gap-held true block back = refl
 gap-held false block back = refl
 
-pub into-said : (v : List ℕ) (arguments : List Placed) (new : Directive) (lines after : List (Line Placed))
+pub into-said : {v : List ℕ} {arguments : List Placed} (new : Directive) {lines after : List (Line Placed)}
     → IsAddition v arguments new → IsSound lines → IsPutInto v arguments lines after
     → IsPutIn new (held_from None lines) (held_from None after)
-into-said v arguments new lines after so sound put =
+into-said {v} {arguments} new so sound put =
     let block : Option Placed = block_after_lines None put.front in
     let entry : Line Placed = entry_at put.inside v arguments in
     record {
@@ -163,22 +156,24 @@ into-said v arguments new lines after so sound put =
       is =
           ap (held_from None) put.is ∙ held-append None put.front (gap_lines put.gap ++ entry ∷ put.back)
           ∙ ap (λ (ds : List Directive). held_from None put.front ++ ds)
-          (gap-held put.gap block (entry ∷ put.back) ∙ fits-held new block entry put.back
-          (into-fits v arguments new block put.inside so (put.fits sound.closed)));
+          (gap-held put.gap block (entry ∷ put.back) ∙ fits-held new put.back
+          (into-fits v block put.inside so (put.fits sound.closed)));
     }
 
-pub put-others : (test : Directive → Bool) (new : Directive) (before after : List Directive) → test new ≡ true
+pub put-others : (test : Directive → Bool) {new : Directive} {before after : List Directive} → test new ≡ true
     → IsPutIn new before after → filter (others test) after ≡ filter (others test) before
-put-others test new before after own put =
-    ap (filter (others test)) put.is ∙ filter-append (others test) put.front (new ∷ put.back)
-    ∙ ap (λ (ds : List Directive). filter (others test) put.front ++ ds) (filter-none (others test) new put.back (ap not own))
-    ∙ sym (ap (filter (others test)) put.was ∙ filter-append (others test) put.front put.back)
+put-others test {new} own put = rw (
+  put.is,
+  put.was,
+  filter-append (others test) put.front (new ∷ put.back),
+  filter-append (others test) put.front put.back,
+  filter-none (others test) new put.back (ap not own),
+)
 
-pub put-alone : (test : Directive → Bool) (new : Directive) (before after : List Directive) → test new ≡ true
+pub put-alone : (test : Directive → Bool) (new : Directive) {before after : List Directive} → test new ≡ true
     → list_any test before ≡ false → IsPutIn new before after → filter test after ≡ new ∷ []
-put-alone test new before after own none put =
+put-alone test new {before} own none put =
     let nothing : filter test put.front ++ filter test put.back ≡ [] =
-    sym (filter-append test put.front put.back) ∙ ap (filter test) (sym put.was) ∙ no-filter test before none in
+    rw (put.was, filter-append test put.front put.back) at (no-filter test before none) in
     let parts = nil-parts (filter test put.front) (filter test put.back) nothing in
-    ap (filter test) put.is ∙ filter-append test put.front (new ∷ put.back) ∙ ap (λ (ds : List Directive). ds ++ filter test (new ∷ put.back)) parts.0
-    ∙ filter-one test new put.back own ∙ ap (λ (ds : List Directive). new ∷ ds) parts.1
+    rw (put.is, filter-append test put.front (new ∷ put.back), parts.0, filter-one test new put.back own, parts.1)

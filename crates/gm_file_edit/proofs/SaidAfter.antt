@@ -35,91 +35,90 @@ module-there P lines sound none = absurd (true≢false (sym sound.lines_are.decl
 -- ---- if no entry is targeted
 
 -- what an operation puts in if it targets no line
-puts : (lines : List (Line Placed)) → IsSound lines → (edit : Edit) (new : Directive) → put_by edit ≡ Some new
+puts : {lines : List (Line Placed)} → IsSound lines → (edit : Edit) (new : Directive) → put_by edit ≡ Some new
     → IsSoundEdit edit → is_there (about edit) None lines ≡ false
     → IsPutIn new (held_from None lines) (held_from None (put_in edit lines))
-puts lines sound edit = by-put (λ edit after. (new : Directive) → put_by edit ≡ Some new → IsSoundEdit edit
+puts {lines} sound edit = by-put (λ edit after. (new : Directive) → put_by edit ≡ Some new → IsSoundEdit edit
     → is_there (about edit) None lines ≡ false → IsPutIn new (held_from None lines) (held_from None after)) lines
     (λ path new put good none. module-there _ lines sound none)
     (λ edit entry after is into new put good none.
     let by = says edit entry is good in
-    into-said entry.0 entry.1 new lines after (subst (IsAddition entry.0 entry.1) (same_Some _ _ (sym by.put ∙ put)) by.is) sound into)
+    into-said new (subst (IsAddition entry.0 entry.1) (same_Some _ _ (sym by.put ∙ put)) by.is) sound into)
     (λ t new put good none. absurd cc) edit
 
 -- ---- what an operation doesn't target
 
-drop-others : (test : Directive → Bool) (lines : List (Line Placed)) (after : List Directive)
+drop-others : (test : Directive → Bool) (lines : List (Line Placed)) {after : List Directive}
     → after ≡ filter (others test) (held_from None lines)
     → filter (others test) after ≡ filter (others test) (held_from None lines)
-drop-others test lines after is = ap (filter (others test)) is ∙ others-twice test (held_from None lines)
+drop-others test lines is = ap (filter (others test)) is ∙ others-twice test (held_from None lines)
 
-changed-others : (edit : Edit) (lines : List (Line Placed)) → IsSoundEdit edit → is_fit edit ≡ true → IsSound lines
+changed-others : (edit : Edit) {lines : List (Line Placed)} → IsSoundEdit edit → is_fit edit ≡ true → IsSound lines
     → filter (others (about edit)) (held_from None (with_change edit lines)) ≡ filter (others (about edit)) (held_from None lines)
 unfolding with_change
-changed-others (Set s) lines good fit sound = let by = renewal s good fit in
+changed-others (Set s) {lines} good fit sound = let by = renewal s good fit in
     renewed-others (about (Set s)) (directive_set s) (made_new (Set s)) by.wanted.own by.made lines sound
-changed-others (Add a) lines good fit sound = refl
-changed-others (Drop t) lines good fit sound = drop-others (about (Drop t)) lines _ (dropped-held (about (Drop t)) lines)
+changed-others (Add a) good fit sound = refl
+changed-others (Drop t) {lines} good fit sound = drop-others (about (Drop t)) lines (dropped-held (about (Drop t)) lines)
 
-put-in-others : (edit : Edit) (lines : List (Line Placed)) → IsSoundEdit edit → is_fit edit ≡ true → IsSound lines → is_there (about edit) None lines ≡ false
+put-in-others : (edit : Edit) {lines : List (Line Placed)} → IsSoundEdit edit → is_fit edit ≡ true → IsSound lines → is_there (about edit) None lines ≡ false
     → filter (others (about edit)) (held_from None (put_in edit lines)) ≡ filter (others (about edit)) (held_from None lines)
 unfolding put_in
-put-in-others (Drop t) lines good fit sound none = refl
-put-in-others (Set s) lines good fit sound none = put-others (about (Set s)) (directive_set s) (held_from None lines) _
-    (wanted (Set s) _ refl good fit).own (puts lines sound (Set s) _ refl good none)
-put-in-others (Add a) lines good fit sound none = put-others (about (Add a)) (directive_added a) (held_from None lines)
-    _ (wanted (Add a) _ refl good fit).own (puts lines sound (Add a) _ refl good none)
+put-in-others (Drop t) good fit sound none = refl
+put-in-others (Set s) good fit sound none = put-others (about (Set s))
+    (wanted (Set s) _ refl good fit).own (puts sound (Set s) _ refl good none)
+put-in-others (Add a) good fit sound none = put-others (about (Add a)) (wanted (Add a) _ refl good fit).own (puts sound (Add a) _ refl good none)
 
 others-after : (edit : Edit) (lines : List (Line Placed)) → IsSoundEdit edit → is_fit edit ≡ true → IsSound lines
     → filter (others (about edit)) (held_from None (lines_after edit lines)) ≡ filter (others (about edit)) (held_from None lines)
 others-after edit lines good fit sound = by-edited (λ after.
     filter (others (about edit)) (held_from None after) ≡ filter (others (about edit)) (held_from None lines)) edit
     lines
-    (λ there. changed-others edit lines good fit sound) (λ none. put-in-others edit lines good fit sound none)
+    (λ there. changed-others edit good fit sound) (λ none. put-in-others edit good fit sound none)
 
 -- ---- what an operation sets
 
-changed-alone : (edit : Edit) (lines : List (Line Placed)) (d : Directive) → IsSoundEdit edit → is_fit edit ≡ true
+changed-alone : (edit : Edit) {lines : List (Line Placed)} {d : Directive} → IsSoundEdit edit → is_fit edit ≡ true
     → IsSound lines → is_there (about edit) None lines ≡ true → set_by edit ≡ Some d
     → filter (about edit) (held_from None (with_change edit lines)) ≡ d ∷ []
 unfolding with_change
-changed-alone (Set s) lines d good fit sound there e =
+changed-alone (Set s) {lines} good fit sound there e =
     let by = renewal s good fit in
     renewed-alone (about (Set s)) (directive_set s) (made_new (Set s)) by.wanted.own by.made lines sound there
     ∙ ap (λ (x : Directive). x ∷ []) (same_Some _ _ e)
-changed-alone (Add a) lines d good fit sound there e = absurd cc
-changed-alone (Drop t) lines d good fit sound there e = absurd cc
+changed-alone (Add a) good fit sound there e = absurd cc
+changed-alone (Drop t) good fit sound there e = absurd cc
 
 -- what is put in is the only directive that is then targeted
-put-in-once : (edit : Edit) (lines : List (Line Placed)) (d : Directive) → IsSoundEdit edit → is_fit edit ≡ true
+put-in-once : (edit : Edit) {lines : List (Line Placed)} (d : Directive) → IsSoundEdit edit → is_fit edit ≡ true
     → IsSound lines → is_there (about edit) None lines ≡ false → put_by edit ≡ Some d
     → filter (about edit) (held_from None (put_in edit lines)) ≡ d ∷ []
-put-in-once edit lines d good fit sound none e =
-    put-alone (about edit) d (held_from None lines) _ (wanted edit d e good fit).own
-    (sym (there-is (about edit) None lines) ∙ none) (puts lines sound edit d e good none)
+put-in-once edit {lines} d good fit sound none e =
+    put-alone (about edit) d (wanted edit d e good fit).own
+    (sym (there-is (about edit) None lines) ∙ none) (puts sound edit d e good none)
 
-pub set-put : (edit : Edit) (d : Directive) → set_by edit ≡ Some d → put_by edit ≡ Some d
-set-put (Set s) d e = e
-set-put (Add a) d e = absurd cc
-set-put (Drop t) d e = absurd cc
+pub set-put : (edit : Edit) {d : Directive} → set_by edit ≡ Some d → put_by edit ≡ Some d
+set-put (Set s) e = e
+set-put (Add a) e = absurd cc
+set-put (Drop t) e = absurd cc
 
-added-put-by : (edit : Edit) (d : Directive) → added_by edit ≡ Some d → put_by edit ≡ Some d
-added-put-by (Add a) d e = e
-added-put-by (Set s) d e = absurd cc
-added-put-by (Drop t) d e = absurd cc
+added-put-by : (edit : Edit) {d : Directive} → added_by edit ≡ Some d → put_by edit ≡ Some d
+added-put-by (Add a) e = e
+added-put-by (Set s) e = absurd cc
+added-put-by (Drop t) e = absurd cc
 
 alone-after : (edit : Edit) (lines : List (Line Placed)) (d : Directive) → IsSoundEdit edit → is_fit edit ≡ true → IsSound lines → set_by edit ≡ Some d
     → filter (about edit) (held_from None (lines_after edit lines)) ≡ d ∷ []
 alone-after edit lines d good fit sound e = by-edited (λ after. filter (about edit) (held_from None after) ≡ d ∷ []) edit lines
-    (λ there. changed-alone edit lines d good fit sound there e) (λ none. put-in-once edit lines d good fit sound none (set-put edit d e))
+    (λ there. changed-alone edit good fit sound there e) (λ none. put-in-once edit d good fit sound none (set-put edit e))
 
 -- ---- what an operation adds
 
-pub addition-changes-nothing : (edit : Edit) (lines : List (Line Placed)) (d : Directive) → added_by edit ≡ Some d → with_change edit lines ≡ lines
+pub addition-changes-nothing : (edit : Edit) (lines : List (Line Placed)) {d : Directive} → added_by edit ≡ Some d → with_change edit lines ≡ lines
 unfolding with_change
-addition-changes-nothing (Add a) lines d e = refl
-addition-changes-nothing (Set s) lines d e = absurd cc
-addition-changes-nothing (Drop t) lines d e = absurd cc
+addition-changes-nothing (Add a) lines e = refl
+addition-changes-nothing (Set s) lines e = absurd cc
+addition-changes-nothing (Drop t) lines e = absurd cc
 
 abbrev once_or_as_before : Edit → Directive → List Directive → List Directive
 once_or_as_before edit d said = if list_any (about edit) said then filter (about edit) said else d ∷ []
@@ -130,10 +129,10 @@ added-after edit lines d good fit sound e = by-edited (λ after.
     filter (about edit) (held_from None after) ≡ once_or_as_before edit d (held_from None lines)) edit lines
     (λ there.
     let any : list_any (about edit) (held_from None lines) ≡ true = sym (there-is (about edit) None lines) ∙ there in
-    rw any (ap (λ (ls : List (Line Placed)). filter (about edit) (held_from None ls)) (addition-changes-nothing edit lines d e)))
+    rw (any, addition-changes-nothing edit lines e))
     (λ none.
     let absent : list_any (about edit) (held_from None lines) ≡ false = sym (there-is (about edit) None lines) ∙ none in
-    rw absent (put-in-once edit lines d good fit sound none (added-put-by edit d e)))
+    rw absent (put-in-once edit d good fit sound none (added-put-by edit e)))
 
 -- ---- the laws
 
@@ -168,7 +167,7 @@ pub idle-drop : IdleDropChangesNothing
 idle-drop edit lines drop none = edited-drop edit lines drop ∙ none-dropped (about edit) lines (there-said (about edit) lines ∙ none)
 
 pub idle-addition : IdleAdditionChangesNothing
-idle-addition edit lines d adds some = by-edited (λ after. after ≡ lines) edit lines (λ there. addition-changes-nothing edit lines d adds)
+idle-addition edit lines d adds some = by-edited (λ after. after ≡ lines) edit lines (λ there. addition-changes-nothing edit lines adds)
     (λ absent. absurd (true≢false (sym some ∙ sym (there-said (about edit) lines) ∙ absent)))
 
 pub second-drop : SecondDropChangesNothing

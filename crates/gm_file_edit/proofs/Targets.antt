@@ -12,11 +12,11 @@ use Rattle.gm_file_edit.specs.About.{about}
 use Rattle.gm_file_edit.specs.Edits.{Edit, Set, ModuleIs, GoIs, RequireAt, Drop, AnyRequire, Add, Exclude, AnyExclude, ReplaceWith, AnyReplace, Retract, AnyRetract}
 use Rattle.gm_file_edit.specs.Holding.{directive_at, item_of, passes}
 use Rattle.gm_file_edit.specs.Private.Holding.{IsValidAt}
-use Rattle.gm_file_edit.specs.Private.Keys.{target_verb}
+use Rattle.gm_file_edit.specs.Private.Keys.{target_entry}
 
 -- ---- the verb of an operation
 
-pub about-verb : (edit : Edit) (d : Directive) → about edit d ≡ true → verb_of_directive d ≡ target_verb edit
+pub about-verb : (edit : Edit) (d : Directive) → about edit d ≡ true → verb_of_directive d ≡ (target_entry edit).0
 about-verb (Set (ModuleIs path)) d holds = sym (same-verb ForModule (verb_of_directive d) holds)
 about-verb (Set (GoIs text)) d holds = sym (same-verb ForGo (verb_of_directive d) holds)
 about-verb (Set (RequireAt p)) (Requires q) holds = refl
@@ -30,7 +30,7 @@ about-verb (Drop (AnyRetract ends)) (Retracts e) holds = refl
 about-verb edit d holds = absurd cc
 
 -- only an operation on the module targets a directive that declares one
-pub about-module : (edit : Edit) (d : Directive) → about edit d ≡ true → is_module d ≡ verb_eq ForModule (target_verb edit)
+pub about-module : (edit : Edit) (d : Directive) → about edit d ≡ true → is_module d ≡ verb_eq ForModule (target_entry edit).0
 about-module edit d holds = ap (verb_eq ForModule) (about-verb edit d holds)
 
 -- ---- entries of one verb

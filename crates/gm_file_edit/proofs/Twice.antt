@@ -33,83 +33,131 @@ Rewriting = Option Placed → Line Placed → Line Placed
 
 -- ---- lines that an operation has set
 
--- the operation would rewrite this line to itself, if it targets it
-abbrev IsSet : (Directive → Bool) → Rewriting → LineInBlock Placed → Type 0
-IsSet test new seat = passes test (directive_at seat.0 seat.1) ≡ true → new seat.0 seat.1 ≡ seat.1
+-- an entry that is new in its block is rewritten to itself
+abbrev EntryIsSet : Rewriting → List ℕ → List Placed → Type 0
+EntryIsSet new text arguments = (block : Option Placed) → new block (entry_at (is_some block) text arguments) ≡ entry_at (is_some block) text arguments
 
-abbrev AreSet : (Directive → Bool) → Rewriting → List (LineInBlock Placed) → Type 0
-AreSet test new seats = AllByRecursion (IsSet test new) seats
+entry-level : (block : Option Placed) (inside : Bool) (text : List ℕ) (arguments : List Placed)
+    → block_after_line block (entry_at inside text arguments) ≡ block
+entry-level block true text arguments = refl
+entry-level block false text arguments = refl
 
--- the same of lines, given the verb of the block that is open before them
-abbrev LinesAreSet : (Directive → Bool) → Rewriting → Option Placed → List (Line Placed) → Type 0
-LinesAreSet test new block lines = AreSet test new (with_blocks_from block lines)
+rest-none : (test : Directive → Bool) (held : Option Directive) (rest : List Directive) (d : Directive)
+    → passes test held ≡ true → filter test (cons_option held rest) ≡ d ∷ [] → filter test rest ≡ []
+rest-none test None rest d hit e = absurd cc
+rest-none test (Some x) rest d hit e = let more : x ∷ filter test rest ≡ d ∷ [] = rw hit at e in cc more
 
-set-append : (test : Directive → Bool) (new : Rewriting) (xs ys : List (LineInBlock Placed)) → AreSet test new xs
-    → AreSet test new ys → AreSet test new (xs ++ ys)
-set-append test new [] ys one two = two
-set-append test new (x ∷ xs) ys one two = (one.0, set-append test new xs ys one.1 two)
+module _ (test : Directive → Bool) (new : Rewriting) where
+  -- the operation would rewrite this line to itself, if it targets it
+  abbrev IsSet : LineInBlock Placed → Type 0
+  IsSet seat = passes test (directive_at seat.0 seat.1) ≡ true → new seat.0 seat.1 ≡ seat.1
 
-missed : (test : Directive → Bool) (new : Rewriting) (block : Option Placed) (line : Line Placed)
-    → passes test (directive_at block line) ≡ false → IsSet test new (block, line)
-missed test new block line miss = λ e. absurd (false≢true (sym miss ∙ e))
+  -- the same of lines, given the verb of the block that is open before them
+  abbrev LinesAreSet : Option Placed → List (Line Placed) → Type 0
+  LinesAreSet block lines = AllByRecursion IsSet (with_blocks_from block lines)
 
--- lines of which none is targeted
-none-set : (test : Directive → Bool) (new : Rewriting) (block : Option Placed) (lines : List (Line Placed))
-    → is_there test block lines ≡ false → LinesAreSet test new block lines
-none-set test new block [] none = tt
-none-set test new block (line ∷ lines) none =
-    let parts = or_parts (passes test (directive_at block line)) (is_there test (block_after_line block line) lines) none in
-    (missed test new block line parts.0, none-set test new (block_after_line block line) lines parts.1)
+  set-append : (xs ys : List (LineInBlock Placed)) → AllByRecursion IsSet xs → AllByRecursion IsSet ys → AllByRecursion IsSet (xs ++ ys)
+  set-append [] ys one two = two
+  set-append (x ∷ xs) ys one two = (one.0, set-append xs ys one.1 two)
 
--- ---- the lines that a setting leaves, if it targets some
+  missed : (block : Option Placed) (line : Line Placed) → passes test (directive_at block line) ≡ false → IsSet (block, line)
+  missed block line miss = λ e. absurd (false≢true (sym miss ∙ e))
 
--- how an operation rewrites entries: one that it targets once at most
-record IsSetting (test : Directive → Bool) (new : Rewriting) : Type 0 where
-  pub level : (block : Option Placed) (words : List Placed) (suffix : Option (List ℕ)) → block_after_line block (new block (Entry words suffix)) ≡ block
-  pub again : (block : Option Placed) (words : List Placed) (suffix : Option (List ℕ))
-      → passes test (directive_at block (Entry words suffix)) ≡ true
-      → new block (new block (Entry words suffix)) ≡ new block (Entry words suffix)
+  -- lines of which none is targeted
+  none-set : (block : Option Placed) (lines : List (Line Placed)) → is_there test block lines ≡ false → LinesAreSet block lines
+  none-set block [] none = tt
+  none-set block (line ∷ lines) none =
+      let parts = or_parts (passes test (directive_at block line)) (is_there test (block_after_line block line) lines) none in
+      (missed block line parts.0, none-set (block_after_line block line) lines parts.1)
 
--- only entries are targeted
-hit-sets : (test : Directive → Bool) (new : Rewriting) → IsSetting test new
-    → (block : Option Placed) (line : Line Placed) → passes test (directive_at block line) ≡ true
-    → (block_after_line block (new block line) ≡ block_after_line block line) × (new block (new block line) ≡ new block line)
-unfolding item_at
-hit-sets test new sets block Blank hit = absurd cc
-hit-sets test new sets block (Comment text) hit = absurd cc
-hit-sets test new sets block (Open verb suffix) hit = absurd cc
-hit-sets test new sets block (Close suffix) hit = absurd cc
-hit-sets test new sets block (Entry words suffix) hit = (sets.level block words suffix, sets.again block words suffix hit)
+  -- ---- the lines that a setting leaves, if it targets some
 
-dropping-set : (test : Directive → Bool) (new : Rewriting) (block : Option Placed) (lines : List (Line Placed))
-    → LinesAreSet test new block (kept_lines (dropping_from test block lines))
-dropping-set test new block [] = tt
-dropping-set test new block (line ∷ lines) =
-    let rest = dropping-set test new (block_after_line block line) lines in
-    elim (cases_Bool (passes test (directive_at block line))) [
-      | inl hit ↦ rw hit (subst (λ (b : Option Placed). LinesAreSet test new b
-          (kept_lines (dropping_from test (block_after_line block line) lines))) (passing-level test block line hit)
-          rest)
-      | inr miss ↦ rw miss (missed test new block line miss, rest)
-    ]
+  -- how an operation rewrites entries: one that it targets once at most
+  record IsSetting : Type 0 where
+    pub level : (block : Option Placed) (words : List Placed) (suffix : Option (List ℕ)) → block_after_line block (new block (Entry words suffix)) ≡ block
+    pub again : (block : Option Placed) (words : List Placed) (suffix : Option (List ℕ))
+        → passes test (directive_at block (Entry words suffix)) ≡ true
+        → new block (new block (Entry words suffix)) ≡ new block (Entry words suffix)
 
-renewing-set : (test : Directive → Bool) (new : Rewriting) → IsSetting test new
-    → (block : Option Placed) (lines : List (Line Placed))
-    → LinesAreSet test new block (kept_lines (renewing_from test new block lines))
-renewing-set test new sets block [] = tt
-renewing-set test new sets block (line ∷ lines) =
-    let behind : Option Placed = block_after_line block line in
-    elim (cases_Bool (passes test (directive_at block line))) [
-      | inl hit ↦
-          let set = hit-sets test new sets block line hit in
-          rw hit (
-            (λ e. set.1),
-            subst (λ (b : Option Placed).
-                LinesAreSet test new b (kept_lines (dropping_from test behind lines))) (sym set.0)
-                (dropping-set test new behind lines),
-          )
-      | inr miss ↦ rw miss (missed test new block line miss, renewing-set test new sets behind lines)
-    ]
+  -- only entries are targeted
+  hit-sets : IsSetting → (block : Option Placed) (line : Line Placed) → passes test (directive_at block line) ≡ true
+      → (block_after_line block (new block line) ≡ block) × (new block (new block line) ≡ new block line)
+  unfolding item_at
+  hit-sets sets block Blank hit = absurd cc
+  hit-sets sets block (Comment text) hit = absurd cc
+  hit-sets sets block (Open verb suffix) hit = absurd cc
+  hit-sets sets block (Close suffix) hit = absurd cc
+  hit-sets sets block (Entry words suffix) hit = (sets.level block words suffix, sets.again block words suffix hit)
+
+  dropping-set : (block : Option Placed) (lines : List (Line Placed)) → LinesAreSet block (kept_lines (dropping_from test block lines))
+  dropping-set block [] = tt
+  dropping-set block (line ∷ lines) = elim (cases_Bool (passes test (directive_at block line))) [
+    | inl hit ↦ rw (hit, passing-level test block line hit) (dropping-set block lines)
+    | inr miss ↦ rw miss (missed block line miss, dropping-set (block_after_line block line) lines)
+  ]
+
+  renewing-set : IsSetting → (block : Option Placed) (lines : List (Line Placed)) → LinesAreSet block (kept_lines (renewing_from test new block lines))
+  renewing-set sets block [] = tt
+  renewing-set sets block (line ∷ lines) = elim (cases_Bool (passes test (directive_at block line))) [
+    | inl hit ↦
+        let set = hit-sets sets block line hit in
+        rw (hit, set.0, passing-level test block line hit) ((λ e. set.1), dropping-set block lines)
+    | inr miss ↦ rw miss (missed block line miss, renewing-set sets (block_after_line block line) lines)
+  ]
+
+  remaining-set : IsSetting → (lines : List (Line Placed)) → LinesAreSet None (remaining (renewing_from test new None lines))
+  remaining-set sets lines = fewer-all IsSet (remaining-left (renewing_from test new None lines)).0 (renewing-set sets None lines)
+
+  -- ---- the lines that a setting leaves, if it targets none
+
+  -- new lines among lines of which none is targeted
+  inserted-set : (block : Option Placed) (front more back : List (Line Placed)) → is_there test block (front ++ back) ≡ false
+      → LinesAreSet (block_after_lines block front) more
+      → block_after_lines (block_after_lines block front) more ≡ block_after_lines block front
+      → LinesAreSet block (front ++ (more ++ back))
+  inserted-set block [] more back none are level =
+      rw (with_blocks-snoc block more back)
+      (set-append (with_blocks_from block more) (with_blocks_from (block_after_lines block more) back) are (rw level (none-set block back none)))
+  inserted-set block (line ∷ front) more back none are level =
+      let parts = or_parts (passes test (directive_at block line)) (is_there test (block_after_line block line) (front ++ back)) none in
+      (missed block line parts.0, inserted-set (block_after_line block line) front more back parts.1 are level)
+
+  -- an entry that is put in
+  gap-set : (gap : Bool) (front back : List (Line Placed)) (entry : Line Placed) → is_there test None (front ++ back) ≡ false
+      → new (block_after_lines None front) entry ≡ entry
+      → block_after_line (block_after_lines None front) entry ≡ block_after_lines None front
+      → LinesAreSet None (front ++ (gap_lines gap ++ entry ∷ back))
+  unfolding item_at
+  gap-set true front back entry none same level = inserted-set None front (Blank ∷ entry ∷ []) back none ((λ e. absurd cc), ((λ e. same), tt)) level
+  gap-set false front back entry none same level = inserted-set None front (entry ∷ []) back none ((λ e. same), tt) level
+
+  into-set : {v : List ℕ} {arguments : List Placed} {lines after : List (Line Placed)} → EntryIsSet new v arguments
+      → IsSound lines → is_there test None lines ≡ false → IsPutInto v arguments lines after → LinesAreSet None after
+  into-set {v} {arguments} is sound none put =
+      let block : Option Placed = block_after_lines None put.front in
+      rw put.is
+      (gap-set put.gap put.front put.back (entry_at put.inside v arguments) (rw put.was at none)
+      (rw (← (put.fits sound.closed).0) (is block)) (entry-level block put.inside v arguments))
+
+  -- ---- such lines stay, if only one of them is targeted
+
+  renewing-stays : (d : Directive) (block : Option Placed) (lines : List (Line Placed)) → LinesAreSet block lines
+      → filter test (held_from block lines) ≡ d ∷ [] → renewing_from test new block lines ≡ all_stay lines
+  renewing-stays d block [] are alone = refl
+  renewing-stays d block (line ∷ lines) are alone =
+      let behind : Option Placed = block_after_line block line in
+      let rest : List Directive = held_from behind lines in
+      elim (cases_Bool (passes test (directive_at block line))) [
+        | inl hit ↦
+            let none : is_there test behind lines ≡ false = there-is test behind lines
+            ∙ none-any test rest (rest-none test (directive_at block line) rest d hit alone) in
+            rw (hit, are.0 hit, none-dropped-from test behind lines none)
+        | inr miss ↦ rw (miss, renewing-stays d behind lines are.1 (sym (past-held test (directive_at block line) rest miss) ∙ alone))
+      ]
+
+  stays : (d : Directive) (lines : List (Line Placed)) → LinesAreSet None lines → filter test (held_from None lines) ≡ d ∷ []
+      → remaining (renewing_from test new None lines) ≡ lines
+  stays d lines are alone = rw (renewing-stays d None lines are alone) (all-lines-stay lines)
 
 -- ---- rewriting twice
 
@@ -133,68 +181,17 @@ setting-sets (GoIs text) = last-sets (about (Set (GoIs text))) text
 setting-sets (RequireAt p) = last-sets (about (Set (RequireAt p))) p.1
 setting-sets (ReplaceWith r) = record { level = λ block words suffix. refl; again = arguments-again (about (Set (ReplaceWith r))) (replace_words r) }
 
-remaining-set : (test : Directive → Bool) (new : Rewriting) → IsSetting test new → (lines : List (Line Placed))
-    → LinesAreSet test new None (remaining (renewing_from test new None lines))
-remaining-set test new sets lines = fewer-all (IsSet test new) (remaining-left (renewing_from test new None lines)).0 (renewing-set test new sets None lines)
-
-changed-set : (edit : Edit) (lines : List (Line Placed)) (d : Directive) → set_by edit ≡ Some d
+changed-set : (edit : Edit) (lines : List (Line Placed)) {d : Directive} → set_by edit ≡ Some d
     → LinesAreSet (about edit) (made_new edit) None (with_change edit lines)
 unfolding with_change
-changed-set (Set s) lines d sets = remaining-set (about (Set s)) (made_new (Set s)) (setting-sets s) lines
-changed-set (Drop t) lines d sets = absurd cc
-changed-set (Add a) lines d sets = absurd cc
-
--- ---- the lines that a setting leaves, if it targets none
-
--- new lines among lines of which none is targeted
-inserted-set : (test : Directive → Bool) (new : Rewriting) (block : Option Placed)
-    (front more back : List (Line Placed)) → is_there test block (front ++ back) ≡ false
-    → LinesAreSet test new (block_after_lines block front) more
-    → block_after_lines (block_after_lines block front) more ≡ block_after_lines block front
-    → LinesAreSet test new block (front ++ (more ++ back))
-inserted-set test new block [] more back none are level =
-    subst (AreSet test new) (sym (with_blocks-snoc block more back))
-    (set-append test new (with_blocks_from block more) (with_blocks_from (block_after_lines block more) back) are
-    (subst (λ (b : Option Placed). LinesAreSet test new b back) (sym level) (none-set test new block back none)))
-inserted-set test new block (line ∷ front) more back none are level =
-    let parts = or_parts (passes test (directive_at block line)) (is_there test (block_after_line block line) (front ++ back)) none in
-    (missed test new block line parts.0, inserted-set test new (block_after_line block line) front more back parts.1 are level)
-
--- an entry that is new in its block is rewritten to itself
-abbrev EntryIsSet : Rewriting → List ℕ → List Placed → Type 0
-EntryIsSet new text arguments = (block : Option Placed) → new block (entry_at (is_some block) text arguments) ≡ entry_at (is_some block) text arguments
+changed-set (Set s) lines sets = remaining-set (about (Set s)) (made_new (Set s)) (setting-sets s) lines
+changed-set (Drop t) lines sets = absurd cc
+changed-set (Add a) lines sets = absurd cc
 
 in-either : (new : Rewriting) (text : List ℕ) (arguments : List Placed) → new None (entry_at false text arguments) ≡ entry_at false text arguments
     → ((verb : Placed) → new (Some verb) (entry_at true text arguments) ≡ entry_at true text arguments) → EntryIsSet new text arguments
 in-either new text arguments alone inside None = alone
 in-either new text arguments alone inside (Some verb) = inside verb
-
-entry-level : (block : Option Placed) (inside : Bool) (text : List ℕ) (arguments : List Placed)
-    → block_after_line block (entry_at inside text arguments) ≡ block
-entry-level block true text arguments = refl
-entry-level block false text arguments = refl
-
--- an entry that is put in
-gap-set : (test : Directive → Bool) (new : Rewriting) (gap : Bool) (front back : List (Line Placed))
-    (entry : Line Placed) → is_there test None (front ++ back) ≡ false
-    → new (block_after_lines None front) entry ≡ entry
-    → block_after_line (block_after_lines None front) entry ≡ block_after_lines None front
-    → LinesAreSet test new None (front ++ (gap_lines gap ++ entry ∷ back))
-unfolding item_at
-gap-set test new true front back entry none same level =
-    inserted-set test new None front (Blank ∷ entry ∷ []) back none ((λ e. absurd cc), ((λ e. same), tt)) level
-gap-set test new false front back entry none same level = inserted-set test new None front (entry ∷ []) back none ((λ e. same), tt) level
-
-into-set : (test : Directive → Bool) (new : Rewriting) (v : List ℕ) (arguments : List Placed)
-    (lines after : List (Line Placed)) → EntryIsSet new v arguments → IsSound lines → is_there test None lines ≡ false
-    → IsPutInto v arguments lines after → LinesAreSet test new None after
-into-set test new v arguments lines after is sound none put =
-    let block : Option Placed = block_after_lines None put.front in
-    let same : new block (entry_at put.inside v arguments) ≡ entry_at put.inside v arguments =
-    subst (λ (b : Bool). new block (entry_at b v arguments) ≡ entry_at b v arguments) (put.fits sound.closed).0 (is block) in
-    subst (LinesAreSet test new None) (sym put.is)
-    (gap-set test new put.gap put.front put.back (entry_at put.inside v arguments)
-    (ap (is_there test None) (sym put.was) ∙ none) same (entry-level block put.inside v arguments))
 
 -- the new entry of an operation
 put-entry-set : (edit : Edit) → IfSome (entry_put edit) (λ entry. EntryIsSet (made_new edit) entry.0 entry.1)
@@ -206,49 +203,20 @@ put-entry-set (Add (Exclude p)) = λ block. refl
 put-entry-set (Add (Retract ends)) = λ block. refl
 put-entry-set (Drop t) = tt
 
-entry-set : (edit : Edit) (entry : List ℕ × List Placed) → entry_put edit ≡ Some entry → EntryIsSet (made_new edit) entry.0 entry.1
-entry-set edit entry e = subst (λ (o : Option (List ℕ × List Placed)). IfSome o (λ x. EntryIsSet (made_new edit) x.0 x.1)) e (put-entry-set edit)
+entry-set : (edit : Edit) {entry : List ℕ × List Placed} → entry_put edit ≡ Some entry → EntryIsSet (made_new edit) entry.0 entry.1
+entry-set edit e = rw e at (put-entry-set edit)
 
 put-set : (lines : List (Line Placed)) → IsSound lines → (edit : Edit) → is_there (about edit) None lines ≡ false
     → LinesAreSet (about edit) (made_new edit) None (put_in edit lines)
 put-set lines sound = by-put (λ edit after. is_there (about edit) None lines ≡ false → LinesAreSet (about edit) (made_new edit) None after) lines
     (λ path none. none-set is_module (with_last path) None lines none)
-    (λ edit entry after is put none. into-set (about edit) (made_new edit) entry.0 entry.1 lines after (entry-set edit entry is) sound none put)
+    (λ edit entry after is put none. into-set (about edit) (made_new edit) (entry-set edit is) sound none put)
     (λ t none. none-set (about (Drop t)) (made_new (Drop t)) None lines none)
 
 edited-set : (edit : Edit) (lines : List (Line Placed)) (d : Directive) → set_by edit ≡ Some d → IsSound lines
     → LinesAreSet (about edit) (made_new edit) None (lines_after edit lines)
 edited-set edit lines d sets sound = by-edited (LinesAreSet (about edit) (made_new edit) None) edit lines
-    (λ there. changed-set edit lines d sets) (λ none. put-set lines sound edit none)
-
--- ---- such lines stay, if only one of them is targeted
-
-rest-none : (test : Directive → Bool) (held : Option Directive) (rest : List Directive) (d : Directive)
-    → passes test held ≡ true → filter test (cons_option held rest) ≡ d ∷ [] → filter test rest ≡ []
-rest-none test None rest d hit e = absurd cc
-rest-none test (Some x) rest d hit e = let more : x ∷ filter test rest ≡ d ∷ [] = rw hit at e in cc more
-
-renewing-stays : (test : Directive → Bool) (new : Rewriting) (d : Directive) (block : Option Placed)
-    (lines : List (Line Placed)) → LinesAreSet test new block lines → filter test (held_from block lines) ≡ d ∷ []
-    → renewing_from test new block lines ≡ all_stay lines
-renewing-stays test new d block [] are alone = refl
-renewing-stays test new d block (line ∷ lines) are alone =
-    let behind : Option Placed = block_after_line block line in
-    let rest : List Directive = held_from behind lines in
-    elim (cases_Bool (passes test (directive_at block line))) [
-      | inl hit ↦
-          let none : is_there test behind lines ≡ false = there-is test behind lines
-          ∙ none-any test rest (rest-none test (directive_at block line) rest d hit alone) in
-          rw (hit, are.0 hit, none-dropped-from test behind lines none) refl
-      | inr miss ↦ rw miss (ap (λ (fs : List Fate). Some line ∷ fs)
-          (renewing-stays test new d behind lines are.1 (sym (past-held test (directive_at block line) rest miss)
-          ∙ alone)))
-    ]
-
-stays : (test : Directive → Bool) (new : Rewriting) (d : Directive) (lines : List (Line Placed))
-    → LinesAreSet test new None lines → filter test (held_from None lines) ≡ d ∷ []
-    → remaining (renewing_from test new None lines) ≡ lines
-stays test new d lines are alone = ap (remaining) (renewing-stays test new d None lines are alone) ∙ all-lines-stay lines
+    (λ there. changed-set edit lines sets) (λ none. put-set lines sound edit none)
 
 again-changes : (edit : Edit) (lines : List (Line Placed)) (d : Directive) → set_by edit ≡ Some d
     → LinesAreSet (about edit) (made_new edit) None lines → filter (about edit) (held_from None lines) ≡ d ∷ []
@@ -264,9 +232,10 @@ pub second-setting : SecondSettingChangesNothing
 second-setting edit lines d is sets =
     let after : List (Line Placed) = lines_after edit lines in
     let alone : filter (about edit) (directives_of after) ≡ d ∷ [] = set-stands-alone edit lines d is sets in
-    let there : is_there (about edit) None after ≡ true = there-said (about edit) after ∙ any-filled (about edit) (directives_of after) ∙ ap is_filled alone in
-    by-edited (λ ls. ls ≡ with_change edit after) edit after (λ e. refl) (λ none. absurd (false≢true (sym none ∙ there)))
-    ∙ again-changes edit after d sets (edited-set edit lines d sets (document-sound lines is.2 is.3)) (ap (filter (about edit)) (sym (file-held after)) ∙ alone)
+    let there : is_there (about edit) None after ≡ true = rw (there-said (about edit) after, any-filled (about edit) (directives_of after), alone) in
+    by-edited (λ ls. ls ≡ after) edit after
+    (λ e. again-changes edit after d sets (edited-set edit lines d sets (document-sound lines is.2 is.3)) (rw (file-held after) at alone))
+    (λ none. absurd (false≢true (sym none ∙ there)))
 
 pub second-operation : SecondOperationChangesNothing
 second-operation (Set s) lines is = second-setting (Set s) lines (directive_set s) is refl

@@ -42,17 +42,17 @@ one-gone : (test : Directive → Bool) (block : Option Placed) (front back : Lis
 one-gone test block [] back entry none hit =
     let level : block_after_line block entry ≡ block = passing-level test block entry hit in
     let held : passes test (directive_at block entry) ≡ true = hit in
-    rw (held, level) (ap (λ (fs : List Fate). None ∷ fs) (none-dropped-from test block back none))
+    rw (held, level, none-dropped-from test block back none)
 one-gone test block (line ∷ front) back entry none hit =
     let parts = or_parts (passes test (directive_at block line)) (is_there test (block_after_line block line) (front ++ back)) none in
-    rw parts.0 (ap (λ (fs : List Fate). Some line ∷ fs) (one-gone test (block_after_line block line) front back entry parts.1 hit))
+    rw (parts.0, one-gone test (block_after_line block line) front back entry parts.1 hit)
 
 -- ---- what is left
 
 -- an entry stays, and the line after it is removed
 next-gone : (words : List Placed) (suffix : Option (List ℕ)) (back : List (Line Placed)) (inside : Bool)
     → kept_lines (widened_from (staying inside) false (Some (Entry words suffix) ∷ None ∷ all_stay back)) ≡ Entry words suffix ∷ back
-next-gone words suffix back inside = ap (λ (ls : List (Line Placed)). Entry words suffix ∷ ls) (all-lines-left inside back)
+next-gone words suffix back inside = rw (all-lines-left inside back)
 
 gone-behind : (words : List Placed) (suffix : Option (List ℕ)) (front back : List (Line Placed))
     → remaining (all_stay front ++ Some (Entry words suffix) ∷ None ∷ all_stay back) ≡ front ++ Entry words suffix ∷ back
@@ -79,37 +79,27 @@ holds-entry test block (Close suffix) e = absurd cc
 holds-entry test block (Entry words suffix) e = (words, suffix, refl)
 
 -- what is put in behind an entry of its verb and dropped
-behind-entry : (test : Directive → Bool) (v : List ℕ) (arguments : List Placed) (new : Directive)
+behind-entry : (test : Directive → Bool) (v : List ℕ) {arguments : List Placed} (new : Directive)
     (front back : List (Line Placed)) (line : Line Placed) → IsAddition v arguments new → test new ≡ true
     → is_there test None (front ++ line ∷ back) ≡ false → passes (has_verb v) (directive_at (block_after_lines None front) line) ≡ true
     → without_targets test (front ++ line ∷ entry_at (is_some (block_after_lines None front)) v arguments ∷ back) ≡ front ++ line ∷ back
-behind-entry test v arguments new front back line so own none hit =
+behind-entry test v {arguments} new front back line so own none hit =
     let block : Option Placed = block_after_lines None front in
     let entry : Line Placed = entry_at (is_some block) v arguments in
-    let fits : Fits block new entry = entry-fits v arguments new block (passing-verb v block line (directive_at block line) refl hit) so in
-    let passed : passes test (directive_at block entry) ≡ true = ap (passes test) fits.holds ∙ own in
+    let fits : Fits block new entry = entry-fits block (passing-verb v block line (directive_at block line) refl hit) so in
     let behind : block_after_lines None (front ++ line ∷ []) ≡ block = block-append None front (line ∷ []) ∙ passing-level (has_verb v) block line hit in
-    let whole : (front ++ line ∷ []) ++ back ≡ front ++ line ∷ back = append_assoc front (line ∷ []) back in
-    let fates : dropping_from test None ((front ++ line ∷ []) ++ entry ∷ back) ≡ all_stay (front ++ line ∷ []) ++ None ∷ all_stay back =
-    one-gone test None (front ++ line ∷ []) back entry (ap (is_there test None) whole ∙ none)
-    (ap (λ (b : Option Placed). passes test (directive_at b entry)) behind ∙ passed) in
     let is = holds-entry (has_verb v) block line hit in
-    ap (without_targets test) (sym (append_assoc front (line ∷ []) (entry ∷ back))) ∙ ap (remaining) (fates ∙ split) ∙ left is.0 is.1 is.2
-  where
-    split : all_stay (front ++ line ∷ []) ++ None ∷ all_stay back ≡ all_stay front ++ Some line ∷ None ∷ all_stay back
-    split = ap (λ (fs : List Fate). fs ++ None ∷ all_stay back)
-        (map-append (λ (l : Line Placed). Some l) front (line ∷ []))
-        ∙ append_assoc (all_stay front) (Some line ∷ []) (None ∷ all_stay back)
-
-    left : (words : List Placed) (suffix : Option (List ℕ)) → line ≡ Entry words suffix
-        → remaining (all_stay front ++ Some line ∷ None ∷ all_stay back) ≡ front ++ line ∷ back
-    left words suffix is =
-        subst (λ (l : Line Placed). remaining (all_stay front ++ Some l ∷ None ∷ all_stay back) ≡ front ++ l ∷ back)
-        (sym is) (gone-behind words suffix front back)
+    rw (
+      ← append_assoc front (line ∷ []) (entry ∷ back),
+      one-gone test None (front ++ line ∷ []) back entry (rw (append_assoc front (line ∷ []) back) none) (rw (behind, fits.holds) own),
+      map-append (λ (l : Line Placed). Some l) front (line ∷ []),
+      append_assoc (all_stay front) (Some line ∷ []) (None ∷ all_stay back),
+      is.2,
+    ) (gone-behind is.0 is.1 front back)
 
 blank-none : (test : Directive → Bool) (lines : List (Line Placed)) → is_there test None lines ≡ false → is_there test None (lines ++ Blank ∷ []) ≡ false
 unfolding item_at
-blank-none test lines none = there-append test None lines (Blank ∷ []) ∙ ap (λ (b : Bool). b || false) none
+blank-none test lines none = rw (there-append test None lines (Blank ∷ []), none)
 
 -- what is put in at the end and dropped
 at-end : (test : Directive → Bool) (v : List ℕ) (arguments : List Placed) (new : Directive) (lines : List (Line Placed))
@@ -118,27 +108,21 @@ at-end : (test : Directive → Bool) (v : List ℕ) (arguments : List Placed) (n
 at-end test v arguments new lines so own none sound =
     let front : List (Line Placed) = lines ++ Blank ∷ [] in
     let entry : Line Placed = single v arguments in
-    let fits : Fits None new entry = entry-fits v arguments new None tt so in
+    let fits : Fits None new entry = entry-fits None tt so in
     let outside : block_after_lines None front ≡ None = block-append None lines (Blank ∷ []) ∙ sound.closed in
-    let passed : passes test (directive_at (block_after_lines None front) entry) ≡ true =
-    ap (λ (b : Option Placed). passes test (directive_at b entry)) outside ∙ ap (passes test) fits.holds ∙ own in
-    let absent : is_there test None (front ++ []) ≡ false = ap (is_there test None) (append-nil front) ∙ blank-none test lines none in
-    ap (without_targets test) (sym (append_assoc lines (Blank ∷ []) (entry ∷ []))) ∙ ap (remaining) (one-gone test None front [] entry absent passed)
-    ∙ last-gone front
+    let absent : is_there test None (front ++ []) ≡ false = rw (append-nil front) (blank-none test lines none) in
+    rw (← append_assoc lines (Blank ∷ []) (entry ∷ []), one-gone test None front [] entry absent (rw (outside, fits.holds) own)) (last-gone front)
 
-added-undone : (test : Directive → Bool) (v : List ℕ) (arguments : List Placed) (new : Directive)
-    (lines : List (Line Placed)) → IsAddition v arguments new → test new ≡ true → is_there test None lines ≡ false
+added-undone : (test : Directive → Bool) (v : List ℕ) {arguments : List Placed} {new : Directive}
+    {lines : List (Line Placed)} → IsAddition v arguments new → test new ≡ true → is_there test None lines ≡ false
     → IsSound lines
     → without_targets test (with_addition v arguments lines) ≡ (if is_there (has_verb v) None lines then lines else lines ++ Blank ∷ [])
-added-undone test v arguments new lines so own none sound = elim (cases_Bool (is_there (has_verb v) None lines)) [
+added-undone test v {arguments} {new} {lines} so own none sound = elim (cases_Bool (is_there (has_verb v) None lines)) [
   | inl there ↦
       let is = last-one (has_verb v) None lines there in
-      let still : is_there test None (is.front ++ is.line ∷ is.back) ≡ false = ap (is_there test None) (sym is.parts) ∙ none in
-      rw there
-      (ap (λ (ls : List (Line Placed)). without_targets test (with_addition v arguments ls)) is.parts
-      ∙ ap (without_targets test) (added-after-last v arguments is.front is.back is.line is.hit is.later)
-      ∙ behind-entry test v arguments new is.front is.back is.line so own still is.hit ∙ sym is.parts)
-  | inr without ↦ rw without (ap (without_targets test) (added-at-end v arguments lines without) ∙ at-end test v arguments new lines so own none sound)
+      rw (there, is.parts, added-after-last v arguments is.front is.back is.line is.hit is.later)
+      (behind-entry test v new is.front is.back is.line so own (rw is.parts at none) is.hit)
+  | inr without ↦ rw (without, added-at-end v arguments lines without) (at-end test v arguments new lines so own none sound)
 ]
 
 -- ---- the operations
@@ -148,7 +132,9 @@ record IsUndoing (edit undo : Edit) : Type 0 where
   drops : is_drop undo ≡ true
   entry : List ℕ × List Placed
   adds : new_entry edit ≡ Some entry
-  own : (new : Directive) → put_by edit ≡ Some new → about undo new ≡ true
+  new : Directive
+  puts : put_by edit ≡ Some new
+  own : about undo new ≡ true
   fewer : (d : Directive) → about edit d ≡ false → about undo d ≡ false
 
 covered-left : (left other : Left) (version : Option (List ℕ)) → left.version ≡ version
@@ -163,57 +149,29 @@ replaced-left left d e = refl
 drop-of : (edit : Edit) → IfSome (undone_by edit) (IsUndoing edit)
 drop-of (Set (ModuleIs path)) = tt
 drop-of (Set (GoIs text)) = tt
-drop-of (Set (RequireAt p)) = record {
-  drops = refl;
-  entry = _;
-  adds = refl;
-  own =
-      λ new put. ap (requires_path p.0) (sym (same_Some _ _ put)) ∙ bytes_eq-self p.0;
-  fewer = λ d f. f;
-}
-drop-of (Set (ReplaceWith r)) = record {
-  drops = refl;
-  entry = _;
-  adds = refl;
-  own =
-      λ new put. ap (replaces_left r.0) (sym (same_Some _ _ put)) ∙ left-self r.0;
-  fewer = replaced-left r.0;
-}
-drop-of (Add (Exclude p)) = record {
-  drops = refl;
-  entry = _;
-  adds = refl;
-  own =
-      λ new put. ap (excludes_pair p) (sym (same_Some _ _ put)) ∙ pair-itself p;
-  fewer = λ d f. f;
-}
-drop-of (Add (Retract ends)) = record {
-  drops = refl;
-  entry = _;
-  adds = refl;
-  own =
-      λ new put. ap (retracts_ends ends) (sym (same_Some _ _ put)) ∙ pair-itself ends;
-  fewer = λ d f. f;
-}
+drop-of (Set (RequireAt p)) = record { drops = refl; entry = _; adds = refl; new = _; puts = refl; own = bytes_eq-self p.0; fewer = λ d f. f }
+drop-of (Set (ReplaceWith r)) = record { drops = refl; entry = _; adds = refl; new = _; puts = refl; own = left-self r.0; fewer = replaced-left r.0 }
+drop-of (Add (Exclude p)) = record { drops = refl; entry = _; adds = refl; new = _; puts = refl; own = pair-itself p; fewer = λ d f. f }
+drop-of (Add (Retract ends)) = record { drops = refl; entry = _; adds = refl; new = _; puts = refl; own = pair-itself ends; fewer = λ d f. f }
 drop-of (Drop t) = tt
 
-undoing : (edit undo : Edit) → undone_by edit ≡ Some undo → IsUndoing edit undo
-undoing edit undo e = subst (λ (o : Option Edit). IfSome o (IsUndoing edit)) e (drop-of edit)
+undoing : (edit : Edit) {undo : Edit} → undone_by edit ≡ Some undo → IsUndoing edit undo
+undoing edit e = rw e at (drop-of edit)
 
-new-put : (edit : Edit) (entry : List ℕ × List Placed) → new_entry edit ≡ Some entry → entry_put edit ≡ Some entry
-new-put (Set (GoIs text)) entry e = absurd cc
-new-put edit entry e = e
+new-put : (edit : Edit) {entry : List ℕ × List Placed} → new_entry edit ≡ Some entry → entry_put edit ≡ Some entry
+new-put (Set (GoIs text)) e = absurd cc
+new-put edit e = e
 
 pub drop-undoes : DropUndoes
 drop-undoes edit undo verb arguments lines is adds undoes none =
     let sound = sound-of edit lines is in
-    let by = says edit (verb, arguments) (new-put edit (verb, arguments) adds) sound.0 in
-    let u = undoing edit undo undoes in
+    let by = says edit (verb, arguments) (new-put edit adds) sound.0 in
+    let u = undoing edit undoes in
+    let own = rw (same_Some _ _ (sym u.puts ∙ by.put)) at u.own in
     let absent : is_there (about undo) None lines ≡ false =
-    there-said (about undo) lines ∙ fewer-any (about edit) (about undo) u.fewer (directives_of lines) none in
-    edited-drop undo (lines_after edit lines) u.drops ∙ ap (without_targets (about undo)) (edited-added edit (verb, arguments) lines adds none)
-    ∙ added-undone (about undo) verb arguments by.new lines by.is (u.own by.new by.put) absent sound.1
-    ∙ ap (λ (b : Bool). if b then lines else lines ++ Blank ∷ []) (there-said (has_verb verb) lines)
+    rw (there-said (about undo) lines) (fewer-any (about edit) (about undo) u.fewer (directives_of lines) none) in
+    rw (edited-drop undo (lines_after edit lines) u.drops, edited-added edit lines adds none, ← there-said (has_verb verb) lines)
+    (added-undone (about undo) verb by.is own absent sound.1)
 
 -- ---- the layout
 
@@ -222,16 +180,14 @@ unfolding layout_from
 blank-end b [] = refl
 blank-end b (line ∷ lines) = elim (cases_Bool (is_blank_line line)) [
   | inl blank ↦ rw blank (blank-end (record b { gap_pending = true }) lines)
-  | inr filled ↦ rw filled (ap (λ (text : List ℕ). line_with_gap b line ++ text) (blank-end (state_after b line) lines))
+  | inr filled ↦ rw (filled, blank-end (state_after b line) lines)
 ]
 
 either-layout : (b : Bool) (lines : List (Line Placed)) → layout (plain_lines (if b then lines else lines ++ Blank ∷ [])) ≡ layout (plain_lines lines)
 either-layout true lines = refl
-either-layout false lines = ap layout (map-append plain lines (Blank ∷ [])) ∙ blank-end initial_state (plain_lines lines)
+either-layout false lines = rw (map-append plain lines (Blank ∷ [])) (blank-end initial_state (plain_lines lines))
 
 pub drop-undoes-layout : DropUndoesForLayout
 drop-undoes-layout edit undo lines is undoes none =
-    let u = undoing edit undo undoes in
-    ap (λ (ls : List (Line Placed)). layout (plain_lines ls))
-    (drop-undoes edit undo u.entry.0 u.entry.1 lines is u.adds undoes none)
-    ∙ either-layout (list_any (has_verb u.entry.0) (directives_of lines)) lines
+    let u = undoing edit undoes in
+    rw (drop-undoes edit undo u.entry.0 u.entry.1 lines is u.adds undoes none) (either-layout (list_any (has_verb u.entry.0) (directives_of lines)) lines)

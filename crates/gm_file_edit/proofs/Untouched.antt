@@ -19,7 +19,7 @@ pub none-dropped-from : (test : Directive → Bool) (block : Option Placed) (lin
 none-dropped-from test block [] e = refl
 none-dropped-from test block (line ∷ lines) e =
     let parts = or_parts (passes test (directive_at block line)) (is_there test (block_after_line block line) lines) e in
-    rw parts.0 (ap (λ (fs : List Fate). Some line ∷ fs) (none-dropped-from test (block_after_line block line) lines parts.1))
+    rw (parts.0, none-dropped-from test (block_after_line block line) lines parts.1)
 
 -- lines that stay empty no block, before fates that empty none
 empties-none : (fates : List Fate) → empties false fates ≡ false → (lines : List (Line Placed)) → empties false (all_stay lines ++ fates) ≡ false
@@ -40,18 +40,17 @@ pub stay-before : (fates : List Fate) (rest : List (Line Placed)) → empties fa
     → ((inside : Bool) → kept_lines (widened_from (staying inside) false fates) ≡ rest)
     → (inside : Bool) (lines : List (Line Placed)) → kept_lines (widened_from (staying inside) false (all_stay lines ++ fates)) ≡ lines ++ rest
 stay-before fates rest none is inside [] = is inside
-stay-before fates rest none is false (Blank ∷ lines) = ap (λ (ls : List (Line Placed)). Blank ∷ ls) (stay-before fates rest none is false lines)
-stay-before fates rest none is true (Blank ∷ lines) = ap (λ (ls : List (Line Placed)). Blank ∷ ls) (stay-before fates rest none is true lines)
-stay-before fates rest none is inside (Comment text ∷ lines) = ap (λ (ls : List (Line Placed)). Comment text ∷ ls) (stay-before fates rest none is inside lines)
+stay-before fates rest none is false (Blank ∷ lines) = rw (stay-before fates rest none is false lines)
+stay-before fates rest none is true (Blank ∷ lines) = rw (stay-before fates rest none is true lines)
+stay-before fates rest none is inside (Comment text ∷ lines) = rw (stay-before fates rest none is inside lines)
 stay-before fates rest none is inside (Open verb suffix ∷ lines) =
     let stays : is_emptied (staying inside) suffix (all_stay lines ++ fates) ≡ false =
     and_right (is_none (staying inside) && is_none suffix) (empties false (all_stay lines ++ fates))
     (empties-none fates none lines) in
-    rw stays (ap (λ (ls : List (Line Placed)). Open verb suffix ∷ ls) (stay-before fates rest none is true lines))
-stay-before fates rest none is false (Close suffix ∷ lines) = ap (λ (ls : List (Line Placed)). Close suffix ∷ ls) (stay-before fates rest none is false lines)
-stay-before fates rest none is true (Close suffix ∷ lines) = ap (λ (ls : List (Line Placed)). Close suffix ∷ ls) (stay-before fates rest none is false lines)
-stay-before fates rest none is inside (Entry words suffix ∷ lines) =
-    ap (λ (ls : List (Line Placed)). Entry words suffix ∷ ls) (stay-before fates rest none is inside lines)
+    rw (stays, stay-before fates rest none is true lines)
+stay-before fates rest none is false (Close suffix ∷ lines) = rw (stay-before fates rest none is false lines)
+stay-before fates rest none is true (Close suffix ∷ lines) = rw (stay-before fates rest none is false lines)
+stay-before fates rest none is inside (Entry words suffix ∷ lines) = rw (stay-before fates rest none is inside lines)
 
 pub all-lines-left : (inside : Bool) (lines : List (Line Placed)) → kept_lines (widened_from (staying inside) false (all_stay lines)) ≡ lines
 all-lines-left inside lines =

@@ -26,10 +26,10 @@ text-argument w value is has = rw is (ap Some (rw is at (value_is w value has)))
 
 -- ---- the words from an index on
 
-pub bits-next : (words : List Placed) (n : ℕ) (word : Placed) (bits own : ℕ) → n < length words
+pub bits-next : (words : List Placed) (n : ℕ) {word : Placed} (bits : ℕ) {own : ℕ} → n < length words
     → word ≡ get_or words n word → own ≡ optional_bits (argument word.word)
     → bits_with (bit_or bits own) (words_of (drop (n + 1) words)) ≡ bits_with bits (words_of (drop n words))
-bits-next words n word bits own lt is own_is =
+bits-next words n {word} bits lt is own_is =
     ap (λ (b : ℕ). bits_with (bit_or bits b) (words_of (drop (n + 1) words))) own_is
     ∙ sym (ap (λ (ws : List Placed). bits_with bits (words_of ws)) (drop-next words n word lt is))
 
@@ -37,10 +37,10 @@ pub bits-end : (words : List Placed) (n bits : ℕ) → length words ≤ n → b
 bits-end words n bits over = sym (ap (λ (ws : List Placed). bits_with bits (words_of ws)) (drop_all n words over))
 
 -- a text that isn't the value of the next word is that of a later one
-pub value-later : (words : List Placed) (n : ℕ) (word : Placed) (text : List ℕ) (may : Bool) → n < length words
+pub value-later : (words : List Placed) (n : ℕ) {word : Placed} (text : List ℕ) {may : Bool} → n < length words
     → word ≡ get_or words n word → (argument word.word ≡ Some text → may ≡ true) → may ≡ false
     → IsValueIn (Some text) (words_of (drop n words)) → IsValueIn (Some text) (words_of (drop (n + 1) words))
-value-later words n word text may lt is gives fails has =
+value-later words n {word} text lt is gives fails has =
     elim (subst (λ (ws : List Placed). IsValueIn (Some text) (words_of ws)) (drop-next words n word lt is) has) [
       | inl here ↦ absurd (let holds = gives here in cc)
       | inr later ↦ later

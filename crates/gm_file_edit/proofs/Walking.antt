@@ -1,10 +1,10 @@
 -- Lists from an index on, and lines walked over by their keys.
-use Rattle.std.proofs.Common.{◌≡◌, ℕ, zero, suc, ◌+◌, ◌<◌, false, List, [], ◌∷◌, length, get_or, drop, take, drop-cons, Option, None, refl, sym, ap, ◌∙◌, arith}
+use Rattle.std.proofs.Common.{◌≡◌, ℕ, zero, suc, ◌+◌, ◌<◌, not, false, List, [], ◌∷◌, length, get_or, drop, take, drop-cons, Option, None, refl, sym, ap, ◌∙◌, arith}
 use Rattle.std.proofs.lemmas.List.{get_or_default, take_more}
 use Rattle.gm_syntax.specs.Tokens.{Placed}
 use Rattle.gm_syntax.specs.Document.{Line, Blank, Comment, Open, Close, Entry}
 use Rattle.gm_file.specs.Directives.{block_after_line, block_after_lines}
-use Rattle.gm_file_edit.specs.Private.Keys.{changes_block, key_of}
+use Rattle.gm_file_edit.specs.GoPlace.{is_loose}
 use Rattle.gm_file_edit.specs.Private.Marks.{line_at}
 use Rattle.gm_file_edit.proofs.Pairs.{AreRightFrom, IsRightLine, block-append}
 
@@ -27,7 +27,7 @@ right-at block (line ∷ lines) (suc n) lt right = right-at (block_after_line bl
 -- ---- the open block
 
 -- a line that neither opens nor closes a block
-pub level-line : (block : Option Placed) (line : Line Placed) → changes_block (key_of line) ≡ false → block_after_line block line ≡ block
+pub level-line : (block : Option Placed) (line : Line Placed) → not (is_loose line) ≡ false → block_after_line block line ≡ block
 level-line block Blank level = refl
 level-line block (Comment text) level = refl
 level-line block (Open verb suffix) level = absurd cc
@@ -38,9 +38,9 @@ level-line block (Entry words suffix) level = refl
 pub block-next : (lines : List (Line Placed)) (n : ℕ) → n < length lines
     → block_after_lines None (take (n + 1) lines) ≡ block_after_line (block_after_lines None (take n lines))
     (line_at lines n)
-block-next lines n lt = ap (block_after_lines None) (take_more lines n Blank lt) ∙ block-append None (take n lines) (line_at lines n ∷ [])
+block-next lines n lt = rw (take_more lines n Blank lt) (block-append None (take n lines) (line_at lines n ∷ []))
 
 pub block-level : (lines : List (Line Placed)) (n : ℕ) → n < length lines
-    → changes_block (key_of (line_at lines n)) ≡ false → block_after_lines None (take (n + 1) lines)
+    → not (is_loose (line_at lines n)) ≡ false → block_after_lines None (take (n + 1) lines)
     ≡ block_after_lines None (take n lines)
 block-level lines n lt level = block-next lines n lt ∙ level-line (block_after_lines None (take n lines)) (line_at lines n) level

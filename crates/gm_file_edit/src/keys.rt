@@ -4,7 +4,7 @@
 //! most lines are passed over without a look at their words, which are elsewhere in memory. A key depends on the line
 //! alone.
 
-ghost use Rattle.std.specs.Prelude.{◌≡◌, false, true, IfOk, Option};
+ghost use Rattle.std.specs.Prelude.{◌≡◌, false, true, IfOk, Option, bit_or, not};
 ghost use Rattle.std.specs.Option.{option_map};
 ghost use Rattle.gm_syntax.specs.Document.{Line as LineOf};
 ghost use Rattle.gm_syntax.specs.LineViews.{line_of};
@@ -12,7 +12,10 @@ ghost use Rattle.gm_syntax.specs.Tokens.{Placed, words_of};
 ghost use Rattle.gm_file.specs.Directives.{block_after_line, verb_eq};
 ghost use Rattle.gm_file.specs.declared.verb.Verb.TheVariants.{Unknown};
 ghost use Rattle.gm_file.specs.Values.{argument};
-ghost use Rattle.gm_file_edit.specs.Private.Keys.{HasBits, bits_with, block_verb, changes_block, entry_verb, key_of, optional_bits, text_bits, verb_outside};
+ghost use Rattle.gm_file_edit.specs.declared.keys.EntryKey.{EntryKey};
+ghost use Rattle.gm_file_edit.specs.declared.keys.Key.TheVariants.{Entry as EntryOf};
+ghost use Rattle.gm_file_edit.specs.GoPlace.{is_loose};
+ghost use Rattle.gm_file_edit.specs.Private.Keys.{bits_with, block_verb, entry_verb, key_of, optional_bits, text_bits, verb_outside};
 
 use gm_file::{Verb, block_after_line, is_empty_block, main_verb};
 use gm_name::{fingerprint, tag_of};
@@ -119,7 +122,7 @@ pub(crate) fn key_of(alloc: Global, line: &Line) -> Result<Key, AllocError>
 
 /// Whether the line with a key opens or closes a block.
 pub(crate) fn changes_block(key: Key) -> bool
-    ensures { result ≡ changes_block key }
+    ensures { (line : LineOf Placed) → key ≡ key_of line → result ≡ not (is_loose line) }
 {
     matches!(key, Key::Open(_) | Key::Close)
 }
@@ -145,10 +148,10 @@ pub(crate) fn block_after<'w, 'a>(
     requires { key ≡ key_of (line_of line.now) }
     ensures { option_map (λ t. t.now) result ≡ block_after_line (option_map (λ t. t.now) block.entry) (line_of line.now) }
 {
-    if changes_block(key) {
-        return block_after_line(block, line);
+    match key {
+        Key::Open(_) | Key::Close => block_after_line(block, line),
+        Key::Blank | Key::Comment | Key::Entry(_) => block,
     }
-    block
 }
 
 /// Whether the line with a key is an entry of a verb that directives have, given the verb of the open block, if any.
@@ -166,7 +169,7 @@ pub(crate) fn is_entry_in(own: Verb, block: Option<Verb>, key: Key) -> bool
 
 /// Whether the line with a key may be an entry whose words have these bits.
 pub(crate) fn may_have_bits(key: Key, bits: u32) -> bool
-    ensures { HasBits key bits → result ≡ true }
+    ensures { (entry : EntryKey) → key ≡ EntryOf entry → bit_or entry.bits bits ≡ entry.bits → result ≡ true }
 {
     match key {
         Key::Entry(entry) => entry.bits | bits == entry.bits,

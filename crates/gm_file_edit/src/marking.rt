@@ -15,7 +15,7 @@ ghost use Rattle.gm_file_edit.specs.About.{about};
 ghost use Rattle.gm_file_edit.specs.Edits.{Edit};
 ghost use Rattle.gm_file_edit.specs.Holding.{directive_at, passes};
 ghost use Rattle.gm_file_edit.specs.Private.Holding.{IsValidAt};
-ghost use Rattle.gm_file_edit.specs.Private.Keys.{HasTexts, IsValueIn, block_verb, key_of, target_texts, target_verb, texts_bits, texts_view};
+ghost use Rattle.gm_file_edit.specs.Private.Keys.{block_verb, HasTexts, IsValueIn, key_of, target_entry, texts_bits, texts_view};
 ghost use Rattle.gm_file_edit.specs.Private.Marks.{marks_from};
 ghost use Rattle.gm_file_edit.specs.Sound.{edit_of};
 
@@ -104,8 +104,8 @@ fn may_hold_target(
     key: Key,
     line: &Line,
 ) -> bool
-    ensures { (edit : Edit) (block : Option Placed) → target.entry.verb ≡ target_verb edit
-        → texts_view target.entry ≡ target_texts edit → bits ≡ texts_bits (target_texts edit)
+    ensures { (edit : Edit) (block : Option Placed) → target.entry.verb ≡ (target_entry edit).0
+        → texts_view target.entry ≡ (target_entry edit).1 → bits ≡ texts_bits (target_entry edit).1
         → verb ≡ block_verb block → key ≡ key_of (line_of line.now)
         → passes (about edit) (directive_at block (line_of line.now)) ≡ true → result ≡ true }
 {

@@ -6,7 +6,7 @@ ghost use Rattle.gm_file.specs.Faults.{is_same_version};
 ghost use Rattle.gm_file.specs.Views.{interval_view, replace_view};
 ghost use Rattle.gm_file_edit.specs.About.{about, excludes_pair, is_replaced_by, replaces_left, requires_path, retracts_ends};
 ghost use Rattle.gm_file_edit.specs.Edits.{Add, Drop, Set};
-ghost use Rattle.gm_file_edit.specs.Private.Keys.{target_texts, target_verb, texts_view};
+ghost use Rattle.gm_file_edit.specs.Private.Keys.{target_entry, texts_view};
 ghost use Rattle.gm_file_edit.specs.Sound.{addition_of, edit_of, left_view, setting_of, target_of};
 
 use crate::op::{Addition, Change, Setting, Target};
@@ -86,8 +86,8 @@ fn any_entry<'c>(verb: Verb) -> TargetEntry<'c>
 
 /// What the entries have that a setting targets.
 fn setting_entry<'c>(setting: &'c Setting) -> TargetEntry<'c>
-    ensures verb { result.verb ≡ target_verb (Set (setting_of setting.now)) }
-    ensures texts { texts_view result ≡ target_texts (Set (setting_of setting.now)) }
+    ensures verb { result.verb ≡ (target_entry (Set (setting_of setting.now))).0 }
+    ensures texts { texts_view result ≡ (target_entry (Set (setting_of setting.now))).1 }
 {
     match setting {
         Setting::Module(_) => any_entry(Verb::Module),
@@ -99,8 +99,8 @@ fn setting_entry<'c>(setting: &'c Setting) -> TargetEntry<'c>
 
 /// What the entries have that an addition targets.
 fn addition_entry<'c>(addition: &'c Addition) -> TargetEntry<'c>
-    ensures verb { result.verb ≡ target_verb (Add (addition_of addition.now)) }
-    ensures texts { texts_view result ≡ target_texts (Add (addition_of addition.now)) }
+    ensures verb { result.verb ≡ (target_entry (Add (addition_of addition.now))).0 }
+    ensures texts { texts_view result ≡ (target_entry (Add (addition_of addition.now))).1 }
 {
     match addition {
         Addition::Exclude((path, version)) => pair_entry(Verb::Exclude, path, version),
@@ -110,8 +110,8 @@ fn addition_entry<'c>(addition: &'c Addition) -> TargetEntry<'c>
 
 /// What the entries have that a drop targets.
 fn drop_entry<'c>(target: &'c Target) -> TargetEntry<'c>
-    ensures verb { result.verb ≡ target_verb (Drop (target_of target.now)) }
-    ensures texts { texts_view result ≡ target_texts (Drop (target_of target.now)) }
+    ensures verb { result.verb ≡ (target_entry (Drop (target_of target.now))).0 }
+    ensures texts { texts_view result ≡ (target_entry (Drop (target_of target.now))).1 }
 {
     match target {
         Target::Require(path) => path_entry(Verb::Require, path),
@@ -123,8 +123,8 @@ fn drop_entry<'c>(target: &'c Target) -> TargetEntry<'c>
 
 /// What the entries have that an operation targets.
 pub(crate) fn target_entry<'c>(change: &'c Change) -> TargetEntry<'c>
-    ensures verb { result.verb ≡ target_verb (edit_of change.now) }
-    ensures texts { texts_view result ≡ target_texts (edit_of change.now) }
+    ensures verb { result.verb ≡ (target_entry (edit_of change.now)).0 }
+    ensures texts { texts_view result ≡ (target_entry (edit_of change.now)).1 }
 {
     match change {
         Change::Set(setting) => setting_entry(setting),

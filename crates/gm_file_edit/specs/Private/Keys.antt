@@ -1,7 +1,7 @@
 -- Keys of lines: what tells most lines apart without a look at their words. No public contract cites it.
-use Rattle.std.specs.Prelude.{◌≡◌, ◌⊎◌, ⊤, ◌%◌, ◌^◌, ◌≤◌, ℕ, Bool, true, false, List, [], ◌∷◌, Option, Some, None, if◌then◌else◌, bit_and, bit_or}
-use Rattle.std.specs.Int.{bit_at}
-use Rattle.std.specs.Option.{option_map}
+use Rattle.std.specs.Prelude.{◌≡◌, ◌⊎◌, ⊤, ◌%◌, ◌^◌, ℕ, Bool, true, false, List, [], ◌∷◌, Option, Some, None, if◌then◌else◌, bit_and, bit_or}
+use Rattle.std.specs.List.{fold}
+use Rattle.std.specs.Option.{option_map, option_map_or}
 use Rattle.gm_name.specs.Fingerprint.{fingerprint, tag_of}
 use Rattle.gm_syntax.specs.Tokens.{Placed, words_of}
 use Rattle.gm_syntax.specs.Document.{Line, Blank, Comment, Open, Close, Entry}
@@ -22,17 +22,11 @@ abbrev pub text_bits : List ℕ → ℕ
 text_bits text = bit_and (tag_of (fingerprint 0 text)) (fingerprint 0 text % 2 ^ 32)
 
 abbrev pub optional_bits : Option (List ℕ) → ℕ
-optional_bits None = 0
-optional_bits (Some text) = text_bits text
+optional_bits text = option_map_or text_bits text 0
 
 -- these bits and those of the value of each word
 abbrev pub bits_with : ℕ → List Word → ℕ
-bits_with bits [] = bits
-bits_with bits (word ∷ words) = bits_with (bit_or bits (optional_bits (argument word))) words
-
--- all of these bits are among others
-abbrev pub AreAmong : ℕ → ℕ → Type 0
-AreAmong others bits = (i : ℕ) → bit_at bits i ≤ bit_at others i
+bits_with bits words = fold (λ all word. bit_or all (optional_bits (argument word))) bits words
 
 -- ---- keys
 
@@ -50,12 +44,6 @@ key_of (Close suffix) = key.Close
 key_of (Entry words suffix) =
     key.Entry (record { verb = verb_outside (words_of words); bits = bits_with 0 (words_of words) })
 
--- whether the line with a key opens or closes a block
-abbrev pub changes_block : Key → Bool
-changes_block (key.Open verb) = true
-changes_block key.Close = true
-changes_block _ = false
-
 -- the verb of the open block, if any
 abbrev pub block_verb : Option Placed → Option Verb
 block_verb block = option_map (λ word. main_verb word.word.spelling) block
@@ -66,32 +54,21 @@ entry_verb None (key.Entry entry) = entry.verb
 entry_verb (Some verb) (key.Entry entry) = verb
 entry_verb block _ = verb.Unknown
 
--- these bits are among those of the entry with a key
-abbrev pub HasBits : Key → ℕ → Type 0
-HasBits (key.Entry entry) bits = AreAmong entry.bits bits
-HasBits _ bits = ⊥
-
 -- ---- what an operation targets
 
 -- What each entry has whose directive an operation targets: its verb, and, among the values of its words, a path and a
 -- version or both ends of an interval.
-abbrev pub target_entry : Edit → Verb × Option (List ℕ) × Option (List ℕ)
-target_entry (Set (ModuleIs path)) = (verb.Module, None, None)
-target_entry (Set (GoIs text)) = (verb.Go, None, None)
-target_entry (Set (RequireAt p)) = (verb.Require, Some p.0, None)
-target_entry (Drop (AnyRequire path)) = (verb.Require, Some path, None)
-target_entry (Add (Exclude p)) = (verb.Exclude, Some p.0, Some p.1)
-target_entry (Drop (AnyExclude p)) = (verb.Exclude, Some p.0, Some p.1)
-target_entry (Set (ReplaceWith r)) = (verb.Replace, Some r.0.path, r.0.version)
-target_entry (Drop (AnyReplace left)) = (verb.Replace, Some left.path, left.version)
-target_entry (Add (Retract ends)) = (verb.Retract, Some ends.0, Some ends.1)
-target_entry (Drop (AnyRetract ends)) = (verb.Retract, Some ends.0, Some ends.1)
-
-abbrev pub target_verb : Edit → Verb
-target_verb edit = (target_entry edit).0
-
-abbrev pub target_texts : Edit → Option (List ℕ) × Option (List ℕ)
-target_texts edit = ((target_entry edit).1, (target_entry edit).2)
+abbrev pub target_entry : Edit → Verb × (Option (List ℕ) × Option (List ℕ))
+target_entry (Set (ModuleIs path)) = (verb.Module, (None, None))
+target_entry (Set (GoIs text)) = (verb.Go, (None, None))
+target_entry (Set (RequireAt p)) = (verb.Require, (Some p.0, None))
+target_entry (Drop (AnyRequire path)) = (verb.Require, (Some path, None))
+target_entry (Add (Exclude p)) = (verb.Exclude, (Some p.0, Some p.1))
+target_entry (Drop (AnyExclude p)) = (verb.Exclude, (Some p.0, Some p.1))
+target_entry (Set (ReplaceWith r)) = (verb.Replace, (Some r.0.path, r.0.version))
+target_entry (Drop (AnyReplace left)) = (verb.Replace, (Some left.path, left.version))
+target_entry (Add (Retract ends)) = (verb.Retract, (Some ends.0, Some ends.1))
+target_entry (Drop (AnyRetract ends)) = (verb.Retract, (Some ends.0, Some ends.1))
 
 -- the text, if there is one, is the value of one of the words
 abbrev pub IsValueIn : Option (List ℕ) → List Word → Type 0

@@ -1,12 +1,11 @@
 -- How contracts view the marks of lines. No public contract cites it.
-use Rattle.std.specs.Prelude.{◌≡◌, ◌≤◌, ℕ, Bool, true, false, List, [], ◌∷◌, length, insert, Option, Some, None, is_none, slice_index_or}
+use Rattle.std.specs.Prelude.{◌≡◌, ◌≤◌, ℕ, Bool, true, false, List, [], ◌∷◌, length, insert, map, Option, Some, None, is_none, slice_index_or}
+use Rattle.std.specs.List.{zip}
 use Rattle.gm_syntax.specs.Tokens.{Placed}
 use Rattle.gm_syntax.specs.Document.{Line, Blank, Open, Close}
 use Rattle.gm_file.specs.declared.verb.Verb.{Verb}
-use Rattle.gm_file.specs.Directives.{Directive, block_after_line, main_verb}
+use Rattle.gm_file.specs.Directives.{Directive, main_verb, with_blocks_from}
 use Rattle.gm_file_edit.specs.declared.adding.Spot.{Spot}
-use Rattle.gm_file_edit.specs.declared.packing.Place.{Place}
-use Rattle.gm_file_edit.specs.declared.packing.Place.TheVariants as place
 use Rattle.gm_file_edit.specs.Edited.{with_addition}
 use Rattle.gm_file_edit.specs.Fates.{Fate, fate_by}
 use Rattle.gm_file_edit.specs.Holding.{directive_at, passes}
@@ -15,11 +14,6 @@ use Rattle.gm_file_edit.specs.NewWords.{entry_at}
 -- the line at an index
 abbrev pub line_at : List (Line Placed) → ℕ → Line Placed
 line_at lines n = slice_index_or lines n Blank
-
--- whether a line is blank
-abbrev pub is_blank_source_line : Line Placed → Bool
-is_blank_source_line Blank = true
-is_blank_source_line _ = false
 
 -- whether a line is a closing without a comment
 abbrev pub closes_bare : Line Placed → Bool
@@ -33,30 +27,14 @@ opens_bare _ = false
 
 -- whether each line holds a directive that passes the test, given the verb of the open block, if any
 abbrev pub marks_from : (Directive → Bool) → Option Placed → List (Line Placed) → List Bool
-marks_from test block [] = []
-marks_from test block (line ∷ lines) =
-    passes test (directive_at block line) ∷ marks_from test (block_after_line block line) lines
+marks_from test block lines = map (λ seat. passes test (directive_at seat.0 seat.1)) (with_blocks_from block lines)
 
 -- the fates of lines, each with its mark
 abbrev pub fates_of : List Bool → List (Line Placed) → List Fate
-fates_of [] lines = []
-fates_of (mark ∷ marks) [] = []
-fates_of (mark ∷ marks) (line ∷ lines) = fate_by mark line ∷ fates_of marks lines
+fates_of marks lines = map (λ pair. fate_by pair.0 pair.1) (zip marks lines)
 
 -- a position is where an entry with this verb is added next to others
 pub record IsAdditionSpot (own : Verb) (lines : List (Line Placed)) (spot : Spot) : Type 0 where
   pub in_range : spot.before ≤ length lines
   pub adds : (verb : List ℕ) (arguments : List Placed) → main_verb verb ≡ own
       → insert lines spot.before (entry_at spot.inside verb arguments) ≡ with_addition verb arguments lines
-
--- whether the block goes that is open at a place, if one is
-abbrev pub block_at : Place → Option Bool
-block_at place.Outside = None
-block_at place.BehindGone = None
-block_at place.InKept = Some false
-block_at place.InGone = Some true
-
--- whether a place is behind a block that goes
-abbrev pub is_behind_gone : Place → Bool
-is_behind_gone place.BehindGone = true
-is_behind_gone _ = false

@@ -17,8 +17,7 @@ loop-n-preserved c =
           (w.spot-is ∙ ap (λ (inside : Bool). Some (record { before = c.loop-n.n + 1; inside = inside })) w.is_some.ensures)
       | else-is_entry_in w ↦ rw w.if-is_entry_in.false w.spot-is
     ] in
-    last-more c.args.own c.args.lines.now c.loop-n.block c.verb_after-block.result c.loop-n.n c.key-key.result
-    c.is_entry_in.result c.loop-n.spot c.if-is_entry_in.spot c.requires.known
+    last-more c.verb_after-block.result c.requires.known
     (document-sound c.args.lines.now c.requires.document c.requires.sound) (omega (arith, inside, len))
     c.key-key.ensures (c.is_entry_in.ensures c.requires.known) better c.verb_after-block.ensures c.loop-n.invariant
 
@@ -26,12 +25,10 @@ pub returns-clause-place : goal.returns-clause-place
 returns-clause-place c =
     let over = c.loop-n-test.false in
     let len = c.len-n-end.ensures in
-    best-place c.args.own c.args.lines.now c.loop-n.spot (last-end c.args.own c.args.lines.now c.loop-n.block c.loop-n.n
-    c.loop-n.spot (omega (arith, over, len)) c.loop-n.invariant)
+    best-place c.args.own c.args.lines.now c.loop-n.spot (last-end (omega (arith, over, len)) c.loop-n.invariant)
 
 pub returns-clause-none : goal.returns-clause-none
 returns-clause-none c =
     let over = c.loop-n-test.false in
     let len = c.len-n-end.ensures in
-    best-none c.args.own c.args.lines.now c.loop-n.spot (last-end c.args.own c.args.lines.now c.loop-n.block c.loop-n.n
-    c.loop-n.spot (omega (arith, over, len)) c.loop-n.invariant)
+    best-none c.args.own c.args.lines.now c.loop-n.spot (last-end (omega (arith, over, len)) c.loop-n.invariant)

@@ -3,6 +3,5 @@ use Rattle.gm_file_edit.proofs.keyed_lines.keys_of.Goals as goal
 
 pub loop-line-preserved : goal.loop-line-preserved
 loop-line-preserved c =
-    keys-next c.args.lines.now c.loop-line.line-index c.line-item.result c.loop-line.keys.items c.push.new.self.items
-    c.in_ok-key.key c.loop-line-test.true c.line-item.is c.loop-line.invariant c.in_ok-key.ensures
+    keys-next c.args.lines.now c.loop-line.line-index c.loop-line-test.true c.line-item.is c.loop-line.invariant c.in_ok-key.ensures
     c.in_ok-push.ensures.items

@@ -4,7 +4,7 @@ use Rattle.gm_file_edit.proofs.keys.words_bits.Goals as goal
 
 pub loop-word-preserved : goal.loop-word-preserved
 loop-word-preserved c =
-    bits-next c.args.words.now c.loop-word.word-index c.word-item.result c.loop-word.bits c.in_ok-own.own
+    bits-next c.args.words.now c.loop-word.word-index c.loop-word.bits
     c.loop-word-test.true c.word-item.is c.in_ok-own.ensures ∙ c.loop-word.invariant
 
 pub returns : goal.returns

@@ -39,11 +39,10 @@ loop-n-preserved c =
     (so.verb_is ∙ ap block_verb (sym so.block_is)) (c.key-key.ensures ∙ ap key_of (sym c.line-line.ensures.line)) in
     let marked : c.if-may_hold_target.mark ≡ passes (about edit) (directive_at block line) = elim c.if-may_hold_target.branch [
       | then-may_hold_target+in_ok-mark w ↦ w.mark-is ∙ w.in_ok-mark.ensures
-      | else-may_hold_target w ↦ w.mark-is ∙ unmarked (passes (about edit) (directive_at block line)) c.may_hold_target.result may w.if-may_hold_target.false
+      | else-may_hold_target w ↦ w.mark-is ∙ unmarked (passes (about edit) (directive_at block line)) may w.if-may_hold_target.false
     ] in
-    scan-more edit c.args.lines.now c.loop-n.n block (option_map (λ t. t.now) c.block_after-block.result) c.loop-n.verb
-    c.verb_after-verb.result line c.key-key.result c.loop-n.marks.items c.push.new.self.items
-    c.if-may_hold_target.mark
+    scan-more edit
+    c.verb_after-verb.result
     (omega (arith, inside, len)) c.line-line.ensures.line c.key-key.ensures marked c.in_ok-push.ensures.items
     c.block_after-block.ensures c.verb_after-verb.ensures so
 
@@ -51,5 +50,4 @@ pub returns : goal.returns
 returns c =
     let over = c.loop-n-test.false in
     let len = c.len-n-end.ensures in
-    scan-end (edit_of c.args.change.now) c.args.lines.now c.loop-n.n (option_map (λ t. t.now) c.loop-n.block)
-    c.loop-n.verb c.loop-n.marks.items (omega (arith, over, len)) c.loop-n.invariant
+    scan-end (omega (arith, over, len)) c.loop-n.invariant

@@ -11,7 +11,7 @@ loop-word-init c = λ has. has
 
 pub loop-word-preserved : goal.loop-word-preserved
 loop-word-preserved c = λ has.
-    value-later c.args.words.now c.loop-word.word-index c.word-item.result _ c.may_be_value.result c.loop-word-test.true
+    value-later c.args.words.now c.loop-word.word-index _ c.loop-word-test.true
     c.word-item.is c.may_be_value.ensures c.if-may_be_value.false (c.loop-word.invariant has)
 
 pub returns : goal.returns

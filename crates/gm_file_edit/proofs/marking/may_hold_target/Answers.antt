@@ -13,9 +13,9 @@ returns-then-may_have_bits c = λ edit block verb texts bits inner key hit.
 pub returns-else-may_have_bits : goal.returns-else-may_have_bits
 returns-else-may_have_bits c = λ edit block verb texts bits inner key hit.
     let may = never-passed edit block (line_of c.args.line.now) hit in
-    let entry = verb-passes edit block (line_of c.args.line.now) c.args.target.verb c.args.verb c.args.key
+    let entry = verb-passes edit
     c.is_entry_in.result c.is_entry_in.ensures verb inner key may in
     elim c.if-is_entry_in.branch [
-      | then-is_entry_in w ↦ w.value-is ∙ w.may_have_bits.ensures (rw (key, bits) may.bits)
+      | then-is_entry_in w ↦ w.value-is ∙ w.may_have_bits.ensures may.key (key ∙ may.key_is) (rw bits may.bits)
       | else-is_entry_in w ↦ absurd (let other = w.if-is_entry_in.false in cc)
     ]

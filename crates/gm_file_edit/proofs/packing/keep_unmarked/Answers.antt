@@ -13,13 +13,13 @@ loop-n-preserved c =
     elim c.if-not-goes.branch [
       | then-not-goes w ↦
           rw (w.lines-is, w.count-is)
-          (keep-more marks c.args.lines.now n c.loop-n.count (c.loop-n.count + 1) c.loop-n.lines w.keep.new.lines false
+          (keep-more n (c.loop-n.count + 1) w.keep.new.lines
           (omega (arith, inside)) c.requires (sym w.if-not-goes.true) w.keep.ensures.len (omega (arith, bound))
           w.keep.ensures.rest
           (λ e. absurd cc) (λ e. w.keep.ensures.front) c.loop-n.invariant)
       | else-not-goes w ↦
           rw (w.lines-is, w.count-is)
-          (keep-more marks c.args.lines.now n c.loop-n.count c.loop-n.count c.loop-n.lines c.loop-n.lines true
+          (keep-more n c.loop-n.count c.loop-n.lines
           (omega (arith, inside)) c.requires (sym (get_or_default marks n true false (omega (arith, inside))
           ∙ w.if-not-goes.false)) refl (omega (arith, bound)) refl
           (λ e. refl) (λ e. absurd cc) c.loop-n.invariant)

@@ -1,5 +1,4 @@
 use Rattle.std.proofs.Common.{arith}
-use Rattle.gm_file_edit.specs.Private.Marks.{block_at, is_behind_gone}
 use Rattle.gm_file_edit.proofs.Packs.{widen-line, widen-marked}
 use Rattle.gm_file_edit.proofs.packing.widen.Goals as goal
 use Rattle.gm_file_edit.proofs.packing.widen.Goals.{then-not-index, else-not-index}
@@ -9,20 +8,16 @@ loop-n-preserved c =
     let lines = c.args.lines.now in
     let old = c.args.marks.now.items in
     let n = c.loop-n.n in
-    let place = c.loop-n.place in
-    let block = block_at place in
-    let behind = is_behind_gone place in
     let inside = c.loop-n-test.true in
     let len = c.len-n-end.ensures in
     elim c.if-not-index.branch [
       | then-not-index w ↦
           let after = w.after_line-goes.result in
           rw (w.marks-is, w.place-is)
-          (widen-line lines old n block (block_at after.1) behind (is_behind_gone after.1) c.index.result.now after.0
-          c.loop-n.marks.items w.as_slice.result.now c.requires (omega (arith, inside, len))
+          (widen-line old n after.1.block after.1.behind_gone after.0 c.requires (omega (arith, inside, len))
           c.index.ensures w.if-not-index.true w.as_slice.ensures.value w.after_line-goes.ensures c.loop-n.invariant)
       | else-not-index w ↦
           rw (w.marks-is, w.place-is)
-          (widen-marked lines old n block behind c.index.result.now c.loop-n.marks.items c.requires
+          (widen-marked old n c.requires
           (omega (arith, inside, len)) c.index.ensures w.if-not-index.false c.loop-n.invariant)
     ]

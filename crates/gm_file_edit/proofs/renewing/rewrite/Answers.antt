@@ -1,9 +1,5 @@
-use Rattle.std.proofs.Common.{subst}
 use Rattle.std.specs.Option.{option_map}
 use Rattle.std.specs.String.{string_bytes}
-use Rattle.gm_file_edit.specs.declared.op.Setting.{Setting}
-use Rattle.gm_file_edit.specs.Edits.{Set, GoIs}
-use Rattle.gm_file_edit.specs.Sound.{IsSoundEdit, setting_of}
 use Rattle.gm_file_edit.proofs.Feeds.{go-feed, path-plain, version-plain}
 use Rattle.gm_file_edit.proofs.renewing.rewrite.Goals as goal
 
@@ -11,24 +7,16 @@ pub set_last-requires : goal.set_last-requires
 set_last-requires c = rw c.as_str.ensures.text (path-plain c.in-Module.path c.as_str.ensures.path)
 
 pub set_last-requires-in-Go : goal.set_last-requires-in-Go
-set_last-requires-in-Go c =
-    let sound : IsSoundEdit (Set (GoIs (string_bytes c.in-Go.text))) = subst (λ (x : Setting). IsSoundEdit (Set (setting_of x))) c.in-Go.is c.requires in
-    rw c.as_str-in-Go.ensures.value (go-feed (string_bytes c.in-Go.text) sound)
+set_last-requires-in-Go c = rw c.as_str-in-Go.ensures.value (go-feed (string_bytes c.in-Go.text) (rw c.in-Go.is at c.requires))
 
 pub set_last-requires-in-Require : goal.set_last-requires-in-Require
 set_last-requires-in-Require c = rw c.as_str-in-Require.ensures.text (version-plain c.in-Require.version c.as_str-in-Require.ensures.version)
 
 pub returns-in-Module : goal.returns-in-Module
-returns-in-Module c =
-    let block = option_map (λ t. t.now) c.args.block in
-    rw c.in-Module.is (rw c.as_str.ensures.text at c.set_last.ensures block)
+returns-in-Module c = rw c.in-Module.is (rw c.as_str.ensures.text at c.set_last.ensures (option_map (λ t. t.now) c.args.block))
 
 pub returns-in-Go : goal.returns-in-Go
-returns-in-Go c =
-    let block = option_map (λ t. t.now) c.args.block in
-    rw c.in-Go.is (rw c.as_str-in-Go.ensures.value at c.set_last-in-Go.ensures block)
+returns-in-Go c = rw c.in-Go.is (rw c.as_str-in-Go.ensures.value at c.set_last-in-Go.ensures (option_map (λ t. t.now) c.args.block))
 
 pub returns-in-Require : goal.returns-in-Require
-returns-in-Require c =
-    let block = option_map (λ t. t.now) c.args.block in
-    rw c.in-Require.is (rw c.as_str-in-Require.ensures.text at c.set_last-in-Require.ensures block)
+returns-in-Require c = rw c.in-Require.is (rw c.as_str-in-Require.ensures.text at c.set_last-in-Require.ensures (option_map (λ t. t.now) c.args.block))

@@ -1,14 +1,12 @@
-use Rattle.gm_file_edit.proofs.KeyedChanges.{taken}
+use Rattle.std.proofs.lemmas.List.{take-map}
+use Rattle.gm_syntax.specs.LineViews.{line_of, line_views}
+use Rattle.gm_file_edit.specs.Private.Keys.{key_of}
 use Rattle.gm_file_edit.proofs.keyed_lines.KeyedLines.truncate.Goals as goal
 
 pub invariant_of-self : goal.invariant_of-self
 invariant_of-self c =
-    (taken c.self.inside.lines.items c.truncate.new.self.items c.self.inside.keys.items c.truncate-2.new.self.items
-    c.args.self.now c.args.len c.self.view_is c.self.invariant c.truncate.ensures.items
-    c.truncate-2.ensures.items).numbers
+    let lines = c.self.inside.lines.items in
+    cc (take-map line_of c.args.len lines, take-map key_of c.args.len (line_views lines))
 
 pub returns : goal.returns
-returns c =
-    (taken c.self.inside.lines.items c.truncate.new.self.items c.self.inside.keys.items c.truncate-2.new.self.items
-    c.args.self.now c.args.len c.self.view_is c.self.invariant c.truncate.ensures.items
-    c.truncate-2.ensures.items).view
+returns c = cc (take-map line_of c.args.len c.self.inside.lines.items)

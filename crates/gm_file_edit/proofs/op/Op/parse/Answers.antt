@@ -3,4 +3,4 @@ use Rattle.gm_file_edit.proofs.Written.{named-sound}
 use Rattle.gm_file_edit.proofs.op.Op.parse.Goals as goal
 
 pub invariant_of-result : goal.invariant_of-result
-invariant_of-result c = named-sound _ _ (edit_of c.in_ok-change.change) c.in_ok-change.ensures
+invariant_of-result c = named-sound _ _ c.in_ok-change.ensures
