@@ -1,25 +1,23 @@
 -- The loops that find the position of a new entry, and the insertion of lines.
-use Rattle.std.proofs.Common.{◌≡◌, ℕ, suc, ◌+◌, ◌<◌, ◌≤◌, not, Bool, true, false, List, [], ◌∷◌, ◌++◌, length, take, drop, Option, Some, None, is_some, refl, sym, ap, subst, ◌∙◌, append-nil, append_assoc, arith}
-use Rattle.std.specs.Prelude.{◌||◌, if◌then◌else◌, insert, IfNone, IfSome}
-use Rattle.std.proofs.lemmas.Bool.{or_from}
-use Rattle.std.proofs.Math.Seq.{take-length}
+use Rattle.std.proofs.Common.{◌≡◌, ℕ, suc, ◌+◌, ◌<◌, ◌≤◌, not, Bool, true, false, List, [], ◌∷◌, ◌++◌, length, take, drop, Option, Some, None, is_some, refl, sym, ap, ◌∙◌, append-nil, append_assoc, arith}
+use Rattle.std.specs.Prelude.{if◌then◌else◌, insert, IfNone, IfSome}
 use Rattle.std.proofs.lemmas.List.{drop_all, length-append, length-take-le, take-append-drop, take_all, take_more}
 use Rattle.gm_syntax.specs.Tokens.{Placed}
 use Rattle.gm_syntax.specs.Document.{Line, Blank}
-use Rattle.gm_file.specs.Directives.{Directive, block_after_line, block_after_lines, is_of_verb, main_verb, verb_eq}
+use Rattle.gm_file.specs.Directives.{Directive, block_after_lines, is_of_verb}
 use Rattle.gm_file.specs.Faults.{is_module}
-use Rattle.gm_file_edit.specs.Edited.{with_addition, after_closing, after_first_of, has_verb}
+use Rattle.gm_file_edit.specs.Edited.{after_closing, after_first_of}
 use Rattle.gm_file_edit.specs.declared.adding.Spot.{Spot}
-use Rattle.gm_file_edit.specs.NewWords.{entry_at, single}
+use Rattle.gm_file_edit.specs.NewWords.{entry_at}
 use Rattle.gm_file_edit.specs.Holding.{directive_at, passes, is_there}
 use Rattle.gm_file_edit.specs.GoPlace.{is_loose}
-use Rattle.gm_file_edit.specs.Private.Keys.{entry_verb, key_of}
+use Rattle.gm_file_edit.specs.Private.Keys.{key_of}
 use Rattle.gm_file_edit.specs.Private.Marks.{IsAdditionSpot, line_at}
 use Rattle.gm_file_edit.specs.declared.keys.Key.{Key}
 use Rattle.gm_file.specs.declared.verb.Verb.{Verb}
 use Rattle.gm_file.specs.declared.verb.Verb.TheVariants as verb
 use Rattle.gm_file_edit.proofs.Insertions.{IsLast, added-after-last, there-append}
-use Rattle.gm_file_edit.proofs.PassedOver.{IsKnown, IsVerbTo, StepsVerb, key-tells, verb-inside, verb-more}
+use Rattle.gm_file_edit.proofs.PassedOver.{IsKnown, IsVerbTo, StepsVerb, TellsEntry, key-tells, verb-inside, verb-more}
 use Rattle.gm_file_edit.proofs.Pairs.{IsSound, block-append}
 use Rattle.gm_file_edit.proofs.Walking.{block-level, block-next, level-line, line-here}
 
@@ -104,7 +102,7 @@ pub record IsLastTo (own : Verb) (whole : List (Line Placed)) (block : Option Ve
 pub last-more : {own : Verb} {whole : List (Line Placed)} {block : Option Verb} (next_block : Option Verb) {n : ℕ} {key : Key}
     {found : Bool} {best next : Option Spot} → IsKnown own → IsSound whole → n < length whole
     → key ≡ key_of (line_at whole n)
-    → found ≡ verb_eq own (entry_verb block key) → next ≡ better_at n (is_some block) found best
+    → TellsEntry own block key found → next ≡ better_at n (is_some block) found best
     → StepsVerb block key next_block → IsLastTo own whole block n best → IsLastTo own whole next_block (n + 1) next
 last-more {own} {whole} {block} next_block {n} {found} {best} known sound lt is tells better step so =
     let front : List (Line Placed) = take n whole in
@@ -114,7 +112,7 @@ last-more {own} {whole} {block} next_block {n} {found} {best} known sound lt is 
           rw (take_more whole n Blank lt, better)
           (better-line (is_of_verb own) front (line_at whole n) found best (sym (length-take-le n whole (omega (arith, lt))))
           (ap is_some so.verb ∙ verb-inside (block_after_lines None front))
-          (sym (tells ∙ key-tells own n block known sound lt is so.verb)) so.best_is);
+          (sym (key-tells own n block tells known sound lt is so.verb)) so.best_is);
     }
 
 pub best-place : (own : Verb) (lines : List (Line Placed)) (best : Option Spot) → IsBest (is_of_verb own) lines best
@@ -158,22 +156,25 @@ module _ {own : Verb} {lines : List (Line Placed)} {n : ℕ} (next : ℕ) (known
   outside-next : block_after_lines None (take next lines) ≡ None
   outside-next = sym (block-level lines next lt-next level) ∙ tail-next.outside
 
-  told-next : verb_eq own (entry_verb None (key_of (line_at lines next))) ≡ passes (is_of_verb own) (directive_at None (line_at lines next))
-  told-next = rw outside-next at (key-tells own next None known sound lt-next refl (rw outside-next refl))
+  told-next : {key : Key} {found : Bool} → TellsEntry own None key found → key ≡ key_of (line_at lines next)
+      → found ≡ passes (is_of_verb own) (directive_at None (line_at lines next))
+  told-next tells key_is = rw outside-next at (key-tells own next None tells known sound lt-next key_is (rw outside-next refl))
 
   -- one more line
-  pub tail-more : verb_eq own (entry_verb None (key_of (line_at lines next))) ≡ false → IsTail own lines next
-  tail-more fails =
+  pub tail-more : {key : Key} {found : Bool} → TellsEntry own None key found → key ≡ key_of (line_at lines next) → found ≡ false
+      → IsTail own lines next
+  tail-more tells key_is fails =
       let lt = lt-next in
       record {
         in_range = omega (arith, lt);
         outside = outside-next;
-        none = rw (line-here lines next lt, sym told-next ∙ fails, level-line None (line_at lines next) level) tail-next.none;
+        none = rw (line-here lines next lt, sym (told-next tells key_is) ∙ fails, level-line None (line_at lines next) level) tail-next.none;
       }
 
   -- the entry before the tail is the last
-  pub tail-found : verb_eq own (entry_verb None (key_of (line_at lines next))) ≡ true → IsSpotOf (is_of_verb own) lines (record { before = n; inside = false })
-  tail-found holds =
+  pub tail-found : {key : Key} {found : Bool} → TellsEntry own None key found → key ≡ key_of (line_at lines next) → found ≡ true
+      → IsSpotOf (is_of_verb own) lines (record { before = n; inside = false })
+  tail-found tells key_is holds =
       let lt = lt-next in
       let count = length-take-le next lines (omega (arith, lt)) in
       record {
@@ -182,7 +183,7 @@ module _ {own : Verb} {lines : List (Line Placed)} {n : ℕ} (next : ℕ) (known
           line = line_at lines next;
           back = drop (next + 1) lines;
           parts = rw (line-here lines next lt) at (sym (take-append-drop next lines));
-          hit = rw outside-next (sym told-next ∙ holds);
+          hit = rw outside-next (sym (told-next tells key_is) ∙ holds);
           later = rw (← take_more lines next Blank lt, tail-next.outside) tail-next.none;
         };
         before = omega (arith, count, is);
@@ -201,8 +202,8 @@ pub record IsUnmetTo (whole : List (Line Placed)) (block : Option Verb) (n : ℕ
   pub same : (new : List (Line Placed)) → take n whole ++ after_first_of is_module new
       (block_after_lines None (take n whole)) (drop n whole) ≡ after_first_of is_module new None whole
 
-module _ {whole : List (Line Placed)} {at : Option Verb} {n : ℕ} {key : Key} (sound : IsSound whole) (lt : n < length whole)
-    (is : key ≡ key_of (line_at whole n)) (so : IsUnmetTo whole at n) where
+module _ {whole : List (Line Placed)} {at : Option Verb} {n : ℕ} {key : Key} {found : Bool} (sound : IsSound whole)
+    (lt : n < length whole) (is : key ≡ key_of (line_at whole n)) (tells : TellsEntry verb.Module at key found) (so : IsUnmetTo whole at n) where
   -- the lines up to and including the next one
   taken-next : (rest : List (Line Placed)) → take (n + 1) whole ++ rest ≡ take n whole ++ line_at whole n ∷ rest
   taken-next rest = rw (take_more whole n Blank lt) (append_assoc (take n whole) (line_at whole n ∷ []) rest)
@@ -212,21 +213,18 @@ module _ {whole : List (Line Placed)} {at : Option Verb} {n : ℕ} {key : Key} (
       (line_at whole n ∷ drop (n + 1) whole) ≡ after_first_of is_module new None whole
   here-on new = rw (line-here whole n lt) at (so.same new)
 
-  told-here : verb_eq verb.Module (entry_verb at key) ≡ passes is_module (directive_at (block_after_lines None (take n whole)) (line_at whole n))
-  told-here = key-tells verb.Module n at refl sound lt is so.verb
-
-  pub unmet-more : (next_at : Option Verb) → verb_eq verb.Module (entry_verb at key) ≡ false → StepsVerb at key next_at → IsUnmetTo whole next_at (n + 1)
+  pub unmet-more : (next_at : Option Verb) → found ≡ false → StepsVerb at key next_at → IsUnmetTo whole next_at (n + 1)
   unmet-more next_at fails step = record {
     verb = verb-more whole n at next_at lt is step so.verb;
-    same = λ new. rw (block-next whole n lt) (taken-next _ ∙ rw (sym told-here ∙ fails) at (here-on new));
+    same = λ new. rw (block-next whole n lt) (taken-next _ ∙ rw (sym (key-tells verb.Module n at tells refl sound lt is so.verb) ∙ fails) at (here-on new));
   }
 
   -- the lines with new ones after the line at an index, or after its block
-  pub unmet-found : {inside : Bool} → verb_eq verb.Module (entry_verb at key) ≡ true → inside ≡ is_some at → (new : List (Line Placed))
+  pub unmet-found : {inside : Bool} → found ≡ true → inside ≡ is_some at → (new : List (Line Placed))
       → take (n + 1) whole ++ (if inside then after_closing new (drop (n + 1) whole) else new ++ drop (n + 1) whole) ≡ after_first_of is_module new None whole
   unmet-found holds within new =
       rw (within ∙ ap is_some so.verb ∙ verb-inside (block_after_lines None (take n whole)))
-      (taken-next _ ∙ rw (sym told-here ∙ holds) at (here-on new))
+      (taken-next _ ∙ rw (sym (key-tells verb.Module n at tells refl sound lt is so.verb) ∙ holds) at (here-on new))
 
 pub unmet-end : {whole : List (Line Placed)} {at : Option Verb} {n count : ℕ} → length whole ≤ n → count ≡ length whole
     → IsUnmetTo whole at n → (new : List (Line Placed)) → take count whole ++ (new ++ drop count whole)

@@ -77,10 +77,8 @@ go-placed text {front} back {line} first none = edited-go text (front ++ line �
 
 pub go-follows : GoFollowsModule
 go-follows text front back line first none outside =
-    go-placed text back first none ∙ ap (λ (b : Bool). front ++ line ∷ (if b then after_closing (new_go text) back else new_go text ++ back)) outside
+    rw outside at (go-placed text back first none)
 
 pub go-follows-block : GoFollowsModuleBlock
 go-follows-block text front inner back line last first none inside loose =
-    let rest : List (Line Placed) = inner ++ Close last ∷ back in
-    go-placed text rest first none ∙ ap (λ (b : Bool). front ++ line ∷ (if b then after_closing (new_go text) rest else new_go text ++ rest)) inside
-    ∙ ap (λ (ls : List (Line Placed)). front ++ line ∷ ls) (to-closing (new_go text) inner back last loose)
+    rw (inside, to-closing (new_go text) inner back last loose) at (go-placed text (inner ++ Close last ∷ back) first none)

@@ -1,6 +1,6 @@
 -- No operation removes, adds or moves a comment line.
-use Rattle.std.proofs.Common.{◌≡◌, ℕ, ◌||◌, Bool, true, false, List, [], ◌∷◌, ◌++◌, Option, Some, None, refl, sym, ap, ◌∙◌, inl, inr}
-use Rattle.std.specs.Prelude.{filter, if◌then◌else◌}
+use Rattle.std.proofs.Common.{◌≡◌, ℕ, ◌||◌, Bool, true, false, List, [], ◌∷◌, ◌++◌, Option, Some, None, refl, sym, ◌∙◌, inl, inr}
+use Rattle.std.specs.Prelude.{filter}
 use Rattle.std.proofs.lemmas.Bool.{cases_Bool}
 use Rattle.std.proofs.lemmas.List.Elements.{filter-append}
 use Rattle.gm_syntax.specs.Tokens.{Placed}
@@ -109,10 +109,13 @@ gap-comments false false verb arguments lines = refl
 
 into-comments : {verb : List ℕ} {arguments : List Placed} {lines after : List (Line Placed)}
     → IsPutInto verb arguments lines after → comments after ≡ comments lines
-into-comments {verb} {arguments} put =
-    ap comments put.is ∙ filter-append is_comment_line put.front (gap_lines put.gap ++ entry_at put.inside verb arguments ∷ put.back)
-    ∙ ap (λ (ls : List (Line Placed)). comments put.front ++ ls) (gap-comments put.gap put.inside verb arguments put.back)
-    ∙ sym (ap comments put.was ∙ filter-append is_comment_line put.front put.back)
+into-comments {verb} {arguments} put = rw (
+  put.is,
+  put.was,
+  filter-append is_comment_line put.front (gap_lines put.gap ++ entry_at put.inside verb arguments ∷ put.back),
+  filter-append is_comment_line put.front put.back,
+  gap-comments put.gap put.inside verb arguments put.back,
+)
 
 -- ---- the lines after an operation
 

@@ -1,9 +1,9 @@
 -- Lines of which entries are removed or rewritten stay a document without a fault: each line stays right in its block,
 -- and the directives are those that aren't targeted, with the new one.
-use Rattle.std.proofs.Common.{◌≡◌, ◌||◌, not, Bool, true, false, List, [], ◌∷◌, Option, None, refl, sym, ap, subst, ◌∙◌, inl, inr}
+use Rattle.std.proofs.Common.{◌≡◌, ◌||◌, Bool, true, false, List, [], ◌∷◌, Option, None, refl, ◌∙◌, inl, inr}
 use Rattle.std.specs.Prelude.{filter}
 use Rattle.std.specs.List.{list_any}
-use Rattle.std.proofs.lemmas.Bool.{cases_Bool, or_from, or_parts}
+use Rattle.std.proofs.lemmas.Bool.{cases_Bool, or_parts}
 use Rattle.gm_syntax.specs.Tokens.{Placed}
 use Rattle.gm_syntax.specs.Document.{Line}
 use Rattle.gm_file.specs.Directives.{Directive, block_after_line, block_after_lines}
@@ -12,7 +12,7 @@ use Rattle.gm_file.specs.Pairwise.{do_clash}
 use Rattle.gm_file.proofs.Pairwise.{AreApart, clash-mutual}
 use Rattle.gm_file_edit.specs.Fates.{Fate, without_targets, dropping_from, kept_lines, remaining, with_renewal, renewing_from}
 use Rattle.gm_file_edit.specs.Holding.{directive_at, passes, is_there}
-use Rattle.gm_file_edit.proofs.Filters.{fewer-any, filter-any, filter-none, filter-one, none-any, none-filtered, others}
+use Rattle.gm_file_edit.proofs.Filters.{fewer-any, filter-any, none-any, none-filtered, others}
 use Rattle.gm_file_edit.proofs.Insertions.{passing-level}
 use Rattle.gm_file_edit.proofs.Pairs.{AreRightFrom, IsRightLine, IsSound, held_from}
 use Rattle.gm_file_edit.proofs.Made.{IsRenewal, Makes}

@@ -1,5 +1,5 @@
 -- The lines after an operation are a document without a fault.
-use Rattle.std.proofs.Common.{◌≡◌, ℕ, true, false, List, ◌∷◌, Option, Some, None, subst, refl, sym, ap, ◌∙◌, arith, inl, inr}
+use Rattle.std.proofs.Common.{◌≡◌, ℕ, true, false, List, ◌∷◌, Some, None, refl, ◌∙◌, arith, inl, inr}
 use Rattle.std.specs.Prelude.{IfSome, codes}
 use Rattle.std.specs.Str.{bytes_eq}
 use Rattle.std.proofs.lemmas.Bool.{cases_Bool}
@@ -24,7 +24,7 @@ use Rattle.gm_file_edit.specs.About.{about}
 use Rattle.gm_file_edit.specs.Edited.{with_change, lines_after, put_in}
 use Rattle.gm_file_edit.specs.Kinds.{directive_set, is_fit}
 use Rattle.gm_file_edit.specs.Holding.{is_there}
-use Rattle.gm_file_edit.specs.NewWords.{interval_words, pair_words, replace_words, single}
+use Rattle.gm_file_edit.specs.NewWords.{interval_words, pair_words, single}
 use Rattle.gm_file_edit.specs.Renewing.{made_new}
 use Rattle.gm_file_edit.specs.Sound.{AreVersions, IsPairOfNames, IsSoundEdit}
 use Rattle.gm_file_edit.proofs.Insertions.{IsAddition, IsNewTo, into-sound, by-put, entry_put, there-is}
@@ -153,7 +153,7 @@ entry-says (Add (Retract ends)) good = record {
 entry-says (Drop t) good = tt
 
 pub says : (edit : Edit) (entry : List ℕ × List Placed) → entry_put edit ≡ Some entry → IsSoundEdit edit → Says edit entry
-says edit entry e good = subst (λ (o : Option (List ℕ × List Placed)). IfSome o (Says edit)) e (entry-says edit good)
+says edit entry e good = rw e at (entry-says edit good)
 
 -- ---- the lines after an operation
 
@@ -173,7 +173,7 @@ put-new : (edit : Edit) (new : Directive) (lines : List (Line Placed)) → put_b
     → is_fit edit ≡ true → is_there (about edit) None lines ≡ false → IsNewTo (held_from None lines) new
 put-new edit new lines put good fit none =
     let by = wanted edit new put good fit in
-    (by.kinds, fewer-any (about edit) (do_clash new) by.mild (held_from None lines) (sym (there-is (about edit) None lines) ∙ none))
+    (by.kinds, fewer-any (about edit) (do_clash new) by.mild (held_from None lines) (rw (there-is (about edit) None lines) at none))
 
 put-sound : (lines : List (Line Placed)) → IsSound lines → (edit : Edit) → IsSoundEdit edit → is_fit edit ≡ true
     → is_there (about edit) None lines ≡ false → IsSound (put_in edit lines)

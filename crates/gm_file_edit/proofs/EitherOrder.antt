@@ -1,5 +1,5 @@
 -- Two operations with no common target leave the same directives in either order.
-use Rattle.std.proofs.Common.{◌≡◌, if◌then◌else◌, Bool, List, [], ◌∷◌, ◌++◌, refl, sym, ap, subst, ◌∙◌}
+use Rattle.std.proofs.Common.{◌≡◌, Bool, List, ◌++◌, refl, sym, ap, ◌∙◌}
 use mathlib.Core.Bool.{and_comm}
 use Rattle.std.specs.Prelude.{filter}
 use Rattle.std.specs.List.{list_any}
@@ -29,9 +29,7 @@ targeted-same (Add a) xs ys one two same =
     let test : Directive → Bool = about (Add a) in
     let there : list_any test (directives_of xs) ≡ list_any test (directives_of ys) =
     any-filled test (directives_of xs) ∙ ap is_filled same ∙ sym (any-filled test (directives_of ys)) in
-    added-is-there (Add a) xs (directive_added a) one refl ∙ ap (λ (b : Bool). if b then filter test (directives_of xs) else directive_added a ∷ []) there
-    ∙ ap (λ (ds : List Directive). if list_any test (directives_of ys) then ds else directive_added a ∷ []) same
-    ∙ sym (added-is-there (Add a) ys (directive_added a) two refl)
+    rw (there, same) at (added-is-there (Add a) xs (directive_added a) one refl) ∙ sym (added-is-there (Add a) ys (directive_added a) two refl)
 targeted-same (Drop t) xs ys one two same =
     let test : Directive → Bool = about (Drop t) in
     no-filter test (directives_of (lines_after (Drop t) xs)) (dropped-is-gone (Drop t) xs refl)
@@ -49,9 +47,8 @@ edit-after edit other lines is also =
 kept-by : (edit other : Edit) (lines : List (Line Placed)) → IsEditOf other lines → AreApart edit other
     → filter (about edit) (directives_of (lines_after other lines)) ≡ filter (about edit) (directives_of lines)
 kept-by edit other lines is apart =
-    sym (among-others (about edit) (about other) apart (directives_of (lines_after other lines)))
-    ∙ ap (filter (about edit)) (others-stay other lines is)
-    ∙ among-others (about edit) (about other) apart (directives_of lines)
+    rw (← among-others (about edit) (about other) apart (directives_of (lines_after other lines)), others-stay other lines is)
+    (among-others (about edit) (about other) apart (directives_of lines))
 
 -- so what an operation targets is the same in both orders
 first-same : (one other : Edit) (lines : List (Line Placed)) → IsEditOf one lines → IsEditOf other lines → AreApart one other
@@ -68,11 +65,12 @@ neither one other ds = filter (others (about other)) (filter (others (about one)
 neither-after : (one other : Edit) (lines : List (Line Placed)) → IsEditOf one lines → IsEditOf other lines
     → neither one other (directives_of (lines_after other (lines_after one lines)))
     ≡ neither one other (directives_of lines)
-neither-after one other lines is also =
-    filters-swap (others (about other)) (others (about one)) (directives_of (lines_after other (lines_after one lines)))
-    ∙ ap (filter (others (about one))) (others-stay other (lines_after one lines) (edit-after other one lines also is))
-    ∙ filters-swap (others (about one)) (others (about other)) (directives_of (lines_after one lines))
-    ∙ ap (filter (others (about other))) (others-stay one lines is)
+neither-after one other lines is also = rw (
+  filters-swap (others (about other)) (others (about one)) (directives_of (lines_after other (lines_after one lines))),
+  others-stay other (lines_after one lines) (edit-after other one lines also is),
+  filters-swap (others (about one)) (others (about other)) (directives_of (lines_after one lines)),
+  others-stay one lines is,
+)
 
 -- the directives in three parts
 abbrev parts_of : Edit → Edit → List Directive → List Directive
@@ -87,8 +85,7 @@ in-parts one other ds apart =
     let q : Directive → Bool = about other in
     let rest : List Directive = filter (others p) ds in
     let inner : IsPermutation rest (filter q ds ++ neither one other ds) =
-    subst (λ (es : List Directive). IsPermutation rest (es ++ neither one other ds))
-    (among-others q p (apart-swap one other apart) ds) (IsPermutation-filter_both q (others q) (λ d. refl) rest) in
+    rw (among-others q p (apart-swap one other apart) ds) at (IsPermutation-filter_both q (others q) (λ d. refl) rest) in
     IsPermutation-trans ds (filter p ds ++ rest) (parts_of one other ds)
     (IsPermutation-filter_both p (others p) (λ d. refl) ds)
     (IsPermutation-append_right (filter p ds) rest (filter q ds ++ neither one other ds) inner)
@@ -103,9 +100,6 @@ either-order one other lines is also apart =
     neither-after one other lines is also ∙ filters-swap (others (about other)) (others (about one))
     (directives_of lines) ∙ sym (neither-after other one lines also is)
     ∙ sym (filters-swap (others (about other)) (others (about one)) ys) in
-    let same : parts_of one other xs ≡ parts_of one other ys =
-    ap (λ (ds : List Directive). ds ++ (filter (about other) xs ++ neither one other xs)) here
-    ∙ ap (λ (ds : List Directive). filter (about one) ys ++ (ds ++ neither one other xs)) there
-    ∙ ap (λ (ds : List Directive). filter (about one) ys ++ (filter (about other) ys ++ ds)) rest in
-    IsPermutation-trans xs (parts_of one other ys) ys (subst (IsPermutation xs) same (in-parts one other xs apart))
+    let same : parts_of one other xs ≡ parts_of one other ys = rw (here, there, rest) in
+    IsPermutation-trans xs (parts_of one other ys) ys (rw same at (in-parts one other xs apart))
     (IsPermutation-sym ys (parts_of one other ys) (in-parts one other ys apart))

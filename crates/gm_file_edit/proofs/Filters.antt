@@ -1,5 +1,5 @@
 -- Filters of lists, and tests of what they leave.
-use Rattle.std.proofs.Common.{◌≡◌, ◌&&◌, ◌||◌, not, if◌then◌else◌, Bool, true, false, List, [], ◌∷◌, refl, sym, ap, ◌∙◌, inl, inr}
+use Rattle.std.proofs.Common.{◌≡◌, ◌&&◌, not, Bool, true, false, List, [], ◌∷◌, refl, sym, ap, ◌∙◌, inl, inr}
 use mathlib.Core.Bool.{and_comm, and_self}
 use Rattle.std.specs.Prelude.{filter}
 use Rattle.std.specs.List.{list_any}

@@ -1,13 +1,13 @@
 -- Where an operation puts a new entry, next to those of its verb, or outside blocks after a blank line, and that the lines
 -- stay a document without a fault.
-use Rattle.std.proofs.Common.{◌≡◌, ℕ, ◌||◌, Bool, true, false, List, [], ◌∷◌, ◌++◌, Option, Some, None, is_some, refl, sym, ap, subst, ◌∙◌, append-nil, append_assoc, inl, inr}
+use Rattle.std.proofs.Common.{◌≡◌, ℕ, ◌||◌, Bool, true, false, List, [], ◌∷◌, ◌++◌, Option, Some, None, is_some, refl, sym, ap, ◌∙◌, append-nil, append_assoc, inl, inr}
 use mathlib.Core.Bool.{or_assoc}
 use Rattle.std.specs.Prelude.{⊤, codes}
 use Rattle.std.specs.List.{cons_option, list_any}
 use Rattle.std.proofs.lemmas.Bool.{and_right, cases_Bool, or_right, true≢false}
 use Rattle.gm_syntax.specs.Tokens.{Placed, words_of}
 use Rattle.gm_syntax.specs.Document.{Line, Blank, Comment, Open, Close, Entry, IsValidLine}
-use Rattle.gm_file.specs.Directives.{Strict, Directive, block_after_line, block_after_lines, item_at, main_verb, verb_in, verb_of_directive, Item, Silent, Opening, Saying, directive_in, directive_of, is_empty_block, with_blocks}
+use Rattle.gm_file.specs.Directives.{Strict, Directive, block_after_line, block_after_lines, item_at, main_verb, verb_in, verb_of_directive, Item, Silent, Opening, Saying, directive_in, directive_of, is_empty_block}
 use Rattle.gm_file.specs.Faults.{is_module, directive_kinds, entry_kinds, item_kinds}
 use Rattle.gm_file.proofs.DirectiveVerbs.{directive-verb, same-verb}
 use Rattle.gm_file_edit.specs.Edited.{with_addition, after_closing, after_first_of, after_last_of, has_verb, new_entry, put_in}
@@ -15,13 +15,12 @@ use Rattle.gm_file_edit.specs.Edits.{Edit, Target, Set, ModuleIs, GoIs, RequireA
 use Rattle.gm_file_edit.specs.Holding.{directive_at, passes, is_there, item_of}
 use Rattle.gm_file_edit.specs.Laws.{directives_of}
 use Rattle.gm_file_edit.specs.NewWords.{entry_at, made_word, single}
-use Rattle.gm_file_edit.proofs.Pairs.{block-append, file-held, held_from, IsSound, held_in, put-line}
+use Rattle.gm_file_edit.proofs.Pairs.{block-append, file-held, held_from, IsSound, put-line}
 use Rattle.gm_syntax.specs.Bare.{new_word}
 use Rattle.gm_syntax.specs.LineViews.{plain}
 use Rattle.gm_syntax.proofs.Changes.{blank_stands}
 use Rattle.gm_file.specs.declared.verb.Verb.{Verb}
 use Rattle.gm_file.specs.Pairwise.{do_clash}
-use Rattle.gm_file.proofs.Pairwise.{IsClear}
 use Rattle.gm_file.proofs.SimpleLines.{none-open}
 
 -- ---- lines that hold a directive
@@ -138,7 +137,11 @@ after-last-behind test text arguments block [] back line hit none =
     let held : passes test (directive_at block line) ≡ true = hit in
     let later : is_there test (block_after_line block line) back ≡ false = none in rw (held, later) refl
 after-last-behind test text arguments block (x ∷ front) back line hit none =
-    rw (there-behind test (block_after_line block x) front back line hit, and_right (passes test (directive_at block x)) false refl, after-last-behind test text arguments (block_after_line block x) front back line hit none)
+    rw (
+      there-behind test (block_after_line block x) front back line hit,
+      and_right (passes test (directive_at block x)) false refl,
+      after-last-behind test text arguments (block_after_line block x) front back line hit none,
+    )
 
 pub added-after-last : (verb : List ℕ) (arguments : List Placed) (front back : List (Line Placed)) (line : Line Placed)
     → passes (has_verb verb) (directive_at (block_after_lines None front) line) ≡ true

@@ -1,5 +1,5 @@
 -- Changes of lines and of their keys.
-use Rattle.std.proofs.Common.{◌≡◌, ℕ, zero, suc, ◌+◌, ◌<◌, ◌≤◌, List, [], ◌∷◌, ◌++◌, length, map, take, drop, set, get_or, refl, sym, ap, ◌∙◌, arith}
+use Rattle.std.proofs.Common.{◌≡◌, ℕ, zero, suc, ◌+◌, ◌<◌, ◌≤◌, List, [], ◌∷◌, ◌++◌, length, map, take, drop, set, get_or, refl, sym, arith}
 use Rattle.std.specs.Prelude.{insert}
 use Rattle.std.specs.List.{swap}
 use Rattle.std.proofs.lemmas.List.{drop-map, length-map, map-append, map-set, map_more, map_push, take-map}
@@ -10,7 +10,6 @@ use Rattle.gm_syntax.specs.declared.line.Line as declared
 use Rattle.gm_syntax.specs.declared.line.Line.TheVariants as variants
 use Rattle.gm_syntax.specs.Document.{Line, Blank}
 use Rattle.gm_syntax.specs.LineViews.{line_of, line_views}
-use Rattle.gm_syntax.specs.Tokens.{Placed}
 use Rattle.gm_file_edit.specs.declared.keys.Key.{Key}
 use Rattle.gm_file_edit.specs.Private.Keys.{key_of}
 

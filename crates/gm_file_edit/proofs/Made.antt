@@ -1,5 +1,5 @@
 -- The words of new entries, and what an entry says after its arguments are replaced.
-use Rattle.std.proofs.Common.{◌≡◌, ℕ, ◌-◌, ◌<◌, Bool, true, false, List, [], ◌∷◌, ◌++◌, length, length-append, take, Option, Some, None, is_some, refl, sym, ap, subst, ◌∙◌, arith, inl, inr}
+use Rattle.std.proofs.Common.{◌≡◌, ℕ, ◌-◌, ◌<◌, Bool, true, false, List, [], ◌∷◌, ◌++◌, length, length-append, take, Option, Some, None, is_some, refl, ap, ◌∙◌, arith, inl, inr}
 use Rattle.std.specs.List.{AllByRecursion}
 use Rattle.std.proofs.lemmas.Bool.{cases_Bool}
 use Rattle.std.proofs.lemmas.List.{take_at}
@@ -141,26 +141,23 @@ open-behind w (v ∷ ws) some = refl
 
 new-entry : (block : Option Placed) (verb : List ℕ) (front old : List Placed) {arguments : List Placed} {suffix : Option (List ℕ)} → IsFront block verb front
     → IsEntry (words_of (front ++ old)) suffix → AreArguments arguments → IsEntry (words_of (front ++ arguments)) suffix
-new-entry None verb front old {arguments} {suffix} at entry are =
-    let w : Placed = at.0 in
-    let before : IsEntry (words_of (w ∷ old)) suffix = subst (λ (f : List Placed). IsEntry (words_of (f ++ old)) suffix) at.1 entry in
-    let after : IsEntry (words_of (w ∷ arguments)) suffix = record {
+new-entry None verb front old {arguments} at entry are =
+    let before = rw (at.1) at entry in
+    rw (at.1) (record {
       are_words = (before.are_words.0, are.words);
       is_suffix = before.is_suffix;
       filled = omega arith;
-      opens_nothing = open-behind w.word (words_of arguments) are.filled ∙ are.opens_nothing;
+      opens_nothing = open-behind at.0.word (words_of arguments) are.filled ∙ are.opens_nothing;
       closes_nothing = before.closes_nothing;
-    } in
-    subst (λ (f : List Placed). IsEntry (words_of (f ++ arguments)) suffix) (sym at.1) after
-new-entry (Some v) verb front old {arguments} {suffix} at entry are =
-    let after : IsEntry (words_of arguments) suffix = record {
+    })
+new-entry (Some v) verb front old at entry are =
+    rw (at.0) (record {
       are_words = are.words;
       is_suffix = entry.is_suffix;
       filled = are.filled;
       opens_nothing = are.opens_nothing;
       closes_nothing = are.closes_nothing;
-    } in
-    subst (λ (f : List Placed). IsEntry (words_of (f ++ arguments)) suffix) (sym at.0) after
+    })
 
 -- an entry whose arguments are replaced says what the new ones say
 pub entry-made : {new was : Directive} {block : Option Placed} {line next : Line Placed} (h : IsHeldBy block line was) {arguments : List Placed}
@@ -170,10 +167,8 @@ pub entry-made : {new was : Directive} {block : Option Placed} {line next : Line
 entry-made {block} h {arguments} is stands are says kinds =
     let item : item_of block (Entry (h.front ++ arguments) h.suffix) ≡ Saying h.verb (words_of arguments) =
     new-item block h.verb h.front arguments h.suffix h.at are.no_block in
-    let stood : IsValidLine (is_some block) (plain (Entry (h.front ++ h.arguments) h.suffix)) =
-    subst (λ (l : Line Placed). IsValidLine (is_some block) (plain l)) h.is stands in
-    let old : IsEntry (words_of (h.front ++ h.arguments)) h.suffix = standing_entry (is_some block) (words_of (h.front ++ h.arguments)) h.suffix stood in
-    let entry : IsEntry (words_of (h.front ++ arguments)) h.suffix = new-entry block h.verb h.front h.arguments h.at old are in
+    let old = standing_entry (is_some block) (words_of (h.front ++ h.arguments)) h.suffix (rw h.is at stands) in
+    let entry = new-entry block h.verb h.front h.arguments h.at old are in
     record {
       words = h.front ++ arguments;
       suffix = h.suffix;
@@ -212,7 +207,7 @@ two-arguments [] p e = absurd cc
 two-arguments (a ∷ []) p e = absurd cc
 two-arguments (a ∷ b ∷ []) p e =
     let parts = both-are pair (argument a.word) (argument b.word) e in
-    (a, b, refl, parts.2 ∙ ap (λ (q : ModuleVersion). Some q.0) parts.4)
+    (a, b, refl, rw (← parts.4) parts.2)
 two-arguments (a ∷ b ∷ c ∷ words) p e = absurd cc
 
 pub one-are : (value : List ℕ) → HasNoLineFeed value → AreArguments (made_word value ∷ [])

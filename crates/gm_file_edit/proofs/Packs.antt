@@ -1,5 +1,5 @@
 -- Lines of which those with a mark are removed in place, step by step.
-use Rattle.std.proofs.Common.{◌≡◌, ℕ, suc, ◌+◌, ◌-◌, ◌<◌, ◌≤◌, Bool, true, false, List, [], ◌∷◌, ◌++◌, length, take, drop, get_or, set, Option, Some, None, refl, sym, ap, subst, drop-cons, ◌∙◌, append_assoc, arith}
+use Rattle.std.proofs.Common.{◌≡◌, ℕ, suc, ◌+◌, ◌-◌, ◌<◌, ◌≤◌, Bool, true, false, List, [], ◌∷◌, ◌++◌, length, take, drop, get_or, set, Option, Some, None, refl, sym, ap, ◌∙◌, append_assoc, arith}
 use Rattle.std.specs.Prelude.{not, take_while}
 use Rattle.std.specs.List.{list_any, prefix_len, swap}
 use Rattle.std.proofs.lemmas.List.Edits.{swap_is}
@@ -49,7 +49,8 @@ left-more : (mark : Bool) (front new : List (Line Placed)) (line : Line Placed) 
 left-more true front new line fates gone stays = rw (gone refl)
 left-more false front new line fates gone stays = rw (stays refl) (append_assoc front (line ∷ []) (kept_lines fates))
 
-pub keep-more : {marks : List Bool} {whole : List (Line Placed)} (n : ℕ) {count : ℕ} (next : ℕ) {lines : List (Line Placed)} (new : List (Line Placed)) {mark : Bool}
+pub keep-more : {marks : List Bool} {whole : List (Line Placed)} (n : ℕ) {count : ℕ} (next : ℕ) {lines : List (Line Placed)}
+    (new : List (Line Placed)) {mark : Bool}
     → n < length marks → length marks ≡ length whole → mark ≡ get_or marks n mark → length new ≡ length lines
     → next ≤ n + 1 → drop (n + 1) new ≡ drop (n + 1) lines
     → (mark ≡ true → take next new ≡ take count lines) → (mark ≡ false

@@ -6,13 +6,15 @@ use Rattle.gm_syntax.specs.Tokens.{Placed, words_of}
 use Rattle.gm_syntax.specs.Document.{Line, Blank, Comment, Open, Close, Entry}
 use Rattle.gm_file.specs.declared.verb.Verb.{Verb}
 use Rattle.gm_file.specs.declared.verb.Verb.TheVariants.{Unknown}
-use Rattle.gm_file.specs.Directives.{Directive, block_after_line, block_after_lines, directive_of, is_empty_block, is_of_verb, item_at, main_verb, verb_eq}
+use Rattle.gm_file.specs.Directives.{Strict, Directive, block_after_line, block_after_lines, directive_of, is_empty_block, is_of_verb, item_at, main_verb, verb_eq}
+use Rattle.gm_file.specs.Faults.{item_kinds}
 use Rattle.gm_file.proofs.DirectiveVerbs.{directive-verb, verb-itself}
 use Rattle.gm_file_edit.specs.About.{about}
 use Rattle.gm_file_edit.specs.Edits.{Edit, Set, ModuleIs, Drop, AnyRequire, Add, Exclude}
 use Rattle.gm_file_edit.specs.Holding.{directive_at, item_of, passes}
-use Rattle.gm_file_edit.specs.Private.Keys.{block_verb, entry_verb, HasTexts, IsValueIn, key_of, target_entry, texts_bits}
+use Rattle.gm_file_edit.specs.Private.Keys.{block_verb, HasTexts, IsValueIn, key_of, target_entry, texts_bits}
 use Rattle.gm_file_edit.specs.Private.Marks.{line_at}
+use Rattle.std.specs.Option.{option_map_or}
 use Rattle.std.specs.Prelude.{bit_or}
 use Rattle.gm_file_edit.specs.declared.keys.EntryKey.{EntryKey}
 use Rattle.gm_file_edit.specs.declared.keys.Key.{Key}
@@ -38,6 +40,11 @@ pub verb-inside : (block : Option Placed) → is_some (block_verb block) ≡ is_
 verb-inside None = refl
 verb-inside (Some word) = refl
 
+-- the verb of the entry that the line with a key is, given the verb of the open block, if any
+abbrev pub entry_verb : Option Verb → Key → Verb
+entry_verb block (EntryOf entry) = option_map_or (λ verb. verb) block entry.verb
+entry_verb block _ = Unknown
+
 -- the key of a line says whether the line is an entry of the verb
 entry-said : (own : Verb) → IsKnown own → (block : Option Placed) (line : Line Placed)
     → verb_eq own (entry_verb (block_verb block) (key_of line)) ≡ is_entry_of own (item_of block line)
@@ -57,21 +64,31 @@ entry-said own is None (Entry (word ∷ words) suffix) = elim (cases_Bool (is_em
   | inr full ↦ rw full refl
 ]
 
+-- the code's test of a key says whether a valid line with this key holds a directive of the verb
+abbrev pub TellsEntry : Verb → Option Verb → Key → Bool → Type 0
+TellsEntry own block key found = (outer : Option Placed) (line : Line Placed) → IsKnown own → block ≡ block_verb outer
+    → key ≡ key_of line → item_kinds Strict [] (item_of outer line) ≡ [] → found ≡ passes (is_of_verb own) (directive_at outer line)
+
+pub entry-tells : (own : Verb) (block : Option Verb) (key : Key) (found : Bool)
+    → (IsKnown own → found ≡ verb_eq own (entry_verb block key)) → TellsEntry own block key found
+entry-tells own block key found told = λ outer line known block_is key_is valid.
+    told known ∙ rw (block_is, key_is) (entry-said own known outer line ∙ entry-holds own outer line valid)
+
 -- ---- lines that an operation targets
 
--- an entry that an operation targets has the operation's verb and texts
+-- a directive that an operation targets has the operation's verb
+targeted-verb : (edit : Edit) (o : Option Directive) → passes (about edit) o ≡ true → passes (is_of_verb (target_entry edit).0) o ≡ true
+targeted-verb edit None hit = absurd cc
+targeted-verb edit (Some d) hit = rw (about-verb edit d hit) (verb-itself (target_entry edit).0)
+
+-- and its entry has the operation's texts
 held : (edit : Edit) (verb : Verb) (words : List Word) (o : Option Directive) → directive_of verb words ≡ o
-    → passes (about edit) o ≡ true → (verb_eq (target_entry edit).0 verb ≡ true) × AreValuesIn (target_entry edit).1 words
+    → passes (about edit) o ≡ true → AreValuesIn (target_entry edit).1 words
 held edit verb words None says hit = absurd cc
-held edit verb words (Some d) says hit =
-    let same : verb ≡ (target_entry edit).0 = sym (directive-verb verb words d says) ∙ about-verb edit d hit in (
-      ap (verb_eq (target_entry edit).0) same ∙ verb-itself (target_entry edit).0,
-      target-has edit words d (ap (λ (v : Verb). directive_of v words) (sym same) ∙ says) hit,
-    )
+held edit verb words (Some d) says hit = target-has edit words d (rw (sym (directive-verb verb words d says) ∙ about-verb edit d hit) at says) hit
 
 -- so no line that it targets is passed over
 pub record MayHold (edit : Edit) (block : Option Placed) (line : Line Placed) : Type 0 where
-  pub verb : verb_eq (target_entry edit).0 (entry_verb (block_verb block) (key_of line)) ≡ true
   pub key : EntryKey
   pub key_is : key_of line ≡ EntryOf key
   pub bits : bit_or key.bits (texts_bits (target_entry edit).1) ≡ key.bits
@@ -89,7 +106,7 @@ never-passed edit block (Open opened suffix) hit = absurd cc
 never-passed edit block (Close suffix) hit = absurd cc
 never-passed edit (Some word) (Entry words suffix) hit =
     let is = held edit (main_verb word.word.spelling) (words_of words) _ refl hit in
-    record { verb = is.0; key = _; key_is = refl; bits = values-have 0 (target_entry edit).1 (words_of words) is.1; texts = is.1 }
+    record { key = _; key_is = refl; bits = values-have 0 (target_entry edit).1 (words_of words) is; texts = is }
 never-passed edit None (Entry [] suffix) hit = absurd cc
 never-passed edit None (Entry (word ∷ words) suffix) hit = elim (cases_Bool (is_empty_block (words_of words))) [
   | inl empty ↦ absurd (let never = rw empty at hit in cc)
@@ -97,16 +114,16 @@ never-passed edit None (Entry (word ∷ words) suffix) hit = elim (cases_Bool (i
       let texts = (target_entry edit).1 in
       let is = held edit (main_verb word.word.spelling) (words_of words) _ refl (rw full at hit) in
       let are : AreValuesIn texts (word.word ∷ words_of words) =
-      (behind texts.0 word.word (words_of words) is.1.0, behind texts.1 word.word (words_of words) is.1.1) in
-      record { verb = rw full is.0; key = _; key_is = refl; bits = values-have 0 texts (word.word ∷ words_of words) are; texts = are }
+      (behind texts.0 word.word (words_of words) is.0, behind texts.1 word.word (words_of words) is.1) in
+      record { key = _; key_is = refl; bits = values-have 0 texts (word.word ∷ words_of words) are; texts = are }
 ]
 
 -- the code's test of the verb passes such a line
-pub verb-passes : (edit : Edit) {block : Option Placed} {line : Line Placed} {own : Verb} {inner : Option Verb}
-    {key : Key} (found : Bool) → (IsKnown own → found ≡ verb_eq own (entry_verb inner key))
-    → own ≡ (target_entry edit).0 → inner ≡ block_verb block → key ≡ key_of line → MayHold edit block line → found ≡ true
-verb-passes edit found tells own_is inner_is key_is may =
-    tells (ap (λ (v : Verb). verb_eq v Unknown) own_is ∙ target-known edit) ∙ rw (own_is, inner_is, key_is) may.verb
+pub verb-passes : (edit : Edit) (block : Option Placed) (line : Line Placed) {own : Verb} {inner : Option Verb}
+    {key : Key} (found : Bool) → TellsEntry own inner key found → own ≡ (target_entry edit).0 → inner ≡ block_verb block
+    → key ≡ key_of line → item_kinds Strict [] (item_of block line) ≡ [] → passes (about edit) (directive_at block line) ≡ true → found ≡ true
+verb-passes edit block line found tells own_is inner_is key_is valid hit =
+    tells block line (rw own_is (target-known edit)) inner_is key_is valid ∙ rw own_is (targeted-verb edit (directive_at block line) hit)
 
 -- ---- lines that a loop walks over by their keys
 
@@ -125,11 +142,8 @@ verb-more whole n verb next lt is step so = step (block_after_lines None (take n
     ∙ ap block_verb (sym (block-next whole n lt))
 
 -- the key of a line of a valid file says whether the line holds a directive of the verb
-pub key-tells : (own : Verb) {whole : List (Line Placed)} (n : ℕ) (verb : Option Verb) {key : Key} → IsKnown own
-    → IsSound whole → n < length whole → key ≡ key_of (line_at whole n) → IsVerbTo whole n verb
-    → verb_eq own (entry_verb verb key) ≡ passes (is_of_verb own) (directive_at (block_after_lines None (take n whole)) (line_at whole n))
-key-tells own {whole} n verb known sound lt is so =
-    let block : Option Placed = block_after_lines None (take n whole) in
-    let line : Line Placed = line_at whole n in
-    ap (λ (k : Key). verb_eq own (entry_verb verb k)) is ∙ ap (λ (v : Option Verb). verb_eq own (entry_verb v (key_of line))) so
-    ∙ entry-said own known block line ∙ entry-holds own block line (right-at None whole n lt sound.lines_are.right).1
+pub key-tells : (own : Verb) {whole : List (Line Placed)} (n : ℕ) (verb : Option Verb) {key : Key} {found : Bool}
+    → TellsEntry own verb key found → IsKnown own → IsSound whole → n < length whole → key ≡ key_of (line_at whole n) → IsVerbTo whole n verb
+    → found ≡ passes (is_of_verb own) (directive_at (block_after_lines None (take n whole)) (line_at whole n))
+key-tells own {whole} n verb tells known sound lt is so =
+    tells (block_after_lines None (take n whole)) (line_at whole n) known so is (right-at None whole n lt sound.lines_are.right).1

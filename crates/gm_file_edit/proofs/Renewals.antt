@@ -19,11 +19,11 @@ use Rattle.gm_syntax.proofs.Changes.{standing_entry}
 use Rattle.gm_name.specs.Names.{does_fit, is_path}
 use Rattle.gm_name.specs.ModuleVersion.{ModuleVersion}
 use Rattle.gm_name.proofs.Texts.{bytes_eq-self}
-use Rattle.gm_file.specs.Values.{argument, both}
+use Rattle.gm_file.specs.Values.{argument}
 use Rattle.gm_file.specs.GoVersions.{strict_go}
 use Rattle.gm_file.specs.declared.verb.Verb.{Verb}
-use Rattle.gm_file.specs.declared.verb.Verb.TheVariants.{Module as ForModule, Go as ForGo, Require as ForRequire, Replace as ForReplace}
-use Rattle.gm_file.specs.Directives.{Strict, VersionInterval, Left, Right, Folder, Module, Replacing, Directive, DeclaresModule, DeclaresGo, Requires, Excludes, Replaces, Retracts, directive_of, is_arrow, left_of, main_verb, one_of, pair_of, replacing, right_of, verb_of_directive}
+use Rattle.gm_file.specs.declared.verb.Verb.TheVariants.{Go as ForGo, Require as ForRequire, Replace as ForReplace}
+use Rattle.gm_file.specs.Directives.{Strict, VersionInterval, Left, Right, Folder, Module, Replacing, Directive, DeclaresModule, DeclaresGo, Requires, Excludes, Replaces, Retracts, directive_of, is_arrow, left_of, main_verb, one_of, pair_of, right_of, verb_of_directive}
 use Rattle.gm_file.specs.Faults.{directive_kinds, does_left_fit, is_go, is_module, is_same_left, is_same_right, is_same_version, left_version_kinds, path_kinds, pair_kinds, right_path_kinds, right_version_kinds, sides_kinds}
 use Rattle.gm_file_edit.specs.About.{about, is_covered_by, is_replaced_by, requires_path}
 use Rattle.gm_file_edit.specs.Holding.{directive_at}
@@ -68,11 +68,10 @@ one-made {v} make reads text plain kinds block line d held named stands =
     let said : directive_of v (words_of by.arguments) ≡ Some d = rw verb at by.says in
     let one = map-some make (one_of (words_of by.arguments)) (sym (reads (words_of by.arguments)) ∙ said) in
     let a = one-argument by.arguments one.1 in
-    let is : line ≡ Entry (by.front ++ a.0 ∷ []) by.suffix = by.is ∙ ap (λ (ws : List Placed). Entry (by.front ++ ws) by.suffix) a.1 in
+    let is : line ≡ Entry (by.front ++ a.0 ∷ []) by.suffix = rw (← a.1) by.is in
     entry-made by
     (ap (with_last text block) is ∙ last-replaced text block by.front a.0 by.suffix) stands (one-are text plain)
-    (ap (λ (x : Verb). directive_of x (words_of (made_word text ∷ []))) verb ∙ reads (words_of (made_word text ∷ []))
-    ∙ ap (option_map make) (made-value text plain)) kinds
+    (rw verb (reads (words_of (made_word text ∷ [])) ∙ rw (made-value text plain))) kinds
 
 module-made : (path : List ℕ) → is_path path ≡ true → Makes is_module (DeclaresModule path) (with_last path)
 unfolding directive_of
@@ -107,13 +106,9 @@ kept-word : (block : Option Placed) (verb : List ℕ) (front others : List Place
     (line : Line Placed) → IsFront block verb front → line ≡ Entry (front ++ a ∷ others) suffix
     → IsValidLine (is_some block) (plain line) → IsWord a.word
 kept-word None verb front others suffix a line at is stands =
-    let whole : line ≡ Entry (at.0 ∷ a ∷ others) suffix = is ∙ ap (λ (f : List Placed). Entry (f ++ a ∷ others) suffix) at.1 in
-    let entry = standing_entry false (words_of (at.0 ∷ a ∷ others)) suffix (subst (λ (l : Line Placed). IsValidLine false (plain l)) whole stands) in
-    entry.are_words.1.0
+    (standing_entry false (words_of (at.0 ∷ a ∷ others)) suffix (rw (is, at.1) at stands)).are_words.1.0
 kept-word (Some v) verb front others suffix a line at is stands =
-    let whole : line ≡ Entry (a ∷ others) suffix = is ∙ ap (λ (f : List Placed). Entry (f ++ a ∷ others) suffix) at.0 in
-    let entry = standing_entry true (words_of (a ∷ others)) suffix (subst (λ (l : Line Placed). IsValidLine true (plain l)) whole stands) in
-    entry.are_words.0
+    (standing_entry true (words_of (a ∷ others)) suffix (rw (is, at.0) at stands)).are_words.0
 
 require-made : (p : ModuleVersion) → IsPairOfNames p → does_fit p.0 p.1 ≡ true
     → (block : Option Placed) (line : Line Placed) (d : Directive) → directive_at block line ≡ Some d
@@ -125,16 +120,16 @@ require-made p names fit block line (Requires q) held e stands =
     let verb : main_verb by.verb ≡ ForRequire = sym (directive-verb (main_verb by.verb) (words_of by.arguments) (Requires q) by.says) in
     let two = two-arguments by.arguments q (held-pair (words_of by.arguments) q (rw verb at by.says)) in
     let same : q.0 ≡ p.0 = (bytes_eq-Decides q.0 p.0).0 e in
-    let path : argument two.0.word ≡ Some p.0 = two.3 ∙ ap Some same in
-    let is : line ≡ Entry (by.front ++ two.0 ∷ two.1 ∷ []) by.suffix = by.is ∙ ap (λ (ws : List Placed). Entry (by.front ++ ws) by.suffix) two.2 in
+    let path : argument two.0.word ≡ Some p.0 = rw (← same) two.3 in
+    let is : line ≡ Entry (by.front ++ two.0 ∷ two.1 ∷ []) by.suffix = rw (← two.2) by.is in
     let word : IsWord two.0.word = kept-word block by.verb by.front (two.1 ∷ []) by.suffix two.0 line by.at is stands in
     entry-made by
-    (ap (with_last p.1 block) (is ∙ ap (λ (ws : List Placed). Entry ws by.suffix)
-    (sym (append_assoc by.front (two.0 ∷ []) (two.1 ∷ []))))
-    ∙ last-replaced p.1 block (by.front ++ two.0 ∷ []) two.1 by.suffix
-    ∙ ap (λ (ws : List Placed). Entry ws by.suffix) (append_assoc by.front (two.0 ∷ []) (made_word p.1 ∷ []))) stands
-    (two-are two.0 p.0 p.1 word path plain_version) (subst
-    (λ (v : Verb). directive_of v (words_of (two.0 ∷ made_word p.1 ∷ [])) ≡ Some (Requires p)) (sym verb)
+    (ap (with_last p.1 block) is ∙ rw (
+      ← append_assoc by.front (two.0 ∷ []) (two.1 ∷ []),
+      last-replaced p.1 block (by.front ++ two.0 ∷ []) two.1 by.suffix,
+      append_assoc by.front (two.0 ∷ []) (made_word p.1 ∷ []),
+    )) stands (two-are two.0 p.0 p.1 word path plain_version)
+    (subst (λ (v : Verb). directive_of v (words_of (two.0 ∷ made_word p.1 ∷ [])) ≡ Some (Requires p)) (sym verb)
     (require-says two.0 p path plain_version)) (require-kinds p names fit)
 require-made p names fit block line d held e stands = absurd cc
 
@@ -195,11 +190,7 @@ replace-says-of : (path : List ℕ) (version : Option (List ℕ)) (right : Right
 unfolding directive_of
 replace-says-of path version right p v r =
     let parts = arrow-splits path version (right_words right) in
-    let after : List Word = after_first is_arrow (words_of (left_words path version ++ made_mark Arrow ∷ right_words right)) in
-    ap (λ (ws : List Word). option_map Replaces (both replacing (left_of ws) (right_of after))) parts.0
-    ∙ ap (λ (ws : List Word). option_map Replaces (both replacing (left_of (words_of (left_words path version))) (right_of ws))) parts.1
-    ∙ ap (λ (o : Option Left). option_map Replaces (both replacing o (right_of (words_of (right_words right))))) (left-says path version p v)
-    ∙ ap (λ (o : Option Right). option_map Replaces (both replacing (Some (record { path = path; version = version })) o)) (right-says right r)
+    rw (parts.0, parts.1, left-says path version p v, right-says right r)
 
 pub replace-says : (r : Replacing) → IsSoundLeft r.0 → IsSoundRight r.1 → directive_of ForReplace (words_of (replace_words r)) ≡ Some (Replaces r)
 replace-says r left right = replace-says-of r.0.path r.0.version r.1 left.0 left.1 right
@@ -274,7 +265,7 @@ puts-wanted (Add (Retract ends)) good fit = record { kinds = ends-kinds ends goo
 puts-wanted (Drop t) good fit = tt
 
 pub wanted : (edit : Edit) (new : Directive) → put_by edit ≡ Some new → IsSoundEdit edit → is_fit edit ≡ true → IsWanted (about edit) new
-wanted edit new e good fit = subst (λ (o : Option Directive). IfSome o (IsWanted (about edit))) e (puts-wanted edit good fit)
+wanted edit new e good fit = rw e at (puts-wanted edit good fit)
 
 -- how a setting rewrites an entry
 pub renewal : (s : Setting) → IsSoundEdit (Set s) → is_fit (Set s) ≡ true → IsRenewal (about (Set s)) (directive_set s) (made_new (Set s))

@@ -152,12 +152,11 @@ into-said {v} {arguments} new so sound put =
     record {
       front = held_from None put.front;
       back = held_from block put.back;
-      was = ap (held_from None) put.was ∙ held-append None put.front put.back;
+      was = rw put.was (held-append None put.front put.back);
       is =
-          ap (held_from None) put.is ∙ held-append None put.front (gap_lines put.gap ++ entry ∷ put.back)
-          ∙ ap (λ (ds : List Directive). held_from None put.front ++ ds)
-          (gap-held put.gap block (entry ∷ put.back) ∙ fits-held new put.back
-          (into-fits v block put.inside so (put.fits sound.closed)));
+          rw (put.is, held-append None put.front (gap_lines put.gap ++ entry ∷ put.back), gap-held put.gap block (entry ∷ put.back))
+          (ap (λ (ds : List Directive). held_from None put.front ++ ds)
+          (fits-held new put.back (into-fits v block put.inside so (put.fits sound.closed))));
     }
 
 pub put-others : (test : Directive → Bool) {new : Directive} {before after : List Directive} → test new ≡ true

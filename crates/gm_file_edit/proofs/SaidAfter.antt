@@ -10,7 +10,7 @@ use Rattle.gm_file.specs.Faults.{is_module}
 use Rattle.gm_file_edit.specs.Edits.{Edit, Set, Drop, Add}
 use Rattle.gm_file_edit.specs.About.{about}
 use Rattle.gm_file_edit.specs.Edited.{with_change, lines_after, put_in}
-use Rattle.gm_file_edit.specs.Kinds.{added_by, directive_added, directive_set, is_fit, set_by}
+use Rattle.gm_file_edit.specs.Kinds.{added_by, directive_set, is_fit, set_by}
 use Rattle.gm_file_edit.specs.Holding.{is_there}
 use Rattle.gm_file_edit.specs.Laws.{AddedIsThere, DroppedIsGone, IsEditOf, OthersStay, SetStandsAlone, directives_of}
 use Rattle.gm_file_edit.specs.Renewing.{made_new}

@@ -1,5 +1,5 @@
 -- Lines that hold no directive that an operation targets, by their verb, and the entries of a verb.
-use Rattle.std.proofs.Common.{◌≡◌, Bool, true, false, List, [], Option, Some, None, refl, sym, ap, ◌∙◌}
+use Rattle.std.proofs.Common.{◌≡◌, Bool, true, false, List, [], Option, Some, None, refl, sym, ap}
 use Rattle.gm_syntax.specs.Words.{Word}
 use Rattle.gm_syntax.specs.Tokens.{Placed}
 use Rattle.gm_syntax.specs.Document.{Line}
@@ -11,7 +11,6 @@ use Rattle.gm_file.proofs.DirectiveVerbs.{directive-verb, same-verb}
 use Rattle.gm_file_edit.specs.About.{about}
 use Rattle.gm_file_edit.specs.Edits.{Edit, Set, ModuleIs, GoIs, RequireAt, Drop, AnyRequire, Add, Exclude, AnyExclude, ReplaceWith, AnyReplace, Retract, AnyRetract}
 use Rattle.gm_file_edit.specs.Holding.{directive_at, item_of, passes}
-use Rattle.gm_file_edit.specs.Private.Holding.{IsValidAt}
 use Rattle.gm_file_edit.specs.Private.Keys.{target_entry}
 
 -- ---- the verb of an operation
@@ -55,6 +54,6 @@ valid-passes verb (Saying text arguments) earlier right =
     said-passes verb earlier (main_verb text) arguments (directive_of (main_verb text) arguments) refl right
 
 -- in a valid file the entries of a verb are the lines that hold its directives
-pub entry-holds : (verb : Verb) (block : Option Placed) (line : Line Placed) → IsValidAt block line
+pub entry-holds : (verb : Verb) (block : Option Placed) (line : Line Placed) → item_kinds Strict [] (item_of block line) ≡ []
     → is_entry_of verb (item_of block line) ≡ passes (is_of_verb verb) (directive_at block line)
 entry-holds verb block line valid = valid-passes verb (item_of block line) [] valid

@@ -1,5 +1,5 @@
 -- An operation that follows itself leaves the lines as they are.
-use Rattle.std.proofs.Common.{◌≡◌, ℕ, ◌-◌, Bool, true, false, List, [], ◌∷◌, ◌++◌, length, take, Option, Some, None, is_some, refl, sym, ap, subst, ◌∙◌, inl, inr}
+use Rattle.std.proofs.Common.{◌≡◌, ℕ, ◌-◌, Bool, true, false, List, [], ◌∷◌, ◌++◌, length, take, Option, Some, None, is_some, refl, sym, ◌∙◌, inl, inr}
 use Rattle.std.specs.Prelude.{IfSome, codes, filter}
 use Rattle.std.specs.List.{AllByRecursion, cons_option}
 use Rattle.std.proofs.lemmas.Bool.{cases_Bool, false≢true, or_parts}
@@ -10,14 +10,14 @@ use Rattle.gm_file.specs.Faults.{is_module}
 use Rattle.gm_file_edit.specs.Edits.{Edit, Set, Setting, ModuleIs, GoIs, RequireAt, Drop, Add, ReplaceWith, Exclude, Retract}
 use Rattle.gm_file_edit.specs.About.{about}
 use Rattle.gm_file_edit.specs.Edited.{with_change, lines_after, put_in}
-use Rattle.gm_file_edit.specs.Fates.{Fate, dropping_from, kept_lines, remaining, renewing_from}
+use Rattle.gm_file_edit.specs.Fates.{dropping_from, kept_lines, remaining, renewing_from}
 use Rattle.gm_file_edit.specs.Holding.{directive_at, passes, is_there}
 use Rattle.gm_file_edit.specs.Laws.{directives_of}
 use Rattle.gm_file_edit.specs.Kinds.{directive_added, directive_set, set_by}
 use Rattle.gm_file_edit.specs.NewWords.{entry_at, made_word, pair_words, replace_words}
 use Rattle.gm_file_edit.specs.Renewing.{made_new, with_arguments, with_last}
 use Rattle.gm_file_edit.specs.EditLaws.{SecondOperationChangesNothing, SecondSettingChangesNothing}
-use Rattle.gm_file_edit.proofs.Filters.{any-filled, is_filled, none-any}
+use Rattle.gm_file_edit.proofs.Filters.{any-filled, none-any}
 use Rattle.gm_file_edit.proofs.SaidAfter.{second-addition, second-drop, set-stands-alone}
 use Rattle.gm_file_edit.proofs.Insertions.{IsPutInto, by-put, entry_put, gap_lines, passing-level, there-is, there-said}
 use Rattle.gm_file_edit.proofs.Made.{last-replaced}

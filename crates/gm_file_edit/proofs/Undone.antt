@@ -1,10 +1,10 @@
 -- A drop of what an operation put in leaves the lines as they were.
-use Rattle.std.proofs.Common.{◌≡◌, ℕ, ◌||◌, if◌then◌else◌, Bool, true, false, List, [], ◌∷◌, ◌++◌, Option, Some, None, is_some, refl, sym, ap, subst, ◌∙◌, append-nil, append_assoc, inl, inr}
+use Rattle.std.proofs.Common.{◌≡◌, ℕ, if◌then◌else◌, Bool, true, false, List, [], ◌∷◌, ◌++◌, Option, Some, None, is_some, refl, sym, ◌∙◌, append-nil, append_assoc, inl, inr}
 use Rattle.std.specs.Prelude.{IfSome}
 use Rattle.std.specs.List.{list_any}
 use Rattle.std.proofs.lemmas.Bool.{cases_Bool, or_parts}
 use Rattle.std.proofs.lemmas.List.{map-append}
-use Rattle.gm_syntax.specs.Layout.{initial_state, is_blank_line, layout, layout_from, line_with_gap, state_after}
+use Rattle.gm_syntax.specs.Layout.{initial_state, is_blank_line, layout, layout_from, state_after}
 use Rattle.gm_syntax.specs.LineViews.{plain, plain_lines}
 use Rattle.gm_syntax.specs.Tokens.{Placed}
 use Rattle.gm_syntax.specs.Words.{Word}
@@ -14,9 +14,9 @@ use Rattle.gm_file.specs.Faults.{is_same_left}
 use Rattle.gm_file.proofs.Indexed.{left-self}
 use Rattle.gm_file_edit.specs.Edits.{Edit, Set, ModuleIs, GoIs, RequireAt, ReplaceWith, Add, Exclude, Retract, Drop}
 use Rattle.gm_file_edit.specs.Kinds.{is_drop}
-use Rattle.gm_file_edit.specs.About.{about, excludes_pair, is_covered_by, is_replaced_by, replaces_left, requires_path, retracts_ends}
+use Rattle.gm_file_edit.specs.About.{about, is_covered_by, is_replaced_by, replaces_left}
 use Rattle.gm_file_edit.specs.Edited.{with_addition, lines_after, has_verb, new_entry}
-use Rattle.gm_file_edit.specs.Fates.{Fate, without_targets, dropping_from, kept_lines, remaining, widened_from}
+use Rattle.gm_file_edit.specs.Fates.{without_targets, dropping_from, kept_lines, remaining, widened_from}
 use Rattle.gm_file_edit.specs.Holding.{directive_at, passes, is_there}
 use Rattle.gm_file_edit.specs.Laws.{directives_of}
 use Rattle.gm_file_edit.specs.NewWords.{entry_at, single}

@@ -1,5 +1,5 @@
 -- What the code reads: the values of words, and valid lines.
-use Rattle.std.proofs.Common.{◌≡◌, ℕ, ◌+◌, ◌<◌, ◌≤◌, Bool, true, false, List, [], ◌∷◌, length, get_or, drop, Option, Some, None, sym, ap, subst, ◌∙◌, inl, inr}
+use Rattle.std.proofs.Common.{◌≡◌, ℕ, ◌+◌, ◌<◌, ◌≤◌, Bool, true, false, List, [], length, get_or, drop, Option, Some, None, sym, ap, subst, ◌∙◌, inl, inr}
 use Rattle.std.specs.Prelude.{bit_or}
 use Rattle.std.specs.Borrow.{Bor}
 use Rattle.std.specs.Option.{option_map}
@@ -15,7 +15,7 @@ use Rattle.gm_file.specs.Directives.{Directive, Strict, item_at}
 use Rattle.gm_file.specs.Faults.{item_kinds}
 use Rattle.gm_file.specs.Fields.{first}
 use Rattle.gm_file.specs.Values.{argument}
-use Rattle.gm_file_edit.specs.Private.Holding.{IsValidAt}
+use Rattle.gm_file_edit.specs.Holding.{item_of}
 use Rattle.gm_file_edit.specs.Private.Keys.{IsValueIn, bits_with, optional_bits}
 use Rattle.gm_file_edit.proofs.Walking.{drop-next}
 
@@ -52,7 +52,8 @@ value-end words n text over has = subst (λ (ws : List Placed). IsValueIn (Some 
 -- ---- a line that is read
 
 -- a valid line has no fault
-pub no-fault : (block : Option (Bor Placed)) (line : Line Placed) (kind : DirectiveKind) → IsValidAt (option_map (λ t. t.now) block) line
+pub no-fault : (block : Option (Bor Placed)) (line : Line Placed) (kind : DirectiveKind)
+    → item_kinds Strict [] (item_of (option_map (λ t. t.now) block) line) ≡ []
     → ((earlier : List Directive) → first (item_kinds Strict earlier (item_at (option_map (λ t. t.now.word) block, plain line))) ≡ Some kind) → ⊥
 no-fault None line kind valid faulty = absurd (let e = sym (ap first valid) ∙ faulty [] in cc)
 no-fault (Some t) line kind valid faulty = absurd (let e = sym (ap first valid) ∙ faulty [] in cc)

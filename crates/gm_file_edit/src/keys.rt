@@ -4,18 +4,20 @@
 //! most lines are passed over without a look at their words, which are elsewhere in memory. A key depends on the line
 //! alone.
 
-ghost use Rattle.std.specs.Prelude.{◌≡◌, false, true, IfOk, Option, bit_or, not};
+ghost use Rattle.std.specs.Prelude.{◌≡◌, [], false, true, IfOk, Option, Some, bit_or, not};
 ghost use Rattle.std.specs.Option.{option_map};
 ghost use Rattle.gm_syntax.specs.Document.{Line as LineOf};
 ghost use Rattle.gm_syntax.specs.LineViews.{line_of};
 ghost use Rattle.gm_syntax.specs.Tokens.{Placed, words_of};
-ghost use Rattle.gm_file.specs.Directives.{block_after_line, verb_eq};
+ghost use Rattle.gm_file.specs.Directives.{Strict, block_after_line, is_of_verb, verb_eq};
 ghost use Rattle.gm_file.specs.declared.verb.Verb.TheVariants.{Unknown};
+ghost use Rattle.gm_file.specs.Faults.{item_kinds};
 ghost use Rattle.gm_file.specs.Values.{argument};
 ghost use Rattle.gm_file_edit.specs.declared.keys.EntryKey.{EntryKey};
 ghost use Rattle.gm_file_edit.specs.declared.keys.Key.TheVariants.{Entry as EntryOf};
 ghost use Rattle.gm_file_edit.specs.GoPlace.{is_loose};
-ghost use Rattle.gm_file_edit.specs.Private.Keys.{bits_with, block_verb, entry_verb, key_of, optional_bits, text_bits, verb_outside};
+ghost use Rattle.gm_file_edit.specs.Holding.{directive_at, item_of, passes};
+ghost use Rattle.gm_file_edit.specs.Private.Keys.{bits_with, block_verb, key_of, optional_bits, verb_outside};
 
 use gm_file::{Verb, block_after_line, is_empty_block, main_verb};
 use gm_name::{fingerprint, tag_of};
@@ -48,7 +50,7 @@ pub(crate) struct EntryKey {
 
 /// Bits of a text, a quarter of all on average, so that few other texts have them all.
 fn text_bits(text: &str) -> u32
-    ensures { result ≡ text_bits text.now }
+    ensures { result ≡ optional_bits (Some text.now) }
 {
     let number = fingerprint(0, text);
     tag_of(number) & (number % 4_294_967_296) as u32
@@ -154,9 +156,11 @@ pub(crate) fn block_after<'w, 'a>(
     }
 }
 
-/// Whether the line with a key is an entry of a verb that directives have, given the verb of the open block, if any.
+/// Whether the line with a key holds a directive of this verb, given the verb of the open block, if any.
 pub(crate) fn is_entry_in(own: Verb, block: Option<Verb>, key: Key) -> bool
-    ensures { verb_eq own Unknown ≡ false → result ≡ verb_eq own (entry_verb block key) }
+    ensures { (outer : Option Placed) (line : LineOf Placed) → verb_eq own Unknown ≡ false → block ≡ block_verb outer
+        → key ≡ key_of line → item_kinds Strict [] (item_of outer line) ≡ []
+        → result ≡ passes (is_of_verb own) (directive_at outer line) }
 {
     match key {
         Key::Entry(entry) => match block {

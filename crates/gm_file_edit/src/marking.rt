@@ -3,18 +3,17 @@
 //! Reading a line takes memory and time. So its key is looked at first, and then the texts of its words: both may only
 //! rule out that the line holds a directive which the operation targets.
 
-ghost use Rattle.std.specs.Prelude.{◌≡◌, not, true, length, take_while, IfOk, Option, Some, None};
+ghost use Rattle.std.specs.Prelude.{◌≡◌, [], not, true, length, take_while, IfOk, Option, Some, None};
 ghost use Rattle.std.specs.Option.{option_map};
 ghost use Rattle.gm_syntax.specs.Document.{IsDocument, Line as LineOf};
 ghost use Rattle.gm_syntax.specs.LineViews.{line_of, plain_lines};
 ghost use Rattle.gm_syntax.specs.Tokens.{Placed, words_of};
 ghost use Rattle.gm_file.specs.Directives.{Strict};
-ghost use Rattle.gm_file.specs.Faults.{fault_of};
+ghost use Rattle.gm_file.specs.Faults.{fault_of, item_kinds};
 ghost use Rattle.gm_file.specs.Values.{argument};
 ghost use Rattle.gm_file_edit.specs.About.{about};
 ghost use Rattle.gm_file_edit.specs.Edits.{Edit};
-ghost use Rattle.gm_file_edit.specs.Holding.{directive_at, passes};
-ghost use Rattle.gm_file_edit.specs.Private.Holding.{IsValidAt};
+ghost use Rattle.gm_file_edit.specs.Holding.{directive_at, item_of, passes};
 ghost use Rattle.gm_file_edit.specs.Private.Keys.{block_verb, HasTexts, IsValueIn, key_of, target_entry, texts_bits, texts_view};
 ghost use Rattle.gm_file_edit.specs.Private.Marks.{marks_from};
 ghost use Rattle.gm_file_edit.specs.Sound.{edit_of};
@@ -35,7 +34,7 @@ fn holds_target(
     block: Option<&Token>,
     line: &Line,
 ) -> Result<bool, AllocError>
-    requires { IsValidAt (option_map (λ t. t.now) block) (line_of line.now) }
+    requires { item_kinds Strict [] (item_of (option_map (λ t. t.now) block) (line_of line.now)) ≡ [] }
     ensures { IfOk result (λ b. b
         ≡ passes (about (edit_of change.now)) (directive_at (option_map (λ t. t.now) block.entry) (line_of line.now))) }
 {
@@ -107,6 +106,7 @@ fn may_hold_target(
     ensures { (edit : Edit) (block : Option Placed) → target.entry.verb ≡ (target_entry edit).0
         → texts_view target.entry ≡ (target_entry edit).1 → bits ≡ texts_bits (target_entry edit).1
         → verb ≡ block_verb block → key ≡ key_of (line_of line.now)
+        → item_kinds Strict [] (item_of block (line_of line.now)) ≡ []
         → passes (about edit) (directive_at block (line_of line.now)) ≡ true → result ≡ true }
 {
     is_entry_in(target.verb, verb, key)

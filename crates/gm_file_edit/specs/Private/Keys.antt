@@ -1,5 +1,5 @@
 -- Keys of lines: what tells most lines apart without a look at their words. No public contract cites it.
-use Rattle.std.specs.Prelude.{◌≡◌, ◌⊎◌, ⊤, ◌%◌, ◌^◌, ℕ, Bool, true, false, List, [], ◌∷◌, Option, Some, None, if◌then◌else◌, bit_and, bit_or}
+use Rattle.std.specs.Prelude.{◌≡◌, ◌⊎◌, ⊤, ◌%◌, ◌^◌, ℕ, List, [], ◌∷◌, Option, Some, None, if◌then◌else◌, bit_and, bit_or}
 use Rattle.std.specs.List.{fold}
 use Rattle.std.specs.Option.{option_map, option_map_or}
 use Rattle.gm_name.specs.Fingerprint.{fingerprint, tag_of}
@@ -17,12 +17,9 @@ use Rattle.gm_file_edit.specs.Edits.{Edit, Set, ModuleIs, GoIs, RequireAt, Drop,
 
 -- ---- bits
 
--- bits of a text: those that both halves of its fingerprint have
-abbrev pub text_bits : List ℕ → ℕ
-text_bits text = bit_and (tag_of (fingerprint 0 text)) (fingerprint 0 text % 2 ^ 32)
-
+-- bits of a text, if there is one: those that both halves of its fingerprint have
 abbrev pub optional_bits : Option (List ℕ) → ℕ
-optional_bits text = option_map_or text_bits text 0
+optional_bits text = option_map_or (λ t. bit_and (tag_of (fingerprint 0 t)) (fingerprint 0 t % 2 ^ 32)) text 0
 
 -- these bits and those of the value of each word
 abbrev pub bits_with : ℕ → List Word → ℕ
@@ -47,12 +44,6 @@ key_of (Entry words suffix) =
 -- the verb of the open block, if any
 abbrev pub block_verb : Option Placed → Option Verb
 block_verb block = option_map (λ word. main_verb word.word.spelling) block
-
--- the verb of the entry that the line with a key is, given the verb of the open block, if any
-abbrev pub entry_verb : Option Verb → Key → Verb
-entry_verb None (key.Entry entry) = entry.verb
-entry_verb (Some verb) (key.Entry entry) = verb
-entry_verb block _ = verb.Unknown
 
 -- ---- what an operation targets
 

@@ -19,7 +19,7 @@ loop-n-preserved c =
     ] in
     last-more c.verb_after-block.result c.requires.known
     (document-sound c.args.lines.now c.requires.document c.requires.sound) (omega (arith, inside, len))
-    c.key-key.ensures (c.is_entry_in.ensures c.requires.known) better c.verb_after-block.ensures c.loop-n.invariant
+    c.key-key.ensures c.is_entry_in.ensures better c.verb_after-block.ensures c.loop-n.invariant
 
 pub returns-clause-place : goal.returns-clause-place
 returns-clause-place c =

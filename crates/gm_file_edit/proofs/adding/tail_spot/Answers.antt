@@ -12,7 +12,7 @@ loop-n-preserved c =
     tail-more (c.loop-n.n - 1) c.requires.known
     (document-sound c.args.lines.now c.requires.document c.requires.sound) (omega (arith, more))
     (sym (c.changes_block.ensures _ c.key.ensures) ∙ c.if-not-changes_block.true) c.loop-n.invariant
-    (rw c.key-in-loop-n.ensures at (sym (c.is_entry_in.ensures c.requires.known) ∙ c.if-is_entry_in.false))
+    c.is_entry_in.ensures c.key-in-loop-n.ensures c.if-is_entry_in.false
 
 pub returns-then-is_entry_in : goal.returns-then-is_entry_in
 returns-then-is_entry_in c =
@@ -20,4 +20,4 @@ returns-then-is_entry_in c =
     place-is (tail-found (c.loop-n.n - 1) c.requires.known
     (document-sound c.args.lines.now c.requires.document c.requires.sound) (omega (arith, more))
     (sym (c.changes_block.ensures _ c.key.ensures) ∙ c.if-not-changes_block.true) c.loop-n.invariant
-    (rw c.key-in-loop-n.ensures at (sym (c.is_entry_in.ensures c.requires.known) ∙ c.if-is_entry_in.true)))
+    c.is_entry_in.ensures c.key-in-loop-n.ensures c.if-is_entry_in.true)

@@ -1,12 +1,14 @@
-use Rattle.std.proofs.Common.{◌≡◌, ◌∙◌, ◌<◌, Option, None, ap, arith, refl, sym}
+use Rattle.std.proofs.Common.{◌≡◌, ◌∙◌, [], Option, None, arith, refl, ap}
 use Rattle.std.specs.Option.{option_map}
 use Rattle.gm_syntax.specs.Document.{Line}
 use Rattle.gm_syntax.specs.LineViews.{line_of}
 use Rattle.gm_syntax.specs.Tokens.{Placed}
 use Rattle.gm_file_edit.specs.About.{about}
 use Rattle.gm_file_edit.specs.Edits.{Edit}
-use Rattle.gm_file_edit.specs.Holding.{directive_at, passes}
-use Rattle.gm_file_edit.specs.Private.Keys.{block_verb, key_of, texts_bits}
+use Rattle.gm_file.specs.Directives.{Strict}
+use Rattle.gm_file.specs.Faults.{item_kinds}
+use Rattle.gm_file_edit.specs.Holding.{directive_at, item_of, passes}
+use Rattle.gm_file_edit.specs.Private.Keys.{texts_bits}
 use Rattle.gm_file_edit.specs.Sound.{edit_of}
 use Rattle.gm_file_edit.proofs.Marks.{scan-end, scan-more, unmarked}
 use Rattle.gm_file_edit.proofs.Pairs.{document-sound}
@@ -33,10 +35,12 @@ loop-n-preserved c =
     let so = c.loop-n.invariant in
     let inside = c.loop-n-test.true in
     let len = c.len-n-end.ensures in
+    let valid : item_kinds Strict [] (item_of block line) ≡ [] =
+    rw (so.block_is, c.line-line.ensures.line) (right-at None c.args.lines.now c.loop-n.n (omega (arith, inside, len))
+    (document-sound c.args.lines.now c.requires.document c.requires.sound).lines_are.right).1 in
     let may = c.may_hold_target.ensures edit block c.target_entry-target.ensures.verb
-    c.target_entry-target.ensures.texts (c.texts_bits-bits.ensures
-    ∙ ap texts_bits c.target_entry-target.ensures.texts)
-    (so.verb_is ∙ ap block_verb (sym so.block_is)) (c.key-key.ensures ∙ ap key_of (sym c.line-line.ensures.line)) in
+    c.target_entry-target.ensures.texts (c.texts_bits-bits.ensures ∙ ap texts_bits c.target_entry-target.ensures.texts)
+    (rw (← so.block_is) at so.verb_is) (rw (← c.line-line.ensures.line) at c.key-key.ensures) valid in
     let marked : c.if-may_hold_target.mark ≡ passes (about edit) (directive_at block line) = elim c.if-may_hold_target.branch [
       | then-may_hold_target+in_ok-mark w ↦ w.mark-is ∙ w.in_ok-mark.ensures
       | else-may_hold_target w ↦ w.mark-is ∙ unmarked (passes (about edit) (directive_at block line)) may w.if-may_hold_target.false

@@ -1,4 +1,3 @@
-use Rattle.gm_file_edit.specs.Sound.{edit_of}
 use Rattle.gm_file_edit.proofs.Written.{named-sound}
 use Rattle.gm_file_edit.proofs.op.Op.parse.Goals as goal
 
