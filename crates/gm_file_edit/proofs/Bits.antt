@@ -1,5 +1,5 @@
 -- The words of an entry have the texts that an operation targets, and their bits.
-use Rattle.std.proofs.Common.{◌≡◌, ℕ, zero, suc, ◌≤◌, ◌&&◌, true, List, [], ◌∷◌, take, Option, Some, None, refl, sym, ap, subst, ◌∙◌, arith, inl, inr}
+use Rattle.std.proofs.Common.{◌≡◌, ℕ, zero, suc, ◌≤◌, ◌&&◌, true, List, [], ◌∷◌, take, Option, Some, None, refl, ap, ◌∙◌, arith, inl, inr}
 use Rattle.std.specs.Prelude.{bit_or}
 use Rattle.std.specs.Int.{bit_at}
 use Rattle.std.specs.Option.{option_map}
@@ -71,21 +71,21 @@ pair-named [] is = absurd cc
 pair-named (a ∷ []) is = absurd cc
 pair-named (a ∷ b ∷ []) is =
     let parts = both-are pair (argument a) (argument b) is in
-    (inl (parts.2 ∙ ap (λ (q : ModuleVersion). Some q.0) parts.4), inr (inl (parts.3 ∙ ap (λ (q : ModuleVersion). Some q.1) parts.4)))
+    (inl (rw (← parts.4) parts.2), inr (inl (rw (← parts.4) parts.3)))
 pair-named (a ∷ b ∷ c ∷ words) is = absurd cc
 
 ends-named : (words : List Word) {ends : VersionInterval} → ends_of words ≡ Some ends → AreValuesIn (Some ends.0, Some ends.1) words
 ends-named [] is = absurd cc
 ends-named (v ∷ []) is =
     let one = map-some (λ (w : List ℕ). pair w w) (argument v) is in
-    (inl (one.1 ∙ ap (λ (e : VersionInterval). Some e.0) one.2), inl (one.1 ∙ ap (λ (e : VersionInterval). Some e.1) one.2))
+    (inl (rw (← one.2) one.1), inl (rw (← one.2) one.1))
 ends-named (a ∷ v ∷ []) is = absurd cc
 ends-named (a ∷ v ∷ b ∷ []) is = absurd cc
 ends-named (a ∷ v ∷ b ∷ w ∷ []) is = absurd cc
 ends-named (a ∷ v ∷ b ∷ w ∷ c ∷ []) {ends} is = elim (cases_Bool (is_mark 91 a && is_mark 44 b && is_mark 93 c)) [
   | inl brackets ↦
       let parts = both-are pair (argument v) (argument w) (rw brackets at is) in
-      (inr (inl (parts.2 ∙ ap (λ (e : VersionInterval). Some e.0) parts.4)), inr (inr (inr (inl (parts.3 ∙ ap (λ (e : VersionInterval). Some e.1) parts.4)))))
+      (inr (inl (rw (← parts.4) parts.2)), inr (inr (inr (inl (rw (← parts.4) parts.3)))))
   | inr none ↦ let never : None ≡ Some ends = rw none at is in absurd cc
 ]
 ends-named (a ∷ v ∷ b ∷ w ∷ c ∷ e ∷ words) is = absurd cc
@@ -94,10 +94,10 @@ left-named : (words : List Word) {left : Left} → left_of words ≡ Some left �
 left-named [] is = absurd cc
 left-named (a ∷ []) is =
     let made = map-some left_without (argument a) is in
-    subst (λ (l : Left). AreValuesIn (Some l.path, l.version) (a ∷ [])) made.2 (inl made.1, tt)
+    rw (← made.2) (inl made.1, tt)
 left-named (a ∷ b ∷ []) is =
     let made = both-are left_with (argument a) (argument b) is in
-    subst (λ (l : Left). AreValuesIn (Some l.path, l.version) (a ∷ b ∷ [])) made.4 (inl made.2, inr (inl made.3))
+    rw (← made.4) (inl made.2, inr (inl made.3))
 left-named (a ∷ b ∷ c ∷ words) is = absurd cc
 
 in-front : (n : ℕ) (text : Option (List ℕ)) (words : List Word) → IsValueIn text (take n words) → IsValueIn text words
@@ -108,11 +108,11 @@ in-front (suc n) (Some text) (word ∷ words) (inl here) = inl here
 in-front (suc n) (Some text) (word ∷ words) (inr later) = inr (in-front n (Some text) words later)
 
 replaced-named : (words : List Word) {r : Replacing} → replacing_of words ≡ Some r → AreValuesIn (Some r.0.path, r.0.version) words
-replaced-named words {r} is =
+replaced-named words is =
     let parts = both-are replacing (left_of (before_first is_arrow words)) (right_of (after_first is_arrow words)) is in
-    let front = left-named (before_first is_arrow words) (parts.2 ∙ ap (λ (x : Replacing). Some x.0) parts.4) in
+    let front = left-named (before_first is_arrow words) parts.2 in
     let n : ℕ = position_or_len is_arrow words in
-    (in-front n (Some r.0.path) words front.0, in-front n r.0.version words front.1)
+    rw (← parts.4) (in-front n (Some parts.0.path) words front.0, in-front n parts.0.version words front.1)
 
 -- ---- the texts that an operation targets
 
@@ -125,52 +125,47 @@ requirement-has : (path : List ℕ) (words : List Word) (d : Directive) → opti
     → requires_path path d ≡ true → AreValuesIn (Some path, None) words
 requirement-has path words d is hit =
     let made = map-some Requires (pair_of words) is in
-    let same : made.0.0 ≡ path = bytes_eq-same made.0.0 path (ap (requires_path path) made.2 ∙ hit) in
-    (subst (λ (t : List ℕ). IsValueIn (Some t) words) same (pair-named words made.1).0, tt)
+    (rw (bytes_eq-same made.0.0 path (rw (← made.2) at hit)) at (pair-named words made.1).0, tt)
 
 exclusion-has : (p : ModuleVersion) (words : List Word) (d : Directive) → option_map Excludes (pair_of words) ≡ Some d
     → excludes_pair p d ≡ true → AreValuesIn (Some p.0, Some p.1) words
 exclusion-has p words d is hit =
     let made = map-some Excludes (pair_of words) is in
-    subst (λ (q : ModuleVersion). AreValuesIn (Some q.0, Some q.1) words)
-    (same-pair made.0 p (ap (excludes_pair p) made.2 ∙ hit)) (pair-named words made.1)
+    rw (same-pair made.0 p (rw (← made.2) at hit)) at (pair-named words made.1)
 
 retraction-has : (ends : VersionInterval) (words : List Word) (d : Directive)
     → option_map Retracts (ends_of words) ≡ Some d → retracts_ends ends d ≡ true
     → AreValuesIn (Some ends.0, Some ends.1) words
 retraction-has ends words d is hit =
     let made = map-some Retracts (ends_of words) is in
-    subst (λ (e : VersionInterval). AreValuesIn (Some e.0, Some e.1) words)
-    (same-pair made.0 ends (ap (retracts_ends ends) made.2 ∙ hit)) (ends-named words made.1)
+    rw (same-pair made.0 ends (rw (← made.2) at hit)) at (ends-named words made.1)
 
 -- a left side that is the same, or that the other supersedes
 same-left : (words : List Word) (one : Left) (path : List ℕ) (version : Option (List ℕ))
     → is_same_left one (record { path = path; version = version }) ≡ true
     → AreValuesIn (Some one.path, one.version) words → AreValuesIn (Some path, version) words
 same-left words one path version same are =
-    let parts = and_both (bytes_eq one.path path) (is_same_version one.version version) same in (
-      subst (λ (t : List ℕ). IsValueIn (Some t) words) (bytes_eq-same one.path path parts.0) are.0,
-      subst (λ (v : Option (List ℕ)). IsValueIn v words) (same-version one.version version parts.1) are.1,
-    )
+    let parts = and_both (bytes_eq one.path path) (is_same_version one.version version) same in
+    (rw (bytes_eq-same one.path path parts.0) at are.0, rw (same-version one.version version parts.1) at are.1)
 
 covered-left : (words : List Word) (own one : Left) (version : Option (List ℕ)) → own.version ≡ version
     → is_covered_by own version one ≡ true → AreValuesIn (Some one.path, one.version) words
     → AreValuesIn (Some own.path, version) words
-covered-left words own one None is hit are = (subst (λ (t : List ℕ). IsValueIn (Some t) words) (bytes_eq-same one.path own.path hit) are.0, tt)
+covered-left words own one None is hit are = (rw (bytes_eq-same one.path own.path hit) at are.0, tt)
 covered-left words own one (Some version) is hit are =
-    same-left words one own.path (Some version) (ap (λ (v : Option (List ℕ)). is_same_left one (record { path = own.path; version = v })) (sym is) ∙ hit) are
+    same-left words one own.path (Some version) (rw is at hit) are
 
 replaced-has : (new : Left) (words : List Word) (d : Directive) → option_map Replaces (replacing_of words) ≡ Some d
     → is_replaced_by new d ≡ true → AreValuesIn (Some new.path, new.version) words
 replaced-has new words d is hit =
     let made = map-some Replaces (replacing_of words) is in
-    covered-left words new made.0.0 new.version refl (ap (is_replaced_by new) made.2 ∙ hit) (replaced-named words made.1)
+    covered-left words new made.0.0 new.version refl (rw (← made.2) at hit) (replaced-named words made.1)
 
 left-has : (left : Left) (words : List Word) (d : Directive) → option_map Replaces (replacing_of words) ≡ Some d
     → replaces_left left d ≡ true → AreValuesIn (Some left.path, left.version) words
 left-has left words d is hit =
     let made = map-some Replaces (replacing_of words) is in
-    same-left words made.0.0 left.path left.version (ap (replaces_left left) made.2 ∙ hit) (replaced-named words made.1)
+    same-left words made.0.0 left.path left.version (rw (← made.2) at hit) (replaced-named words made.1)
 
 -- the words of an entry whose directive an operation targets have the operation's texts
 pub target-has : (edit : Edit) (words : List Word) (d : Directive) → directive_of (target_entry edit).0 words ≡ Some d

@@ -1,5 +1,5 @@
 -- Texts without a line feed: paths, versions and go versions.
-use Rattle.std.proofs.Common.{◌≡◌, ◌≢◌, ℕ, suc, ◌+◌, ◌==◌, ◌&&◌, not, nat_lt, Bool, true, false, List, [], ◌∷◌, length, take, drop, take_while, Option, Some, None, is_some, refl, sym, ap, subst, ◌∙◌, arith, inl, inr}
+use Rattle.std.proofs.Common.{◌≡◌, ◌≢◌, ℕ, suc, ◌+◌, ◌==◌, ◌&&◌, not, nat_lt, Bool, true, false, List, [], ◌∷◌, length, take, drop, take_while, Option, Some, None, is_some, refl, sym, ap, ◌∙◌, arith, inl, inr}
 use Rattle.std.specs.Prelude.{if◌then◌else◌, option_and_then}
 use Rattle.std.specs.Char.{is_ascii_digit, is_ascii_lowercase}
 use Rattle.std.specs.List.{AllByRecursion, list_all, prefix_len}
@@ -87,7 +87,7 @@ unfolding first_number
 first-feed text n e = small-feed text n (if-other _ (small_number text) e).1
 
 cut-feed : (n : ℕ) (text : List ℕ) → HasNoLineFeed (take n text) → HasNoLineFeed (drop n text) → HasNoLineFeed text
-cut-feed n text front back = subst HasNoLineFeed (take-append-drop n text) (plain_append (take n text) (drop n text) front back)
+cut-feed n text front back = rw (take-append-drop n text) at (plain_append (take n text) (drop n text) front back)
 
 while-feed : (test : ℕ → Bool) → test 10 ≡ false → (text : List ℕ) → HasNoLineFeed (take_while test text)
 while-feed test fails [] = tt
@@ -103,7 +103,7 @@ empty-feed (b ∷ text) e = absurd cc
 
 behind-feed : (test : ℕ → Bool) → test 10 ≡ false → (text : List ℕ) → HasNoLineFeed (drop (length (take_while test text)) text) → HasNoLineFeed text
 behind-feed test fails text back =
-    cut-feed (prefix_len test text) text (while-feed test fails text) (subst (λ (k : ℕ). HasNoLineFeed (drop k text)) (length-prefix_len test text) back)
+    cut-feed (prefix_len test text) text (while-feed test fails text) (rw (length-prefix_len test text) at back)
 
 suffix-feed : (text : List ℕ) → is_go_suffix text ≡ true → HasNoLineFeed text
 unfolding is_go_suffix
@@ -130,13 +130,12 @@ dot-feed (b ∷ text) before after =
     elim (cases_Bool (b == 46)) [
       | inl dot ↦
           let none : prefix_len (λ (x : ℕ). not (x == 46)) (b ∷ text) ≡ 0 = rw dot refl in
-          ((λ is. true≢false (sym dot ∙ ap (λ (x : ℕ). x == 46) is)), subst (λ (k : ℕ). HasNoLineFeed (drop (k + 1) (b ∷ text))) none after)
+          ((λ is. true≢false (sym dot ∙ ap (λ (x : ℕ). x == 46) is)), rw none at after)
       | inr other ↦
           let more : prefix_len (λ (x : ℕ). not (x == 46)) (b ∷ text) ≡ suc n = rw other (omega arith) in
           let next : suc n + 1 ≡ suc (n + 1) = omega arith in
-          let front : HasNoLineFeed (b ∷ take n text) = subst (λ (k : ℕ). HasNoLineFeed (take k (b ∷ text))) more before in
-          let back : HasNoLineFeed (drop (suc n + 1) (b ∷ text)) = subst (λ (k : ℕ). HasNoLineFeed (drop (k + 1) (b ∷ text))) more after in
-          (front.0, dot-feed text front.1 (subst (λ (k : ℕ). HasNoLineFeed (drop k (b ∷ text))) next back))
+          let front : HasNoLineFeed (b ∷ take n text) = rw more at before in
+          (front.0, dot-feed text front.1 (rw (more, next) at after))
     ]
 
 some-in : {X : Type 0} (o : Option X) → is_some o ≡ true → (x : X) × (o ≡ Some x)

@@ -29,10 +29,8 @@ pub there-append : (test : Directive → Bool) (block : Option Placed) (xs ys : 
     → is_there test block (xs ++ ys) ≡ (is_there test block xs || is_there test (block_after_lines block xs) ys)
 there-append test block [] ys = refl
 there-append test block (line ∷ xs) ys =
-    let here : Bool = passes test (directive_at block line) in
     let behind : Option Placed = block_after_line block line in
-    ap (λ (b : Bool). here || b) (there-append test behind xs ys)
-    ∙ sym (or_assoc here (is_there test behind xs) (is_there test (block_after_lines behind xs) ys))
+    rw (there-append test behind xs ys) (sym (or_assoc (passes test (directive_at block line)) (is_there test behind xs) _))
 
 any-held : (test : Directive → Bool) (held : Option Directive) (rest : List Directive)
     → list_any test (cons_option held rest) ≡ (passes test held || list_any test rest)
@@ -43,10 +41,7 @@ any-held test (Some d) rest = refl
 pub there-is : (test : Directive → Bool) (block : Option Placed) (lines : List (Line Placed))
     → is_there test block lines ≡ list_any test (held_from block lines)
 there-is test block [] = refl
-there-is test block (line ∷ lines) =
-    let held : Option Directive = directive_at block line in
-    ap (λ (b : Bool). passes test held || b) (there-is test (block_after_line block line) lines)
-    ∙ sym (any-held test held (held_from (block_after_line block line) lines))
+there-is test block (line ∷ lines) = rw (there-is test (block_after_line block line) lines) (sym (any-held test (directive_at block line) _))
 
 pub there-said : (test : Directive → Bool) (lines : List (Line Placed)) → is_there test None lines ≡ list_any test (directives_of lines)
 there-said test lines = there-is test None lines ∙ ap (list_any test) (sym (file-held lines))
@@ -124,9 +119,7 @@ last-one test block (line ∷ lines) e = elim (cases_Bool (is_there test (block_
 there-behind : (test : Directive → Bool) (block : Option Placed) (front back : List (Line Placed)) (line : Line Placed)
     → passes test (directive_at (block_after_lines block front) line) ≡ true
     → is_there test block (front ++ line ∷ back) ≡ true
-there-behind test block front back line hit =
-    there-append test block front (line ∷ back) ∙ or_right (is_there test block front) _
-    (ap (λ (b : Bool). b || is_there test (block_after_line (block_after_lines block front) line) back) hit)
+there-behind test block front back line hit = rw (there-append test block front (line ∷ back), hit) (or_right (is_there test block front) _ refl)
 
 after-last-behind : (test : Directive → Bool) (text : List ℕ) (arguments : List Placed) (block : Option Placed)
     (front back : List (Line Placed)) (line : Line Placed)
@@ -217,14 +210,7 @@ behind-line : {more : List (Line Placed)} (block : Option Placed) (line : Line P
     {lines after : List (Line Placed)} → IsPutOutside more (block_after_line block line) lines after
     → IsPutOutside more block (line ∷ lines) (line ∷ after)
 behind-line block line put =
-    record {
-      front = line ∷ put.front;
-      back = put.back;
-      was = ap (λ (ls : List (Line Placed)). line ∷ ls) put.was;
-      is =
-          ap (λ (ls : List (Line Placed)). line ∷ ls) put.is;
-      outside = put.outside;
-    }
+    record { front = line ∷ put.front; back = put.back; was = rw put.was; is = rw put.is; outside = put.outside }
 
 behind-closing : (more : List (Line Placed)) (block : Option Placed) (lines : List (Line Placed)) → IsPutOutside more block lines (after_closing more lines)
 behind-closing more block [] = record { front = []; back = []; was = refl; is = sym (append-nil more); outside = λ closed. closed }

@@ -1,5 +1,5 @@
 -- What the code reads: the values of words, and valid lines.
-use Rattle.std.proofs.Common.{◌≡◌, ℕ, ◌+◌, ◌<◌, ◌≤◌, Bool, true, false, List, [], length, get_or, drop, Option, Some, None, sym, ap, subst, ◌∙◌, inl, inr}
+use Rattle.std.proofs.Common.{◌≡◌, ℕ, ◌+◌, ◌<◌, ◌≤◌, Bool, true, false, List, [], length, get_or, drop, Option, Some, None, sym, ap, ◌∙◌, inl, inr}
 use Rattle.std.specs.Prelude.{bit_or}
 use Rattle.std.specs.Borrow.{Bor}
 use Rattle.std.specs.Option.{option_map}
@@ -29,25 +29,23 @@ text-argument w value is has = rw is (ap Some (rw is at (value_is w value has)))
 pub bits-next : (words : List Placed) (n : ℕ) {word : Placed} (bits : ℕ) {own : ℕ} → n < length words
     → word ≡ get_or words n word → own ≡ optional_bits (argument word.word)
     → bits_with (bit_or bits own) (words_of (drop (n + 1) words)) ≡ bits_with bits (words_of (drop n words))
-bits-next words n {word} bits lt is own_is =
-    ap (λ (b : ℕ). bits_with (bit_or bits b) (words_of (drop (n + 1) words))) own_is
-    ∙ sym (ap (λ (ws : List Placed). bits_with bits (words_of ws)) (drop-next words n word lt is))
+bits-next words n {word} bits lt is own_is = rw (own_is, drop-next words n word lt is)
 
 pub bits-end : (words : List Placed) (n bits : ℕ) → length words ≤ n → bits ≡ bits_with bits (words_of (drop n words))
-bits-end words n bits over = sym (ap (λ (ws : List Placed). bits_with bits (words_of ws)) (drop_all n words over))
+bits-end words n bits over = rw (drop_all n words over)
 
 -- a text that isn't the value of the next word is that of a later one
 pub value-later : (words : List Placed) (n : ℕ) {word : Placed} (text : List ℕ) {may : Bool} → n < length words
     → word ≡ get_or words n word → (argument word.word ≡ Some text → may ≡ true) → may ≡ false
     → IsValueIn (Some text) (words_of (drop n words)) → IsValueIn (Some text) (words_of (drop (n + 1) words))
 value-later words n {word} text lt is gives fails has =
-    elim (subst (λ (ws : List Placed). IsValueIn (Some text) (words_of ws)) (drop-next words n word lt is) has) [
+    elim (rw (drop-next words n word lt is) at has) [
       | inl here ↦ absurd (let holds = gives here in cc)
       | inr later ↦ later
     ]
 
 pub value-end : (words : List Placed) (n : ℕ) (text : List ℕ) → length words ≤ n → IsValueIn (Some text) (words_of (drop n words)) → ⊥
-value-end words n text over has = subst (λ (ws : List Placed). IsValueIn (Some text) (words_of ws)) (drop_all n words over) has
+value-end words n text over has = rw (drop_all n words over) at has
 
 -- ---- a line that is read
 

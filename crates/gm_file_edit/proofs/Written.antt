@@ -1,5 +1,5 @@
 -- The arguments of a parsed operation are valid.
-use Rattle.std.proofs.Common.{◌≡◌, ℕ, Bool, true, List, Some, None, is_some, subst, inl, inr}
+use Rattle.std.proofs.Common.{◌≡◌, ℕ, Bool, true, List, Some, None, is_some, inl, inr}
 use Rattle.std.specs.Prelude.{if◌then◌else◌}
 use Rattle.std.proofs.lemmas.Bool.{cases_Bool}
 use Rattle.gm_name.specs.Names.{is_path, is_version}
@@ -19,7 +19,7 @@ use Rattle.gm_file_edit.proofs.Feeds.{if-some, if-other, both-are, map-some, the
 tested : (test : List ℕ → Bool) (text : List ℕ) {out : List ℕ} → (if test text then Some text else None) ≡ Some out → test out ≡ true
 tested test text {out} e =
     let t = if-some (test text) (Some text) e in
-    subst (λ (x : List ℕ). test x ≡ true) (same_Some _ _ t.1) t.0
+    rw (same_Some _ _ t.1) at t.0
 
 path-sound : (text : List ℕ) {path : List ℕ} → path_in text ≡ Some path → is_path path ≡ true
 path-sound text e = tested is_path text e
@@ -35,17 +35,17 @@ unfolding pair_in
 pair-sound text e =
     let cut = then-some (λ (parts : List ℕ × List ℕ). both pair (path_in parts.0) (version_in parts.1)) (split_at_byte 64 text) e in
     let parts = both-are pair (path_in cut.0.0) (version_in cut.0.1) cut.2 in
-    subst IsPairOfNames parts.4 (path-sound cut.0.0 parts.2, version-sound cut.0.1 parts.3)
+    rw (← parts.4) (path-sound cut.0.0 parts.2, version-sound cut.0.1 parts.3)
 
 left-sound : (text : List ℕ) (left : Left) → left_in text ≡ Some left → IsSoundLeft left
 unfolding left_in
 left-sound text left e = elim (cases_Bool (has_byte 64 text)) [
   | inl versioned ↦
       let m = map-some (λ (p : ModuleVersion). left_with p.0 p.1) (pair_in text) (rw versioned at e) in
-      subst IsSoundLeft m.2 (pair-sound text m.1)
+      rw (← m.2) (pair-sound text m.1)
   | inr bare ↦
       let m = map-some left_without (path_in text) (rw bare at e) in
-      subst IsSoundLeft m.2 (path-sound text m.1, tt)
+      rw (← m.2) (path-sound text m.1, tt)
 ]
 
 right-sound : (text : List ℕ) (right : Right) → right_in text ≡ Some right → IsSoundRight right
@@ -54,10 +54,10 @@ right-sound text right e = elim (cases_Bool (is_folder_path text)) [
   | inl folder ↦
       let t = if-other (has_byte 10 text) (Some (Folder text)) (rw folder at e) in
       let same : Folder text ≡ right = cc in
-      subst IsSoundRight same (folder, t.0)
+      rw (← same) (folder, t.0)
   | inr other ↦
       let m = map-some (λ (p : ModuleVersion). Module p.0 p.1) (pair_in text) (rw other at e) in
-      subst IsSoundRight m.2 (pair-sound text m.1)
+      rw (← m.2) (pair-sound text m.1)
 ]
 
 replacing-sound : (text : List ℕ) (r : Replacing) → replacing_in text ≡ Some r → IsSoundLeft r.0 × IsSoundRight r.1
@@ -65,7 +65,7 @@ unfolding replacing_in
 replacing-sound text r e =
     let cut = then-some (λ (parts : List ℕ × List ℕ). both replacing (left_in parts.0) (right_in parts.1)) (split_at_byte 61 text) e in
     let parts = both-are replacing (left_in cut.0.0) (right_in cut.0.1) cut.2 in
-    subst (λ (x : Replacing). IsSoundLeft x.0 × IsSoundRight x.1) parts.4 (left-sound cut.0.0 parts.0 parts.2, right-sound cut.0.1 parts.1 parts.3)
+    rw (← parts.4) (left-sound cut.0.0 parts.0 parts.2, right-sound cut.0.1 parts.1 parts.3)
 
 ends-sound : (text : List ℕ) (ends : VersionInterval) → interval_in text ≡ Some ends → AreVersions ends
 unfolding interval_in
@@ -74,35 +74,35 @@ ends-sound text ends e = elim (cases_Bool (is_bracketed text)) [
       let cut = then-some (λ (parts : List ℕ × List ℕ). both pair (version_in (trim parts.0))
       (version_in (trim parts.1))) (split_at_byte 44 (inside_brackets text)) (rw two at e) in
       let parts = both-are pair (version_in (trim cut.0.0)) (version_in (trim cut.0.1)) cut.2 in
-      subst AreVersions parts.4 (version-sound (trim cut.0.0) parts.2, version-sound (trim cut.0.1) parts.3)
+      rw (← parts.4) (version-sound (trim cut.0.0) parts.2, version-sound (trim cut.0.1) parts.3)
   | inr one ↦
       let m = map-some (λ (v : List ℕ). pair v v) (version_in text) (rw one at e) in
       let v = version-sound text m.1 in
-      subst AreVersions m.2 (v, v)
+      rw (← m.2) (v, v)
 ]
 
 -- an operation of a kind has valid arguments
 as-sound : (kind : OperationKind) (text : List ℕ) (edit : Edit) → edit_as kind text ≡ Some edit → IsSoundEdit edit
 as-sound op.Module text edit e =
-    let m = map-some (λ (path : List ℕ). Set (ModuleIs path)) (path_in text) e in subst IsSoundEdit m.2 (path-sound text m.1)
+    let m = map-some (λ (path : List ℕ). Set (ModuleIs path)) (path_in text) e in rw (← m.2) (path-sound text m.1)
 as-sound op.Go text edit e =
-    let m = map-some (λ (version : List ℕ). Set (GoIs version)) (go_text_in text) e in subst IsSoundEdit m.2 (go-sound text m.0 m.1)
+    let m = map-some (λ (version : List ℕ). Set (GoIs version)) (go_text_in text) e in rw (← m.2) (go-sound text m.0 m.1)
 as-sound op.Require text edit e =
-    let m = map-some (λ (p : ModuleVersion). Set (RequireAt p)) (pair_in text) e in subst IsSoundEdit m.2 (pair-sound text m.1)
+    let m = map-some (λ (p : ModuleVersion). Set (RequireAt p)) (pair_in text) e in rw (← m.2) (pair-sound text m.1)
 as-sound op.DropRequire text edit e =
-    let m = map-some (λ (path : List ℕ). Drop (AnyRequire path)) (path_in text) e in subst IsSoundEdit m.2 tt
+    let m = map-some (λ (path : List ℕ). Drop (AnyRequire path)) (path_in text) e in rw (← m.2) tt
 as-sound op.Exclude text edit e =
-    let m = map-some (λ (p : ModuleVersion). Add (Exclude p)) (pair_in text) e in subst IsSoundEdit m.2 (pair-sound text m.1)
+    let m = map-some (λ (p : ModuleVersion). Add (Exclude p)) (pair_in text) e in rw (← m.2) (pair-sound text m.1)
 as-sound op.DropExclude text edit e =
-    let m = map-some (λ (p : ModuleVersion). Drop (AnyExclude p)) (pair_in text) e in subst IsSoundEdit m.2 tt
+    let m = map-some (λ (p : ModuleVersion). Drop (AnyExclude p)) (pair_in text) e in rw (← m.2) tt
 as-sound op.Replace text edit e =
-    let m = map-some (λ (r : Replacing). Set (ReplaceWith r)) (replacing_in text) e in subst IsSoundEdit m.2 (replacing-sound text m.0 m.1)
+    let m = map-some (λ (r : Replacing). Set (ReplaceWith r)) (replacing_in text) e in rw (← m.2) (replacing-sound text m.0 m.1)
 as-sound op.DropReplace text edit e =
-    let m = map-some (λ (left : Left). Drop (AnyReplace left)) (left_in text) e in subst IsSoundEdit m.2 tt
+    let m = map-some (λ (left : Left). Drop (AnyReplace left)) (left_in text) e in rw (← m.2) tt
 as-sound op.Retract text edit e =
-    let m = map-some (λ (ends : VersionInterval). Add (Retract ends)) (interval_in text) e in subst IsSoundEdit m.2 (ends-sound text m.0 m.1)
+    let m = map-some (λ (ends : VersionInterval). Add (Retract ends)) (interval_in text) e in rw (← m.2) (ends-sound text m.0 m.1)
 as-sound op.DropRetract text edit e =
-    let m = map-some (λ (ends : VersionInterval). Drop (AnyRetract ends)) (interval_in text) e in subst IsSoundEdit m.2 tt
+    let m = map-some (λ (ends : VersionInterval). Drop (AnyRetract ends)) (interval_in text) e in rw (← m.2) tt
 
 pub named-sound : (name text : List ℕ) {edit : Edit} → edit_named name text ≡ Some edit → IsSoundEdit edit
 unfolding edit_named
