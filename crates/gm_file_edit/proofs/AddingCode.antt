@@ -105,7 +105,7 @@ pub last-more : {own : Verb} {whole : List (Line Placed)} {block : Option Verb} 
     → TellsEntry own block key found → next ≡ better_at n (is_some block) found best
     → StepsVerb block key next_block → IsLastTo own whole block n best → IsLastTo own whole next_block (n + 1) next
 last-more {own} {whole} {block} next_block {n} {found} {best} known sound lt is tells better step so =
-    let front : List (Line Placed) = take n whole in
+    let front = take n whole in
     record {
       verb = verb-more whole n block next_block lt is step so.verb;
       best_is =

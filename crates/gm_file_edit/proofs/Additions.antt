@@ -47,7 +47,7 @@ first-behind : (test : Directive → Bool) (new : List (Line Placed)) (block : O
     ∷ (if is_some (block_after_lines block front) then after_closing new back else new ++ back)
 first-behind test new block [] back line none hit =
     let held : passes test (directive_at block line) ≡ true = hit in
-    rw held refl
+    rw held
 first-behind test new block (x ∷ front) back line none hit =
     let parts = or_parts (passes test (directive_at block x)) (is_there test (block_after_line block x) front) none in
     rw (parts.0, first-behind test new (block_after_line block x) front back line parts.1 hit)

@@ -111,7 +111,7 @@ replaced-named : (words : List Word) {r : Replacing} → replacing_of words ≡ 
 replaced-named words is =
     let parts = both-are replacing (left_of (before_first is_arrow words)) (right_of (after_first is_arrow words)) is in
     let front = left-named (before_first is_arrow words) parts.2 in
-    let n : ℕ = position_or_len is_arrow words in
+    let n = position_or_len is_arrow words in
     rw (← parts.4) (in-front n (Some parts.0.path) words front.0, in-front n parts.0.version words front.1)
 
 -- ---- the texts that an operation targets

@@ -81,7 +81,7 @@ renewing-comments : (test : Directive → Bool) (new : Option Placed → Line Pl
     → comments (kept_lines (renewing_from test new block lines)) ≡ comments lines
 renewing-comments test new rewrites block [] = refl
 renewing-comments test new rewrites block (line ∷ lines) =
-    let behind : Option Placed = block_after_line block line in
+    let behind = block_after_line block line in
     elim (cases_Bool (passes test (directive_at block line))) [
       | inl hit ↦
           let none = no-comment test new rewrites block line hit in

@@ -27,21 +27,21 @@ any-position b (x ∷ xs) = elim (cases_Bool (x == b)) [
 pub cut-none : (b : ℕ) (text : List ℕ) → position_or_len (λ c. c == b) text ≡ length text → split_at_byte b text ≡ None
 cut-none b text e = let f : has_byte b text ≡ false = any-position b text
     ∙ (let g : nat_lt (position_or_len (λ c. c == b) text) (length text) ≡ false = grind (arith, nat_tests) in g) in
-    rw f refl
+    rw f
 
 pub cut-some : (b : ℕ) (text : List ℕ) {front back : List ℕ} → position_or_len (λ c. c == b) text < length text
     → front ≡ before_first (λ c. c == b) text → back ≡ after_first (λ c. c == b) text → Some (front, back) ≡ split_at_byte b text
 cut-some b text lt f g =
     let there : has_byte b text ≡ true = any-position b text
     ∙ (let h : nat_lt (position_or_len (λ c. c == b) text) (length text) ≡ true = grind (arith, nat_tests) in h) in
-    rw (there, f, g) refl
+    rw (there, f, g)
 
 pub cut-is : (b : ℕ) (text : List ℕ) (r : Option (Bor (List ℕ) × Bor (List ℕ)))
     → MatchOption r (position_or_len (λ c. c == b) text ≡ length text)
     (λ x. (position_or_len (λ c. c == b) text < length text) × (x.0.now ≡ before_first (λ c. c == b) text)
     × (x.1.now ≡ after_first (λ c. c == b) text))
     → split_view r ≡ split_at_byte b text
-cut-is b text None e = rw (cut-none b text e) refl
+cut-is b text None e = rw (cut-none b text e)
 cut-is b text (Some x) is = cut-some b text is.0 is.1 is.2
 
 -- in a text in brackets, the end of the first byte and the start of the last are character boundaries
@@ -57,13 +57,13 @@ open-boundary text utf8 e =
 -- ---- paths and versions, by the facts proved in gm_name
 
 pub path-there : {text : List ℕ} → IsPath text → path_in text ≡ Some text
-path-there {text} holds = rw ((path-tested text).1 holds) refl
+path-there {text} holds = rw ((path-tested text).1 holds)
 
 pub path-none : (text : List ℕ) → ¬ (IsPath text) → path_in text ≡ None
-path-none text fails = rw (not-tested (is_path text) (IsPath text) (path-tested text) fails) refl
+path-none text fails = rw (not-tested (is_path text) (IsPath text) (path-tested text) fails)
 
 pub version-there : (text : List ℕ) → IsVersion text → version_in text ≡ Some text
-version-there text holds = rw ((version-tested text).1 holds) refl
+version-there text holds = rw ((version-tested text).1 holds)
 
 pub version-none : (text : List ℕ) → ¬ (IsVersion text) → version_in text ≡ None
-version-none text fails = rw (not-tested (is_version text) (IsVersion text) (version-tested text) fails) refl
+version-none text fails = rw (not-tested (is_version text) (IsVersion text) (version-tested text) fails)

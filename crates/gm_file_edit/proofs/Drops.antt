@@ -134,7 +134,7 @@ module _ (test : Directive → Bool) (lines : List (Line Placed)) (sound : IsSou
   pub renewed-sound : (said : Directive) (make : Option Placed → Line Placed → Line Placed) → IsRenewal test said make
       → is_there test None lines ≡ true → IsSound (with_renewal test make lines)
   renewed-sound said make by there =
-      let after : List Directive = held_from None (with_renewal test make lines) in
+      let after = held_from None (with_renewal test make lines) in
       let rest : filter (others test) after ≡ filter (others test) ds = renewed-others test said make by.wanted.own by.made lines sound in
       let alone : filter test after ≡ said ∷ [] = renewed-alone test said make by.wanted.own by.made lines sound there in
       let right = renewing-right test said make by.made None lines sound.lines_are.right in

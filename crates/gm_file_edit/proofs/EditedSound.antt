@@ -77,11 +77,11 @@ pair-are p names = begins-path p.0 _ (path-feed p.0 names.0) (made-stands p.1 (v
 
 require-says : (p : ModuleVersion) → IsPairOfNames p → directive_of ForRequire (words_of (pair_words p)) ≡ Some (Requires p)
 unfolding directive_of
-require-says p names = rw (made-value p.0 (path-feed p.0 names.0), made-value p.1 (version-feed p.1 names.1)) refl
+require-says p names = rw (made-value p.0 (path-feed p.0 names.0), made-value p.1 (version-feed p.1 names.1))
 
 exclude-says : (p : ModuleVersion) → IsPairOfNames p → directive_of ForExclude (words_of (pair_words p)) ≡ Some (Excludes p)
 unfolding directive_of
-exclude-says p names = rw (made-value p.0 (path-feed p.0 names.0), made-value p.1 (version-feed p.1 names.1)) refl
+exclude-says p names = rw (made-value p.0 (path-feed p.0 names.0), made-value p.1 (version-feed p.1 names.1))
 
 ends-are : (ends : VersionInterval) → AreVersions ends → AreArguments (interval_words ends)
 ends-are ends are =
@@ -105,7 +105,7 @@ ends-says ends are =
     let high = made-value ends.1 (version-feed ends.1 are.1) in
     elim (cases_Bool (bytes_eq ends.0 ends.1)) [
       | inl same ↦ let is : ends.0 ≡ ends.1 = (bytes_eq-Decides ends.0 ends.1).0 same in rw (same, low, is)
-      | inr apart ↦ rw (apart, low, high) refl
+      | inr apart ↦ rw (apart, low, high)
     ]
 
 -- the new entry of an operation says what it sets or adds

@@ -83,7 +83,7 @@ in-parts : (one other : Edit) (ds : List Directive) → AreApart one other → I
 in-parts one other ds apart =
     let p : Directive → Bool = about one in
     let q : Directive → Bool = about other in
-    let rest : List Directive = filter (others p) ds in
+    let rest = filter (others p) ds in
     let inner : IsPermutation rest (filter q ds ++ neither one other ds) =
     rw (among-others q p (apart-swap one other apart) ds) at (IsPermutation-filter_both q (others q) (λ d. refl) rest) in
     IsPermutation-trans ds (filter p ds ++ rest) (parts_of one other ds)
@@ -92,8 +92,8 @@ in-parts one other ds apart =
 
 pub either-order : EitherOrderLeavesTheSame
 either-order one other lines is also apart =
-    let xs : List Directive = directives_of (lines_after other (lines_after one lines)) in
-    let ys : List Directive = directives_of (lines_after one (lines_after other lines)) in
+    let xs = directives_of (lines_after other (lines_after one lines)) in
+    let ys = directives_of (lines_after one (lines_after other lines)) in
     let here : filter (about one) xs ≡ filter (about one) ys = first-same one other lines is also apart in
     let there : filter (about other) xs ≡ filter (about other) ys = sym (first-same other one lines also is (apart-swap one other apart)) in
     let rest : neither one other xs ≡ neither one other ys =

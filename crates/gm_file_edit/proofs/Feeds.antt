@@ -108,7 +108,7 @@ behind-feed test fails text back =
 suffix-feed : (text : List ℕ) → is_go_suffix text ≡ true → HasNoLineFeed text
 unfolding is_go_suffix
 suffix-feed text e =
-    let letters : List ℕ = take_while is_ascii_lowercase text in
+    let letters = take_while is_ascii_lowercase text in
     let some : Bool = nat_lt 0 (length letters) && nat_lt (length letters) (length text) in
     let digits : Bool = list_all is_ascii_digit (drop (length letters) text) in
     elim (or_cases (length text == 0) (some && digits) e) [
@@ -119,14 +119,14 @@ suffix-feed text e =
 last-feed : (text : List ℕ) {n : ℕ} → last_number text ≡ Some n → HasNoLineFeed text
 unfolding last_number
 last-feed text e =
-    let digits : List ℕ = take_while is_ascii_digit text in
+    let digits = take_while is_ascii_digit text in
     behind-feed is_ascii_digit refl text (suffix-feed (drop (length digits) text)
     (if-some (is_go_suffix (drop (length digits) text)) (small_number digits) e).0)
 
 dot-feed : (text : List ℕ) → HasNoLineFeed (before_dot text) → HasNoLineFeed (after_dot text) → HasNoLineFeed text
 dot-feed [] before after = tt
 dot-feed (b ∷ text) before after =
-    let n : ℕ = prefix_len (λ (x : ℕ). not (x == 46)) text in
+    let n = prefix_len (λ (x : ℕ). not (x == 46)) text in
     elim (cases_Bool (b == 46)) [
       | inl dot ↦
           let none : prefix_len (λ (x : ℕ). not (x == 46)) (b ∷ text) ≡ 0 = rw dot refl in

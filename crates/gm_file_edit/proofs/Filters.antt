@@ -7,10 +7,10 @@ use Rattle.std.proofs.lemmas.Bool.{and_right, cases_Bool, not-true, or_from, or_
 use Rattle.std.proofs.lemmas.List.Elements.{filter_agree}
 
 pub filter-one : {X : Type 0} (p : X → Bool) (x : X) (xs : List X) → p x ≡ true → filter p (x ∷ xs) ≡ x ∷ filter p xs
-filter-one p x xs e = rw e refl
+filter-one p x xs e = rw e
 
 pub filter-none : {X : Type 0} (p : X → Bool) (x : X) (xs : List X) → p x ≡ false → filter p (x ∷ xs) ≡ filter p xs
-filter-none p x xs e = rw e refl
+filter-none p x xs e = rw e
 
 filter-filter : {X : Type 0} (p q : X → Bool) (xs : List X) → filter p (filter q xs) ≡ filter (λ x. q x && p x) xs
 filter-filter p q [] = refl
@@ -57,7 +57,7 @@ is_filled (x ∷ xs) = true
 pub any-filled : {X : Type 0} (test : X → Bool) (xs : List X) → list_any test xs ≡ is_filled (filter test xs)
 any-filled test [] = refl
 any-filled test (x ∷ xs) = elim (cases_Bool (test x)) [
-  | inl hit ↦ rw hit refl
+  | inl hit ↦ rw hit
   | inr miss ↦ rw miss (any-filled test xs)
 ]
 

@@ -1,5 +1,5 @@
 -- What begins with a module path is no folder.
-use Rattle.std.proofs.Common.{◌≡◌, ℕ, ◌==◌, ◌&&◌, not, nat_lt, Bool, true, false, List, [], ◌∷◌, ◌++◌, append-nil, length, refl, sym, ap, subst, arith}
+use Rattle.std.proofs.Common.{◌≡◌, ℕ, ◌==◌, ◌&&◌, not, nat_lt, Bool, true, false, List, [], ◌∷◌, ◌++◌, append-nil, length, refl, arith}
 use Rattle.std.specs.Prelude.{◌<◌}
 use Rattle.std.specs.List.{join_with_byte, list_all}
 use Rattle.std.proofs.lemmas.Bool.Decides.{nat_tests}
@@ -34,7 +34,7 @@ element-begins (b ∷ e) h =
 
 more-begins : {text : List ℕ} (more : List ℕ) → BeginsAside text → BeginsAside (text ++ more)
 more-begins more b =
-    record { byte = b.byte; rest = b.rest ++ more; is = ap (λ (t : List ℕ). t ++ more) b.is; no_dot = b.no_dot; no_slash = b.no_slash }
+    record { byte = b.byte; rest = b.rest ++ more; is = rw b.is; no_dot = b.no_dot; no_slash = b.no_slash }
 
 joined-begins : (es : List (List ℕ)) → 0 < length es → list_all is_element es ≡ true → BeginsAside (join_with_byte 47 es)
 joined-begins [] some all = absurd (omega arith)
@@ -47,14 +47,14 @@ unfolding is_folder_path
 aside-no-folder b rest dot slash =
     let other_dot : (46 == b) ≡ false = grind (arith, nat_tests) in
     let other_slash : (47 == b) ≡ false = grind (arith, nat_tests) in
-    rw (dot, other_dot, other_slash) refl
+    rw (dot, other_dot, other_slash)
 
 pub begins-no-folder : (path more : List ℕ) → IsPath path → is_folder_path (path ++ more) ≡ false
 begins-no-folder path more is =
-    let first : BeginsAside path = subst BeginsAside (sym is.joined) (joined-begins is.elements is.some is.each) in
+    let first : BeginsAside path = rw is.joined (joined-begins is.elements is.some is.each) in
     let b = more-begins more first in
-    subst (λ (t : List ℕ). is_folder_path t ≡ false) (sym b.is) (aside-no-folder b.byte b.rest b.no_dot b.no_slash)
+    rw b.is (aside-no-folder b.byte b.rest b.no_dot b.no_slash)
 
 pub path-no-folder : (text : List ℕ) → is_path text ≡ true → is_folder_path text ≡ false
 path-no-folder text h =
-    subst (λ (t : List ℕ). is_folder_path t ≡ false) (append-nil text) (begins-no-folder text [] ((path-tested text).0 h))
+    rw (append-nil text) at (begins-no-folder text [] ((path-tested text).0 h))

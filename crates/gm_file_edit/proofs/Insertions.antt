@@ -29,7 +29,7 @@ pub there-append : (test : Directive → Bool) (block : Option Placed) (xs ys : 
     → is_there test block (xs ++ ys) ≡ (is_there test block xs || is_there test (block_after_lines block xs) ys)
 there-append test block [] ys = refl
 there-append test block (line ∷ xs) ys =
-    let behind : Option Placed = block_after_line block line in
+    let behind = block_after_line block line in
     rw (there-append test behind xs ys) (sym (or_assoc (passes test (directive_at block line)) (is_there test behind xs) _))
 
 any-held : (test : Directive → Bool) (held : Option Directive) (rest : List Directive)
@@ -128,7 +128,7 @@ after-last-behind : (test : Directive → Bool) (text : List ℕ) (arguments : L
     → after_last_of test text arguments block (front ++ line ∷ back) ≡ front ++ line ∷ entry_at (is_some (block_after_lines block front)) text arguments ∷ back
 after-last-behind test text arguments block [] back line hit none =
     let held : passes test (directive_at block line) ≡ true = hit in
-    let later : is_there test (block_after_line block line) back ≡ false = none in rw (held, later) refl
+    let later : is_there test (block_after_line block line) back ≡ false = none in rw (held, later)
 after-last-behind test text arguments block (x ∷ front) back line hit none =
     rw (
       there-behind test (block_after_line block x) front back line hit,
@@ -149,7 +149,7 @@ pub added-at-end : (verb : List ℕ) (arguments : List Placed) (lines : List (Li
     → is_there (has_verb verb) None lines ≡ false → with_addition verb arguments lines ≡ lines ++ Blank
     ∷ single verb arguments ∷ []
 unfolding with_addition
-added-at-end verb arguments lines none = rw none refl
+added-at-end verb arguments lines none = rw none
 
 -- ---- lines with an entry put in
 
@@ -173,7 +173,7 @@ pub added-into : (v : List ℕ) (arguments : List Placed) (lines : List (Line Pl
 added-into v arguments lines = elim (cases_Bool (is_there (has_verb v) None lines)) [
   | inl there ↦
       let at = last-one (has_verb v) None lines there in
-      let block : Option Placed = block_after_lines None at.front in
+      let block = block_after_lines None at.front in
       let behind : block_after_lines None (at.front ++ at.line ∷ []) ≡ block =
       block-append None at.front (at.line ∷ []) ∙ passing-level (has_verb v) block at.line at.hit in
       record {
@@ -347,6 +347,6 @@ pub into-sound : {v : List ℕ} {arguments : List Placed} {new : Directive} {lin
     → IsAddition v arguments new → IsNewTo (held_from None lines) new
     → IsSound lines → IsPutInto v arguments lines after → IsSound after
 into-sound {v} {arguments} {new} so fresh sound put =
-    let entry : Line Placed = entry_at put.inside v arguments in
+    let entry = entry_at put.inside v arguments in
     let fits : Fits (block_after_lines None put.front) new entry = into-fits v (block_after_lines None put.front) put.inside so (put.fits sound.closed) in
     rw put.is (with-gap put.gap put.front (entry ∷ put.back) (put-in new put.front put.back entry fits (rw put.was at fresh) (rw put.was at sound)))

@@ -69,7 +69,7 @@ pub made-value : (value : List ℕ) → HasNoLineFeed value → argument (new_wo
 made-value value plain =
     let is : value_of (new_word value) ≡ value = value_is (new_word value) value (new_word_stands value (made_word value) plain (is-new value)).1 in
     elim (cases_Bool (can_be_bare value)) [
-      | inl e ↦ rw e refl
+      | inl e ↦ rw e
       | inr e ↦ let quoted : string_value (in_quotes value) ≡ value = rw e at is in rw e (ap Some quoted)
     ]
 
@@ -132,8 +132,8 @@ new-item : (block : Option Placed) (verb : List ℕ) (front arguments : List Pla
     → IsFront block verb front → is_empty_block (words_of arguments) ≡ false
     → item_of block (Entry (front ++ arguments) suffix) ≡ Saying verb (words_of arguments)
 unfolding item_at
-new-item None verb front arguments suffix at fails = rw (at.1, at.2, fails) refl
-new-item (Some v) verb front arguments suffix at fails = rw (at.0, at.1) refl
+new-item None verb front arguments suffix at fails = rw (at.1, at.2, fails)
+new-item (Some v) verb front arguments suffix at fails = rw (at.0, at.1)
 
 pub open-behind : (w : Word) (ws : List Word) → 0 < length ws → ends_open (w ∷ ws) ≡ ends_open ws
 open-behind w [] some = absurd (omega arith)
@@ -191,8 +191,8 @@ last-replaced value block words last suffix = rw (without-last words last)
 pub all-arguments : (block : Option Placed) (verb : List ℕ) (front old : List Placed) {line : Line Placed}
     (suffix : Option (List ℕ)) (arguments : List Placed) → IsFront block verb front
     → line ≡ Entry (front ++ old) suffix → with_arguments arguments block line ≡ Entry (front ++ arguments) suffix
-all-arguments None verb front old suffix arguments at is = rw (is, at.1) refl
-all-arguments (Some v) verb front old suffix arguments at is = rw (is, at.0) refl
+all-arguments None verb front old suffix arguments at is = rw (is, at.1)
+all-arguments (Some v) verb front old suffix arguments at is = rw (is, at.0)
 
 -- ---- one argument or two
 

@@ -76,7 +76,7 @@ pub some-mark : (test : Directive → Bool) (block : Option Placed) (lines : Lis
     → first_of (marks_from test block lines) < length lines → is_there test block lines ≡ true
 some-mark test block [] lt = absurd (omega (arith, lt))
 some-mark test block (line ∷ lines) lt = elim (cases_Bool (passes test (directive_at block line))) [
-  | inl holds ↦ rw holds refl
+  | inl holds ↦ rw holds
   | inr fails ↦ let less = rw fails at lt in rw fails (some-mark test (block_after_line block line) lines (omega (arith, less)))
 ]
 
@@ -130,7 +130,7 @@ pub edited-there : (edit : Edit) (lines : List (Line Placed)) (marks : List Bool
 unfolding lines_after
 edited-there edit lines marks marks_are first_is lt =
     let at = first_is ∙ first-is marks ∙ ap first_of marks_are in
-    rw (some-mark (about edit) None lines (omega (arith, at, lt))) refl
+    rw (some-mark (about edit) None lines (omega (arith, at, lt)))
 
 pub edited-new : (edit : Edit) (lines : List (Line Placed)) (marks : List Bool) {first : ℕ}
     → marks ≡ marks_from (about edit) None lines → first ≡ length (take_while (λ mark. not mark) marks)
@@ -138,7 +138,7 @@ pub edited-new : (edit : Edit) (lines : List (Line Placed)) (marks : List Bool) 
 unfolding lines_after
 edited-new edit lines marks marks_are first_is le =
     let at = first_is ∙ first-is marks ∙ ap first_of marks_are in
-    rw (no-mark (about edit) None lines (omega (arith, at, le))) refl
+    rw (no-mark (about edit) None lines (omega (arith, at, le)))
 
 -- what is left of lines of which the first with a mark is rewritten
 pub renew-is : (edit : Edit) (lines new : List (Line Placed)) {marks : List Bool} (others : List Bool) {first : ℕ} {line : Line Placed}

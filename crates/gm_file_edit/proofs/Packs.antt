@@ -95,7 +95,7 @@ widen-more : {whole : List (Line Placed)} {old : List Bool} (n : ℕ) {block : O
     (fates_of (drop (n + 1) old) (drop (n + 1) whole))
     → IsWidenedTo whole old n block behind marks → IsWidenedTo whole old (n + 1) next_block next_behind next
 widen-more {whole} {old} n {block} next_block {behind} next_behind {mark} next_mark {marks} next even lt is same_size same_rest put step so =
-    let front : List Fate = fates_of (take n marks) (take n whole) in
+    let front = fates_of (take n marks) (take n whole) in
     let after : List Fate = widened_from next_block next_behind (fates_of (drop (n + 1) old) (drop (n + 1) whole)) in
     let size = so.size in
     let rest : drop (n + 1) marks ≡ drop (n + 1) old = next-rest marks old n so.rest in

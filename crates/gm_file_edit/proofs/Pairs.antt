@@ -179,7 +179,7 @@ pub put-line : (front back : List (Line Placed)) (line : Line Placed) → IsRigh
     → IsClear (directive_at (block_after_lines None front) line) (held_in (with_blocks (front ++ back)))
     → IsSound (front ++ back) → IsSound (front ++ line ∷ back)
 put-line front back line right level clear sound =
-    let block : Option Placed = block_after_lines None front in
+    let block = block_after_lines None front in
     let xs : List Seat = with_blocks_from None front in
     let ys : List Seat = with_blocks_from block back in
     let old : with_blocks (front ++ back) ≡ xs ++ ys = with_blocks-snoc None front back in

@@ -61,7 +61,7 @@ entry-said own is (Some word) (Entry words suffix) = refl
 entry-said own is None (Entry [] suffix) = is
 entry-said own is None (Entry (word ∷ words) suffix) = elim (cases_Bool (is_empty_block (words_of words))) [
   | inl empty ↦ rw empty is
-  | inr full ↦ rw full refl
+  | inr full ↦ rw full
 ]
 
 -- the code's test of a key says whether a valid line with this key holds a directive of the verb

@@ -115,7 +115,7 @@ module _ (test : Directive → Bool) where
       → renewing_from test new (loose_block block) (loose_lines lines) ≡ loose_fates (renewing_from test new block lines)
   renewing-loose new blind block [] = refl
   renewing-loose new blind block (line ∷ lines) =
-      let behind : Option Placed = block_after_line block line in
+      let behind = block_after_line block line in
       rw (passes-loose block line, behind-loose block line, blind block line, dropping-loose behind lines, renewing-loose new blind behind lines)
       (pushed loose_fates (passes test (directive_at block line))
       (Some (new block line) ∷ dropping_from test behind lines) (Some line ∷ renewing_from test new behind lines))
@@ -212,8 +212,8 @@ module _ (verb : List ℕ) (arguments : List Placed) (are : AreLoose arguments) 
       → after_last_of test verb arguments (loose_block block) (loose_lines lines) ≡ loose_lines (after_last_of test verb arguments block lines)
   after-last-loose test block [] = refl
   after-last-loose test block (line ∷ lines) =
-      let behind : Option Placed = block_after_line block line in
-      let entry : Line Placed = entry_at (is_some block) verb arguments in
+      let behind = block_after_line block line in
+      let entry = entry_at (is_some block) verb arguments in
       rw (
         passes-loose test block line,
         behind-loose block line,
@@ -247,7 +247,7 @@ module _ (new : List (Line Placed)) (are : loose_lines new ≡ new) where
       → after_first_of test new (loose_block block) (loose_lines lines) ≡ loose_lines (after_first_of test new block lines)
   first-of-loose test block [] = sym are
   first-of-loose test block (line ∷ lines) =
-      let behind : Option Placed = block_after_line block line in
+      let behind = block_after_line block line in
       let here : List (Line Placed) = if is_some block then after_closing new lines else new ++ lines in
       rw (
         passes-loose test block line,

@@ -45,15 +45,15 @@ use Rattle.gm_file.proofs.Indexed.{left-self}
 
 module-kinds : (path : List ℕ) → is_path path ≡ true → directive_kinds Strict [] (DeclaresModule path) ≡ []
 unfolding directive_kinds
-module-kinds path h = rw h refl
+module-kinds path h = rw h
 
 go-kinds : (text : List ℕ) → is_some (strict_go text) ≡ true → directive_kinds Strict [] (DeclaresGo text) ≡ []
 unfolding directive_kinds
-go-kinds text h = rw h refl
+go-kinds text h = rw h
 
 pub go-says : (text : List ℕ) → HasNoLineFeed text → directive_of ForGo (words_of (made_word text ∷ [])) ≡ Some (DeclaresGo text)
 unfolding directive_of
-go-says text plain = rw (made-value text plain) refl
+go-says text plain = rw (made-value text plain)
 
 -- a directive of one argument
 one-made : {v : Verb} (make : List ℕ → Directive) → ((words : List Word)
@@ -86,7 +86,7 @@ go-made text h = λ block line d held e stands. one-made DeclaresGo (λ words. r
 -- ---- a requirement
 
 pair-kinds : (p : ModuleVersion) → IsPairOfNames p → does_fit p.0 p.1 ≡ true → pair_kinds p ≡ []
-pair-kinds p names fit = rw (names.0, names.1, fit) refl
+pair-kinds p names fit = rw (names.0, names.1, fit)
 
 require-kinds : (p : ModuleVersion) → IsPairOfNames p → does_fit p.0 p.1 ≡ true → directive_kinds Strict [] (Requires p) ≡ []
 unfolding directive_kinds
@@ -95,7 +95,7 @@ require-kinds p names fit = pair-kinds p names fit
 require-says : (a : Placed) (p : ModuleVersion) → argument a.word ≡ Some p.0 → HasNoLineFeed p.1
     → directive_of ForRequire (words_of (a ∷ made_word p.1 ∷ [])) ≡ Some (Requires p)
 unfolding directive_of
-require-says a p is plain = rw (is, made-value p.1 plain) refl
+require-says a p is plain = rw (is, made-value p.1 plain)
 
 held-pair : (words : List Word) (p : ModuleVersion) → directive_of ForRequire words ≡ Some (Requires p) → pair_of words ≡ Some p
 unfolding directive_of
@@ -145,20 +145,20 @@ replace-mild r d e = refl
 
 right-path-right : (right : Right) → IsSoundRight right → right_path_kinds right ≡ []
 right-path-right (Folder text) s = refl
-right-path-right (Module path version) s = rw s.0 refl
+right-path-right (Module path version) s = rw s.0
 
 right-version-right : (right : Right) → IsSoundRight right → right_version_kinds right ≡ []
 right-version-right (Folder text) s = refl
-right-version-right (Module path version) s = rw s.1 refl
+right-version-right (Module path version) s = rw s.1
 
 left-version-right : (version : Option (List ℕ)) → IsSoundVersion version → left_version_kinds version ≡ []
 left-version-right None s = refl
-left-version-right (Some version) s = rw s refl
+left-version-right (Some version) s = rw s
 
 sides-right : (left : Left) (right : Right) → IsSoundLeft left → IsSoundRight right → does_left_fit left.path left.version ≡ true → sides_kinds left right ≡ []
 sides-right left right l r fit =
     let path : path_kinds left.path ≡ [] = rw l.0 refl in
-    rw (path, right-path-right right r, left-version-right left.version l.1, right-version-right right r, fit) refl
+    rw (path, right-path-right right r, left-version-right left.version l.1, right-version-right right r, fit)
 
 replace-kinds : (r : Replacing) → IsSoundLeft r.0 → IsSoundRight r.1 → does_left_fit r.0.path r.0.version ≡ true → directive_kinds Strict [] (Replaces r) ≡ []
 unfolding directive_kinds
@@ -177,12 +177,12 @@ arrow-splits path (Some version) rest = rw (no-arrow path, no-arrow version) (re
 
 left-says : (path : List ℕ) (version : Option (List ℕ)) → is_path path ≡ true → IsSoundVersion version
     → left_of (words_of (left_words path version)) ≡ Some (record { path = path; version = version })
-left-says path None p v = rw (made-value path (path-feed path p)) refl
-left-says path (Some version) p v = rw (made-value path (path-feed path p), made-value version (version-feed version v)) refl
+left-says path None p v = rw (made-value path (path-feed path p))
+left-says path (Some version) p v = rw (made-value path (path-feed path p), made-value version (version-feed version v))
 
 right-says : (right : Right) → IsSoundRight right → right_of (words_of (right_words right)) ≡ Some right
-right-says (Folder text) r = rw (made-value text (byte-feed text r.1), r.0) refl
-right-says (Module q w) r = rw (made-value q (path-feed q r.0), made-value w (version-feed w r.1), path-no-folder q r.0) refl
+right-says (Folder text) r = rw (made-value text (byte-feed text r.1), r.0)
+right-says (Module q w) r = rw (made-value q (path-feed q r.0), made-value w (version-feed w r.1), path-no-folder q r.0)
 
 replace-says-of : (path : List ℕ) (version : Option (List ℕ)) (right : Right) → is_path path ≡ true → IsSoundVersion version → IsSoundRight right
     → directive_of ForReplace (words_of (left_words path version ++ made_mark Arrow ∷ right_words right))
@@ -246,7 +246,7 @@ exclude-kinds p names fit = pair-kinds p names fit
 
 ends-kinds : (ends : VersionInterval) → AreVersions ends → directive_kinds Strict [] (Retracts ends) ≡ []
 unfolding directive_kinds
-ends-kinds ends are = rw (are.0, are.1) refl
+ends-kinds ends are = rw (are.0, are.1)
 
 pub pair-itself : (p : List ℕ × List ℕ) → (bytes_eq p.0 p.0 && bytes_eq p.1 p.1) ≡ true
 pair-itself p = and_from (bytes_eq p.0 p.0) (bytes_eq p.1 p.1) (bytes_eq-self p.0) (bytes_eq-self p.1)

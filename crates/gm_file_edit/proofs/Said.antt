@@ -1,5 +1,5 @@
 -- What the lines of a file say after an operation.
-use Rattle.std.proofs.Common.{◌≡◌, ℕ, ◌||◌, not, Bool, true, false, List, [], ◌∷◌, ◌++◌, Option, Some, None, is_some, refl, sym, ap, ◌∙◌, inl, inr}
+use Rattle.std.proofs.Common.{◌≡◌, ℕ, not, Bool, true, false, List, [], ◌∷◌, ◌++◌, Option, Some, None, is_some, refl, sym, ap, ◌∙◌, inl, inr}
 use Rattle.std.specs.Prelude.{filter}
 use Rattle.std.specs.List.{cons_option, list_any}
 use Rattle.std.proofs.lemmas.Bool.{cases_Bool}
@@ -49,7 +49,7 @@ dropping-held test block (line ∷ lines) = elim (cases_Bool (passes test (direc
   | inl holds ↦ rw (holds, passing-level test block line holds)
       (dropping-held test block lines ∙ sym (gone-held test (directive_at block line) (held_from block lines) holds))
   | inr fails ↦
-      let behind : Option Placed = block_after_line block line in
+      let behind = block_after_line block line in
       rw (fails, dropping-held test behind lines) (sym (stay-held test (directive_at block line) (held_from behind lines) fails))
 ]
 
@@ -86,33 +86,41 @@ module _ (test : Directive → Bool) (said : Directive) (make : Option Placed �
       → filter (others test) (held_from block (kept_lines (renewing_from test make block lines))) ≡ filter (others test) (held_from block lines)
   renewing-others block [] right = refl
   renewing-others block (line ∷ lines) right =
-      let behind : Option Placed = block_after_line block line in
-      let held : Option Directive = directive_at block line in
-      let rest : List Directive = held_from behind lines in
+      let behind = block_after_line block line in
+      let held = directive_at block line in
+      let rest = held_from behind lines in
       elim (cases_Bool (passes test held)) [
         | inl holds ↦
-            rw holds (ap (filter (others test)) (first-held test said make makes block line lines holds right.0.0)
-            ∙ filter-none (others test) said (filter (others test) rest) (ap not own)
-            ∙ others-twice test rest ∙ sym (gone-held test held rest holds))
+            rw (
+              holds,
+              first-held test said make makes block line lines holds right.0.0,
+              filter-none (others test) said (filter (others test) rest) (ap not own),
+              others-twice test rest,
+              gone-held test held rest holds,
+            )
         | inr fails ↦
-            rw fails (stay-held test held (held_from behind (kept_lines (renewing_from test make behind lines))) fails
-            ∙ ap (cons_option held) (renewing-others behind lines right.1) ∙ sym (stay-held test held rest fails))
+            rw (fails, stay-held test held rest fails)
+            (stay-held test held (held_from behind (kept_lines (renewing_from test make behind lines))) fails
+            ∙ ap (cons_option held) (renewing-others behind lines right.1))
       ]
 
   renewing-alone : (block : Option Placed) (lines : List (Line Placed)) → AreRightFrom block lines → is_there test block lines ≡ true
       → filter test (held_from block (kept_lines (renewing_from test make block lines))) ≡ said ∷ []
   renewing-alone block [] right there = absurd cc
   renewing-alone block (line ∷ lines) right there =
-      let behind : Option Placed = block_after_line block line in
-      let rest : List Directive = held_from behind lines in
+      let behind = block_after_line block line in
+      let rest = held_from behind lines in
       elim (cases_Bool (passes test (directive_at block line))) [
         | inl holds ↦
-            rw holds (ap (filter test) (first-held test said make makes block line lines holds right.0.0)
-            ∙ filter-one test said (filter (others test) rest) own
-            ∙ ap (λ (ds : List Directive). said ∷ ds) (none-of-others test rest))
+            rw (
+              holds,
+              first-held test said make makes block line lines holds right.0.0,
+              filter-one test said (filter (others test) rest) own,
+              none-of-others test rest,
+            )
         | inr fails ↦
             rw fails (past-held test (directive_at block line) (held_from behind (kept_lines (renewing_from test make behind lines))) fails
-            ∙ renewing-alone behind lines right.1 (ap (λ (b : Bool). b || is_there test behind lines) (sym fails) ∙ there))
+            ∙ renewing-alone behind lines right.1 (rw fails at there))
       ]
 
   pub renewed-others : (lines : List (Line Placed)) → IsSound lines
@@ -147,8 +155,8 @@ pub into-said : {v : List ℕ} {arguments : List Placed} (new : Directive) {line
     → IsAddition v arguments new → IsSound lines → IsPutInto v arguments lines after
     → IsPutIn new (held_from None lines) (held_from None after)
 into-said {v} {arguments} new so sound put =
-    let block : Option Placed = block_after_lines None put.front in
-    let entry : Line Placed = entry_at put.inside v arguments in
+    let block = block_after_lines None put.front in
+    let entry = entry_at put.inside v arguments in
     record {
       front = held_from None put.front;
       back = held_from block put.back;

@@ -141,25 +141,22 @@ sound-of edit lines is = (written-sound is.0.0 edit is.0.1, document-sound lines
 
 pub dropped-is-gone : DroppedIsGone
 dropped-is-gone = λ edit lines e.
-    ap (list_any (about edit)) (file-held (lines_after edit lines) ∙ ap (held_from None) (edited-drop edit lines e)
-    ∙ dropped-held (about edit) lines) ∙ others-none (about edit) (held_from None lines)
+    rw (file-held (lines_after edit lines), edited-drop edit lines e, dropped-held (about edit) lines) (others-none (about edit) (held_from None lines))
 
 pub set-stands-alone : SetStandsAlone
 set-stands-alone = λ edit lines d is e.
     let sound = sound-of edit lines is in
-    ap (filter (about edit)) (file-held (lines_after edit lines)) ∙ alone-after edit lines d sound.0 is.1 sound.1 e
+    rw (file-held (lines_after edit lines)) (alone-after edit lines d sound.0 is.1 sound.1 e)
 
 pub added-is-there : AddedIsThere
 added-is-there = λ edit lines d is e.
     let sound = sound-of edit lines is in
-    ap (filter (about edit)) (file-held (lines_after edit lines)) ∙ added-after edit lines d sound.0 is.1 sound.1 e
-    ∙ ap (once_or_as_before edit d) (sym (file-held lines))
+    rw (file-held (lines_after edit lines), file-held lines) (added-after edit lines d sound.0 is.1 sound.1 e)
 
 pub others-stay : OthersStay
 others-stay = λ edit lines is.
     let sound = sound-of edit lines is in
-    ap (filter (others (about edit))) (file-held (lines_after edit lines))
-    ∙ others-after edit lines sound.0 is.1 sound.1 ∙ ap (filter (others (about edit))) (sym (file-held lines))
+    rw (file-held (lines_after edit lines), file-held lines) (others-after edit lines sound.0 is.1 sound.1)
 
 -- ---- operations with nothing to do
 
@@ -177,8 +174,7 @@ pub second-addition : SecondAdditionChangesNothing
 second-addition edit lines d is adds =
     idle-addition edit (lines_after edit lines) d adds
     (elim (cases_Bool (list_any (about edit) (directives_of lines))) [
-      | inl some ↦ ap (λ (ls : List (Line Placed)). list_any (about edit) (directives_of ls)) (idle-addition edit lines d adds some) ∙ some
+      | inl some ↦ rw (idle-addition edit lines d adds some) some
       | inr none ↦ any-filled (about edit) (directives_of (lines_after edit lines))
-          ∙ ap is_filled (added-is-there edit lines d is adds
-          ∙ ap (λ (b : Bool). if b then filter (about edit) (directives_of lines) else d ∷ []) none)
+          ∙ ap is_filled (rw none at (added-is-there edit lines d is adds))
     ])

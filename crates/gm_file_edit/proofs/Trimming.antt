@@ -33,21 +33,21 @@ front-blank text n (c, passes, at) = elim (either-blank c passes) [
 ]
 
 leading-more : (b : ℕ) (rest : List ℕ) → is_space_or_tab b ≡ true → without_leading (b ∷ rest) ≡ without_leading rest
-leading-more b rest e =
-    ap (λ n. drop n (b ∷ rest)) (length-prefix_len is_space_or_tab (b ∷ rest))
-    ∙ ap (λ t. drop (cond t (1 + prefix_len is_space_or_tab rest) 0) (b ∷ rest)) e
-    ∙ ap (λ n. drop n (b ∷ rest)) (one-add (prefix_len is_space_or_tab rest))
-    ∙ sym (ap (λ n. drop n rest) (length-prefix_len is_space_or_tab rest))
+leading-more b rest e = rw (
+  length-prefix_len is_space_or_tab (b ∷ rest),
+  length-prefix_len is_space_or_tab rest,
+  e,
+  one-add (prefix_len is_space_or_tab rest),
+)
 
 leading-none : (text : List ℕ) → (0 < length text → is_space_or_tab (get_or text 0 0) ≡ false) → without_leading text ≡ text
 leading-none [] stops = refl
 leading-none (b ∷ rest) stops =
-    ap (λ n. drop n (b ∷ rest)) (length-prefix_len is_space_or_tab (b ∷ rest))
-    ∙ ap (λ t. drop (cond t (1 + prefix_len is_space_or_tab rest) 0) (b ∷ rest)) (stops (omega arith))
+    rw (length-prefix_len is_space_or_tab (b ∷ rest), stops (omega arith))
 
 front-cut : (text : List ℕ) (ns : List ℕ) (rest : List ℕ) → CutsPrefixes (Finds FindsPrefixBy) text ns rest
     → without_leading rest ≡ without_leading text
-front-cut text [] rest same = ap without_leading same
+front-cut text [] rest same = rw same
 front-cut text (n ∷ ns) rest (more, cuts, found, same) =
     let blank = front-blank more n (found is_space_or_tab same-test) in
     ap without_leading same ∙ sym (ap without_leading blank.3 ∙ leading-more blank.0 (drop n more) blank.1) ∙ front-cut text ns more cuts
@@ -103,7 +103,7 @@ trailing-more front b e =
     ap (prefix_len is_space_or_tab) (reverse-append front (b ∷ [])) ∙ ap (λ t. cond t (1 + suffix_len is_space_or_tab front) 0) e in
     let long : length (front ++ b ∷ []) - suffix_len is_space_or_tab (front ++ b ∷ []) ≡ length front - suffix_len is_space_or_tab front =
     omega (arith, count, length-append front (b ∷ [])) in
-    ap (λ n. take n (front ++ b ∷ [])) long ∙ take-append-le (length front - suffix_len is_space_or_tab front) front (b ∷ []) (omega (arith))
+    rw long (take-append-le (length front - suffix_len is_space_or_tab front) front (b ∷ []) (omega arith))
 
 trailing-none : (text : List ℕ) → (0 < length text → is_space_or_tab (get_or text (length text - 1) 0) ≡ false)
     → without_trailing text ≡ text
@@ -111,11 +111,11 @@ trailing-none text stops =
     let none : suffix_len is_space_or_tab text ≡ length text - length text =
     suffix_len_is is_space_or_tab text (length text) 0 (omega arith) (λ k from to. absurd (omega (arith, from, to))) stops in
     let all : length text - suffix_len is_space_or_tab text ≡ length text = omega (arith, none) in
-    ap (λ n. take n text) all ∙ take_all (length text) text (omega arith)
+    rw all (take_all (length text) text (omega arith))
 
 end-cut : (text : List ℕ) (ns : List ℕ) (front : List ℕ) → CutsSuffixes (Finds FindsSuffixBy) text ns front
     → without_trailing front ≡ without_trailing text
-end-cut text [] front same = ap without_trailing same
+end-cut text [] front same = rw same
 end-cut text (n ∷ ns) front (more, cuts, found, same) =
     let blank = end-blank more n (found is_space_or_tab same-test) in
     ap without_trailing same ∙ sym (ap without_trailing blank.3 ∙ trailing-more (take (length more - n) more) blank.0 blank.1) ∙ end-cut text ns more cuts

@@ -134,7 +134,7 @@ module _ (test : Directive → Bool) (new : Rewriting) where
   into-set : {v : List ℕ} {arguments : List Placed} {lines after : List (Line Placed)} → EntryIsSet new v arguments
       → IsSound lines → is_there test None lines ≡ false → IsPutInto v arguments lines after → LinesAreSet None after
   into-set {v} {arguments} is sound none put =
-      let block : Option Placed = block_after_lines None put.front in
+      let block = block_after_lines None put.front in
       rw put.is
       (gap-set put.gap put.front put.back (entry_at put.inside v arguments) (rw put.was at none)
       (rw (← (put.fits sound.closed).0) (is block)) (entry-level block put.inside v arguments))
@@ -145,8 +145,8 @@ module _ (test : Directive → Bool) (new : Rewriting) where
       → filter test (held_from block lines) ≡ d ∷ [] → renewing_from test new block lines ≡ all_stay lines
   renewing-stays d block [] are alone = refl
   renewing-stays d block (line ∷ lines) are alone =
-      let behind : Option Placed = block_after_line block line in
-      let rest : List Directive = held_from behind lines in
+      let behind = block_after_line block line in
+      let rest = held_from behind lines in
       elim (cases_Bool (passes test (directive_at block line))) [
         | inl hit ↦
             let none : is_there test behind lines ≡ false = there-is test behind lines
@@ -230,7 +230,7 @@ again-changes (Add a) lines d sets are alone = absurd cc
 
 pub second-setting : SecondSettingChangesNothing
 second-setting edit lines d is sets =
-    let after : List (Line Placed) = lines_after edit lines in
+    let after = lines_after edit lines in
     let alone : filter (about edit) (directives_of after) ≡ d ∷ [] = set-stands-alone edit lines d is sets in
     let there : is_there (about edit) None after ≡ true = rw (there-said (about edit) after, any-filled (about edit) (directives_of after), alone) in
     by-edited (λ ls. ls ≡ after) edit after

@@ -84,8 +84,8 @@ behind-entry : (test : Directive → Bool) (v : List ℕ) {arguments : List Plac
     → is_there test None (front ++ line ∷ back) ≡ false → passes (has_verb v) (directive_at (block_after_lines None front) line) ≡ true
     → without_targets test (front ++ line ∷ entry_at (is_some (block_after_lines None front)) v arguments ∷ back) ≡ front ++ line ∷ back
 behind-entry test v {arguments} new front back line so own none hit =
-    let block : Option Placed = block_after_lines None front in
-    let entry : Line Placed = entry_at (is_some block) v arguments in
+    let block = block_after_lines None front in
+    let entry = entry_at (is_some block) v arguments in
     let fits : Fits block new entry = entry-fits block (passing-verb v block line (directive_at block line) refl hit) so in
     let behind : block_after_lines None (front ++ line ∷ []) ≡ block = block-append None front (line ∷ []) ∙ passing-level (has_verb v) block line hit in
     let is = holds-entry (has_verb v) block line hit in
@@ -107,7 +107,7 @@ at-end : (test : Directive → Bool) (v : List ℕ) (arguments : List Placed) (n
     → is_there test None lines ≡ false → IsSound lines → without_targets test (lines ++ Blank ∷ single v arguments ∷ []) ≡ lines ++ Blank ∷ []
 at-end test v arguments new lines so own none sound =
     let front : List (Line Placed) = lines ++ Blank ∷ [] in
-    let entry : Line Placed = single v arguments in
+    let entry = single v arguments in
     let fits : Fits None new entry = entry-fits None tt so in
     let outside : block_after_lines None front ≡ None = block-append None lines (Blank ∷ []) ∙ sound.closed in
     let absent : is_there test None (front ++ []) ≡ false = rw (append-nil front) (blank-none test lines none) in
@@ -139,7 +139,7 @@ record IsUndoing (edit undo : Edit) : Type 0 where
 
 covered-left : (left other : Left) (version : Option (List ℕ)) → left.version ≡ version
     → is_covered_by left version other ≡ false → is_same_left other left ≡ false
-covered-left left other None is e = rw e refl
+covered-left left other None is e = rw e
 covered-left left other (Some version) is e = e
 
 replaced-left : (left : Left) (d : Directive) → is_replaced_by left d ≡ false → replaces_left left d ≡ false

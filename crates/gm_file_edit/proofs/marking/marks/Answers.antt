@@ -1,10 +1,8 @@
 use Rattle.std.proofs.Common.{◌≡◌, ◌∙◌, [], Option, None, arith, refl, ap}
 use Rattle.std.specs.Option.{option_map}
-use Rattle.gm_syntax.specs.Document.{Line}
 use Rattle.gm_syntax.specs.LineViews.{line_of}
 use Rattle.gm_syntax.specs.Tokens.{Placed}
 use Rattle.gm_file_edit.specs.About.{about}
-use Rattle.gm_file_edit.specs.Edits.{Edit}
 use Rattle.gm_file.specs.Directives.{Strict}
 use Rattle.gm_file.specs.Faults.{item_kinds}
 use Rattle.gm_file_edit.specs.Holding.{directive_at, item_of, passes}
@@ -29,9 +27,9 @@ holds_target-requires c =
 
 pub loop-n-preserved : goal.loop-n-preserved
 loop-n-preserved c =
-    let edit : Edit = edit_of c.args.change.now in
+    let edit = edit_of c.args.change.now in
     let block : Option Placed = option_map (λ t. t.now) c.loop-n.block in
-    let line : Line Placed = line_of c.line-line.result.now in
+    let line = line_of c.line-line.result.now in
     let so = c.loop-n.invariant in
     let inside = c.loop-n-test.true in
     let len = c.len-n-end.ensures in
