@@ -176,9 +176,9 @@ arguments-again test arguments None [] suffix hit = absurd cc
 arguments-again test arguments None (verb ∷ words) suffix hit = refl
 
 setting-sets : (s : Setting) → IsSetting (about (Set s)) (made_new (Set s))
-setting-sets (ModuleIs path) = last-sets (about (Set (ModuleIs path))) path
-setting-sets (GoIs text) = last-sets (about (Set (GoIs text))) text
-setting-sets (RequireAt p) = last-sets (about (Set (RequireAt p))) p.1
+setting-sets (ModuleIs path) = last-sets _ path
+setting-sets (GoIs text) = last-sets _ text
+setting-sets (RequireAt p) = last-sets _ p.1
 setting-sets (ReplaceWith r) = record { level = λ block words suffix. refl; again = arguments-again (about (Set (ReplaceWith r))) (replace_words r) }
 
 changed-set : (edit : Edit) (lines : List (Line Placed)) {d : Directive} → set_by edit ≡ Some d

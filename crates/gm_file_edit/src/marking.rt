@@ -5,7 +5,7 @@
 
 ghost use Rattle.std.specs.Prelude.{◌≡◌, [], not, true, length, take_while, IfOk, Option, Some, None};
 ghost use Rattle.std.specs.Option.{option_map};
-ghost use Rattle.gm_syntax.specs.Document.{IsDocument, Line as LineOf};
+ghost use Rattle.gm_syntax.specs.Document.{IsDocument};
 ghost use Rattle.gm_syntax.specs.LineViews.{line_of, plain_lines};
 ghost use Rattle.gm_syntax.specs.Tokens.{Placed, words_of};
 ghost use Rattle.gm_file.specs.Directives.{Strict};
