@@ -9,84 +9,23 @@ import sys
 from collections import defaultdict
 
 import script
+import sources
+from sources import CRATES, PAGE, USE, Definition, definitions, functions, plain, scope_of
 
-CRATES = pathlib.Path("crates")
 NAMES_OF_PAGES = ("HEADLINE", "REPORTS", "BYTES", "DIRECTIVES", "EDITS", "NAMES", "OTHERS")
 PAGES = [pathlib.Path("docs/proof") / f"{name}.md" for name in NAMES_OF_PAGES]
-COPY = "page"  # the crate that has copies of definitions
-RUNNING = "gomod_run/src/running.rt"
+RUNNING = CRATES / "gomod_run/src/running.rt"
 LIST = [("Rattle.gomod_run.specs.ListQuery", "ListEnds"), ("Rattle.gomod_run.specs.Written", "EndsAsStated")]
-HEAD = re.compile(r"(?:(?:abbrev|unfoldable|opaque)\s+)?(?:pub\s+)?(?:(record|data)\s+)?([^\s:({]+)")
 NAME = re.compile(r"(?<![\w.'])(?:([A-Za-z_]\w*)\.)?([A-Za-z_][\w'-]*)")
 SHOWN = re.compile(r"(?ms)^<!-- show ([^\n]*?) -->\n(.*?)^<!-- end -->$")
 
 
-def without_comments(text):
-    """A text without the comments of either language."""
-    return re.sub(r"(?m)--.*$|//.*$", "", text)
-
-
-class Definition:
-    """A definition of a file in specs/: its comment, its text, and the names that it brings."""
-
-    def __init__(self, file, name, kind, comment, text):
-        self.file, self.name, self.kind = file, name, kind
-        self.comment, self.text = comment, text
-        self.code = without_comments(text)
-        self.constructors = set(re.findall(r"(?m)^  ([A-Za-z_]\w*) :", self.code)) if kind == "data" else set()
-
-    def lines(self):
-        """How many lines there are to read."""
-        return sum(bool(line.strip()) for line in self.code.split("\n"))
-
-
-class Scope:
-    """What the names of a file mean: a name, or a name of a module with a short name, to a place (module, name)."""
-
-    def __init__(self, text):
-        self.names, self.modules = {}, {}
-        for path, listed, short in re.findall(r"(?m)^ *(?:ghost )?use ([\w.]+?)(?:\.\{([^}]*)\}|\s+as (\w+));?$", text):
-            if short:
-                self.modules[short] = path
-            for one in listed.split(","):
-                name, _, other = one.strip().partition(" as ")
-                self.names[other or name] = (path, name)
-
-
-def read(file):
-    """The definitions of a file, in order, and its scope."""
-    text = (CRATES / file).read_text()
-    lines, found = text.split("\n"), {}
-    starts = [at for at, line in enumerate(lines) if re.match(r"[^\s}-]", line) and not line.startswith("use ")]
-    at, last = 0, -1
-    for at in starts:
-        if at <= last:
-            continue
-        last = at
-        while last + 1 < len(lines) and not ends_at(lines, last + 1):
-            last += 1
-        first = at
-        while first > 0 and lines[first - 1].startswith("--"):
-            first -= 1
-        head = HEAD.match(lines[at])
-        comment, body = "\n".join(lines[first:at]), "\n".join(lines[at:last + 1])
-        found[head[2]] = Definition(file, head[2], head[1], comment, body)
-    return found, Scope(text)
-
-
-def ends_at(lines, at):
-    """Whether a definition ends before this line: it is empty, and what follows is not indented."""
-    if lines[at].strip():
-        return False
-    rest = [line for line in lines[at:] if line.strip()]
-    return not rest or not rest[0].startswith(" ")
-
-
-FILES = {}
-for path in sorted(CRATES.glob("*/specs/*.antt")):
-    if path.name not in ("Lib.antt", "Private.antt") and path.parts[1] != COPY:
-        file = str(path.relative_to(CRATES))
-        FILES[file] = read(file)
+# the files of specs/, each with what it imports
+FILES = {
+    it: scope_of(it.read_text())
+    for it in sources.files("specs/*.antt")
+    if it.name not in ("Lib.antt", "Private.antt") and it.parts[1] != PAGE
+}
 
 
 class Leaf:
@@ -114,13 +53,17 @@ def place(path, name):
         of = f" of `{names[-1]}`" if parts[-1] == "TheVariants" else ""
         owner = None if names[-1] == "TheConstants" else (parts[1], names[-1])
         return leaf(name, f"`crates/{parts[1]}/src/{'/'.join(names[:-1])}.rt`{of}", owner)
-    file = f"{parts[1]}/specs/{'/'.join(parts[3:])}.antt"
+    file = CRATES.joinpath(*parts[1:]).with_suffix(".antt")
     if file not in FILES:
-        return leaf(name, f"`crates/{parts[1]}/{'/'.join(parts[2:])}.antt`")
-    for one in FILES[file][0].values():
-        if name == one.name or name in one.constructors:
-            return one
-    sys.exit(f"headline: {file} has no {name}")
+        return leaf(name, f"`{file}`")
+    found = own_names(file).get(name)
+    return found or sys.exit(f"headline: {file} has no {name}")
+
+
+@functools.cache
+def own_names(file):
+    """What the names that a file defines mean; that of a constructor means its definition."""
+    return {name: one for one in definitions(file).values() for name in (*one.constructors, one.name)}
 
 
 def bound_in(text, scope, own):
@@ -136,51 +79,43 @@ def bound_in(text, scope, own):
     bound.update(re.findall(r"(?m)^  ([a-z_]\w*) = .*;$", text))
     for left in re.findall(r"(?m)^[a-z_A-Z]\w*'? ([^=\n]*?) =(?!=)", text):
         for name in re.findall(r"(?<![\w.])[a-z_]\w*'?", left):
-            target = place(*scope.names[name]) if name in scope.names else None
-            is_pattern = name in own or (target and isinstance(target, Definition) and name in target.constructors)
-            if not is_pattern:
+            target = place(*scope[name]) if name in scope else own.get(name)
+            if not (isinstance(target, Definition) and name in target.constructors):
                 bound.add(name)
     return bound
 
 
-def used_in(text, scope, definitions, bound=frozenset()):
-    """What the names in a text mean: pairs of the name as it is written and a definition or a leaf."""
-    own = {name: one for one in definitions.values() for name in one.constructors | {one.name}}
-    text = re.sub(r"\"[^\"]*\"", "", without_comments(text))
-    bound = bound | bound_in(text, scope, {it for one in definitions.values() for it in one.constructors})
-    seen = {}
+def used_in(text, scope, own):
+    """What the names in a text mean, given what the names of its file do: pairs of the name as it is written and a
+    definition or a leaf."""
+    text = plain(text)
+    bound, seen = bound_in(text, scope, own), {}
     for module, name in NAME.findall(text):
-        if module in scope.modules:
-            seen[f"{module}.{name}"] = place(scope.modules[module], name)
+        path, imported = scope.get(module or name, (None, None))
+        if module and path and not imported:
+            seen[f"{module}.{name}"] = place(path, name)
             continue
         name = module or name
-        if name in bound:
-            continue
-        if name in own:
-            seen[name] = own[name]
-        elif name in scope.names:
-            seen[name] = place(*scope.names[name])
+        if name not in bound and (name in own or imported):
+            seen[name] = own.get(name) or place(path, imported)
     return seen
 
 
 @functools.cache
 def used_by(one):
     """What the names in a definition mean."""
-    definitions, scope = FILES[one.file]
-    return used_in(one.text, scope, definitions)
+    return used_in(one.text, FILES[one.file], own_names(one.file))
 
 
-def reached_from(found):
-    """All definitions that these names reach, and the leaves."""
-    reached, leaves, left = {}, {}, list(found)
+def reached_from(found, is_end=lambda one: False):
+    """All definitions that these names reach, but for those that end it, and the leaves."""
+    reached, left = {}, list(found)
     while left:
         one = left.pop()
-        if isinstance(one, Leaf):
-            leaves[one.source, one.name] = one
-        elif (one.file, one.name) not in reached:
-            reached[one.file, one.name] = one
-            left.extend(used_by(one).values())
-    return reached, leaves
+        if one not in reached and not is_end(one):
+            reached[one] = None
+            left.extend(used_by(one).values() if isinstance(one, Definition) else ())
+    return [it for it in reached if isinstance(it, Definition)], [it for it in reached if isinstance(it, Leaf)]
 
 
 # ---- contracts
@@ -188,44 +123,13 @@ def reached_from(found):
 
 def clauses_of(file, function):
     """The clauses of the first function of this name in a source: name to its text, with the comments before it."""
-    lines = (CRATES / file).read_text().split("\n")
-    return clauses_at(lines, next(at for at, line in enumerate(lines) if re.search(rf"\bfn {function}\b", line)))
+    return next(it for it, _ in functions(file.read_text()) if it.name == function).clauses()
 
 
-def clauses_at(lines, at):
-    """The clauses of the function whose head begins on this line."""
-    clauses, comment, text, name = {}, [], [], None
-    margin = lines[at][:len(lines[at]) - len(lines[at].lstrip())]
-    for line in lines[at + 1:]:
-        line = line.removeprefix(margin)
-        head = re.match(r"    (?:requires|ensures) (?:(\w+) )?\{", line)
-        is_last = bool(head or name is not None) and line.endswith("};")  # of a function that a trait declares
-        line = line.removesuffix(";") if is_last else line
-        is_end = re.match(r"[{}]|.*;$", line)
-        if head or is_end or line.startswith("    //"):
-            if name is not None:
-                clauses[name], text, name = "\n".join(text), [], None
-        if is_end:
-            break
-        if line.startswith("    //"):
-            comment.append(line[4:])
-        elif head:
-            name, text, comment = head[1] or "", [*comment, line[4:]], []
-        elif name is not None:
-            text.append(line[4:])
-        if is_last:
-            clauses[name] = "\n".join(text)
-            break
-    return clauses
-
-
-def clauses_named(file, function, names):
-    """These clauses, in order."""
-    clauses = clauses_of(file, function)
-    missing = [name for name in names if name not in clauses]
-    if missing:
-        sys.exit(f"headline: {function} of {file} has no clause {' '.join(missing)}")
-    return [clauses[name] for name in names]
+def used_in_clauses(file, clauses):
+    """What the names in clauses of a source mean: pairs of the name as it is written and a definition or a leaf."""
+    scope = scope_of(file.read_text())
+    return {it for clause in clauses for it in used_in(re.sub(r"(?m)^//.*$", "", clause), scope, {}).items()}
 
 
 # ---- pages
@@ -236,15 +140,20 @@ def code(text):
     return f"```\n{text}\n```\n"
 
 
-def shown(file, names):
-    """The definitions, and their text as the page shows it."""
-    definitions = FILES[file][0]
-    missing = [name for name in names if name not in definitions]
+def shown(order):
+    """What stands below a mark: its text, the definitions that it has, and what the names in it mean."""
+    what, names = order.removeprefix("contract ").split(":")
+    name, *function = what.split()
+    file, link = CRATES / name, f"[{name}](../../crates/{name})"
+    known = clauses_of(file, *function) if function else definitions(file)
+    missing = [it for it in names.split() if it not in known]
     if missing:
-        sys.exit(f"headline: {file} has no {' '.join(missing)}")
-    found = [definitions[name] for name in names]
-    texts = [f"{one.comment}\n{one.text}".strip() for one in found]
-    return found, f"[{file}](../../crates/{file}):\n" + code("\n\n".join(texts))
+        sys.exit(f"headline: {what} has no {' '.join(missing)}")
+    found = [known[it] for it in names.split()]
+    if function:
+        return f"{link}, `{function[0]}`:\n" + code("\n".join(found)), [], used_in_clauses(file, found)
+    used = {it for one in found for it in used_by(one).items()}
+    return f"{link}:\n" + code("\n\n".join(one.whole() for one in found)), found, used
 
 
 def worlds():
@@ -261,20 +170,12 @@ class Page:
 
     def __init__(self, path):
         self.path, self.text = path, path.read_text()
-        self.defined, self.uses = {}, set()
+        self.defined, self.uses = [], set()
         for order, _ in SHOWN.findall(self.text):
-            if order in ("names", "worlds"):
-                continue
-            file, names = order.removeprefix("contract ").split(":")
-            if order.startswith("contract "):
-                file, function = file.split()
-                scope = Scope((CRATES / file).read_text())
-                for clause in clauses_named(file, function, names.split()):
-                    self.uses.update(used_in(clause, scope, {}).items())
-                continue
-            for one in shown(file, names.split())[0]:
-                self.defined[one.file, one.name] = one
-                self.uses.update(used_by(one).items())
+            if order not in ("names", "worlds"):
+                _, found, used = shown(order)
+                self.defined += found
+                self.uses |= used
 
     def quotes(self):
         """What the page quotes, each with one blank between words."""
@@ -284,11 +185,9 @@ class Page:
     def early(self):
         """The names of the page that it uses before it shows them, each with the definition that uses it."""
         seen = set()
-        for one in self.defined.values():
+        for one in self.defined:
             seen.add(one)
-            for it in used_by(one).values():
-                if isinstance(it, Definition) and (it.file, it.name) in self.defined and it not in seen:
-                    yield it.name, one.name
+            yield from ((it.name, one.name) for it in used_by(one).values() if it in self.defined and it not in seen)
 
     def names(self, others):
         """The names that the page uses and doesn't define."""
@@ -297,17 +196,13 @@ class Page:
             short = name.split(".")[-1]
             if short != one.name and not (isinstance(one, Definition) and short in one.constructors):
                 renamed.add((name, one))
-            if isinstance(one, Leaf):
-                groups[one.source].add(one.name)
-            elif (one.file, one.name) not in self.defined:
-                page = next((it for it in others if (one.file, one.name) in it.defined), None)
-                where = f"[{page.path.name}]({page.path.name})" if page else f"`crates/{one.file}`"
-                groups[where].add(one.name)
+            if one not in self.defined:
+                page = next((it.path.name for it in others if one in it.defined), None)
+                groups[f"[{page}]({page})" if page else source_of(one)].add(one.name)
         rows = [f"- {linked(where)}: {', '.join(f'`{name}`' for name in sorted(names))}\n"
                 for where, names in sorted(groups.items())]
         for name, one in sorted(renamed, key=lambda it: it[0]):
-            rows.append(f"- Written `{name}` here: `{one.name}` of "
-                        + linked(one.source if isinstance(one, Leaf) else f"`crates/{one.file}`") + "\n")
+            rows.append(f"- Written `{name}` here: `{one.name}` of {linked(source_of(one))}\n")
         return "".join(rows)
 
     def renewed(self, others):
@@ -315,17 +210,7 @@ class Page:
 
         def renew(found):
             order = found[1]
-            if order == "names":
-                body = self.names(others)
-            elif order == "worlds":
-                body = worlds()
-            elif order.startswith("contract "):
-                (file, function), names = order.split(":")[0].split()[1:], order.split(":")[1].split()
-                clauses = clauses_named(file, function, names)
-                body = f"[{file}](../../crates/{file}), `{function}`:\n" + code("\n".join(clauses))
-            else:
-                file, names = order.split(":")
-                body = shown(file, names.split())[1]
+            body = self.names(others) if order == "names" else worlds() if order == "worlds" else shown(order)[0]
             return f"<!-- show {order} -->\n{body}<!-- end -->"
 
         return SHOWN.sub(renew, self.text)
@@ -337,22 +222,20 @@ LEAF_PAGES = ("NAMES.md", "DIRECTIVES.md", "REPORTS.md")
 
 def keep_short(page, others):
     """How many things are wrong with what one reads from `ListEnds`: it is too long, or a definition is on no page."""
-    leaves = {at for it in others if it.path.name in LEAF_PAGES for at in it.defined}
-    found, left, wrong = {}, [place(*LIST[0])], 0
-    while left:
-        one = left.pop()
-        at = (one.file, one.name) if isinstance(one, Definition) else None
-        if at is None or at in found or at in leaves:
-            continue
-        found[at] = one
-        if at not in page.defined:
-            print(f"{page.path}: it has no {one.name} of {one.file}, nor does a page of leaves")
-            wrong += 1
-        left.extend(used_by(one).values())
-    lines = sum(it.lines() for it in found.values())
+    leaves = {one for it in others if it.path.name in LEAF_PAGES for one in it.defined}
+    found, _ = reached_from([place(*LIST[0])], leaves.__contains__)
+    absent = [it for it in found if it not in page.defined]
+    for one in absent:
+        print(f"{page.path}: it has no {one.name} of {one.file}, nor does a page of leaves")
+    lines = sum(it.size() for it in found)
     most = f"at most {MOST_DEFINITIONS} and {MOST_LINES}"
     print(f"{page.path}, from `ListEnds`: {len(found)} definitions, {lines} lines; {most}")
-    return wrong + (len(found) > MOST_DEFINITIONS) + (lines > MOST_LINES)
+    return len(absent) + (len(found) > MOST_DEFINITIONS) + (lines > MOST_LINES)
+
+
+def source_of(one):
+    """Where a definition or a leaf is from."""
+    return one.source if isinstance(one, Leaf) else f"`{one.file}`"
 
 
 def linked(source):
@@ -376,37 +259,27 @@ def is_private(leaf):
 
 
 def exported():
-    """The functions with a contract that the libraries export: the crate's name and the function's, and its clauses
-    with what their names mean."""
-    for path in sorted(CRATES.glob("*/src/**/*.rt")):
-        if path.parts[1] == COPY:
-            continue
-        crate, file = path.parts[1], "/".join(path.parts[3:])
+    """The functions with a contract that the libraries export: the crate's name and the function's, and what the names
+    in its clauses mean."""
+    for path in sources.files("src/**/*.rt"):
+        crate, module, text = path.parts[1], "/".join(path.parts[3:]).removesuffix(".rt"), path.read_text()
         names, modules = exports(crate)
-        lines, owner, is_trait = path.read_text().split("\n"), None, False
-        scope = Scope("\n".join(lines))
-        for at, line in enumerate(lines):
-            head = re.match(r"impl(?:<.*?>)? (.* for )?(\w+)", line)
-            if head:
-                is_trait, owner = bool(head[1]), head[2]
-            elif line.startswith("}"):
-                owner = None
-            function = re.match(r"(    )?(pub )?fn (\w+)", line)
-            if not function:
-                continue
-            is_method, is_public, name = function.groups()
-            is_known = owner in names if is_method else name in names or file.split(".")[0] in modules
-            is_own = is_known and (is_public or (is_method and is_trait))
-            clauses = clauses_at(lines, at) if is_own else {}
+        for function, block in functions(text) if crate != PAGE else ():
+            is_public = function.visibility == "pub"
+            if block:
+                is_public = (is_public or block.trait) and block.kind == "impl" and block.name in names
+            else:
+                is_public = is_public and (function.name in names or module in modules)
+            clauses = function.clauses().values() if is_public else ()
             if clauses:
-                yield f"{crate}::{owner + '::' if is_method else ''}{name}", clauses, scope
+                yield f"{crate}::{block.name + '::' if block else ''}{function.name}", used_in_clauses(path, clauses)
 
 
 def size_of(found):
     """What these names reach, in words, and the private types among it."""
     reached, leaves = reached_from(found)
-    size, files = sum(it.lines() for it in reached.values()), {it.file for it in reached.values()}
-    private = sorted({f"{it.owner[0]}::{it.owner[1]}" for it in leaves.values() if is_private(it)})
+    size, files = sum(it.size() for it in reached), {it.file for it in reached}
+    private = sorted({f"{it.owner[0]}::{it.owner[1]}" for it in leaves if is_private(it)})
     return len(reached), f"{len(reached)} definitions, {size} lines, in {len(files)} files", private
 
 
@@ -414,41 +287,33 @@ def size_of(found):
 
 
 BY_HAND = ("Types", "Files", "Worlds")  # its definitions that are written by hand: what they name is not copied
-USE = re.compile(r"(?m)^use ([\w.]+?)(?:\.\{([^}]*)\}|\s+as (\w+))$")
 
 
+@functools.cache
 def stand_ins():
     """The names that the crate defines by hand, each with its file: those of definitions, and those of constructors."""
     names, constructors = {}, {}
     for base in BY_HAND[:-1]:
-        for one in read(f"{COPY}/specs/{base}.antt")[0].values():
+        for one in definitions(CRATES / PAGE / f"specs/{base}.antt").values():
             names[one.name] = base
             constructors.update(dict.fromkeys(one.constructors, base))
     return names, constructors
 
 
-def stand_in(one, by_hand):
+def stand_in(one):
     """The file of the crate that has a stand-in for a definition or a leaf, or None."""
-    names, constructors = by_hand
+    names, constructors = stand_ins()
     return names.get(one.name) or (constructors.get(one.name) if isinstance(one, Leaf) and one.owner else None)
 
 
-def copied(by_hand):
+def copied():
     """The definitions from `ListEnds` to the stand-ins, by their files."""
-    found, left = defaultdict(list), [place(*LIST[0])]
-    while left:
-        one = left.pop()
-        if isinstance(one, Leaf) or stand_in(one, by_hand) or one in found[one.file]:
-            continue
-        found[one.file].append(one)
-        left.extend(used_by(one).values())
-    for file, ones in found.items():
-        order = list(FILES[file][0])
-        ones.sort(key=lambda one: order.index(one.name))
-    return {file: ones for file, ones in found.items() if ones}
+    found, _ = reached_from([place(*LIST[0])], stand_in)
+    by_files = {file: [it for it in definitions(file).values() if it in found] for file in FILES}
+    return {file: ones for file, ones in by_files.items() if ones}
 
 
-def names_kept(path, listed, ones, by_hand):
+def names_kept(path, listed, ones):
     """Those of the imported names that these definitions use, each with the file of the crate that has it."""
     code = "\n".join(one.code for one in ones)
     words = {name for one in ones for name in used_by(one)}
@@ -456,7 +321,7 @@ def names_kept(path, listed, ones, by_hand):
         name, _, other = item.partition(" as ")
         is_used = (other or name) in words if NAME.fullmatch(name) else is_in(name, code)
         if is_used:
-            yield item, stand_in(place(path, name), by_hand) if NAME.fullmatch(name) else None
+            yield item, stand_in(place(path, name)) if NAME.fullmatch(name) else None
 
 
 def is_in(name, code):
@@ -465,70 +330,69 @@ def is_in(name, code):
                for it in name.split("◌") if it)
 
 
-def copy_of(file, ones, by_hand):
+def copy_of(file, ones):
     """The text of the crate's file with these definitions of a source."""
-    imports, text = defaultdict(list), (CRATES / file).read_text()
-    for path, listed, short in USE.findall(text):
+    imports = defaultdict(list)
+    for _, path, listed, short in USE.findall(file.read_text()):
         parts = path.split(".")
         is_own = parts[0] == "Rattle" and (CRATES / parts[1]).is_dir()
         if short:
             if any(re.search(rf"\b{short}\.", one.code) for one in ones):
-                imports[f"Rattle.{COPY}.specs.Types as {short}"] = []
+                imports[f"Rattle.{PAGE}.specs.Types as {short}"] = []
             continue
-        for item, base in names_kept(path, listed, ones, by_hand):
-            where = f"Rattle.{COPY}.specs.{base or parts[-1]}" if is_own or base else path
+        for item, base in names_kept(path, listed, ones):
+            where = f"Rattle.{PAGE}.specs.{base or parts[-1]}" if is_own or base else path
             imports[where].append(item)
     for name, one in sorted({it for one in ones for it in used_by(one).items()}, key=lambda it: it[0]):
-        if isinstance(one, Definition) and one.file == file and stand_in(one, by_hand):
-            imports[f"Rattle.{COPY}.specs.{stand_in(one, by_hand)}"].append(name)
+        if isinstance(one, Definition) and one.file == file and stand_in(one):
+            imports[f"Rattle.{PAGE}.specs.{stand_in(one)}"].append(name)
     uses = [f"use {path}" + (f".{{{', '.join(items)}}}" if items else "") for path, items in imports.items()]
-    head = f"-- A copy from crates/{file}, which tools/headline.sh writes."
-    texts = [f"{one.comment}\n{one.text}".strip() for one in ones]
-    return "\n\n".join(["\n".join([head, *uses]), *texts]) + "\n"
+    head = f"-- A copy from {file}, which tools/headline.sh writes."
+    return "\n\n".join(["\n".join([head, *uses]), *(one.whole() for one in ones)]) + "\n"
 
 
 def copies():
     """The files of the crate that are not written by hand, each with its text."""
-    by_hand = stand_ins()
-    files = copied(by_hand)
-    texts = {pathlib.Path(file).name: copy_of(file, ones, by_hand) for file, ones in sorted(files.items())}
+    texts = {file.name: copy_of(file, ones) for file, ones in copied().items()}
     bases = [*(name.removesuffix(".antt") for name in texts), *BY_HAND]
     texts["Lib.antt"] = "".join(f"pub mod {base}\n" for base in sorted(bases))
-    return {CRATES / COPY / "specs" / name: text for name, text in texts.items()}
+    return {CRATES / PAGE / "specs" / name: text for name, text in texts.items()}
+
+
+def keep(path, text, option):
+    """Writes a file anew, or says that it is out of step; gives how many are."""
+    if path.exists() and path.read_text() == text:
+        return 0
+    if not option:
+        path.write_text(text)
+    elif option == "--check":
+        print(f"{path}: it is not what the sources say: tools/headline.sh writes it anew")
+    return int(option == "--check")
 
 
 def renew_copies(option):
     """Writes the crate's copies, or says which is out of step."""
     wrong, texts = 0, copies()
-    for path in (CRATES / COPY / "specs").glob("*.antt"):
+    for path in (CRATES / PAGE / "specs").glob("*.antt"):
         if path not in texts and path.stem not in BY_HAND:
             wrong += 1
             print(f"{path}: it is a copy of nothing that the headline reaches")
-    for path, text in texts.items():
-        if path.exists() and path.read_text() == text:
-            continue
-        if option == "--check":
-            print(f"{path}: it is not what the sources say: tools/headline.sh writes it anew")
-            wrong += 1
-        elif not option:
-            path.write_text(text)
-    return wrong
+    return wrong + sum(keep(path, text, option) for path, text in texts.items())
 
 
 def unshown(found, pages):
     """The definitions that these names reach and that no page shows, and how many pages show the others."""
     reached = reached_from(found)[0]
-    shown = {at for it in pages for at in it.defined}
-    used = [it for it in pages if it.defined.keys() & reached.keys()]
-    return [it for at, it in reached.items() if at not in shown], len(used)
+    shown = {it for page in pages for it in page.defined}
+    return [it for it in reached if it not in shown], sum(any(it in page.defined for it in reached) for page in pages)
 
 
 def counts(option, pages):
     """Prints how much the contract of `run` reaches, and gives how many definitions of it are on no page."""
     clauses = clauses_of(RUNNING, "run")
-    scope = Scope((CRATES / RUNNING).read_text())
-    ends = list(used_in(*clauses_named(RUNNING, "run", ["ends"]), scope, {}).values())
-    every = [it for clause in clauses.values() for it in used_in(clause, scope, {}).values()]
+    ends, every = (
+        [it for _, it in used_in_clauses(RUNNING, of)] for of in ([clauses["ends"]], clauses.values())
+    )
     for title, found in (("`list`", [place(*it) for it in LIST]), ("clause `ends`", ends), ("all clauses", every)):
         _, size, private = size_of(found)
         left, used = unshown(found, pages)
@@ -537,9 +401,8 @@ def counts(option, pages):
         for it in left:
             print(f"  {it.name} of {it.file} is on no page")
     rows, types = [], set()
-    for name, clauses, scope in exported():
-        used = [it for clause in clauses.values() for it in used_in(clause, scope, {}).values()]
-        count, size, private = size_of(used)
+    for name, used in exported():
+        count, size, private = size_of(it for _, it in used)
         rows.append((count, f"{name}: {size}", private))
         types.update(private)
     print(f"all {len(rows)} exported contracts, the most for {max(rows)[1]}; {len(types)} private types of the code")
@@ -556,11 +419,11 @@ def main(option=""):
     spec = " ".join(pathlib.Path("docs/proof/SPEC.md").read_text().split())
     seen = {}
     for page in pages:
-        for at in page.defined:
-            if at in seen:
-                print(f"{page.path}: {' '.join(at)} stands on {seen[at]}, too")
+        for one in page.defined:
+            if one in seen:
+                print(f"{page.path}: {one.name} of {one.file} stands on {seen[one]}, too")
                 wrong += 1
-            seen[at] = page.path
+            seen[one] = page.path
         for quote in page.quotes():
             if quote not in spec:
                 print(f"{page.path}: docs/proof/SPEC.md does not say: {quote}")
@@ -570,13 +433,8 @@ def main(option=""):
             print(f"{page.path}: {user} uses {name}, which is shown after it")
             wrong += 1
     for page in pages:
-        new = page.renewed([it for it in pages if it is not page])
-        if new != page.text and option == "--check":
-            print(f"{page.path}: it is not what the sources say: tools/headline.sh writes it anew")
-            wrong += 1
-        elif new != page.text and not option:
-            page.path.write_text(new)
-        size = sum(it.lines() for it in page.defined.values())
+        wrong += keep(page.path, page.renewed([it for it in pages if it is not page]), option)
+        size = sum(it.size() for it in page.defined)
         print(f"{page.path}: {len(page.defined)} definitions, {size} lines")
     wrong += keep_short(pages[0], pages[1:]) + renew_copies(option)
     wrong += counts(option, pages)

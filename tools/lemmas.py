@@ -8,31 +8,20 @@ import re
 import sys
 
 import script
+from sources import PAGE, files
 
 MOST_SHARED = 20
-# how many statements are proved twice or more often, a number that only falls; crates/page has copies
-TWICE, PAGE = 0, "page"
-DECLARED = re.compile(r"(?:pub )?([^\s:(){}]+) : (.+)")
+# how many statements are proved twice or more often, a number that only falls
+TWICE = 0
+LEMMA = re.compile(r"(?m)^(?:pub )?([^\s:(){}]+) : (.+(?:\n[ \t]+\S.*)*)")
 NAME = re.compile(r"[^\s(){}\[\],;.]+")
 # variables that a type binds: `(x y : T)`, `{x y : T}`, `λ (x : T).`, `λ x y.`
 BINDER = re.compile(r"[({]((?:[^\s(){}:]+ )+):|λ ((?:[^\s().]+ ?)+)\.")
 
 
 def lemmas_of(path):
-    """The declarations at the margin of a file, or of a page's examples: (name, type)."""
-    found, now = [], None
-    for line in path.read_text(encoding="utf-8").split("\n"):
-        if now and line.startswith((" ", "\t")) and line.strip():
-            now[1] += " " + line.strip()
-            continue
-        if now:
-            found.append(tuple(now))
-            now = None
-        if line.startswith(("use ", "pub use ", "abbrev ", "record ", "data ", "--", "mod ", "pub mod ", "unfolding")):
-            continue
-        if declared := DECLARED.fullmatch(line):
-            now = [declared[1], declared[2]]
-    return found + ([tuple(now)] if now else [])
+    """The lemmas at the margin of a file, or of a page's examples: (name, type)."""
+    return LEMMA.findall(path.read_text(encoding="utf-8"))
 
 
 def plain(statement):
@@ -58,7 +47,7 @@ def standard_lemmas(kit):
 
 def own_lemmas(chosen):
     """The lemmas of the chosen crates, or of all if none is chosen: crate, file, name and what each says."""
-    for path in sorted(pathlib.Path("crates").glob("*/proofs/*.antt")):
+    for path in files("proofs/*.antt"):
         crate = path.parts[1]
         if not chosen or crate in chosen:
             for name, statement in lemmas_of(path):

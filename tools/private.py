@@ -7,26 +7,15 @@
 It runs in the root of a repository. The status is 1 if something is wrong, or if nothing reaches NAME.
 """
 import collections
-import dataclasses
-import pathlib
 import re
 import sys
 
 import script
+from sources import CRATES, PAGE, code_of, definitions, files, items_of, names_in, plain, scope_of
 
-CRATES = pathlib.Path("crates")
-# its definitions are copies of others, which each contract of the crate reaches
-PAGE = "page"
-DECLARATION = re.compile(r"(?:(?:abbrev|unfoldable|pub) )*(?:(?:data|record) )?([^\s:(){}]+)(?= :| \(| \{|$)")
-MEMBER = re.compile(r"(?m)^  (?:pub )?(\S+) : ")
-USE = re.compile(r"(?ms)^ *((?:unfoldable |pub |ghost )*)use (Rattle\.[\w.]+?)(?:\.\{(.*?)\}| as (\S+?))?;?$")
 NAME = r"[^\s(){}\[\],;.λ⟦⟧|\"]+"
 PATH = re.compile(rf"{NAME}(?:\.{NAME})*")
 RUST_USE = re.compile(r"(?ms)^ *(?:pub(?:\(crate\))? )?use ([^;{]+?)(?:::\{([^;]*)\})?(?: as (\w+))?;")
-KINDS = "ghost|fn|struct|enum|trait|impl|type|const|static|mod|use"
-ITEM = rf"(?m)^{{}}(?:(pub(?:\([^)]*\))?) )?(?:unsafe |default )?({KINDS})\b"
-HEAD_END = r"(?m)^{}(?! )[^\n]*(?:\{{|\{{\}}|;)$"
-CLAUSE = re.compile(r"(?m)^ +(?:requires|ensures)\b")
 # forms that the rest of this file doesn't follow, which nothing uses
 UNREAD = {
     "a `use` of all names": r"^ *(?:pub |ghost )*use [^;\n]*[.:]\*",
@@ -36,41 +25,6 @@ UNREAD = {
 }
 
 
-def names_in(group):
-    """The names of a group of a `use` line: each with the name that it has in the file."""
-    for entry in filter(None, (it.strip() for it in (group or "").split(","))):
-        name, _, other = entry.partition(" as ")
-        yield name, other or name
-
-
-@dataclasses.dataclass
-class Definition:
-    """A definition of specs/: its name, its lines with the comments above, and what it says without comments."""
-
-    name: str
-    first: int
-    last: int
-    text: str
-    is_public: bool
-    members: list
-
-
-def plain(text):
-    """The text of an .antt file without comments and what strings say."""
-    return re.sub(r"(?m)(^|\s)--.*$", r"\1", re.sub(r'"(?:\\.|[^"\\\n])*"', '""', text))
-
-
-def scope_of(text):
-    """What the `use` lines bring into scope: names, each with the path of an item or of a module."""
-    scope = {}
-    for _, path, group, other in (it.groups() for it in USE.finditer(text)):
-        if group is None:
-            scope[other or path.rpartition(".")[2]] = (path, None)
-        for name, own in names_in(group):
-            scope[own] = (path, name)
-    return scope
-
-
 class Module:
     """A file of specs/."""
 
@@ -78,75 +32,12 @@ class Module:
         self.file = file
         self.crate = file.parts[1]
         self.path = ".".join(["Rattle", self.crate, *file.parts[2:]]).removesuffix(".antt")
-        self.lines = file.read_text(encoding="utf-8").split("\n")
-        self.text = "\n".join(self.lines)
-        self.definitions = list(self.read())
-        self.own = {name: it for it in self.definitions for name in [it.name, *it.members]}
+        self.text = file.read_text(encoding="utf-8")
+        self.definitions = definitions(file).values()
+        self.own = {name: it for it in self.definitions for name in [it.name, *it.constructors]}
         self.scope = scope_of(self.text) | {name: (self.path, name) for name in self.own}
-        self.passed_on = scope_of("\n".join(it for it in self.lines if re.match("(unfoldable )?pub use ", it)))
+        self.passed_on = scope_of(self.text, "pub ")
         self.is_private = "Private" in file.parts
-
-    def read(self):
-        """The definitions, in order."""
-        starts, known = [], set()
-        for number, line in enumerate(self.lines):
-            found = DECLARATION.match(line)
-            if found and not re.match(r"use |(?:unfoldable )?pub (?:use|mod) |--|mod ", line) and \
-                    (re.match("(?:unfoldable |abbrev |pub |data |record )", line) or found[1] not in known):
-                starts.append((number, found[1]))
-                known.add(found[1])
-        for (start, name), (end, _) in zip(starts, [*starts[1:], (len(self.lines), None)]):
-            first, last = start, end
-            while self.lines[first - 1].startswith("--") and first > 1:
-                first -= 1
-            while last > start and (not self.lines[last - 1].strip() or self.lines[last - 1].startswith("--")):
-                last -= 1
-            text = plain("\n".join(self.lines[start:last]))
-            members = MEMBER.findall(text) if re.match(r"(?:pub )?data ", text) else []
-            yield Definition(name, first, last, text, "pub " in self.lines[start].split(":")[0], members)
-
-
-@dataclasses.dataclass
-class Item:
-    """An item of a .rt file, or of an `impl` or trait of it."""
-
-    kind: str
-    visibility: str
-    name: str
-    text: str
-    indent: str
-
-    def head(self):
-        """What stands before the body."""
-        end = re.compile(HEAD_END.format(self.indent)).search(self.text)
-        return self.text[:end.end()] if end else self.text
-
-    def clauses(self):
-        """The contract of a function, or the whole of a ghost item."""
-        if self.kind == "ghost":
-            return self.text
-        head = self.head()
-        found = CLAUSE.search(head)
-        return head[found.start():] if found and self.kind == "fn" else ""
-
-    def signature(self):
-        """What stands before the contract."""
-        return self.head().removesuffix(self.clauses())
-
-    def inner(self):
-        """The items of an `impl` or a trait."""
-        return items_of(self.text, self.indent + "    ")
-
-
-def items_of(text, indent=""):
-    """The items at a margin of a .rt file."""
-    starts = list(re.finditer(ITEM.format(indent), text))
-    for now, following in zip(starts, [*starts[1:], None]):
-        own = text[now.start():following.start() if following else len(text)]
-        name = re.match(rf" *(?:pub\S* )?(?:unsafe |const )*{now[2]}\s+(\w+)", own)
-        kind = "use" if re.match(r" *(?:pub\S* )?(?:ghost )?use ", own) else now[2]
-        kind = "fn" if re.match(r" *(?:pub\S* )?(?:unsafe |const )*fn ", own) else kind
-        yield Item(kind, now[1] or "", name[1] if name else "", own, indent)
 
 
 class Source:
@@ -154,9 +45,9 @@ class Source:
 
     def __init__(self, crate, path, file):
         self.crate, self.path, self.file = crate, path, file
-        self.text = re.sub(r"(?m)//.*$", "", file.read_text(encoding="utf-8"))
+        self.text = code_of(file)
         self.items = list(items_of(self.text))
-        outer = "".join(it.text for it in self.items if it.kind == "use")
+        outer = "\n".join(it.text for it in self.items if it.kind == "use")
         self.scope = scope_of(outer)
         self.uses = {}
         for path_, group, other in (it.groups() for it in RUST_USE.finditer(outer)):
@@ -174,17 +65,15 @@ class Program:
 
     def __init__(self):
         self.crates = sorted(it.parent.name for it in CRATES.glob("*/src"))
-        files = (it for crate in self.crates for it in sorted((CRATES / crate / "specs").rglob("*.antt")))
-        self.modules = {it.path: it for it in map(Module, files)}
+        self.modules = {it.path: it for it in map(Module, files("specs/**/*.antt"))}
         self.sources = {}
         for crate in self.crates:
             root = next(it for it in map((CRATES / crate / "src").joinpath, ["lib.rt", "main.rt"]) if it.exists())
             self.read_sources(crate, (), root)
         self.blocks = collections.defaultdict(list)
         for source in self.sources.values():
-            for item in source.items:
-                if item.kind == "impl":
-                    self.add_block(source, item)
+            for item in (it for it in source.items if it.kind == "impl"):
+                self.blocks[self.resolve(source, tuple(item.name.split("::")))].append((source, item))
         self.parents = {}
         self.offered = set()
         self.follow()
@@ -197,13 +86,6 @@ class Program:
             below = folder / f"{item.name}.rt"
             if item.kind == "mod" and below.exists():
                 self.read_sources(crate, (*path, item.name), below)
-
-    def add_block(self, source, item):
-        """Notes an `impl` at the type that it is of."""
-        head = re.match(r"impl(?:<[^{]*?>)? (?:([^{]+?) for )?&?([\w:]+)", item.text)
-        if head:
-            place = self.resolve(source, tuple(head[2].split("::")))
-            self.blocks[place].append((source, item, head[1]))
 
     def resolve(self, source, path):
         """The place of an item of the code: its crate, its module and its name."""
@@ -275,24 +157,19 @@ class Program:
         for item in source.named(name):
             reason = f"{source.file} {name}"
             self.offer_types(source, item.signature() if item.kind == "fn" else self.public_fields(item))
-            self.note_text(item.clauses(), source.scope, reason)
+            self.note_text(item.contract, source.scope, reason)
             if item.kind in ("struct", "enum"):
                 self.note(("type", *place), reason)
             if item.kind == "trait":
                 self.offer_block(source, item, reason, True)
-        for of, block, trait in self.blocks.get(place, []):
-            head = of if trait is None else self.sources.get(self.trait_place(of, trait)[:2], of)
-            if trait is None or self.is_open(self.trait_place(of, trait)):
-                self.offer_block(of, block, f"{of.file} {name}", head is not of or trait is not None)
+        for of, block in self.blocks.get(place, []):
+            if not block.trait or self.is_open(of, block.trait):
+                self.offer_block(of, block, f"{of.file} {name}", bool(block.trait))
 
-    def trait_place(self, source, trait):
-        """The place of a trait by the text of its name, if it is one of the crates."""
-        return self.resolve(source, tuple(re.match(r"[\w:]+", trait)[0].split("::"))) or ("", (), "")
-
-    def is_open(self, place):
-        """Whether a trait isn't private to its crate."""
-        source = self.sources.get(place[:2])
-        return not source or any(it.visibility == "pub" for it in source.named(place[2]))
+    def is_open(self, source, trait):
+        """Whether a trait isn't private to one of the crates."""
+        place = self.resolve(source, tuple(re.match(r"[\w:]+", trait)[0].split("::")))
+        return not place or any(it.visibility == "pub" for it in self.sources[place[:2]].named(place[2]))
 
     def public_fields(self, item):
         """Of a struct its public fields, of another item that isn't a trait the whole."""
@@ -310,10 +187,10 @@ class Program:
     def offer_block(self, source, block, reason, is_whole):
         """Notes what an `impl` or a trait promises; of a type's own `impl` only the public items count."""
         scope = source.scope | scope_of(block.text)
-        self.offer_types(source, block.head())
+        self.offer_types(source, block.head)
         for item in block.inner():
             if item.kind != "use" and (is_whole or item.visibility == "pub"):
-                self.note_text(item.clauses(), scope, f"{reason} {item.name}")
+                self.note_text(item.contract, scope, f"{reason} {item.name}")
                 if item.kind in ("fn", "type"):
                     self.offer_types(source, item.signature())
 
@@ -322,9 +199,9 @@ class Program:
         source = self.sources.get(place[:2])
         if not source:
             return
-        models = [(of, it) for of, it, trait in self.blocks.get(place, []) if trait == "Model"]
+        models = [(of, it) for of, it in self.blocks.get(place, []) if it.trait == "Model"]
         for of, block in models:
-            self.note_text("".join(it.clauses() for it in block.inner()), of.scope | scope_of(block.text), reason)
+            self.note_text("\n".join(it.contract for it in block.inner()), of.scope | scope_of(block.text), reason)
         if any("ghost Value" in it.text for _, it in models):
             return
         for item in source.named(place[2]):
@@ -344,7 +221,7 @@ class Program:
                 self.follow_type(now[1:], now)
             else:
                 module = self.modules[now[1]]
-                self.note_text(module.own[now[2]].text, module.scope, now)
+                self.note_text(module.own[now[2]].code, module.scope, now)
 
     def offer_module(self, crate, path):
         """Offers the public items of a module, and of the public ones below it."""
@@ -367,7 +244,7 @@ class Program:
             for it in module.definitions:
                 is_reached = self.is_reached(module, it)
                 if module.crate != PAGE and is_reached == module.is_private:
-                    yield f"{module.file}:{it.first + 1}: {it.name}: " + (
+                    yield f"{module.file}:{it.line}: {it.name}: " + (
                         "a public contract reaches it" if is_reached else "no public contract reaches it")
 
     def shared(self):
@@ -382,7 +259,7 @@ class Program:
     def unread(self):
         """The lines whose form isn't followed here."""
         texts = [(it.file, it.text) for it in self.sources.values()]
-        texts += [(it.file, plain(it.file.read_text(encoding="utf-8"))) for it in self.modules.values()]
+        texts += [(it.file, plain(it.text)) for it in self.modules.values()]
         for file, text in texts:
             for form, found in ((form, it) for form, rule in UNREAD.items() for it in re.finditer(f"(?m){rule}", text)):
                 yield f"{file}:{text.count(chr(10), 0, found.start()) + 1}: {form}"
@@ -403,7 +280,7 @@ def main(*words):
         for module in program.modules.values():
             for it in module.definitions:
                 if not program.is_reached(module, it):
-                    print(f"{module.file}:{it.first + 1}: {it.name}")
+                    print(f"{module.file}:{it.line}: {it.name}")
         return
     if len(words) == 2 and words[0] == "--why":
         lines = list(program.why(words[1]))

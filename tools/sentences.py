@@ -18,6 +18,7 @@ import re
 import sys
 
 import script
+from sources import CRATES, definitions, files, items_of, scope_of
 
 SECTIONS = {"README.md": "What is verified", "docs/proof/PROVED.md": "What you can rely on"}
 BOUND = re.compile(r"^\s*<!-- bound to ([\w:, ]+): (\w*) (\w*) -->$")
@@ -52,46 +53,41 @@ def checksum(text):
 
 
 @functools.cache
-def functions():
+def public_functions():
     """The functions of the sources by their names: for each its crate, whether it is a law's, its contract, and what
     its file imports."""
     found = collections.defaultdict(list)
-    for path in sorted(pathlib.Path("crates").glob("*/src/**/*.rt")):
-        crate, text = path.parts[1], path.read_text()
+    for path in files("src/**/*.rt"):
+        crate = path.parts[1]
         is_law = crate == WHOLE or "laws" in path.with_suffix("").parts
-        for head in re.finditer(r"(?m)^pub fn (\w+)[^\n]*\n((?:    .*\n|\)[^\n]*\n|\n(?=    ))*?)^\{", text):
-            contract = re.sub(r"(?m)^[ \t]*//.*\n", "", head[2])
-            clauses = re.search(r"(?m)^    (requires|ensures)", contract)
-            stated = contract[clauses.start():] if clauses else contract
-            found[head[1]].append((crate, is_law, stated, imports(crate, text)))
+        for one in items_of(path.read_text()):
+            if one.kind == "fn" and one.visibility == "pub":
+                stated = re.sub(r"(?m)^[ \t]*//.*\n", "", one.contract).removesuffix("{}").removesuffix("{")
+                found[one.name].append((crate, is_law, stated, imports(crate, path)))
     return found
 
 
 def law(name):
     """The crate, the contract and the imports of a law or call, by its name or path, or None."""
     *path, last = name.split("::")
-    known = [it for it in functions().get(last, []) if (it[0] in path if path else it[1])]
+    known = [it for it in public_functions().get(last, []) if (it[0] in path if path else it[1])]
     best = [it for crate in FIRST for it in known if it[0] == crate] or known
     return best[0] if len(known) == 1 or best != known else None
 
 
-def imports(crate, text):
+def imports(crate, path):
     """The names that a file imports from the specs/ of its crate, each with the file that has it."""
-    used = re.findall(rf"(?m)^\s*(?:ghost )?use Rattle\.{crate}\.specs\.([\w.]+)\.\{{([^}}]*)\}}", text)
-    return {it: module.replace(".", "/") for module, names in used for it in re.findall(r"\w+", names)}
+    own = f"Rattle.{crate}.specs."
+    used = scope_of(path.read_text()).values() if path.exists() else ()
+    return {name: path.removeprefix(own).replace(".", "/") for path, name in used if name and path.startswith(own)}
 
 
 @functools.cache
-def definitions(crate, module):
+def definitions_of(crate, module):
     """The definitions of a file of specs/ by their names, without comments, and what it imports."""
-    path = pathlib.Path("crates", crate, "specs", f"{module}.antt")
-    text = re.sub(r"(?m)^[ \t]*--.*\n", "", path.read_text()) if path.exists() else ""
-    found = {}
-    for block in re.split(r"\n\n+", text):
-        head = re.match(r"\n*(?:(?:abbrev|unfoldable|pub|record|data) )*(\w+)", block)
-        if head and head[1] != "use":
-            found[head[1]] = block.strip()
-    return found, imports(crate, text)
+    path = CRATES / crate / "specs" / f"{module}.antt"
+    known = definitions(path).values() if path.exists() else ()
+    return {it.name: re.sub(r"(?m)^[ \t]*--.*\n", "", it.text) for it in known}, imports(crate, path)
 
 
 def statement(name):
@@ -102,7 +98,7 @@ def statement(name):
     seen, left = {}, [(used.get(it), it) for it in re.findall(r"\w+", contract)]
     while left:
         module, word = left.pop(0)
-        known, more = definitions(crate, module) if module else ({}, {})
+        known, more = definitions_of(crate, module) if module else ({}, {})
         if word in known and (module, word) not in seen:
             seen[module, word] = known[word]
             for it in re.findall(r"\w+", known[word]):

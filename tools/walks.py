@@ -2,10 +2,10 @@
 
     walks.py [--check]    --check prints only what is wrong; the status is 1 if something is
 """
-import pathlib
 import re
 
 import script
+from sources import CRATES, code_of, files, functions
 
 # a walk: its title, the most functions before its last one, and its functions, each after its file below crates/ where
 # that isn't the file of the one before
@@ -58,37 +58,27 @@ ALONE = [
 ]
 
 
-def functions(listed):
+def steps_of(listed):
     """The functions of a list, each with its file."""
     path = None
     for word in listed.split():
         if "/" in word:
-            path = pathlib.Path("crates", word)
+            path = CRATES / word
         else:
             yield path, word
 
 
-def body_of(path, function):
-    """The line of a function in a file, and its text up to the brace that closes it."""
-    lines = path.read_text().split("\n")
-    for number, line in enumerate(lines, 1):
-        head = re.match(rf"(\s*)(?:pub(?:\([a-z]+\))? )?fn {function}\b", line)
-        if head:
-            end = lines.index(head[1] + "}", number)
-            return number, "\n".join(lines[number:end])
-    return None, ""
+def bodies(path):
+    """The functions of a file: the name, the line, and what follows that line."""
+    for one, _ in functions(code_of(path)):
+        yield one.name, one.line, one.text.partition("\n")[2]
 
 
 def places_of(pattern):
     """The functions of gm_graph in whose bodies a text stands, each with its file, as often as it does."""
-    root = pathlib.Path("crates/gm_graph/src")
-    for path in sorted(root.rglob("*.rt")):
-        function = None
-        for line in path.read_text().split("\n"):
-            code = line.split("//")[0]
-            head = re.match(r"\s*(?:pub(?:\([a-z]+\))? )?fn (\w+)", code)
-            function = head[1] if head else function
-            yield from (f"{path.relative_to(root)} {function}" for _ in re.findall(pattern, code) if not head)
+    for path in files("src/**/*.rt", "gm_graph"):
+        for name, _, body in bodies(path):
+            yield from [f"{path.relative_to(CRATES / 'gm_graph/src')} {name}"] * len(re.findall(pattern, body))
 
 
 def main(*words):
@@ -96,10 +86,10 @@ def main(*words):
     status = 0
     tell = (lambda line: None) if words else print
     for title, most, listed in WALKS:
-        steps = list(functions(listed))
+        steps = list(steps_of(listed))
         tell(f"{title}: {len(steps) - 1}")
         for (path, function), after in zip(steps, steps[1:] + [None]):
-            line, body = body_of(path, function)
+            line, body = next((it[1:] for it in bodies(path) if it[0] == function), (None, ""))
             tell(f"  {path}:{line}: {function}")
             if line is None:
                 print(f"walks: there is no function {function} in {path}")

@@ -1,0 +1,182 @@
+"""Reads the sources of the crates for other scripts: what a comment, a `use`, a definition and an item of the code is.
+
+All sources are laid out by `rt fmt`: what begins at a margin ends with the last line before the next such line or, in
+an .antt file, before a blank line that no indented one follows.
+"""
+import dataclasses
+import functools
+import pathlib
+import re
+
+import script
+
+CRATES = pathlib.Path("crates")
+PAGE = "page"  # the crate whose definitions are copies of others
+USE = re.compile(r"(?m)^ *((?:unfoldable |pub |ghost )*)use ([\w.]+?)(?:\.\{([^}]*)\}| as (\w+))?;?$")
+# the begin of what a file of definitions declares
+HEAD = re.compile(r"((?:(?:abbrev|unfoldable|opaque|pub) )*)(?:(record|data) )?([^\s:(){}]+)")
+ITEM = (r"(?m)^{}(?:(pub(?:\([^)]*\))?) )?(?:unsafe |default |const (?=fn)|ghost (?=use))*"
+        r"(ghost|fn|struct|enum|trait|impl|type|const|static|mod|use)\b(?: (\w+))?")
+IMPL = re.compile(r"impl(?:<[^{]*?>+)? (?:([^{]+?) for )?&?(?:'\w+ )?([\w:]+)")
+CONTRACT = re.compile(r"(?m)^ +(?://.*\n +)*(?:requires|ensures)\b")
+CLAUSE = re.compile(r"(?m)^(?://.*\n)*(?:requires|ensures)\*? (?:(\w+) )?\{.*(?:\n(?!//|requires|ensures).*)*")
+
+
+def files(pattern, crate="*"):
+    """The files of all crates, or of one, that are like a pattern."""
+    return sorted(CRATES.glob(f"{crate}/{pattern}"))
+
+
+@functools.cache
+def crates():
+    """The crates of crates.txt, lowest layer first, each with all that it stands on."""
+    lines = pathlib.Path("crates.txt").read_text().split("\n")
+    return {name: below.split() for name, below in (it.split(":") for it in lines if re.match(r"\w+:", it))}
+
+
+def with_below(crate):
+    """A crate and all crates below it, lowest layer first."""
+    found, left = set(), [crate]
+    while left:
+        found.add(left[-1])
+        left += set(crates().get(left.pop(), ())) - found
+    return [it for it in crates() if it in found]
+
+
+# ---- files of definitions
+
+
+def plain(text):
+    """Definitions without comments and what strings say."""
+    return re.sub(r"(?m)(^|\s)--.*$", r"\1", re.sub(r'"(?:\\.|[^"\\\n])*"', '""', text))
+
+
+@functools.cache
+def code_of(path):
+    """The text of a source without comments; its lines have the same numbers."""
+    return re.sub(r"(?m)//.*$", "", path.read_text(encoding="utf-8"))
+
+
+def names_in(group):
+    """The names of a group of a `use`, each with the one that it has in the file."""
+    for entry in filter(None, (it.strip() for it in group.split(","))):
+        name, _, own = entry.partition(" as ")
+        yield name, own or name
+
+
+def scope_of(text, words=""):
+    """What each name means that the `use` lines import, or those with these words before `use`: the path of a module
+    and a name of it, or, for a module itself, None."""
+    scope = {}
+    for given, path, group, own in USE.findall(text):
+        if words in given:
+            scope |= {name: (path, it) for it, name in names_in(group)}
+            if not group:
+                scope[own or path.rpartition(".")[2]] = path, None
+    return scope
+
+
+@dataclasses.dataclass(eq=False)
+class Definition:
+    """A definition or a lemma: its file, its first line with the comments above, and what it is."""
+
+    file: pathlib.Path
+    line: int
+    comment: str
+    text: str
+
+    def __post_init__(self):
+        words, self.kind, self.name = HEAD.match(self.text).groups()
+        self.is_public = "pub" in words
+        self.code = plain(self.text)
+        self.constructors = re.findall(r"(?m)^  (\S+) : ", self.code) if self.kind == "data" else []
+
+    def whole(self):
+        """Its text with the comments above."""
+        return f"{self.comment}\n{self.text}".strip()
+
+    def size(self):
+        """How many lines there are to read."""
+        return sum(map(bool, map(str.strip, self.code.split("\n"))))
+
+
+@functools.cache
+def definitions(path):
+    """What a file declares, by its name, in order."""
+    found, begin = [], r"(?!use |pub use |pub mod |mod |--)[^\s}].*(?:\n.+|\n+(?= ).*)*"
+    text = path.read_text(encoding="utf-8")
+    for it in re.finditer(rf"(?m)^((?:--.*\n)*)({begin})", text):
+        found.append(Definition(path, text.count("\n", 0, it.start()) + 1, it[1].rstrip(), it[2]))
+    return {it.name: it for it in found}
+
+
+# ---- the code
+
+
+@dataclasses.dataclass
+class Item:
+    """An item of a source, or of a block of it: of an `impl` the name is the type's, and it may have a trait."""
+
+    visibility: str
+    kind: str
+    name: str
+    line: int
+    text: str
+    indent: str
+    trait: str = ""
+
+    @functools.cached_property
+    def head(self):
+        """What stands before the body."""
+        end = re.search(rf"(?m)^{self.indent}(?! )[^\n]*(?:\{{|\{{\}}|;)$", self.text)
+        return self.text[:end.end()] if end else self.text
+
+    @functools.cached_property
+    def contract(self):
+        """The clauses of a function, or the whole of a ghost item."""
+        found = CONTRACT.search(self.head) if self.kind == "fn" else None
+        return self.text if self.kind == "ghost" else self.head[found.start():] if found else ""
+
+    def signature(self):
+        """What stands before the contract."""
+        return self.head.removesuffix(self.contract)
+
+    def clauses(self):
+        """The text of each clause, after the comments above it, by its name."""
+        contract = re.sub(rf"(?m)^{self.indent}(?:    |[{{}}].*\Z)", "", self.contract.removesuffix(";"))
+        return {it[1] or "": it[0].rstrip() for it in CLAUSE.finditer(contract)}
+
+    def body(self):
+        """What stands after the contract."""
+        return self.text.removeprefix(self.head)
+
+    def inner(self):
+        """The items of a block."""
+        return items_of(self.text.rpartition("\n")[0], self.indent + "    ", self.line)
+
+
+def items_of(text, indent="", line=1):
+    """The items at a margin, given the number of the first line."""
+    starts = list(re.finditer(ITEM.format(indent), text))
+    for now, following in zip(starts, [*starts[1:], None]):
+        own = text[now.start():following.start() if following else len(text)]
+        # a function that a trait declares ends after its last clause
+        end = re.search(rf"(?m)^{indent}(?! )[^\n]*[}};]$", own)
+        own = own[:end.end()] if end else re.sub(r"(?:\n *(?:(?://|#).*)?)+\Z", "", own)
+        one = Item(now[1] or "", now[2], now[3] or "", line + text.count("\n", 0, now.start()), own, indent)
+        if block := one.kind == "impl" and IMPL.match(own):
+            one.trait, one.name = block[1] or "", block[2]
+        yield one
+
+
+def functions(text):
+    """All functions, each with the block that it is in, or None."""
+    for one in items_of(text):
+        if one.kind == "fn":
+            yield one, None
+        elif one.kind in ("impl", "trait"):
+            yield from ((it, one) for it in one.inner() if it.kind == "fn")
+
+
+if __name__ == "__main__":
+    script.run()
