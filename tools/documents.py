@@ -10,11 +10,13 @@ import collections
 import fnmatch
 import glob
 import os
+import pathlib
 import re
 import subprocess
 import sys
 
 import script
+from sources import code_of, functions, items_of
 
 # Names of the toolchain and of its crates that documents have and no source imports.
 ELSEWHERE = set("""
@@ -51,18 +53,23 @@ MESSAGES = "docs/use/MESSAGES.md"
 
 TICKED = r"`([^`]+)`"
 LIST = r"`\w+`(?: \([^()]*\))?(?:(?:, and |, | and )`\w+`(?: \([^()]*\))?)*"
+# the members of a type
+MEMBERS = {"enum": r"(?m)^    ([A-Z]\w*)\b", "struct": r"(?m)^    (?:pub(?:\([a-z]+\))? )?(\w+):"}
 CALL = r"`(\w+(?:::\w+)*)`"
 SHOWN = r"^<!-- show [^\n]*? -->\n.*?^<!-- end -->$"
 
 
+def text_of(path):
+    return pathlib.Path(path).read_text(encoding="utf-8")
+
+
 def lines_of(path):
-    with open(path, encoding="utf-8") as it:
-        return it.read().split("\n")
+    return text_of(path).split("\n")
 
 
 def words_of(path):
     """How many words a document has, without bars of tables, fenced code, comments, and what other files say."""
-    text = re.sub(rf"(?ms)^```.*?^```$|{SHOWN}|<!--.*?-->|^>[^\n]*$", "", "\n".join(lines_of(path)))
+    text = re.sub(rf"(?ms)^```.*?^```$|{SHOWN}|<!--.*?-->|^>[^\n]*$", "", text_of(path))
     rows = re.sub(r"(?m)^\|[-:| ]+\|$", "", text).split("\n")
     return sum(len((re.sub(r"(?<!\\)\|", " ", it) if it.startswith("|") else it).split()) for it in rows)
 
@@ -83,7 +90,6 @@ class Sources:
         self.crates = {it.split("/")[1] for it in self.files if it.startswith("crates/") and it.count("/") > 1}
         self.edits = {(it.split("/")[1], it.split("/")[3][:-5]) for it in self.files if it.endswith(".edit")}
         self.modules = collections.defaultdict(set)  # module: crates
-        self.owners = set()  # types and traits
         self.items = collections.defaultdict(set)  # name: (crate, module or type)
         self.clauses = collections.defaultdict(set)  # (crate, module or type, function): names
         self.passed_on = collections.defaultdict(set)  # crate: what its lib.rt exports
@@ -91,14 +97,13 @@ class Sources:
         self.inner = set()  # names of lemmas, parameters and variables
         self.imported = set()  # names that src/ and specs/ import, those of the toolchain among them
         self.titles = collections.defaultdict(set)  # file: titles of cases
-        self.public = collections.defaultdict(set)  # (crate, module or type): public functions
-        self.of_traits = collections.defaultdict(set)  # (crate, type): functions of traits
-        self.version = re.search(r'VERSION: &str = "(.*)"', "\n".join(lines_of("crates/gomod_words/src/help.rt")))[1]
+        self.public = collections.defaultdict(set)  # (crate, module or type): public functions, those of traits among them
+        self.version = re.search(r'VERSION: &str = "(.*)"', text_of("crates/gomod_words/src/help.rt"))[1]
         for path in sorted(self.files):
             crate = path.split("/")[1] if path.startswith("crates/") else ""
             if path.endswith((".rt", ".antt")):
-                for found in re.finditer(r"(?m)^\s*(?:ghost )?use Rattle[^{\n]*\{([^}]*)\}", "\n".join(lines_of(path))):
-                    names = self.inner if "/proofs/" in path else self.imported
+                names = self.inner if "/proofs/" in path else self.imported
+                for found in re.finditer(r"(?m)^\s*(?:ghost )?use Rattle[^{\n]*\{([^}]*)\}", text_of(path)):
                     names.update(re.findall(r"[^\s,]+", found[1]))
             if path.endswith(".rt"):
                 self.read_code(crate, path)
@@ -115,73 +120,48 @@ class Sources:
         parts = path.split("/")[3:-1] + [module]
         for it in parts:
             self.modules[it].add(crate)
-        owners, kind, function, is_test = [], "", "", False
-        text = "\n".join(lines_of(path))
+        text = code_of(pathlib.Path(path))
         if module == "lib":
             for found in re.finditer(r"(?m)^pub (?:use (?:\w+::)*([^;:]+);|mod (?!laws)(\w+))", text):
                 self.passed_on[crate] |= set(re.findall(r"\w+", found[1] or found[2]))
-        for line in text.split("\n"):
-            if re.match(r"\s*//", line):
-                continue
-            head = re.match(r"impl(?:<.*?>+)? (?:(\w[\w:]*)(?:<.*?>+)? for )?&?(?:'\w+ )?(\w+)", line)
-            item = re.match(r"\s*(?:pub(?:\([a-z]+\))? )?(struct|enum|trait|type|const|static|mod) (\w+)", line)
-            called = re.match(r"(\s*)(pub )?(?:pub\([a-z]+\) )?(?:const )?fn (\w+)", line)
-            if head:
-                owners, kind = [it.split("::")[-1] for it in head.groups() if it], "impl" if not head[1] else "for"
-            elif item:
-                self.items[item[2]].add((crate, module))
-                # an indented `type` is a trait's own
-                if item[1] in ("struct", "enum", "trait") or item[1] == "type" and line.startswith(("pub", "type")):
-                    self.owners.add(item[2])
-                    owners, kind = ([item[2]], item[1]) if not line.rstrip().endswith(";") else ([], "")
-            elif line.startswith("}"):
-                owners, kind = [], ""
-            if called:
-                function = called[3]
-                within = owners if called[1] and owners else parts
-                for it in {*within, *parts}:
-                    self.items[function].add((crate, it))
-                    self.clauses[crate, it, function] |= set()
-                if called[2] or kind == "trait":
-                    for it in within:
-                        self.public[crate, it].add(function)
-                if kind == "for":
-                    for it in within:
-                        self.of_traits[crate, it].add(function)
-                if is_test:
-                    self.tests.add(function)
-                if "laws" in parts or crate == "gomod_laws":
-                    self.laws.add(function)
-            is_test = line.strip() == "#[test]" or (is_test and line.strip().startswith("#["))
-            clause = re.match(r"\s+(?:ensures|requires)\*? ([a-z]\w*)", line)
-            if clause and function:
-                for it in {*owners, *parts}:
-                    self.clauses[crate, it, function].add(clause[1])
-                self.defined.add(clause[1])
-            ghost = re.match(r"\s+ghost (\w+)", line)
-            if ghost:
-                self.defined.add(ghost[1])
-                self.clauses[crate, owners[0] if owners else module, "ghost"].add(ghost[1])
-            variant = re.match(r"    ([A-Z]\w*)\b", line) if kind == "enum" else None
-            field = re.match(r"    (?:pub(?:\([a-z]+\))? )?(\w+):", line) if kind == "struct" else None
-            for it in filter(None, (variant, field)):
-                self.items[it[1]].add((crate, owners[0]))
-            self.inner |= set(re.findall(r"(\w+):", line)) | set(re.findall(r"\blet (?:mut )?(\w+)", line))
+        self.tests.update(re.findall(r"(?m)^ *#\[test\]\n(?: *#\[.*\n)* *(?:pub )?fn (\w+)", text))
+        self.inner.update(re.findall(r"(\w+):", text), re.findall(r"\blet (?:mut )?(\w+)", text))
+        for found in re.finditer(r"(?m)^ *(?:pub(?:\([a-z]+\))? )?(?:struct|enum|trait|type|const|static|mod) (\w+)", text):
+            self.items[found[1]].add((crate, module))
+        for one in items_of(text):
+            owners = [it.split("::")[-1] for it in re.findall(r"^[\w:]+", one.trait) + [one.name]]
+            if one.kind in MEMBERS:
+                for name in re.findall(MEMBERS[one.kind], one.text):
+                    self.items[name].add((crate, one.name))
+            for name in re.findall(r"(?m)^\s+ghost (\w+)", one.text):
+                self.defined.add(name)
+                self.clauses[crate, owners[0], "ghost"].add(name)
+        for one, block in functions(text):
+            self.read_function(crate, parts, one, block)
+
+    def read_function(self, crate, parts, one, block):
+        """Reads a function of a module and of a block."""
+        within = [it.split("::")[-1] for it in re.findall(r"^[\w:]+", block.trait) + [block.name]] if block else parts
+        clauses = re.findall(r"(?m)^\s+(?:ensures|requires)\*? ([a-z]\w*)", one.text)
+        for it in {*within, *parts}:
+            self.items[one.name].add((crate, it))
+            self.clauses[crate, it, one.name].update(clauses)
+        self.defined.update(clauses)
+        if one.visibility == "pub" or block and (block.trait or block.kind == "trait"):
+            for it in within:
+                self.public[crate, it].add(one.name)
+        if "laws" in parts or crate == "gomod_laws":
+            self.laws.add(one.name)
 
     def read_definitions(self, path):
         """Reads the names that a file of specs/ or proofs/ declares."""
-        word = r"[^\s:(){},;.]+"
+        word, text = r"[^\s:(){},;.]+", re.sub(r"(?m)^--.*$", "", text_of(path))
         names = self.defined if path.split("/")[2] == "specs" else self.inner
         self.defined.add(os.path.basename(path)[:-5])
-        for line in lines_of(path):
-            if line.startswith("--"):
-                continue
-            found = re.match(rf"\s*(?:(?:abbrev|unfoldable|pub|record|data|module|returns)\s+)*((?:{word}\s+)+):", line)
-            if found:
-                names |= set(found[1].split())
-            found = re.match(rf"\s*(?:pub )?(?:record|data|module) ({word})", line)
-            if found:
-                names.add(found[1])
+        words = "(?:abbrev|unfoldable|pub|record|data|module|returns)"
+        for found in re.findall(rf"(?m)^[ \t]*(?:{words}[ \t]+)*((?:{word}[ \t]+)+):", text):
+            names.update(found.split())
+        names.update(re.findall(rf"(?m)^[ \t]*(?:pub )?(?:record|data|module) ({word})", text))
 
     def is_declared(self, name):
         return (name in self.items or name in self.defined or name in self.crates or name in self.modules
@@ -200,7 +180,7 @@ class Sources:
             return bool(named & crates) or any(parts[0] in self.passed_on[it] for it in crates)
         places = {(crate, it) for crate, it in self.items.get(parts[-1], ()) if it == parts[-2]}
         if is_public and parts[-1][0].islower():
-            places = {it for it in places if parts[-1] in self.public[it] | self.of_traits[it]}
+            places = {it for it in places if parts[-1] in self.public[it]}
         if not places:
             return bool(crates & self.modules.get(parts[-1], set()) & self.modules.get(parts[-2], set()))
         return any(crate in crates or any(parts[-2] in self.passed_on[it] for it in crates) for crate, _ in places)
@@ -220,7 +200,7 @@ class Sources:
 
     def counts(self):
         """What can be counted, by its name in a document."""
-        cases = re.match(r"(\d+) passed, 0 failed, (\d+) runs", "\n".join(lines_of("crates/run_cases/stdout")))
+        cases = re.match(r"(\d+) passed, 0 failed, (\d+) runs", text_of("crates/run_cases/stdout"))
         return {
             "cases": int(cases[1]),
             "runs": int(cases[2]),
@@ -234,6 +214,16 @@ class Sources:
         }
 
 
+class Tally(collections.Counter):
+    """How many things of each kind were right and wrong."""
+
+    def tell(self, kind, is_right, message=""):
+        """Counts one, and prints what is wrong with it."""
+        self[kind, bool(is_right)] += 1
+        if not is_right:
+            print(message)
+
+
 class Document:
     """One document, and what was found in it."""
 
@@ -242,9 +232,7 @@ class Document:
         self.number, self.section, self.header = 0, set(), []
 
     def tell(self, kind, is_right, message):
-        self.tally[kind][is_right] += 1
-        if not is_right:
-            print(f"{self.name}:{self.number}: {message}")
+        self.tally.tell(kind, is_right, f"{self.name}:{self.number}: {message}")
 
     def crates_for(self, line):
         """The crates that a line may speak of: those of the section and those that it names, or else all."""
@@ -376,7 +364,7 @@ class Document:
         for found in re.finditer(r"(?<![\w.=-])(?:[0-9a-f]{40}|[0-9a-f]{7,12})(?![\w-])", line):
             if re.search("[a-f]", found[0]) and re.search("[0-9]", found[0]):
                 if self.sources.is_shallow:
-                    self.tally["commits not looked for"][True] += 1
+                    self.tally.tell("commits not looked for", True)
                 else:
                     is_right = git("merge-base", "--is-ancestor", found[0], "HEAD").returncode == 0
                     self.tell("commits", is_right, f"there is no commit {found[0]} before this one")
@@ -439,17 +427,12 @@ def is_shallow():
     return git("rev-parse", "--is-shallow-repository").stdout.strip() == "true"
 
 
-def budgets():
-    """Whether each budget holds; it prints those that don't."""
+def keep_lengths(tally):
+    """Whether each budget holds."""
     for budget, *patterns in (it.split() for it in BUDGETS.strip().split("\n")):
-        found = [sorted(glob.glob(it)) for it in patterns]
-        missing = [pattern for pattern, names in zip(patterns, found) if not names]
-        count = sum(map(words_of, set().union(*found)))
-        for it in missing:
-            print(f"{it}: it has a budget, but isn't there")
-        if count > int(budget):
-            print(f"{' '.join(patterns)}: {count:,} words, {int(budget):,} are allowed")
-        yield not missing and count <= int(budget)
+        count = sum(map(words_of, {name for it in patterns for name in glob.glob(it)}))
+        what = f"{' '.join(patterns)}: {count:,} words, {int(budget):,} are allowed, and at least one"
+        tally.tell("budgets", all(map(glob.glob, patterns)) and count <= int(budget), what)
 
 
 def words_in(lines):
@@ -477,14 +460,12 @@ def keep_budgets(tally):
     budgets += [(f"CHANGELOG.md, {heading}", words_in(lines), 500, "words")
                 for heading, lines in sections_of("CHANGELOG.md").items()]
     for what, number, most, unit in budgets:
-        tally["budgets"][number <= most] += 1
-        if number > most:
-            print(f"{what}: there are {number} {unit}, and at most {most} should be")
+        tally.tell("budgets", number <= most, f"{what}: there are {number} {unit}, and at most {most} should be")
 
 
 def shown_in(path):
     """The lines that a script wrote into a document."""
-    return [line for it in re.findall(f"(?ms){SHOWN}", "\n".join(lines_of(path))) for line in it.split("\n")[1:-1]]
+    return [line for it in re.findall(f"(?ms){SHOWN}", text_of(path)) for line in it.split("\n")[1:-1]]
 
 
 def cells_of(lines):
@@ -505,43 +486,35 @@ def keep_figures(tally):
     figures = [(it, it in cells_of(page)) for it in sorted(cells_of(readme))]
     figures += [(it, it in page) for it in readme if it and not it.startswith("|")]
     for what, is_right in figures:
-        tally["figures"][is_right] += 1
-        if not is_right:
-            print(f"README.md: {FIGURES} has no '{what}'; bench/tables.sh --write writes both")
+        tally.tell("figures", is_right, f"README.md: {FIGURES} has no '{what}'; bench/tables.sh --write writes both")
     for needed in "| `gomod list` |", "Measured at `":
-        tally["figures"][any(needed in it for it in readme)] += 1
-        if not any(needed in it for it in readme):
-            print(f"README.md: between its marks there is no '{needed}'")
+        is_there = any(needed in it for it in readme)
+        tally.tell("figures", is_there, f"README.md: between its marks there is no '{needed}'")
     for commit in re.findall(r"(?m)^Measured at `(\w+)`\.$", "\n".join(page)) if not is_shallow() else []:
         last = git("log", "-1", "--format=%H", commit, "--", "*.rt").stdout.strip()
         is_right = last.startswith(commit)
-        tally["figures"][is_right] += 1
+        tally.tell("figures", is_right, f"{FIGURES}: {commit} is no commit that changed a .rt file")
         later = git("log", "--format=%h", f"{commit}..HEAD", "--", "*.rt").stdout.split()
-        if not is_right:
-            print(f"{FIGURES}: {commit} is no commit that changed a .rt file")
-        elif later:
+        if is_right and later:
             print(f"{FIGURES}: measured at {commit}, before {len(later)} commits that changed .rt files")
 
 
 def keep_messages(tally):
     """Whether docs/use/MESSAGES.md has each message of a usage error in a case, up to its first word in quotes."""
-    named = tuple(it.rstrip() for it in re.findall(r"`(error: [^'`]*[^'`A-Z])", "\n".join(lines_of(MESSAGES))))
+    named = tuple(it.rstrip() for it in re.findall(r"`(error: [^'`]*[^'`A-Z])", text_of(MESSAGES)))
     for path in sorted(glob.glob("crates/run_cases/data/**/*.txt", recursive=True)):
         for number, line in enumerate(lines_of(path), 1):
             found = re.match(r"!\\? (error: .*)", line)
             if found:
-                is_right = found[1].startswith(named)
-                tally["usage errors"][is_right] += 1
-                if not is_right:
-                    print(f"{path}:{number}: {MESSAGES} has no '{found[1]}'")
+                message = f"{path}:{number}: {MESSAGES} has no '{found[1]}'"
+                tally.tell("usage errors", found[1].startswith(named), message)
 
 
 def main(*names):
     """Looks up what the documents name, prints what isn't there, and returns the status."""
     if git("rev-parse", "HEAD").returncode:
         sys.exit("documents: this is no repository of git, so nothing can be looked up")
-    sources = Sources()
-    tally = collections.defaultdict(lambda: {True: 0, False: 0})
+    sources, tally = Sources(), Tally()
     of_crates = sorted(glob.glob("crates/*/PROOFS.md"))
     for name in names or ["README.md", *sorted(glob.glob("docs/**/*.md", recursive=True)), *of_crates, MISTAKES]:
         Document(name, sources, tally).read()
@@ -549,11 +522,10 @@ def main(*names):
         keep_budgets(tally)
         keep_figures(tally)
         keep_messages(tally)
-        for is_right in budgets():
-            tally["budgets"][is_right] += 1
-    for what, counts in tally.items():
-        print(f"{what}: {counts[True]} right, {counts[False]} wrong")
-    return 1 if any(it[False] for it in tally.values()) else 0
+        keep_lengths(tally)
+    for what in dict.fromkeys(kind for kind, _ in tally):
+        print(f"{what}: {tally[what, True]} right, {tally[what, False]} wrong")
+    return 1 if any(not is_right for _, is_right in tally) else 0
 
 
 if __name__ == "__main__":
