@@ -2,160 +2,116 @@
 
     memory_failures.py [--print]
 """
-import pathlib
 import re
 import textwrap
 
 import script
+from script import checksum
+from sources import files
 
-# file, function, why memory has run out there, and below it the condition
-LISTED = r"""
-gm_graph/src/gathering.rt lists_of: the list of numbers has the greatest size
-  if parts.numbers.len() >= MOST_PLACES as usize { return Err(AllocError)
-gm_name/src/borrowed_version.rt to_version: a text that is a version was refused
-  let Ok(version) = ModVersion::parse(alloc, self.text) else { return Err(AllocError)
-gm_name/src/version.rt is_out_of_memory: it is only compared
-  error == semver::Error::from(AllocError)
-gm_name/src/version.rt parse: the parser says so
-  match Version::parse(alloc, rest) { Err(error) => if is_out_of_memory(error) { Err(VersionFault::NoMemory)
-gm_name/src/version.rt with: a text that is a pre-release was refused
-  let Ok(pre) = Prerelease::new(alloc, pre) else { return Err(AllocError)
-gm_name_table/src/module_table.rt number: the list has the greatest size
-  if self.modules.len() >= MOST_PLACES as usize { return Err(AllocError)
-gm_store/src/file_system.rt read_file: the system says so
-  match system.open(path) { Err(error) if error.kind() == ErrorKind::OutOfMemory => Err(ReadFault::NoMemory)
-gm_store_sums/src/sum_lines.rt fault_of: no line is invalid, so reading stopped for memory
-  match first_invalid_line(text) { None => SumFault::NoMemory
-gomod_run/src/program.rt ending_of: the list of words could not be made
-  match texts_of(rt.alloc(), words.as_slice()) { Err(_) => Ending::Run(write_report(report, &Report::NoMemory))
-gomod_words/src/advice.rt advised: the message could not be made
-  match message_on(alloc, kind, text, words) { Err(_) => UsageFault::NoMemory
-gomod_words/src/dashed.rt dashed: the message could not be made
-  match dashed_message(alloc, operation, words_after(words)) { Err(_) => UsageFault::NoMemory
-gomod_words/src/given.rt given_words: the list of words could not grow, or has the greatest size
-  let mut words = Vec::new(rt.alloc()); for number in 0..usize::MAX { let Some(word) = word_of(rt, number)? else {
-  return Ok(words); }; if words.push(word).is_err() { break; } } Err(UsageFault::NoMemory)
-gomod_words/src/given.rt word_at: the buffer has the greatest size
-  let mut room = FIRST_ROOM; for _ in 0..usize::BITS { let mut word = Vec::new(rt.alloc()); word.resize(room, 0u8)?;
-  match rt.fill_word(number, word.as_mut_slice()) { Ok(length) => { word.truncate(length); return Ok(Some(word)); }
-  Err(FillError::NotPresent) => return Ok(None), Err(FillError::TooLong) => room = room.saturating_mul(2), } }
-  Err(AllocError) where FIRST_ROOM is 256
-gomod_words/src/query.rt bad_limit: the message could not be made
-  match format!(in alloc; "error: invalid value '{text}' for '--limit <N>': not a number from 1 to 4294967295{ABOUT_LIMIT}" ) {
-  Err(_) => UsageFault::NoMemory where ABOUT_LIMIT is "\n\n tip: without --limit all rows
-  are printed"
-gomod_words/src/usage.rt fault_of: the parser says so
-  if matches!(kind, ErrorKind::OutOfMemory) { return UsageFault::NoMemory
-gomod_words/src/usage.rt fault_of: its text could not be made
-  let Ok(text) = error.to_string(alloc) else { return UsageFault::NoMemory
-gomod_words/src/usage.rt version: the line could not be made
-  match format!(in alloc; "gomod {VERSION}\n") { Err(_) => UsageFault::NoMemory
-gomod_words/src/usage.rt unreadable: the message could not be made
-  match unreadable_message(alloc, word) { Err(_) => UsageFault::NoMemory
-gomod_words/src/usage.rt line: the text could not be made
-  match format!(in alloc; "{message}\n\nUsage: {usage}{TRY_HELP}") { Err(_) => UsageFault::NoMemory
+# a function that makes a failure of memory up, by its file; a checksum of the condition; why memory has run out there
+LISTED = """
+gm_graph/src/gathering.rt
+  lists_of irptjshi the list of numbers has the greatest size
+gm_name/src/borrowed_version.rt
+  to_version sklnshuh a text that is a version was refused
+gm_name/src/version.rt
+  is_out_of_memory prmuonur it is only compared
+  parse jgtourhu the parser says so
+  with gvqkgtsn a text that is a pre-release was refused
+gm_name_table/src/module_table.rt
+  number ivsthivk the list has the greatest size
+gm_store/src/file_system.rt
+  read_file sqjrphop the system says so
+gm_store_sums/src/sum_lines.rt
+  fault_of lgikkshh no line is invalid, so reading stopped for memory
+gomod_run/src/program.rt
+  ending_of gvgkikul the list of words could not be made
+gomod_words/src/advice.rt
+  advised kkqhpmsm the message could not be made
+gomod_words/src/dashed.rt
+  dashed pguptgij the message could not be made
+gomod_words/src/given.rt
+  given_words nvnjsqjn the list of words could not grow, or has the greatest size
+  word_at stkluvvv the buffer has the greatest size
+gomod_words/src/query.rt
+  bad_limit osljronq the message could not be made
+gomod_words/src/usage.rt
+  fault_of nrhnkkon the parser says so
+  fault_of mruksllh its text could not be made
+  version pmgqmuqm the line could not be made
+  unreadable roukrjth the message could not be made
+  line qvmhsluo the text could not be made
 """
-
 # the same for each call that asks for room by its size: why the size is no more than is needed
-SIZED = r"""
-gm_file/src/dep_file.rt read_twice: a pair takes 40 bytes
-  let pairs = Vec::with_capacity(alloc, bytes.len() / BYTES_OF_ONE)? where BYTES_OF_ONE is 40
-gm_file_edit/src/keyed_lines.rt keys_of: one for each line
-  let mut keys = Vec::with_capacity(alloc, lines.len())?
-gm_file_edit/src/keyed_lines.rt make_room: as much as it is told
-  lines.reserve(count)?
-gm_file_edit/src/keyed_lines.rt make_room: the same
-  keys.reserve(count)
-gm_file_edit/src/keyed_lines.rt insert: one line
-  make_room(&mut self.lines, &mut self.keys, 1)? where make_room is { lines.reserve(count)?; keys.reserve(count) }
-gm_file_edit/src/keyed_lines.rt insert_after_blank: two lines
-  make_room(&mut self.lines, &mut self.keys, 2)? where make_room is { lines.reserve(count)?; keys.reserve(count) }
-gm_file_edit/src/marking.rt marks: a mark for each line
-  let mut marks = Vec::with_capacity(alloc, lines.len())?
-gm_graph/src/cache/file_table.rt reach: up to the place that is put in
-  self.places.resize(number + 1, OptionalPlace::none())? where number is number as usize
-gm_graph/src/gathering.rt lists_of: one for each file
-  let used = used_files(alloc, parts.files.len(), &places)? where used_files is { let mut used = vec![in alloc; false;
-  count]?; for place in places { if let Some(file) = place { used[*file as usize] = true; } } Ok(used) }
-gm_graph/src/gathering.rt used_files: as many as it is told
-  let mut used = vec![in alloc; false; count]?
-gm_graph/src/loading.rt turn_list: one for each turn
-  let mut list = Vec::with_capacity(alloc, turns.len())?
-gm_graph/src/starting.rt first_worklist: one for each module that is there
-  let mut worklist = Worklist::new(alloc, required.module_count())? where required is cache.first_requirements()
-gm_graph/src/worklist.rt new: as many as it is told
-  marks: Vec::with_capacity(alloc, count)?
-gm_graph_select/src/chaining.rt chain_to: one step
-  let Step::Of(goal) = last else { return Ok(Some(vec![in alloc; Step::Main]?))
-gm_graph_select/src/graph.rt new: as many as there are modules
-  let is_vertex = marks_of(alloc, modules.len(), &lists, &sources)? where is_vertex is marks_of(alloc, modules.len(),
-  &lists, &sources)? where lists is NumberLists::new(numbers, spans), lists.by_ranks(&ranking.ranks) where ranking is
-  ranked(alloc, modules, &is_vertex)? where sources is sources_by_ranks(sources, &ranking.ranks)
-gm_graph_select/src/marking.rt marks_of: as many as it is told
-  let mut marks = vec![in alloc; false; count]?
-gm_graph_select/src/ranking.rt ranking_of: one for each of them
-  let mut vertices = Vec::with_capacity(alloc, all.len())?
-gm_graph_select/src/ranking.rt ranking_of: as many as it is told
-  let mut ranks = vec![in alloc; 0; modules]?
-gm_graph_select/src/ranking.rt ranked: one for each mark
-  ranking_of(alloc, all, is_vertex.len()) where all is with_numbers(alloc, modules, is_vertex)? where ranking_of is {
-  let mut vertices = Vec::with_capacity(alloc, all.len())?; let mut ranks = vec![in alloc; 0; modules]?; for next in
-  all { ranks[next.number as usize] = vertices.len() as u32; vertices.push(next.vertex)?; } Ok(Ranking { vertices,
-  ranks }) }
-gm_graph_select/src/searching.rt new: one for each step
-  let mut is_found = vec![in alloc; false; graph.step_count()]?
-gm_graph_select/src/searching.rt new: one for each list
-  let is_passed = vec![in alloc; false; graph.list_count()]?
-gm_graph_select/src/searching.rt visits_to: one visit
-  let mut due = vec![in alloc; main]? where main is Visit { number: 0, before: 0, }
-gm_name/src/escaping.rt escape: at least as long as the text
-  let mut name = String::with_capacity(alloc, text.len())?
-gm_name_table/src/kept_names.rt keep_new: one more
-  self.names.reserve(1)?
-gm_name_table/src/tag_index.rt empty_buckets: as many as it is told
-  Ok(vec![in alloc; Bucket::new(); many]?)
-gm_name_table/src/tag_index.rt doubled: twice as many as there are
-  let mut doubled = Vec::with_capacity(alloc, many)? where many is buckets.len() * 2
-gm_name_table/src/tag_index.rt make_room: 64 at first
-  if many == 0 { self.buckets = empty_buckets(self.alloc, FIRST)? where empty_buckets is { Ok(vec![in alloc;
-  Bucket::new(); many]?) } where FIRST is 64
-gm_name_table/src/tag_marks.rt no_marks: as many as it is told
-  Ok(vec![in alloc; false; many]?)
-gm_name_table/src/tag_marks.rt make: 1,024
-  if self.marks.len() != MANY { self.marks = no_marks(self.alloc, MANY)? where no_marks is { Ok(vec![in alloc; false;
-  many]?) } where MANY is 1024
-gm_name_table/src/module_table.rt number: one more
-  self.modules.reserve(1)?
-gm_store/src/folders/relative_path.rt relative_name: 128 bytes, more than most names have
-  let mut text = String::with_capacity(alloc, ROOM)? where ROOM is 128
-gm_store/src/reading.rt make_room: as many bytes as it is told
-  piece.resize(length, 0u8)
-gm_store/src/reading.rt read_next: at most 65,536 bytes
-  if count == piece.len() && count < MOST { make_room(piece, (count * GROWTH).min(MOST))? where count is
-  read_piece(reader, &mut piece[..wanted], bytes)? where make_room is { piece.resize(length, 0u8) } where GROWTH is 16
-  where MOST is 65_536
-gm_store/src/reading.rt read_by_pieces: 4,096 bytes
-  if piece.is_empty() { make_room(piece, FIRST)? where make_room is { piece.resize(length, 0u8) } where FIRST is 4_096
-gm_store/src/sinks/memory.rt new: as many bytes as it is told
-  bytes: Vec::with_capacity(alloc, room)?
-gm_store/src/versions/list.rt versions_of: no more than lines, or than versions that the text has room for
-  let mut versions = Vec::with_capacity(alloc, room_for(text))? where room_for is { let line_ends =
-  text.iter().filter(|byte| **byte == b'\n').count(); line_ends.min(text.len() / SHORTEST) + 1 } where SHORTEST is 7
-gm_store_sums/src/hashing.rt text_of: the length of each hash
-  let mut hash = String::with_capacity(alloc, HASH_LEN)? where HASH_LEN is 47
-gm_syntax/src/doc.rt parse: at most 64 lines, and one for 16 bytes
-  let mut lines = Vec::with_capacity(alloc, ready)? where reader is LineReader::new(alloc, bytes)? where ready is
-  (reader.bytes_left() / BYTES_PER_LINE).min(MAX_RESERVED_LINES) where BYTES_PER_LINE is 16 where MAX_RESERVED_LINES
-  is 64
-gm_syntax/src/reader.rt push_word: at most three words
-  if words.is_empty() { words.reserve_exact(line_len.min(3))?
-gm_syntax/src/reader.rt read_line: no more than its bytes
-  match piece_of(after_bare, rest.as_bytes()) { push_word( &mut words, Token::in_source(kind, text, at as u32, number
-  as u32), line.len(), )? where at is first + (line.len() - rest.len()) where push_word is { if words.is_empty() {
-  words.reserve_exact(line_len.min(3))?; } words.push(word)?; Ok(()) } where rest is line, after, after
-gomod_words/src/given.rt word_at: 256 bytes at first, then twice as many while the word is longer
-  for _ in 0..usize::BITS { word.resize(room, 0u8)? where room is FIRST_ROOM, room.saturating_mul(2) where FIRST_ROOM
-  is 256
+SIZED = """
+gm_file/src/dep_file.rt
+  read_twice monoshiq a pair takes 40 bytes
+gm_file_edit/src/keyed_lines.rt
+  keys_of ntpokvmn one for each line
+  make_room lsnrtnot as much as it is told
+  make_room mjjrhtrj the same
+  insert tvmmpqgq one line
+  insert_after_blank jvktkjnr two lines
+gm_file_edit/src/marking.rt
+  marks glumjqvh a mark for each line
+gm_graph/src/cache/file_table.rt
+  reach iptiqjll up to the place that is put in
+gm_graph/src/gathering.rt
+  lists_of utpkomok one for each file
+  used_files quvtmrgv as many as it is told
+gm_graph/src/loading.rt
+  turn_list imknspgg one for each turn
+gm_graph/src/starting.rt
+  first_worklist nhunrnjv one for each module that is there
+gm_graph/src/worklist.rt
+  new kvrikonh as many as it is told
+gm_graph_select/src/chaining.rt
+  chain_to ihovsoml one step
+gm_graph_select/src/graph.rt
+  new vopugqok as many as there are modules
+gm_graph_select/src/marking.rt
+  marks_of mrlsoqkk as many as it is told
+gm_graph_select/src/ranking.rt
+  ranking_of ulilnkmm one for each of them
+  ranking_of srpspmho as many as it is told
+  ranked srgpggri one for each mark
+gm_graph_select/src/searching.rt
+  new rsvstgol one for each step
+  new mhjiuikp one for each list
+  visits_to uvthinol one visit
+gm_name/src/escaping.rt
+  escape nhgnqhui at least as long as the text
+gm_name_table/src/kept_names.rt
+  keep_new iorsjoqn one more
+gm_name_table/src/tag_index.rt
+  empty_buckets mmikgvql as many as it is told
+  doubled qphmpqkt twice as many as there are
+  make_room qlokjnsh 64 at first
+gm_name_table/src/tag_marks.rt
+  no_marks ujlkgvsv as many as it is told
+  make kuovkrrn 1,024
+gm_name_table/src/module_table.rt
+  number psklrkng one more
+gm_store/src/folders/relative_path.rt
+  relative_name kmohpmrp 128 bytes, more than most names have
+gm_store/src/reading.rt
+  make_room vggijuso as many bytes as it is told
+  read_next qummmmrs at most 65,536 bytes
+  read_by_pieces sqgsupmq 4,096 bytes
+gm_store/src/sinks/memory.rt
+  new tngrkqqo as many bytes as it is told
+gm_store/src/versions/list.rt
+  versions_of qovhoosj no more than lines, or than versions that the text has room for
+gm_store_sums/src/hashing.rt
+  text_of knkrhojo the length of each hash
+gm_syntax/src/doc.rt
+  parse lomvnlho at most 64 lines, and one for 16 bytes
+gm_syntax/src/reader.rt
+  push_word utvtnjsm at most three words
+  read_line ghmpgkrg no more than its bytes
+gomod_words/src/given.rt
+  word_at gunlmuim 256 bytes at first, then twice as many while the word is longer
 """
 
 NAMES = r"(?:NoMemory|AllocError|AllocFailed|OutOfMemory|Memory)"
@@ -360,35 +316,37 @@ def rooms_in(sources):
 
 
 def row_of(name, function, condition):
-    """A row of the list, without a reason."""
+    """A row of the list, with the condition in the place of the reason."""
     lines = textwrap.wrap(condition, 116, break_long_words=False, break_on_hyphens=False)
-    return "\n  ".join([f"{name} {function}:", *lines])
+    return "\n  ".join([f"{name} {function} {checksum(condition)}", *lines])
 
 
 def rows_of(text):
-    """The file, the function and the condition of each row of a list."""
-    for row in re.split(r"\n(?=\S)", text.strip()):
-        head, _, condition = row.partition("\n")
-        yield *head.partition(":")[0].split(), joined(condition)
+    """The file, the function and the checksum of each row of a list."""
+    for line in text.strip().split("\n"):
+        if line.startswith(" "):
+            yield file, *line.split()[:2]
+        else:
+            file = line
 
 
 def compare(what, made, listed):
     """Prints what is made and isn't listed, and the other way round, and returns how many rows that are."""
     left, wrong = list(rows_of(listed)), 0
-    for one in made:
-        if one in left:
-            left.remove(one)
+    for *place, condition in made:
+        if (*place, checksum(condition)) in left:
+            left.remove((*place, checksum(condition)))
         else:
-            print(f"{what}, or is to be listed in tools/memory_failures.py:\n{row_of(*one)}")
+            print(f"{what}, or is to be listed in tools/memory_failures.py:\n{row_of(*place, condition)}")
             wrong += 1
     for row in left:
-        print(f"is in tools/memory_failures.py and not in the sources:\n{row_of(*row)}")
+        print(f"is in tools/memory_failures.py and not in the sources: {' '.join(row)}")
     return wrong + len(left)
 
 
 def main(option=""):
     """Compares both lists, or prints what they should have, and returns the status."""
-    sources = {str(it.relative_to("crates")): it for it in sorted(pathlib.Path("crates").glob("*/src/**/*.rt"))}
+    sources = {str(it.relative_to("crates")): it for it in files("src/**/*.rt")}
     sources = {name: Source(it.read_text()) for name, it in sources.items() if not LEFT_OUT.match(name)}
     made = [(name, *it) for name, source in sources.items() for it in failures_in(source)]
     rooms = rooms_in(sources)

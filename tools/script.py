@@ -3,12 +3,19 @@
     NAME.py -h, NAME.py --help    print the docstring of that file, as they do here
 """
 
+import hashlib
 import sys
 
 
 def no_words(*_):
     """The main function of a file that others import: it takes no words."""
     return 2
+
+
+def checksum(text):
+    """Eight letters from a text's sha256, whatever blanks separate it: letters, since a commit would have digits."""
+    digits = hashlib.sha256(" ".join(text.split()).encode()).hexdigest()[:8]
+    return digits.translate(str.maketrans("0123456789abcdef", "ghijklmnopqrstuv"))
 
 
 def run(main=no_words):

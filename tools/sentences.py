@@ -12,12 +12,12 @@ in gomod_laws in any file, elsewhere in the same one and in those of laws. Comme
 import collections
 import dataclasses
 import functools
-import hashlib
 import pathlib
 import re
 import sys
 
 import script
+from script import checksum
 from sources import CRATES, definitions, files, items_of, scope_of
 
 SECTIONS = {"README.md": "What is verified", "docs/proof/PROVED.md": "What you can rely on"}
@@ -41,12 +41,6 @@ class Sentence:
 
     def now(self):
         return checksum(self.text), checksum("\n".join(map(statement, self.laws)))
-
-
-def checksum(text):
-    """Eight letters from a text's sha256, whatever blanks separate it: letters, since a commit would have digits."""
-    digits = hashlib.sha256(" ".join(text.split()).encode()).hexdigest()[:8]
-    return digits.translate(str.maketrans("0123456789abcdef", "ghijklmnopqrstuv"))
 
 
 # ---- laws
