@@ -1,7 +1,7 @@
 """Tries changes of definitions in a copy of crates/page, for tools/change-page.sh.
 
-tools/page_changes.txt has the changes, in blocks: a title, which begins with the name of the definition, its file, the
-text that goes, the one that comes (`¶` is a line's end), and import lines, if it needs any. After `against` comes a
+tools/page_changes.txt has the changes, in blocks: a title, which begins with the name of the definition, its file, a
+text with `⟪what goes ⇒ what comes⟫` (`¶` is a line's end), and import lines, if it needs any. After `against` comes a
 proof of `⊥` by the changed definitions, from `parts : PartsAreShown` and `others : OthersDoNotHold`; its further lines
 are indented. A last line `seen` says that the change was tried, and was as it should be; --some tries such changes
 alone. After `== equal forms` come changes that say the same in other words, which must still be proved.
@@ -21,6 +21,7 @@ PAGE = pathlib.Path("crates/page")
 CHANGES = pathlib.Path("tools/page_changes.txt")
 COUNTED = pathlib.Path("docs/proof/HEADLINE.md")
 EQUAL = "== equal forms\n\n"
+PLACE = re.compile("⟪(.*?) ⇒ (.*?)⟫")
 SEEN, AGAINST = "seen", "against "
 # What the proofs of the law, and of runs without an outcome, are in: files, and how lemmas of other files begin.
 LAW = {"OneOutcome"}, ("same_lists",)
@@ -95,11 +96,11 @@ def changes():
     """All changes, those of the meaning first."""
     for is_equal, part in enumerate(CHANGES.read_text().split(EQUAL)):
         for block in part.strip().split("\n\n"):
-            title, file, old, new, *more = block.split("\n")
+            title, file, changed, *more = block.split("\n")
             uses = [line for line in more if line.startswith("use ")]
             against = "\n".join(line.removeprefix(AGAINST) for line in more if line.startswith((AGAINST, "  ")))
-            texts = (*(it[2:].replace("¶", "\n") for it in (old, new)), against)
-            yield Change(title, file, *texts, uses, bool(is_equal), SEEN in more)
+            old, new = (PLACE.sub(rf"\{side}", changed).replace("¶", "\n") for side in (1, 2))
+            yield Change(title, file, old, new, against, uses, bool(is_equal), SEEN in more)
 
 
 def constructors():

@@ -7,6 +7,7 @@ import shlex
 import subprocess
 
 import script
+from script import read
 
 MAN = "share/man/gomod.1"
 BASH, ZSH, FISH = (f"share/completions/{it}" for it in ("gomod.bash", "_gomod", "gomod.fish"))
@@ -22,12 +23,6 @@ class Known:
     def add(self, command, options):
         """Adds options of a command."""
         self.options.setdefault(command, set()).update(options)
-
-
-def text_of(name):
-    """The text of a file."""
-    with open(name, encoding="utf-8") as it:
-        return it.read()
 
 
 def section(text, head):
@@ -69,7 +64,7 @@ def flags(line):
 
 def from_man():
     """What the man page has in SYNOPSIS and OPERATIONS, and the names that COMMANDS and OPTIONS list."""
-    parts = dict(re.findall(r"(?ms)^\.Sh ([^\n]*)\n(.*?)(?=^\.Sh|\Z)", text_of(MAN)))
+    parts = dict(re.findall(r"(?ms)^\.Sh ([^\n]*)\n(.*?)(?=^\.Sh|\Z)", read(MAN)))
     known = Known()
     for form in re.split(r"(?m)^\.Nm$", parts["SYNOPSIS"])[1:]:
         command = re.search(r"(?m)^\.Cm (\w+)", form)
@@ -103,7 +98,7 @@ def from_bash(commands):
 
 def from_zsh():
     """What the completion for zsh has."""
-    text = re.sub(r"(?m)^ *#.*\n", "", text_of(ZSH)).replace("\\\n", "")
+    text = re.sub(r"(?m)^ *#.*\n", "", read(ZSH)).replace("\\\n", "")
     named = dict(re.findall(r"(?m)^  local (\w+)='(.*)'$", text))
 
     def options_of(arguments):
@@ -130,7 +125,7 @@ def from_zsh():
 def from_fish(commands):
     """What the completion for fish has."""
     known = Known()
-    for line in re.findall(r"(?m)^complete .*", text_of(FISH).replace("\\\n", "")):
+    for line in re.findall(r"(?m)^complete .*", read(FISH).replace("\\\n", "")):
         words = shlex.split(line, comments=True)
         given = [(name, value) for name, value in zip(words, words[1:]) if name in ("-n", "-l", "-s", "-a")]
         condition = dict(given).get("-n", "")

@@ -11,7 +11,8 @@ import subprocess
 import tempfile
 
 import script
-from go_worlds import hash_of, order_of, write
+from go_worlds import hash_of, order_of
+from script import write
 
 MAIN = "example.com/m"
 PATHS = [f"example.com/{name}" for name in "abcdef"]

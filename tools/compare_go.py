@@ -13,8 +13,9 @@ import tempfile
 
 import go_rows
 from go_worlds import (
-    UNFETCHABLE, World, escaped, fits, lay_tidy_world, operations, order_of, read, unescaped, write
+    UNFETCHABLE, World, escaped, fits, lay_tidy_world, operations, order_of, unescaped
 )
+from script import read, write
 
 TOP = os.path.dirname(os.path.dirname(os.path.abspath(__file__)))
 GOMOD = os.path.join(TOP, "bin", "gomod")
@@ -59,8 +60,8 @@ class Differences:
     """Counts by command and kind. A kind that isn't SAME or BOTH is the first field of a row of docs/use/GO.md."""
 
     def __init__(self):
-        with open(os.path.join(TOP, "docs", "use", "GO.md"), encoding="utf-8") as file:
-            self.names = {line.split("|")[1].strip() for line in file if line.startswith("| ")} - {"What"}
+        lines = read(f"{TOP}/docs/use/GO.md").split("\n")
+        self.names = {line.split("|")[1].strip() for line in lines if line.startswith("| ")} - {"What"}
         self.counts = collections.defaultdict(collections.Counter)
         self.unexplained = 0
 
@@ -513,8 +514,7 @@ def lay_cache(cache, proxy, named):
                 shutil.copy(os.path.join(folder, name), base)
             if name.endswith(".mod"):
                 named.add((path, unescaped(name.removesuffix(".mod"))))
-                with open(os.path.join(folder, name), encoding="utf-8", errors="replace") as file:
-                    named |= named_versions(file.read())
+                named |= named_versions(read(f"{folder}/{name}"))
         if "list" in files:
             paths.append(path)
     for path, version in named:

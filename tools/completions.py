@@ -21,6 +21,7 @@ import tempfile
 import time
 
 import script
+from script import read, write
 
 TOP = os.path.dirname(os.path.dirname(os.path.abspath(__file__)))
 SECONDS = 30
@@ -64,8 +65,7 @@ def lay_room(room):
     for it in ("module", "first", "second", "home/go/pkg/mod/cache/download"):
         os.makedirs(f"{room}/{it}")
     for name in ("go.mod", "main.mod"):
-        with open(f"{room}/module/{name}", "w", encoding="utf-8") as file:
-            file.write(GO_MOD)
+        write(f"{room}/module/{name}", GO_MOD)
 
 
 def environment(room):
@@ -96,8 +96,7 @@ class Terminal:
                 with contextlib.suppress(OSError):
                     os.read(self.terminal, 65536)
             if os.path.exists(f"{self.left}.whole"):
-                with open(f"{self.left}.whole", encoding="utf-8") as file:
-                    text = file.read()
+                text = read(f"{self.left}.whole")
                 os.remove(f"{self.left}.whole")
                 return text
         return None
@@ -116,21 +115,18 @@ class Terminal:
 
 def in_bash(room):
     """A bash with our completion, whose ^X^S leaves the line."""
-    with open(f"{room}/rc", "w", encoding="utf-8") as file:
-        file.write(f". {TOP}/share/completions/gomod.bash\nbind 'set bell-style none'\n"
-                   f"leave() {{ printf %s \"$READLINE_LINE\" > {room}/left && mv {room}/left {room}/left.whole; }}\n"
-                   "bind -x '\"\\C-x\\C-s\": leave'\n"
-                   f"stty -ixon; READLINE_LINE=ready; leave\n")
+    write(f"{room}/rc", f". {TOP}/share/completions/gomod.bash\nbind 'set bell-style none'\n"
+          f"leave() {{ printf %s \"$READLINE_LINE\" > {room}/left && mv {room}/left {room}/left.whole; }}\n"
+          "bind -x '\"\\C-x\\C-s\": leave'\nstty -ixon; READLINE_LINE=ready; leave\n")
     return Terminal(["bash", "--noprofile", "--rcfile", f"{room}/rc", "-i"], room)
 
 
 def in_zsh(room):
     """A zsh with our completion, whose ^X^S leaves the line."""
-    with open(f"{room}/home/.zshrc", "w", encoding="utf-8") as file:
-        file.write(f"fpath=({TOP}/share/completions $fpath)\nautoload -Uz compinit && compinit -D -u\n"
-                   f"leave() {{ printf %s \"$BUFFER\" > {room}/left && mv {room}/left {room}/left.whole }}\n"
-                   "zle -N leave\nbindkey -e\nbindkey '^X^S' leave\nbindkey '^U' kill-whole-line\n"
-                   "stty -ixon; unsetopt beep; setopt no_always_last_prompt; BUFFER=ready; leave\n")
+    write(f"{room}/home/.zshrc", f"fpath=({TOP}/share/completions $fpath)\nautoload -Uz compinit && compinit -D -u\n"
+          f"leave() {{ printf %s \"$BUFFER\" > {room}/left && mv {room}/left {room}/left.whole }}\n"
+          "zle -N leave\nbindkey -e\nbindkey '^X^S' leave\nbindkey '^U' kill-whole-line\n"
+          "stty -ixon; unsetopt beep; setopt no_always_last_prompt; BUFFER=ready; leave\n")
     return Terminal(["zsh", "-d", "-i"], room)
 
 

@@ -16,6 +16,7 @@ import subprocess
 import sys
 
 import script
+from script import Tally, read
 from sources import code_of, functions, items_of
 
 # Names of the toolchain and of its crates that documents have and no source imports.
@@ -59,17 +60,13 @@ CALL = r"`(\w+(?:::\w+)*)`"
 SHOWN = r"^<!-- show [^\n]*? -->\n.*?^<!-- end -->$"
 
 
-def text_of(path):
-    return pathlib.Path(path).read_text(encoding="utf-8")
-
-
 def lines_of(path):
-    return text_of(path).split("\n")
+    return read(path).split("\n")
 
 
 def words_of(path):
     """How many words a document has, without bars of tables, fenced code, comments, and what other files say."""
-    text = re.sub(rf"(?ms)^```.*?^```$|{SHOWN}|<!--.*?-->|^>[^\n]*$", "", text_of(path))
+    text = re.sub(rf"(?ms)^```.*?^```$|{SHOWN}|<!--.*?-->|^>[^\n]*$", "", read(path))
     rows = re.sub(r"(?m)^\|[-:| ]+\|$", "", text).split("\n")
     return sum(len((re.sub(r"(?<!\\)\|", " ", it) if it.startswith("|") else it).split()) for it in rows)
 
@@ -98,12 +95,12 @@ class Sources:
         self.imported = set()  # names that src/ and specs/ import, those of the toolchain among them
         self.titles = collections.defaultdict(set)  # file: titles of cases
         self.public = collections.defaultdict(set)  # (crate, module or type): public functions, those of traits among them
-        self.version = re.search(r'VERSION: &str = "(.*)"', text_of("crates/gomod_words/src/help.rt"))[1]
+        self.version = re.search(r'VERSION: &str = "(.*)"', read("crates/gomod_words/src/help.rt"))[1]
         for path in sorted(self.files):
             crate = path.split("/")[1] if path.startswith("crates/") else ""
             if path.endswith((".rt", ".antt")):
                 names = self.inner if "/proofs/" in path else self.imported
-                for found in re.finditer(r"(?m)^\s*(?:ghost )?use Rattle[^{\n]*\{([^}]*)\}", text_of(path)):
+                for found in re.finditer(r"(?m)^\s*(?:ghost )?use Rattle[^{\n]*\{([^}]*)\}", read(path)):
                     names.update(re.findall(r"[^\s,]+", found[1]))
             if path.endswith(".rt"):
                 self.read_code(crate, path)
@@ -155,7 +152,7 @@ class Sources:
 
     def read_definitions(self, path):
         """Reads the names that a file of specs/ or proofs/ declares."""
-        word, text = r"[^\s:(){},;.]+", re.sub(r"(?m)^--.*$", "", text_of(path))
+        word, text = r"[^\s:(){},;.]+", re.sub(r"(?m)^--.*$", "", read(path))
         names = self.defined if path.split("/")[2] == "specs" else self.inner
         self.defined.add(os.path.basename(path)[:-5])
         words = "(?:abbrev|unfoldable|pub|record|data|module|returns)"
@@ -200,7 +197,7 @@ class Sources:
 
     def counts(self):
         """What can be counted, by its name in a document."""
-        cases = re.match(r"(\d+) passed, 0 failed, (\d+) runs", text_of("crates/run_cases/stdout"))
+        cases = re.match(r"(\d+) passed, 0 failed, (\d+) runs", read("crates/run_cases/stdout"))
         return {
             "cases": int(cases[1]),
             "runs": int(cases[2]),
@@ -212,16 +209,6 @@ class Sources:
             "commands": sum(("gomod_words", "Command") in it for it in self.items.values()),
             "operations": sum(("gm_file_edit", "Name") in it for it in self.items.values()),
         }
-
-
-class Tally(collections.Counter):
-    """How many things of each kind were right and wrong."""
-
-    def tell(self, kind, is_right, message=""):
-        """Counts one, and prints what is wrong with it."""
-        self[kind, bool(is_right)] += 1
-        if not is_right:
-            print(message)
 
 
 class Document:
@@ -465,7 +452,7 @@ def keep_budgets(tally):
 
 def shown_in(path):
     """The lines that a script wrote into a document."""
-    return [line for it in re.findall(f"(?ms){SHOWN}", text_of(path)) for line in it.split("\n")[1:-1]]
+    return [line for it in re.findall(f"(?ms){SHOWN}", read(path)) for line in it.split("\n")[1:-1]]
 
 
 def cells_of(lines):
@@ -501,7 +488,7 @@ def keep_figures(tally):
 
 def keep_messages(tally):
     """Whether docs/use/MESSAGES.md has each message of a usage error in a case, up to its first word in quotes."""
-    named = tuple(it.rstrip() for it in re.findall(r"`(error: [^'`]*[^'`A-Z])", text_of(MESSAGES)))
+    named = tuple(it.rstrip() for it in re.findall(r"`(error: [^'`]*[^'`A-Z])", read(MESSAGES)))
     for path in sorted(glob.glob("crates/run_cases/data/**/*.txt", recursive=True)):
         for number, line in enumerate(lines_of(path), 1):
             found = re.match(r"!\\? (error: .*)", line)
@@ -523,9 +510,7 @@ def main(*names):
         keep_figures(tally)
         keep_messages(tally)
         keep_lengths(tally)
-    for what in dict.fromkeys(kind for kind, _ in tally):
-        print(f"{what}: {tally[what, True]} right, {tally[what, False]} wrong")
-    return 1 if any(not is_right for _, is_right in tally) else 0
+    return tally.status()
 
 
 if __name__ == "__main__":

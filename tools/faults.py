@@ -20,6 +20,7 @@ from typing import NamedTuple
 
 import script
 from go_worlds import unescaped
+from script import read, write
 
 # the errors that the manual pages of Linux name for each call: open(2), read(2), write(2), close(2)
 ERRORS = {
@@ -31,8 +32,7 @@ ERRORS = {
 }
 # how few bytes a read or write may move; a read of none is the end of a file, so only writes may move none
 LENGTHS = {"read": range(1, 20), "write": range(20)}
-with open("example/go.mod", "rb") as main_file, open("example/go.sum", "rb") as sum_file:
-    MAIN, SUMS = main_file.read(), sum_file.read()
+MAIN, SUMS = read("example/go.mod").encode(), read("example/go.sum").encode()
 # Two command lines or more of each command, each with its standard input. Together those of a command read each kind of
 # file that it has: by name and from standard input, of a proxy and a folder, with and without sums. E is example/, D
 # and V are of the cases, and M has a main file whose faults are longer than what is written at once.
@@ -199,11 +199,12 @@ class Line:
         return Fault(call, at, later, getattr(errno, error), length)
 
 
-class Trial:
+class Trial(script.Trial):
     """The program with its library, in a scratch folder, and what was found."""
 
     def __init__(self, program, library, folder):
-        self.program, self.folder, self.runs, self.wrong = program, folder, 0, 0
+        super().__init__(program)
+        self.folder = folder
         self.environment = {**os.environ, "LD_PRELOAD": library}
         self.pool = concurrent.futures.ThreadPoolExecutor(AT_ONCE)
 
@@ -228,20 +229,16 @@ class Trial:
         finally:
             os.close(told)
 
-    def judge(self, line, faults, is_right):
-        """Runs a command line with faults, and prints it if the result is wrong, or if no call was changed."""
+    def try_one(self, line, faults, is_right):
+        """Runs a command line with faults: the result is right, and a call was changed."""
         *got, told = self.run(line, faults)
-        self.runs += 1
         is_met = len(faults) > 1 or told[-1:] != ["changed 0"]
-        if is_right(tuple(got)) and is_met:
-            return
-        self.wrong += 1
-        print(f"gomod {line.text}\n  FAULTS='{' '.join(map(str, faults))}'{'' if is_met else ': no call was changed'}")
-        print(f"  output {got[0][:300]}, report {got[1][:300]}, status {got[2]}", flush=True)
+        what = f"gomod {line.text}\n  FAULTS='{' '.join(map(str, faults))}'{'' if is_met else ': no call was changed'}"
+        self.judge(what, got, is_right(tuple(got)) and is_met)
 
     def all_at(self, jobs):
         """Judges each job, many at once: a line, its faults, and what is right."""
-        for _ in self.pool.map(lambda job: self.judge(*job), jobs):
+        for _ in self.pool.map(lambda job: self.try_one(*job), jobs):
             pass
 
     def try_each(self, lines):
@@ -272,9 +269,8 @@ def main(program, library, seconds, seed):
     try:
         for name, place in FOLDERS.items():
             shutil.copytree(place, os.path.join(folder, name))
-        os.mkdir(os.path.join(folder, "M"))
-        with open(os.path.join(folder, "M", "go.mod"), "w", encoding="utf-8") as file:
-            file.write("module m\n" + "".join(f"require local/{it} v1.0.0\n" for it in range(200)))
+        many = "".join(f"require local/{it} v1.0.0\n" for it in range(200))
+        write(os.path.join(folder, "M", "go.mod"), f"module m\n{many}")
         trial = Trial(program, library, folder)
         lines = [Line(trial, *it) for it in LINES]
         trial.try_each(lines)

@@ -4,7 +4,8 @@ import os
 import typing
 
 import script
-from go_worlds import escaped, hash_of, write
+from go_worlds import escaped, hash_of
+from script import write
 
 MAIN = "module example.com/m\n\ngo 1.19\n\nrequire example.com/a v1.0.0\n"
 FILE_A, FILE_B = "module example.com/a\n", "module example.com/b\n"

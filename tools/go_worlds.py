@@ -9,6 +9,7 @@ import re
 import zipfile
 
 import script
+from script import write
 
 RELEASES = ["v0.1.0", "v0.2.0", "v1.0.0", "v1.1.0", "v1.2.0-rc.1", "v1.2.0", "v1.10.0"]
 PSEUDO = ["v0.0.0-20200101000000-0123456789ab", "v1.2.0-rc.1.0.20200102000000-0123456789ab",
@@ -33,20 +34,6 @@ def escaped(name):
 
 def unescaped(name):
     return re.sub("!([a-z])", lambda it: it[1].upper(), name)
-
-
-def write(name, text, mode=None):
-    """Writes a file, with its folders, and sets its mode if one is given."""
-    os.makedirs(os.path.dirname(name), exist_ok=True)
-    with open(name, "w", encoding="utf-8", errors="surrogateescape", newline="") as file:
-        file.write(text)
-    if mode:
-        os.chmod(name, mode)
-
-
-def read(name):
-    with open(name, encoding="utf-8", errors="surrogateescape", newline="") as file:
-        return file.read()
 
 
 def hash_of(text):

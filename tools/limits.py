@@ -75,11 +75,11 @@ def block_signals():
     signal.pthread_sigmask(signal.SIG_BLOCK, signal.valid_signals())
 
 
-class Trial:
+class Trial(script.Trial):
     """The program, its results without limits, and what was found."""
 
     def __init__(self, program):
-        self.program, self.runs, self.wrong = program, 0, 0
+        super().__init__(program)
         self.plain = {it: self.run(it) for it in LINES}
         self.many = b"".join(b"v1.%d.%d\n" % divmod(it, 300) for it in range(60_000))
 
@@ -94,22 +94,15 @@ class Trial:
         pipe = subprocess.PIPE
         return subprocess.Popen([self.program, *line.split()], stdin=stdin, stderr=pipe, **given)
 
-    def judge(self, what, line, got, is_right):
-        """Counts a run, and prints it if it is wrong."""
-        self.runs += 1
-        if not is_right:
-            self.wrong += 1
-            print(f"{what}: gomod {line}\n  {str(got)[:300]}", flush=True)
-
     def same(self, what, line, **given):
         """Runs a command line in a way that must change nothing."""
         got = self.run(line, **given)
-        self.judge(what, line, got, got == self.plain[line])
+        self.judge(f"{what}: gomod {line}", got, got == self.plain[line])
 
     def same_or_no_memory(self, what, line, **given):
         """Runs a command line with little memory."""
         got = self.run(line, **given)
-        self.judge(what, line, got, got in (self.plain[line], NO_MEMORY) or got[0] == NOT_LOADED)
+        self.judge(f"{what}: gomod {line}", got, got in (self.plain[line], NO_MEMORY) or got[0] == NOT_LOADED)
 
     def with_streams(self, line, kinds):
         """The result if the three standard streams are of these kinds."""
@@ -153,7 +146,7 @@ class Trial:
         kinds = "open", "closed", "full", "wrong"
         for line, mixture in itertools.product(LINES, itertools.product(kinds, repeat=3)):
             got = self.with_streams(line, mixture)
-            self.judge(f"streams {' '.join(mixture)}", line, got, got == self.wanted_with(line, mixture))
+            self.judge(f"streams {' '.join(mixture)}: gomod {line}", got, got == self.wanted_with(line, mixture))
 
     def try_limits(self):
         """Limits, signals and environments."""
@@ -190,7 +183,7 @@ class Trial:
             file.seek(0)
             text = file.read()
         right = done.returncode == (3 if out else status) and out.startswith(text) and len(text) <= room
-        self.judge(f"a file of {room} bytes", line, (done.returncode, text), right)
+        self.judge(f"a file of {room} bytes: gomod {line}", (done.returncode, text), right)
 
     def try_pipes(self):
         """Readers of a pipe that go, and one that is slow."""
@@ -210,7 +203,7 @@ class Trial:
                 status = child.wait(LIMIT)
                 child.stderr.close()
             right = status == 3 and not report and wanted.startswith(got)
-            self.judge(f"a reader that takes {take} bytes", READS, (status, report), right)
+            self.judge(f"a reader that takes {take} bytes: gomod {READS}", (status, report), right)
         with tempfile.TemporaryFile() as file:
             file.write(self.many)
             file.seek(0)
@@ -220,7 +213,7 @@ class Trial:
                 got += piece
                 time.sleep(0.0005)
             right = child.wait(LIMIT) == 0 and got == wanted
-            self.judge("a slow reader", READS, len(got), right)
+            self.judge(f"a slow reader: gomod {READS}", len(got), right)
 
     def try_stops(self):
         """The program is stopped and goes on, while it waits for input and while it writes."""
@@ -231,13 +224,13 @@ class Trial:
             child.stdin.flush()
             self.stop(child)
             got, report = child.communicate(self.many[7:], timeout=LIMIT)
-            self.judge("stopped", READS, (child.returncode, report), (child.returncode, got) == (0, wanted))
+            self.judge(f"stopped: gomod {READS}", (child.returncode, report), (child.returncode, got) == (0, wanted))
             child = self.start(READS, subprocess.PIPE, stdout=subprocess.PIPE)
             child.stdin.write(self.many)
             child.stdin.close()
             self.stop(child)
             got = child.stdout.read()
-            self.judge("stopped as it writes", READS, len(got), (child.wait(LIMIT), got) == (0, wanted))
+            self.judge(f"stopped as it writes: gomod {READS}", len(got), (child.wait(LIMIT), got) == (0, wanted))
 
     @staticmethod
     def stop(child):
@@ -265,7 +258,7 @@ class Trial:
             os.close(ours)
             status, out, report = self.plain[line]
             right = child.wait(LIMIT) == status and got.replace(b"\r\n", b"\n") == out + report
-            self.judge("a terminal", line, got, right)
+            self.judge(f"a terminal: gomod {line}", got, right)
 
 
 def main(program):

@@ -36,6 +36,7 @@ from typing import NamedTuple
 import opened
 import script
 from case_files import case_of, changed, remove, tree_of
+from script import write
 
 NOBODY = 65534
 LIMIT = 100
@@ -94,10 +95,7 @@ class Judged(NamedTuple):
 def fill_home(folder):
     """Makes a folder with what a user may have at HOME."""
     for name, text in HOME_FILES.items():
-        place = os.path.join(folder, name)
-        os.makedirs(os.path.dirname(place), exist_ok=True)
-        with open(place, "w", encoding="utf-8") as file:
-            file.write(text)
+        write(os.path.join(folder, name), text)
 
 
 def shown(out, report, status):

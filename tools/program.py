@@ -63,8 +63,7 @@ CUT = b"", b"", 3
 
 def stack_of_readme():
     """The stack that README.md names, in bytes."""
-    with open("README.md", encoding="utf-8") as file:
-        return 1024 * int(re.search(r"`ulimit -s (\d+)`", file.read())[1])
+    return 1024 * int(re.search(r"`ulimit -s (\d+)`", script.read("README.md"))[1])
 
 
 @contextlib.contextmanager

@@ -19,6 +19,7 @@ import time
 
 import script
 from go_worlds import hash_of
+from script import Trial, write
 
 MODULES, AT_ONCE, LIMIT = 12, 200, 60
 WAYS = ["in place", "in place", "renamed", "renamed", "cut", "longer", "gone", "folder", "link"]
@@ -41,13 +42,6 @@ def text_of(number, is_other):
     ends = [f"extra{number}"] if is_other else [f"m{(number + it) % MODULES}" for it in (1, 3)]
     required = "".join(f"require q.x/{it} v1.0.0\n" for it in ends)
     return f"module q.x/m{number}\n\ngo 1.16\n\n//{'c' * 5000}\n{required}//{'d' * 70_000}\n"
-
-
-def write(name, text):
-    """Writes a file, with its folders."""
-    os.makedirs(os.path.dirname(name) or ".", exist_ok=True)
-    with open(name, "w", encoding="utf-8") as file:
-        file.write(text)
 
 
 def replace(name, text, seed):
@@ -101,11 +95,11 @@ def keep_changing(seed, ended):
             change(chance, seed)
 
 
-class Race:
+class Race(Trial):
     """The program, and what was found."""
 
     def __init__(self, program):
-        self.program, self.runs, self.wrong = program, 0, 0
+        super().__init__(program)
         self.right = self.end_of(self.start(LINES[0]))
         if self.right[0] or self.right[1].count(b"\n") != MODULES + 1:
             sys.exit(f"races: the list before the race is wrong: {self.right}")
@@ -136,29 +130,19 @@ class Race:
             return out.startswith(b"m.x/m\n") and set(out.splitlines()) <= self.rows
         return True
 
-    def judge(self, line, child):
-        """Counts a run, and prints it if it is wrong."""
-        got = self.end_of(child)
-        self.runs += 1
-        if not self.is_right(line, got):
-            self.wrong += 1
-            print(f"gomod {line}\n  {str(got)[:300]}", flush=True)
-
     def run_for(self, seconds):
         """Runs the command lines for so long, many side by side."""
         end = time.monotonic() + seconds
         while time.monotonic() < end:
             for line, child in [(it, self.start(it)) for it in LINES * 8]:
-                self.judge(line, child)
+                got = self.end_of(child)
+                self.judge(f"gomod {line}", got, self.is_right(line, got))
 
     def run_at_once(self):
         """Many at once over files that nobody changes."""
         for child in [self.start(LINES[0]) for _ in range(AT_ONCE)]:
-            self.runs += 1
             got = self.end_of(child)
-            if got != self.right:
-                self.wrong += 1
-                print(f"{AT_ONCE} at once: {str(got)[:300]}")
+            self.judge(f"{AT_ONCE} at once", got, got == self.right)
 
 
 def main(program, seconds, seed="1"):

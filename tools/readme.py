@@ -16,6 +16,7 @@ import subprocess
 import tempfile
 
 import script
+from script import Tally, read
 
 SECONDS = 300
 OPTIONAL = ("curl", "dot", "git", "jq", "vim")
@@ -66,8 +67,7 @@ def absent(commands):
     """The optional commands that these, or scripts which they run, call and that aren't there."""
     words = set(re.findall(r"[\w./-]+", "\n".join(commands)))
     for script in [it for it in words if it.endswith(".sh") and os.path.isfile(it)]:
-        with open(script, encoding="utf-8") as it:
-            words |= set(re.findall(r"[\w./-]+", re.sub(r"(?m)^\s*#.*", "", it.read())))
+        words |= set(re.findall(r"[\w./-]+", re.sub(r"(?m)^\s*#.*", "", read(script))))
     return [it for it in OPTIONAL if it in words and not shutil.which(it)]
 
 
@@ -129,7 +129,7 @@ class Documents:
 
     def __init__(self, program):
         self.program = program
-        self.tally = collections.defaultdict(lambda: {True: 0, False: 0})
+        self.tally = Tally()
         self.skipped = collections.Counter()
 
     def run_examples(self, name, lines):
@@ -152,8 +152,8 @@ class Documents:
             order = [*set_up, *(reversed(others) if is_backwards else others)]
             wrong |= self.run_pass(f"{name} ({title})", [it for block in order for it in block], shell)
         count = sum(map(len, found))
-        self.tally["examples"][True] += count - len(wrong)
-        self.tally["examples"][False] += len(wrong)
+        self.tally["examples", True] += count - len(wrong)
+        self.tally["examples", False] += len(wrong)
 
     def run_pass(self, name, commands, shell):
         """Runs commands in a shell. It gives the lines of those that print something else."""
@@ -169,9 +169,8 @@ class Documents:
                 print(f"{name}:{number}: $ {command}\n    prints\n{quoted(came)}", end="")
                 print(f"    and should print\n{quoted(wanted)}", end="")
         changed = sorted(it for it in {*before, *after} if before.get(it) != after.get(it))
-        self.tally["folders left as they were"][not changed] += 1
-        for it in changed:
-            print(f"{name}: the examples leave {it} changed")
+        message = f"{name}: the examples leave changed: {', '.join(changed)}"
+        self.tally.tell("folders left as they were", not changed, message)
         return wrong
 
     def find_comments(self, name, lines):
@@ -179,23 +178,16 @@ class Documents:
         for number, line in enumerate(lines, 1):
             if not re.match(r"    (?!\$ )", line):
                 continue
-            is_right = not re.search(r"\S\s+# ", line)
-            self.tally["lines without a prompt"][is_right] += 1
-            if not is_right:
-                print(f"{name}:{number}: a comment behind a command, which zsh takes for words")
+            message = f"{name}:{number}: a comment behind a command, which zsh takes for words"
+            self.tally.tell("lines without a prompt", not re.search(r"\S\s+# ", line), message)
 
     def compare_code(self, name, text):
         """Whether each piece of code, but for the whole program, is in a source of library_example."""
-        sources = ""
-        for file in glob.glob("crates/library_example/src/*.rt"):
-            with open(file, encoding="utf-8") as it:
-                sources += it.read() + "\n"
+        sources = "\n".join(map(read, glob.glob("crates/library_example/src/*.rt")))
         for found in re.finditer(r"(?ms)^```rust\n(.*?)^```$", text):
-            is_right = found[1] in sources or found[1].startswith("//!")
-            self.tally["pieces of code"][is_right] += 1
-            if not is_right:
-                number = text.count("\n", 0, found.start()) + 1
-                print(f"{name}:{number}: this code is in no source of crates/library_example")
+            number = text.count("\n", 0, found.start()) + 1
+            message = f"{name}:{number}: this code is in no source of crates/library_example"
+            self.tally.tell("pieces of code", found[1] in sources or found[1].startswith("//!"), message)
 
     def follow_links(self, name, text):
         """Whether each link to a file, or to a heading of one, leads there."""
@@ -204,25 +196,20 @@ class Documents:
                 continue
             path = os.path.join(os.path.dirname(name), found[1]) if found[1] else name
             is_right = os.path.exists(path) and (found[2] is None or found[2] in anchors(path))
-            self.tally["links"][is_right] += 1
-            if not is_right:
-                number = text.count("\n", 0, found.start()) + 1
-                print(f"{name}:{number}: there is no {found[0][2:-1]}")
+            number = text.count("\n", 0, found.start()) + 1
+            self.tally.tell("links", is_right, f"{name}:{number}: there is no {found[0][2:-1]}")
 
     def compile_program(self, name, text):
         """Does what a page says of its whole program, and compares what that prints."""
         wrong = problem_of(text)
-        self.tally["programs"][not wrong] += 1
-        if wrong:
-            print(f"{name}: the whole program: {wrong}")
+        self.tally.tell("programs", not wrong, f"{name}: the whole program: {wrong}")
 
 
 def anchors(path):
     """The anchors of the headings of a document."""
     if not path.endswith(".md"):
         return set()
-    with open(path, encoding="utf-8") as it:
-        headings = re.findall(r"(?m)^#+ (.*)", re.sub(r"(?ms)^```.*?^```", "", it.read()))
+    headings = re.findall(r"(?m)^#+ (.*)", re.sub(r"(?ms)^```.*?^```", "", read(path)))
     return {re.sub(r"[^\w\- ]", "", it.lower()).replace(" ", "-") for it in headings}
 
 
@@ -261,8 +248,7 @@ def main(*names):
         names = ()
     documents = Documents(program)
     for name in names or ["README.md", "CHANGELOG.md", *sorted(glob.glob("docs/**/*.md", recursive=True))]:
-        with open(name, encoding="utf-8") as it:
-            text = it.read()
+        text = read(name)
         # the whole program runs elsewhere, and leaves its lines here, so that others keep their numbers
         rest = re.sub(PROGRAM_SECTION, lambda it: "\n" * it[0].count("\n"), text)
         documents.run_examples(name, rest.split("\n"))
@@ -273,11 +259,10 @@ def main(*names):
             if not is_quick:
                 documents.compile_program(name, text)
         documents.follow_links(name, text)
-    for what, counts in documents.tally.items():
-        print(f"{what}: {counts[True]} right, {counts[False]} wrong")
+    status = documents.tally.status()
     for tools, number in sorted(documents.skipped.items()):
         print(f"skipped, for want of {tools}: {number} examples")
-    return 1 if any(it[False] for it in documents.tally.values()) else 0
+    return status
 
 
 if __name__ == "__main__":

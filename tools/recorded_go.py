@@ -7,8 +7,8 @@
                                                  has, or, if REAL isn't empty, asks that go and adds its answer
 
 An answer holds for the words, GOFLAGS, the files of the current folder and those of the proxy folder, of zip files only
-the names. It has the status, what was printed, and the files that go then left: those of the folder, and in the module
-cache each .mod, .info and list.
+the names. It has what was asked, the status, what was printed, and the files that go then left: those of the folder, and
+in the module cache each .mod and list, of those that are as in the proxy folder only the names. What is empty is left out.
 """
 import hashlib
 import json
@@ -21,7 +21,7 @@ import sys
 import tempfile
 
 import script
-from go_worlds import read, write
+from script import read, write
 
 TOP = os.path.dirname(os.path.dirname(os.path.abspath(__file__)))
 ANSWERS = os.path.join(TOP, "tools", "go_answers.json")
@@ -30,7 +30,7 @@ TOOLS = ("compare-go.sh", "compare_go.py", "go_rows.py", "go_worlds.py", "lib.sh
 FILES = [f"tools/{it}" for it in TOOLS] + ["docs/use/GO.md"]
 SECONDS = 900
 # Mistakes: without the .info of modules that are pruned out; a row with no world; none, where a difference has one.
-NOT_LAID = ("tools/compare_go.py", "named |= named_versions(file.read())", "file.read()")
+NOT_LAID = ("tools/compare_go.py", "named |= named_versions(read(f\"{folder}/{name}\"))", "pass")
 ROW, PAGE = "A comment that is not UTF-8", "docs/use/GO.md"
 ONE_MORE = (PAGE, f"| {ROW} |", f"| Another | | |\n| {ROW} |")
 ONE_LESS = (PAGE, f"| {ROW} |", "")
@@ -66,7 +66,7 @@ class Question:
 
     def left(self):
         """The files that an answer may have made."""
-        for kind, endings in ("FOLDER", ""), ("CACHE", r"^list$|\.(mod|info)$"):
+        for kind, endings in ("FOLDER", ""), ("CACHE", r"^list$|\.mod$"):
             for name, text in files_below(self.places[kind], endings).items():
                 yield f"{kind}/{name}", text
 
@@ -85,8 +85,17 @@ class Question:
         before = dict(self.left())
         ran = subprocess.run([real, *self.words], capture_output=True, text=True, timeout=SECONDS, check=False)
         files = {name: text for name, text in self.left() if before.get(name) != text}
-        return {"words": self.words, "flags": self.flags, "status": ran.returncode,
-                "out": self.without_places(ran.stdout), "err": self.without_places(ran.stderr), "files": files}
+        copied = [name for name, text in files.items() if text == self.in_proxy(name.removeprefix("CACHE/"))]
+        asked = " ".join(it for it in [self.flags, *self.words] if it and not it.startswith("{{"))
+        given = {"asked": asked, "status": ran.returncode, "out": self.without_places(ran.stdout),
+                 "err": self.without_places(ran.stderr), "copied": [it.removeprefix("CACHE/") for it in copied],
+                 "files": {name: text for name, text in files.items() if name not in copied}}
+        return {what: it for what, it in given.items() if it}
+
+    def in_proxy(self, name):
+        """The text that the proxy folder has of a file, or None."""
+        at = os.path.join(self.places["PROXY"], name)
+        return read(at) if os.path.exists(at) else None
 
     def lay(self, files):
         for name, text in files.items():
@@ -108,13 +117,14 @@ def answer(file, real, *words):
         write(file, json.dumps(recorded, indent=1) + "\n")
     elif key in recorded["answers"]:
         given = recorded["answers"][key]
-        question.lay(given["files"])
+        copied = {f"CACHE/{it}": question.in_proxy(it) for it in given.get("copied", [])}
+        question.lay(copied | given.get("files", {}))
     else:
         print(f"no answer of go is recorded to `go {' '.join(words)}` with these files", file=sys.stderr)
         return 1
-    sys.stdout.write(question.with_places(given["out"]))
-    sys.stderr.write(question.with_places(given["err"]))
-    return given["status"]
+    sys.stdout.write(question.with_places(given.get("out", "")))
+    sys.stderr.write(question.with_places(given.get("err", "")))
+    return given.get("status", 0)
 
 
 # The check.

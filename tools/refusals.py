@@ -10,6 +10,8 @@ import sys
 import tempfile
 
 import script
+from script import read, write
+from sources import crates, with_below
 
 PARTS = ("src", "specs", "proofs")
 # what antt says of an answer that names what is no longer there, and what follows its goal here
@@ -17,19 +19,10 @@ GONE = re.compile(r"is not in scope|has no field|has no `|was not admitted")
 IS_GONE = " (its answer names what is gone)"
 
 
-def crates_below(name, lines):
-    """All crates of the repository below one, each once."""
-    found = []
-    for lower in lines.get(name, []):
-        if os.path.isdir(f"crates/{lower}"):
-            found += [it for it in [*crates_below(lower, lines), lower] if it not in found]
-    return found
-
-
 def read_edit(file):
     """Its pairs as (path, old, new, twin), and the clause that it names."""
     path, old, pairs, clause = None, None, [], None
-    for line in open(file, encoding="utf-8").read().split("\n"):
+    for line in read(file).split("\n"):
         if line.startswith("file: "):
             path = line[len("file: "):].strip()
         elif line.startswith("old: "):
@@ -47,7 +40,7 @@ def changed(room, pairs, is_twin):
     """The crate's files with the edit, or with its twin."""
     texts = {}
     for path, old, new, twin in pairs:
-        text = texts.get(path) or open(f"{room}/{path}", encoding="utf-8").read()
+        text = texts.get(path) or read(f"{room}/{path}")
         if is_twin and twin is None:
             texts.setdefault(path, text)
             continue
@@ -59,14 +52,14 @@ def changed(room, pairs, is_twin):
 
 def check(room, texts, only=None):
     """Whether the crate, or one function of it, is proved with these texts, and where it is not: (function, goal)."""
-    kept = {path: open(f"{room}/{path}", encoding="utf-8").read() for path in texts}
+    kept = {path: read(f"{room}/{path}") for path in texts}
     for path, text in texts.items():
-        open(f"{room}/{path}", "w", encoding="utf-8").write(text)
+        write(f"{room}/{path}", text)
     words = ["rt", "check", "--jobs", "1", *(["--only", only] if only else [])]
     ran = subprocess.run(words, cwd=room, stdin=subprocess.DEVNULL, stdout=subprocess.PIPE, stderr=subprocess.STDOUT,
                          errors="replace")
     for path, text in kept.items():
-        open(f"{room}/{path}", "w", encoding="utf-8").write(text)
+        write(f"{room}/{path}", text)
     goals, noted, unproved = [], [], []
     for line in ran.stdout.splitlines():
         answered = re.match(r"\./proofs/(\S+)/\w+\.antt:\d+:\d+: error: `([^`]*)`(.*)", line)
@@ -116,20 +109,17 @@ def try_edit(room, name, edit, is_quick):
     return is_well
 
 
-def make_room(work, name, lines):
+def make_room(work, name):
     """A copy of the crate with what its last check kept, and the libraries below it."""
-    with open(f"{work}/crates.txt", "w") as out:
-        for it in [*crates_below(name, lines), name]:
-            out.write(f"{it}: {' '.join(lines[it])}\n")
-            os.makedirs(f"{work}/crates/{it}/out")
-            for part in PARTS:
-                if os.path.isdir(f"crates/{it}/{part}"):
-                    shutil.copytree(f"crates/{it}/{part}", f"{work}/crates/{it}/{part}")
-            kept = "incremental" if it == name else "rlib"
-            if os.path.isdir(f"crates/{it}/out/{kept}"):
+    below = with_below(name)
+    write(f"{work}/crates.txt", "".join(f"{it}: {' '.join(crates()[it])}\n" for it in below))
+    for it in below:
+        os.makedirs(f"{work}/crates/{it}/out")
+        for part in (*PARTS, "out/incremental" if it == name else "out/rlib"):
+            if os.path.isdir(f"crates/{it}/{part}"):
                 # a check writes to what it kept, and only reads libraries
-                by = shutil.copy2 if it == name else os.link
-                shutil.copytree(f"crates/{it}/out/{kept}", f"{work}/crates/{it}/out/{kept}", copy_function=by)
+                by = os.link if part == "out/rlib" else shutil.copy2
+                shutil.copytree(f"crates/{it}/{part}", f"{work}/crates/{it}/{part}", copy_function=by)
     subprocess.run(["git", "init", "-q", work], check=True)
     return f"{work}/crates/{name}"
 
@@ -161,18 +151,16 @@ def edits_of(name, chosen):
 
 def main(*words):
     """Tries the edits that the words choose, or prints their table, and returns the status."""
-    rows = [line.split(":", 1) for line in open("crates.txt") if ":" in line and not line.startswith("#")]
-    lines = {name.strip(): below.split() for name, below in rows}
     is_quick = "--only" in words
     chosen = [word for word in words if word not in ("--only", "--table")]
-    chosen = chosen or [name for name in lines if os.path.isdir(f"crates/{name}/must-fail")]
+    chosen = chosen or [name for name in crates() if os.path.isdir(f"crates/{name}/must-fail")]
     edits_by_crate = [(name, edits_of(name, chosen)) for name in dict.fromkeys(it.split("/")[0] for it in chosen)]
     if "--table" in words:
         return 0 if print_table(edits_by_crate) else 1
     is_well = True
     for name, edits in edits_by_crate:
         with tempfile.TemporaryDirectory(prefix="refusals-") as work:
-            room = make_room(work, name, lines)
+            room = make_room(work, name)
             is_proved, _, said = (True, [], "") if is_quick else check(room, {})
             if not is_proved:
                 sys.exit(f"refusals: {name} itself is not proved\n{said[-2000:]}")

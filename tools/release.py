@@ -12,6 +12,7 @@ import re
 import sys
 
 import script
+from script import read, write
 
 # What README.md has of making a program: all sections from the first of these to the one before the last.
 FIRST, LAST = "Try it", "When to use it"
@@ -56,13 +57,10 @@ def main(*words):
     folder, sentence, archive = words
     os.chdir(folder)
     for name in ["README.md", "CHANGELOG.md", *glob.glob("docs/**/*.md", recursive=True)]:
-        with open(name, encoding="utf-8") as it:
-            text = it.read()
+        text = read(name)
         if name == "README.md":
             text = adapt_readme(text, sentence, archive)
-        text = re.sub(r"(?m)^    \$ .*", lambda it: it[0].replace("bin/gomod", "gomod"), adapt_links(name, text))
-        with open(name, "w", encoding="utf-8") as it:
-            it.write(text)
+        write(name, re.sub(r"(?m)^    \$ .*", lambda it: it[0].replace("bin/gomod", "gomod"), adapt_links(name, text)))
     return 0
 
 

@@ -1,15 +1,62 @@
-"""How the scripts in Python begin: `script.run(main)`, in the file that is run.
+"""What the scripts in Python share. They begin with `script.run(main)`, in the file that is run.
 
     NAME.py -h, NAME.py --help    print the docstring of that file, as they do here
 """
 
+import collections
 import hashlib
+import os
 import sys
 
 
 def no_words(*_):
     """The main function of a file that others import: it takes no words."""
     return 2
+
+
+def read(name):
+    """The text of a file; bytes that are not UTF-8 are kept."""
+    with open(name, encoding="utf-8", errors="surrogateescape", newline="") as file:
+        return file.read()
+
+
+def write(name, text, mode=None):
+    """Writes a file, with its folders, and sets its mode if one is given."""
+    os.makedirs(os.path.dirname(name) or ".", exist_ok=True)
+    with open(name, "w", encoding="utf-8", errors="surrogateescape", newline="") as file:
+        file.write(text)
+    if mode:
+        os.chmod(name, mode)
+
+
+class Tally(collections.Counter):
+    """How many things of each kind were right and wrong."""
+
+    def tell(self, kind, is_right, message=""):
+        """Counts one, and prints what is wrong with it."""
+        self[kind, bool(is_right)] += 1
+        if not is_right:
+            print(message)
+
+    def status(self):
+        """Prints the counts, and returns the status."""
+        for kind in dict.fromkeys(kind for kind, _ in self):
+            print(f"{kind}: {self[kind, True]} right, {self[kind, False]} wrong")
+        return int(any(self[kind, is_right] for kind, is_right in self if not is_right))
+
+
+class Trial:
+    """A program whose runs are judged."""
+
+    def __init__(self, program):
+        self.program, self.runs, self.wrong = program, 0, 0
+
+    def judge(self, what, got, is_right):
+        """Counts a run, and prints it if it is wrong."""
+        self.runs += 1
+        if not is_right:
+            self.wrong += 1
+            print(f"{what}\n  {str(got)[:300]}", flush=True)
 
 
 def checksum(text):
