@@ -13,7 +13,7 @@ set -euo pipefail
 cd "$(dirname "$0")/.."
 # shellcheck source=tools/lib.sh
 . tools/lib.sh
-begin_benchmark bench/edit.sh "$@"
+begin_benchmark "$@"
 
 # The same bytes at each run.
 count=65535 many=1000 added=4000 more=16000

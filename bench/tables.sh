@@ -28,5 +28,5 @@ set -euo pipefail
 cd "$(dirname "$0")/.."
 # shellcheck source=tools/lib.sh
 . tools/lib.sh
-help_if_asked bench/tables.sh "$@"
+begin_script "$@"
 exec python3 -B bench/tables.py "$@"

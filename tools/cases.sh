@@ -26,21 +26,21 @@ set -euo pipefail
 cd "$(dirname "$0")/.."
 # shellcheck source=tools/lib.sh
 . tools/lib.sh
-help_if_asked tools/cases.sh "$@"
+begin_script "$@"
 names=(sizes wrong) limit=1000 checked='' quick=''
 case $#:${1-} in
   1:--checked)
     names=(gate sizes wrong) limit=4000 checked=yes
     shift
     ;;
-  1:--quick) refuse_arguments tools/cases.sh "--quick takes programs" ;;
+  1:--quick) misused "--quick takes programs" ;;
   *:--quick)
     names=(gate wrong) quick=yes
     shift
     ;;
 esac
 case ${1-} in
-  -*) refuse_arguments tools/cases.sh "there is no option $1" ;;
+  -*) misused "there is no option $1" ;;
 esac
 
 readonly CRATE=crates/run_cases NOBODY=65534 RECORD=bin/checked.txt

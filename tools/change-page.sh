@@ -29,16 +29,16 @@ set -euo pipefail
 cd "$(dirname "$0")/.."
 # shellcheck source=tools/lib.sh
 . tools/lib.sh
-help_if_asked tools/change-page.sh "$@"
+begin_script "$@"
 case ${1-} in
-  --all) [ $# -eq 1 ] || refuse_arguments tools/change-page.sh "--all stands alone" ;;
+  --all) [ $# -eq 1 ] || misused "--all stands alone" ;;
   --some)
     [[ $# -eq 2 && $2 =~ ^[1-9][0-9]{0,5}$ ]] ||
-      refuse_arguments tools/change-page.sh "--some takes a number of seconds"
+      misused "--some takes a number of seconds"
     ;;
   *)
     for word in "$@"; do
-      [[ $word =~ ^[1-9][0-9]{0,2}$ ]] || refuse_arguments tools/change-page.sh "'$word' is not a number from 1"
+      [[ $word =~ ^[1-9][0-9]{0,2}$ ]] || misused "'$word' is not a number from 1"
     done
     ;;
 esac

@@ -15,9 +15,9 @@ set -euo pipefail
 cd "$(dirname "$0")/.."
 # shellcheck source=tools/lib.sh
 . tools/lib.sh
-help_if_asked tools/check-help.sh "$@"
-[ $# -eq 0 ] || refuse_arguments tools/check-help.sh "unknown argument '$1'"
-need_gomod tools/check-help.sh
+begin_script "$@"
+[ $# -eq 0 ] || misused "unknown argument '$1'"
+need_gomod
 status=0
 python3 -B tools/check_help.py || status=1
 python3 -B tools/completions.py || status=1

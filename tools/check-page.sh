@@ -19,21 +19,16 @@ set -euo pipefail
 cd "$(dirname "$0")/.."
 # shellcheck source=tools/lib.sh
 . tools/lib.sh
-help_if_asked tools/check-page.sh "$@"
-program=bin/gomod listing=
+begin_script "$@"
+listing=
 if [ "${1-}" = --list ]; then
   listing=yes
   shift
 fi
-if [ "${1-}" = --program ]; then
-  [ -x "${2-}" ] || refuse_arguments tools/check-page.sh "--program takes an executable file"
-  program=$2
-  shift 2
-else
-  need_gomod tools/check-page.sh
-fi
+choose_program "$@"
+shift "$given"
 for number in "$@"; do
-  [[ $number =~ ^[1-9][0-9]{0,8}$ ]] || refuse_arguments tools/check-page.sh "'$number' is not a number from 1"
+  [[ $number =~ ^[1-9][0-9]{0,8}$ ]] || misused "'$number' is not a number from 1"
 done
-[ $# -le 2 ] || refuse_arguments tools/check-page.sh "there are more than two numbers"
+[ $# -le 2 ] || misused "there are more than two numbers"
 exec python3 -B tools/check_page.py "$program" "${1:-300}" "${2:-1}" $listing

@@ -27,9 +27,9 @@ set -euo pipefail
 cd "$(dirname "$0")/.."
 # shellcheck source=tools/lib.sh
 . tools/lib.sh
-help_if_asked tools/documents.sh "$@"
+begin_script "$@"
 if [ "${1-}" = --accept ]; then
-  [ $# -ge 2 ] || refuse_arguments tools/documents.sh "--accept takes names of laws, or all"
+  [ $# -ge 2 ] || misused "--accept takes names of laws, or all"
   exec python3 -B tools/sentences.py "$@"
 fi
 status=0

@@ -17,15 +17,8 @@ set -euo pipefail
 cd "$(dirname "$0")/.."
 # shellcheck source=tools/lib.sh
 . tools/lib.sh
-help_if_asked tools/doubling.sh "$@"
+begin_script "$@"
 
-program=bin/gomod
-case $#:${1-} in
-  0:) need_gomod tools/doubling.sh ;;
-  2:--program)
-    [ -x "$2" ] || refuse_arguments tools/doubling.sh "--program takes an executable file"
-    program=$2
-    ;;
-  *) refuse_arguments tools/doubling.sh "it takes nothing, or --program and a file" ;;
-esac
+choose_program "$@"
+[ $# -eq "$given" ] || misused "it takes nothing, or --program and a file"
 exec python3 -B tools/doubling.py "$(realpath "$program")"

@@ -23,24 +23,18 @@ set -euo pipefail
 cd "$(dirname "$0")/.."
 # shellcheck source=tools/lib.sh
 . tools/lib.sh
-help_if_asked tools/faults.sh "$@"
+begin_script "$@"
 
-program=bin/gomod
-if [ "${1-}" = --program ]; then
-  [ -x "${2-}" ] || refuse_arguments tools/faults.sh "--program takes an executable file"
-  program=$2
-  shift 2
-else
-  need_gomod tools/faults.sh
-fi
+choose_program "$@"
+shift "$given"
 whole=
 if [ "${1-}" = --whole ]; then
   whole=yes
   set -- 300 "${@:2}"
 fi
-[ $# -le 2 ] || refuse_arguments tools/faults.sh "there are more than two numbers"
+[ $# -le 2 ] || misused "there are more than two numbers"
 for number in "$@"; do
-  [[ $number =~ ^(0|[1-9][0-9]{0,8})$ ]] || refuse_arguments tools/faults.sh "'$number' is not a number"
+  [[ $number =~ ^(0|[1-9][0-9]{0,8})$ ]] || misused "'$number' is not a number"
 done
 command -v "${CC:-cc}" > /dev/null || {
   echo "faults: there is no command ${CC:-cc}: install a C compiler, or name one by CC" >&2

@@ -38,9 +38,9 @@ set -euo pipefail
 cd "$(dirname "$0")/.."
 # shellcheck source=tools/lib.sh
 . tools/lib.sh
-help_if_asked tools/headline.sh "$@"
+begin_script "$@"
 case $#:${1-} in
   0: | 1:--check | 1:--names) ;;
-  *) refuse_arguments tools/headline.sh "it takes --check, --names or nothing" ;;
+  *) misused "it takes --check, --names or nothing" ;;
 esac
 exec python3 -B tools/headline.py "$@"

@@ -17,6 +17,6 @@ set -euo pipefail
 cd "$(dirname "$0")/.."
 # shellcheck source=tools/lib.sh
 . tools/lib.sh
-help_if_asked tools/lemmas.sh "$@"
-command -v rt > /dev/null || refuse_arguments tools/lemmas.sh "there is no rt: put the toolchain's bin/ on the PATH"
+begin_script "$@"
+command -v rt > /dev/null || misused "there is no rt: put the toolchain's bin/ on the PATH"
 exec python3 -B tools/lemmas.py "$(dirname "$(rt doc)")" "$@"

@@ -3,6 +3,14 @@
 #
 #   . tools/lib.sh
 
+# The script itself: its path from here. Its own name may be one from another folder.
+self=tools/${0##*/}
+case $0 in
+  *build) self=./build ;;
+  *run) self=.ci/run ;;
+  *) [ -e "$self" ] || self=bench/${0##*/} ;;
+esac
+
 # Prints the head comment of a script, the first argument, and ends, if one of the others is -h or --help.
 help_if_asked() {
   local argument
@@ -21,6 +29,10 @@ refuse_arguments() {
   echo "$(basename "$1" .sh): $2; '$1 --help' says what it takes" >&2
   exit 2
 }
+
+# The same for the script itself, with its arguments, and then for a reason.
+begin_script() { help_if_asked "$self" "$@"; }
+misused() { refuse_arguments "$self" "$1"; }
 
 # Prints a file that is newer than bin/gomod and that the program may be made of, if there is one.
 newer_source() {
@@ -51,22 +63,32 @@ is_last_proved() {
   [ -x bin/gomod ] && cmp -s bin/gomod "$PROVED_PROGRAM" && [[ $(bin/gomod --version) =~ $PROVED_MARK$ ]]
 }
 
-# Warns, for a script, the first argument, if bin/gomod is older than a source.
+# Warns if bin/gomod is older than a source.
 warn_if_older() {
   local newer
   newer=$(newer_source)
-  [ -z "$newer" ] || echo "$(basename "$1" .sh): bin/gomod is older than $newer: ./build makes it anew" >&2
+  [ -z "$newer" ] || echo "$(basename "$self" .sh): bin/gomod is older than $newer: ./build makes it anew" >&2
 }
 
-# Ends a script, the first argument, with status 1 if there is no bin/gomod, and warns if that is older than a source.
+# Ends with status 1 if there is no bin/gomod, and warns if that is older than a source.
 need_gomod() {
-  local name
-  name=$(basename "$1" .sh)
   if [ ! -x bin/gomod ]; then
-    echo "$name: there is no bin/gomod: ./build makes it, which can take an hour (./build --help)" >&2
+    echo "$(basename "$self" .sh): there is no bin/gomod: ./build makes it, which can take an hour (./build --help)" >&2
     exit 1
   fi
-  warn_if_older "$1"
+  warn_if_older
+}
+
+# Sets `program` to the file after --program, if that is the first argument, or else to bin/gomod, and `given` to the
+# number of these arguments.
+choose_program() {
+  program=bin/gomod given=0
+  if [ "${1-}" = --program ]; then
+    [ -x "${2-}" ] || misused "--program takes an executable file"
+    program=$2 given=2
+  else
+    need_gomod
+  fi
 }
 
 # A folder that stands for / where the next functions read /proc and /sys: a test gives one with its own files.
@@ -183,19 +205,19 @@ install_files() {
 FILES
 }
 
-# Begins a benchmark, the first argument, with its own arguments: it sets `small` if there is --small, `gomod` to the
+# Begins a benchmark with its arguments: it sets `small` if there is --small, `gomod` to the
 # program, `work` to a folder that is removed at the end, and how many runs there are of each command. bench/tables.py
 # names another program and another number of runs.
 begin_benchmark() {
-  help_if_asked "$@"
+  begin_script "$@"
   small='' runs=${BENCH_RUNS:-3}
-  case $#:${2-} in
-    1:) ;;
-    2:--small) small=yes runs=1 ;;
-    *) refuse_arguments "$1" "it takes --small or nothing" ;;
+  case $#:${1-} in
+    0:) ;;
+    1:--small) small=yes runs=1 ;;
+    *) misused "it takes --small or nothing" ;;
   esac
   gomod=${BENCH_PROGRAM:-$PWD/bin/gomod}
-  [ -n "${BENCH_PROGRAM:-}" ] || need_gomod "$1"
+  [ -n "${BENCH_PROGRAM:-}" ] || need_gomod
   work=$(mktemp -d)
   trap 'rm -rf "$work"' EXIT
   "${CC:-cc}" -O2 -o "$work/measure" bench/measure.c

@@ -18,9 +18,9 @@ set -euo pipefail
 cd "$(dirname "$0")/.."
 # shellcheck source=tools/lib.sh
 . tools/lib.sh
-help_if_asked tools/map.sh "$@"
+begin_script "$@"
 case $#:${1-} in
   0: | 1:--check | 2:--print | 2:--copy) ;;
-  *) refuse_arguments tools/map.sh "it takes --check, --print NAME, --copy NAME or nothing" ;;
+  *) misused "it takes --check, --print NAME, --copy NAME or nothing" ;;
 esac
 exec python3 -B tools/map.py "$@"

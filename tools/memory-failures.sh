@@ -21,9 +21,9 @@ set -euo pipefail
 cd "$(dirname "$0")/.."
 # shellcheck source=tools/lib.sh
 . tools/lib.sh
-help_if_asked tools/memory-failures.sh "$@"
+begin_script "$@"
 case ${1-} in
   "" | --print) ;;
-  *) refuse_arguments tools/memory-failures.sh "unknown argument '$1'" ;;
+  *) misused "unknown argument '$1'" ;;
 esac
 exec python3 -B tools/memory_failures.py "$@"

@@ -17,9 +17,9 @@ set -euo pipefail
 cd "$(dirname "$0")/.."
 # shellcheck source=tools/lib.sh
 . tools/lib.sh
-help_if_asked tools/names.sh "$@"
+begin_script "$@"
 case $#:${1-} in
   0: | 1:--list) ;;
-  *) refuse_arguments tools/names.sh "it takes --list or nothing" ;;
+  *) misused "it takes --list or nothing" ;;
 esac
 exec python3 -B tools/names.py "$@"

@@ -21,9 +21,9 @@ set -euo pipefail
 cd "$(dirname "$0")/.."
 # shellcheck source=tools/lib.sh
 . tools/lib.sh
-help_if_asked tools/private.sh "$@"
+begin_script "$@"
 case $#:${1-} in
   0: | 1:--list | 2:--why) ;;
-  *) refuse_arguments tools/private.sh "it takes --list, --why NAME or nothing" ;;
+  *) misused "it takes --list, --why NAME or nothing" ;;
 esac
 exec python3 -B tools/private.py "$@"

@@ -57,8 +57,8 @@ set -euo pipefail
 cd "$(dirname "$0")/.."
 # shellcheck source=tools/lib.sh
 . tools/lib.sh
-help_if_asked tools/program.sh "$@"
-need_gomod tools/program.sh
+begin_script "$@"
+need_gomod
 
 readonly RECORD=bin/opened.txt
 if [ $# -gt 0 ] || [ -n "${REFUSE_MEMORY-}" ] || [ ! -w bin ] || ! commit=$(git rev-parse HEAD 2> /dev/null); then

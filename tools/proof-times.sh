@@ -11,8 +11,8 @@ set -euo pipefail
 cd "$(dirname "$0")/.."
 # shellcheck source=tools/lib.sh
 . tools/lib.sh
-help_if_asked tools/proof-times.sh "$@"
-[ $# -gt 0 ] || refuse_arguments tools/proof-times.sh "it takes the name of a crate"
+begin_script "$@"
+[ $# -gt 0 ] || misused "it takes the name of a crate"
 exec python3 - "$@" <<'PROGRAM'
 import collections
 import os

@@ -28,6 +28,6 @@ set -euo pipefail
 cd "$(dirname "$0")/.."
 # shellcheck source=tools/lib.sh
 . tools/lib.sh
-help_if_asked tools/readme.sh "$@"
-[ "${1-}" = --archive ] || need_gomod tools/readme.sh
+begin_script "$@"
+[ "${1-}" = --archive ] || need_gomod
 exec python3 -B tools/readme.py "$@"

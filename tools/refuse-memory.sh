@@ -27,7 +27,7 @@ set -euo pipefail
 cd "$(dirname "$0")/.."
 # shellcheck source=tools/lib.sh
 . tools/lib.sh
-help_if_asked tools/refuse-memory.sh "$@"
+begin_script "$@"
 
 readonly DATA=crates/run_cases/data LISTED=tools/refused_cases.txt RECORD=bin/refused.txt
 readonly MOST=200000 # more allocations than any test makes: a guard against a count that doesn't end
@@ -122,7 +122,7 @@ crates_with_tests() {
 # All of it, and the record.
 refuse_everywhere() {
   local crate program commit
-  need_gomod tools/refuse-memory.sh
+  need_gomod
   rm -f "$RECORD"
   program=$(sha256sum bin/gomod) commit=$(git rev-parse HEAD)
   [ -z "$(git status --porcelain)" ] || commit+=" with changes"
@@ -139,7 +139,7 @@ but=
 case ${1-} in
   "") refuse_everywhere ;;
   --check)
-    [ $# -eq 1 ] || refuse_arguments tools/refuse-memory.sh "--check takes nothing"
+    [ $# -eq 1 ] || misused "--check takes nothing"
     refuse_in_listed
     ;;
   --cases)

@@ -34,7 +34,7 @@ from=$PWD
 cd "$(dirname "$0")/.."
 # shellcheck source=tools/lib.sh
 . tools/lib.sh
-help_if_asked tools/release.sh "$@"
+begin_script "$@"
 
 refuse() {
   echo "release: $1" >&2
@@ -87,15 +87,15 @@ case $#:${1-}:${2-} in
   2:--check:--unproved) check=yes unproved=yes ;;
   1:*:) to=$1 ;;
   3:*:--gate) to=$1 gate=$3 ;;
-  *) refuse_arguments tools/release.sh "it takes --check, or a folder and possibly --gate and a line" ;;
+  *) misused "it takes --check, or a folder and possibly --gate and a line" ;;
 esac
 case $to in
-  -*) refuse_arguments tools/release.sh "unknown argument '$to'" ;;
+  -*) misused "unknown argument '$to'" ;;
   /*) ;;
   *) to=$from/$to ;;
 esac
 
-need_gomod tools/release.sh
+need_gomod
 if [ -z "$check" ]; then
   is_last_proved || refuse "bin/gomod isn't the program that the last proof left at $PROVED_PROGRAM: run .ci/run"
   if [ -z "$gate" ]; then

@@ -13,11 +13,11 @@ set -euo pipefail
 cd "$(dirname "$0")/.."
 # shellcheck source=tools/lib.sh
 . tools/lib.sh
-help_if_asked tools/trusted.sh "$@"
+begin_script "$@"
 option=
 if [ "${1-}" = --check ]; then
   option=--check
   shift
 fi
-[[ $# -eq 1 && -r $1 ]] || refuse_arguments tools/trusted.sh "it takes the log of a check"
+[[ $# -eq 1 && -r $1 ]] || misused "it takes the log of a check"
 exec python3 -B tools/trusted.py "$1" $option

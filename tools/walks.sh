@@ -14,9 +14,9 @@ set -euo pipefail
 cd "$(dirname "$0")/.."
 # shellcheck source=tools/lib.sh
 . tools/lib.sh
-help_if_asked tools/walks.sh "$@"
+begin_script "$@"
 case $#:${1-} in
   0: | 1:--check) ;;
-  *) refuse_arguments tools/walks.sh "it takes --check or nothing" ;;
+  *) misused "it takes --check or nothing" ;;
 esac
 exec python3 -B tools/walks.py "$@"
