@@ -56,7 +56,7 @@ def words_of(line):
 
 
 def form_of(text, most):
-    """A text as a form for its number, which has as many digits as the greatest one, and how often that stands in it."""
+    """A text as a form for its number, with as many digits as the greatest one, and how often that stands in it."""
     digits = b"%%0%dd" % len(b"%d" % most)
     return text.replace(b"%", b"%%").replace(b"{n}", digits), text.count(b"{n}")
 

@@ -1,7 +1,4 @@
-"""Compares the man page and the completions with what `gomod --help` shows, as tools/check-help.sh says.
-
-    check_help.py
-"""
+"""Compares the man page and the completions with what `gomod --help` shows, as tools/check-help.sh says."""
 import re
 import shlex
 import subprocess

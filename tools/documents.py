@@ -1,11 +1,4 @@
-"""Checks what the documents name, and how long they are, for tools/documents.sh, which says what it looks at.
-
-    documents.py           all documents, budgets and figures
-    documents.py FILE..    these documents alone
-
-It runs in the root of a repository of git. It prints what is wrong and how many things of each kind it looked at. The
-status is 1 if one was wrong.
-"""
+"""Checks what the documents name, and how long they are, for tools/documents.sh, which says what it looks at."""
 import collections
 import fnmatch
 import glob
@@ -94,7 +87,7 @@ class Sources:
         self.inner = set()  # names of lemmas, parameters and variables
         self.imported = set()  # names that src/ and specs/ import, those of the toolchain among them
         self.titles = collections.defaultdict(set)  # file: titles of cases
-        self.public = collections.defaultdict(set)  # (crate, module or type): public functions, those of traits among them
+        self.public = collections.defaultdict(set)  # (crate, module or type): functions that are public or of a trait
         self.version = re.search(r'VERSION: &str = "(.*)"', read("crates/gomod_words/src/help.rt"))[1]
         for path in sorted(self.files):
             crate = path.split("/")[1] if path.startswith("crates/") else ""
@@ -123,8 +116,8 @@ class Sources:
                 self.passed_on[crate] |= set(re.findall(r"\w+", found[1] or found[2]))
         self.tests.update(re.findall(r"(?m)^ *#\[test\]\n(?: *#\[.*\n)* *(?:pub )?fn (\w+)", text))
         self.inner.update(re.findall(r"(\w+):", text), re.findall(r"\blet (?:mut )?(\w+)", text))
-        for found in re.finditer(r"(?m)^ *(?:pub(?:\([a-z]+\))? )?(?:struct|enum|trait|type|const|static|mod) (\w+)", text):
-            self.items[found[1]].add((crate, module))
+        for name in re.findall(r"(?m)^ *(?:pub\S* )?(?:struct|enum|trait|type|const|static|mod) (\w+)", text):
+            self.items[name].add((crate, module))
         for one in items_of(text):
             owners = [it.split("::")[-1] for it in re.findall(r"^[\w:]+", one.trait) + [one.name]]
             if one.kind in MEMBERS:

@@ -1,9 +1,4 @@
-"""Runs each command of gomod at sizes that double, and says where twice the input takes more than 2.4 times as much.
-
-    doubling.py PROGRAM
-
-tools/doubling.sh says what is measured.
-"""
+"""Runs each command of gomod at sizes that double, as tools/doubling.sh says."""
 
 import concurrent.futures
 import math
@@ -18,6 +13,7 @@ from typing import Callable, NamedTuple
 
 import script
 from go_worlds import hash_of
+from script import read, write
 
 MOST = 2.4
 # without valgrind CPU time is measured: of greater inputs, and the least of so many runs
@@ -102,8 +98,7 @@ def turned(number, left):
 
 def spread():
     """What the tag of a list is multiplied by after each number."""
-    with open(TAGS, encoding="utf-8") as file:
-        text = file.read()
+    text = read(TAGS)
     found = re.search(r"const SPREAD: u32 = (0x[0-9A-F_]+);", text)
     if not found or TAG_STEP not in text:
         sys.exit("doubling: list_index.rt no longer makes tags as lists_of_one_tag does")
@@ -213,10 +208,7 @@ class Meter:
         """What a command line takes over these files, its status, and the first line of its report."""
         with tempfile.TemporaryDirectory(prefix="gomod-doubling-") as folder:
             for name, text in files.items():
-                place = os.path.join(folder, name)
-                os.makedirs(os.path.dirname(place), exist_ok=True)
-                with open(place, "w", encoding="utf-8") as file:
-                    file.write(text)
+                write(os.path.join(folder, name), text)
             stdin = files.get("stdin", "").encode()
             if self.valgrind:
                 return self.counted(words, folder, stdin)

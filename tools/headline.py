@@ -1,7 +1,4 @@
-"""Keeps the pages with shown definitions, and the crate with copies of them, in step, as tools/headline.sh says.
-
-    headline.py [--check | --names]
-"""
+"""Keeps the pages with shown definitions, and the crate with copies of them, in step, as tools/headline.sh says."""
 import functools
 import pathlib
 import re

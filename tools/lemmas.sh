@@ -4,8 +4,8 @@
 #
 #   tools/lemmas.sh            the counts
 #   tools/lemmas.sh --list     also each such lemma, with the standard library's, each such name and each such statement
-#   tools/lemmas.sh --check    the first two, with status 1 if there is such a lemma, more than 20 such names, or another
-#                              number of such statements than tools/lemmas.py has: it only falls
+#   tools/lemmas.sh --check    the first two, with status 1 if there is such a lemma, more than 20 such names, or
+#                              another number of such statements than tools/lemmas.py has: it only falls
 #   tools/lemmas.sh CRATE..    the counts for these crates
 #
 # A lemma restates another if their types are the same text once all variables are renamed in the order in which they

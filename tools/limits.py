@@ -22,6 +22,7 @@ import tempfile
 import time
 
 import script
+from script import holding
 
 LIST = b"v1.0.0\nv1.1.0\n"
 LINES = [
@@ -107,9 +108,7 @@ class Trial(script.Trial):
     def with_streams(self, line, kinds):
         """The result if the three standard streams are of these kinds."""
         with contextlib.ExitStack() as opened:
-            files = [opened.enter_context(tempfile.TemporaryFile()) for _ in kinds]
-            files[0].write(LIST)
-            files[0].seek(0)
+            files = [opened.enter_context(holding(text)) for text in (LIST, b"", b"")]
             others = {
                 "full": [opened.enter_context(open("/dev/full", mode)) for mode in ("rb", "wb", "wb")],
                 "wrong": [opened.enter_context(open("/dev/null", mode)) for mode in ("wb", "rb", "rb")],
@@ -176,7 +175,7 @@ class Trial(script.Trial):
             limit(fsize=room)()
 
         status, out, _ = self.plain[line]
-        with tempfile.TemporaryFile() as file:
+        with holding(b"") as file:
             words = [self.program, *line.split()]
             pipe = subprocess.PIPE
             done = subprocess.run(words, input=LIST, stdout=file, stderr=pipe, preexec_fn=small, check=False)
@@ -189,9 +188,7 @@ class Trial(script.Trial):
         """Readers of a pipe that go, and one that is slow."""
         wanted = self.run(READS, self.many)[1]
         for handler, take in itertools.product((signal.SIG_DFL, signal.SIG_IGN), (0, 1, 1000, 65_536, 200_000)):
-            with tempfile.TemporaryFile() as file:
-                file.write(self.many)
-                file.seek(0)
+            with holding(self.many) as file:
 
                 def set_handler(handler=handler):
                     signal.signal(signal.SIGPIPE, handler)
@@ -204,9 +201,7 @@ class Trial(script.Trial):
                 child.stderr.close()
             right = status == 3 and not report and wanted.startswith(got)
             self.judge(f"a reader that takes {take} bytes: gomod {READS}", (status, report), right)
-        with tempfile.TemporaryFile() as file:
-            file.write(self.many)
-            file.seek(0)
+        with holding(self.many) as file:
             child = self.start(READS, file, stdout=subprocess.PIPE)
             got = b""
             while piece := os.read(child.stdout.fileno(), 3001):
@@ -245,9 +240,7 @@ class Trial(script.Trial):
         """Both outputs are a terminal."""
         for line in LINES:
             ours, its = pty.openpty()
-            with tempfile.TemporaryFile() as file:
-                file.write(LIST)
-                file.seek(0)
+            with holding(LIST) as file:
                 child = subprocess.Popen([self.program, *line.split()], stdin=file, stdout=its, stderr=its)
             os.close(its)
             got = b""

@@ -1,10 +1,4 @@
-"""Writes docs/lib/CRATES.md from crates.txt and the sources, for tools/map.sh.
-
-    map.py                  writes the page
-    map.py --check          compares it; the status is 1 if it differs
-    map.py --print CRATE    prints what each file of a crate has
-    map.py --copy CRATE     prints the crates to copy to use a library
-"""
+"""Writes docs/lib/CRATES.md from crates.txt and the sources, for tools/map.sh, which says what the words mean."""
 import itertools
 import pathlib
 import re

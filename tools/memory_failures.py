@@ -1,7 +1,4 @@
-"""Finds the failures of memory that the sources make up, and the calls that ask for room, for tools/memory-failures.sh.
-
-    memory_failures.py [--print]
-"""
+"""Finds the failures of memory that the sources make up, and the calls that ask for room (tools/memory-failures.sh)."""
 import re
 import textwrap
 

@@ -1,10 +1,4 @@
-"""Finds where options and operations are named, for tools/names.sh, which says what is wrong.
-
-    names.py           prints what is wrong
-    names.py --list    prints each name and its files, too
-
-It runs in the root of a repository. The status is 1 if something is wrong.
-"""
+"""Finds where options and operations are named, for tools/names.sh, which says what is wrong."""
 import collections
 import pathlib
 import re

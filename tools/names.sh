@@ -6,8 +6,8 @@
 #   tools/names.sh --list   prints each name and its two files
 #
 # The names are those of the tables: of options in src/table.rt and specs/Table.antt of gomod_words, of operations in
-# src/kind.rt and specs/Operations.antt of gm_operation. A name that one table has and the other hasn't is wrong, and so is one
-# that stands in another file too, or twice in a table. A string is a name with or without its dashes or its `=`;
+# src/kind.rt and specs/Operations.antt of gm_operation. A name that one table has and the other hasn't is wrong, and so
+# is one that stands in another file too, or twice in a table. A string is a name with or without its dashes or its `=`;
 # longer texts, such as help, aren't looked at, but for help's list of operations.
 #
 # Aside are crates that no program or library of users is made of (cases, tests, laws, page, library_example), and, by a

@@ -36,7 +36,7 @@ from typing import NamedTuple
 import opened
 import script
 from case_files import case_of, changed, remove, tree_of
-from script import write
+from script import holding, write
 
 NOBODY = 65534
 LIMIT = 100
@@ -231,9 +231,7 @@ class Worker:
             for it in ends:
                 os.close(it)
         else:
-            with tempfile.TemporaryFile(dir=self.folder) as file:
-                file.write(text)
-                file.seek(0)
+            with holding(text, self.folder) as file:
                 yield file.fileno()
 
     def streams(self, number):

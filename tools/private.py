@@ -1,11 +1,4 @@
-"""Finds the definitions of specs/ that no public contract reaches, for tools/private.sh, which says what that means.
-
-    private.py               prints what stands in the wrong folder, and new names that two files of specs/ have
-    private.py --list        prints the definitions that no public contract reaches
-    private.py --why NAME    prints how a public contract reaches a definition
-
-It runs in the root of a repository. The status is 1 if something is wrong, or if nothing reaches NAME.
-"""
+"""Finds the definitions of specs/ that no public contract reaches, for tools/private.sh, which says what that means."""
 import collections
 import re
 import sys

@@ -290,9 +290,7 @@ class Commands:
 
 def standard_inputs(text):
     """Each kind of standard input, with what it gives a child: the text, or nothing that can be read."""
-    with tempfile.TemporaryFile() as file:
-        file.write(text)
-        file.seek(0)
+    with script.holding(text) as file:
         yield "a file", {"stdin": file}, True
     one, other = socket.socketpair()
     with one, other:

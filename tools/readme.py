@@ -1,10 +1,4 @@
-"""What tools/readme.sh does: it runs the examples of documents, and compares what they print.
-
-    readme.py [--quick] [FILE..]      README.md, CHANGELOG.md and all documents of docs/ if there is no FILE
-    readme.py --archive FOLDER        the documents of a release that was unpacked into FOLDER, with its program
-
-It runs in the root of the repository. tools/readme.sh --help says what an example is, and what is compared.
-"""
+"""Runs the examples of documents, and compares what they print, as tools/readme.sh says."""
 
 import collections
 import contextlib
@@ -220,7 +214,8 @@ def problem_of(text):
     standard output is compared. They run in a folder outside the repository, in which gomod is a link to it.
     """
     section = re.search(PROGRAM_SECTION, text)
-    parts = section and re.search(r"(?ms)((?:^    [^\n]*\n)+).*?^```rust\n(//!.*?)^```$.*?((?:^    [^\n]*\n)+)", section[0])
+    indented = r"((?:^    [^\n]*\n)+)"
+    parts = section and re.search(rf"(?ms){indented}.*?^```rust\n(//!.*?)^```$.*?{indented}", section[0])
     if not parts:
         return "there are no commands, no program or no run"
     make, program, run = re.sub(r"(?m)^    ", "", parts[1]), parts[2], re.sub(r"(?m)^    ", "", parts[3])

@@ -7,8 +7,9 @@
                                                  has, or, if REAL isn't empty, asks that go and adds its answer
 
 An answer holds for the words, GOFLAGS, the files of the current folder and those of the proxy folder, of zip files only
-the names. It has what was asked, the status, what was printed, and the files that go then left: those of the folder, and
-in the module cache each .mod and list, of those that are as in the proxy folder only the names. What is empty is left out.
+the names. It has what was asked, the status, what was printed, and the files that go then left: those of the folder,
+and in the module cache each .mod and list, of those that are as in the proxy folder only the names. What is empty is
+left out.
 """
 import hashlib
 import json

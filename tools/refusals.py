@@ -1,7 +1,4 @@
-"""Tries the edits that must fail, and their harmless twins, as tools/refusals.sh says.
-
-    refusals.py [--only | --table] [NAME..] [NAME/EDIT..]
-"""
+"""Tries the edits that must fail, and their harmless twins, as tools/refusals.sh says."""
 import os
 import re
 import shutil

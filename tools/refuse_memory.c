@@ -1,8 +1,8 @@
 /* Refuses one allocation of a program, the Nth if REFUSE_AT is N, and all later ones too if REFUSE_LATER is set. It is
    loaded before the C library by tools/refuse-memory.sh, and linked into nothing.
 
-   At the end of the program it writes "all allocations passed" to the standard error if the program asked for memory less
-   than N times, so that the script knows when to stop counting. */
+   At the end of the program it writes "all allocations passed" to the standard error if the program asked for memory
+   less than N times, so that the script knows when to stop counting. */
 #define _GNU_SOURCE
 #include <malloc.h>
 #include <stdlib.h>

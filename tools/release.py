@@ -26,8 +26,8 @@ Unpack the archive where its `bin` is on the `PATH`, and print the build list of
     mkdir -p ~/.local && tar -xzf {archive}.tar.gz -C ~/.local --strip-components=1
     gomod list --proxy ~/go/pkg/mod/cache/download
 
-If go never filled that folder, [fill one without Go](docs/use/RECIPES.md#a-folder-filled-without-go). The examples run \
-in this folder, `share/doc/gomod`.
+If go never filled that folder, [fill one without Go](docs/use/RECIPES.md#a-folder-filled-without-go). The examples \
+run in this folder, `share/doc/gomod`.
 
 """
 

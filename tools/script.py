@@ -7,6 +7,7 @@ import collections
 import hashlib
 import os
 import sys
+import tempfile
 
 
 def no_words(*_):
@@ -27,6 +28,14 @@ def write(name, text, mode=None):
         file.write(text)
     if mode:
         os.chmod(name, mode)
+
+
+def holding(text, folder=None):
+    """A temporary file with these bytes, at its begin."""
+    file = tempfile.TemporaryFile(dir=folder)
+    file.write(text)
+    file.seek(0)
+    return file
 
 
 class Tally(collections.Counter):

@@ -5,9 +5,9 @@ verified", stands a comment: the laws' names, a checksum of the sentence and one
 the clauses of its function, and the definitions that these cite in the specs/ of its crate, with what those cite there:
 in gomod_laws in any file, elsewhere in the same one and in those of laws. Comments of sources and blanks don't count.
 
-    sentences.py                compares; prints each sentence with what its laws state if a checksum is no longer right
-    sentences.py --accept NAME..  writes the checksums anew of the sentences bound to these laws, or of all with `all`
-    sentences.py --pairs        prints each sentence and what its laws state
+    sentences.py                  compares, and prints each sentence whose checksums are no longer right
+    sentences.py --accept NAME..  what tools/documents.sh --accept does
+    sentences.py --pairs          prints each sentence and what its laws state
 """
 import collections
 import dataclasses

@@ -1,7 +1,4 @@
-"""Prints the walks through the code call by call, for tools/walks.sh, and checks them in the sources.
-
-    walks.py [--check]    --check prints only what is wrong; the status is 1 if something is
-"""
+"""Prints the walks through the code call by call, for tools/walks.sh, and checks them in the sources."""
 import re
 
 import script
@@ -9,39 +6,29 @@ from sources import CRATES, code_of, files, functions
 
 # a walk: its title, the most functions before its last one, and its functions, each after its file below crates/ where
 # that isn't the file of the one before
-WALKS = [
-    ("list, to where the graph is loaded", 9, """
+READING = """
+        gm_graph/src/loading.rt load visit_all
+        gm_graph/src/visiting.rt visit
+        gm_graph/src/cache.rt visit known_at read_file read_reply
+        gm_graph/src/cache/reading.rt read_answer
+        gm_file/src/dep_file.rt read_listed
+        gm_file/src/dep_lines.rt read_all read_simple_lines read_simple
+        gm_file/src/required.rt read"""
+BEGIN = """
         gomod/src/main.rt main
         gomod_run/src/program.rt exit_code ending_of ending_of_words
-        gomod_run/src/command.rt run_command over_folders
+        gomod_run/src/command.rt run_command"""
+WALKS = [
+    ("list, to where the graph is loaded", 9, f"""{BEGIN} over_folders
         gomod_run/src/running.rt run outcome
         gomod_run/src/queries/answering.rt answer
         gm_graph/src/loading.rt load
     """),
-    ("list, from `load` to a requirement that is known", 14, """
-        gm_graph/src/loading.rt load visit_all
-        gm_graph/src/visiting.rt visit
-        gm_graph/src/cache.rt visit known_at read_file read_reply
-        gm_graph/src/cache/reading.rt read_answer
-        gm_file/src/dep_file.rt read_listed
-        gm_file/src/dep_lines.rt read_all read_simple_lines read_simple
-        gm_file/src/required.rt read push_known
+    ("list, from `load` to a requirement that is known", 14, f"""{READING} push_known
         gm_name_table/src/module_list.rt push_known
     """),
-    ("list, from `load` to a new requirement", 14, """
-        gm_graph/src/loading.rt load visit_all
-        gm_graph/src/visiting.rt visit
-        gm_graph/src/cache.rt visit known_at read_file read_reply
-        gm_graph/src/cache/reading.rt read_answer
-        gm_file/src/dep_file.rt read_listed
-        gm_file/src/dep_lines.rt read_all read_simple_lines read_simple
-        gm_file/src/required.rt read push
-        gm_name_table/src/module_list.rt push
-    """),
-    ("edit, to the first change of a line", 12, """
-        gomod/src/main.rt main
-        gomod_run/src/program.rt exit_code ending_of ending_of_words
-        gomod_run/src/command.rt run_command over_memory
+    ("list, from `load` to a new requirement", 14, f"{READING} push gm_name_table/src/module_list.rt push"),
+    ("edit, to the first change of a line", 12, f"""{BEGIN} over_memory
         gomod_run/src/running.rt run outcome
         gomod_run/src/edit.rt edit_outcome apply_text
         gm_file_edit/src/editor.rt apply
