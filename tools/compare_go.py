@@ -1,7 +1,6 @@
 """Compares bin/gomod with an installed go command. tools/compare-go.sh starts it and says what it prints."""
 import argparse
 import collections
-import json
 import os
 import random
 import re
@@ -13,7 +12,7 @@ import tempfile
 
 import go_rows
 from go_worlds import (
-    UNFETCHABLE, World, escaped, fits, lay_tidy_world, operations, order_of, unescaped
+    UNFETCHABLE, World, escaped, fits, lay_tidy_world, lay_version, operations, order_of, unescaped
 )
 from script import read, write
 
@@ -518,8 +517,7 @@ def lay_cache(cache, proxy, named):
         if "list" in files:
             paths.append(path)
     for path, version in named:
-        info = {"Version": version, "Time": "2020-01-01T00:00:00Z"}
-        write(f"{proxy}/{escaped(path)}/@v/{escaped(version)}.info", json.dumps(info))
+        lay_version(proxy, path, version, None)
     return sorted(paths)
 
 

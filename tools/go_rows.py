@@ -1,10 +1,9 @@
 """Worlds by hand for tools/compare_go.py: in each shows a difference that has a row in the table of docs/use/GO.md."""
-import json
 import os
 import typing
 
 import script
-from go_worlds import escaped, hash_of
+from go_worlds import escaped, hash_of, lay_version
 from script import write
 
 MAIN = "module example.com/m\n\ngo 1.19\n\nrequire example.com/a v1.0.0\n"
@@ -176,10 +175,10 @@ def lay(row, proxy, main):
     """Writes the files of a world."""
     for name, text in row.proxy.items():
         path, version = name.split(" ")
-        base = f"{proxy}/{escaped(path)}/@v/{escaped(version)}"
-        write(base if version == "list" else f"{base}.mod", text)
-        if version != "list":
-            write(f"{base}.info", json.dumps({"Version": version, "Time": "2020-01-01T00:00:00Z"}))
+        if version == "list":
+            write(f"{proxy}/{escaped(path)}/@v/list", text)
+        else:
+            lay_version(proxy, path, version, text)
     os.makedirs(proxy, exist_ok=True)
     write(f"{main}/go.mod", row.main)
     for name, text in row.files.items():

@@ -36,6 +36,14 @@ def unescaped(name):
     return re.sub("!([a-z])", lambda it: it[1].upper(), name)
 
 
+def lay_version(proxy, path, version, text):
+    """Lays the files of a version in a proxy folder: its .info and, if there is one, its go.mod."""
+    base = f"{proxy}/{escaped(path)}/@v/{escaped(version)}"
+    write(f"{base}.info", json.dumps({"Version": version, "Time": "2020-01-01T00:00:00Z"}))
+    if text is not None:
+        write(f"{base}.mod", text)
+
+
 def hash_of(text):
     line = hashlib.sha256(text.encode()).hexdigest() + "  go.mod\n"
     return "h1:" + base64.b64encode(hashlib.sha256(line.encode()).digest()).decode()
@@ -84,8 +92,7 @@ def lay_tidy_world(proxy, main):
         }
         base = f"{proxy}/{escaped(path)}/@v"
         write(f"{base}/list", "v1.0.0\n")
-        write(f"{base}/v1.0.0.mod", text)
-        write(f"{base}/v1.0.0.info", json.dumps({"Version": "v1.0.0", "Time": "2020-01-01T00:00:00Z"}))
+        lay_version(proxy, path, "v1.0.0", text)
         with zipfile.ZipFile(f"{base}/v1.0.0.zip", "w") as file:
             for name, text in files.items():
                 file.writestr(f"{path}@v1.0.0/{name}", text)
@@ -284,10 +291,7 @@ class World:
         for (path, version), text in texts.items():
             base = f"{self.proxy}/{escaped(path)}/@v"
             lists[base] += [version] * (not re.search(r"\d{14}-", version) or self.chance(0.2))
-            if text is not None:
-                write(f"{base}/{escaped(version)}.mod", text)
-            write(f"{base}/{escaped(version)}.info",
-                  json.dumps({"Version": version, "Time": "2020-01-01T00:00:00Z"}))
+            lay_version(self.proxy, path, version, text)
         for base, versions in lists.items():
             extra = self.random.choice(
                 [[]] * 8 + [["v9.0.0"], ["master", "v1.2"], ["v1.4.0 2020-01-01T00:00:00Z"], versions[:1]])
@@ -296,8 +300,7 @@ class World:
             write(f"{base}/list", "".join(f"{it}\n" for it in versions + extra))
             if extra == ["v9.0.0"]:
                 path = next(path for path, _ in texts if f"/{escaped(path)}/@v" in base)
-                write(f"{base}/v9.0.0.mod", f"module {path}\n")
-                write(f"{base}/v9.0.0.info", json.dumps({"Version": "v9.0.0", "Time": "2020-01-01T00:00:00Z"}))
+                lay_version(self.proxy, path, "v9.0.0", f"module {path}\n")
         for folder, text in self.folders.items():
             if text is not None:
                 write(os.path.normpath(os.path.join(self.main, folder, "go.mod")), text)

@@ -356,17 +356,6 @@ def copies():
     return {CRATES / PAGE / "specs" / name: text for name, text in texts.items()}
 
 
-def keep(path, text, option):
-    """Writes a file anew, or says that it is out of step; gives how many are."""
-    if path.exists() and path.read_text() == text:
-        return 0
-    if not option:
-        path.write_text(text)
-    elif option == "--check":
-        print(f"{path}: it is not what the sources say: tools/headline.sh writes it anew")
-    return int(option == "--check")
-
-
 def renew_copies(option):
     """Writes the crate's copies, or says which is out of step."""
     wrong, texts = 0, copies()
@@ -374,7 +363,7 @@ def renew_copies(option):
         if path not in texts and path.stem not in BY_HAND:
             wrong += 1
             print(f"{path}: it is a copy of nothing that the headline reaches")
-    return wrong + sum(keep(path, text, option) for path, text in texts.items())
+    return wrong + sum(script.keep(path, text, bool(option), "tools/headline.sh") for path, text in texts.items())
 
 
 def unshown(found, pages):
@@ -430,7 +419,8 @@ def main(option=""):
             print(f"{page.path}: {user} uses {name}, which is shown after it")
             wrong += 1
     for page in pages:
-        wrong += keep(page.path, page.renewed([it for it in pages if it is not page]), option)
+        text = page.renewed([it for it in pages if it is not page])
+        wrong += script.keep(page.path, text, bool(option), "tools/headline.sh")
         size = sum(it.size() for it in page.defined)
         print(f"{page.path}: {len(page.defined)} definitions, {size} lines")
     wrong += keep_short(pages[0], pages[1:]) + renew_copies(option)

@@ -151,32 +151,18 @@ def table(crate):
     return "| File | What it has |\n|---|---|\n" + "".join(rows)
 
 
-def is_same(text):
-    """Whether the page has this text; it prints the first line that differs."""
-    there = PAGE.read_text() if PAGE.exists() else ""
-    pairs = itertools.zip_longest(there.split("\n"), text.split("\n"))
-    for number, (old, new) in enumerate(pairs, 1):
-        if old != new:
-            print(f"{PAGE}:{number}: it has: {'(no line)' if old is None else old}")
-            print(f"{PAGE}:{number}: tools/map.sh writes: {'(no line)' if new is None else new}")
-            return False
-    return True
-
-
 def main(option="", crate=""):
     """Writes or compares the page, or prints a part of it, as the words say."""
     if option in ("--print", "--copy"):
         if crate not in crates():
             sys.exit(f"map: crates.txt has no crate {crate}")
         print(table(crate) if option == "--print" else "".join(f"{it}\n" for it in with_below(crate)), end="")
-        return
+        return 0
     text = page()
     # every file of a crate begins with a comment
     for it in crates():
         table(it)
-    if option == "--check":
-        sys.exit(0 if is_same(text) else 1)
-    PAGE.write_text(text)
+    return script.keep(PAGE, text, option == "--check", "tools/map.sh")
 
 
 if __name__ == "__main__":

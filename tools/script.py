@@ -5,6 +5,7 @@
 
 import collections
 import hashlib
+import itertools
 import os
 import sys
 import tempfile
@@ -36,6 +37,19 @@ def holding(text, folder=None):
     file.write(text)
     file.seek(0)
     return file
+
+
+def keep(path, text, is_checked, writer):
+    """Writes a file anew, or compares it: prints the first line that differs. Gives how many files are out of step."""
+    there = path.read_text(encoding="utf-8") if path.exists() else ""
+    if not is_checked and there != text:
+        path.write_text(text, encoding="utf-8")
+    pairs = itertools.zip_longest(there.split("\n"), text.split("\n"), fillvalue="(no line)")
+    for number, (old, new) in enumerate(pairs if is_checked else (), 1):
+        if old != new:
+            print(f"{path}:{number}: it has: {old}\n{path}:{number}: {writer} writes: {new}")
+            return 1
+    return 0
 
 
 class Tally(collections.Counter):
