@@ -10,12 +10,13 @@ import dataclasses
 import pathlib
 import re
 import resource
-import shutil
 import subprocess
 import sys
 import tempfile
 
 import script
+from refusals import make_room, run_check
+from script import read
 
 PAGE = pathlib.Path("crates/page")
 CHANGES = pathlib.Path("tools/page_changes.txt")
@@ -172,36 +173,25 @@ class Room:
     """A copy of the crate, in which changes are tried one after the other; what a change leaves as it is, is kept."""
 
     def __init__(self, folder):
-        self.copy = pathlib.Path(folder) / "crates/page"
-        shutil.copytree(PAGE, self.copy)
-        pathlib.Path(folder, "crates.txt").write_text("page:\n")
-        subprocess.run(["git", "init", "-q", folder], check=True)
+        self.copy = make_room(folder, "page")
         self.seconds = 0
 
-    def check(self):
-        """What a check says, with its CPU seconds added up."""
+    def check(self, texts):
+        """What a check says with these texts. Its CPU seconds are added up."""
         before = resource.getrusage(resource.RUSAGE_CHILDREN)
-        done = subprocess.run(["rt", "check", "--jobs", "1"], cwd=self.copy, capture_output=True, text=True)
+        said = run_check(self.copy, texts).stdout
         after = resource.getrusage(resource.RUSAGE_CHILDREN)
         self.last = after.ru_utime + after.ru_stime - before.ru_utime - before.ru_stime
         self.seconds += self.last
-        return done.stdout + done.stderr
+        return said
 
     def tried(self, change):
         """What a check says of the crate with a change."""
-        names = change.path(), "proofs/Lib.antt", f"proofs/{AGAINST_FILE}.antt"
-        file, modules, against = (self.copy / it for it in names)
-        texts = {it: it.read_text() for it in (file, modules)}
-        try:
-            file.write_text(change.applied(texts[file]))
-            if change.against:
-                against.write_text(AGAINST_HEAD + f"    {change.against}\n")
-                modules.write_text(f"{texts[modules]}pub mod {AGAINST_FILE}\n")
-            return self.check()
-        finally:
-            for it, text in texts.items():
-                it.write_text(text)
-            against.unlink(missing_ok=True)
+        texts = {change.path(): change.applied(read(f"{self.copy}/{change.path()}"))}
+        if change.against:
+            texts[f"proofs/{AGAINST_FILE}.antt"] = AGAINST_HEAD + f"    {change.against}\n"
+            texts["proofs/Lib.antt"] = read(f"{self.copy}/proofs/Lib.antt") + f"pub mod {AGAINST_FILE}\n"
+        return self.check(texts)
 
 
 def is_right(change, kind):
@@ -214,7 +204,7 @@ def try_all(chosen, most):
     names, wrong, tried = constructors(), 0, 0
     with tempfile.TemporaryDirectory() as folder:
         room = Room(folder)
-        if verdict(room.check(), names)[0] != PROVED:
+        if verdict(room.check({}), names)[0] != PROVED:
             print("change-page: crates/page itself is not proved", file=sys.stderr)
             return 1
         for number, change in chosen:

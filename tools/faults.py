@@ -265,8 +265,7 @@ class Trial(script.Trial):
 
 def main(program, library, seconds, seed):
     """Tries all, and returns the status."""
-    folder = tempfile.mkdtemp(prefix="gomod-faults-")
-    try:
+    with tempfile.TemporaryDirectory(prefix="gomod-faults-") as folder:
         for name, place in FOLDERS.items():
             shutil.copytree(place, os.path.join(folder, name))
         many = "".join(f"require local/{it} v1.0.0\n" for it in range(200))
@@ -278,8 +277,6 @@ def main(program, library, seconds, seed):
         trial.try_pairs(lines, float(seconds), int(seed))
         print(f"{single} runs with a fault, {trial.runs - single} with two, {trial.wrong} wrong")
         return 1 if trial.wrong else 0
-    finally:
-        shutil.rmtree(folder)
 
 
 if __name__ == "__main__":

@@ -256,8 +256,7 @@ class Trial(script.Trial):
 
 def main(program):
     """Tries all, and returns the status."""
-    folder = tempfile.mkdtemp(prefix="gomod-limits-")
-    try:
+    with tempfile.TemporaryDirectory(prefix="gomod-limits-") as folder:
         shutil.copytree("crates/run_cases/data/example", os.path.join(folder, "main"))
         os.chdir(os.path.join(folder, "main"))
         trial = Trial(program)
@@ -268,8 +267,6 @@ def main(program):
         trial.try_terminals()
         print(f"{trial.runs} runs under limits, {trial.wrong} wrong")
         return 1 if trial.wrong else 0
-    finally:
-        shutil.rmtree(folder)
 
 
 if __name__ == "__main__":

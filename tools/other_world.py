@@ -339,8 +339,7 @@ def judge_all(folder, is_proved, jobs, logs):
 def run(program, is_proved, jobs):
     """Runs the cases here, and prints what is wrong. Returns how many passed and failed, and of how many commands was
     seen what they open, or None if that can't be seen."""
-    folder = tempfile.mkdtemp(prefix="gomod-other-world-")
-    try:
+    with tempfile.TemporaryDirectory(prefix="gomod-other-world-") as folder:
         os.chmod(folder, 0o711)
         shutil.copy(program, os.path.join(folder, "gomod"))
         os.chmod(os.path.join(folder, "gomod"), 0o755)
@@ -362,8 +361,6 @@ def run(program, is_proved, jobs):
                 print(f"{case.path}:{case.line}: {case.title}, in the other world", *wrong, sep="\n")
             passed, failed = passed + (not wrong), failed + bool(wrong)
         return passed, failed, len(started) if is_seen else None
-    finally:
-        shutil.rmtree(folder)
 
 
 if __name__ == "__main__":

@@ -354,8 +354,7 @@ def run_here(program, is_proved, words):
     """Runs the cases in this world. Returns how many passed and failed, and of how many runs an allocation was
     refused."""
     counts = {True: 0, False: 0}
-    scratch = tempfile.mkdtemp(prefix="gomod-program-")
-    try:
+    with tempfile.TemporaryDirectory(prefix="gomod-program-") as scratch:
         given = scratch, program, is_proved, multiprocessing.get_context("fork").Lock()
         for said in judge_all(chosen_cases(words, greatest_sizes), given):
             if said is not None:
@@ -364,8 +363,6 @@ def run_here(program, is_proved, words):
         if not words and not REFUSE_MEMORY:
             counts[reads_each_input(program)] += 1
         return counts[True], counts[False], Commands.here.refusals if REFUSE_MEMORY else 0
-    finally:
-        shutil.rmtree(scratch)
 
 
 def main(program, *words):

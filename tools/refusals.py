@@ -47,16 +47,26 @@ def changed(room, pairs, is_twin):
     return texts
 
 
+def run_check(room, texts, only=None):
+    """What a check of the crate, or of one function of it, says with these texts, which are then taken back."""
+    kept = {path: read(f"{room}/{path}") if os.path.exists(f"{room}/{path}") else None for path in texts}
+    try:
+        for path, text in texts.items():
+            write(f"{room}/{path}", text)
+        words = ["rt", "check", "--jobs", "1", *(["--only", only] if only else [])]
+        return subprocess.run(words, cwd=room, stdin=subprocess.DEVNULL, stdout=subprocess.PIPE,
+                              stderr=subprocess.STDOUT, errors="replace")
+    finally:
+        for path, text in kept.items():
+            if text is None:
+                os.remove(f"{room}/{path}")
+            else:
+                write(f"{room}/{path}", text)
+
+
 def check(room, texts, only=None):
     """Whether the crate, or one function of it, is proved with these texts, and where it is not: (function, goal)."""
-    kept = {path: read(f"{room}/{path}") for path in texts}
-    for path, text in texts.items():
-        write(f"{room}/{path}", text)
-    words = ["rt", "check", "--jobs", "1", *(["--only", only] if only else [])]
-    ran = subprocess.run(words, cwd=room, stdin=subprocess.DEVNULL, stdout=subprocess.PIPE, stderr=subprocess.STDOUT,
-                         errors="replace")
-    for path, text in kept.items():
-        write(f"{room}/{path}", text)
+    ran = run_check(room, texts, only)
     goals, noted, unproved = [], [], []
     for line in ran.stdout.splitlines():
         answered = re.match(r"\./proofs/(\S+)/\w+\.antt:\d+:\d+: error: `([^`]*)`(.*)", line)
