@@ -1,7 +1,12 @@
 """Reads the sources of the crates for other scripts: what a comment, a `use`, a definition and an item of the code is.
 
-All sources are laid out by `rt fmt`: what begins at a margin ends with the last line before the next such line or, in
-an .antt file, before a blank line that no indented one follows.
+    files, crates, with_below    which sources and crates there are
+    scope_of                     what the names mean that a text imports
+    definitions, plain           what an .antt file declares; its text without comments and strings
+    items_of, functions, code_of    the items of a .rt file and its functions; its text without comments
+
+It relies on the layout of `rt fmt`: an item ends with the first line at its margin that ends with `}` or `;`, or before
+the next item; a definition ends before a blank line that no indented line follows, with comments directly above it.
 """
 import dataclasses
 import functools
@@ -12,12 +17,15 @@ import script
 
 CRATES = pathlib.Path("crates")
 PAGE = "page"  # the crate whose definitions are copies of others
+# a `use` of either language: the words before it, the path, the names in braces, another name of a module
 USE = re.compile(r"(?m)^ *((?:unfoldable |pub |ghost )*)use ([\w.]+?)(?:\.\{([^}]*)\}| as (\w+))?;?$")
-# the begin of what a file of definitions declares
+# the begin of what a file of definitions declares: the words before its name, its kind, the name
 HEAD = re.compile(r"((?:(?:abbrev|unfoldable|opaque|pub) )*)(?:(record|data) )?([^\s:(){}]+)")
+# an item at a margin: its visibility, its kind, its name; what an `impl` is of: a trait, a type
 ITEM = (r"(?m)^{}(?:(pub(?:\([^)]*\))?) )?(?:unsafe |default |const (?=fn)|ghost (?=use))*"
         r"(ghost|fn|struct|enum|trait|impl|type|const|static|mod|use)\b(?: (\w+))?")
 IMPL = re.compile(r"impl(?:<[^{]*?>+)? (?:([^{]+?) for )?&?(?:'\w+ )?([\w:]+)")
+# where a contract begins, with its comments; a clause of one without its margin, and the name of it
 CONTRACT = re.compile(r"(?m)^ +(?://.*\n +)*(?:requires|ensures)\b")
 CLAUSE = re.compile(r"(?m)^(?://.*\n)*(?:requires|ensures)\*? (?:(\w+) )?\{.*(?:\n(?!//|requires|ensures).*)*")
 
