@@ -74,6 +74,7 @@ fn about_file(alloc: Global, text: &mut String, name: &str, bytes: &[u8]) -> Res
     match name {
         "document" | "spans" | "lax" => file_calls::about_text(alloc, text, name, bytes),
         "strict" => main_calls::strict(alloc, text, bytes),
+        "select" => main_calls::select(alloc, text, bytes),
         "hash" => store_calls::hash(alloc, text, bytes),
         _ => Err(CallFault::NoCall),
     }

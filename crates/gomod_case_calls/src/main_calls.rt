@@ -1,11 +1,16 @@
-//! Calls about a main file: what it says, a version in it, and an operation on it.
+//! Calls about a main file: what it says, a version in it, what is selected of its requirements, and an operation on it.
+
+ghost use Rattle.std.specs.Prelude.{IfOk};
+ghost use Rattle.gm_graph_select.specs.Order.{IsAscending};
+ghost use Rattle.gm_name.specs.ModuleVersion.{pair_cmp};
 
 use crate::call_faults::CallFault;
 use crate::file_calls::{push_found, push_main};
 use crate::name_calls::{pair, push_test};
 use gm_file::MainFile;
 use gm_file_edit::{Apply, Op};
-use gm_name::ModVer;
+use gm_graph_select::{selected, sorted_vertices};
+use gm_name::{ModVer, NoMemory};
 use std::alloc::Global;
 
 /// What is asked of a main file.
@@ -17,6 +22,8 @@ enum Question<'a> {
     Replacement(&'a ModVer),
     /// Whether it excludes a version.
     Excluded(&'a ModVer),
+    /// Which of its requirements are selected.
+    Selected,
     /// Its layout after an operation, which is applied to the file and not to its lines alone, as the program does.
     Edited(&'a Op),
 }
@@ -30,11 +37,12 @@ fn ask(
 ) -> Result<(), CallFault> {
     // what owns a main file is proved through all its fields, so this alone does
     let mut file = MainFile::read_bytes(alloc, bytes)?;
-    push_answer(text, &mut file, question)
+    push_answer(alloc, text, &mut file, question)
 }
 
 /// Appends what a main file answers.
 fn push_answer(
+    alloc: Global,
     text: &mut String,
     file: &mut MainFile<'_>,
     question: Question<'_>,
@@ -43,6 +51,7 @@ fn push_answer(
         Question::All => Ok(push_main(text, file)?),
         Question::Replacement(pair) => Ok(push_found(text, file.replacement(pair))?),
         Question::Excluded(pair) => push_test(text, file.excluded(pair)),
+        Question::Selected => push_selected(alloc, text, file),
         Question::Edited(op) => push_layout_after(text, file, op),
     }
 }
@@ -52,6 +61,31 @@ fn push_layout_after(text: &mut String, file: &mut MainFile<'_>, op: &Op) -> Res
     file.apply(op)?;
     let layout = file.doc().format()?;
     Ok(text.push_str(layout.as_str())?)
+}
+
+/// These modules in ascending order, each once.
+fn in_order(alloc: Global, modules: &[ModVer]) -> Result<Vec<ModVer>, NoMemory>
+    ensures { IfOk result (λ sorted. IsAscending pair_cmp sorted.items) }
+{
+    let mut copies = Vec::new(alloc);
+    for module in modules {
+        copies.push(module.copy(alloc)?)?;
+    }
+    Ok(sorted_vertices(copies))
+}
+
+/// Appends the modules that are selected if edges lead to those that a main file requires, and to no others.
+fn push_selected(alloc: Global, text: &mut String, file: &MainFile<'_>) -> Result<(), CallFault> {
+    let ends = in_order(alloc, file.requirements())?;
+    for module in selected(file.module(), &ends) {
+        writeln!(text, "{module}")?;
+    }
+    Ok(())
+}
+
+/// Appends which requirements of a main file are selected.
+pub(crate) fn select(alloc: Global, text: &mut String, bytes: &[u8]) -> Result<(), CallFault> {
+    ask(alloc, text, bytes, Question::Selected)
 }
 
 /// Appends what a file says as a main file.
