@@ -24,6 +24,7 @@ PASTED = r"README\.md|docs/use/\w+\.md"
 # The section whose program is compiled, and how many lines that may have.
 PROGRAM_SECTION = r"(?ms)^## A whole program\n.*?(?=^## |\Z)"
 PROGRAM_LINES = 40
+PROGRAM_SOURCE = "crates/library_example/src/main.rt"
 
 
 def blocks(lines):
@@ -176,12 +177,14 @@ class Documents:
             self.tally.tell("lines without a prompt", not re.search(r"\S\s+# ", line), message)
 
     def compare_code(self, name, text):
-        """Whether each piece of code, but for the whole program, is in a source of library_example."""
-        sources = "\n".join(map(read, glob.glob("crates/library_example/src/*.rt")))
+        """Whether each piece of code is in a source of a crate, and the whole program that of library_example."""
+        sources = {file: read(file) for file in glob.glob("crates/*/src/**/*.rt", recursive=True)}
         for found in re.finditer(r"(?ms)^```rust\n(.*?)^```$", text):
+            is_program = found[1].startswith("//!")
+            is_right = any(found[1] in source for file, source in sources.items() if is_program == (file == PROGRAM_SOURCE))
             number = text.count("\n", 0, found.start()) + 1
-            message = f"{name}:{number}: this code is in no source of crates/library_example"
-            self.tally.tell("pieces of code", found[1] in sources or found[1].startswith("//!"), message)
+            place = PROGRAM_SOURCE if is_program else "a source of a crate"
+            self.tally.tell("pieces of code", is_right, f"{name}:{number}: this code is not in {place}")
 
     def follow_links(self, name, text):
         """Whether each link to a file, or to a heading of one, leads there."""
