@@ -200,7 +200,7 @@ class Sources:
             "libraries": sum(f"crates/{it}/src/lib.rt" in self.files for it in self.crates),
             "tests": len(self.tests),
             "commands": sum(("gomod_words", "Command") in it for it in self.items.values()),
-            "operations": sum(("gm_file_edit", "Name") in it for it in self.items.values()),
+            "operations": sum(("gm_operation", "OperationKind") in it for it in self.items.values()),
         }
 
 
