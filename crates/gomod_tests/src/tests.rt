@@ -1,16 +1,13 @@
-//! Tests of readers, writers, stores and documents. The worked examples of the program are cases of the crate
+//! Tests of readers, writers, stores, documents and graphs. The worked examples of the program are cases of the crate
 //! `run_cases`.
 //!
 //! The tests run with ample memory. A test that runs out of it anyway ends, and says that this is the reason.
 
-mod caching;
 mod documents;
-mod loading;
+mod graphs;
 mod opened_files;
-mod projects;
 mod readers;
 mod reports;
-mod rounds;
 mod sinks;
 mod stores;
 

@@ -3,7 +3,7 @@ use Rattle.gm_store.specs.Asked.{name_of}
 use Rattle.gm_graph.proofs.Named.{lender_still}
 use Rattle.gm_graph.specs.Turns.{turn}
 use Rattle.gm_graph.specs.declared.cache.depth.Depth.TheVariants.{Deep}
-use Rattle.gomod_tests.proofs.tests.caching.lent_count.Goals as goal
+use Rattle.gomod_tests.proofs.tests.graphs.lent_count.Goals as goal
 
 pub returns : goal.returns
 returns g c =
