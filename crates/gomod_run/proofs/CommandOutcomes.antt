@@ -233,5 +233,6 @@ module _ (query : Query) (file : List ℕ) (sums : Option (List ℕ)) (main : Ma
   answered result loaded outcome ok is grown told =
       let found : IsLoaded (run_of main table new.asked) (names_in new.asked) loaded = rw ok at is in
       still outcome (rw ok at grown)
-      (⊎_map (by_faults loaded.faults (record { read = read; settled = found.settled; faults_are = found.faults; none_failed = refl }) (prints_for query outcome found))
+      (⊎_map (by_faults loaded.faults (record { read = read; settled = found.settled; faults_are = found.faults; none_failed = refl })
+      (prints_for query outcome found))
       (λ memory. memory) told)

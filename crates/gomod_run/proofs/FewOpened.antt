@@ -102,7 +102,8 @@ module _ (run : Run) (few : IsFew run) where
 
   leaving : (steps : List Step) → ((edges : List Edge) → AreSame (among edges) (Leaves steps) → ⊥) → ⊥
   leaving [] none = none [] (λ s y. ((λ there. absurd (no_member (edge s y) there)), (λ leaves. absurd (no_member s leaves.0))))
-  leaving (t ∷ steps) none = leaving steps (λ edges same. required_listed t (λ ys are. none (map (edge t) ys ++ edges) (leaving_more t steps ys edges are same)))
+  leaving (t ∷ steps) none =
+      leaving steps (λ edges same. required_listed t (λ ys are. none (map (edge t) ys ++ edges) (leaving_more t steps ys edges are same)))
 
   module_among : (all : List ModuleVersion) (x : ModuleVersion) → Contains (FromMain ∷ map Of all) (Of x) → Contains all x
   module_among all x there = elim (member_cases FromMain (Of x) (map Of all) there) [

@@ -60,7 +60,8 @@ unfetchable_run {path} {all} {old} first isnt told =
 
 module _ {path : List ℕ} {all : Bool} {old new : StoreState} {outcome : Outcome} (first : old.asked ≡ []) where
   -- it was not answered
-  pub unlisted_run : is_fetchable path ≡ true → IsRefusedAt (list_file path) old new outcome ⊎ IsUnanswered old new outcome → IsVersionsRun path all old new outcome
+  pub unlisted_run : is_fetchable path ≡ true → IsRefusedAt (list_file path) old new outcome ⊎ IsUnanswered old new outcome
+      → IsVersionsRun path all old new outcome
   unlisted_run fetchable = by
     where
       unanswered : new.asked ≡ old.asked → answer_in new.asked (list_file path) ≡ None
@@ -71,7 +72,8 @@ module _ {path : List ℕ} {all : Bool} {old new : StoreState} {outcome : Outcom
 
       by : IsRefusedAt (list_file path) old new outcome ⊎ IsUnanswered old new outcome → IsVersionsRun path all old new outcome
       by (inl (told, same, grown)) =
-          broken_run (list_file path) grown (none_in_turn (VersionsNeed path all) new.asked (same ∙ first)) (inl (fetchable, refl)) (unanswered same) (none same) told
+          broken_run (list_file path) grown (none_in_turn (VersionsNeed path all) new.asked (same ∙ first)) (inl (fetchable, refl))
+          (unanswered same) (none same) told
       by (inr (memory, same, still)) = memory_run still (none_in_turn (VersionsNeed path all) new.asked (same ∙ first)) (none same) memory
 
 -- the last answer is that to the file that was asked for
@@ -92,7 +94,8 @@ list_in_turn : {path : List ℕ} {all : Bool} {asked : Pairs} {reply : Reply} �
 list_in_turn {path} {all} {asked} {reply} fetchable is =
     subst (AskedInTurn (VersionsNeed path all)) (sym is) (more {pairs = []} {name = list_file path} reply nothing (inl (fetchable, refl)) refl)
 
-list_told : {path : List ℕ} {asked : Pairs} {reply : Reply} (rest : Pairs) → asked ≡ (list_file path, reply) ∷ rest → answer_in asked (list_file path) ≡ Some reply
+list_told : {path : List ℕ} {asked : Pairs} {reply : Reply} (rest : Pairs) → asked ≡ (list_file path, reply) ∷ rest
+    → answer_in asked (list_file path) ≡ Some reply
 list_told {path} {asked} {reply} rest begins = ap (λ (a : Pairs). answer_in a (list_file path)) begins ∙ list_answer path reply rest
 
 -- the answer is no list
@@ -141,7 +144,8 @@ module _ {path : List ℕ} {first mid : StoreState} (new : StoreState) {versions
   none rest begins other = unrefused path is.list (answer_in new.asked) other is.answered.fetchable (list_told rest begins)
 
   -- it was not answered
-  pub file_unanswered : {outcome : Outcome} → IsRefusedAt (mod_file path latest) mid new outcome ⊎ IsUnanswered mid new outcome → IsVersionsRun path false first new outcome
+  pub file_unanswered : {outcome : Outcome} → IsRefusedAt (mod_file path latest) mid new outcome ⊎ IsUnanswered mid new outcome
+      → IsVersionsRun path false first new outcome
   file_unanswered (inl (told, same, grown)) =
       let alone = same ∙ is.answered.alone in
       broken_run (mod_file path latest) (grown ∙ ap (λ (names : List Name). names ++ mod_file path latest ∷ []) is.answered.still)
