@@ -1,25 +1,15 @@
 //! Whether the commands of a case have the results that it states.
 
-use crate::memory::InMemory;
-use crate::parsing::{ParsedRun, parsed_runs};
 use crate::sweeping::sweep;
-use crate::workspace::{Real, Workspace, are_opened, is_each_opened_once};
+use crate::workspace::Workspace;
 use gomod_case_calls::call;
 use gomod_case_files::{Case, Run, STDIN, View, lay_files, make_folder, texts_of};
-use gomod_case_runs::{Count, Differences, KnownInput, Outcome, Room};
-use std::alloc::{AllocError, Global};
+use gomod_case_runs::{
+    Count, Differences, KnownInput, ParsedRun, check_found, check_result, check_text, is_wanted,
+    parsed_runs, report_difference, room_for,
+};
+use std::alloc::AllocError;
 use std::{fs, io};
-
-/// How many bytes beyond the expected ones an output takes.
-const SPARE: usize = 4_096;
-
-/// The room of the outputs that a command is run with.
-pub(crate) fn room_for(run: &Run<'_>) -> Room {
-    Room {
-        out: run.out.len().saturating_add(SPARE),
-        report: run.report.len().saturating_add(SPARE),
-    }
-}
 
 /// Checks the commands of a case, reports how their results differ from those that the case states, and counts the
 /// runs.
@@ -136,16 +126,6 @@ fn check_call(
     Ok(())
 }
 
-/// Checks what a call gave.
-fn check_text(run: &Run<'_>, text: &str, differences: &mut Differences) {
-    if text.as_bytes() != run.out.as_slice() {
-        differences.command(run, "as a call");
-        differences.line("  got:");
-        differences.text(">", text.as_bytes());
-        differences.wanted(run);
-    }
-}
-
 /// Checks a command line over real files. One that takes standard input runs once more, over short reads.
 fn check_real(
     workspace: &Workspace<'_>,
@@ -184,34 +164,6 @@ fn check_short_reads(
     Ok(())
 }
 
-/// Checks the result of a command line over real files.
-fn check_result(
-    alloc: Global,
-    run: &Run<'_>,
-    real: &Real,
-    differences: &mut Differences,
-) -> Result<(), AllocError> {
-    if !is_wanted(run, &real.outcome) {
-        differences.command(run, "over real files");
-        report_difference(run, &real.outcome, differences);
-        return Ok(());
-    }
-    if !opens_right(alloc, run, real.opened.as_slice())? {
-        differences.command(run, "the files that it opens");
-        differences.line("  got:");
-        differences.opened(real.opened.as_slice());
-    }
-    Ok(())
-}
-
-/// Whether a command opened the files that the case lists, or, if it lists none, no file twice.
-fn opens_right(alloc: Global, run: &Run<'_>, opened: &[String]) -> Result<bool, AllocError> {
-    match &run.opened {
-        Some(names) => are_opened(alloc, opened, names.as_slice()),
-        None => is_each_opened_once(alloc, opened),
-    }
-}
-
 /// Checks a command line over a store in memory. If the result differs there, or the command can't be run in memory,
 /// the case has to say so.
 fn check_in_memory(
@@ -224,51 +176,4 @@ fn check_in_memory(
         .found(parsed_run, room_for(parsed_run.run))?;
     check_found(parsed_run, &found, differences);
     Ok(())
-}
-
-/// Whether a command has the stated result in memory, or is a usage error or a request for help.
-fn is_needless(parsed_run: &ParsedRun<'_>, found: &Option<InMemory>) -> bool {
-    match found {
-        Some(found) => is_wanted(parsed_run.run, &found.outcome),
-        None => parsed_run.parsed.is_none(),
-    }
-}
-
-/// Checks the result of a command line over a store in memory, if it can be run there.
-fn check_found(
-    parsed_run: &ParsedRun<'_>,
-    found: &Option<InMemory>,
-    differences: &mut Differences,
-) {
-    let run = parsed_run.run;
-    let is_needless = is_needless(parsed_run, found);
-    if run.is_over_files_only && is_needless {
-        differences.command(run, "in memory");
-        differences.line("  its line % files is not needed");
-    }
-    if !run.is_over_files_only && !is_needless {
-        differences.command(run, "in memory");
-        report_in_memory(run, found, differences);
-    }
-}
-
-/// Reports that a command has another result in memory, or none.
-fn report_in_memory(run: &Run<'_>, found: &Option<InMemory>, differences: &mut Differences) {
-    match found {
-        Some(found) => report_difference(run, &found.outcome, differences),
-        None => differences.line("  has no form in memory: say so by a line % files"),
-    }
-}
-
-/// Reports the result that a command had, and the one that it should have.
-fn report_difference(run: &Run<'_>, outcome: &Outcome, differences: &mut Differences) {
-    differences.outcome(outcome);
-    differences.wanted(run);
-}
-
-/// Whether a command had the result that the case states.
-pub(crate) fn is_wanted(run: &Run<'_>, outcome: &Outcome) -> bool {
-    outcome.out.bytes() == run.out.as_slice()
-        && outcome.report.bytes() == run.report.as_slice()
-        && outcome.status == run.wanted_status()
 }

@@ -6,7 +6,6 @@ mod checking;
 mod cutting;
 mod memory;
 mod outputs;
-mod parsing;
 mod program;
 mod refusals;
 mod sweeping;

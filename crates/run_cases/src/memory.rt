@@ -4,20 +4,12 @@ ghost use Rattle.std.specs.Prelude.{◌≡◌, [], None, false, true};
 ghost use Rattle.std.specs.Option.{option_map};
 ghost use Rattle.gomod_run.specs.Runs.{is_query};
 
-use crate::parsing::{Parsed, ParsedRun};
 use gm_name::ModPath;
-use gm_store::{FileName, Files, MemoryFiles, ProxyList, copy_name};
+use gm_store::{FileName, Files, MemoryFiles, ProxyList};
 use gomod_case_files::{STDIN, View};
-use gomod_case_runs::{Count, Folders, Outcome, Room};
+use gomod_case_runs::{Count, Folders, InMemory, Outcome, Parsed, ParsedRun, Room, asked_of};
 use gomod_run::{Command, run};
 use std::alloc::{AllocError, Global};
-
-/// The result of a command line over a store in memory, and the files that the store was asked for, in order.
-#[derive(Drop)]
-pub(crate) struct InMemory {
-    pub(crate) outcome: Outcome,
-    pub(crate) asked: Vec<FileName>,
-}
 
 /// The files of a case in memory.
 #[derive(Clone, Copy)]
@@ -229,18 +221,4 @@ impl Memory<'_> {
             status: status.code(),
         })
     }
-}
-
-/// The files that a store was asked for.
-fn asked_of<F: Files>(alloc: Global, files: &F) -> Result<Vec<FileName>, AllocError> {
-    let mut asked = Vec::new(alloc);
-    for i in 0..files.count() {
-        push_copy(alloc, &mut asked, files.name(i))?;
-    }
-    Ok(asked)
-}
-
-/// Adds a copy of a name.
-fn push_copy(alloc: Global, names: &mut Vec<FileName>, name: &FileName) -> Result<(), AllocError> {
-    Ok(names.push(copy_name(alloc, name)?)?)
 }

@@ -1,54 +1,11 @@
 //! Commands over outputs with room for exactly what they write, and for fewer bytes.
 
-use crate::checking::is_wanted;
-use crate::cutting::{begins_line, is_cut, is_short};
-use crate::parsing::ParsedRun;
 use crate::workspace::Workspace;
-use gomod_case_files::Run;
-use gomod_case_runs::{DEVICE, Differences, Outcome, Room};
+use gomod_case_runs::{
+    DEVICE, Differences, Outcome, Output, ParsedRun, Room, begins_line, is_cut, is_short,
+    is_wanted, report_full,
+};
 use std::alloc::AllocError;
-
-/// One of the two outputs of a command.
-#[derive(Clone, Copy)]
-enum Output {
-    /// Standard output.
-    Out,
-    /// Standard error.
-    Report,
-}
-
-impl Output {
-    /// What a command is expected to write to it.
-    fn wanted<'a>(self, run: &'a Run<'_>) -> &'a [u8] {
-        match self {
-            Output::Out => run.out.as_slice(),
-            Output::Report => run.report.as_slice(),
-        }
-    }
-
-    /// What a command wrote to it.
-    fn written<'a>(self, outcome: &'a Outcome) -> &'a [u8] {
-        match self {
-            Output::Out => outcome.out.bytes(),
-            Output::Report => outcome.report.bytes(),
-        }
-    }
-
-    /// Room for this many bytes in it, and for all that a command writes to the other.
-    fn room(self, run: &Run<'_>, length: usize) -> Room {
-        let (out, report) = (run.out.len(), run.report.len());
-        match self {
-            Output::Out => Room {
-                out: length,
-                report,
-            },
-            Output::Report => Room {
-                out,
-                report: length,
-            },
-        }
-    }
-}
 
 /// Runs a command over outputs with room for exactly what it writes, and for fewer bytes. With exactly that room it
 /// must have the result of the case; with less it must write as much as there is room for, and end with status 3.
@@ -155,11 +112,4 @@ fn outcome_within(
         Some(outcome) => Ok(outcome),
         None => workspace.result(parsed_run.run, room),
     }
-}
-
-/// Reports the result that a command had over an output that was full.
-fn report_full(run: &Run<'_>, outcome: &Outcome, length: usize, differences: &mut Differences) {
-    differences.command(run, "over an output that fails");
-    differences.number("  after so many bytes", length);
-    differences.outcome(outcome);
 }

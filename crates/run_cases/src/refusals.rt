@@ -1,13 +1,12 @@
 //! Command lines over files that can't be opened, and over a store that fails at a file.
 
-use crate::checking::room_for;
-use crate::memory::InMemory;
-use crate::parsing::Parsed;
-use crate::workspace::{Real, Workspace};
+use crate::workspace::Workspace;
 use gm_store::FileName;
 use gomod_case_files::Run;
-use gomod_case_runs::{Differences, Room};
-use std::alloc::{AllocError, Global};
+use gomod_case_runs::{
+    Differences, Parsed, Room, fails_after, report_failing, report_of, report_of_device, room_for,
+};
+use std::alloc::AllocError;
 
 /// The outputs of a command that writes a line.
 const A_LINE: Room = Room {
@@ -100,40 +99,6 @@ fn check_failing(
     Ok(())
 }
 
-/// The report of a command that can't open a file: one that the store was asked for, or one that its words name.
-fn report_of(alloc: Global, asked: Option<&FileName>, name: &str) -> Result<String, AllocError> {
-    match asked {
-        Some(asked) => report_of_device(alloc, asked),
-        None => format!(in alloc; "gomod: cannot read {name}\n"),
-    }
-}
-
-/// The report of a command whose store fails at a file.
-fn report_of_device(alloc: Global, asked: &FileName) -> Result<String, AllocError> {
-    let mut report = String::from_str(alloc, "gomod: device at ")?;
-    push_label(&mut report, asked)?;
-    report.push('\n')?;
-    Ok(report)
-}
-
-/// Appends the name of a file in a report.
-fn push_label(report: &mut String, name: &FileName) -> Result<(), AllocError> {
-    match name {
-        FileName::Mod(path, version) => write!(report, "{path}@{version}"),
-        FileName::Folder(folder) => report.push_str(folder.as_str()),
-        FileName::List(path) => write!(report, "{path} list"),
-    }
-}
-
-/// Reports the result that a command had when a file couldn't be opened.
-fn report_failing(run: &Run<'_>, failing: &Real, report: &str, differences: &mut Differences) {
-    differences.command(run, "where its last file can't be opened");
-    differences.opened(failing.opened.as_slice());
-    differences.outcome(&failing.outcome);
-    differences.line("  wanted:");
-    differences.text("!", report.as_bytes());
-}
-
 /// Makes the store fail at each file that a command asks for, one at a time. The command must write nothing, report
 /// that file, and ask for the files before it and no other.
 fn sweep_refusals(
@@ -174,12 +139,4 @@ fn check_refused(
         differences.text("!", report.as_bytes());
     }
     Ok(())
-}
-
-/// Whether a command failed with this report, after it asked for these files.
-fn fails_after(found: &Option<InMemory>, report: &str, before: &[FileName]) -> bool {
-    match found {
-        Some(found) => found.outcome.is_failure(report) && found.asked.as_slice() == before,
-        None => false,
-    }
 }

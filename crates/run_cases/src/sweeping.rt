@@ -1,12 +1,11 @@
 //! Commands over an output that is full, a file that can't be opened, a store that fails, or a file that is cut off.
 
-use crate::cutting::{CutFile, begins_line, check_cut, is_cut, is_short};
+use crate::cutting::check_cut;
 use crate::outputs::sweep_outputs;
-use crate::parsing::ParsedRun;
 use crate::refusals::sweep_asks;
 use crate::workspace::Workspace;
 use gomod_case_files::{CaseFile, Content, STDIN};
-use gomod_case_runs::{Differences, KnownInput};
+use gomod_case_runs::{CutFile, Differences, KnownInput, ParsedRun, begins_line, is_cut, is_short};
 use std::alloc::AllocError;
 use std::{fs, io};
 

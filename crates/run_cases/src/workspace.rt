@@ -1,8 +1,8 @@
 //! Commands over real files.
 
 use crate::memory::Memory;
-use gomod_case_files::{Case, Run, View, tidied};
-use gomod_case_runs::{CaseRuntime, Count, KnownInput, Log, Outcome, Room};
+use gomod_case_files::{Case, Run, View};
+use gomod_case_runs::{CaseRuntime, Count, KnownInput, Log, Outcome, Real, Room};
 use gomod_run::ending_of;
 use std::alloc::{AllocError, Global};
 
@@ -14,16 +14,6 @@ pub(crate) struct Workspace<'a> {
     pub(crate) case: &'a Case<'a>,
     pub(crate) input: KnownInput<'a>,
     pub(crate) count: &'a Count,
-}
-
-/// The result of a command over real files, and what it read.
-#[derive(Drop)]
-pub(crate) struct Real {
-    pub(crate) outcome: Outcome,
-    /// The names of the files that it opened, in order.
-    pub(crate) opened: Vec<String>,
-    /// Whether it took standard input.
-    pub(crate) takes_input: bool,
 }
 
 impl<'a> Workspace<'a> {
@@ -109,39 +99,4 @@ impl<'a> Workspace<'a> {
             status,
         })
     }
-}
-
-/// Whether two names are of the same place.
-fn is_same_place(alloc: Global, one: &str, other: &str) -> Result<bool, AllocError> {
-    let one = tidied(alloc, one)?;
-    let other = tidied(alloc, other)?;
-    Ok(one == other)
-}
-
-/// Whether exactly these files were opened, in this order.
-pub(crate) fn are_opened(
-    alloc: Global,
-    opened: &[String],
-    wanted: &[&str],
-) -> Result<bool, AllocError> {
-    if opened.len() != wanted.len() {
-        return Ok(false);
-    }
-    for (one, other) in opened.iter().zip(wanted) {
-        if !is_same_place(alloc, one.as_str(), other)? {
-            return Ok(false);
-        }
-    }
-    Ok(true)
-}
-
-/// Whether no file was opened twice.
-pub(crate) fn is_each_opened_once(alloc: Global, opened: &[String]) -> Result<bool, AllocError> {
-    let mut names = Vec::new(alloc);
-    for name in opened {
-        names.push(name.as_str())?;
-    }
-    names.sort_unstable();
-    names.dedup();
-    Ok(names.len() == opened.len())
 }

@@ -1,15 +1,17 @@
 //! What command lines ask the program for.
 
 use gomod_case_files::{Case, Run, STDIN, texts_of, tidied};
-use gomod_run::{Command, Places, UsageFault, read_words};
+use gomod_words::{Command, Places, UsageFault, read_words};
 use std::alloc::{AllocError, Global};
 
 /// What a command line asks for, and the files that it names: the main file and the go.sum by the shortest spelling of
 /// their places, or by the name of a case's standard input.
 #[derive(Drop)]
-pub(crate) struct Parsed {
-    pub(crate) command: Command,
-    pub(crate) places: Places,
+pub struct Parsed {
+    /// The command.
+    pub command: Command,
+    /// The files that it names, and its proxy folders.
+    pub places: Places,
     /// Whether the command reads standard input.
     takes_input: bool,
 }
@@ -25,7 +27,7 @@ impl Parsed {
     }
 
     /// How many proxy folders it names.
-    pub(crate) fn folder_count(&self) -> usize {
+    pub fn folder_count(&self) -> usize {
         match &self.places.proxy {
             Some(list) => list.folders.len(),
             None => 0,
@@ -33,8 +35,8 @@ impl Parsed {
     }
 }
 
-/// Whether a command reads standard input: `versions` does so without proxy folders, and any command if it is one of the
-/// files that are named.
+/// Whether a command reads standard input: `versions` does so without proxy folders, and any command if it is one of
+/// the files that are named.
 fn takes_input(command: &Command, places: &Places) -> bool {
     match command {
         Command::Versions { .. } => places.proxy.is_none(),
@@ -90,15 +92,16 @@ fn tidied_place(alloc: Global, place: &str) -> Result<String, AllocError> {
 
 /// A command of a case, and what it asks the program for.
 #[derive(Drop)]
-pub(crate) struct ParsedRun<'a> {
-    pub(crate) run: &'a Run<'a>,
+pub struct ParsedRun<'a> {
+    /// The command, with the results that the case states.
+    pub run: &'a Run<'a>,
     /// None if the command is a call, a usage error or a request for help. A word that is not UTF-8 is a usage error.
-    pub(crate) parsed: Option<Parsed>,
+    pub parsed: Option<Parsed>,
 }
 
 impl<'a> ParsedRun<'a> {
     /// Whether the command reads standard input.
-    pub(crate) fn takes_input(&self) -> bool {
+    pub fn takes_input(&self) -> bool {
         match &self.parsed {
             Some(parsed) => parsed.takes_input,
             None => false,
@@ -106,7 +109,7 @@ impl<'a> ParsedRun<'a> {
     }
 
     /// Whether the command reads the file in this place as a main file.
-    pub(crate) fn reads_main(&self, place: &str) -> bool {
+    pub fn reads_main(&self, place: &str) -> bool {
         match &self.parsed {
             Some(parsed) => {
                 !matches!(parsed.command, Command::Versions { .. })
@@ -129,7 +132,7 @@ fn parsed_words(alloc: Global, run: &Run<'_>) -> Result<Option<Parsed>, AllocErr
 }
 
 /// The commands of a case, and what each of them asks for.
-pub(crate) fn parsed_runs<'a>(
+pub fn parsed_runs<'a>(
     alloc: Global,
     case: &'a Case<'a>,
 ) -> Result<Vec<ParsedRun<'a>>, AllocError> {
