@@ -9,7 +9,7 @@ from sources import CRATES, code_of, files, functions
 READING = """
         gm_graph/src/loading.rt load visit_all
         gm_graph/src/visiting.rt visit
-        gm_graph/src/cache.rt visit known_at read_file read_reply
+        gm_graph/src/cache.rt visit known_at read_file
         gm_graph/src/cache/reading.rt read_answer
         gm_file/src/dep_file.rt read_listed
         gm_file/src/dep_lines.rt read_all read_simple_lines read_simple
@@ -24,10 +24,10 @@ WALKS = [
         gomod_run/src/queries/answering.rt answer
         gm_graph/src/loading.rt load
     """),
-    ("list, from `load` to a requirement that is known", 14, f"""{READING} push_known
+    ("list, from `load` to a requirement that is known", 13, f"""{READING} push_known
         gm_name_table/src/module_list.rt push_known
     """),
-    ("list, from `load` to a new requirement", 14, f"{READING} push gm_name_table/src/module_list.rt push"),
+    ("list, from `load` to a new requirement", 13, f"{READING} push gm_name_table/src/module_list.rt push"),
     ("edit, to the first change of a line", 12, f"""{BEGIN} over_memory
         gomod_run/src/running.rt run outcome
         gomod_run/src/edit.rt edit_outcome apply_text

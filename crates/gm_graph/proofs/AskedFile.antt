@@ -1,5 +1,5 @@
 -- What is asked for is the file of a vertex.
-use Rattle.std.proofs.Common.{◌≡◌, ◌∙◌, List, [], ◌∷◌, Option, None, Some, Result, Ok, Err, ap, ap₂, refl, sym, inl, inr}
+use Rattle.std.proofs.Common.{◌≡◌, ◌∙◌, List, [], ◌∷◌, Option, None, Some, Result, Ok, Err, ap, refl, sym, inl, inr}
 use Rattle.std.specs.Prelude.{IsErrAnd, IsSome}
 use Rattle.gm_name.specs.ModuleVersion.{ModuleVersion}
 use Rattle.gm_store.specs.Asked.{Name, Reply, answer_in}
@@ -77,9 +77,9 @@ module _ {A : Name → Type 0} {before after : Name → Option Reply → Type 0}
 
 -- It is that of an equal vertex's file.
 pub asks_same : {before after : Name → Option Reply → Type 0} {old new : StoreState} {failed names : List Name}
-    (main main' : Main) (x x' : ModuleVersion) → main ≡ main' → x ≡ x' → failed ≡ names
-    → AsksOne (IsAskableFile main x) before after old new failed → AsksOne (IsAskableFile main' x') before after old new names
-asks_same main main' x x' same is e one = asks_by e (asks_wider (λ n file. (file.0 ∙ ap₂ file_of same is, file.1)) one)
+    (main : Main) (x y : ModuleVersion) → x ≡ y → failed ≡ names
+    → AsksOne (IsAskableFile main x) before after old new failed → AsksOne (IsAskableFile main y) before after old new names
+asks_same main x y is e one = asks_by e (asks_wider (λ n file. (file.0 ∙ ap (file_of main) is, file.1)) one)
 
 -- ---- what it means for a vertex
 

@@ -29,12 +29,6 @@ module _ (old mid new : Cache) (lent : LentSame old mid) (numbered_by : BeginsWi
   }
 
   module _ (earlier pairs : List (Name × Reply)) where
-    stays_both : KeepsSayings (run_in old earlier) (run_in mid pairs) → KeepsSayings (run_in old earlier) (run_in new pairs)
-    stays_both stays = rw (holds.main, holds.sums) stays
-
-    sound_both : KeepsSound old (run_in old earlier) mid (run_in mid pairs) → KeepsSound old (run_in old earlier) new (run_in new pairs)
-    sound_both keeps = rw (same_run mid new pairs holds.main holds.sums) (λ x place at. holds.sound (run_in mid pairs) x place (keeps x place at))
-
     -- What a visit gets of a cache is what it gets of one that holds the same.
     pub visit_still : (x : ModuleVersion) (d : Depth) (got : Visit) → IsVisit mid (run_in mid pairs) x d got → IsVisit new (run_in new pairs) x d got
     visit_still x d got is =
@@ -54,9 +48,9 @@ module _ (old mid new : Cache) (lent : LentSame old mid) (numbered_by : BeginsWi
         record {
           knows = knows_still pairs holds knows;
           continues = continues_both;
-          stays = stays_both stays;
+          stays = rw (holds.main, holds.sums) stays;
           distinct = distinct;
-          sound = sound_both keeps;
+          sound = rw (same_run mid new pairs holds.main holds.sums) (λ x place at. holds.sound (run_in mid pairs) x place (keeps x place at));
           count = omega (arith, files, count);
           turns = rw (lent.turns, same) at turns;
           visit_is = rw same at is;

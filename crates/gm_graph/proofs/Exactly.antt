@@ -1,5 +1,5 @@
 -- Exactly the needed names were asked for, and at most 65,536 vertices are opened.
-use Rattle.std.proofs.Common.{◌≡◌, ◌∙◌, ◌≤◌, true, List, [], ◌∷◌, ◌++◌, length, Option, IsSome, Contains, ap, sym, refl, subst, inl, inr, arith, Result}
+use Rattle.std.proofs.Common.{◌≡◌, ◌∙◌, ◌≤◌, true, List, [], ◌∷◌, ◌++◌, length, Option, IsSome, Contains, ap, sym, refl, inl, inr, arith, Result}
 use Rattle.std.specs.Prelude.{is_some}
 use Rattle.std.specs.List.{IsDistinct}
 use Rattle.std.proofs.lemmas.Bool.{false≢true}
@@ -7,10 +7,11 @@ use Rattle.std.proofs.lemmas.Map.Keys.{IsDistinct-push}
 use Rattle.std.proofs.lemmas.Map.Views.{Contains-from_any}
 use Rattle.std.proofs.lemmas.Map.Made.{length-le_from_is_member, is_member-Decides}
 use Rattle.std.proofs.lemmas.List.Elements.{Contains-push_cases}
+use Rattle.std.proofs.lemmas.List.{map_push}
 use Rattle.gm_name.specs.ModuleVersion.{ModuleVersion}
 use Rattle.gm_name.specs.Private.ModuleVersion.{pair_eq-Decides, pairs-equivalence}
 use Rattle.gm_file.specs.Fields.{Dependency}
-use Rattle.gm_file.specs.Main.{Main, is_pruned_by}
+use Rattle.gm_file.specs.Main.{Main}
 use Rattle.gm_store.specs.Asked.{Name, Reply, names_in, same_name}
 use Rattle.gm_store.proofs.NameOrder.{names_equal}
 use Rattle.gm_store_sums.specs.Sums.{Sums}
@@ -19,21 +20,19 @@ use Rattle.gm_graph.specs.declared.cache.depth.Turn.{Turn}
 use Rattle.gm_graph.specs.declared.cache.depth.Depth.TheVariants.{Deep}
 use Rattle.gm_graph.specs.Reading.{file_of, is_askable}
 use Rattle.gm_graph.specs.Run.{AreOpened, AreTurns, AskedInTurn, FileSays, IsNeeded, IsOpened, IsRead, IsSettled, LoadingNeeds, Run, Says, answered, faulty, more, nothing, run_of, sound, unaskable, wrong_path}
-use Rattle.gm_graph.specs.Turns.{turn}
-use Rattle.gm_graph.specs.Private.Turns.{AreTurnsOf, depth_by}
+use Rattle.gm_graph.specs.Private.Turns.{AreTurnsOf}
 use Rattle.gm_graph.proofs.RunLemmas.{answered_any, keeps_agree, names_equivalence, needed as needed_too}
 use Rattle.gm_graph.proofs.Rounds.{takes_first}
 use Rattle.gm_graph.proofs.Sayings.{says_more}
 
-pub names_push : (pairs : List (Name × Reply)) (n : Name) (r : Reply) → names_in (pairs ++ (n, r) ∷ []) ≡ names_in pairs ++ n ∷ []
-names_push [] n r = refl
-names_push (pair ∷ pairs) n r = ap (λ (ns : List Name). pair.0 ∷ ns) (names_push pairs n r)
+names_push : (pairs : List (Name × Reply)) (n : Name) (r : Reply) → names_in (pairs ++ (n, r) ∷ []) ≡ names_in pairs ++ n ∷ []
+names_push pairs n r = map_push (λ (pair : Name × Reply). pair.0) pairs (n, r)
 
 asked_once : (needs : (Name → Option Reply) → Name → Type 0) {pairs : List (Name × Reply)} → AskedInTurn needs pairs → IsDistinct same_name (names_in pairs)
 unfolding IsDistinct
 asked_once needs nothing = tt
 asked_once needs (more {pairs} {name} reply asks needed unasked) =
-    subst (λ (ns : List Name). IsDistinct same_name ns) (sym (names_push pairs name reply))
+    rw (names_push pairs name reply)
     (IsDistinct-push names_equivalence (names_in pairs) name (asked_once needs asks) (sym (answered_any pairs name) ∙ ap is_some unasked))
 
 asked_only : (main : Main) (sums : Option Sums) {pairs : List (Name × Reply)}
@@ -44,16 +43,15 @@ asked_only main sums (more {pairs} {name} reply asks called unasked) n h =
     let before = run_of main sums pairs in
     let after = run_of main sums (pairs ++ (name, reply) ∷ []) in
     needed_too before after (keeps_agree before after refl (says_more main sums pairs ((name, reply) ∷ []))) n
-    (elim (Contains-push_cases (names_in pairs) name n
-    (subst (λ (ns : List Name). Contains ns n) (names_push pairs name reply) h)) [
+    (elim (Contains-push_cases (names_in pairs) name n (rw (names_push pairs name reply) at h)) [
       | inl there ↦ asked_only main sums asks n there
-      | inr same ↦ subst (λ (m : Name). IsNeeded (run_of main sums pairs) m) same called.needed
+      | inr same ↦ rw⁻¹ same called.needed
     ])
 
 -- A module's file was answered if it says something and may be asked for.
 file_answered : {run : Run} {name : Name} {said : Result Dependency Class} → FileSays run name said → is_askable name ≡ true → IsSome (run.answers name)
 file_answered (unaskable e) may = absurd (false≢true (sym e ∙ may))
-file_answered (answered reply ask is reads) may = subst (λ (o : Option Reply). IsSome o) (sym is) refl
+file_answered (answered reply ask is reads) may = rw is
 
 module_answered : {run : Run} {x : ModuleVersion} {said : Result Dependency Class} → Says run x said → is_askable (file_of run.main x) ≡ true
     → IsSome (run.answers (file_of run.main x))
@@ -65,10 +63,8 @@ module _ (main : Main) (sums : Option Sums) (pairs : List (Name × Reply)) (asks
     (known : (x : ModuleVersion) → IsOpened (run_of main sums pairs) x → (said : Result Dependency Class) × Says (run_of main sums pairs) x said) where
   needed_asked : (n : Name) → IsNeeded (run_of main sums pairs) n → Contains (names_in pairs) n
   needed_asked n (x, opened, is, askable) =
-      let says = (known x opened).1 in
-      let has = module_answered says (subst (λ (m : Name). is_askable m ≡ true) (sym is) askable) in
-      subst (λ (m : Name). Contains (names_in pairs) m) is
-      (Contains-from_any names_equal (file_of main x) (names_in pairs) (sym (answered_any pairs (file_of main x)) ∙ has))
+      let has = module_answered (known x opened).1 (rw is askable) in
+      rw⁻¹ is (Contains-from_any names_equal (file_of main x) (names_in pairs) (sym (answered_any pairs (file_of main x)) ∙ has))
 
   -- Exactly the needed files were asked for.
   pub settled : IsRead (run_of main sums pairs) → ((xs : List ModuleVersion) → AreOpened (run_of main sums pairs) xs → length xs ≤ 65536)
@@ -76,21 +72,19 @@ module _ (main : Main) (sums : Option Sums) (pairs : List (Name × Reply)) (asks
   settled read few = record {
     read = read;
     once = asked_once (LoadingNeeds main sums) asks;
-    needed = λ n. ((λ h. asked_only main sums asks n h), (λ is. needed_asked n is));
+    needed = λ n. (asked_only main sums asks n, needed_asked n);
     few = few;
   }
 
-module _ (run : Run) (vertices : List ModuleVersion) (turns : List Turn) (are : AreTurnsOf vertices turns) (exact : AreTurns run turns) where
+module _ (run : Run) (vertices : List ModuleVersion) (turns : List Turn) (few : length vertices ≤ 65536) (are : AreTurnsOf vertices turns)
+    (exact : AreTurns run turns) where
   opened_there : (x : ModuleVersion) → IsOpened run x → Contains vertices x
-  opened_there x (inl top) =
-      let first = depth_by (is_pruned_by run.main.go) in
-      are.has_vertex (turn x first) ((exact.each x first).1 (takes_first run x top))
-  opened_there x (inr deep) = are.has_vertex (turn x Deep) ((exact.each x Deep).1 deep)
+  opened_there x (inl top) = (are.each x).1 (_, (exact.each x _).1 (takes_first run x top))
+  opened_there x (inr deep) = (are.each x).1 (Deep, (exact.each x Deep).1 deep)
 
   pub few_opened : (xs : List ModuleVersion) → AreOpened run xs → length xs ≤ 65536
   few_opened xs opened =
       let fewer : length xs ≤ length vertices = length-le_from_is_member pairs-equivalence xs vertices opened.once
       (λ q h. let there = (is_member-Decides pair_eq-Decides xs q).0 h in
       (is_member-Decides pair_eq-Decides vertices q).1 (opened_there q (opened.each q there))) in
-      let few = are.few in
-      omega arith
+      omega (arith, few)

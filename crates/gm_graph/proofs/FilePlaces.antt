@@ -1,5 +1,5 @@
 -- The places of files: of their names, and noted for the numbers of modules.
-use Rattle.std.proofs.Common.{◌≡◌, ◌∙◌, ℕ, List, [], Option, Some, None, ap, ap₂, refl, sym}
+use Rattle.std.proofs.Common.{◌≡◌, ◌∙◌, ◌<◌, ℕ, List, [], Option, Some, None, ap, ap₂, length, refl, sym}
 use Rattle.std.specs.Option.{IsSome, option_and_then, option_or}
 use Rattle.std.specs.Prelude.{slice_get}
 use Rattle.std.proofs.lemmas.Option.{slice_get-get_or}
@@ -12,9 +12,8 @@ use Rattle.gm_file.specs.Main.{Main, replacement_in}
 use Rattle.gm_store.specs.Asked.{Name, mod_file}
 use Rattle.gm_graph.specs.declared.cache.file_table.FileTable.{FileTable}
 use Rattle.gm_graph.specs.FileTable.{place_of}
-use Rattle.gm_graph.specs.Private.FileTable.{IsFileOf, IsPlaceOf, IsUnnoted, NotesFiles, noted_for, replacing_place}
+use Rattle.gm_graph.specs.Private.FileTable.{IsPlaceOf, IsUnnoted, NotesFiles, noted_for, replacing_place}
 use Rattle.gm_graph.specs.Reading.{file_named, file_of}
-use Rattle.gm_graph.proofs.NumberedModules.{number_same}
 
 -- ---- a file that is not one of a replacement is that of one module
 
@@ -52,17 +51,17 @@ module _ (main : Main) (modules : List ModuleVersion) (files : FileTable) (notes
       (slice_get-get_or modules k ([], []) below ∙ ap (λ (y : ModuleVersion). Some y) (sym (one_owner x (module_at modules k) name none named also)))))
 
 -- The place of a file's name is the one noted for its module, or otherwise that of a replacement's file.
-pub place_by : (main : Main) (modules : List ModuleVersion) (files : FileTable) (number : ℕ) (name : Name) → IsFileOf main modules files number name
+pub place_by : (main : Main) (modules : List ModuleVersion) (files : FileTable) (number : ℕ) (name : Name) → NotesFiles main modules files
+    → ((k : ℕ) → k < length modules → module_at modules k ≡ module_at modules number → k ≡ number) → name ≡ file_of main (module_at modules number)
     → place_of files name ≡ option_or (noted_for files number) (option_and_then place_in (replacing_place files name))
-place_by main modules files number name is = noted (noted_for files number) refl
+place_by main modules files number name notes only named = noted (noted_for files number) refl
   where
     noted : (o : Option ℕ) → noted_for files number ≡ o
         → place_of files name ≡ option_or o (option_and_then place_in (replacing_place files name))
-    noted None nowhere = by_replacing main modules files is.notes name (λ none k below also.
-        ap (noted_for files) (number_same modules is.distinct k number below is.within
-        (sym (one_owner main modules files is.notes (module_at modules number) (module_at modules k) name none is.named also)))
+    noted None nowhere = by_replacing main modules files notes name (λ none k below also.
+        ap (noted_for files) (only k below (one_owner main modules files notes (module_at modules k) (module_at modules number) name none also named))
         ∙ nowhere)
-    noted (Some place) some = ap (place_of files) is.named ∙ (is.notes.modules_noted number place some).placed
+    noted (Some place) some = ap (place_of files) named ∙ (notes.modules_noted number place some).placed
 
 -- what `place_of` returns
 pub place_found : (files : FileTable) (name : Name) (place : Option ℕ) → place_of files name ≡ place → IsPlaceOf files name place

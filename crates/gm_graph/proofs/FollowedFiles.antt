@@ -1,5 +1,5 @@
 -- The files that were followed, as the cache and the worklist grow.
-use Rattle.std.proofs.Common.{◌≡◌, [], Contains, List, Ok, ℕ, inl, inr, sym, true, append-nil}
+use Rattle.std.proofs.Common.{◌≡◌, Contains, List, Ok, ℕ, inl, inr, true}
 use Rattle.std.proofs.lemmas.List.Elements.{Contains-append_left}
 use Rattle.gm_name.specs.ModuleVersion.{ModuleVersion}
 use Rattle.gm_name_table.specs.Listed.{BeginsWith}
@@ -9,38 +9,21 @@ use Rattle.gm_graph.specs.declared.cache.depth.Depth.TheVariants.{Deep}
 use Rattle.gm_graph.specs.declared.cache.depth.Turn.{Turn}
 use Rattle.gm_graph.specs.declared.cache.visit.Required.{Required}
 use Rattle.gm_graph.specs.declared.cache.visit.Visit.TheVariants as visit
-use Rattle.gm_graph.specs.Cached.{KeepsSound, table_in}
-use Rattle.gm_graph.specs.Run.{KeepsSayings, Run}
+use Rattle.gm_graph.specs.Cached.{IsSound, KeepsSound, table_in}
+use Rattle.gm_graph.specs.Run.{KeepsSayings, Requires, Run}
 use Rattle.gm_graph.specs.Turns.{turn}
-use Rattle.gm_graph.specs.Private.Turns.{AddsAll}
 use Rattle.gm_graph.specs.declared.followed.Followed.{Followed}
 use Rattle.gm_graph.specs.declared.worklist.Worklist.{Worklist}
 use Rattle.gm_graph.specs.Private.Worklists.{IsWorklist, turns_of}
-use Rattle.gm_graph.specs.Private.Followed.{AddsFollowed, AreFollowedIn, FollowsFile, followed_at}
+use Rattle.gm_graph.specs.Private.Followed.{AddsFollowed, followed_at}
 use Rattle.gm_graph.specs.Private.CacheVisits.{Continues, IsVisit, LendsFile, required_by, table_of}
 use Rattle.gm_graph.proofs.Growing.{turns_over}
 use Rattle.gm_graph.proofs.Sayings.{required_of, requires_before}
 
--- Turns that are there already.
-pub adds_there : (turns : List Turn) (xs : List ModuleVersion)
-    → ((y : ModuleVersion) → Contains xs y → Contains turns (turn y Deep)) → AddsAll turns turns xs Deep
-adds_there turns xs each = record { extends = ([], sym (append-nil turns)); each = each; only = λ one h. inl h }
-
-pub adds_no_file : (followed : Followed) (file : ℕ) → AddsFollowed followed followed file
-adds_no_file followed file f is = inl is
-
--- A file was followed.
-pub follows_file : (old new : Followed) (file : ℕ) (before after : List Turn) (xs : List ModuleVersion)
-    → AddsFollowed old new file → AddsAll before after xs Deep → FollowsFile old new file after xs
-follows_file old new file before after xs adds turns = λ f is. elim (adds f is) [
-  | inl was ↦ inl was
-  | inr here ↦ inr (here, turns.each)
-]
-
--- None was.
-pub follows_none : (followed : Followed) (file : ℕ) (turns : List Turn) (xs : List ModuleVersion)
-    → FollowsFile followed followed file turns xs
-follows_none followed file turns xs = λ f is. inl is
+-- The lists of the files were followed: what a vertex that has such a file requires has turns at full depth.
+abbrev pub AreFollowedIn : Cache → Run → List Turn → Followed → Type 0
+AreFollowedIn cache run turns followed = (file : ℕ) → followed_at followed file ≡ true
+    → (x : ModuleVersion) × IsSound cache run x file × ((y : ModuleVersion) → Requires run x y → Contains turns (turn y Deep))
 
 -- What was lent over them has turns, if its file was followed.
 pub has_its_turns : (old : Cache) (run : Run) (worklist : Worklist) (followed : Followed) (required : Required)
@@ -48,36 +31,19 @@ pub has_its_turns : (old : Cache) (run : Run) (worklist : Worklist) (followed : 
     → AreFollowedIn old run (turns_of (table_in old) worklist) followed → followed_at followed required.file ≡ true
     → (y : ModuleVersion) → Contains (required_by required) y → Contains (turns_of (table_of required) worklist) (turn y Deep)
 has_its_turns old run worklist followed required is lends are by = λ y h.
-    let one = are required.file by in
-    let shared = lends.shared one.vertex one.sound.file one.sound one.sound.says in
+    let (x, sound, each) = are required.file by in
     rw (turns_over (table_in old) (table_of required) worklist is lends.begins)
-    (one.each y (one.sound.file, one.sound.says, rw⁻¹ shared h))
+    (each y (sound.file, sound.says, rw⁻¹ (lends.shared x sound.file sound sound.says) h))
 
--- More turns.
-followed_longer : (cache : Cache) (run : Run) (old new : List Turn) (followed : Followed) → BeginsWith old new
-    → AreFollowedIn cache run old followed → AreFollowedIn cache run new followed
-followed_longer cache run old new followed longer are = λ f is.
-    let one = are f is in
-    record {
-      vertex = one.vertex;
-      sound = one.sound;
-      each = λ y r. rw longer.1
-          (Contains-append_left old longer.0 (turn y Deep) (one.each y r));
-    }
-
--- A vertex's file was followed.
+-- A vertex's file was followed, and what it requires has turns.
 pub followed_more : (cache : Cache) (run : Run) (old new : List Turn) (before after : Followed) (x : ModuleVersion)
     (d : Depth) (required : Required) → IsVisit cache run x d (visit.Required required) → BeginsWith old new
-    → AreFollowedIn cache run old before → FollowsFile before after required.file new (required_by required)
+    → AreFollowedIn cache run old before → AddsFollowed before after required.file
+    → (followed_at after required.file ≡ true → (y : ModuleVersion) → Contains (required_by required) y → Contains new (turn y Deep))
     → AreFollowedIn cache run new after
-followed_more cache run old new before after x d required is longer are files = λ f followed. elim (files f followed) [
-  | inl was ↦ followed_longer cache run old new before longer are f was
-  | inr here ↦ record {
-    vertex = x;
-    sound = rw⁻¹ here.0 is.0;
-    each = λ y r. here.1 y (rw is.1.modules
-        ((required_of run x is.1.file is.1.says y).0 r));
-  }
+followed_more cache run old new before after x d required (sound, says, same) longer are files each = λ f by. elim (files f by) [
+  | inl was ↦ (let (z, there, its) = are f was in (z, there, λ y r. rw longer.1 (Contains-append_left old longer.0 (turn y Deep) (its y r))))
+  | inr here ↦ (x, rw⁻¹ here sound, λ y r. each (rw here by) y (rw says.modules ((required_of run x says.file says.says y).0 r)))
 ]
 
 -- A cache that knows more.
@@ -86,10 +52,9 @@ pub followed_known : (old new : Cache) (earlier later : Run) (worklist : Worklis
     → KeepsSound old earlier new later → AreFollowedIn old earlier (turns_of (table_in old) worklist) followed
     → AreFollowedIn new later (turns_of (table_in new) worklist) followed
 followed_known old new earlier later worklist followed is continues main stays keeps are = λ f by.
-    let one = are f by in
-    record {
-      vertex = one.vertex;
-      sound = keeps one.vertex f one.sound;
-      each = λ y r. rw (turns_over (table_in old) (table_in new) worklist is continues.numbered)
-          (one.each y (requires_before earlier later main stays one.vertex y (Ok one.sound.file) one.sound.says r));
-    }
+    let (x, sound, each) = are f by in (
+      x,
+      keeps x f sound,
+      λ y r. rw (turns_over (table_in old) (table_in new) worklist is continues.numbered)
+          (each y (requires_before earlier later main stays x y (Ok sound.file) sound.says r)),
+    )

@@ -1,24 +1,21 @@
 -- What was found makes the edges and the faults of the graph.
-use Rattle.std.proofs.Common.{◌≡◌, ◌∙◌, ◌↔◌, ◌<◌, ◌+◌, ℕ, zero, suc, List, Option, None, Some, Result, Ok, Err, All, Contains, ap, arith, get_or, inl, inr, length, refl, subst, sym, take}
-use Rattle.std.specs.Prelude.{IsSome, slice_get}
-use Rattle.std.proofs.lemmas.Bool.{false≢true}
+use Rattle.std.proofs.Common.{◌≡◌, ◌∙◌, ◌↔◌, ◌<◌, ◌+◌, ℕ, suc, List, Option, Some, Result, Ok, Err, All, Contains, ap, arith, get_or, inl, inr, length, refl, subst, sym}
 use Rattle.std.proofs.lemmas.List.{get_or_default}
 use Rattle.std.proofs.lemmas.Slice.{between_from_start}
 use Rattle.gm_name.specs.ModuleVersion.{ModuleVersion, module_at}
 use Rattle.gm_name_table.specs.Listed.{modules_at, modules_of}
 use Rattle.gm_name_table.proofs.Listed.{part_as}
 use Rattle.gm_file.specs.Fields.{Dependency}
-use Rattle.gm_file.specs.Main.{Main, without_excluded}
+use Rattle.gm_file.specs.Main.{without_excluded}
 use Rattle.gm_graph.specs.declared.cache.Cache.{Cache}
 use Rattle.gm_graph.specs.declared.cache.class.Class.{Class}
 use Rattle.gm_graph.specs.declared.cache.parts.CacheParts.{CacheParts}
 use Rattle.gm_graph.specs.declared.fault.Fault.{Fault}
 use Rattle.gm_graph.specs.declared.findings.Findings.{Findings}
 use Rattle.gm_graph.specs.declared.worklist.Worklist.{Worklist}
-use Rattle.gm_graph.specs.Cached.{table_in}
 use Rattle.gm_graph.specs.Private.Cached.{ArePartsOf, module_numbered}
-use Rattle.gm_graph.specs.Private.Findings.{WasVisited, place_found}
-use Rattle.gm_graph.specs.Private.Gathering.{AreFaultsOf, AreFilePlaces, HasFaultOf, fault, has_file, gathered_sources, steps_by}
+use Rattle.gm_graph.specs.Private.Findings.{WasVisited, place_at}
+use Rattle.gm_graph.specs.Private.Gathering.{AreFaultsOf, AreFilePlaces, HasFaultOf, has_file, gathered_sources, steps_by}
 use Rattle.gm_graph.specs.Run.{AreFaults, IsEdge, IsFault, IsOpened, Requires, Run, Says}
 use Rattle.gm_graph.specs.Private.Summaries.{own_spans}
 use Rattle.gm_graph.specs.Private.Visiting.{IsOpenedIn}
@@ -28,10 +25,12 @@ use Rattle.gm_graph_select.specs.declared.step.Step.{Step}
 use Rattle.gm_graph_select.specs.declared.step.Step.TheVariants.{Main as FromMain, Of}
 use Rattle.gm_graph_select.specs.Adjacency.{StepEdges, edges_of, left_by, list_at, sources_of as steps_left, step_edges, step_with}
 use Rattle.gm_graph_select.specs.Graph.{edge}
-use Rattle.gm_graph.proofs.Gathered.{file_source, lists_by, noted_has, source_is, source_there, used_list}
+use Rattle.gm_graph.proofs.Gathered.{each_source, file_source, lists_by, main_source, noted_has, source_there, used_list}
+use Rattle.gm_graph.proofs.Mapped.{fault}
+use Rattle.gm_graph.proofs.RunLemmas.{value_of}
 use Rattle.gm_graph.proofs.SharedLists.{own_there}
 use Rattle.gm_graph_select.proofs.RankedLists.{edges_each, edges_only, from_mapped, in_mapped}
-use Rattle.gm_graph.proofs.Sayings.{file_same, not_both, one_said}
+use Rattle.gm_graph.proofs.Sayings.{class_same, file_same, not_both}
 
 -- ---- what was found, by the parts of the cache
 
@@ -51,144 +50,121 @@ module _ {run : Run} {cache : Cache} {worklist : Worklist} {findings : Findings}
 
   -- The numbers are those of modules, and the places those of files.
   pub found_places : AreFilePlaces parts places
-  found_places number place e = (
-    subst (λ (ms : List ModuleVersion). number < length ms) (sym are.modules) (opened.found.files number place e).below,
-    subst (λ fs. place < length fs.items) (sym are.files) (opened.lists number place e).sound.within,
-  )
+  found_places number place e =
+      let (below, sound) = opened.found.files number place e in rw (are.modules, are.files) (below, sound.within)
 
   pub found_faults : All (λ one. one.number < length modules) findings.faults.items
   found_faults k d below =
       let one = get_or findings.faults.items k d in
-      subst (λ (ms : List ModuleVersion). one.number < length ms) (sym are.modules)
-      (opened.found.faults one.number one.class (k, below, get_or_default findings.faults.items k one d below)).below
+      rw are.modules (opened.found.faults one.number one.class (k, below, get_or_default findings.faults.items k one d below)).0
 
   number_module : (number : ℕ) → module_at modules number ≡ module_numbered cache number
-  number_module number = ap (λ (ms : List ModuleVersion). module_at ms number) are.modules
+  number_module number = rw are.modules
 
   -- ---- the lists
 
   main_list : modules_at modules (list_at lists 0) ≡ without_excluded run.main run.main.requirements
   main_list =
-      part_as modules (table_in cache) parts.numbers.items cache.modules.numbers 0 parts.first are.modules are.numbers
+      part_as _ _ _ _ 0 parts.first are.modules are.numbers
       ∙ between_from_start (modules_of cache.modules) parts.first
-      ∙ ap (λ (n : ℕ). take n (modules_of cache.modules)) are.first
-      ∙ cache.first_are
-      ∙ ap (λ (main : Main). without_excluded main main.requirements) opened.main_is
+      ∙ rw (are.first, ← opened.main_is) cache.first_are
 
   -- The list at the place that was found is what the vertex requires.
-  file_list : (number place : ℕ) (e : place_found findings number ≡ Some place)
-      → modules_at modules (list_at lists (place + 1)) ≡ without_excluded run.main (opened.lists number place e).sound.file.requirements
+  file_list : (number place : ℕ) (e : place_at places number ≡ Some place)
+      → modules_at modules (list_at lists (place + 1)) ≡ without_excluded run.main (opened.found.files number place e).1.file.requirements
   file_list number place e =
-      let here = opened.lists number place e in
-      let own = own_there cache.files.files.items place here.sound.span here.sound.own in
+      let (below, sound) = opened.found.files number place e in
+      let own = own_there cache.files.files.items place sound.span sound.own in
       let next : place + 1 ≡ suc place = omega arith in
-      ap (λ (n : ℕ). modules_at modules (list_at lists n)) next
-      ∙ ap (modules_at modules) (used_list parts.numbers.items (has_file places) parts.first (own_spans parts.files.items) place here.sound.span
-      (noted_has places number place e) (ap (λ fs. slice_get (own_spans fs.items) place) are.files ∙ own))
-      ∙ part_as modules (table_in cache) parts.numbers.items cache.modules.numbers here.sound.span.start here.sound.span.end
-      are.modules are.numbers
-      ∙ here.list
+      rw next
+      (ap (modules_at modules) (used_list parts.numbers.items (has_file places) parts.first (own_spans parts.files.items) place sound.span
+      (noted_has places number place e) (rw are.files own))
+      ∙ part_as _ _ _ _ sound.span.start sound.span.end are.modules are.numbers
+      ∙ opened.lists (module_numbered cache number) place sound)
+
+  -- So its file says.
+  file_says : (number place : ℕ) (e : place_at places number ≡ Some place)
+      → Says run (module_at modules number) (Ok (opened.found.files number place e).1.file)
+  file_says number place e = rw are.modules (opened.found.files number place e).1.says
+
+  -- Each opened vertex says something.
+  pub known : (x : ModuleVersion) → IsOpened run x → (said : Result Dependency Class) × Says run x said
+  known x is = let (number, w, same) = opened.each x is in rw⁻¹ same (by number w)
+    where
+      by : (number : ℕ) → WasVisited findings number → (said : Result Dependency Class) × Says run (module_numbered cache number) said
+      by number (inl some) =
+          let (place, e) = value_of (place_at places number) some in
+          let sound = (opened.found.files number place e).1 in (Ok sound.file, sound.says)
+      by number (inr (class, h)) = (Err class, (opened.found.faults number class h).1)
 
   -- ---- the edges
 
-  abbrev main_source : Source
-  main_source = record { from = None; list = 0 }
-
   is_opened : (number : ℕ) → WasVisited findings number → IsOpened run (module_at modules number)
-  is_opened number w = subst (λ (x : ModuleVersion). IsOpened run x) (sym (number_module number)) (opened.opened number w)
+  is_opened number w = rw are.modules (opened.opened number w)
 
-  has_place : (number place : ℕ) → place_found findings number ≡ Some place → WasVisited findings number
-  has_place number place e = inl (subst (λ (o : Option ℕ). IsSome o) (sym e) refl)
+  has_place : (number place : ℕ) → place_at places number ≡ Some place → WasVisited findings number
+  has_place number place e = inl (rw e)
 
-  source_edge : (one : Source) → Contains (gathered_sources places) one → (y : ModuleVersion)
-      → Contains (modules_at modules (list_at lists one.list)) y → IsEdge run (step_with modules one.from) y
-  source_edge one (zero, below, at) y h =
-      subst (λ (s : Source). IsEdge run (step_with modules s.from) y) at
-      (subst (λ (xs : List ModuleVersion). Contains xs y) main_list
-      (subst (λ (s : Source). Contains (modules_at modules (list_at lists s.list)) y) (sym at) h))
-  source_edge one (suc i, below, at) y h =
-      let (k, place, e, is) = source_is places one (i, omega (arith, below), at) in
-      let here = opened.lists k place e in
-      subst (λ (s : Source). IsEdge run (step_with modules s.from) y) (sym is) (
-        is_opened k (has_place k place e),
-        (
-          here.sound.file,
-          subst (λ (x : ModuleVersion). Says run x (Ok here.sound.file)) (sym (number_module k)) here.sound.says,
-          subst (λ (xs : List ModuleVersion). Contains xs y) (file_list k place e)
-              (subst (λ (s : Source). Contains (modules_at modules (list_at lists s.list)) y) is h),
-        ),
-      )
+  abbrev LeadsOn : Source → Type 0
+  LeadsOn one = (y : ModuleVersion) → Contains (modules_at modules (list_at lists one.list)) y → IsEdge run (step_with modules one.from) y
+
+  source_edge : (one : Source) → Contains (gathered_sources places) one → LeadsOn one
+  source_edge = each_source LeadsOn places (λ y h. rw main_list at h) (λ k place e y h. (
+    is_opened k (has_place k place e),
+    ((opened.found.files k place e).1.file, file_says k place e, rw (file_list k place e) at h),
+  ))
 
   listed_edge : (one : Source) (y : ModuleVersion) → Contains (gathered_sources places) one
       → Contains (modules_at modules (list_at lists one.list)) y → Contains (edges_of modules steps) (edge (step_with modules one.from) y)
   listed_edge one y there h =
-      let found = from_mapped (module_at modules) (list_at lists one.list) y h in
-      subst (λ (z : ModuleVersion). Contains (edges_of modules steps) (edge (step_with modules one.from) z)) found.2
-      (edges_each modules steps (step_edges lists one) (edge (step_with modules one.from) (module_at modules found.0))
-      (in_mapped (step_edges lists) (gathered_sources places) one there)
-      (in_mapped (λ (n : ℕ). edge (step_with modules one.from) (module_at modules n)) (list_at lists one.list) found.0 found.1))
+      let (number, held, is) = from_mapped (module_at modules) (list_at lists one.list) y h in
+      rw⁻¹ is
+      (edges_each modules steps (step_edges lists one) _ (in_mapped (step_edges lists) (gathered_sources places) one there)
+      (in_mapped (λ (n : ℕ). edge (step_with modules one.from) (module_at modules n)) _ number held))
 
-  found_edge : (x y : ModuleVersion) (number : ℕ) → WasVisited findings number → module_numbered cache number ≡ x → Requires run x y
-      → Contains (edges_of modules steps) (edge (Of x) y)
-  found_edge x y number (inl some) is r = by_place (place_found findings number) refl some
-    where
-      by_place : (o : Option ℕ) → place_found findings number ≡ o → IsSome o → Contains (edges_of modules steps) (edge (Of x) y)
-      by_place None none some = absurd (false≢true some)
-      by_place (Some place) e some =
-          let here = opened.lists number place e in
-          let same : r.0 ≡ here.sound.file = file_same r.1 (subst (λ (z : ModuleVersion). Says run z (Ok here.sound.file)) is here.sound.says) in
-          let source = source_there 0 places number place number e (omega arith) in
-          subst (λ (z : ModuleVersion). Contains (edges_of modules steps) (edge (Of z) y)) (number_module number ∙ is)
-          (listed_edge (file_source number place) y (suc source.0, omega (arith, source.1), source.2)
-          (subst (λ (xs : List ModuleVersion). Contains xs y) (sym (file_list number place e))
-          (subst (λ (f : Dependency). Contains (without_excluded run.main f.requirements) y) same r.2)))
-  found_edge x y number (inr f) is r =
-      absurd (not_both (subst (λ (z : ModuleVersion). Says run z (Err f.0)) is (opened.found.faults number f.0 f.1).says) r.1)
+  found_edge : (number : ℕ) (y : ModuleVersion) → WasVisited findings number → Requires run (module_at modules number) y
+      → Contains (edges_of modules steps) (edge (Of (module_at modules number)) y)
+  found_edge number y (inl some) r =
+      let (place, e) = value_of (place_at places number) some in
+      let same = file_same r.1 (file_says number place e) in
+      listed_edge (file_source number place) y (source_there places number place e) (rw (file_list number place e) (rw⁻¹ same r.2))
+  found_edge number y (inr f) r = absurd (not_both (opened.found.faults number f.0 f.1).1 (rw are.modules at r.1))
 
   complete : (s : Step) (y : ModuleVersion) → IsEdge run s y → Contains (edges_of modules steps) (edge s y)
-  complete FromMain y t = listed_edge main_source y (0, omega arith, refl) (subst (λ (xs : List ModuleVersion). Contains xs y) (sym main_list) t)
-  complete (Of x) y e = let found = opened.each x e.0 in found_edge x y found.0 found.1 found.2 e.1
+  complete FromMain y t = listed_edge main_source y (0, omega arith, refl) (rw main_list t)
+  complete (Of x) y e =
+      let (number, w, is) = opened.each x e.0 in
+      let same = number_module number ∙ is in
+      rw⁻¹ same (found_edge number y w (rw same e.1))
 
   only : (e : Edge) → Contains (edges_of modules steps) e → IsEdge run e.from e.to
   only e h =
       let (step, left, there) = edges_only modules steps e h in
       let (source, listed, is) = from_mapped (step_edges lists) (gathered_sources places) step left in
       let (number, held, same) = from_mapped (λ (n : ℕ). edge (left_by modules step) (module_at modules n)) step.to e there in
-      subst (λ (one : Edge). IsEdge run one.from one.to) same
+      rw⁻¹ same
       (subst (λ (s : StepEdges). IsEdge run (left_by modules s) (module_at modules number)) is
       (source_edge source listed (module_at modules number)
       (in_mapped (module_at modules) (list_at lists source.list) number (subst (λ (s : StepEdges). Contains s.to number) (sym is) held))))
 
   -- The edges are exactly those of the graph.
   pub edges_exactly : (e : Edge) → Contains (edges_of modules steps) e ↔ IsEdge run e.from e.to
-  edges_exactly e = ((λ h. only e h), (λ h. complete e.from e.to h))
+  edges_exactly e = (only e, complete e.from e.to)
 
   -- Each step that edges leave, but the main module, is opened.
   pub sources_opened : (x : ModuleVersion) → Contains (steps_left modules steps) (Of x) → IsOpened run x
   sources_opened x h =
-      let left = from_mapped (left_by modules) steps (Of x) h in
-      let source = from_mapped (step_edges lists) (gathered_sources places) left.0 left.1 in
-      by_source source.0 source.1 (ap (left_by modules) source.2 ∙ left.2)
-    where
-      by_source : (one : Source) → Contains (gathered_sources places) one → step_with modules one.from ≡ Of x → IsOpened run x
-      by_source one (zero, below, at) is =
-          let main : FromMain ≡ Of x = ap (λ (s : Source). step_with modules s.from) at ∙ is in absurd (cc main)
-      by_source one (suc i, below, at) is =
-          let (k, place, e, same) = source_is places one (i, omega (arith, below), at) in
-          let of : Of (module_at modules k) ≡ Of x = ap (λ (s : Source). step_with modules s.from) (sym same) ∙ is in
-          subst (λ (z : ModuleVersion). IsOpened run z) (cc of) (is_opened k (has_place k place e))
+      let (step, there, is) = from_mapped (left_by modules) steps (Of x) h in
+      let (source, listed, same) = from_mapped (step_edges lists) (gathered_sources places) step there in
+      each_source (λ one. step_with modules one.from ≡ Of x → IsOpened run x) places (λ (e : FromMain ≡ Of x). absurd (cc e))
+      (λ k place found (e : Of (module_at modules k) ≡ Of x). let at : module_at modules k ≡ x = cc e in rw⁻¹ at (is_opened k (has_place k place found)))
+      source listed (ap (left_by modules) same ∙ is)
 
   -- ---- the faults
 
-  abbrev HasFault : ModuleVersion → Class → Type 0
-  HasFault x class = HasFaultOf modules findings.faults.items x class
-
-  fault_is : (x : ModuleVersion) (class : Class) → HasFault x class → IsFault run (fault x class)
+  fault_is : (x : ModuleVersion) (class : Class) → HasFaultOf modules findings.faults.items x class → IsFault run (fault x class)
   fault_is x class (number, h, is) =
-      subst (λ (z : ModuleVersion). IsFault run (fault z class)) is (
-        is_opened number (inr (class, h)),
-        subst (λ (z : ModuleVersion). Says run z (Err class)) (sym (number_module number)) (opened.found.faults number class h).says,
-      )
+      rw⁻¹ is (is_opened number (inr (class, h)), rw are.modules (opened.found.faults number class h).1)
 
   -- The faults are exactly those of the opened vertices.
   pub faults_exactly : (list : List Fault) → AreFaultsOf modules findings.faults.items list → AreFaults run list
@@ -196,23 +172,15 @@ module _ {run : Run} {cache : Cache} {worklist : Worklist} {findings : Findings}
     ascending = of.ascending;
     each = λ one. (
       (λ h. fault_is one.vertex one.class (of.only one h)),
-      (λ is. let found = opened.each one.vertex is.0 in listed one is found.0 found.1 (number_module found.0 ∙ found.2)),
+      (λ is. let (number, w, at) = opened.each one.vertex is.0 in listed one is.1 number w (number_module number ∙ at)),
     );
   }
     where
-      listed : (one : Fault) → IsFault run one → (number : ℕ) → WasVisited findings number → module_at modules number ≡ one.vertex
-          → Contains list one
-      listed one is number (inl some) at = by_place (place_found findings number) refl some
-        where
-          by_place : (o : Option ℕ) → place_found findings number ≡ o → IsSome o → Contains list one
-          by_place None none some = absurd (false≢true some)
-          by_place (Some place) e some =
-              let here = opened.lists number place e in
-              absurd (not_both is.1 (subst (λ (z : ModuleVersion). Says run z (Ok here.sound.file)) (sym (number_module number) ∙ at) here.sound.says))
-      listed one is number (inr f) at =
-          let there = of.each number f.0 f.1 in
-          let says = (fault_is (module_at modules number) there.0 (of.only (fault (module_at modules number) there.0) there.1)).1 in
-          let same : ◌≡◌ {A = Result Dependency Class} (Err there.0) (Err one.class) =
-          one_said (subst (λ (z : ModuleVersion). Says run z (Err there.0)) at says) is.1 in
-          subst (λ (c : Class). Contains list (fault one.vertex c)) (cc same)
-          (subst (λ (z : ModuleVersion). Contains list (fault z there.0)) at there.1)
+      listed : (one : Fault) → Says run one.vertex (Err one.class) → (number : ℕ) → WasVisited findings number
+          → module_at modules number ≡ one.vertex → Contains list one
+      listed one says number (inl some) same =
+          let (place, e) = value_of (place_at places number) some in absurd (not_both says (rw same at (file_says number place e)))
+      listed one says number (inr f) same =
+          let (other, there) = of.each number f.0 f.1 in
+          let classes = class_same says (rw same at (fault_is (module_at modules number) other (of.only (fault (module_at modules number) other) there)).1) in
+          rw (same, ← classes) at there

@@ -1,5 +1,5 @@
 -- What was found, as sources and as the spans of lists.
-use Rattle.std.proofs.Common.{◌≡◌, ◌∙◌, ◌≤◌, ◌<◌, ◌+◌, ◌-◌, ◌||◌, ◌++◌, ◌∷◌, [], ℕ, zero, suc, Bool, true, false, List, Option, None, Some, Contains, ap, append_assoc, arith, drop, get_or, inl, inr, length, refl, subst, sym}
+use Rattle.std.proofs.Common.{◌≡◌, ◌∙◌, ◌≤◌, ◌<◌, ◌+◌, ◌-◌, ◌||◌, ◌++◌, ◌∷◌, [], ℕ, zero, suc, Bool, true, false, List, Option, None, Some, Contains, ap, append_assoc, arith, drop, get_or, inl, inr, length, refl, sym, add-zero, zero-add}
 use Rattle.std.specs.Prelude.{◌==◌, slice_get}
 use Rattle.std.specs.List.{AllByRecursion, IsDistinct, between}
 use Rattle.std.proofs.Math.Seq.{drop-cons}
@@ -23,7 +23,7 @@ use Rattle.gm_graph_select.specs.Adjacency.{AreUsed, HaveNumbers, IsBelow, IsNum
 use Rattle.gm_graph_select.specs.Spans.{AreSpansApart, lists_at, part_at}
 use Rattle.gm_graph_select.specs.declared.step.Step.TheVariants.{Main, Of}
 use Rattle.gm_graph_select.specs.StepOrder.{step_eq}
-use Rattle.gm_graph.proofs.Ordered.{order_from}
+use Rattle.gm_graph.proofs.Ordered.{order_rest}
 
 -- ---- the sources
 
@@ -31,44 +31,46 @@ use Rattle.gm_graph.proofs.Ordered.{order_from}
 abbrev pub file_source : ℕ → ℕ → Source
 file_source number place = record { from = Some number; list = place + 1 }
 
--- Each vertex that has a file is a source.
-pub source_there : (number : ℕ) (places : List (Option ℕ)) (k place at : ℕ) → place_at places k ≡ Some place → at ≡ number + k
+there_from : (number : ℕ) (places : List (Option ℕ)) (k place at : ℕ) → place_at places k ≡ Some place → at ≡ number + k
     → Contains (sources_from number places) (file_source at place)
-source_there number [] k place at e is = absurd (cc e)
-source_there number (None ∷ places) zero place at e is = absurd (cc e)
-source_there number (Some other ∷ places) zero place at e is =
-    let same : number ≡ at = omega (arith, is) in (
-      0,
-      omega arith,
-      ap (λ (n : ℕ). file_source n other) same ∙ ap (λ (p : ℕ). file_source at p) (same_Some other place e),
-    )
-source_there number (None ∷ places) (suc k) place at e is = source_there (suc number) places k place at e (omega (arith, is))
-source_there number (Some other ∷ places) (suc k) place at e is =
-    let there = source_there (suc number) places k place at e (omega (arith, is)) in
+there_from number [] k place at e is = absurd (cc e)
+there_from number (None ∷ places) zero place at e is = absurd (cc e)
+there_from number (Some other ∷ places) zero place at e is =
+    let same : at ≡ number = omega (arith, is) in rw (same, ← same_Some other place e) (0, omega arith, refl)
+there_from number (None ∷ places) (suc k) place at e is = there_from (suc number) places k place at e (omega (arith, is))
+there_from number (Some other ∷ places) (suc k) place at e is =
+    let there = there_from (suc number) places k place at e (omega (arith, is)) in
     (suc there.0, omega (arith, there.1), there.2)
 
--- Each source but the main module is a vertex that has a file.
-pub source_from : (number : ℕ) (places : List (Option ℕ)) (one : Source) → Contains (sources_from number places) one
+-- Each vertex that has a file is a source.
+pub source_there : (places : List (Option ℕ)) (k place : ℕ) → place_at places k ≡ Some place
+    → Contains (gathered_sources places) (file_source k place)
+source_there places k place e =
+    let there = there_from 0 places k place k e (omega arith) in (suc there.0, omega (arith, there.1), there.2)
+
+source_from : (number : ℕ) (places : List (Option ℕ)) (one : Source) → Contains (sources_from number places) one
     → (k : ℕ) × (place : ℕ) × (place_at places k ≡ Some place) × (one ≡ file_source (number + k) place)
 source_from number [] one h = absurd (omega (arith, h.1))
 source_from number (None ∷ places) one h =
     let (k, place, e, is) = source_from (suc number) places one h in
     let same : suc number + k ≡ number + suc k = omega arith in
-    (suc k, place, e, is ∙ ap (λ (n : ℕ). file_source n place) same)
-source_from number (Some other ∷ places) one (zero, below, at) =
-    let same : number ≡ number + 0 = omega arith in
-    (0, other, refl, sym at ∙ ap (λ (n : ℕ). file_source n other) same)
+    (suc k, place, e, rw⁻¹ same is)
+source_from number (Some other ∷ places) one (zero, below, at) = (0, other, refl, rw add-zero (sym at))
 source_from number (Some other ∷ places) one (suc i, below, at) =
     let (k, place, e, is) = source_from (suc number) places one (i, omega (arith, below), at) in
     let same : suc number + k ≡ number + suc k = omega arith in
-    (suc k, place, e, is ∙ ap (λ (n : ℕ). file_source n place) same)
+    (suc k, place, e, rw⁻¹ same is)
 
-pub source_is : (places : List (Option ℕ)) (one : Source) → Contains (sources_from 0 places) one
-    → (k : ℕ) × (place : ℕ) × (place_at places k ≡ Some place) × (one ≡ file_source k place)
-source_is places one h =
-    let (k, place, e, is) = source_from 0 places one h in
-    let same : 0 + k ≡ k = omega arith in
-    (k, place, e, is ∙ ap (λ (n : ℕ). file_source n place) same)
+-- the source that the main module is
+abbrev pub main_source : Source
+main_source = record { from = None; list = 0 }
+
+-- What the main module has, and each vertex that has a file, each source has.
+pub each_source : (P : Source → Type 0) (places : List (Option ℕ)) → P main_source
+    → ((k place : ℕ) → place_at places k ≡ Some place → P (file_source k place)) → (one : Source) → Contains (gathered_sources places) one → P one
+each_source P places main each one (zero, below, is) = rw⁻¹ is main
+each_source P places main each one (suc i, below, at) =
+    let (k, place, e, is) = source_from 0 places one (i, omega (arith, below), at) in rw (is, zero-add) (each k place e)
 
 -- ---- no step is twice a source
 
@@ -114,60 +116,31 @@ module _ (modules : List ModuleVersion) (distinct : IsDistinct pair_eq modules) 
 
 -- ---- the spans
 
-past_end : (owns : List (Option ListSpan)) (k : ℕ) → slice_get owns k ≡ None → length owns ≤ k
-past_end [] k e = omega arith
-past_end (own ∷ owns) zero e = absurd (cc e)
-past_end (own ∷ owns) (suc k) e = omega (arith, past_end owns k e)
+span_apart : (from : ℕ) (b : Bool) (own : Option ListSpan) (owns : List (Option ListSpan)) (to : ℕ) → AreSpansInOrder from (own ∷ owns) to
+    → (from ≤ (span_after from b own).start) × ((span_after from b own).start ≤ (span_after from b own).end)
+span_apart from true (Some own) owns to are = (are.0, are.1)
+span_apart from true None owns to are = (omega arith, omega arith)
+span_apart from false own owns to are = (omega arith, omega arith)
 
 pub spans_apart : (used : ℕ → Bool) (place from : ℕ) (owns : List (Option ListSpan)) (to : ℕ) → AreSpansInOrder from owns to
     → AreSpansApart from (spans_from used place from owns) to
 spans_apart used place from [] to are = are
-spans_apart used place from (None ∷ owns) to are =
-    elim (used place) as (λ b. AreSpansApart from (span_after from b None
-    ∷ spans_from used (suc place) (span_after from b None).end owns) to) [
-      | true ↦ (omega arith, omega arith, spans_apart used (suc place) from owns to are)
-      | false ↦ (omega arith, omega arith, spans_apart used (suc place) from owns to are)
-    ]
-spans_apart used place from (Some own ∷ owns) to are =
-    elim (used place) as (λ b. AreSpansApart from (span_after from b (Some own)
-    ∷ spans_from used (suc place) (span_after from b (Some own)).end owns) to) [
-      | true ↦ (are.0, are.1, spans_apart used (suc place) own.end owns to are.2)
-      | false ↦ (
-        omega arith,
-        omega arith,
-        spans_apart used (suc place) from owns to (order_from from own.end owns to (omega (arith, are.0, are.1)) are.2),
-      )
-    ]
+spans_apart used place from (own ∷ owns) to are =
+    let (starts, ends) = span_apart from (used place) own owns to are in
+    (starts, ends, spans_apart used (suc place) (span_after from (used place) own).end owns to (order_rest from (used place) own owns to are))
 
 -- The files from a place on are the one there, and those after it.
 pub from_place : (files : List Kept) (k : ℕ) (one : Kept) → k < length files → one ≡ get_or files k one
     → drop k files ≡ one ∷ drop (k + 1) files
 from_place files k one below is =
-    let next : suc k ≡ k + 1 = omega arith in
-    drop-cons files k one below ∙ ap (λ (f : Kept). f ∷ drop (suc k) files) (sym is) ∙ ap (λ (n : ℕ). one ∷ drop n files) next
+    let next : k + 1 ≡ suc k = omega arith in rw next (drop-cons files k one below ∙ rw (← is))
 
 -- one span more
-pub span_more : (used : ℕ → Bool) (place next end : ℕ) (span : Span) (own : Option ListSpan) (b : Bool) (owns rest : List (Option ListSpan))
-    (old new whole : List Span)
-    → next ≡ suc place → b ≡ used place → span ≡ span_after end b own → owns ≡ own ∷ rest → new ≡ old ++ span ∷ []
-    → old ++ spans_from used place end owns ≡ whole → new ++ spans_from used next span.end rest ≡ whole
-span_more used place next end span own b owns rest old new whole following same is at pushed held =
-    let here = span_after end (used place) own in
-    let span_is : span ≡ here = is ∙ ap (λ (c : Bool). span_after end c own) same in
-    ap (λ (spans : List Span). spans ++ spans_from used next span.end rest) pushed
-    ∙ append_assoc old (span ∷ []) (spans_from used next span.end rest)
-    ∙ ap (λ (s : Span). old ++ s ∷ spans_from used next s.end rest) span_is
-    ∙ ap (λ (n : ℕ). old ++ here ∷ spans_from used n here.end rest) following
-    ∙ ap (λ (os : List (Option ListSpan)). old ++ spans_from used place end os) (sym at)
-    ∙ held
-
-pub spans_same : (used other : ℕ → Bool) → ((place : ℕ) → used place ≡ other place) → (place from : ℕ) (owns : List (Option ListSpan))
-    → spans_from used place from owns ≡ spans_from other place from owns
-spans_same used other same place from [] = refl
-spans_same used other same place from (own ∷ owns) =
-    ap (λ (b : Bool). span_after from b own ∷ spans_from used (suc place) (span_after from b own).end owns) (same place)
-    ∙ ap (λ (rest : List Span). span_after from (other place) own ∷ rest)
-    (spans_same used other same (suc place) (span_after from (other place) own).end owns)
+pub span_more : (used : ℕ → Bool) (place end : ℕ) (own : Option ListSpan) (rest : List (Option ListSpan)) (old : List Span) {span : Span}
+    {new whole : List Span} → span ≡ span_after end (used place) own → new ≡ old ++ span ∷ []
+    → old ++ spans_from used place end (own ∷ rest) ≡ whole → new ++ spans_from used (place + 1) span.end rest ≡ whole
+span_more used place end own rest old is pushed held =
+    let next : place + 1 ≡ suc place = omega arith in rw (pushed, is, next) (append_assoc old _ _ ∙ held)
 
 module _ (numbers : List ℕ) (used : ℕ → Bool) where
   -- the list of a file, which has a span behind some place
@@ -176,25 +149,16 @@ module _ (numbers : List ℕ) (used : ℕ → Bool) where
       ≡ part_at numbers (span_after end (used at) own))
   list_of place from [] k at own is there = absurd (cc there)
   list_of place from (first ∷ owns) zero at own is there =
-      let same : place ≡ at = omega (arith, is) in (
-        from,
-        ap (λ (p : ℕ). part_at numbers (span_after from (used p) first)) same
-            ∙ ap (λ (o : Option ListSpan). part_at numbers (span_after from (used at) o)) (same_Some first own there),
-      )
+      let same : place ≡ at = omega (arith, is) in (from, rw (same, same_Some first own there))
   list_of place from (first ∷ owns) (suc k) at own is there =
       list_of (suc place) (span_after from (used place) first).end owns k at own (omega (arith, is)) there
 
   -- There is nothing in a list past the end.
-  past_lists : (place from : ℕ) (owns : List (Option ListSpan)) (k : ℕ) → length owns ≤ k
+  past_lists : (place from : ℕ) (owns : List (Option ListSpan)) (k : ℕ) → slice_get owns k ≡ None
       → list_at (lists_at numbers (spans_from used place from owns)) k ≡ []
-  past_lists place from [] k past = refl
-  past_lists place from (own ∷ owns) zero past = absurd (omega (arith, past))
-  past_lists place from (own ∷ owns) (suc k) past =
-      past_lists (suc place) (span_after from (used place) own).end owns k (omega (arith, past))
-
-  unused_part : (end : ℕ) (b : Bool) (own : Option ListSpan) → b ≡ false → part_at numbers (span_after end b own) ≡ []
-  unused_part end true own e = absurd (false≢true (sym e))
-  unused_part end false own e = between_none numbers end
+  past_lists place from [] k none = refl
+  past_lists place from (own ∷ owns) zero none = absurd (cc none)
+  past_lists place from (own ∷ owns) (suc k) none = past_lists (suc place) (span_after from (used place) own).end owns k none
 
   -- If the list of a file is not empty, the file is used.
   pub list_used : (from : ℕ) (owns : List (Option ListSpan)) (k : ℕ)
@@ -206,15 +170,10 @@ module _ (numbers : List ℕ) (used : ℕ → Bool) where
     where
       by_own : (o : Option (Option ListSpan)) → slice_get owns k ≡ o → used k ≡ false
           → list_at (lists_at numbers (spans_from used 0 from owns)) k ≡ []
-      by_own None none not_used = past_lists 0 from owns k (past_end owns k none)
+      by_own None none not_used = past_lists 0 from owns k none
       by_own (Some own) there not_used =
           let (end, is) = list_of 0 from owns k k own (omega arith) there in
-          is ∙ unused_part end (used k) own not_used
-
-  used_part : (end : ℕ) (b : Bool) (own : ListSpan) → b ≡ true
-      → part_at numbers (span_after end b (Some own)) ≡ between own.start own.end numbers
-  used_part end true own e = refl
-  used_part end false own e = absurd (false≢true e)
+          is ∙ rw not_used (between_none numbers end)
 
   -- The list of a file that has its own, and is used, has the numbers of its requirements.
   pub used_list : (from : ℕ) (owns : List (Option ListSpan)) (k : ℕ) (own : ListSpan) → used k ≡ true
@@ -222,7 +181,7 @@ module _ (numbers : List ℕ) (used : ℕ → Bool) where
       → list_at (lists_at numbers (spans_from used 0 from owns)) k ≡ between own.start own.end numbers
   used_list from owns k own is there =
       let (end, list) = list_of 0 from owns k k (Some own) (omega arith) there in
-      list ∙ used_part end (used k) own is
+      list ∙ rw is
 
 -- ---- files that vertices have
 
@@ -265,11 +224,10 @@ module _ (parts : CacheParts) (places : List (Option ℕ)) (are : AreFilePlaces 
   steps_once = sources_once parts.modules.items parts.distinct lists places (λ k place e. (are k place e).0)
 
   pub lists_used : AreUsed lists (gathered_sources places)
-  lists_used zero some = (record { from = None; list = 0 }, (0, omega arith, refl), refl)
+  lists_used zero some = (main_source, (0, omega arith, refl), refl)
   lists_used (suc place) some =
       let (k, there) = has_noted places place (list_used parts.numbers.items (has_file places) parts.first (own_spans parts.files.items) place some) in
-      let source = source_there 0 places k place k there (omega arith) in
-      (file_source k place, (suc source.0, omega (arith, source.1), source.2), omega arith)
+      (file_source k place, source_there places k place there, omega arith)
 
   -- ---- numbers
 
@@ -284,10 +242,7 @@ module _ (parts : CacheParts) (places : List (Option ℕ)) (are : AreFilePlaces 
   list_below (span ∷ spans) (suc place) = list_below spans place
 
   from_below : (one : Source) → Contains (gathered_sources places) one → IsBelow (length parts.modules.items) one.from
-  from_below one (zero, below, at) = subst (λ (s : Source). IsBelow (length parts.modules.items) s.from) at tt
-  from_below one (suc i, below, at) =
-      let (k, place, e, is) = source_is places one (i, omega (arith, below), at) in
-      subst (λ (s : Source). IsBelow (length parts.modules.items) s.from) (sym is) (omega (arith, (are k place e).0))
+  from_below = each_source (λ one. IsBelow (length parts.modules.items) one.from) places tt (λ k place e. (are k place e).0)
 
   pub steps_numbered : HaveNumbers (length parts.modules.items) (steps_by parts places)
   steps_numbered = each (gathered_sources places) (λ one h. from_below one h)
@@ -299,32 +254,3 @@ module _ (parts : CacheParts) (places : List (Option ℕ)) (are : AreFilePlaces 
             from = below (get_or sources k d) (k, within, get_or_default sources k (get_or sources k d) d within);
             to = list_below (spans_of parts.first parts.files.items (has_file places)) (get_or sources k d).list;
           })
-
--- What a graph is made of.
-pub record IsInput (modules : List ModuleVersion) (numbers : List ℕ) (spans : List Span) (sources : List Source) : Type 0 where
-  pub few : length modules ≤ 4294967295
-  pub distinct : IsDistinct pair_eq modules
-  pub apart : AreSpansApart 0 spans (length numbers)
-  pub numbered : HaveNumbers (length modules) (by_step (lists_at numbers spans) sources)
-  pub once : IsDistinct (same_step modules) (by_step (lists_at numbers spans) sources)
-  pub used : AreUsed (lists_at numbers spans) sources
-
-pub is_input : (parts : CacheParts) (places : List (Option ℕ)) → AreFilePlaces parts places
-    → IsInput parts.modules.items parts.numbers.items (spans_of parts.first parts.files.items (has_file places)) (gathered_sources places)
-is_input parts places are = record {
-  few = parts.few;
-  distinct = parts.distinct;
-  apart = lists_apart parts places are;
-  numbered = steps_numbered parts places are;
-  once = steps_once parts places are;
-  used = lists_used parts places are;
-}
-
--- The edges that leave each source are those of the parts.
-pub steps_are : (parts : CacheParts) (places : List (Option ℕ)) (numbers : List ℕ) (spans : List Span) (sources : List Source)
-    → numbers ≡ parts.numbers.items → spans ≡ spans_of parts.first parts.files.items (has_file places) → sources ≡ gathered_sources places
-    → by_step (lists_at numbers spans) sources ≡ steps_by parts places
-steps_are parts places numbers spans sources same at are =
-    ap (λ (ns : List ℕ). by_step (lists_at ns spans) sources) same
-    ∙ ap (λ (ss : List Span). by_step (lists_at parts.numbers.items ss) sources) at
-    ∙ ap (λ (os : List Source). by_step (lists_by parts places) os) are

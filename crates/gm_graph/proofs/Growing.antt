@@ -1,17 +1,15 @@
 -- A list of modules that grows at its end: the numbers stand for the same modules.
-use Rattle.std.proofs.Common.{◌≡◌, ◌<◌, ◌++◌, ◌∷◌, ◌∙◌, [], ℕ, All, List, ap, ap₂, arith, length, length-append, map, refl}
+use Rattle.std.proofs.Common.{◌≡◌, ◌<◌, ◌++◌, ◌∷◌, ◌∙◌, [], ℕ, All, List, ap, arith, length, length-append, map, refl}
 use Rattle.std.specs.List.{IsDistinct}
 use Rattle.std.proofs.lemmas.List.{get_or_append_left}
 use Rattle.std.proofs.lemmas.List.Elements.{All-head, All-tail, All-weaker}
 use Rattle.gm_name.specs.ModuleVersion.{ModuleVersion, module_at, pair_eq}
 use Rattle.gm_name_table.specs.Listed.{BeginsWith}
-use Rattle.gm_graph.specs.declared.cache.depth.Turn.{Turn}
-use Rattle.gm_graph.specs.Turns.{turn}
 use Rattle.gm_graph.specs.declared.worklist.Worklist.{Worklist}
 use Rattle.gm_graph.specs.declared.worklist.NumberedTurn.{NumberedTurn}
 use Rattle.gm_graph.specs.Private.Worklists.{IsWorklist, turn_of, turns_of}
 
-abbrev IsOneBelow : ℕ → NumberedTurn → Type 0
+abbrev pub IsOneBelow : ℕ → NumberedTurn → Type 0
 IsOneBelow count one = one.number < count
 
 module _ (modules more : List ModuleVersion) where
@@ -22,10 +20,11 @@ module _ (modules more : List ModuleVersion) where
   turns_stay : (turns : List NumberedTurn) → All (IsOneBelow (length modules)) turns
       → map (turn_of (modules ++ more)) turns ≡ map (turn_of modules) turns
   turns_stay [] h = refl
-  turns_stay (one ∷ turns) h = ap₂ (λ (a : Turn) (ts : List Turn). a ∷ ts)
-      (ap (λ (v : ModuleVersion). turn v one.depth)
-      (vertex_stays one.number (All-head (IsOneBelow (length modules)) one turns h)))
-      (turns_stay turns (All-tail (IsOneBelow (length modules)) one turns h))
+  turns_stay (one ∷ turns) h =
+      rw (
+        vertex_stays one.number (All-head (IsOneBelow (length modules)) one turns h),
+        turns_stay turns (All-tail (IsOneBelow (length modules)) one turns h),
+      ) refl
 
 -- A module has its number still, and the number is one of a module.
 pub number_stays : (old new : List ModuleVersion) (number : ℕ) → BeginsWith old new → number < length old

@@ -8,7 +8,7 @@ use Rattle.gm_graph.specs.declared.cache.Cache.{Cache}
 use Rattle.gm_graph.specs.Cached.{main_in, sums_in, table_in}
 use Rattle.gm_graph.specs.Private.FileTable.{NotesFiles}
 use Rattle.gm_graph.specs.Private.Held.{HoldsSome}
-use Rattle.gm_graph.specs.Private.Summaries.{AllStand, AreListsInOrder, Grows, own_spans}
+use Rattle.gm_graph.specs.Private.Summaries.{AreListed, AreListsInOrder, Grows, own_spans}
 use Rattle.gm_graph.proofs.HeldFiles.{grown_some}
 use Rattle.gm_graph.proofs.Ordered.{order_longer}
 use Rattle.gm_graph.proofs.PuttingPlaces.{notes_if_more}
@@ -31,7 +31,7 @@ module _ (cache : Cache) (new : NumberedList) (grows : Grows cache.modules new) 
   places_grown = omega (arith, cache.places_within, ap length grows.1.numbered.1, length-append (table_in cache) grows.1.numbered.0)
 
   pub some_grown : ∥ HoldsSome (main_in cache) (sums_in cache) new cache.files ∥₁
-  some_grown = grown_some (main_in cache) cache.modules new cache.files grows (sums_in cache) cache.holds_some
+  some_grown = grown_some (main_in cache) cache.modules new cache.files grows cache.listed (sums_in cache) cache.holds_some
 
   pub notes_grown : NotesFiles (main_in cache) new.modules cache.files
   notes_grown = notes_if_more (main_in cache) (table_in cache) new.modules cache.files grows.1.numbered cache.places_within cache.notes
@@ -40,6 +40,6 @@ module _ (cache : Cache) (new : NumberedList) (grows : Grows cache.modules new) 
   order_grown = order_longer cache.first (own_spans cache.files.files.items) (length cache.modules.numbers) (length new.numbers)
       more_numbers cache.in_order
 
-  pub all_grown : AllStand (main_in cache) (modules_of new) cache.files.files.items
+  pub all_grown : AreListed (main_in cache) (modules_of new) cache.files.files.items
   all_grown = listed_grown (main_in cache) (modules_of cache.modules) (modules_of new) cache.files.files.items
       (grows.0, grows.1.listed) cache.listed

@@ -1,5 +1,6 @@
 -- What loading asks a store for and what it visits, turn by turn.
-use Rattle.std.proofs.Common.{◌≡◌, ◌∙◌, ◌+◌, ◌<◌, ◌++◌, ◌∷◌, [], ℕ, true, List, Option, ap, append-nil, get_or, inl, inr, length, refl, subst, sym}
+use Rattle.std.proofs.Common.{◌≡◌, ◌∙◌, arith, take, ◌+◌, ◌<◌, ◌++◌, ◌∷◌, [], ℕ, true, List, Option, ap, append-nil, get_or, inl, inr, length, refl, sym}
+use Rattle.std.proofs.lemmas.List.{get_or-map, length-map, take_more, take-append-le}
 use Rattle.std.proofs.lemmas.List.Elements.{Contains-push_cases}
 use Rattle.gm_name.specs.ModuleVersion.{ModuleVersion}
 use Rattle.gm_store.specs.Asked.{Name, Reply}
@@ -14,42 +15,39 @@ use Rattle.gm_graph.specs.declared.followed.Followed.{Followed}
 use Rattle.gm_graph.specs.declared.worklist.Worklist.{Worklist}
 use Rattle.gm_graph.specs.declared.worklist.NumberedTurn.{NumberedTurn}
 use Rattle.gm_graph.specs.Private.Asking.{AsksInTurn, AsksOne, IsAskableFile}
-use Rattle.gm_graph.specs.Private.Worklists.{turns_of}
+use Rattle.gm_graph.specs.Private.Worklists.{turn_of, turns_of}
 use Rattle.gm_graph.specs.Cached.{main_in, run_in, sums_in, table_in, turns_in}
 use Rattle.gm_graph.specs.Private.Cached.{module_numbered}
 use Rattle.gm_graph.specs.Reading.{file_of, is_askable}
-use Rattle.gm_graph.specs.Run.{AreTooMany, AskedInTurn, CallsFor, IsDue, IsOpened, IsRead, KeepsSayings, LoadingNeeds, Run, TakesTurn, more, run_of}
+use Rattle.gm_graph.specs.Run.{AreTooMany, AskedInTurn, CallsFor, IsDue, IsOpened, IsRead, KeepsSayings, LoadingNeeds, Run, TakesTurn, more, nothing, run_of}
 use Rattle.gm_graph.specs.Private.TurnVisits.{IsTurnVisited}
 use Rattle.gm_graph.specs.Turns.{turn}
-use Rattle.gm_graph.specs.Private.VisitedTurns.{Visits}
+use Rattle.gm_graph.specs.Private.Turns.{Visits}
 use Rattle.gm_graph.specs.Private.Visiting.{OverflowsAt}
 use Rattle.gm_graph.proofs.AskedFile.{asks_for, lacks_still}
-use Rattle.gm_graph.proofs.Deepening.{IsValidTurn-kept, opened_kept}
-use Rattle.gm_graph.proofs.Dues.{AddsFile, lent_more, none_in_turn, says_still}
+use Rattle.gm_graph.proofs.Dues.{AddsFile, says_still}
 use Rattle.gm_graph.proofs.FoundFiles.{same_module}
 use Rattle.gm_graph.proofs.Growing.{number_below, turns_over}
-use Rattle.gm_graph.proofs.Queueing.{many_followed, visited_more}
-use Rattle.gm_graph.proofs.Rounds.{AreVisited, opened_from}
-use Rattle.gm_graph.proofs.Stepping.{AreFound, IsAt, by_run, number_here, read_by, turn_below, turn_here}
+use Rattle.gm_graph.proofs.Holding.{answers_read}
+use Rattle.gm_graph.proofs.Queueing.{many_followed, opened_kept, takes_kept, visited_more}
+use Rattle.gm_graph.proofs.Rounds.{opened_from}
+use Rattle.gm_graph.proofs.Stepping.{AreFound, IsAt, by_run, number_here}
 
 -- Nothing was asked for.
 pub nothing_asked : (main : Main) (sums : Option Sums) (may : Name → Option Reply → Type 0) (state : StoreState) → state.asked ≡ []
     → AsksInTurn main sums may may state state []
 nothing_asked main sums may state none = record {
-  asks = none_in_turn (LoadingNeeds main sums) state.asked none;
+  asks = rw none nothing;
   device = λ name e. absurd (cc e);
   refused = sym (append-nil state.refused);
   served = nothing_served may state;
 }
 
-module _ {main other : Main} {sums others : Option Sums} {before after : Name → Option Reply → Type 0} {old new : StoreState} where
-  -- other words for the same
-  pub in_turn_by : {failed names : List Name} → main ≡ other → sums ≡ others → failed ≡ names → AsksInTurn main sums before after old new failed
-      → AsksInTurn other others before after old new names
-  in_turn_by {failed} {names} same sums_same is asks =
-      rw⁻¹ same
-      (rw⁻¹ sums_same
-      (rw⁻¹ is asks))
+-- other words for the same
+pub in_turn_by : {main other : Main} {sums others : Option Sums} {before after : Name → Option Reply → Type 0} {old new : StoreState}
+    {failed names : List Name} → main ≡ other → sums ≡ others → failed ≡ names → AsksInTurn main sums before after old new failed
+    → AsksInTurn other others before after old new names
+in_turn_by same sums_same is asks = rw⁻¹ (same, sums_same, is) asks
 
 -- ---- one more turn
 
@@ -70,18 +68,18 @@ module _ {main : Main} {sums : Option Sums} {cache : Cache} {worklist : Worklist
   later = run_of main sums new.asked
 
   inside : at < length turns
-  inside = turn_below (table_in cache) worklist at below
+  inside = rw length-map below
 
   there : get_or turns at (turn vertex one.depth) ≡ turn vertex one.depth
-  there = turn_here (table_in cache) worklist at one below here
+  there = get_or-map (turn_of (table_in cache)) worklist.turns.items at one _ below ∙ ap (turn_of (table_in cache)) (sym here)
 
   -- The vertex takes the turn, so it is opened, and its file may be asked for.
   takes : TakesTurn earlier vertex one.depth
-  takes = state.visited.first.valid (turn vertex one.depth) (at, inside, there)
+  takes = state.visited.valid (turn vertex one.depth) (at, inside, there)
 
   called : (name : Name) → file_of main vertex ≡ name → is_askable name ≡ true → CallsFor earlier name
   called name is askable = record {
-    read = read_by main sums cache old.asked state.sums_are state.knows;
+    read = rw⁻¹ state.sums_are (answers_read cache old.asked state.knows);
     needed = (vertex, opened_from earlier vertex one.depth takes, is, askable);
   }
 
@@ -92,7 +90,7 @@ module _ {main : Main} {sums : Option Sums} {cache : Cache} {worklist : Worklist
   keeps = says_still main sums old.asked new.asked vertex adds_file
 
   still_takes : TakesTurn later vertex one.depth
-  still_takes = IsValidTurn-kept old.asked new.asked keeps vertex one.depth takes
+  still_takes = takes_kept old.asked new.asked keeps vertex one.depth takes
 
   asked_more : AskedInTurn (LoadingNeeds main sums) old.asked → AskedInTurn (LoadingNeeds main sums) new.asked
   asked_more before = elim adds_file [
@@ -122,8 +120,8 @@ module _ {main : Main} {sums : Option Sums} {cache : Cache} {worklist : Worklist
   -- too many vertices
   pub many_in_turn : OverflowsAt (run_in cache new.asked) turns vertex one.depth → IsRead later × AreTooMany later
   many_in_turn over =
-      let many = by_run (λ (run : Run). OverflowsAt run turns vertex one.depth) cache new.asked state.main_is state.sums_are over in
-      (many.0, many_followed old.asked new.asked keeps vertex one.depth still_takes turns state.visited.first.valid many.1)
+      let (read, (said, says, many)) = by_run (λ (run : Run). OverflowsAt run turns vertex one.depth) cache new.asked state.main_is state.sums_are over in
+      (read, many_followed old.asked new.asked keeps vertex one.depth still_takes turns state.visited.valid said says many)
 
   -- It was visited.
   module _ {end : Cache} {made : Worklist} {marks : Followed} {found : Findings}
@@ -132,47 +130,45 @@ module _ {main : Main} {sums : Option Sums} {cache : Cache} {worklist : Worklist
     after_it = turns_of (table_in end) made
 
     within : one.number < length (table_in cache)
-    within = number_here (table_in cache) worklist at one state.worklist_is below here
+    within = number_here one state.worklist_is below here
 
     -- The vertices that were visited have their numbers still, and are opened.
     opened_still : (number : ℕ) → number < length (table_in cache) → IsOpened later (module_numbered cache number)
         → (number < length (table_in end)) × IsOpened later (module_numbered end number)
     opened_still number lower opened = (
-      number_below (table_in cache) (table_in end) number is.continues.numbered lower,
-      rw⁻¹ (same_module cache end number is.continues lower) opened,
+      number_below (table_in cache) (table_in end) number is.has.continues.numbered lower,
+      rw⁻¹ (same_module cache end number is.has.continues lower) opened,
     )
 
     main_is : main_in end ≡ main
-    main_is = is.continues.main ∙ state.main_is
+    main_is = is.has.continues.main ∙ state.main_is
 
     sums_are : sums_in end ≡ sums
-    sums_are = is.continues.sums ∙ state.sums_are
+    sums_are = is.has.continues.sums ∙ state.sums_are
 
     visits : Visits later turns after_it (turn vertex one.depth)
-    visits =
-        by_run (λ (run : Run). Visits run turns after_it (turn vertex one.depth)) end new.asked main_is sums_are
-        (rw (same_module cache end one.number is.continues within)
-        (rw⁻¹ (turns_over (table_in cache) (table_in end) worklist state.worklist_is is.continues.numbered) is.adds.follows))
+    visits = rw⁻¹ (main_is, sums_are)
+        (rw (same_module cache end one.number is.has.continues within)
+        (rw⁻¹ (turns_over (table_in cache) (table_in end) worklist state.worklist_is is.has.continues.numbered) is.adds.follows))
 
     found_more : AreFound end later found
     found_more = record {
-      opened = λ n w. elim (is.adds.finds.only n w) [
+      opened = λ n w. elim ((is.adds.finds n).0 w) [
         | inl was ↦ (let before_it = state.found.opened n was in
             opened_still n before_it.0 (opened_kept old.asked new.asked keeps (module_numbered cache n) before_it.1))
-        | inr same ↦ subst (λ (m : ℕ). (m < length (table_in end)) × IsOpened later (module_numbered end m)) (sym same)
-            (opened_still one.number within (opened_from later vertex one.depth still_takes))
+        | inr same ↦ rw same (opened_still one.number within (opened_from later vertex one.depth still_takes))
       ];
       each = λ next in_end.
-          elim (Contains-push_cases (turns_in cache) (turn vertex one.depth) next (rw⁻¹ is.turns in_end)) [
+          elim (Contains-push_cases (turns_in cache) (turn vertex one.depth) next (rw⁻¹ is.has.turns in_end)) [
             | inl was ↦ (let (number, before_it, of) = state.found.each next was in (
               number,
-              is.adds.finds.stay number before_it,
-              sym (same_module cache end number is.continues (state.found.opened number before_it).0) ∙ of,
+              (is.adds.finds number).1 (inl before_it),
+              sym (same_module cache end number is.has.continues (state.found.opened number before_it).0) ∙ of,
             ))
             | inr same ↦ (
               one.number,
-              is.adds.finds.here,
-              sym (same_module cache end one.number is.continues within) ∙ ap (λ (t : Turn). t.vertex) same,
+              (is.adds.finds one.number).1 (inr refl),
+              sym (same_module cache end one.number is.has.continues within) ∙ ap (λ (t : Turn). t.vertex) same,
             )
           ];
     }
@@ -182,10 +178,10 @@ module _ {main : Main} {sums : Option Sums} {cache : Cache} {worklist : Worklist
       worklist_is = is.adds.ready.worklist_is;
       main_is = main_is;
       sums_are = sums_are;
-      knows = is.knows;
-      lent = lent_more (turns_in cache) (turns_in end) turns after_it visits.extends.0 at (turn vertex one.depth) state.lent is.turns visits.extends.1
-          inside there;
-      visited = subst (λ (front : List Turn). AreVisited later after_it front) (sym is.turns)
-          (visited_more old.asked new.asked keeps vertex one.depth still_takes after_it state.visited visits);
+      knows = is.has.knows;
+      lent = rw (is.has.turns, state.lent, visits.adds.extends.1)
+          (sym (take-append-le (at + 1) turns visits.adds.extends.0 (omega (arith, inside)) ∙ take_more turns at _ inside
+          ∙ ap (λ (t : Turn). take at turns ++ t ∷ []) there));
+      visited = rw is.has.turns (visited_more old.asked new.asked keeps vertex one.depth still_takes after_it state.visited visits);
       found = found_more;
     }

@@ -16,10 +16,10 @@ use Rattle.gm_graph.specs.declared.cache.summary.ListSpan.{ListSpan}
 use Rattle.gm_file.specs.Main.{Main, main_of}
 use Rattle.gm_graph.specs.Reading.{file_of}
 use Rattle.gm_graph.specs.FileTable.{kept_at}
-use Rattle.gm_graph.specs.Private.FileTable.{KeepsFiles}
+use Rattle.gm_graph.specs.Private.FileTable.{KeepsFiles, KeepsOthers}
 use Rattle.gm_graph.specs.Summaries.{listed_span}
 use Rattle.gm_graph.specs.Private.Summaries.{Grows}
-use Rattle.gm_graph.specs.Cached.{HoldsSame, KeepsSound, Knows, LendsKept, LentSame, main_in, run_in, summary_at, sums_in, table_in}
+use Rattle.gm_graph.specs.Cached.{HoldsSame, KeepsSound, Knows, LentSame, main_in, run_in, summary_at, sums_in, table_in}
 use Rattle.gm_graph.specs.Private.Cached.{HasMadeKnown, IsPlaceFor}
 use Rattle.gm_graph.specs.Run.{KeepsSayings, Run}
 use Rattle.gm_graph.specs.Asking.{AsksFor}
@@ -27,9 +27,10 @@ use Rattle.gm_graph.specs.Refusals.{refused_in, refused_names}
 use Rattle.gm_graph.specs.Private.Asking.{IsLoadFaultOf}
 use Rattle.gm_graph.specs.declared.cache.load_fault.LoadFault.{LoadFault}
 use Rattle.gm_graph.specs.declared.cache.load_fault.LoadFault.TheVariants as load
+use Rattle.gm_graph.proofs.PuttingPlaces.{same_files}
 use Rattle.gm_graph.proofs.Sayings.{says_more}
 use Rattle.gm_graph.proofs.SharedLists.{own_still}
-use Rattle.gm_graph.proofs.HeldFiles.{grown_held, grown_lends}
+use Rattle.gm_graph.proofs.HeldFiles.{grown_held}
 
 -- ---- the runs of a cache
 
@@ -86,18 +87,16 @@ pub knows_still : {old new : Cache} (pairs : List (Name × Reply)) → HoldsSame
 knows_still pairs same knows = record {
   kept = λ name reply e. let got = knows.kept name reply e in (got.0, same.held name ∙ got.1, rw same.sums got.2);
   only = λ name e. same.held name ∙ knows.only name e;
-  lends = same.lends knows.lends;
 }
 
 -- A cache with the same files holds the same, if its list of modules only grew.
 pub holds_grown : (old new : Cache) → new.main.now ≡ old.main.now → sums_in new ≡ sums_in old → new.files ≡ old.files
-    → Grows old.modules new.modules → LendsKept old → HoldsSame old new
-holds_grown old new main sums files grows lends =
+    → Grows old.modules new.modules → HoldsSame old new
+holds_grown old new main sums files grows =
     record {
       main = main;
       sums = sums;
-      held = λ name. rw files (grown_held (main_in old) old.modules new.modules old.files grows lends name);
-      lends = λ _. rw (main, files) (grown_lends (main_in old) old.modules new.modules old.files grows lends);
+      held = λ name. rw files (grown_held (main_in old) old.modules new.modules old.files grows old.listed name);
       numbered = grows.1.numbered;
       sound = λ run. sound_still old new run run main ([], ap (λ kept. kept.files.items) files ∙ sym (append-nil old.files.files.items))
           (λ name one e. rw files e) (λ x said says. says);
@@ -114,8 +113,13 @@ holds_listed old new main sums keeps files modules =
       held = λ name. rw (modules, keeps name) refl;
       numbered = ([], ap (λ list. list.modules) modules ∙ sym (append-nil (table_in old)));
       sound = λ run. sound_still old new run run main files (λ name one e. keeps name ∙ e) (λ x said says. says);
-      lends = λ lends name one e. rw (main, modules) (lends name one (sym (keeps name) ∙ e));
     }
+
+-- So does one in which a place was noted.
+pub holds_noted : (old new : Cache) → new.main.now ≡ old.main.now → sums_in new ≡ sums_in old → KeepsOthers old.files new.files
+    → new.modules ≡ old.modules → HoldsSame old new
+holds_noted old new main sums others modules =
+    holds_listed old new main sums (same_files others) ([], rw others.files (sym (append-nil old.files.files.items))) modules
 
 -- The same cache holds the same.
 pub holds_itself : {cache : Cache} → HoldsSame cache cache
@@ -123,7 +127,6 @@ holds_itself {cache} = record {
   main = refl;
   sums = refl;
   held = λ name. refl;
-  lends = λ lends. lends;
   numbered = ([], sym (append-nil (table_in cache)));
   sound = λ run x place sound. sound;
 }
@@ -133,7 +136,6 @@ holds_after {old} {mid} {new} one two = record {
   main = two.main ∙ one.main;
   sums = two.sums ∙ one.sums;
   held = λ name. two.held name ∙ one.held name;
-  lends = λ lends. two.lends (one.lends lends);
   numbered = begins_after (table_in old) (table_in mid) (table_in new) one.numbered two.numbered;
   sound = λ run x place sound. two.sound run x place (one.sound run x place sound);
 }
@@ -152,9 +154,6 @@ known_same {old} {new} {pairs} same knows is = record {
   numbered = same.numbered;
   sound = sound_same old new pairs same;
 }
-
-pub lent_after : {old mid new : Cache} → LentSame old mid → LentSame mid new → LentSame old new
-lent_after one two = record { main = two.main ∙ one.main; sums = two.sums ∙ one.sums; turns = two.turns ∙ one.turns }
 
 -- So does a cache that differs in what was refused alone.
 pub holds_failed : {old mid new : Cache} → HoldsSame old mid → new.main.now ≡ mid.main.now → sums_in new ≡ sums_in mid

@@ -26,13 +26,12 @@ use Rattle.gm_graph.specs.declared.cache.summary.ListSpan.{ListSpan}
 use Rattle.gm_graph.specs.Summaries.{IsKept, IsWithinList, at_span, listed_span, summary_reading}
 use Rattle.gm_graph.specs.Cached.{AreRequirements, IsSound, KeepsSound, Knows, file_count, its_requirements, main_in, no_requirements, run_in, summary_at, table_in}
 use Rattle.gm_graph.specs.Private.Cached.{HasFileAt, IsLender, kept_file, module_numbered, span_at}
-use Rattle.gm_graph.specs.Private.CacheVisits.{Continues, IsSaid, IsVisit, IsVisitOf, LendsOver, file_said}
+use Rattle.gm_graph.specs.Private.CacheVisits.{Continues, IsSaid, IsVisit, LendsOver, file_said, visit_of}
 use Rattle.gm_graph.specs.Lent.{lent_modules}
 use Rattle.gm_graph.specs.Private.Held.{lent_table}
-use Rattle.gm_graph.specs.Private.Visiting.{HasListAt}
 use Rattle.gm_graph.specs.Run.{FileSays, KeepsSayings, Says}
 use Rattle.gm_graph.proofs.Holding.{held_says, held_sound}
-use Rattle.gm_graph.proofs.SharedLists.{found_own, kept_listed}
+use Rattle.gm_graph.proofs.SharedLists.{found_own, kept_listed, kept_named}
 use Rattle.gm_graph.proofs.Spans.{span_within}
 
 -- What is kept at the place of a vertex's file is what the file says.
@@ -53,16 +52,12 @@ lent_one main modules (Some (Valid summary)) file span is listed e =
     ∙ ap (λ (f : Dependency). without_excluded main f.requirements) same
 
 -- The list at a vertex's place is what the vertex requires.
-list_is : (cache : Cache) (pairs : List (Name × Reply)) (x : ModuleVersion) (place : ℕ) (file : Dependency) → Knows cache pairs
+pub list_is : (cache : Cache) (pairs : List (Name × Reply)) (x : ModuleVersion) (place : ℕ) (file : Dependency) → Knows cache pairs
     → (at : IsSound cache (run_in cache pairs) x place) → Says (run_in cache pairs) x (Ok file)
     → at_span (modules_of cache.modules) at.span ≡ without_excluded (main_in cache) file.requirements
 list_is cache pairs x place file knows at says =
     lent_one (main_in cache) (modules_of cache.modules) (summary_at cache (file_of (main_in cache) x)) file at.span
-    (λ one e. knows.lends (file_of (main_in cache) x) one e) at.listed (held_sound cache pairs knows x file says)
-
-pub list_there : (cache : Cache) (pairs : List (Name × Reply)) (x : ModuleVersion) (place : ℕ) → Knows cache pairs
-    → IsSound cache (run_in cache pairs) x place → HasListAt cache (run_in cache pairs) x place
-list_there cache pairs x place knows at = record { sound = at; list = list_is cache pairs x place at.file knows at at.says }
+    (λ one. kept_named (main_in cache) (modules_of cache.modules) cache.files (file_of (main_in cache) x) one cache.listed) at.listed (held_sound cache pairs knows x file says)
 
 -- The requirements returned from the place of a vertex's file, or from none if the vertex has a fault, are its
 -- requirements.
@@ -96,26 +91,22 @@ module _ (cache : Cache) (pairs : List (Name × Reply)) (number : ℕ) (d : Dept
   place_said (said.Sound file leads) is = is.0.within
 
   -- What a visit gets is what is said, and what is lent from that place.
-  pub visit_got : (says : Said) (list : Lent) (got : Visit) → Knows cache pairs
+  pub visit_got : (says : Said) (list : Lent) → Knows cache pairs
       → IsSaid cache (run_in cache pairs) (module_numbered cache number) d says
       → lent_modules list ≡ at_span (modules_of cache.modules) (span_at cache (file_said says)) → lent_table list ≡ table_in cache
-      → IsVisitOf says list got → IsVisit cache (run_in cache pairs) (module_numbered cache number) d got
-  visit_got (said.Fault class) list (visit.Fault fault) knows is modules table of =
-      rw of is
-  visit_got (said.Fault class) list (visit.Required required) knows is modules table of = absurd of
-  visit_got (said.Sound file leads) list (visit.Fault fault) knows is modules table of = absurd of
-  visit_got (said.Sound file leads) list (visit.Required required) knows is modules table of =
-      rw of (
-        is.0,
-        record {
-          file = is.0.file;
-          says = is.0.says;
-          leads = is.1;
-          modules = modules ∙ ap (at_span (modules_of cache.modules)) (found_own (kept_file cache file) is.0.span is.0.own)
-              ∙ list_is cache pairs (module_numbered cache number) file is.0.file knows is.0 is.0.says;
-        },
-        table,
-      )
+      → IsVisit cache (run_in cache pairs) (module_numbered cache number) d (visit_of says list)
+  visit_got (said.Fault class) list knows is modules table = is
+  visit_got (said.Sound file leads) list knows is modules table = (
+    is.0,
+    record {
+      file = is.0.file;
+      says = is.0.says;
+      leads = is.1;
+      modules = modules ∙ ap (at_span (modules_of cache.modules)) (found_own (kept_file cache file) is.0.span is.0.own)
+          ∙ list_is cache pairs (module_numbered cache number) file is.0.file knows is.0 is.0.says;
+    },
+    table,
+  )
 
 -- ---- what all known answers say
 

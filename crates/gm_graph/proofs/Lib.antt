@@ -4,7 +4,6 @@ pub mod AddingAll
 pub mod Marking
 pub mod Growing
 pub mod AddFaults
-pub mod Deepening
 pub mod Rounds
 pub mod TurnEnds
 pub mod Caching
@@ -40,7 +39,6 @@ pub mod Spans
 pub mod SharedLists
 pub mod GrownCache
 pub mod Named
-pub mod FirstTurns
 pub mod FoundFiles
 pub mod Ordered
 pub mod Gathered

@@ -1,5 +1,5 @@
 -- Files whose own lists are in order.
-use Rattle.std.proofs.Common.{◌≡◌, ◌≤◌, ◌+◌, ◌∙◌, ◌⊎◌, ◌++◌, ◌∷◌, [], ℕ, Bool, true, false, List, None, Option, Some, append-nil, arith, inl, inr, ap, length, length-append, subst, sym}
+use Rattle.std.proofs.Common.{◌≡◌, ◌≤◌, ◌+◌, ◌∙◌, ◌⊎◌, ◌++◌, ◌∷◌, [], ℕ, Bool, true, false, List, None, Option, Some, append-nil, arith, inl, inr, sym}
 use Rattle.std.proofs.lemmas.List.{map-append}
 use Rattle.gm_name_table.specs.Listed.{BeginsWith}
 use Rattle.gm_graph.specs.declared.cache.summary.Kept.{Kept}
@@ -49,8 +49,7 @@ spans_push from (None ∷ spans) mid own to are last = spans_push from spans mid
 pub order_push : (from : ℕ) (files : List Kept) (mid : ℕ) (one : Kept) (to : ℕ) → AreListsInOrder from files mid
     → AreListsInOrder mid (one ∷ []) to → AreListsInOrder from (files ++ one ∷ []) to
 order_push from files mid one to are last =
-    subst (λ (spans : List (Option ListSpan)). AreSpansInOrder from spans to) (sym (map-append own_span files (one ∷ [])))
-    (spans_push from (own_spans files) mid (own_span one) to are last)
+    rw map-append (spans_push from (own_spans files) mid (own_span one) to are last)
 
 -- ---- the files of a cache, to which one was added, or none
 
@@ -58,18 +57,12 @@ module _ (old new : List Kept) (one : Kept) (adds : (new ≡ old) ⊎ (new ≡ o
   -- What the files have before, and with one file more, they have.
   pub has_added : (P : List Kept → Type 0) → P old → P (old ++ one ∷ []) → P new
   has_added P are more = elim adds [
-    | inl same ↦ subst (λ (files : List Kept). P files) (sym same) are
-    | inr pushed ↦ subst (λ (files : List Kept). P files) (sym pushed) more
+    | inl same ↦ rw same are
+    | inr pushed ↦ rw pushed more
   ]
 
   pub begins_added : BeginsWith old new
   begins_added = elim adds [
     | inl same ↦ ([], same ∙ sym (append-nil old))
     | inr pushed ↦ (one ∷ [], pushed)
-  ]
-
-  pub one_more : length new ≤ length old + 1
-  one_more = elim adds [
-    | inl same ↦ omega (arith, ap length same)
-    | inr pushed ↦ omega (arith, ap length pushed, length-append old (one ∷ []))
   ]

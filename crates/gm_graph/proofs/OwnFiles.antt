@@ -1,6 +1,6 @@
 -- The files of modules in a cache, and what was added of them.
-use Rattle.std.proofs.Common.{◌≡◌, ◌∙◌, ◌<◌, ◌∷◌, [], ℕ, arith, true, Option, None, Some, Result, Ok, Err, ap, inl, inr, length, refl, sym}
-use Rattle.std.specs.Prelude.{IfOk, OnErr, OnOk, slice_get}
+use Rattle.std.proofs.Common.{◌≡◌, ◌∙◌, ◌<◌, ℕ, arith, true, Option, None, Some, Result, Ok, Err, ap, inl, inr, length, refl, sym}
+use Rattle.std.specs.Prelude.{OnErr, OnOk, slice_get}
 use Rattle.std.specs.Option.{option_and_then}
 use Rattle.std.proofs.lemmas.Option.{slice_get_cases, slice_get_within}
 use Rattle.std.specs.List.{IsDistinct}
@@ -12,12 +12,14 @@ use Rattle.gm_store.specs.Asked.{Name}
 use Rattle.gm_graph.specs.declared.cache.file_table.FileTable.{FileTable}
 use Rattle.gm_graph.specs.declared.cache.summary.Kept.{Kept}
 use Rattle.gm_graph.specs.declared.cache.Cache.{Cache}
+use Rattle.gm_file.specs.Main.{Main}
 use Rattle.gm_graph.specs.Cached.{main_in, summary_at, table_in}
 use Rattle.gm_graph.specs.Private.Cached.{HasFileAt, kept_file, module_numbered}
 use Rattle.gm_graph.specs.FileTable.{kept_at, place_of}
 use Rattle.gm_graph.specs.Private.FileTable.{PutsFile, IsNewFile, IsPlacedAt, KeepsNoted, KeepsOthers, NotesFiles, NotesFor, noted_for, replacing_place}
 use Rattle.gm_graph.specs.Reading.{file_of, is_askable}
 use Rattle.gm_graph.proofs.FilePlaces.{place_by}
+use Rattle.gm_graph.proofs.NumberedModules.{number_same}
 use Rattle.gm_graph.proofs.PuttingPlaces.{notes_again, notes_kept}
 
 -- Nothing is kept of a module's file if no place is noted for the module, and none for a replacement's file with that name.
@@ -26,8 +28,12 @@ pub nothing_kept : (cache : Cache) (number : ℕ) (name : Name) (x : ModuleVersi
     → noted_for cache.files number ≡ None → option_and_then place_in (replacing_place cache.files name) ≡ None
     → summary_at cache name ≡ None
 nothing_kept cache number name x distinct within named is nowhere none =
-    rw (place_by (main_in cache) (table_in cache) cache.files number name
-    (record { distinct = distinct; within = within; named = named ∙ ap (file_of (main_in cache)) is; notes = cache.notes })) (rw nowhere (rw none refl))
+    rw (
+      place_by (main_in cache) (table_in cache) cache.files number name cache.notes
+          (λ k below. number_same (table_in cache) distinct k number below within) (named ∙ ap (file_of (main_in cache)) is),
+      nowhere,
+      none,
+    ) refl
 
 -- The name of a module's file, of which nothing was kept.
 pub new_file : (cache : Cache) (number : ℕ) (name : Name) → number < length (table_in cache)
@@ -71,22 +77,24 @@ has_file cache x name one place is askable here there = record {
   askable = sym (ap is_askable is) ∙ askable;
 }
 
--- A place is that of what was added, if something was.
-pub if_ok_both : {T E : Type 0} {Q : Type 0} {P R : T → Type 0} (r : Result T E) → ((t : T) → P t → Q → R t) → IfOk r P
-    → OnOk r Q → IfOk r R
-if_ok_both (Ok t) f p q = f t p q
-if_ok_both (Err e) f p q = tt
-
 -- ---- the place of a replacement's file is noted for a module
 
--- The place of a file that is noted for a replacement is that of its name.
-pub replacing_at : (cache : Cache) (name : Name) (place : ℕ) → option_and_then place_in (replacing_place cache.files name) ≡ Some place
-    → place_of cache.files name ≡ Some place
-replacing_at cache name place at = by (replacing_place cache.files name) refl at
+-- The place of a file that is noted for a replacement is that of the vertex's file.
+pub replacing_at : (cache : Cache) (x : ModuleVersion) {name : Name} {place : ℕ} → name ≡ file_of (main_in cache) x → is_askable name ≡ true
+    → option_and_then place_in (replacing_place cache.files name) ≡ Some place → IsPlacedAt (main_in cache) cache.files x place
+replacing_at cache x {name} {place} named askable at = record {
+  placed = ap (place_of cache.files) (sym named) ∙ by (replacing_place cache.files name) refl at;
+  askable = ap is_askable (sym named) ∙ askable;
+}
   where
     by : (o : Option OptionalPlace) → replacing_place cache.files name ≡ o → option_and_then place_in o ≡ Some place → place_of cache.files name ≡ Some place
     by None none e = absurd (cc e)
     by (Some held) some e = sym (cache.notes.replacing_noted name held some) ∙ e
+
+-- It is that still once it is noted.
+pub placed_still : {main : Main} {old new : FileTable} {x : ModuleVersion} {place : ℕ} → KeepsOthers old new → IsPlacedAt main old x place
+    → IsPlacedAt main new x place
+placed_still others at = record { placed = rw others.names at.placed; askable = at.askable }
 
 -- Each place that is noted is that of a file, whether it was noted or memory ran out.
 pub noted_again : {T E : Type 0} (cache : Cache) (new : FileTable) (number place : ℕ) (r : Result T E)

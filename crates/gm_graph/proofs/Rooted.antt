@@ -1,5 +1,5 @@
 -- Edges lead from the main module to each step that has an edge, and so to each entry of the build list.
-use Rattle.std.proofs.Common.{◌↔◌, ℕ, zero, suc, List, ◌∷◌, map, Contains, subst, inl, inr, arith}
+use Rattle.std.proofs.Common.{◌↔◌, ℕ, zero, suc, List, ◌∷◌, map, Contains, inl, inr, arith}
 use Rattle.gm_name.specs.ModuleVersion.{ModuleVersion}
 use Rattle.gm_file.specs.Directives.{Replacing}
 use Rattle.gm_graph_select.specs.declared.step.Edge.{Edge}
@@ -8,7 +8,7 @@ use Rattle.gm_graph_select.specs.BuildList.{Entry, IsBuildList, IsSelected, entr
 use Rattle.gm_graph_select.specs.Chains.{IsReached, IsRooted, along, at_main}
 use Rattle.gm_graph_select.specs.Graph.{among, edge, edge_cmp}
 use Rattle.gm_graph_select.specs.Order.{HaveSame, IsAscending}
-use Rattle.gm_graph_select.proofs.Same.{AreSame, same_back, same_rooted}
+use Rattle.gm_graph_select.proofs.Same.{same_back, same_rooted}
 use Rattle.gm_graph.specs.Run.{IsDeep, IsEdge, IsOpened, IsTop, Run, from_deep, from_main, from_top}
 use Rattle.gm_graph.specs.Outcome.{AreReached}
 use Rattle.gm_graph_select.proofs.RankedLists.{from_mapped}
@@ -30,12 +30,8 @@ module _ (run : Run) where
   edges_rooted FromMain y e = (0, at_main)
   edges_rooted (Of x) y e = opened_reached x e.0
 
-pub same_edges : (run : Run) (edges : List Edge) → ((e : Edge) → Contains edges e ↔ IsEdge run e.from e.to) → AreSame (among edges) (IsEdge run)
-same_edges run edges exact s y = exact (edge s y)
-
 pub list_rooted : (run : Run) (edges : List Edge) → ((e : Edge) → Contains edges e ↔ IsEdge run e.from e.to) → IsRooted (among edges)
-list_rooted run edges exact =
-    same_rooted (IsEdge run) (among edges) (same_back (among edges) (IsEdge run) (same_edges run edges exact)) (edges_rooted run)
+list_rooted run edges exact = same_rooted _ _ (same_back _ (IsEdge run) (λ s y. exact (edge s y))) (edges_rooted run)
 
 -- The entries of a build list are reached.
 module _ (main : List ℕ) (replaces : List Replacing) (edges : List Edge) (entries : List Entry)
@@ -44,15 +40,15 @@ module _ (main : List ℕ) (replaces : List Replacing) (edges : List Edge) (entr
   selected_reached x is = let (s, e) = is.is_end in let (n, l) = rooted s x e in (suc n, along l e)
 
   entry_reached : (entry : Entry) → Contains (main_entry ∷ map (entry_of replaces) list.selected) entry → IsReached (among edges) entry.0
-  entry_reached entry (zero, below, is) = subst (λ (e : Entry). IsReached (among edges) e.0) is (0, at_main)
+  entry_reached entry (zero, below, is) = rw⁻¹ is (0, at_main)
   entry_reached entry (suc k, below, is) =
       let (x, there, e) = from_mapped (entry_of replaces) list.selected entry (k, omega arith, is) in
-      subst (λ (one : Entry). IsReached (among edges) one.0) e (selected_reached x ((list.each x).0 there))
+      rw⁻¹ e (selected_reached x ((list.each x).0 there))
 
   pub are_reached : IsAscending edge_cmp edges → AreReached edges entries
   are_reached ascending = record {
     ascending = ascending;
-    reached = λ entry there none. none (entry_reached entry (subst (λ (es : List Entry). Contains es entry) list.entries_are there));
+    reached = λ entry there none. none (entry_reached entry (rw list.entries_are at there));
   }
 
 pub sorted_rooted : (old new : List Edge) → HaveSame old new → IsRooted (among old) → IsRooted (among new)

@@ -1,6 +1,6 @@
 -- Two runs, perhaps of two main files: what modules say in the one they say in the other, and what the one opens the
 -- other opens. Runs of one main file that agree on what they open have the same edges, faults and needed files.
-use Rattle.std.proofs.Common.{◌≡◌, ◌||◌, ◌∙◌, ◌∷◌, Bool, true, false, List, [], Option, None, Some, IsSome, Result, Ok, Err, Contains, ap, refl, inl, inr}
+use Rattle.std.proofs.Common.{◌≡◌, ◌||◌, ◌∙◌, ◌∷◌, true, false, List, [], Option, None, Some, IsSome, Result, Ok, Err, Contains, ap, refl, inl, inr}
 use Rattle.std.specs.Prelude.{if◌then◌else◌, is_some}
 use Rattle.std.specs.Cmp.{IsEquivalence, decided}
 use Rattle.std.specs.List.{list_any}
@@ -14,8 +14,9 @@ use Rattle.gm_store.proofs.NameOrder.{names_equal, same_from_equal}
 use Rattle.gm_store_sums.specs.Sums.{Sums}
 use Rattle.gm_graph.specs.declared.cache.class.Class.{Class}
 use Rattle.gm_graph.specs.declared.fault.Fault.{Fault}
-use Rattle.gm_graph.specs.Reading.{IsFileReading, file_named, file_of, is_right_path}
-use Rattle.gm_graph.specs.Run.{AreTooMany, FileSays, IsDeep, IsEdge, IsFault, IsNeeded, IsOpened, IsSettled, IsTop, KeepsSayings, Run, Says, answered, faulty, from_deep, from_main, from_top, run_of, sound, unaskable, wrong_path}
+use Rattle.gm_graph.specs.Reading.{IsFileReading, file_named, file_of}
+use Rattle.gm_graph.specs.Run.{AreTooMany, FileSays, IsDeep, IsEdge, IsFault, IsNeeded, IsOpened, IsSettled, IsTop, KeepsSayings, Run, Says, answered, from_deep, from_main, from_top, run_of, unaskable}
+use Rattle.gm_graph.proofs.Sayings.{says_if}
 use Rattle.gm_graph_select.specs.declared.step.Step.{Step}
 use Rattle.gm_graph_select.specs.declared.step.Step.TheVariants.{Main as FromMain, Of}
 use Rattle.gm_graph_select.proofs.Same.{AreSame}
@@ -40,11 +41,6 @@ abbrev pub SaysToo : Run → Run → Type 0
 SaysToo one other = (x : ModuleVersion) → IsOpened other x → (said : Result Dependency Class) → Says one x said → Says other x said
 
 module _ (one other : Run) (same : ReplaceAlike one.main other.main) (alike : SayAlike one other) (heard : HearsAll other) where
-  right_too : (x : ModuleVersion) (file : Dependency) (b : Bool)
-      → is_right_path x (replacement_in one.main x) file.declared ≡ b
-      → is_right_path x (replacement_in other.main x) file.declared ≡ b
-  right_too x file b is = rw⁻¹ (same x) is
-
   heard_too : (x : ModuleVersion) {said : Result Dependency Class} → IsOpened other x
       → FileSays one (file_of other.main x) said → FileSays other (file_of other.main x) said
   heard_too x opened (unaskable e) = unaskable e
@@ -52,14 +48,8 @@ module _ (one other : Run) (same : ReplaceAlike one.main other.main) (alike : Sa
       let (again, there) = heard (file_of other.main x) (x, opened, refl, ask) in
       answered again ask there (alike (file_of other.main x) reply again at there said reads)
 
-  file_too : (x : ModuleVersion) (said : Result Dependency Class) → IsOpened other x
-      → FileSays one (file_of one.main x) said → FileSays other (file_of other.main x) said
-  file_too x said opened is = heard_too x opened (rw⁻¹ (ap (file_named x) (same x)) is)
-
   pub says_too : SaysToo one other
-  says_too x opened said (faulty {class} is) = faulty (file_too x (Err class) opened is)
-  says_too x opened said (wrong_path file is wrong) = wrong_path file (file_too x (Ok file) opened is) (right_too x file false wrong)
-  says_too x opened said (sound {file} is own) = sound (file_too x (Ok file) opened is) (right_too x file true own)
+  says_too x opened said says = says_if (same x) (λ read is. heard_too x opened (rw (ap (file_named x) (same x)) at is)) says
 
 -- ---- what the first opens, the second opens
 
@@ -126,18 +116,21 @@ module _ (one other : Run) (agrees : Agrees one other) where
   top : (x : ModuleVersion) → IsTop one x → IsTop other x
   top x is = rw⁻¹ agrees.main_is is
 
+  tops : (x : ModuleVersion) → IsTop one x → IsOpened other x
+  tops x is = inl (top x is)
+
   requires_too : RequiresToo one other
   requires_too x y file is be says there =
       (agrees.says x be (Ok file) says, rw⁻¹ agrees.main_is there)
 
   pub deep : {x : ModuleVersion} → IsDeep one x → IsDeep other x
-  deep is = deep_too one other unpruned_too (λ y t. inl (top y t)) requires_too is
+  deep is = deep_too one other unpruned_too tops requires_too is
 
   pub opened : (x : ModuleVersion) → IsOpened one x → IsOpened other x
-  opened x is = opened_too one other unpruned_too (λ y t. inl (top y t)) requires_too x is
+  opened x is = opened_too one other unpruned_too tops requires_too x is
 
   pub edge : (s : Step) (y : ModuleVersion) → IsEdge one s y → IsEdge other s y
-  edge s y is = edge_too one other unpruned_too (λ z t. inl (top z t)) requires_too top s y is
+  edge s y is = edge_too one other unpruned_too tops requires_too top s y is
 
   pub fault : (f : Fault) → IsFault one f → IsFault other f
   fault f (is, says) = let too = opened f.vertex is in (too, agrees.says f.vertex too (Err f.class) says)
@@ -146,7 +139,7 @@ module _ (one other : Run) (agrees : Agrees one other) where
   needed name (x, is, named, askable) = (x, opened x is, rw⁻¹ agrees.main_is named, askable)
 
   pub too_many : AreTooMany one → AreTooMany other
-  too_many many = many_too one other unpruned_too (λ y t. inl (top y t)) requires_too many
+  too_many many = many_too one other unpruned_too tops requires_too many
 
 pub same_edges : (one other : Run) → Agrees one other → Agrees other one → AreSame (IsEdge one) (IsEdge other)
 same_edges one other into back s y = (edge one other into s y, edge other one back s y)
@@ -165,12 +158,12 @@ answered_any (pair ∷ pairs) name =
       | false ↦ answered_any pairs name
     ]
 
-some_reply : (o : Option Reply) → IsSome o → (reply : Reply) × (o ≡ Some reply)
-some_reply None none = absurd (false≢true none)
-some_reply (Some reply) some = (reply, refl)
+pub value_of : {A : Type 0} (o : Option A) → IsSome o → (value : A) × (o ≡ Some value)
+value_of None none = absurd (false≢true none)
+value_of (Some value) some = (value, refl)
 
 pub asked_answered : (pairs : List (Name × Reply)) (name : Name) → Contains (names_in pairs) name → (reply : Reply) × (answer_in pairs name ≡ Some reply)
-asked_answered pairs name there = some_reply (answer_in pairs name)
+asked_answered pairs name there = value_of (answer_in pairs name)
     (answered_any pairs name ∙ list_any-from_Contains names_equivalence name (names_in pairs) there)
 
 -- Each needed name has an answer.

@@ -11,13 +11,13 @@ use Rattle.gm_graph.specs.declared.cache.depth.Depth.{Depth}
 use Rattle.gm_graph.specs.declared.cache.depth.Depth.TheVariants.{Top, Deep}
 use Rattle.gm_graph.specs.Turns.{same_turn, same_depth, turn}
 
-exact_depth : (a b : Depth) → same_depth a b ≡ true → a ≡ b
+pub exact_depth : (a b : Depth) → same_depth a b ≡ true → a ≡ b
 exact_depth Top Top h = refl
 exact_depth Top Deep h = cc
 exact_depth Deep Top h = cc
 exact_depth Deep Deep h = refl
 
-same_depth-refl : (a : Depth) → same_depth a a ≡ true
+pub same_depth-refl : (a : Depth) → same_depth a a ≡ true
 same_depth-refl Top = refl
 same_depth-refl Deep = refl
 

@@ -1,18 +1,21 @@
 -- A cache that keeps one more file knows one more answer.
-use Rattle.std.proofs.Common.{◌≡◌, ◌∙◌, Bool, true, false, cond, List, [], ◌∷◌, ◌++◌, Option, Some, None, sym, ap, refl}
+use Rattle.std.proofs.Common.{◌≡◌, ◌∙◌, Bool, true, false, cond, List, [], ◌∷◌, ◌++◌, Option, Some, None, sym, ap, refl, inl, inr}
 use Rattle.std.specs.Option.{option_map, option_or}
+use Rattle.std.proofs.lemmas.Bool.{cases_Bool}
 use Rattle.gm_name.specs.ModuleVersion.{ModuleVersion}
 use Rattle.gm_store.specs.Asked.{Name, Reply, answer_in, same_name}
 use Rattle.gm_store.proofs.NameOrder.{names_equal}
 use Rattle.gm_name_table.specs.Listed.{BeginsWith, modules_of}
 use Rattle.gm_graph.specs.declared.cache.summary.Kept.{Kept}
 use Rattle.gm_graph.specs.declared.cache.Cache.{Cache}
+use Rattle.gm_graph.specs.declared.cache.file_table.FileTable.{FileTable}
+use Rattle.gm_graph.specs.Held.{HoldsAnswers}
 use Rattle.gm_graph.specs.Reading.{IsFileReading}
 use Rattle.gm_graph.specs.Private.FileTable.{PutsFile}
 use Rattle.gm_graph.proofs.HeldFiles.{put_holds}
 use Rattle.gm_graph.proofs.Keeping.{knows_still, says_later, sound_still}
 use Rattle.gm_graph.proofs.Sayings.{answer_append}
-use Rattle.gm_graph.specs.Summaries.{IsKept, summary_reading}
+use Rattle.gm_graph.specs.Summaries.{summary_reading}
 use Rattle.gm_graph.specs.Cached.{HoldsSame, KeepsSound, Knows, LentSame, main_in, run_in, summary_at, sums_in}
 
 -- A name without an entry was not asked for.
@@ -28,31 +31,27 @@ not_asked cache pairs name knows none = by (answer_in pairs name) refl
 
 answer_more : (pairs : List (Name × Reply)) (name other : Name) (reply : Reply) → answer_in pairs name ≡ None
     → answer_in (pairs ++ (name, reply) ∷ []) other ≡ cond (same_name other name) (Some reply) (answer_in pairs other)
-answer_more pairs name other reply none =
-    answer_append pairs ((name, reply) ∷ []) other ∙ by (same_name other name) refl (answer_in pairs other) refl
+answer_more pairs name other reply none = rw (answer_append pairs ((name, reply) ∷ []) other)
+    (elim (cases_Bool (same_name other name)) [
+      | inl is ↦ (let no : answer_in pairs other ≡ None = ap (answer_in pairs) (names_equal other name is) ∙ none in rw (is, no))
+      | inr apart ↦ rw apart (first (answer_in pairs other))
+    ])
   where
-    by : (b : Bool) → same_name other name ≡ b → (o : Option Reply) → answer_in pairs other ≡ o
-        → option_or o (cond b (Some reply) None) ≡ cond b (Some reply) o
-    by true is None e = refl
-    by true is (Some held) e = absurd (cc (sym e ∙ ap (answer_in pairs) (names_equal other name is) ∙ none))
-    by false apart None e = refl
-    by false apart (Some held) e = refl
+    first : (o : Option Reply) → option_or o None ≡ o
+    first None = refl
+    first (Some held) = refl
 
 -- ---- a cache with one more file
 
 -- A cache that adds what was read of one more file knows all answers.
-pub knows_read : (old mid new : Cache) (pairs all : List (Name × Reply)) (name : Name) (reply : Reply) (one : Kept)
-    → Knows old pairs → HoldsSame old mid → LentSame mid new → new.modules ≡ mid.modules → summary_at old name ≡ None
-    → PutsFile mid.files new.files name one
-    → all ≡ pairs ++ (name, reply) ∷ [] → IsFileReading (sums_in old) name reply
-    (summary_reading (modules_of mid.modules) one) → IsKept (main_in old) (modules_of mid.modules) one
-    → Knows new all
-knows_read old mid new pairs all name reply one knows same lent modules none adds e reads is =
-    let holds = put_holds (main_in mid) (sums_in mid) mid.modules mid.files new.files name reply one adds
-    (rw same.sums reads) (rw same.main is) pairs all
+pub knows_read : (old mid : Cache) (files : FileTable) (pairs all : List (Name × Reply)) (name : Name) (reply : Reply) (one : Kept)
+    → Knows old pairs → HoldsSame old mid → summary_at old name ≡ None → PutsFile mid.files files name one
+    → all ≡ pairs ++ (name, reply) ∷ [] → IsFileReading (sums_in old) name reply (summary_reading (modules_of mid.modules) one)
+    → HoldsAnswers (run_in mid all) mid.modules files
+knows_read old mid files pairs all name reply one knows same none adds e reads =
+    put_holds (main_in mid) (sums_in mid) mid.modules mid.files files name reply one adds (rw same.sums reads) pairs all
     (λ other. rw e (answer_more pairs name other reply (not_asked old pairs name knows none)))
-    (knows_still pairs same knows) in
-    rw (lent.main, lent.sums, modules) holds
+    (knows_still pairs same knows)
 
 stays : {R : Type 0} (b : Bool) (v r : R) (old new : Option R) → new ≡ cond b (Some v) old → (b ≡ true → old ≡ None) → old ≡ Some r → new ≡ Some r
 stays true v r old new is none e = let never = sym (none refl) ∙ e in absurd (cc never)
@@ -70,10 +69,10 @@ none_still old mid name same none =
 -- What was found at a place is found there still after what was read of one more file was added, if the files begin with
 -- those that were kept.
 pub sound_read : (old mid new : Cache) (pairs all : List (Name × Reply)) (name : Name) (reply : Reply) (one : Kept) → HoldsSame old mid
-    → LentSame mid new → new.modules ≡ mid.modules → summary_at old name ≡ None
-    → PutsFile mid.files new.files name one → BeginsWith mid.files.files.items new.files.files.items → all ≡ pairs ++ (name, reply) ∷ []
+    → LentSame mid new → summary_at old name ≡ None → PutsFile mid.files new.files name one
+    → BeginsWith mid.files.files.items new.files.files.items → all ≡ pairs ++ (name, reply) ∷ []
     → KeepsSound old (run_in old pairs) new (run_in new all)
-sound_read old mid new pairs all name reply one same lent modules none adds files asked x place sound =
+sound_read old mid new pairs all name reply one same lent none adds files asked x place sound =
     let none_more : summary_at mid name ≡ None = none_still old mid name same none in
     sound_still mid new (run_in old pairs) (run_in new all) lent.main files
     (λ other some e. stays (same_name other name) one some (summary_at mid other) (summary_at new other)

@@ -17,7 +17,7 @@ use Rattle.gm_graph.specs.declared.cache.summary.ListSpan.{ListSpan}
 use Rattle.gm_graph.specs.declared.cache.Cache.{Cache}
 use Rattle.gm_file.specs.Main.{Main, main_of, without_excluded}
 use Rattle.gm_graph.specs.FileTable.{kept_at}
-use Rattle.gm_graph.specs.Held.{AreKept, HoldsAnswers, held_under}
+use Rattle.gm_graph.specs.Held.{HoldsAnswers, held_under}
 use Rattle.gm_graph.specs.Reading.{file_of}
 use Rattle.gm_graph.specs.Run.{Run, Says, run_of}
 use Rattle.gm_graph.specs.Summaries.{listed_span, own_span_at}
@@ -55,10 +55,6 @@ held_of cache name = held_under cache.modules cache.files name
 -- The run of a cache whose store gave these answers.
 abbrev pub run_in : Cache → List (Name × Reply) → Run
 run_in cache pairs = run_of (main_in cache) (sums_in cache) pairs
-
--- Each summary has the requirements of its file, without the excluded ones, and the list of modules has both.
-abbrev pub LendsKept : Cache → Type 0
-LendsKept cache = AreKept (main_in cache) cache.modules cache.files
 
 -- The cache holds what these answers say, and nothing else.
 abbrev pub Knows : Cache → List (Name × Reply) → Type 0
@@ -114,13 +110,12 @@ KeepsSound old earlier new later = (x : ModuleVersion) (place : ℕ) → IsSound
 
 -- ---- what changes
 
--- The main file, the go.sum and what is held of each file are the same, requirements can still be returned, and what
--- had a number or a place has it still. More modules may have numbers.
+-- The main file, the go.sum and what is held of each file are the same, and what had a number or a place has it still.
+-- More modules may have numbers.
 pub record HoldsSame (old new : Cache) : Type 0 where
   pub main : new.main.now ≡ old.main.now
   pub sums : sums_in new ≡ sums_in old
   pub held : (name : Name) → held_of new name ≡ held_of old name
-  pub lends : LendsKept old → LendsKept new
   pub numbered : BeginsWith (table_in old) (table_in new)
   pub sound : (run : Run) → KeepsSound old run new run
 

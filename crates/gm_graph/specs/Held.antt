@@ -3,24 +3,17 @@ use Rattle.std.specs.Prelude.{◌≡◌, Option, Some, None, Result}
 use Rattle.std.specs.Option.{option_map}
 use Rattle.gm_name_table.specs.Listed.{NumberedList, modules_of}
 use Rattle.gm_file.specs.Fields.{Dependency}
-use Rattle.gm_file.specs.Main.{Main}
 use Rattle.gm_store.specs.Asked.{Name, Reply}
 use Rattle.gm_graph.specs.declared.cache.class.Class.{Class}
 use Rattle.gm_graph.specs.declared.cache.file_table.FileTable.{FileTable}
-use Rattle.gm_graph.specs.declared.cache.summary.Kept.{Kept}
 use Rattle.gm_graph.specs.FileTable.{kept_at}
 use Rattle.gm_graph.specs.Reading.{IsFileReading}
 use Rattle.gm_graph.specs.Run.{Run}
-use Rattle.gm_graph.specs.Summaries.{IsKept, summary_reading}
+use Rattle.gm_graph.specs.Summaries.{summary_reading}
 
 -- what is held of the file of a name: its contents or its fault
 abbrev pub held_under : NumberedList → FileTable → Name → Option (Result Dependency Class)
 held_under list files name = option_map (summary_reading (modules_of list)) (kept_at files name)
-
--- Each summary has the requirements of its file, without the excluded ones, and the list of modules has both.
-abbrev pub AreKept : Main → NumberedList → FileTable → Type 0
-AreKept main list files = (name : Name) (one : Kept) → kept_at files name ≡ Some one
-    → IsKept main (modules_of list) one
 
 -- Of each name that a run answers, what the answer says is held, and of other names nothing.
 pub record HoldsAnswers (run : Run) (list : NumberedList) (files : FileTable) : Type 0 where
@@ -28,4 +21,3 @@ pub record HoldsAnswers (run : Run) (list : NumberedList) (files : FileTable) : 
       → (said : Result Dependency Class) × (held_under list files name ≡ Some said)
       × IsFileReading run.sums name reply said
   pub only : (name : Name) → run.answers name ≡ None → held_under list files name ≡ None
-  pub lends : AreKept run.main list files

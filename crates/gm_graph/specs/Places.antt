@@ -6,6 +6,10 @@ use Rattle.gm_name_table.specs.OptionalPlaces.{place_in}
 use Rattle.gm_name_table.specs.declared.place.OptionalPlace.{OptionalPlace}
 use Rattle.gm_store.specs.Asked.{Name, same_name}
 
+-- A place is a number of 32 bits below the greatest one, which stands for no place.
+abbrev pub place_limit : ℕ
+place_limit = 4294967295
+
 -- the place of a name, if it is one of these
 abbrev pub place_among : List (Name × OptionalPlace) → Name → Option ℕ
 place_among entries name = option_and_then place_in (lookup (same_name name) entries)

@@ -12,6 +12,5 @@ pub mod Places
 pub mod Summaries
 pub mod TurnVisits
 pub mod Turns
-pub mod VisitedTurns
 pub mod Visiting
 pub mod Worklists

@@ -28,23 +28,23 @@ pub(crate) mod summary;
 pub(crate) mod turn_history;
 pub(crate) mod visit;
 
-ghost use Rattle.std.specs.Prelude.{◌≡◌, ◌≤◌, ◌<◌, ◌+◌, ◌++◌, ◌∷◌, [], List, IfOk, IfSome, OnOk, OnErr, IsSome, None, Some, Err, Ok, drop, length, take, true};
-ghost use Rattle.std.specs.Option.{option_and_then, option_copied};
-ghost use Rattle.gm_name_table.specs.OptionalPlaces.{place_in};
+ghost use Rattle.std.specs.Prelude.{◌≡◌, ◌≤◌, ◌<◌, ◌+◌, ◌++◌, ◌∷◌, [], List, IfOk, IfSome, OnErr, IsSome, None, Err, Ok, drop, length, take};
+ghost use Rattle.std.specs.Option.{option_copied};
 ghost use Rattle.gm_name_table.specs.Listed.{modules_of};
-ghost use Rattle.gm_store.specs.Asked.{IsWithinLimit, Name, Reply, answer_in, name_of, reply_of};
+ghost use Rattle.gm_store.specs.Asked.{Name, Reply, answer_in, name_of};
 ghost use Rattle.gm_store.specs.Requests.{refused_for};
 ghost use Rattle.gm_store.specs.States.{AddsAnswer};
 ghost use Rattle.gm_store.specs.declared.files.FileName.{FileName};
 ghost use Rattle.gm_file.specs.Listed.{with_requirements};
 ghost use Rattle.gm_file.specs.Main.{main_of, without_excluded};
 ghost use Rattle.gm_graph.specs.Private.Asking.{AsksOne, HasName, IsAskableFile, IsLoadFaultOf};
-ghost use Rattle.gm_graph.specs.Reading.{IsFileReading, file_of, is_askable as may_be_asked};
-ghost use Rattle.gm_graph.specs.Private.FileTable.{PutsFile, IsNewFile, NotesFiles, replacing_place};
+ghost use Rattle.gm_graph.specs.Reading.{IsFileReading, file_of};
+ghost use Rattle.gm_graph.specs.Places.{place_limit};
+ghost use Rattle.gm_graph.specs.Private.FileTable.{NotesFiles};
 ghost use Rattle.gm_graph.specs.Private.Held.{HoldsSome};
 ghost use Rattle.gm_graph.specs.Lent.{lent_modules};
 ghost use Rattle.gm_graph.specs.Summaries.{at_span, summary_reading};
-ghost use Rattle.gm_graph.specs.Private.Summaries.{AllStand, AreListsInOrder, GrowsFrom, KeptStands, listed_reading, order_is_fact, own_spans};
+ghost use Rattle.gm_graph.specs.Private.Summaries.{AreListed, AreListsInOrder, GrowsFrom, IsListed, IsListedIfValid, listed_reading, order_is_fact, own_spans};
 ghost use Rattle.gm_graph.specs.declared.cache.summary.Kept.{Kept};
 
 use crate::cache::class::Class;
@@ -99,7 +99,7 @@ pub struct Cache<'a> {
     ghost holds_some: { ∥ HoldsSome (main_of main.now) (option_copied sums) modules files ∥₁ },
     ghost notes: { NotesFiles (main_of main.now) modules.modules files },
     ghost in_order: { AreListsInOrder first files.files.items (length modules.numbers) } by { order_is_fact first (own_spans files.files.items) (length modules.numbers) },
-    ghost listed: { AllStand (main_of main.now) (modules_of modules) files.files.items },
+    ghost listed: { AreListed (main_of main.now) (modules_of modules) files.files.items },
 }
 
 /// A table of names without a limit, which knows the paths that the main file requires.
@@ -136,13 +136,12 @@ fn shared_summary(
     file: ListedFile,
     start: usize,
 ) -> Result<Summary, NoMemory>
-    requires few { length files.now < 4294967295 }
+    requires few { length files.now < place_limit }
     requires start { start ≤ length modules.old.numbers }
-    requires listed { AllStand (main_of main.now) (take start (modules_of modules.old)) files.now }
+    requires listed { AreListed (main_of main.now) (take start (modules_of modules.old)) files.now }
     ensures reading { IfOk result (λ summary. summary_reading (modules_of modules.new) (Kept.Valid summary)
         ≡ Ok (with_requirements file (drop start (modules_of modules.old)))) }
-    ensures listed { IfOk result (λ summary.
-        KeptStands (main_of main.now) (modules_of modules.new) files.now (Kept.Valid summary)) }
+    ensures listed { IfOk result (IsListed (main_of main.now) (modules_of modules.new) files.now) }
     ensures order { IfOk result (λ summary.
         AreListsInOrder start (Kept.Valid summary ∷ []) (length modules.new.numbers)) }
     ensures grows { GrowsFrom start modules.old modules.new }
@@ -169,12 +168,12 @@ fn kept_of(
     read: ListedReading,
     start: usize,
 ) -> Result<Kept, NoMemory>
-    requires few { length files.now < 4294967295 }
+    requires few { length files.now < place_limit }
     requires start { start ≤ length modules.old.numbers }
-    requires listed { AllStand (main_of main.now) (take start (modules_of modules.old)) files.now }
+    requires listed { AreListed (main_of main.now) (take start (modules_of modules.old)) files.now }
     ensures reading { IfOk result (λ kept. summary_reading (modules_of modules.new) kept
         ≡ listed_reading (drop start (modules_of modules.old)) read) }
-    ensures listed { IfOk result (KeptStands (main_of main.now) (modules_of modules.new) files.now) }
+    ensures listed { IfOk result (IsListedIfValid (main_of main.now) (modules_of modules.new) files.now) }
     ensures order { IfOk result (λ kept. AreListsInOrder start (kept ∷ []) (length modules.new.numbers)) }
     ensures grows { GrowsFrom start modules.old modules.new }
 {
@@ -189,9 +188,8 @@ fn kept_of(
 
 impl<'a> Cache<'a> {
     ghost use Rattle.std.specs.Borrow.{sem};
-    ghost use Rattle.gm_name_table.specs.Listed.{BeginsWith};
-    ghost use Rattle.gm_graph.specs.Cached.{HoldsSame, Knows, LendsKept, LentSame, file_count, main_in, run_in, sums_in, table_in, turns_in};
-    ghost use Rattle.gm_graph.specs.Private.Cached.{ArePartsOf, HasFileAt, HasMadeKnown, IsPlaceFor, CacheStays, LendsTurns, module_numbered, span_at};
+    ghost use Rattle.gm_graph.specs.Cached.{HoldsSame, Knows, LentSame, file_count, main_in, run_in, sums_in, table_in, turns_in};
+    ghost use Rattle.gm_graph.specs.Private.Cached.{ArePartsOf, HasMadeKnown, IsPlaceFor, LendsTurns, module_numbered, span_at};
     ghost use Rattle.gm_graph.specs.Private.Held.{lent_table};
     ghost use Rattle.gm_graph.specs.declared.cache.Cache.{Cache};
     ghost use Rattle.gm_graph.specs.Private.CacheVisits.{IsSaid, LendsOver, VisitEnds};
@@ -228,20 +226,26 @@ impl<'a> Cache<'a> {
         })
     }
 
-    /// What is kept of an answer to a request for the file of a name. The only refusal is `NoMemory`. The cache holds the
-    /// same in any case; more modules may have numbers.
-    fn read_reply(&mut self, name: &FileName, answer: &Answer) -> Result<Kept, NoMemory>
-        requires lends { LendsKept self.old }
-        requires few { file_count self.old < 4294967295 }
-        ensures reading { IfOk result (λ kept. IsWithinLimit (reply_of answer.now)
-            → IsFileReading (sums_in self.old) (name_of name.now) (reply_of answer.now)
+    /// Asks for the file of a name that was not asked for, and reads it. The cache holds the same in any case; more modules
+    /// may have numbers.
+    fn read_file<F: Asks>(&mut self, files: &mut F, name: &FileName) -> Result<Kept, AskFault>
+        requires fresh { answer_in (F.state files.old).asked (name_of name.now) ≡ None }
+        requires few { file_count self.old < place_limit }
+        ensures reading { IfOk result (λ kept. (reply : Reply)
+            × AddsAnswer (F.state files.old) (F.state files.new) (name_of name.now) reply
+            × IsFileReading (sums_in self.old) (name_of name.now) reply
             (summary_reading (modules_of self.new.modules) kept)) }
         ensures listed { IfOk result
-            (KeptStands (main_in self.old) (modules_of self.new.modules) self.old.files.files.items) }
+            (IsListedIfValid (main_in self.old) (modules_of self.new.modules) self.old.files.files.items) }
         ensures order { IfOk result (λ kept. AreListsInOrder self.new.first (self.new.files.files.items ++ kept ∷ [])
             (length self.new.modules.numbers)) }
-        ensures keeps { CacheStays self.old self.new }
+        ensures holds { HoldsSame self.old self.new }
+        ensures lent { LentSame self.old self.new }
+        ensures files { self.new.files ≡ self.old.files }
+        ensures asks { AsksOne (λ n. n ≡ name_of name.now) (F.may_answer files.old) (F.may_answer files.new)
+            (F.state files.old) (F.state files.new) (refused_for (name_of name.now) result) }
     {
+        files.ask(name)?;
         let start = self.modules.len();
         let read = read_answer(
             self.alloc,
@@ -249,9 +253,9 @@ impl<'a> Cache<'a> {
             &mut self.modules,
             self.sums,
             name,
-            answer,
+            files.last(),
         )?;
-        kept_of(
+        let kept = kept_of(
             self.alloc,
             &mut self.lists,
             &mut self.modules,
@@ -259,65 +263,8 @@ impl<'a> Cache<'a> {
             self.files.files(),
             read,
             start,
-        )
-    }
-
-    /// Asks for the file of a name that was not asked for, and reads it.
-    fn read_file<F: Asks>(&mut self, files: &mut F, name: &FileName) -> Result<Kept, AskFault>
-        requires fresh { answer_in (F.state files.old).asked (name_of name.now) ≡ None }
-        requires lends { LendsKept self.old }
-        requires few { file_count self.old < 4294967295 }
-        ensures reading { IfOk result (λ kept. (reply : Reply)
-            × AddsAnswer (F.state files.old) (F.state files.new) (name_of name.now) reply
-            × IsFileReading (sums_in self.old) (name_of name.now) reply
-            (summary_reading (modules_of self.new.modules) kept)) }
-        ensures listed { IfOk result
-            (KeptStands (main_in self.old) (modules_of self.new.modules) self.old.files.files.items) }
-        ensures order { IfOk result (λ kept. AreListsInOrder self.new.first (self.new.files.files.items ++ kept ∷ [])
-            (length self.new.modules.numbers)) }
-        ensures keeps { CacheStays self.old self.new }
-        ensures asks { AsksOne (λ n. n ≡ name_of name.now) (F.may_answer files.old) (F.may_answer files.new)
-            (F.state files.old) (F.state files.new) (refused_for (name_of name.now) result) }
-    {
-        files.ask(name)?;
-        let kept = self.read_reply(name, files.last())?;
+        )?;
         Ok(kept)
-    }
-
-    /// Keeps what was read of the file of the vertex with a number, of which nothing was kept, and returns the place.
-    /// The only refusal is `NoMemory`, which leaves the cache unchanged.
-    fn keep(&mut self, number: u32, name: &FileName, kept: Kept) -> Result<u32, NoMemory>
-        requires new { IsNewFile (main_in self.old) (table_in self.old) self.old.files number (name_of name.now) }
-        requires few { file_count self.old < 4294967295 }
-        requires reading { (reply : Reply) × IsFileReading (sums_in self.old) (name_of name.now) reply
-            (summary_reading (modules_of self.old.modules) kept) }
-        requires listed { KeptStands (main_in self.old) (modules_of self.old.modules) self.old.files.files.items kept }
-        requires order { AreListsInOrder self.old.first (self.old.files.files.items ++ kept ∷ [])
-            (length self.old.modules.numbers) }
-        ensures count { file_count self.new ≤ file_count self.old + 1 }
-        ensures adds { OnOk result (PutsFile self.old.files self.new.files (name_of name.now) kept) }
-        ensures modules { self.new.modules ≡ self.old.modules }
-        ensures files { BeginsWith self.old.files.files.items self.new.files.files.items }
-        ensures place { IfOk result (HasFileAt self.new (module_numbered self.old number)) }
-        ensures lent { LentSame self.old self.new }
-        ensures err { OnErr result (HoldsSame self.old self.new) }
-    {
-        self.files.add(name, number, kept)
-    }
-
-    /// Notes the place of the file of the vertex with a number, which is that of a replacement. The only refusal is
-    /// `NoMemory`. The cache holds the same in any case.
-    fn note(&mut self, number: u32, place: u32) -> Result<(), NoMemory>
-        requires vertex { number < length (table_in self.old) }
-        requires place { option_and_then place_in (replacing_place self.old.files (file_of (main_in self.old)
-            (module_numbered self.old number))) ≡ Some place }
-        requires askable { may_be_asked (file_of (main_in self.old) (module_numbered self.old number)) ≡ true }
-        ensures holds { HoldsSame self.old self.new }
-        ensures lent { LentSame self.old self.new }
-        ensures count { file_count self.new ≡ file_count self.old }
-        ensures place { HasFileAt self.new (module_numbered self.old number) place }
-    {
-        self.files.note(number, place)
     }
 
     /// The requirements of the main file, without the excluded ones.
@@ -342,7 +289,7 @@ impl<'a> Cache<'a> {
     fn known_at<F: Asks>(&mut self, files: &mut F, number: u32) -> Result<Option<u32>, AskFault>
         requires knows { Knows self.old (F.state files.old).asked }
         requires vertex { number < length (table_in self.old) }
-        requires few { file_count self.old < 4294967295 }
+        requires few { file_count self.old < place_limit }
         ensures count { file_count self.new ≤ file_count self.old + 1 }
         ensures known { IfOk result (HasMadeKnown self.old (F.state files.old).asked self.new (F.state files.new).asked
             (module_numbered self.old number)) }
@@ -362,11 +309,11 @@ impl<'a> Cache<'a> {
             return Ok(None);
         }
         if let Some(place) = self.files.replacing_place(&name) {
-            self.note(number, place)?;
+            self.files.note(number, place)?;
             return Ok(Some(place));
         }
         match self.read_file(files, &name) {
-            Ok(kept) => Ok(Some(self.keep(number, &name, kept)?)),
+            Ok(kept) => Ok(Some(self.files.add(&name, number, kept)?)),
             Err(fault) => {
                 self.failed = Some(name);
                 Err(fault)
@@ -431,7 +378,7 @@ impl<'a> Cache<'a> {
     ) -> Result<Visit<'_>, AskFault>
         requires knows { Knows self.old (F.state files.old).asked }
         requires vertex { number < length (table_in self.old) }
-        requires few { file_count self.old < 4294967295 }
+        requires few { file_count self.old < place_limit }
         ensures lends { IfOk result (LendsOver self.old (run_in self.old (F.state files.old).asked)) }
         ensures asks { AsksOne (IsAskableFile (main_in self.old) (module_numbered self.old number))
             (F.may_answer files.old) (F.may_answer files.new) (F.state files.old) (F.state files.new)

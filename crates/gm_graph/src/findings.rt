@@ -26,7 +26,7 @@ pub(crate) struct Findings {
 }
 
 impl Findings {
-    ghost use Rattle.gm_graph.specs.Private.Findings.{place_found};
+    ghost use Rattle.gm_graph.specs.Private.Findings.{place_at};
 
     /// Nothing.
     pub(crate) fn new(alloc: Global) -> Findings
@@ -41,8 +41,9 @@ impl Findings {
 
     /// Notes that the vertex with a number has no fault, and the place of the file that has its list.
     pub(crate) fn note_file(&mut self, number: u32, file: u32) -> Result<(), AllocError>
-        ensures put { OnOk result (place_found self.new number ≡ Some file) }
-        ensures others { OnOk result ((n : ℕ) → n ≢ number → place_found self.new n ≡ place_found self.old n) }
+        ensures put { OnOk result (place_at self.new.places.items number ≡ Some file) }
+        ensures others { OnOk result ((n : ℕ) → n ≢ number
+            → place_at self.new.places.items n ≡ place_at self.old.places.items n) }
         ensures faults { self.new.faults ≡ self.old.faults }
     {
         put_at(&mut self.places, number, None, Some(file))

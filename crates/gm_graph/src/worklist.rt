@@ -3,13 +3,13 @@
 //! A vertex may be found at the top and later at full depth, and must then be visited again. The worklist therefore
 //! holds turns, each of a vertex and a depth, and each vertex has a mark for each depth, so that each turn comes once.
 
-ghost use Rattle.std.specs.Prelude.{◌≡◌, ◌<◌, ◌≤◌, ◌+◌, ◌||◌, ◌++◌, ◌∷◌, [], Err, IfOk, List, OnOk, if◌then◌else◌, length};
+ghost use Rattle.std.specs.Prelude.{◌≡◌, ◌<◌, ◌≤◌, ◌+◌, ◌||◌, ◌++◌, ◌∷◌, [], Err, IfOk, List, OnOk, get_or, if◌then◌else◌, length};
 ghost use Rattle.std.specs.List.{IsDistinct};
 ghost use Rattle.gm_name.specs.ModuleVersion.{ModuleVersion, module_at, pair_eq};
 ghost use Rattle.gm_graph.specs.Lent.{lent_modules};
 ghost use Rattle.gm_graph.specs.Private.Held.{lent_table};
-ghost use Rattle.gm_graph.specs.Turns.{turn};
-ghost use Rattle.gm_graph.specs.Private.Turns.{AddsAll, AppendsTurnIfNew, OverflowsWith};
+ghost use Rattle.gm_graph.specs.Private.Marks.{no_marks};
+ghost use Rattle.gm_graph.specs.Private.Turns.{AddsAll, OverflowsWith};
 ghost use Rattle.gm_graph.specs.WorklistFaults.{load_fault_of};
 ghost use Rattle.gm_graph.specs.declared.worklist.AddFault.TheVariants as add;
 
@@ -94,7 +94,7 @@ pub(crate) struct Worklist {
 }
 
 impl Worklist {
-    ghost use Rattle.gm_graph.specs.Private.Worklists.{IsWorklist, marks_at, turns_of};
+    ghost use Rattle.gm_graph.specs.Private.Worklists.{IsWorklist, turns_of};
 
     /// No turns, with room for the marks of so many modules.
     pub(crate) fn new(alloc: Global, count: usize) -> Result<Worklist, AllocError>
@@ -118,7 +118,7 @@ impl Worklist {
 
     /// The marks of the vertex with a number.
     fn marks_of(&self, number: u32) -> Marks
-        ensures { result ≡ marks_at self.now.marks.items number }
+        ensures { result ≡ get_or self.now.marks.items number no_marks }
     {
         match self.marks.get(number as usize) {
             None => Marks::none(),
@@ -132,8 +132,8 @@ impl Worklist {
         ensures worklist { (modules : List ModuleVersion) → IsWorklist modules self.old → number < length modules
             → OnOk result (IsWorklist modules self.new) }
         ensures adds { (modules : List ModuleVersion) → IsWorklist modules self.old → number < length modules
-            → OnOk result (AppendsTurnIfNew (turns_of modules self.old) (turns_of modules self.new)
-            (turn (module_at modules number) depth)) }
+            → OnOk result (AddsAll (turns_of modules self.old) (turns_of modules self.new)
+            (module_at modules number ∷ []) depth) }
         ensures too_many { result ≡ Err AddFault.TooMany → (modules : List ModuleVersion) → IsWorklist modules self.old
             → number < length modules → OverflowsWith (turns_of modules self.old) (module_at modules number ∷ []) }
     {

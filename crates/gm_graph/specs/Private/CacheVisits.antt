@@ -67,13 +67,10 @@ abbrev pub file_said : Said → Option ℕ
 file_said (said.Fault class) = None
 file_said (said.Sound file leads) = Some file
 
--- What a visit gets of a vertex: the fault that the cache says, or the file and what was lent.
-abbrev pub IsVisitOf : Said → Lent → Visit → Type 0
-IsVisitOf (said.Fault class) list (visit.Fault fault) = fault ≡ class
-IsVisitOf (said.Fault class) list (visit.Required required) = ⊥
-IsVisitOf (said.Sound file leads) list (visit.Fault fault) = ⊥
-IsVisitOf (said.Sound file leads) list (visit.Required required) =
-    required ≡ record { file = file; leads = leads; list = list }
+-- what a visit gets of a vertex: the fault that the cache says, or the file and what was lent
+abbrev pub visit_of : Said → Lent → Visit
+visit_of (said.Fault class) list = visit.Fault class
+visit_of (said.Sound file leads) list = visit.Required (record { file = file; leads = leads; list = list })
 
 -- What a visit to this depth gets of a vertex: its fault, or the place of the file that has its list, and the list.
 abbrev pub IsVisit : Cache → Run → ModuleVersion → Depth → Visit → Type 0

@@ -17,7 +17,7 @@ use Rattle.gm_graph.specs.Run.{Run, Says}
 use Rattle.gm_graph.specs.Private.Summaries.{span_found}
 use mir.Syntax.{named}
 use Rattle.gm_graph.specs.contracts.cache.Cache.{the_row}
-use Rattle.gm_graph.specs.Cached.{HasMoreTurns, HoldsSame, IsSound, KeepsSound, Knows, LentSame, file_count, main_in, run_in, summary_at, table_in}
+use Rattle.gm_graph.specs.Cached.{HasMoreTurns, IsSound, KeepsSound, Knows, file_count, main_in, run_in, summary_at, table_in}
 
 -- the module with a number
 abbrev pub module_numbered : Cache → ℕ → ModuleVersion
@@ -59,12 +59,6 @@ pub record ArePartsOf (cache : Cache) (parts : CacheParts) : Type 0 where
   pub files : parts.files ≡ cache.files.files
 
 -- ---- what changes
-
--- The cache holds the same, and keeps the same files. More modules may have numbers.
-pub record CacheStays (old new : Cache) : Type 0 where
-  pub holds : HoldsSame old new
-  pub lent : LentSame old new
-  pub files : new.files ≡ old.files
 
 -- The file of a vertex was made known, and is kept at this place: the cache knows the answers, and what had a number
 -- or a place has it still.

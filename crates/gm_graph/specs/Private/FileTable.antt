@@ -1,9 +1,8 @@
 -- Where files are kept, the places that are noted for modules, and what changes of them.
 use Rattle.std.specs.Prelude.{◌≡◌, ◌==◌, ◌<◌, ◌≤◌, if◌then◌else◌, ℕ, true, List, Option, Some, None, IsSome, length, slice_get, slice_index_or}
-use Rattle.std.specs.List.{IsDistinct}
 use Rattle.std.specs.Map.{lookup}
 use Rattle.std.specs.Option.{option_map}
-use Rattle.gm_name.specs.ModuleVersion.{ModuleVersion, module_at, pair_eq}
+use Rattle.gm_name.specs.ModuleVersion.{ModuleVersion, module_at}
 use Rattle.gm_name_table.specs.OptionalPlaces.{no_place, place_in}
 use Rattle.gm_name_table.specs.declared.place.OptionalPlace.{OptionalPlace}
 use Rattle.gm_store.specs.Asked.{Name, name_of, same_name}
@@ -44,14 +43,6 @@ pub record NotesFiles (main : Main) (modules : List ModuleVersion) (files : File
       → place_in place ≡ place_of files name
   pub others_noted : (name : Name) → IsUnnoted main modules files name → replacing_place files name ≡ None
       → place_of files name ≡ None
-
--- The name is that of the file of the module with this number, in a table with the files of these modules.
-pub record IsFileOf (main : Main) (modules : List ModuleVersion) (files : FileTable) (number : ℕ) (name : Name)
-    : Type 0 where
-  pub distinct : IsDistinct pair_eq modules
-  pub within : number < length modules
-  pub named : name ≡ file_of main (module_at modules number)
-  pub notes : NotesFiles main modules files
 
 -- The name is that of the file of the module with this number. It may be asked for, and has no place.
 pub record IsNewFile (main : Main) (modules : List ModuleVersion) (files : FileTable) (number : ℕ) (name : Name)

@@ -1,6 +1,7 @@
 -- The graph and the faults that what was found makes: by the numbers of modules, and by the places of files.
-use Rattle.std.specs.Prelude.{◌≡◌, ◌==◌, ◌<◌, ◌+◌, ◌++◌, ◌∷◌, [], ℕ, Bool, true, false, suc, AllPairs, Contains, List, None, Option, Some, length}
+use Rattle.std.specs.Prelude.{◌≡◌, ◌==◌, ◌<◌, ◌+◌, ◌++◌, ◌∷◌, [], ℕ, Bool, true, suc, AllPairs, Contains, List, None, Option, Some, length}
 use Rattle.std.specs.List.{list_any}
+use Rattle.std.specs.Option.{option_eq}
 use Rattle.std.specs.declared.cmp.Ordering.TheVariants.{Less}
 use Rattle.gm_name.specs.ModuleVersion.{ModuleVersion, module_at, pair_cmp}
 use Rattle.gm_graph.specs.declared.cache.class.Class.{Class}
@@ -33,14 +34,9 @@ gathered_sources places = record { from = None; list = 0 } ∷ sources_from 0 pl
 
 -- ---- the lists: that of the main file, and the own list of each file, which is empty if no vertex has it
 
--- whether this is that place
-abbrev pub is_place : ℕ → Option ℕ → Bool
-is_place place None = false
-is_place place (Some other) = place == other
-
 -- whether a vertex has the list of the file at a place
 abbrev pub has_file : List (Option ℕ) → ℕ → Bool
-has_file places place = list_any (is_place place) places
+has_file places place = list_any (option_eq (λ a b. a == b) (Some place)) places
 
 -- where the list of a file is, if this is where its own list is: empty behind the one before if it has none, or if no
 -- vertex has it
@@ -70,10 +66,6 @@ AreFilePlaces parts places = (number place : ℕ) → place_at places number ≡
 
 -- ---- the faults
 
--- a vertex and its fault
-abbrev pub fault : ModuleVersion → Class → Fault
-fault x class = record { vertex = x; class = class }
-
 -- One of the faults is this one of this vertex.
 abbrev pub HasFaultOf : List ModuleVersion → List NumberedFault → ModuleVersion → Class → Type 0
 HasFaultOf modules faults x class =
@@ -84,4 +76,4 @@ pub record AreFaultsOf (modules : List ModuleVersion) (faults : List NumberedFau
   pub ascending : AllPairs (λ (a b : Fault). pair_cmp a.vertex b.vertex ≡ Less) list
   pub only : (one : Fault) → Contains list one → HasFaultOf modules faults one.vertex one.class
   pub each : (number : ℕ) (class : Class) → Contains faults (numbered number class)
-      → (other : Class) × Contains list (fault (module_at modules number) other)
+      → (other : Class) × Contains list (record { vertex = module_at modules number; class = other })

@@ -15,7 +15,7 @@ use Rattle.gm_graph.specs.declared.cache.summary.Kept.{Kept}
 use Rattle.gm_graph.specs.declared.cache.summary.Kept.TheVariants.{Valid, Faulty}
 use Rattle.gm_graph.specs.declared.cache.summary.ListSpan.{ListSpan}
 use Rattle.gm_graph.specs.declared.cache.summary.Summary.{Summary}
-use Rattle.gm_graph.specs.Summaries.{IsSummary, IsWithinList, own_span, own_span_at}
+use Rattle.gm_graph.specs.Summaries.{IsSummary, IsWithinList, listed_span, own_span, own_span_at}
 
 -- what an answer says, as a reading, with the requirements that it put into the list of modules
 abbrev pub listed_reading : List ModuleVersion → ListedReading → Result Dependency Class
@@ -40,9 +40,7 @@ GrowsFrom count old new = (before : NumberedList) → count ≡ length before.nu
 
 -- where the requirements of a file are: nowhere if it has a fault or nothing is kept of it
 abbrev pub span_found : Option Kept → ListSpan
-span_found None = nowhere
-span_found (Some (Valid summary)) = summary.kept
-span_found (Some (Faulty class)) = nowhere
+span_found kept = unwrap_or (option_and_then listed_span kept) nowhere
 
 -- where the own list of each file is
 abbrev pub own_spans : List Kept → List (Option ListSpan)
@@ -69,22 +67,19 @@ order_is_fact from (None ∷ spans) to = order_is_fact from spans to
 abbrev pub AreListsInOrder : ℕ → List Kept → ℕ → Type 0
 AreListsInOrder from files to = AreSpansInOrder from (own_spans files) to
 
--- The file at this place has the list that the summary says it has.
-abbrev pub SharesList : List Kept → Summary → Type 0
-SharesList files summary = (place : ℕ) → summary.same_as ≡ Some place → own_span_at files place ≡ Some summary.kept
-
--- The requirements of a file are in the list of modules, and their list is its own or that of one of these files.
-abbrev pub SummaryStands : Main → List ModuleVersion → List Kept → Summary → Type 0
-SummaryStands main modules files summary = IsSummary main modules summary × SharesList files summary
+-- The requirements of a file are in the list of modules, and the list that it shares is that of one of these files.
+abbrev pub IsListed : Main → List ModuleVersion → List Kept → Summary → Type 0
+IsListed main modules files summary = IsSummary main modules summary
+    × ((place : ℕ) → summary.same_as ≡ Some place → own_span_at files place ≡ Some summary.kept)
 
 -- The same of what is kept of a file, which may be a fault, and of all files.
-abbrev pub KeptStands : Main → List ModuleVersion → List Kept → Kept → Type 0
-KeptStands main modules files (Valid summary) = SummaryStands main modules files summary
-KeptStands main modules files (Faulty class) = ⊤
+abbrev pub IsListedIfValid : Main → List ModuleVersion → List Kept → Kept → Type 0
+IsListedIfValid main modules files (Valid summary) = IsListed main modules files summary
+IsListedIfValid main modules files (Faulty class) = ⊤
 
-abbrev pub AllStand : Main → List ModuleVersion → List Kept → Type 0
-AllStand main modules files = (place : ℕ) (summary : Summary) → slice_get files place ≡ Some (Valid summary)
-    → SummaryStands main modules files summary
+abbrev pub AreListed : Main → List ModuleVersion → List Kept → Type 0
+AreListed main modules files = (place : ℕ) (summary : Summary) → slice_get files place ≡ Some (Valid summary)
+    → IsListed main modules files summary
 
 -- The requirements of each file are in the list of modules.
 abbrev pub AreWithinList : List ModuleVersion → List Kept → Type 0

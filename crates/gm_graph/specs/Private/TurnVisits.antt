@@ -1,43 +1,45 @@
 -- What the visit of one turn changes.
-use Rattle.std.specs.Prelude.{◌≡◌, ◌≤◌, ◌+◌, ◌++◌, ◌∷◌, [], List}
+use Rattle.std.specs.Prelude.{◌≡◌, ◌↔◌, ◌⊎◌, ℕ, Contains, List, true}
+use Rattle.gm_name.specs.ModuleVersion.{ModuleVersion}
 use Rattle.gm_store.specs.Asked.{Name, Reply}
 use Rattle.gm_graph.specs.declared.cache.Cache.{Cache}
+use Rattle.gm_graph.specs.declared.cache.depth.Depth.TheVariants.{Deep}
+use Rattle.gm_graph.specs.declared.cache.visit.Visit.{Visit}
 use Rattle.gm_graph.specs.declared.findings.Findings.{Findings}
 use Rattle.gm_graph.specs.declared.followed.Followed.{Followed}
 use Rattle.gm_graph.specs.declared.worklist.NumberedTurn.{NumberedTurn}
 use Rattle.gm_graph.specs.declared.worklist.Worklist.{Worklist}
-use Rattle.gm_graph.specs.Cached.{Knows, file_count, run_in, table_in, turns_in}
+use Rattle.gm_graph.specs.Cached.{IsSound, run_in, table_in}
 use Rattle.gm_graph.specs.Private.Cached.{module_numbered}
-use Rattle.gm_graph.specs.Private.CacheVisits.{Continues}
-use Rattle.gm_graph.specs.Private.Findings.{AreFindings, FindsOne}
-use Rattle.gm_graph.specs.Private.Followed.{AreFollowedIn}
-use Rattle.gm_graph.specs.Run.{Run}
+use Rattle.gm_graph.specs.Private.CacheVisits.{HasVisited}
+use Rattle.gm_graph.specs.Private.Findings.{AreFindings, WasVisited}
+use Rattle.gm_graph.specs.Private.Followed.{followed_at}
+use Rattle.gm_graph.specs.Run.{Requires, Run}
 use Rattle.gm_graph.specs.Turns.{turn}
-use Rattle.gm_graph.specs.Private.VisitedTurns.{Visits}
-use Rattle.gm_graph.specs.Private.Worklists.{IsWorklist, turn_of, turns_of}
+use Rattle.gm_graph.specs.Private.Turns.{Visits}
+use Rattle.gm_graph.specs.Private.Worklists.{IsWorklist, turns_of}
 
--- The numbers in the worklist are those of a cache's modules, what a file that is marked as followed requires has
--- turns, and each finding is what the run found.
+-- The numbers in the worklist are those of a cache's modules, what a vertex requires whose file is marked as followed has
+-- turns at full depth, and each finding is what the run found.
 pub record IsReady (cache : Cache) (run : Run) (worklist : Worklist) (marks : Followed) (findings : Findings)
     : Type 0 where
   pub worklist_is : IsWorklist (table_in cache) worklist
-  pub followed : AreFollowedIn cache run (turns_of (table_in cache) worklist) marks
+  pub followed : (file : ℕ) → followed_at marks file ≡ true → (x : ModuleVersion) × IsSound cache run x file
+      × ((y : ModuleVersion) → Requires run x y → Contains (turns_of (table_in cache) worklist) (turn y Deep))
   pub found : AreFindings cache run findings
 
--- What the visit of this turn adds was added. `marks` says which files were followed.
+-- What the visit of this turn adds was added, and its vertex and no other one was visited. `marks` says which files were
+-- followed.
 pub record AddsTurn (cache : Cache) (run : Run) (before after : Worklist) (marks : Followed) (old new : Findings)
     (one : NumberedTurn) : Type 0 where
   pub ready : IsReady cache run after marks new
   pub follows : Visits run (turns_of (table_in cache) before) (turns_of (table_in cache) after)
       (turn (module_numbered cache one.number) one.depth)
-  pub finds : FindsOne old new one.number
+  pub finds : (n : ℕ) → WasVisited new n ↔ (WasVisited old n ⊎ (n ≡ one.number))
 
--- After the visit of a turn the cache knows the answers, at most one more file is kept, and the list has this turn
--- more.
+-- The cache has visited the turn's vertex, and what that adds was added.
 pub record IsTurnVisited (old new : Cache) (earlier later : List (Name × Reply)) (before after : Worklist)
     (marks : Followed) (found more : Findings) (one : NumberedTurn) : Type 0 where
-  pub knows : Knows new later
-  pub count : file_count new ≤ file_count old + 1
-  pub continues : Continues old new
-  pub turns : turns_in new ≡ turns_in old ++ turn_of (table_in old) one ∷ []
+  pub visit : Visit
+  pub has : HasVisited old earlier new later one.number one.depth visit
   pub adds : AddsTurn new (run_in new later) before after marks found more one

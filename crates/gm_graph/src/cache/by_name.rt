@@ -9,6 +9,7 @@ ghost use Rattle.gm_store.specs.Asked.{Name, Reply, name_of};
 ghost use Rattle.gm_store.specs.States.{HasServed};
 ghost use Rattle.gm_graph.specs.Asking.{AsksFor, StillLacks};
 ghost use Rattle.gm_graph.specs.Lent.{lent_modules};
+ghost use Rattle.gm_graph.specs.Places.{place_limit};
 ghost use Rattle.gm_graph.specs.Reading.{file_of};
 ghost use Rattle.gm_graph.specs.Refusals.{refused_in};
 ghost use Rattle.gm_graph.specs.Turns.{turn};
@@ -35,22 +36,10 @@ pub enum Known {
 
 impl<'a> Cache<'a> {
     ghost use Rattle.std.specs.Borrow.{sem};
-    ghost use Rattle.gm_graph.specs.Cached.{AreRequirements, HasSoundFile, HoldsSame, IsKnownAs, Knows, KnowsLender, LendsKept, LendsNamed, LentSame, file_count, file_known, main_in, run_in, table_in};
+    ghost use Rattle.gm_graph.specs.Cached.{AreRequirements, HasSoundFile, HoldsSame, IsKnownAs, Knows, KnowsLender, LendsNamed, LentSame, file_count, file_known, main_in, run_in, table_in};
     ghost use Rattle.gm_graph.specs.Private.Cached.{IsLender, IsPlaceFor, module_numbered};
     ghost use Rattle.gm_graph.specs.Private.FileTable.{IsPlaceOf};
     ghost use Rattle.gm_graph.specs.Run.{KeepsSayings};
-
-    /// The number of a module, which gets one if it has none. The only refusal is `NoMemory`.
-    fn number(&mut self, x: &ModVer) -> Result<u32, NoMemory>
-        requires { LendsKept self.old }
-        ensures number { IfOk result (λ number. number < length (table_in self.new)) }
-        ensures module { IfOk result (λ number. module_numbered self.new number ≡ x.now) }
-        ensures holds { HoldsSame self.old self.new }
-        ensures lent { LentSame self.old self.new }
-        ensures files { file_count self.new ≡ file_count self.old }
-    {
-        self.modules.number(x)
-    }
 
     /// Makes the file of a vertex known, and says whether the vertex has a fault, and otherwise the name of its file. The
     /// store is asked for that file unless it is known already, or comes from a proxy and its path isn't fetchable.
@@ -61,7 +50,7 @@ impl<'a> Cache<'a> {
     /// any refusal the cache holds the same; more modules may have numbers.
     pub fn known<F: Asks>(&mut self, files: &mut F, vertex: &ModVer) -> Result<Known, LoadFault>
         requires knows { Knows self.old (F.state files.old).asked }
-        requires few { file_count self.old < 4294967295 }
+        requires few { file_count self.old < place_limit }
         ensures count { file_count self.new ≤ file_count self.old + 1 }
         ensures knows { OnOk result (Knows self.new (F.state files.new).asked) }
         ensures known { IfOk result (IsKnownAs (run_in self.new (F.state files.new).asked) vertex.now) }
@@ -78,7 +67,7 @@ impl<'a> Cache<'a> {
         ensures served { HasServed (F.may_answer files.old) (F.may_answer files.new)
             (F.state files.old) (F.state files.new) }
     {
-        let number = self.number(vertex)?;
+        let number = self.modules.number(vertex)?;
         let name = file_name(self.alloc, self.main, vertex)?;
         match self.known_at(files, number) {
             Ok(place) => Ok(self.known_by(number, place, name)),
@@ -108,11 +97,7 @@ impl<'a> Cache<'a> {
             → IsPlaceOf self.now.files (name_of name.now) result }
     {
         match self.modules.find(vertex) {
-            Some(number) => {
-                // By this no module has two numbers, so the file is found by this one.
-                let _ = self.modules.module(number);
-                self.files.place_of(name, number)
-            }
+            Some(number) => self.files.place_of(name, number),
             // A module's own file is kept by its number, so this is the file of a replacement.
             None => self.files.replacing_place(name),
         }

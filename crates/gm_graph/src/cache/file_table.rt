@@ -4,6 +4,7 @@
 //! that a replacement names is found by its name: a folder is no module, and two modules may have one replacement.
 
 ghost use Rattle.std.specs.Prelude.{◌≤◌, length};
+ghost use Rattle.gm_graph.specs.Places.{place_limit};
 ghost use Rattle.gm_graph.specs.Private.Places.{AreWithin};
 
 use crate::cache::naming::right_name;
@@ -27,16 +28,16 @@ pub(crate) struct FileTable {
     places: Vec<OptionalPlace>,
     /// The names of the files of all replacements, with their places in `files`, if any.
     replacing: BTreeMap<FileName, OptionalPlace>,
-    ghost few: { length files.items ≤ 4294967295 },
+    ghost few: { length files.items ≤ place_limit },
     ghost within: { AreWithin (length files.items) names.items },
 }
 
 impl FileTable {
     ghost use Rattle.std.specs.Prelude.{◌≡◌, ◌⊎◌, ◌<◌, ◌++◌, ◌∷◌, [], IfOk, IfSome, List, None, OnErr, OnOk, Some, slice_get};
-    ghost use Rattle.std.specs.Option.{option_and_then};
+    ghost use Rattle.std.specs.Option.{option_and_then, option_or};
     ghost use Rattle.gm_store.specs.Asked.{Name, name_of};
     ghost use Rattle.gm_graph.specs.FileTable.{kept_at};
-    ghost use Rattle.gm_graph.specs.Private.FileTable.{PutsFile, IsFileOf, IsNewFile, IsPlaceOf, KeepsFiles, KeepsNoted, KeepsOthers, NotesFiles, NotesFor, PutsReplacing, ReachesAtMost, noted_for, replacing_place};
+    ghost use Rattle.gm_graph.specs.Private.FileTable.{PutsFile, IsNewFile, KeepsFiles, KeepsNoted, KeepsOthers, NotesFiles, NotesFor, PutsReplacing, ReachesAtMost, noted_for, replacing_place};
     ghost use Rattle.gm_file.specs.Main.{Main, main_of};
     ghost use Rattle.gm_name.specs.ModuleVersion.{ModuleVersion};
     ghost use Rattle.gm_name_table.specs.OptionalPlaces.{place_in};
@@ -85,11 +86,11 @@ impl FileTable {
         }
     }
 
-    /// The place of the file of a name, which is that of the module with this number. There is none if nothing is kept of
-    /// the file.
+    /// The place of the file of a name, which is that of the module with this number: the one noted for the module, or
+    /// that of a replacement's file. There is none if nothing is kept of the file.
     pub(crate) fn place_of(&self, name: &FileName, number: u32) -> Option<u32>
-        ensures { (main : Main) (modules : List ModuleVersion) → IsFileOf main modules self.now number (name_of name.now)
-            → IsPlaceOf self.now (name_of name.now) result }
+        ensures { result ≡ option_or (noted_for self.now number)
+            (option_and_then place_in (replacing_place self.now (name_of name.now))) }
     {
         match self.noted_place(number) {
             None => self.replacing_place(name),
@@ -207,7 +208,7 @@ impl FileTable {
     ///
     /// The only refusal is `NoMemory`. What is kept of other files stays in any case.
     pub(crate) fn add(&mut self, name: &FileName, number: u32, kept: Kept) -> Result<u32, NoMemory>
-        requires few { length self.old.files.items < 4294967295 }
+        requires few { length self.old.files.items < place_limit }
         ensures adds { OnOk result (PutsFile self.old self.new (name_of name.now) kept) }
         ensures notes { (main : Main) (modules : List ModuleVersion)
             → IsNewFile main modules self.old number (name_of name.now)

@@ -9,6 +9,7 @@
 
 ghost use Rattle.std.specs.Prelude.{◌≤◌, ◌<◌, IfOk, IfSome, length};
 ghost use Rattle.gm_name_table.specs.Listed.{modules_of, part};
+ghost use Rattle.gm_graph.specs.Places.{place_limit};
 ghost use Rattle.gm_graph.specs.Private.Summaries.{AreWithinList, IsSameList};
 
 use crate::cache::summary::{Kept, ListSpan};
@@ -95,7 +96,7 @@ impl ListIndex {
         files: &[Kept],
         numbers: &[u32],
     ) -> Result<Option<SameList>, NoMemory>
-        requires few { length files.now < 4294967295 }
+        requires few { length files.now < place_limit }
         requires within { AreWithinList (modules_of modules.now) files.now }
         ensures { IfOk result (λ found. IfSome found (IsSameList modules.now files.now numbers.now)) }
     {
@@ -115,7 +116,7 @@ impl ListIndex {
         files: &[Kept],
         start: usize,
     ) -> Result<Option<SameList>, NoMemory>
-        requires few { length files.now < 4294967295 }
+        requires few { length files.now < place_limit }
         requires within { AreWithinList (modules_of modules.now) files.now }
         requires start { start ≤ length modules.now.numbers }
         ensures { IfOk result (λ found. IfSome found (IsSameList modules.now files.now

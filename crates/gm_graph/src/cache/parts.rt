@@ -5,6 +5,7 @@ ghost use Rattle.std.proofs.Props.{props};
 ghost use Rattle.std.specs.List.{IsDistinct};
 ghost use Rattle.gm_name.specs.ModuleVersion.{pair_eq};
 ghost use Rattle.gm_name_table.specs.Listed.{AreModuleNumbers};
+ghost use Rattle.gm_graph.specs.Places.{place_limit};
 ghost use Rattle.gm_graph.specs.Private.Summaries.{AreListsInOrder, order_is_fact, own_spans};
 
 use crate::cache::summary::Kept;
@@ -22,7 +23,7 @@ pub(crate) struct CacheParts {
     /// What was read of each file, or what is wrong with it.
     pub(crate) files: Vec<Kept>,
     ghost distinct: { IsDistinct pair_eq modules.items } by { Prim.hlevel props },
-    ghost few: { length modules.items ≤ 4294967295 },
+    ghost few: { length modules.items ≤ place_limit },
     ghost below: { AreModuleNumbers modules.items numbers.items },
     ghost in_order: { AreListsInOrder first files.items (length numbers.items) } by { order_is_fact first (own_spans files.items) (length numbers.items) },
 }

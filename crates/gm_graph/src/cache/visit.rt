@@ -54,11 +54,11 @@ pub(crate) enum Visit<'a> {
 }
 
 impl<'a> Visit<'a> {
-    ghost use Rattle.gm_graph.specs.Private.CacheVisits.{IsVisitOf};
+    ghost use Rattle.gm_graph.specs.Private.CacheVisits.{visit_of};
 
     /// What a visit gets of a vertex, from what the cache says of it, and what it lent.
     pub(crate) fn of(said: Said, list: Lent<'a>) -> Visit<'a>
-        ensures { IsVisitOf said list.entry result }
+        ensures { result ≡ visit_of said list.entry }
     {
         match said {
             Said::Fault(class) => Visit::Fault(class),

@@ -5,4 +5,4 @@ pub returns : goal.returns
 returns c =
     let map = c.in_ok-map.ensures in
     let list = c.in_ok-list.ensures in
-    faults_listed c.in_ok-map.map list.ordered c.args.modules.now c.args.faults.now c.in_ok-list.list.items list.faults map.only map.each
+    rw list.faults (faults_listed c.in_ok-map.map list.ordered c.args.modules.now c.args.faults.now map.only map.each)

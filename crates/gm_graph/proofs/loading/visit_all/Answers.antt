@@ -1,10 +1,9 @@
-use Rattle.std.proofs.Common.{Err, ap, arith, refl, sym}
-use Rattle.gm_graph.specs.Cached.{table_in}
+use Rattle.std.proofs.Common.{Err, ap, arith, sym}
 use Rattle.gm_graph.proofs.Dues.{refused_same}
 use Rattle.gm_graph.proofs.FoundFiles.{nothing_found, nothing_visited}
-use Rattle.gm_graph.proofs.InTurn.{asked_in_turn, in_turn_by, many_in_turn, nothing_asked, stepped}
+use Rattle.gm_graph.proofs.InTurn.{asked_in_turn, many_in_turn, nothing_asked, stepped}
 use Rattle.gm_graph.proofs.Rounds.{few_turns}
-use Rattle.gm_graph.proofs.Stepping.{first_step, last_step, number_here, past_all, turn_below}
+use Rattle.gm_graph.proofs.Stepping.{first_step, last_step, number_here}
 use Rattle.gm_graph.proofs.loading.visit_all.Goals as goal
 
 pub turns-init : goal.turns-init
@@ -24,11 +23,7 @@ turns-init g c =
     }
 
 pub turns-smaller : goal.turns-smaller
-turns-smaller g c =
-    let modules = table_in c.turns.cache in
-    let below = turn_below modules c.turns.worklist c.turns.at (omega arith) in
-    let few = few_turns c.turns.invariant.state.worklist_is.turns in
-    omega arith
+turns-smaller g c = let few = few_turns c.turns.invariant.state.worklist_is in omega arith
 
 pub turns-preserved : goal.turns-preserved
 turns-preserved g c =
@@ -39,33 +34,28 @@ turns-preserved g c =
       state = stepped one invariant.state (omega arith) c.index-one.ensures c.in_ok-visit.ensures.asks visited;
       ready = visited.adds.ready;
       asks = asked_in_turn one invariant.state (omega arith) c.index-one.ensures c.in_ok-visit.ensures.asks invariant.asks;
-      few = omega (arith, invariant.few, visited.count);
+      few = omega (arith, invariant.few, visited.has.count);
     }
 
 pub returns-clause-opened : goal.returns-clause-opened
-returns-clause-opened g c =
-    last_step c.turns.invariant.state c.turns.invariant.ready.found (past_all (table_in c.turns.cache) c.turns.worklist c.turns.at (omega arith))
+returns-clause-opened g c = last_step c.turns.invariant.state c.turns.invariant.ready.found (omega arith)
 
 pub returns-clause-asks : goal.returns-clause-asks
 returns-clause-asks g c = c.turns.invariant.asks
 
 pub visit-requires : goal.visit-requires
 visit-requires g c =
-    let modules = table_in c.turns.cache in
     let state = c.turns.invariant.state in
-    let below = turn_below modules c.turns.worklist c.turns.at (omega arith) in
-    let turns = few_turns state.worklist_is.turns in
     record {
       knows = state.knows;
       ready = c.turns.invariant.ready;
-      below = number_here modules c.turns.worklist c.turns.at c.index-one.result.now state.worklist_is (omega arith) c.index-one.ensures;
-      few = omega (arith, c.turns.invariant.few, below, turns);
+      below = number_here c.index-one.result.now state.worklist_is (omega arith) c.index-one.ensures;
+      few = omega (arith, c.turns.invariant.few, few_turns state.worklist_is);
     }
 
 pub returns-in_err-visit-clause-asks : goal.returns-in_err-visit-clause-asks
 returns-in_err-visit-clause-asks g c =
-    let same = refused_same c.from_residual.result c.in_err-visit.field-0.0 (λ f e. rw e at c.from_residual.ensures.1) c.from_residual.ensures.0 in
-    in_turn_by refl refl (sym same)
+    rw (refused_same c.from_residual.result c.in_err-visit.field-0.0 c.from_residual.ensures.1)
     (asked_in_turn c.index-one.result.now c.turns.invariant.state (omega arith) c.index-one.ensures c.in_err-visit.ensures.asks c.turns.invariant.asks)
 
 pub returns-in_err-visit-clause-too_many : goal.returns-in_err-visit-clause-too_many

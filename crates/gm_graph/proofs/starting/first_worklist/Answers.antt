@@ -1,14 +1,9 @@
-use Rattle.std.proofs.Common.{◌∙◌, [], Err, List, ap, refl, subst, sym}
-use Rattle.gm_name.specs.ModuleVersion.{ModuleVersion}
-use Rattle.gm_graph.specs.Lent.{lent_modules}
+use Rattle.std.proofs.Common.{◌∙◌, [], Err, ap, refl, subst, sym}
 use Rattle.gm_graph.specs.Private.Held.{lent_table}
-use Rattle.gm_file.specs.Main.{Main, is_pruned_by}
-use Rattle.gm_graph.specs.Cached.{run_in}
+use Rattle.gm_file.specs.Main.{Main, is_pruned_by, without_excluded}
 use Rattle.gm_graph.specs.Private.Turns.{OverflowsWith, depth_by}
-use Rattle.gm_graph.specs.Private.Visiting.{IsFirstWorklist}
 use Rattle.gm_graph.proofs.AddFaults.{add_too_many}
 use Rattle.gm_graph.proofs.Keeping.{none_refused}
-use Rattle.gm_graph.proofs.FirstTurns.{is_first, required_in, too_many_first}
 use Rattle.gm_graph.proofs.starting.first_worklist.Goals as goal
 
 pub add_all-requires : goal.add_all-requires
@@ -17,25 +12,22 @@ add_all-requires c =
 
 pub returns-in_err-add_all-clause-too_many : goal.returns-in_err-add_all-clause-too_many
 returns-in_err-add_all-clause-too_many c = λ e.
-    let required = c.first_requirements-required in
-    let many = add_too_many c.from_residual-in_err-add_all.result c.in_err-add_all.field-0.0
-    c.from_residual-in_err-add_all.ensures.1 e in
-    subst (λ (main : Main). OverflowsWith [] (required_in main)) c.requires
-    (too_many_first (run_in c.args.cache.now []) (lent_table required.result) (lent_modules required.result)
-    c.in_ok-worklist.worklist c.in_ok-worklist.ensures.turns required.ensures.modules
-    (c.in_err-add_all.ensures.too_many (ap Err many)))
+    let many = add_too_many c.from_residual-in_err-add_all.result c.in_err-add_all.field-0.0 c.from_residual-in_err-add_all.ensures.1 e in
+    let over = c.in_err-add_all.ensures.too_many (ap Err many) in
+    subst (λ (main : Main). OverflowsWith [] (without_excluded main main.requirements)) c.requires
+    (rw (c.in_ok-worklist.ensures.turns, c.first_requirements-required.ensures.modules) at over)
 
 pub returns-clause-first : goal.returns-clause-first
 returns-clause-first c =
-    let run = run_in c.args.cache.now [] in
-    let required = c.first_requirements-required in
-    let made = c.add_all.new.self in
-    let none = c.in_ok-worklist.ensures in
     let turned = c.in_ok-add_all.ensures in
-    subst (λ (modules : List ModuleVersion). IsFirstWorklist run modules made) required.ensures.table
-    (is_first run (lent_table required.result) (lent_modules required.result) c.in_ok-worklist.worklist none.turns
-    required.ensures.modules made c.first_depth.result
-    (c.first_depth.ensures ∙ ap (λ (main : Main). depth_by (is_pruned_by main.go)) (sym c.requires)) turned.adds turned.worklist)
+    rw⁻¹ c.first_requirements-required.ensures.table (record {
+      worklist_is = turned.worklist;
+      adds = rw (
+        c.in_ok-worklist.ensures.turns,
+        c.first_requirements-required.ensures.modules,
+        c.first_depth.ensures ∙ ap (λ (main : Main). depth_by (is_pruned_by main.go)) (sym c.requires),
+      ) at turned.adds;
+    })
 
 -- ---- memory ran out
 

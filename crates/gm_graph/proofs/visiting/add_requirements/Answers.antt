@@ -1,7 +1,11 @@
-use Rattle.std.proofs.Common.{Err, ap}
+use Rattle.std.proofs.Common.{Err, Ok, ap, inl}
 use Rattle.gm_graph.proofs.AddFaults.{add_too_many}
 use Rattle.gm_graph.proofs.FoundFiles.{file_finds, file_noted}
-use Rattle.gm_graph.proofs.TurnEnds.{LeadsOn, leads_further, leads_nowhere, required_added}
+use Rattle.gm_graph.specs.Private.CacheVisits.{table_of}
+use Rattle.gm_graph.proofs.Adding.{adds_none}
+use Rattle.gm_graph.specs.Cached.{table_in}
+use Rattle.gm_graph.proofs.FollowedFiles.{followed_more}
+use Rattle.gm_graph.proofs.TurnEnds.{LeadsOn}
 use Rattle.gm_graph.proofs.visiting.add_requirements.Goals as goal
 use Rattle.gm_graph.proofs.visiting.add_requirements.Goals.{then-leads+in_ok-follow, else-leads}
 
@@ -18,13 +22,28 @@ returns-clause-adds c = λ cache run ready below is.
     let marks = c.args.followed.now in
     let more = c.note_file.new.self in
     let noted = c.in_ok-note_file.ensures in
-    let leads : LeadsOn cache run one required old c.if-leads.worklist marks c.if-leads.followed = elim c.if-leads.branch [
-      | then-leads+in_ok-follow w ↦
-          rw w.worklist-is (rw w.followed-is (leads_further one required is w.if-leads.true
-          w.in_ok-follow.ensures.worklist w.in_ok-follow.ensures.adds w.in_ok-follow.ensures.files))
-      | else-leads w ↦ rw w.worklist-is (rw w.followed-is (leads_nowhere one required is w.if-leads.false c.requires.worklist))
+    let leads : LeadsOn (table_of required) required old c.if-leads.worklist marks c.if-leads.followed = elim c.if-leads.branch [
+      | then-leads+in_ok-follow w ↦ rw (w.worklist-is, w.followed-is) (record {
+        worklist_is = w.in_ok-follow.ensures.worklist;
+        adds = rw w.if-leads.true w.in_ok-follow.ensures.adds;
+        files = w.in_ok-follow.ensures.files;
+        followed = λ by. w.in_ok-follow.ensures.adds.each;
+      })
+      | else-leads w ↦ rw (w.worklist-is, w.followed-is) (record {
+        worklist_is = c.requires.worklist;
+        adds = rw w.if-leads.false (adds_none _ _);
+        files = λ f was. inl was;
+        followed = c.requires.followed;
+      })
     ] in
-    required_added one required is ready leads
-    (file_noted c.args.findings.now more one.number required.file noted.put noted.others c.note_file.ensures.faults cache run ready.found
-    (record { below = below; sound = is.0 }))
-    (file_finds c.args.findings.now more one.number required.file noted.put noted.others c.note_file.ensures.faults)
+    let (sound, says, same) = is in
+    let here : LeadsOn (table_in cache) required old c.if-leads.worklist marks c.if-leads.followed = rw⁻¹ same leads in
+    record {
+      ready = record {
+        worklist_is = here.worklist_is;
+        followed = followed_more cache run _ _ marks c.if-leads.followed _ one.depth required is here.adds.extends ready.followed here.files here.followed;
+        found = file_noted c.args.findings.now more one.number required.file noted.put noted.others c.note_file.ensures.faults cache run ready.found below sound;
+      };
+      follows = record { said = Ok says.file; says = says.says; adds = rw⁻¹ (says.leads, says.modules) here.adds };
+      finds = file_finds c.args.findings.now more one.number required.file noted.put noted.others c.note_file.ensures.faults;
+    }

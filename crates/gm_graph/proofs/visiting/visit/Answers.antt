@@ -1,16 +1,12 @@
-use Rattle.std.proofs.Common.{◌≡◌, subst, sym}
-use Rattle.gm_graph.specs.declared.cache.load_fault.LoadFault.TheVariants as load
+use Rattle.std.proofs.Common.{sym}
 use Rattle.gm_graph.specs.declared.cache.visit.Visit.{Visit}
-use Rattle.gm_graph.specs.declared.cache.visit.Visit.TheVariants as visit
-use Rattle.gm_graph.specs.Cached.{main_in, run_in, table_in}
-use Rattle.gm_graph.specs.Private.Cached.{module_numbered}
-use Rattle.gm_graph.specs.Private.CacheVisits.{IsRefusedVisit, LendsOver, table_of}
-use Rattle.gm_graph.specs.Reading.{file_of}
+use Rattle.gm_graph.specs.Cached.{run_in, table_in}
+use Rattle.gm_graph.specs.Private.CacheVisits.{table_of}
 use Rattle.gm_graph.proofs.AskedFile.{asks_by, has_some, refused_failed}
 use Rattle.gm_graph.proofs.FollowedFiles.{has_its_turns}
 use Rattle.gm_graph.proofs.Growing.{worklist_over}
 use Rattle.gm_graph.proofs.Keeping.{never_many}
-use Rattle.gm_graph.proofs.TurnEnds.{got, overflows_at, turn_visited}
+use Rattle.gm_graph.proofs.TurnEnds.{overflows_at, turn_visited}
 use Rattle.gm_graph.proofs.visiting.visit.Goals as goal
 
 -- ---- the vertex has no fault
@@ -21,7 +17,7 @@ add_requirements-requires g c =
     let run = run_in old (g.F.Asks.state c.args.files.now).asked in
     let required = c.in-Ok-Required.required in
     let ready = c.requires.ready in
-    let lends = subst (λ (v : Visit). LendsOver old run v) c.in-Ok-Required.field-0-is c.in-Ok-Required.ensures.lends in
+    let lends = rw c.in-Ok-Required.field-0-is at c.in-Ok-Required.ensures.lends in
     record {
       worklist = worklist_over (table_in old) (table_of required) c.args.worklist.now ready.worklist_is lends.begins lends.distinct;
       followed = has_its_turns old run c.args.worklist.now c.args.followed.now required ready.worklist_is lends ready.followed;
@@ -29,14 +25,12 @@ add_requirements-requires g c =
 
 pub returns-in-Ok-Required-clause-visited : goal.returns-in-Ok-Required-clause-visited
 returns-in-Ok-Required-clause-visited g c =
-    turn_visited c.add_requirements.new.worklist c.add_requirements.new.followed c.add_requirements.new.findings c.add_requirements.result
-    c.requires.ready c.requires.below
-    (got c.in-Ok-Required.is c.in-Ok-Required.field-0-is c.visit.follows.holds-at-none)
-    (λ ready below is. c.add_requirements.ensures.adds _ _ ready below is)
+    turn_visited c.requires.ready _ _ _ c.add_requirements.result c.requires.below
+    (rw (c.in-Ok-Required.is, c.in-Ok-Required.field-0-is) at c.visit.follows.holds-at-none) (c.add_requirements.ensures.adds _ _)
 
 pub returns-in-Ok-Required-clause-too_many : goal.returns-in-Ok-Required-clause-too_many
 returns-in-Ok-Required-clause-too_many g c = λ e.
-    let has = got c.in-Ok-Required.is c.in-Ok-Required.field-0-is c.visit.follows.holds-at-none in
+    let has = rw (c.in-Ok-Required.is, c.in-Ok-Required.field-0-is) at c.visit.follows.holds-at-none in
     let many = c.add_requirements.ensures.too_many e in
     overflows_at c.requires.ready has many.0 many.1
 
@@ -47,9 +41,8 @@ returns-in-Ok-Required-clause-asks g c = asks_by (sym c.add_requirements.ensures
 
 pub returns-in-Ok-Fault-clause-visited : goal.returns-in-Ok-Fault-clause-visited
 returns-in-Ok-Fault-clause-visited g c =
-    turn_visited c.args.worklist.now c.args.followed.now c.add_fault.new.findings c.add_fault.result c.requires.ready c.requires.below
-    (got c.in-Ok-Fault.is c.in-Ok-Fault.field-0-is c.visit.follows.holds-at-none)
-    (λ ready below says. c.add_fault.ensures.adds _ _ _ _ ready below says)
+    turn_visited c.requires.ready _ _ _ c.add_fault.result c.requires.below
+    (rw (c.in-Ok-Fault.is, c.in-Ok-Fault.field-0-is) at c.visit.follows.holds-at-none) (c.add_fault.ensures.adds _ _ _ _)
 
 pub returns-in-Ok-Fault-clause-too_many : goal.returns-in-Ok-Fault-clause-too_many
 returns-in-Ok-Fault-clause-too_many g c = λ e. absurd (c.add_fault.ensures.not_too_many e)
@@ -61,21 +54,14 @@ returns-in-Ok-Fault-clause-asks g c = asks_by (sym c.add_fault.ensures.not_refus
 
 pub load_fault-requires : goal.load_fault-requires
 load_fault-requires g c = λ is.
-    let old = c.args.cache.now in
-    let name = file_of (main_in old) (module_numbered old c.args.one.number) in
-    let end = c.visit.follows.lender-at-none in
-    let ended : IsRefusedVisit old end c.args.one.number c.in-Err.fault = rw c.in-Err.is at c.visit.follows.holds-at-none in
-    has_some end.failed name (ended.1 is)
+    let ended = rw c.in-Err.is at c.visit.follows.holds-at-none in
+    has_some _ _ (ended.1 is)
 
 pub returns-in-Err-clause-too_many : goal.returns-in-Err-clause-too_many
 returns-in-Err-clause-too_many g c = λ e.
-    let same : c.load_fault.result ≡ load.TooMany = cc e in
-    absurd (never_many c.in-Err.fault c.visit.follows.lender-at-none.failed c.load_fault.result c.load_fault.ensures.fault same)
+    absurd (never_many c.in-Err.fault c.visit.follows.lender-at-none.failed c.load_fault.result c.load_fault.ensures.fault (cc e))
 
 pub returns-in-Err-clause-asks : goal.returns-in-Err-clause-asks
 returns-in-Err-clause-asks g c =
-    let old = c.args.cache.now in
-    let name = file_of (main_in old) (module_numbered old c.args.one.number) in
-    let end = c.visit.follows.lender-at-none in
-    let ended : IsRefusedVisit old end c.args.one.number c.in-Err.fault = rw c.in-Err.is at c.visit.follows.holds-at-none in
-    asks_by (refused_failed Visit name c.in-Err.fault end.failed c.load_fault.result ended.1 c.load_fault.ensures.fault) c.in-Err.ensures.asks
+    let ended = rw c.in-Err.is at c.visit.follows.holds-at-none in
+    asks_by (refused_failed Visit _ c.in-Err.fault _ c.load_fault.result ended.1 c.load_fault.ensures.fault) c.in-Err.ensures.asks

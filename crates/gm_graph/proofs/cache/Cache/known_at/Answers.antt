@@ -1,21 +1,23 @@
-use Rattle.std.proofs.Common.{◌≡◌, ◌∙◌, None, sym, ap, refl}
-use Rattle.gm_name_table.specs.OptionalPlaces.{place_in}
-use Rattle.gm_name_table.specs.Listed.{NumberedList, modules_of}
+use Rattle.std.proofs.Common.{◌≡◌, ◌∙◌, None, ap, length, refl, sym}
 use Rattle.gm_file.specs.Main.{main_of}
-use Rattle.gm_store.specs.Asked.{Name, name_of}
-use Rattle.std.specs.Option.{option_and_then}
-use Rattle.gm_graph.specs.Private.FileTable.{replacing_place}
-use Rattle.gm_graph.proofs.SharedLists.{listed_kept}
-use Rattle.gm_graph.specs.Cached.{main_in, summary_at, table_in}
+use Rattle.gm_store.specs.Asked.{name_of}
+use Rattle.gm_graph.specs.Private.FileTable.{IsNewFile, IsPlacedAt}
+use Rattle.gm_graph.specs.Cached.{main_in, summary_at, sums_in, table_in}
 use Rattle.gm_graph.specs.Private.Cached.{module_numbered}
 use Rattle.gm_graph.specs.Reading.{file_of, is_askable}
 use Rattle.gm_graph.proofs.Growing.{number_below, number_stays}
-use Rattle.gm_graph.proofs.Keeping.{any_err, holds_after, holds_failed, holds_itself, known_same, lent_after}
-use Rattle.gm_graph.proofs.OwnFiles.{has_noted, new_file, nothing_kept}
+use Rattle.gm_graph.proofs.Keeping.{any_err, holds_after, holds_failed, holds_itself, holds_listed, holds_noted, known_same}
+use Rattle.gm_graph.proofs.OwnFiles.{added_there, has_file, has_noted, has_placed, new_file, noted_again, nothing_kept, placed_still, replacing_at}
+use Rattle.gm_graph.proofs.PuttingPlaces.{same_files}
+use Rattle.gm_graph.proofs.SharedLists.{listed_push}
+use Rattle.gm_graph.proofs.HeldFiles.{added_some, kept_some}
+use Rattle.gm_graph.specs.Private.Summaries.{AreListed, AreListsInOrder}
+use Rattle.gm_name_table.specs.Listed.{modules_of}
+use Rattle.gm_graph.proofs.Ordered.{begins_added, has_added}
 use Rattle.gm_graph.proofs.Telling.{knows_read, none_still, not_asked, sound_read}
 use Rattle.gm_graph.proofs.cache.Cache.known_at.Given.{Over}
 use Rattle.gm_graph.proofs.cache.Cache.known_at.Goals as goal
-use Rattle.gm_graph.proofs.cache.Cache.known_at.Goals.{In_default-replacing_place}
+use Rattle.gm_graph.proofs.cache.Cache.known_at.Goals.{After-add, In_default-replacing_place, In-Some-replacing_place}
 
 -- nothing is kept of the file yet
 nothing : (g : Over) (c : In_default-replacing_place g) → summary_at c.args.self.now (name_of c.in_ok-name.name) ≡ None
@@ -29,70 +31,97 @@ read_file-requires-clause-fresh g c =
     not_asked c.args.self.now (g.F.Asks.state c.args.files.now).asked (name_of c.in_ok-name.name) c.requires.knows
     (nothing g (goal.at.read_file-requires-clause-fresh g c).In_default-replacing_place)
 
-pub keep-requires-clause-new : goal.keep-requires-clause-new
-keep-requires-clause-new g c =
+-- the file is a new one
+new_here : (g : Over) (c : After-add g) → summary_at c.args.self.now (name_of c.in_ok-name.name) ≡ None
+    → IsNewFile (main_in c.read_file.new.self) (table_in c.read_file.new.self) c.read_file.new.self.files c.args.number (name_of c.in_ok-name.name)
+new_here g c none =
     let old = c.args.self.now in
     let mid = c.read_file.new.self in
     let number = c.args.number in
-    let name = name_of c.in_ok-name.name in
-    let numbered = c.read_file.ensures.keeps.holds.numbered in
-    new_file mid number name (number_below (table_in old) (table_in mid) number numbered c.requires.vertex)
+    let numbered = c.read_file.ensures.holds.numbered in
+    new_file mid number (name_of c.in_ok-name.name) (number_below (table_in old) (table_in mid) number numbered c.requires.vertex)
     (c.in_ok-name.ensures ∙ ap (file_of (main_in old)) (c.module.ensures.module
     ∙ sym (number_stays (table_in old) (table_in mid) number numbered c.requires.vertex))
-    ∙ ap (λ m. file_of (main_of m) (module_numbered mid number)) (sym c.read_file.ensures.keeps.lent.main))
+    ∙ ap (λ m. file_of (main_of m) (module_numbered mid number)) (sym c.read_file.ensures.lent.main))
     (sym c.is_askable.ensures ∙ c.if-not-is_askable.false)
-    (none_still old mid name c.read_file.ensures.keeps.holds
-    (nothing g (goal.at.keep-requires-clause-new g c).In_default-replacing_place))
+    (none_still old mid (name_of c.in_ok-name.name) c.read_file.ensures.holds none)
 
-pub keep-requires-clause-reading : goal.keep-requires-clause-reading
-keep-requires-clause-reading g c =
-    let read = c.in-Ok.ensures.reading in (read.0, rw c.read_file.ensures.keeps.lent.sums read.2)
-
-pub keep-requires-clause-listed : goal.keep-requires-clause-listed
-keep-requires-clause-listed g c =
-    rw (c.read_file.ensures.keeps.files, c.read_file.ensures.keeps.lent.main) c.in-Ok.ensures.listed
+pub invariant_of-self-in-Ok : goal.invariant_of-self-in-Ok
+invariant_of-self-in-Ok g c =
+    let mid = c.read_file.new.self in
+    let files = mid.files.files.items in
+    let kept = c.in-Ok.kept in
+    let read = c.in-Ok.ensures.reading in
+    let is = new_here g (goal.at.invariant_of-self-in-Ok g c).After-add
+    (nothing g (goal.at.invariant_of-self-in-Ok g c).In_default-replacing_place) in
+    record {
+      first_within = mid.first_within;
+      first_are = mid.first_are;
+      places_within = c.add.ensures.within (length (table_in mid)) is.within mid.places_within;
+      holds_some = added_some (main_in mid) (sums_in mid) mid.modules mid.files c.add.new.self c.add.result (name_of c.in_ok-name.name) kept
+          (read.0, rw c.read_file.ensures.lent.sums read.2) c.add.ensures.adds c.add.ensures.err mid.holds_some;
+      notes = c.add.ensures.notes (main_in mid) (table_in mid) is mid.notes;
+      in_order = has_added files c.add.new.self.files.items kept c.add.ensures.files
+          (λ all. AreListsInOrder mid.first all (length mid.modules.numbers)) mid.in_order c.in-Ok.ensures.order;
+      listed = has_added files c.add.new.self.files.items kept c.add.ensures.files
+          (AreListed (main_in mid) (modules_of mid.modules)) mid.listed
+          (listed_push (main_in mid) (modules_of mid.modules) files kept mid.listed (rw (c.read_file.ensures.files, c.read_file.ensures.lent.main) c.in-Ok.ensures.listed));
+    }
 
 -- ---- memory ran out before anything was asked for
 
 pub returns-in_err-name-clause-err : goal.returns-in_err-name-clause-err
 returns-in_err-name-clause-err g c = any_err c.from_residual.result holds_itself
 
-pub returns-in_ok-keep-in-Ok-clause-lent : goal.returns-in_ok-keep-in-Ok-clause-lent
-returns-in_ok-keep-in-Ok-clause-lent g c = lent_after c.read_file.ensures.keeps.lent c.keep.ensures.lent
-
 -- ---- memory ran out when it was to be kept
 
-pub returns-in_err-keep-in-Ok-clause-lent : goal.returns-in_err-keep-in-Ok-clause-lent
-returns-in_err-keep-in-Ok-clause-lent g c = lent_after c.read_file.ensures.keeps.lent c.keep.ensures.lent
-
-pub returns-in_err-keep-in-Ok-clause-err : goal.returns-in_err-keep-in-Ok-clause-err
-returns-in_err-keep-in-Ok-clause-err g c =
-    any_err c.from_residual-in_err-keep-in-Ok.result (holds_after c.read_file.ensures.keeps.holds c.in_err-keep-in-Ok.ensures.err)
+pub returns-in_err-add-in-Ok-clause-err : goal.returns-in_err-add-in-Ok-clause-err
+returns-in_err-add-in-Ok-clause-err g c =
+    let mid = c.read_file.new.self in
+    any_err c.from_residual-in_err-add-in-Ok.result (holds_after c.read_file.ensures.holds
+    (holds_listed mid _ refl refl c.in_err-add-in-Ok.ensures.err
+    (begins_added mid.files.files.items c.add.new.self.files.items c.in-Ok.kept c.add.ensures.files) refl))
 
 -- ---- the file is one of a replacement
 
-pub note-requires-clause-place : goal.note-requires-clause-place
-note-requires-clause-place g c =
+placed : (g : Over) (c : In-Some-replacing_place g)
+    → IsPlacedAt (main_in c.args.self.now) c.args.self.now.files (module_numbered c.args.self.now c.args.number) c.in-Some-replacing_place.place
+placed g c =
     let cache = c.args.self.now in
-    ap (λ (name : Name). option_and_then place_in (replacing_place cache.files name))
-    (sym (c.in_ok-name.ensures ∙ ap (file_of (main_in cache)) c.module.ensures.module))
-    ∙ sym c.in-Some-replacing_place.ensures
+    replacing_at cache (module_numbered cache c.args.number) (c.in_ok-name.ensures ∙ ap (file_of (main_in cache)) c.module.ensures.module)
+    (sym c.is_askable.ensures ∙ c.if-not-is_askable.false) (sym c.in-Some-replacing_place.ensures)
+
+pub invariant_of-self : goal.invariant_of-self
+invariant_of-self g c =
+    let cache = c.args.self.now in
+    let others = c.note.ensures.others in
+    record {
+      first_within = cache.first_within;
+      first_are = cache.first_are;
+      places_within = c.note.ensures.within (length (table_in cache)) c.requires.vertex cache.places_within;
+      holds_some = kept_some (main_in cache) (sums_in cache) cache.modules cache.files c.note.new.self (same_files others) cache.holds_some;
+      notes = noted_again cache c.note.new.self c.args.number c.in-Some-replacing_place.place c.note.result
+          (placed g (goal.at.invariant_of-self g c).In-Some-replacing_place) others c.note.ensures.notes c.note.ensures.err;
+      in_order = rw others.files cache.in_order;
+      listed = rw others.files cache.listed;
+    }
+
+pub note-requires : goal.note-requires
+note-requires g c =
+    let cache = c.args.self.now in
+    cache.files.within (file_of (main_in cache) (module_numbered cache c.args.number)) _
+    (placed g (goal.at.note-requires g c).In-Some-replacing_place).placed
 
 -- ---- refusals
 
 pub returns-in-Err-clause-err : goal.returns-in-Err-clause-err
-returns-in-Err-clause-err g c = holds_failed c.read_file.ensures.keeps.holds refl refl refl refl
-
-pub note-requires-clause-askable : goal.note-requires-clause-askable
-note-requires-clause-askable g c =
-    ap is_askable (sym (c.in_ok-name.ensures ∙ ap (file_of (main_in c.args.self.now)) c.module.ensures.module))
-    ∙ sym c.is_askable.ensures ∙ c.if-not-is_askable.false
+returns-in-Err-clause-err g c = holds_failed c.read_file.ensures.holds refl refl refl refl
 
 -- ---- the file was asked for
 
 pub returns-in-Err-clause-lent : goal.returns-in-Err-clause-lent
 returns-in-Err-clause-lent g c =
-    let lent = c.read_file.ensures.keeps.lent in
+    let lent = c.read_file.ensures.lent in
     record { main = lent.main; sums = lent.sums; turns = lent.turns }
 
 -- ---- the file is made known
@@ -107,28 +136,36 @@ returns-then-not-is_askable-clause-known g c =
     (ap is_askable (sym (c.in_ok-name.ensures ∙ ap (file_of (main_in c.args.self.now)) c.module.ensures.module))
     ∙ sym c.is_askable.ensures ∙ c.if-not-is_askable.true)
 
+pub returns-in_err-note-clause-err : goal.returns-in_err-note-clause-err
+returns-in_err-note-clause-err g c =
+    any_err c.from_residual-in_err-note.result (holds_noted c.args.self.now _ refl refl c.note.ensures.others refl)
+
 pub returns-in-Some-replacing_place-clause-known : goal.returns-in-Some-replacing_place-clause-known
 returns-in-Some-replacing_place-clause-known g c =
-    known_same c.note.ensures.holds c.requires.knows c.note.ensures.place
+    let at = placed g (goal.at.returns-in-Some-replacing_place-clause-known g c).In-Some-replacing_place in
+    known_same (holds_noted c.args.self.now _ refl refl c.note.ensures.others refl) c.requires.knows
+    (has_placed _ _ _ (placed_still c.note.ensures.others at))
 
-pub returns-in_ok-keep-in-Ok-clause-known : goal.returns-in_ok-keep-in-Ok-clause-known
-returns-in_ok-keep-in-Ok-clause-known g c =
+pub returns-in_ok-add-in-Ok-clause-known : goal.returns-in_ok-add-in-Ok-clause-known
+returns-in_ok-add-in-Ok-clause-known g c =
     let old = c.args.self.now in
     let mid = c.read_file.new.self in
-    let new = c.keep.new.self in
     let earlier = (g.F.Asks.state c.args.files.now).asked in
     let pairs = (g.F.Asks.state c.read_file.new.files).asked in
     let name = name_of c.in_ok-name.name in
     let read = c.in-Ok.ensures.reading in
-    let begins = c.read_file.ensures.keeps.holds.numbered in
-    let none = nothing g (goal.at.returns-in_ok-keep-in-Ok-clause-known g c).In_default-replacing_place in
+    let begins = c.read_file.ensures.holds.numbered in
+    let none = nothing g (goal.at.returns-in_ok-add-in-Ok-clause-known g c).In_default-replacing_place in
+    let is = new_here g (goal.at.returns-in_ok-add-in-Ok-clause-known g c).After-add none in
     record {
-      knows = knows_read old mid new earlier pairs name read.0 c.in-Ok.kept
-          c.requires.knows c.read_file.ensures.keeps.holds c.keep.ensures.lent c.keep.ensures.modules none
-          c.in_ok-keep-in-Ok.ensures.adds read.1 read.2
-          (listed_kept (main_in old) (modules_of mid.modules) old.files.files.items c.in-Ok.kept c.in-Ok.ensures.listed);
-      place_is = rw (number_stays (table_in old) (table_in mid) c.args.number begins c.requires.vertex) at c.in_ok-keep-in-Ok.ensures.place;
-      numbered = (begins.0, ap (λ (list : NumberedList). list.modules) c.keep.ensures.modules ∙ begins.1);
-      sound = sound_read old mid new earlier pairs name read.0 c.in-Ok.kept c.read_file.ensures.keeps.holds c.keep.ensures.lent
-          c.keep.ensures.modules none c.in_ok-keep-in-Ok.ensures.adds c.keep.ensures.files read.1;
+      knows = knows_read old mid c.add.new.self earlier pairs name read.0 c.in-Ok.kept
+          c.requires.knows c.read_file.ensures.holds none c.in_ok-add-in-Ok.ensures.adds read.1 read.2;
+      place_is = has_file _ _ name c.in-Ok.kept _
+          (is.named ∙ ap (file_of (main_in mid)) (number_stays (table_in old) (table_in mid) c.args.number begins c.requires.vertex))
+          is.askable c.in_ok-add-in-Ok.ensures.place
+          (added_there mid.files c.add.new.self name c.in-Ok.kept c.in_ok-add-in-Ok.ensures.adds);
+      numbered = begins;
+      sound = sound_read old mid _ earlier pairs name read.0 c.in-Ok.kept c.read_file.ensures.holds
+          (record { main = refl; sums = refl; turns = refl }) none c.in_ok-add-in-Ok.ensures.adds
+          (begins_added mid.files.files.items c.add.new.self.files.items c.in-Ok.kept c.add.ensures.files) read.1;
     }

@@ -1,15 +1,10 @@
-use Rattle.std.proofs.Common.{◌∙◌, [], ap, append-nil, refl, subst, sym}
-use Rattle.gm_name_table.specs.Listed.{modules_of}
-use Rattle.gm_graph.specs.declared.cache.summary.ListSpan.{ListSpan}
-use Rattle.gm_graph.specs.Summaries.{IsWithinList, at_span}
+use Rattle.std.proofs.Common.{[], append-nil, refl, sym}
 use Rattle.gm_graph.proofs.Keeping.{holds_listed}
 use Rattle.gm_graph.proofs.Lending.{lent_within}
 use Rattle.gm_graph.proofs.cache.Cache.lend_at.Goals as goal
 
 pub at-requires : goal.at-requires
-at-requires c =
-    subst (λ (span : ListSpan). IsWithinList (modules_of c.args.self.now.modules) span) (sym c.span_of-span.ensures)
-    (lent_within c.args.self.now c.args.place)
+at-requires c = rw c.span_of-span.ensures (lent_within c.args.self.now c.args.place)
 
 pub returns : goal.returns
 returns c =
@@ -25,7 +20,7 @@ returns c =
         },
       ),
       record {
-        modules = c.at.ensures.modules ∙ ap (λ (span : ListSpan). at_span (modules_of cache.modules) span) c.span_of-span.ensures;
+        modules = rw c.span_of-span.ensures at c.at.ensures.modules;
         table = c.at.ensures.table;
         after = tt;
       },

@@ -1,31 +1,21 @@
 use Rattle.std.proofs.Common.{◌≡◌, ◌∙◌, [], Some, ap, sym}
-use Rattle.std.specs.Prelude.{slice_get}
-use Rattle.std.proofs.lemmas.Option.{get_or_from_slice_get, slice_get_within}
+use Rattle.std.proofs.lemmas.Option.{get_or_from_slice_get, slice_get-get_or}
 use Rattle.gm_store.specs.Asked.{name_of}
 use Rattle.gm_graph.specs.Cached.{main_in, table_in}
 use Rattle.gm_graph.specs.Private.Cached.{module_numbered}
 use Rattle.gm_graph.specs.Reading.{file_of}
-use Rattle.gm_graph.proofs.FilePlaces.{place_by_absent, place_found}
+use Rattle.gm_graph.proofs.FilePlaces.{place_by, place_by_absent, place_found}
 use Rattle.gm_graph.proofs.cache.Cache.place_named.Goals as goal
-
-pub module-requires : goal.module-requires
-module-requires c =
-    slice_get_within (table_in c.args.self.now) c.in-Some.number c.args.vertex.now ((c.find.ensures c.in-Some.number).0 c.in-Some.is)
 
 pub returns-in-Some : goal.returns-in-Some
 returns-in-Some c = λ pairs knows named.
     let cache = c.args.self.now in
-    let x = c.args.vertex.now in
     let number = c.in-Some.number in
-    let there : slice_get (table_in cache) number ≡ Some x = (c.find.ensures number).0 c.in-Some.is in
-    let is : module_numbered cache number ≡ x = get_or_from_slice_get _ number x ([], []) there in
-    c.place_of.ensures (main_in cache) (table_in cache)
-    (record {
-      distinct = c.module.ensures.distinct;
-      within = slice_get_within _ number x there;
-      named = named.name_is ∙ ap (file_of (main_in cache)) (sym is);
-      notes = cache.notes;
-    })
+    let is : module_numbered cache number ≡ c.args.vertex.now = get_or_from_slice_get _ number _ ([], []) ((c.find.ensures number).0 c.in-Some.is) in
+    place_found cache.files (name_of c.args.name.now) c.place_of.result
+    (place_by (main_in cache) (table_in cache) cache.files number _ cache.notes
+    (λ k below same. cc (sym ((c.find.ensures k).1 (slice_get-get_or _ k ([], []) below ∙ ap Some (same ∙ is))) ∙ c.in-Some.is))
+    (named.name_is ∙ ap (file_of (main_in cache)) (sym is)) ∙ sym c.place_of.ensures)
 
 pub returns-in-None : goal.returns-in-None
 returns-in-None c = λ pairs knows named.

@@ -1,31 +1,97 @@
 use Rattle.std.proofs.Common.{Ok, Err, refl}
 use Rattle.gm_store.specs.Asked.{name_of}
+use Rattle.gm_graph.specs.Cached.{main_in}
 use Rattle.gm_graph.proofs.AskedFile.{asked_one, asks_passed, asks_still}
-use Rattle.gm_graph.proofs.Keeping.{holds_itself}
+use Rattle.gm_graph.proofs.GrownCache.{all_grown, first_grown, firsts_grown, notes_grown, order_grown, places_grown, some_grown}
+use Rattle.gm_graph.proofs.Keeping.{holds_grown, holds_itself}
+use Rattle.gm_graph.proofs.Ordered.{order_push}
+use Rattle.gm_graph.proofs.SharedLists.{listed_front}
 use Rattle.gm_graph.proofs.cache.Cache.read_file.Goals as goal
 
-pub returns-in_err-ask-clause-keeps : goal.returns-in_err-ask-clause-keeps
-returns-in_err-ask-clause-keeps g c = record {
-  holds = holds_itself;
-  lent = record { main = refl; sums = refl; turns = refl };
-  files = refl;
-}
+pub kept_of-requires-clause-listed : goal.kept_of-requires-clause-listed
+kept_of-requires-clause-listed g c =
+    let cache = c.args.self.now in
+    rw c.files.ensures
+    (listed_front (main_in cache) cache.modules c.read_answer.new.modules cache.files.files.items c.len-start.result
+    c.len-start.ensures.len c.read_answer.ensures.grows cache.listed)
 
-pub returns-clause-reading : goal.returns-clause-reading
-returns-clause-reading g c =
-    let (reply, _, _, adds) = c.in_ok-ask.ensures.answered in
-    let same = c.last.ensures.value (g.F.Asks.state c.args.files.now).asked (name_of c.args.name.now, reply) adds in
-    (reply, adds, rw same at (c.in_ok-kept.ensures.reading c.last.ensures.within_limit))
+pub invariant_of-self : goal.invariant_of-self
+invariant_of-self g c =
+    let cache = c.args.self.now in
+    let list = c.read_answer.new.modules in
+    let grows = c.read_answer.ensures.grows in
+    record {
+      first_within = first_grown cache list grows;
+      first_are = firsts_grown cache list grows;
+      places_within = places_grown cache list grows;
+      holds_some = some_grown cache list grows;
+      notes = notes_grown cache list grows;
+      in_order = order_grown cache list grows;
+      listed = all_grown cache list grows;
+    }
+
+pub invariant_of-self-2 : goal.invariant_of-self-2
+invariant_of-self-2 g c =
+    let cache = c.args.self.now in
+    let list = c.kept_of.new.modules in
+    let grows = c.kept_of.ensures.grows cache.modules c.len-start.ensures.len c.read_answer.ensures.grows in
+    record {
+      first_within = first_grown cache list grows;
+      first_are = firsts_grown cache list grows;
+      places_within = places_grown cache list grows;
+      holds_some = some_grown cache list grows;
+      notes = notes_grown cache list grows;
+      in_order = order_grown cache list grows;
+      listed = all_grown cache list grows;
+    }
+
+-- ---- the store refused
+
+pub returns-in_err-ask-clause-holds : goal.returns-in_err-ask-clause-holds
+returns-in_err-ask-clause-holds g c = holds_itself
 
 pub returns-in_err-ask-clause-asks : goal.returns-in_err-ask-clause-asks
 returns-in_err-ask-clause-asks g c =
     asks_passed (Unit {0}) _ c.in_err-ask.field-0.0 c.from_residual.result c.from_residual.ensures.1
     (asked_one (g.F.Asks.state c.args.files.now) _ (name_of c.args.name.now) c.requires.fresh (Err _) c.in_err-ask.ensures)
 
+-- ---- memory ran out while the answer was read
+
+pub returns-in_err-read-clause-holds : goal.returns-in_err-read-clause-holds
+returns-in_err-read-clause-holds g c = holds_grown c.args.self.now _ refl refl refl c.read_answer.ensures.grows
+
+pub returns-in_err-read-clause-asks : goal.returns-in_err-read-clause-asks
+returns-in_err-read-clause-asks g c =
+    asks_still _ c.from_residual-in_err-read.result c.from_residual-in_err-read.ensures.1
+    (asked_one (g.F.Asks.state c.args.files.now) _ (name_of c.args.name.now) c.requires.fresh (Ok _) c.in_ok-ask.ensures)
+
+-- ---- or was to be kept
+
+pub returns-in_err-kept-clause-holds : goal.returns-in_err-kept-clause-holds
+returns-in_err-kept-clause-holds g c =
+    holds_grown c.args.self.now _ refl refl refl (c.kept_of.ensures.grows c.args.self.now.modules c.len-start.ensures.len c.read_answer.ensures.grows)
+
 pub returns-in_err-kept-clause-asks : goal.returns-in_err-kept-clause-asks
 returns-in_err-kept-clause-asks g c =
     asks_still _ c.from_residual-in_err-kept.result c.from_residual-in_err-kept.ensures.1
     (asked_one (g.F.Asks.state c.args.files.now) _ (name_of c.args.name.now) c.requires.fresh (Ok _) c.in_ok-ask.ensures)
+
+-- ---- the file was read
+
+pub returns-clause-holds : goal.returns-clause-holds
+returns-clause-holds g c =
+    holds_grown c.args.self.now _ refl refl refl (c.kept_of.ensures.grows c.args.self.now.modules c.len-start.ensures.len c.read_answer.ensures.grows)
+
+pub returns-clause-order : goal.returns-clause-order
+returns-clause-order g c =
+    let old = c.args.self.now in
+    order_push old.first old.files.files.items _ c.in_ok-kept.kept _ old.in_order (rw c.len-start.ensures.len at c.in_ok-kept.ensures.order)
+
+pub returns-clause-reading : goal.returns-clause-reading
+returns-clause-reading g c =
+    let (reply, _, _, adds) = c.in_ok-ask.ensures.answered in
+    let same = c.last.ensures.value (g.F.Asks.state c.args.files.now).asked (name_of c.args.name.now, reply) adds in
+    (reply, adds, rw (c.in_ok-kept.ensures.reading, c.len-start.ensures.len) (rw same at (c.in_ok-read.ensures.reading c.last.ensures.within_limit)))
 
 pub returns-clause-asks : goal.returns-clause-asks
 returns-clause-asks g c =

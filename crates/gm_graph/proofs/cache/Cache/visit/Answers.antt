@@ -3,7 +3,8 @@ use Rattle.gm_name.specs.ModuleVersion.{ModuleVersion}
 use Rattle.gm_name_table.specs.Listed.{NumberedList, modules_of}
 use Rattle.gm_graph.specs.declared.cache.depth.Turn.{Turn}
 use Rattle.gm_graph.specs.declared.cache.file_table.FileTable.{FileTable}
-use Rattle.gm_graph.specs.Cached.{main_in}
+use Rattle.gm_graph.specs.Cached.{main_in, run_in}
+use Rattle.gm_graph.specs.Private.CacheVisits.{IsVisit}
 use Rattle.gm_graph.specs.Private.Cached.{module_numbered, span_at}
 use Rattle.gm_graph.specs.Summaries.{at_span}
 use Rattle.gm_graph.specs.Turns.{turn}
@@ -36,9 +37,10 @@ returns g c =
     let after = g.F.Asks.state c.known_at.new.files in
     let stays = says_still old mid before after (module_numbered old number) known.lent
     (asks_for {failed = []} (main_in old) (module_numbered old number) c.in_ok-place.ensures.asks) in
-    let got = visit_got mid after.asked number d c.said-said.result c.lend_at-list.result c.of.result made.knows (c.said-said.ensures after.asked made.knows)
+    let got : IsVisit mid (run_in mid after.asked) (module_numbered mid number) d c.of.result = rw c.of.ensures (visit_got mid after.asked number d c.said-said.result c.lend_at-list.result made.knows
+    (c.said-said.ensures after.asked made.knows)
     (c.lend_at-list.ensures.modules ∙ ap (λ (p : Option ℕ). at_span (modules_of mid.modules) (span_at mid p)) c.file.ensures)
-    c.lend_at-list.ensures.table c.of.ensures in
+    c.lend_at-list.ensures.table) in
     let table = ap (λ (list : NumberedList). list.modules) has.modules in (
       (
         refl,

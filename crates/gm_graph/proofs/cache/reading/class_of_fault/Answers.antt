@@ -1,13 +1,10 @@
-use Rattle.std.proofs.Common.{subst}
-use Rattle.gm_file.specs.Directives.{Lax}
-use Rattle.gm_file.specs.Misreading.{IsBytesFault}
 use Rattle.gm_graph.proofs.Misread.{class-of_few, class-of_many}
 use Rattle.gm_graph.proofs.cache.reading.class_of_fault.Goals as goal
 
 pub returns-in-Misread-clause-reading : goal.returns-in-Misread-clause-reading
 returns-in-Misread-clause-reading c = λ content is few.
-    class-of_few content c.in-Misread.line c.in-Misread.kind (subst (IsBytesFault Lax content) c.in-Misread.is is) few
+    class-of_few content c.in-Misread.line c.in-Misread.kind (rw c.in-Misread.is at is) few
 
 pub returns-in-Misread-clause-too_many : goal.returns-in-Misread-clause-too_many
 returns-in-Misread-clause-too_many c = λ content is many.
-    class-of_many content c.in-Misread.line c.in-Misread.kind (subst (IsBytesFault Lax content) c.in-Misread.is is) many
+    class-of_many content c.in-Misread.line c.in-Misread.kind (rw c.in-Misread.is at is) many

@@ -1,18 +1,8 @@
-use Rattle.std.proofs.Common.{[], Err, List, append-nil, ap, arith, inl, sym}
+use Rattle.std.proofs.Common.{Err, ap, arith, sym}
 use Rattle.gm_graph.specs.Private.Held.{lent_table}
-use Rattle.gm_graph.specs.Private.Turns.{AddsAll}
-use Rattle.gm_graph.specs.declared.cache.depth.Depth.{Depth}
-use Rattle.gm_graph.specs.declared.cache.depth.Turn.{Turn}
+use Rattle.gm_graph.proofs.Adding.{adds_none}
 use Rattle.gm_graph.proofs.AddingAll.{adds_number, overflow_at}
 use Rattle.gm_graph.proofs.worklist.Worklist.add_all.Goals as goal
-
--- There is nothing to add.
-adds_none : (turns : List Turn) (d : Depth) → AddsAll turns turns [] d
-adds_none turns d = record {
-  extends = ([], sym (append-nil turns));
-  each = λ y none. absurd (omega (arith, none.1));
-  only = λ one there. inl there;
-}
 
 pub loop-number-init : goal.loop-number-init
 loop-number-init c = record {
@@ -28,8 +18,7 @@ loop-number-preserved c =
     let below = c.numbers-number-items.ensures.below c.loop-number.number-index 0 (omega arith) in
     record {
       worklist = added.worklist modules held.worklist below;
-      adds = adds_number modules _ _ _ c.numbers-number-items.result.now c.loop-number.number-index c.args.depth (omega arith) held.adds
-          (added.adds modules held.worklist below);
+      adds = adds_number modules _ c.loop-number.number-index c.args.depth (omega arith) held.adds (added.adds modules held.worklist below);
     }
 
 pub returns-in_err-add-clause-too_many : goal.returns-in_err-add-clause-too_many
@@ -39,6 +28,5 @@ returns-in_err-add-clause-too_many c = λ e.
     let below = c.numbers-number-items.ensures.below c.loop-number.number-index 0 (omega arith) in
     let many = ap Err (sym (rw e at c.from_residual.ensures.1)) in
     rw⁻¹ c.numbers-number-items.ensures.modules
-    (overflow_at modules _ _ c.numbers-number-items.result.now
-    c.loop-number.number-index c.args.depth (omega arith) held.adds
+    (overflow_at modules c.numbers-number-items.result.now c.loop-number.number-index c.args.depth (omega arith) held.adds
     (c.in_err-add.ensures.too_many many modules held.worklist below))

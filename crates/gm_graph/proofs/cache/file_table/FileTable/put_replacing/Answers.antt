@@ -1,9 +1,6 @@
-use Rattle.std.proofs.Common.{◌∙◌, List, ap, sym}
-use Rattle.std.specs.Map.{lookup}
-use Rattle.gm_name_table.specs.declared.place.OptionalPlace.{OptionalPlace}
+use Rattle.std.proofs.Common.{◌∙◌, sym}
 use Rattle.gm_store.proofs.NameOrder.{found_by}
-use Rattle.gm_store.specs.Asked.{name_of, same_name}
-use Rattle.gm_store.specs.declared.files.FileName.{FileName}
+use Rattle.gm_store.specs.Asked.{name_of}
 use Rattle.gm_graph.proofs.PuttingPlaces.{none_set, replacing_set}
 use Rattle.gm_graph.proofs.cache.file_table.FileTable.put_replacing.Goals as goal
 
@@ -11,11 +8,10 @@ use Rattle.gm_graph.proofs.cache.file_table.FileTable.put_replacing.Goals as goa
 pub returns-in_default-clause-puts : goal.returns-in_default-clause-puts
 returns-in_default-clause-puts c = λ other.
     let entries = c.args.self.now.replacing.entries in
-    ap (λ map. lookup (λ file. same_name other (name_of file)) map.entries) c.get_mut.follows.holds-at-none
-    ∙ none_set entries (name_of c.args.name.now) c.args.place other (sym (c.in_default.ensures.value ∙ found_by c.args.name.now entries))
+    rw c.get_mut.follows.holds-at-none (none_set entries (name_of c.args.name.now) c.args.place other
+    (sym (c.in_default.ensures.value ∙ found_by c.args.name.now entries)))
 
 -- It is.
 pub returns-in-Some-clause-puts : goal.returns-in-Some-clause-puts
 returns-in-Some-clause-puts c = λ other.
-    ap (λ (es : List (FileName × OptionalPlace)). lookup (λ file. same_name other (name_of file)) es) (c.get_mut.follows.holds c.args.place).0
-    ∙ replacing_set c.args.self.now.replacing.entries c.args.name.now c.args.place other
+    rw (c.get_mut.follows.holds c.args.place).0 (replacing_set c.args.self.now.replacing.entries c.args.name.now c.args.place other)
